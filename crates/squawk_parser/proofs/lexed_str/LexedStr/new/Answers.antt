@@ -1,0 +1,17 @@
+use Rattle.std.proofs.Common.{◌≤◌, arith, subst}
+use Rattle.squawk_parser.specs.RawTable.{IsTable}
+use Rattle.squawk_parser.proofs.TableLemmas.{boundary, IsTable-table_of, is_table_of}
+use Rattle.squawk_parser.proofs.lexed_str.LexedStr.new.Goals as goal
+
+pub range-piece-requires-clause-start_boundary : goal.range-piece-requires-clause-start_boundary
+range-piece-requires-clause-start_boundary g c = λ _.
+    rw c.loop-token.invariant.sum
+    (boundary (g.V.Vocabulary.keyword c.args.vocabulary.now) c.args.text.now c.args.tokens.now c.in_ok-check_tokens.ensures.answer c.utf8.text c.loop-token.token-index (omega arith))
+
+pub invariant_of-result : goal.invariant_of-result
+invariant_of-result g c =
+    let keyword = g.V.Vocabulary.keyword c.args.vocabulary.now in
+    let loop = c.loop-token in
+    subst IsTable
+    (is_table_of keyword c.args.text.now c.args.tokens.now loop.kinds.items loop.starts.items c.push-2.new.self.items loop.at loop.token-index (omega arith) loop.invariant.kinds loop.invariant.starts c.in_ok-push-3.ensures.items)
+    (IsTable-table_of keyword c.args.text.now c.args.tokens.now c.in_ok-check_tokens.ensures.answer c.utf8.text)

@@ -1,0 +1,12 @@
+use Rattle.std.proofs.Common.{◌≡◌, ◌++◌, drop}
+use Rattle.squawk_parser.specs.AcceptedTokens.{start_of}
+use Rattle.squawk_parser.specs.RawTable.{kinds_from, starts_from}
+use Rattle.squawk_parser.proofs.lexed_str.LexedStr.new.Given as goal
+
+abbrev pub invariant-loop-token : goal.invariant-loop-token
+invariant-loop-token g l = record {
+  sum : l.at ≡ start_of l.tokens l.token-index;
+  kinds : l.kinds.items ++ kinds_from (g.V.Vocabulary.keyword l.vocabulary) l.text l.at (drop l.token-index l.tokens)
+      ≡ kinds_from (g.V.Vocabulary.keyword l.vocabulary) l.text 0 l.tokens;
+  starts : l.starts.items ++ starts_from l.at (drop l.token-index l.tokens) ≡ starts_from 0 l.tokens;
+}

@@ -1,0 +1,10 @@
+use Rattle.std.proofs.Common.{◌≡◌, ◌≤◌, length}
+use Rattle.squawk_parser.specs.AcceptedTokens.{start_of, AreGoodBelow}
+use Rattle.squawk_parser.proofs.lexed_str.check.check_tokens.Given as goal
+
+abbrev pub invariant-loop-index : goal.invariant-loop-index
+invariant-loop-index l = record {
+  sum : l.at ≡ start_of l.tokens l.index;
+  within : l.at ≤ length l.text;
+  good : AreGoodBelow l.text l.tokens l.index;
+}

@@ -1,0 +1,44 @@
+-- The steps of a walk over a syntax tree.
+use Rattle.std.specs.Prelude.{ℕ, Bool, true, false, List, take, sum_by, count_by}
+
+pub data Step : Type 0 where
+  -- a token of a kind, and how many input tokens it has
+  Token : ℕ → ℕ → Step
+  -- the beginning of a node of a kind
+  Enter : ℕ → Step
+  -- the end of a node
+  Exit : Step
+
+-- what an output holds: its steps, how many events were recorded for them, and how many turns made them
+pub record Walk : Type 0 where
+  pub steps : List Step
+  pub recorded : ℕ
+  pub turns : ℕ
+
+abbrev pub is_enter : Step → Bool
+is_enter (Token kind n) = false
+is_enter (Enter kind) = true
+is_enter Exit = false
+
+abbrev pub is_exit : Step → Bool
+is_exit (Token kind n) = false
+is_exit (Enter kind) = false
+is_exit Exit = true
+
+-- how many input tokens a step eats
+abbrev pub count_of : Step → ℕ
+count_of (Token kind n) = n
+count_of (Enter kind) = 0
+count_of Exit = 0
+
+-- how many nodes the steps open
+abbrev pub openings : List Step → ℕ
+openings steps = count_by is_enter steps
+
+-- how many nodes they close
+abbrev pub closings : List Step → ℕ
+closings steps = count_by is_exit steps
+
+-- how many input tokens they eat
+abbrev pub eaten : List Step → ℕ
+eaten steps = sum_by count_of steps

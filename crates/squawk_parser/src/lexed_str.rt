@@ -1,0 +1,139 @@
+//! The table of a text's raw tokens.
+ghost use Rattle.std.specs.Prelude.{◌≡◌, ◌+◌, ◌<◌, ◌≤◌, length, slice_index, slice_range, MatchResult};
+ghost use Rattle.squawk_parser.specs.AcceptedTokens.{Refuses};
+ghost use Rattle.squawk_parser.specs.RawTable.{Table, IsTable, table_of, kind_of, piece};
+
+pub mod check;
+pub mod token;
+
+pub use check::{TableError, check_tokens};
+pub use token::{Token, TokenKind};
+
+use crate::syntax_kind::SyntaxKind;
+use crate::vocabulary::Vocabulary;
+use std::alloc::Global;
+use std::marker::Model;
+use std::ops::Range;
+
+/// A text and its raw tokens: their syntax kinds, and where they start.
+///
+/// Places of raw tokens count from 0, places in the text are bytes. The text is borrowed: what
+/// the readers hand out are parts of it, which live as long as it does.
+#[derive(Drop)]
+pub struct LexedStr<'a> {
+    text: &'a str,
+    kinds: Vec<SyntaxKind>,
+    starts: Vec<u32>,
+}
+
+impl<'a> Model for LexedStr<'a> {
+    ghost use Rattle.squawk_parser.specs.RawTable.{Table, IsTable};
+
+    ghost Value = { Table };
+
+    ghost view = { λ t. record { text = t.text.now; kinds = t.kinds.items; starts = t.starts.items } };
+
+    ghost invariant = { λ t. IsTable (record { text = t.text.now; kinds = t.kinds.items; starts = t.starts.items }) };
+}
+
+impl<'a> LexedStr<'a> {
+    /// The table of the tokens, in one pass over them.
+    ///
+    /// It refuses what [`check_tokens`] refuses, in that order and before it asks for memory.
+    pub fn new<V: Vocabulary>(
+        alloc: Global,
+        text: &'a str,
+        tokens: &[Token],
+        vocabulary: &V,
+    ) -> Result<LexedStr<'a>, TableError>
+        ensures { MatchResult result
+            (λ table. table ≡ table_of (V.keyword vocabulary.now) text.now tokens.now)
+            (Refuses text.now tokens.now) }
+    {
+        check_tokens(text, tokens)?;
+        let mut kinds = Vec::new(alloc);
+        let mut starts = Vec::new(alloc);
+        let mut at = 0u32;
+        for token in tokens {
+            let end = at + token.len;
+            let piece = &text[at as usize..end as usize];
+            kinds.push(syntax_kind(token.kind, piece, vocabulary))?;
+            starts.push(at)?;
+            at = end;
+        }
+        starts.push(at)?;
+        Ok(LexedStr {
+            text,
+            kinds,
+            starts,
+        })
+    }
+
+    /// How many raw tokens there are.
+    pub fn len(&self) -> usize
+        ensures len { result ≡ length self.now.kinds }
+        // What every table keeps.
+        ensures table { IsTable self.now }
+    {
+        self.kinds.len()
+    }
+
+    /// The syntax kind of raw token `i`.
+    pub fn kind(&self, i: usize) -> SyntaxKind
+        requires { i < length self.now.kinds }
+        ensures { result ≡ slice_index self.now.kinds i }
+    {
+        self.kinds[i]
+    }
+
+    /// The text of raw token `i`.
+    pub fn text(&self, i: usize) -> &'a str
+        requires { i < length self.now.kinds }
+        ensures { result.now ≡ piece self.now i }
+    {
+        let start = self.starts[i] as usize;
+        let end = self.starts[i + 1] as usize;
+        &self.text[start..end]
+    }
+
+    /// The text of the raw tokens in a range of at least one.
+    pub fn range_text(&self, r: Range<usize>) -> &'a str
+        requires nonempty { r.start < r.end }
+        requires within { r.end ≤ length self.now.kinds }
+        ensures { result.now ≡ slice_range self.now.text
+            (slice_index self.now.starts r.start) (slice_index self.now.starts r.end) }
+    {
+        let start = self.starts[r.start] as usize;
+        let end = self.starts[r.end] as usize;
+        &self.text[start..end]
+    }
+
+    /// The bytes of raw token `i`.
+    pub fn text_range(&self, i: usize) -> Range<usize>
+        requires { i < length self.now.kinds }
+        ensures start { result.start ≡ slice_index self.now.starts i }
+        ensures end { result.end ≡ slice_index self.now.starts (i + 1) }
+    {
+        self.starts[i] as usize..self.starts[i + 1] as usize
+    }
+
+    /// The byte at which raw token `i` starts; for the number of raw tokens the end of the text.
+    pub fn text_start(&self, i: usize) -> usize
+        requires { i ≤ length self.now.kinds }
+        ensures { result ≡ slice_index self.now.starts i }
+    {
+        self.starts[i] as usize
+    }
+}
+
+/// The syntax kind of a raw token with this text.
+fn syntax_kind<V: Vocabulary>(kind: TokenKind, text: &str, vocabulary: &V) -> SyntaxKind
+    ensures { result ≡ kind_of (V.keyword vocabulary.now) kind text.now }
+{
+    match kind {
+        TokenKind::Ident => vocabulary
+            .from_keyword(text)
+            .unwrap_or(SyntaxKind::IDENT),
+        TokenKind::Whitespace => SyntaxKind::WHITESPACE,
+    }
+}

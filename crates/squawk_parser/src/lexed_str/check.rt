@@ -1,0 +1,79 @@
+//! The check of a list of raw tokens against its text.
+ghost use Rattle.std.specs.Prelude.{◌≡◌, ℕ, ◌+◌, ◌^◌, ◌<◌, ◌≤◌, ◌↔◌, length, IsTrue, IsOk};
+ghost use Rattle.squawk_parser.specs.AcceptedTokens.{IsGood, IsAccepted, Answers};
+
+use crate::lexed_str::token::Token;
+use std::alloc::{AllocError, AllocFailed};
+
+/// The longest text in bytes: places in it have 32 bits.
+const LONGEST_TEXT: usize = 4294967295;
+
+/// Why there is no table. Of several reasons the first of this list is answered.
+#[derive(Clone, Copy, Debug, PartialEq, Eq)]
+pub enum TableError {
+    /// The text has more than 4294967295 bytes.
+    TextTooLong,
+    /// The raw token at this place is empty, or doesn't end at a character boundary inside the
+    /// text. It is the first such token.
+    BadToken { index: usize },
+    /// The raw tokens end at this byte, before the text does.
+    TextLeft { at: usize },
+    /// Memory was refused. The list is accepted.
+    OutOfMemory,
+}
+
+impl From<AllocError> for TableError {
+    ghost use Rattle.squawk_parser.specs.declared.lexed_str.check.TableError.TheVariants.{OutOfMemory};
+
+    ghost from_gives = { λ _ error. error ≡ OutOfMemory };
+
+    fn from(_error: AllocError) -> TableError {
+        TableError::OutOfMemory
+    }
+}
+
+impl<T: Drop> From<AllocFailed<T>> for TableError {
+    ghost use Rattle.squawk_parser.specs.declared.lexed_str.check.TableError.TheVariants.{OutOfMemory};
+
+    ghost from_gives = { λ _ error. error ≡ OutOfMemory };
+
+    fn from(_error: AllocFailed<T>) -> TableError {
+        TableError::OutOfMemory
+    }
+}
+
+/// Whether a token that starts at byte `start` is good.
+fn is_good(text: &str, start: usize, token: Token) -> bool
+    requires { start ≤ length text.now }
+    ensures { IsTrue result ↔ IsGood text.now start token }
+{
+    match start.checked_add(token.len as usize) {
+        Some(end) => token.len > 0 && text.is_char_boundary(end),
+        None => false,
+    }
+}
+
+/// Whether the tokens are a list that [`LexedStr::new`] takes: the text has at most 4294967295
+/// bytes, every token is longer than 0 bytes and ends at a character boundary inside the text, and
+/// their lengths add up to the text.
+///
+/// [`LexedStr::new`]: crate::LexedStr::new
+pub fn check_tokens(text: &str, tokens: &[Token]) -> Result<(), TableError>
+    ensures answer { Answers text.now tokens.now result }
+    ensures ok { IsOk result ↔ IsAccepted text.now tokens.now }
+{
+    if text.len() > LONGEST_TEXT {
+        return Err(TableError::TextTooLong);
+    }
+    let mut at = 0;
+    for (index, token) in tokens.iter().enumerate() {
+        if !is_good(text, at, *token) {
+            return Err(TableError::BadToken { index });
+        }
+        at += token.len as usize;
+    }
+    if at != text.len() {
+        return Err(TableError::TextLeft { at });
+    }
+    Ok(())
+}

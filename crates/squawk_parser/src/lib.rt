@@ -1,0 +1,14 @@
+//! An event-parser engine for SQL grammars.
+#![tactic(auto)]
+
+pub mod input;
+pub mod lexed_str;
+pub mod output;
+pub mod syntax_kind;
+pub mod vocabulary;
+
+pub use input::Input;
+pub use lexed_str::{LexedStr, TableError, Token, TokenKind, check_tokens};
+pub use output::{Output, Step, Steps, Text};
+pub use syntax_kind::SyntaxKind;
+pub use vocabulary::Vocabulary;
