@@ -1,20 +1,17 @@
 -- The table of an accepted list.
-use Rattle.std.proofs.Common.{◌≡◌, ℕ, zero, suc, ◌+◌, ◌<◌, ◌≤◌, List, [], ◌∷◌, ◌++◌, length, take, drop, slice_index, arith, add-one, add-zero, zero-add, add_assoc, ap, sym, refl, ◌∙◌, ◌⊎◌, inl, inr}
-use Rattle.std.specs.Prelude.{IsUtf8, IsCharBoundary, sum_by}
+use Rattle.std.proofs.Common.{◌≡◌, ℕ, zero, suc, ◌+◌, ◌<◌, ◌≤◌, List, [], ◌∷◌, ◌++◌, length, take, drop, slice_index, arith, add-one, add-zero, zero-add, ap, sym, refl, ◌∙◌, ◌⊎◌, inl, inr}
+use Rattle.std.specs.Prelude.{IsUtf8, IsCharBoundary}
 use Rattle.std.proofs.lemmas.Str.{IsCharBoundary-start}
-use Rattle.std.proofs.lemmas.List.Sums.{sum_by_more, sum_by-append}
+use Rattle.std.proofs.lemmas.List.Sums.{sum_by_more}
 use Rattle.std.proofs.lemmas.List.{drop_all, append-nil}
 use Rattle.squawk_parser.specs.declared.lexed_str.token.Token.{Token}
 use Rattle.squawk_parser.specs.declared.lexed_str.token.TokenKind.TheVariants.{Ident}
 use Rattle.squawk_parser.specs.AcceptedTokens.{start_of, IsAccepted}
+use Rattle.squawk_parser.proofs.Sums.{sum_by-cons}
 use Rattle.squawk_parser.specs.RawTable.{Keywords, IsTable, Table, table_of, kinds_from, starts_from}
 
 abbrev none : Token
 none = record { kind = Ident; len = 0 }
-
--- the sum of a list is that of its first element and of the others
-pub sum_by-cons : {X : Type 0} (f : X → ℕ) (x : X) (xs : List X) → sum_by f (x ∷ xs) ≡ f x + sum_by f xs
-sum_by-cons f x xs = omega (arith, sum_by-append f (x ∷ []) xs)
 
 pub length-kinds_from : (keyword : Keywords) (text : List ℕ) (at : ℕ) (tokens : List Token) → length (kinds_from keyword text at tokens) ≡ length tokens
 length-kinds_from keyword text at [] = refl

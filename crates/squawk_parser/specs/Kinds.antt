@@ -1,5 +1,5 @@
 -- The syntax kinds that contracts name, by their numbers.
-use Rattle.std.specs.Prelude.{◌≡◌, ◌≢◌, ℕ, ◌≤◌, ◌==◌, ◌||◌, Bool}
+use Rattle.std.specs.Prelude.{◌≢◌, ℕ, ◌≤◌, ◌==◌, ◌||◌, Bool}
 
 -- the end of an input
 abbrev pub EOF : ℕ

@@ -5,3 +5,9 @@ pub mod ParserInput
 pub mod InputView
 pub mod Steps
 pub mod StepViews
+pub mod Shape
+pub mod Draft
+pub mod Edits
+pub mod DraftView
+pub mod State
+pub mod Parse

@@ -1,5 +1,5 @@
 -- The input of a parser: the raw tokens that aren't trivia.
-use Rattle.std.specs.Prelude.{ℕ, ◌==◌, ◌+◌, Bool, false, not, Option, List, [], ◌∷◌, slice_get, unwrap_or, option_map, if◌then◌else◌}
+use Rattle.std.specs.Prelude.{ℕ, ◌==◌, Bool, false, not, List, [], ◌∷◌, slice_get, unwrap_or, option_map, if◌then◌else◌}
 use Rattle.squawk_parser.specs.Kinds.{EOF, IDENT, is_trivia}
 use Rattle.squawk_parser.specs.RawTable.{Keywords, Table, RawToken, raw_tokens}
 

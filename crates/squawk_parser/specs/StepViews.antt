@@ -8,4 +8,3 @@ abbrev pub step_of : Step → plain.Step
 step_of (Token kind n) = plain.Token kind n
 step_of (Enter kind) = plain.Enter kind
 step_of Exit = plain.Exit
-

@@ -1,5 +1,5 @@
 -- The steps of a walk over a syntax tree.
-use Rattle.std.specs.Prelude.{ℕ, Bool, true, false, List, take, sum_by, count_by}
+use Rattle.std.specs.Prelude.{ℕ, Bool, true, false, List, sum_by, count_by}
 
 pub data Step : Type 0 where
   -- a token of a kind, and how many input tokens it has

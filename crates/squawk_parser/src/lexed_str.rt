@@ -6,14 +6,13 @@ ghost use Rattle.squawk_parser.specs.RawTable.{Table, IsTable, table_of, kind_of
 pub mod check;
 pub mod token;
 
-pub use check::{TableError, check_tokens};
-pub use token::{Token, TokenKind};
-
 use crate::syntax_kind::SyntaxKind;
 use crate::vocabulary::Vocabulary;
+pub use check::{TableError, check_tokens};
 use std::alloc::Global;
 use std::marker::Model;
 use std::ops::Range;
+pub use token::{Token, TokenKind};
 
 /// A text and its raw tokens: their syntax kinds, and where they start.
 ///
@@ -131,9 +130,7 @@ fn syntax_kind<V: Vocabulary>(kind: TokenKind, text: &str, vocabulary: &V) -> Sy
     ensures { result ≡ kind_of (V.keyword vocabulary.now) kind text.now }
 {
     match kind {
-        TokenKind::Ident => vocabulary
-            .from_keyword(text)
-            .unwrap_or(SyntaxKind::IDENT),
+        TokenKind::Ident => vocabulary.from_keyword(text).unwrap_or(SyntaxKind::IDENT),
         TokenKind::Whitespace => SyntaxKind::WHITESPACE,
     }
 }

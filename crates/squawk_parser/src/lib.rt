@@ -4,11 +4,13 @@
 pub mod input;
 pub mod lexed_str;
 pub mod output;
+pub mod parser;
 pub mod syntax_kind;
 pub mod vocabulary;
 
 pub use input::Input;
 pub use lexed_str::{LexedStr, TableError, Token, TokenKind, check_tokens};
 pub use output::{Output, Step, Steps, Text};
+pub use parser::{CompletedMarker, EntryPoint, Grammar, Marker, ParseError, Parser};
 pub use syntax_kind::SyntaxKind;
 pub use vocabulary::Vocabulary;

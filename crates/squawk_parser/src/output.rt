@@ -7,13 +7,12 @@ pub mod step;
 pub mod steps;
 pub mod text;
 
-pub use step::Step;
-pub use steps::Steps;
-pub use text::Text;
-
 use crate::syntax_kind::SyntaxKind;
 use std::alloc::{AllocError, Global};
 use std::marker::Model;
+pub use step::Step;
+pub use steps::Steps;
+pub use text::Text;
 
 /// A walk over a syntax tree from the left, node by node, as a list of steps.
 ///

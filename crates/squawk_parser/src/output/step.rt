@@ -11,7 +11,9 @@ pub enum Step {
         n_input_tokens: u8,
     },
     /// The beginning of a node.
-    Enter { kind: SyntaxKind },
+    Enter {
+        kind: SyntaxKind,
+    },
     /// The end of the node that was entered last and not left yet.
     Exit,
 }

@@ -1,4 +1,4 @@
-use Rattle.std.proofs.Common.{◌≤◌, arith, subst}
+use Rattle.std.proofs.Common.{arith, subst}
 use Rattle.squawk_parser.specs.RawTable.{IsTable}
 use Rattle.squawk_parser.proofs.TableLemmas.{boundary, IsTable-table_of, is_table_of}
 use Rattle.squawk_parser.proofs.lexed_str.LexedStr.new.Goals as goal

@@ -1,4 +1,4 @@
-use Rattle.std.proofs.Common.{◌≡◌, ◌++◌, ◌∷◌, [], ◌+◌, ◌<◌, ◌∙◌, List, ℕ, Bool, true, false, not, length, map, slice_index, sym, ap, arith, append_assoc}
+use Rattle.std.proofs.Common.{◌≡◌, ◌++◌, ◌∷◌, [], ◌+◌, ◌<◌, ◌∙◌, List, ℕ, true, false, length, map, slice_index, sym, ap, arith, append_assoc}
 use Rattle.std.proofs.lemmas.List.{map-append}
 use Rattle.squawk_parser.specs.declared.input.InputToken.{InputToken}
 use Rattle.squawk_parser.specs.Kinds.{is_trivia}
@@ -15,7 +15,7 @@ module _ (contextual : Keywords) (t : Table) (i : ℕ) (lt : i < length t.kinds)
   pushed token input is push done =
       let rest = entries_of contextual (raw_after t (i + 1)) in
       let items : map entry_of after ≡ map entry_of before ++ entry_at contextual t i ∷ [] =
-          ap (map entry_of) push ∙ (map-append entry_of before (token ∷ []) ∙ ap (λ e. map entry_of before ++ e ∷ []) is) in
+      ap (map entry_of) push ∙ (map-append entry_of before (token ∷ []) ∙ ap (λ e. map entry_of before ++ e ∷ []) is) in
       ap (λ xs. xs ++ rest) items ∙ (append_assoc (map entry_of before) (entry_at contextual t i ∷ []) rest
       ∙ (ap (λ xs. map entry_of before ++ xs) (sym (entries_of-token contextual t i lt input)) ∙ done))
 
@@ -36,8 +36,8 @@ loop-i-preserved g c =
     let new = c.if-not-is_trivia.tokens.items in
     let all = entries_of contextual (raw_tokens t) in
     elim c.if-not-is_trivia.branch [
-      then-not-is_trivia+in_ok-push w ↦
-        pushed contextual t i lt old new all w.input_token.result (kind ∙ w.if-not-is_trivia.true) w.input_token.ensures (ap (λ v. v.items) w.tokens-is ∙ w.in_ok-push.ensures.items) c.loop-i.invariant
-    | else-not-is_trivia w ↦
-        skipped contextual t i lt old new all (kind ∙ w.if-not-is_trivia.false) (ap (λ v. v.items) w.tokens-is) c.loop-i.invariant
+      | then-not-is_trivia+in_ok-push w ↦
+          pushed contextual t i lt old new all w.input_token.result (kind ∙ w.if-not-is_trivia.true) w.input_token.ensures (ap (λ v. v.items) w.tokens-is ∙ w.in_ok-push.ensures.items) c.loop-i.invariant
+      | else-not-is_trivia w ↦
+          skipped contextual t i lt old new all (kind ∙ w.if-not-is_trivia.false) (ap (λ v. v.items) w.tokens-is) c.loop-i.invariant
     ]

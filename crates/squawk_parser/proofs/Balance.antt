@@ -1,0 +1,93 @@
+-- Balanced walks, by the depth that they reach.
+use Rattle.std.proofs.Common.{◌≡◌, ℕ, zero, suc, ◌+◌, ◌≤◌, Option, Some, None, List, [], ◌∷◌, ◌++◌, take, arith, ap, refl, ◌∙◌}
+use Rattle.squawk_parser.specs.Steps.{Step, Token, Enter, Exit, openings, closings, is_enter, is_exit}
+use Rattle.squawk_parser.specs.Shape.{IsBalanced}
+use Rattle.squawk_parser.proofs.Sums.{count_by-cons}
+
+-- the depth after a walk from a depth, if it never leaves more than it has entered
+abbrev pub depth_after : ℕ → List Step → Option ℕ
+depth_after d [] = Some d
+depth_after d (Token kind n ∷ steps) = depth_after d steps
+depth_after d (Enter kind ∷ steps) = depth_after (suc d) steps
+depth_after zero (Exit ∷ steps) = None
+depth_after (suc d) (Exit ∷ steps) = depth_after d steps
+
+pub depth_after-append : (d e : ℕ) (xs ys : List Step) → depth_after d xs ≡ Some e → depth_after d (xs ++ ys) ≡ depth_after e ys
+depth_after-append d e [] ys h = let same : d ≡ e = cc in ap (λ n. depth_after n ys) same
+depth_after-append d e (Token kind n ∷ xs) ys h = depth_after-append d e xs ys h
+depth_after-append d e (Enter kind ∷ xs) ys h = depth_after-append (suc d) e xs ys h
+depth_after-append zero e (Exit ∷ xs) ys h = absurd (cc)
+depth_after-append (suc d) e (Exit ∷ xs) ys h = depth_after-append d e xs ys h
+
+-- one deeper at the start is one deeper at the end
+pub depth_after-suc : (d e : ℕ) (xs : List Step) → depth_after d xs ≡ Some e → depth_after (suc d) xs ≡ Some (suc e)
+depth_after-suc d e [] h = let same : d ≡ e = cc in ap (λ n. Some (suc n)) same
+depth_after-suc d e (Token kind n ∷ xs) h = depth_after-suc d e xs h
+depth_after-suc d e (Enter kind ∷ xs) h = depth_after-suc (suc d) e xs h
+depth_after-suc zero e (Exit ∷ xs) h = absurd (cc)
+depth_after-suc (suc d) e (Exit ∷ xs) h = depth_after-suc d e xs h
+
+-- no beginning leaves more than d nodes and those that it enters
+abbrev NeverBelow : ℕ → List Step → Type 0
+NeverBelow d xs = (k : ℕ) → closings (take k xs) ≤ d + openings (take k xs)
+
+pub record Reaches (d e : ℕ) (xs : List Step) : Type 0 where
+  pub never_below : NeverBelow d xs
+  pub end : closings xs + e ≡ d + openings xs
+
+enters : (kind : ℕ) (xs : List Step) → (closings (Enter kind ∷ xs) ≡ closings xs) × (openings (Enter kind ∷ xs) ≡ 1 + openings xs)
+enters kind xs = (count_by-cons is_exit (Enter kind) xs ∙ (omega arith), count_by-cons is_enter (Enter kind) xs)
+
+leaves : (xs : List Step) → (closings (Exit ∷ xs) ≡ 1 + closings xs) × (openings (Exit ∷ xs) ≡ openings xs)
+leaves xs = (count_by-cons is_exit Exit xs, count_by-cons is_enter Exit xs ∙ (omega arith))
+
+eats : (kind n : ℕ) (xs : List Step) → (closings (Token kind n ∷ xs) ≡ closings xs) × (openings (Token kind n ∷ xs) ≡ openings xs)
+eats kind n xs = (count_by-cons is_exit (Token kind n) xs ∙ (omega arith), count_by-cons is_enter (Token kind n) xs ∙ (omega arith))
+
+pub reached : (d e : ℕ) (xs : List Step) → depth_after d xs ≡ Some e → Reaches d e xs
+reached d e [] h = let same : d ≡ e = cc in record { never_below = elim [ zero ↦ omega arith | suc k ↦ omega arith ]; end = omega arith }
+reached d e (Token kind n ∷ xs) h =
+    let r = reached d e xs h in
+    let now = eats kind n xs in
+    record {
+      never_below = elim [ zero ↦ omega arith | suc k ↦ omega (arith, r.never_below k, (eats kind n (take k xs)).0, (eats kind n (take k xs)).1) ];
+      end = omega (arith, r.end, now.0, now.1);
+    }
+reached d e (Enter kind ∷ xs) h =
+    let r = reached (suc d) e xs h in
+    let now = enters kind xs in
+    record {
+      never_below = elim [ zero ↦ omega arith | suc k ↦ omega (arith, r.never_below k, (enters kind (take k xs)).0, (enters kind (take k xs)).1) ];
+      end = omega (arith, r.end, now.0, now.1);
+    }
+reached zero e (Exit ∷ xs) h = absurd (cc)
+reached (suc d) e (Exit ∷ xs) h =
+    let r = reached d e xs h in
+    let now = leaves xs in
+    record {
+      never_below = elim [ zero ↦ omega arith | suc k ↦ omega (arith, r.never_below k, (leaves (take k xs)).0, (leaves (take k xs)).1) ];
+      end = omega (arith, r.end, now.0, now.1);
+    }
+
+pub reaches : (d : ℕ) (xs : List Step) → NeverBelow d xs → (e : ℕ) × (depth_after d xs ≡ Some e)
+reaches d [] h = (d, refl)
+reaches d (Token kind n ∷ xs) h =
+    reaches d xs (λ k. omega (arith, h (suc k), (eats kind n (take k xs)).0, (eats kind n (take k xs)).1))
+reaches d (Enter kind ∷ xs) h =
+    reaches (suc d) xs (λ k. omega (arith, h (suc k), (enters kind (take k xs)).0, (enters kind (take k xs)).1))
+reaches zero (Exit ∷ xs) h = absurd (omega (arith, h 1, (leaves (take 0 xs)).0, (leaves (take 0 xs)).1))
+reaches (suc d) (Exit ∷ xs) h =
+    reaches d xs (λ k. omega (arith, h (suc k), (leaves (take k xs)).0, (leaves (take k xs)).1))
+
+-- a balanced walk comes back to where it began
+pub depth_after-balanced : (xs : List Step) → IsBalanced xs → depth_after 0 xs ≡ Some 0
+depth_after-balanced xs b =
+    let r = reaches 0 xs (λ k. omega (arith, b.never_below k)) in
+    let end = (reached 0 r.0 xs r.1).end in
+    let back : r.0 ≡ 0 = omega (arith, end, b.closed) in
+    r.1 ∙ ap Some back
+
+pub IsBalanced-depth_after : (xs : List Step) → depth_after 0 xs ≡ Some 0 → IsBalanced xs
+IsBalanced-depth_after xs h =
+    let r = reached 0 0 xs h in
+    record { never_below = λ k. omega (arith, r.never_below k); closed = omega (arith, r.end) }

@@ -1,0 +1,175 @@
+-- A parser stays sound under its acts.
+use Rattle.std.proofs.Common.{◌≡◌, ℕ, ◌+◌, ◌<◌, ◌≤◌, ◌==◌, Bool, true, false, Some, List, [], ◌∷◌, ◌++◌, cond, arith, ap, sym, refl, ◌∙◌}
+use Rattle.std.specs.Prelude.{All, Contains, count_by}
+use Rattle.std.proofs.lemmas.Bool.{eqb-true}
+use Rattle.std.proofs.lemmas.List.{append-nil}
+use Rattle.std.proofs.lemmas.List.Sums.{sum_by-append}
+use Rattle.std.proofs.lemmas.List.Elements.{All-head, All-tail, All-push, All-weaker}
+use Rattle.std.proofs.lemmas.Grind.{flat_map-append}
+use Rattle.squawk_parser.specs.Steps as steps
+use Rattle.squawk_parser.specs.Steps.{Step, eaten, count_of}
+use Rattle.squawk_parser.specs.Draft.{Made, Item, Hole, Close, Token, ByStart, ids, ids_of, steps_of, plain, HasNoIdTwice, IsAboveIds}
+use Rattle.squawk_parser.specs.Edits.{started, completed, filled, with_token}
+use Rattle.squawk_parser.specs.Shape.{EatsOne}
+use Rattle.squawk_parser.specs.State.{State, IsSound, Goes}
+use Rattle.squawk_parser.specs.declared.parser.parse_error.ParseError.TheVariants.{OutOfMemory, TooManyEvents}
+use Rattle.squawk_parser.proofs.Sums.{count_by-cons}
+use Rattle.squawk_parser.proofs.Balance.{depth_after, depth_after-append, depth_after-balanced, IsBalanced-depth_after}
+use Rattle.squawk_parser.proofs.Filled.{ids-filled, eaten-filled, All-filled, depth_after-filled, one_hole, holes}
+
+plain-append : (xs ys : List Item) → plain (xs ++ ys) ≡ plain xs ++ plain ys
+plain-append xs ys = flat_map-append steps_of xs ys
+
+ids-append : (xs ys : List Item) → ids (xs ++ ys) ≡ ids xs ++ ids ys
+ids-append xs ys = flat_map-append ids_of xs ys
+
+-- what a parser keeps, with its draft's ids below the next one
+pub record IsKept (s : State) : Type 0 where
+  pub sound : IsSound s
+  pub above : IsAboveIds s.draft.recorded s.draft.items
+
+-- an id that is above all others isn't among them
+unused_cases : (id i : ℕ) (is : List ℕ) (b : Bool) → (i == id) ≡ b → i < id → count_by (λ i. i == id) is ≡ 0 → count_by (λ i. i == id) (i ∷ is) ≡ 0
+unused_cases id i is true e lt rest = absurd (omega (arith, eqb-true i id e))
+unused_cases id i is false e lt rest =
+    let count = count_by-cons (λ i. i == id) i is ∙ ap (λ b. cond b 1 0 + count_by (λ i. i == id) is) e in omega (arith, count, rest)
+
+unused : (id : ℕ) (is : List ℕ) → All (λ i. i < id) is → count_by (λ i. i == id) is ≡ 0
+unused id [] all = refl
+unused id (i ∷ is) all = unused_cases id i is (i == id) refl (All-head (λ i. i < id) i is all) (unused id is (All-tail (λ i. i < id) i is all))
+
+-- one more id, above the others
+HasNoIdTwice-push : (items : List Item) (id : ℕ) → HasNoIdTwice items → IsAboveIds id items → (other : ℕ) → count_by (λ i. i == other) (ids items ++ id ∷ []) ≤ 1
+HasNoIdTwice-push items id once above other = cases (id == other) refl
+  where
+    total : count_by (λ i. i == other) (ids items ++ id ∷ []) ≡ count_by (λ i. i == other) (ids items) + cond (id == other) 1 0
+    total = omega (arith, sum_by-append (λ i. cond (i == other) 1 0) (ids items) (id ∷ []))
+
+    cases : (b : Bool) → (id == other) ≡ b → count_by (λ i. i == other) (ids items ++ id ∷ []) ≤ 1
+    cases true e =
+        let same : other ≡ id = sym (eqb-true id other e) in
+        let none : count_by (λ i. i == other) (ids items) ≡ 0 = rw same (unused id (ids items) above) in
+        let sum = total ∙ ap (λ b. count_by (λ i. i == other) (ids items) + cond b 1 0) e in omega (arith, sum, none)
+    cases false e =
+        let sum = total ∙ ap (λ b. count_by (λ i. i == other) (ids items) + cond b 1 0) e in omega (arith, sum, once other)
+
+more : (n : ℕ) (is : List ℕ) → All (λ i. i < n) is → All (λ i. i < n + 1) is
+more n is all = All-weaker (λ i. i < n) (λ i. i < n + 1) (λ i lt. omega arith) is all
+
+-- a parser that goes on isn't refused an event
+not_refused : (s : State) → Goes s → s.first ≡ Some TooManyEvents → ⊥
+not_refused s goes full = cc
+
+-- a hole at the end
+pub IsKept-started : (s : State) → IsKept s → Goes s → s.draft.recorded < s.max_events → IsKept (record s { draft = started s.draft s.draft.recorded })
+IsKept-started s kept goes room =
+    let items = s.draft.items in
+    let id = s.draft.recorded in
+    let hole : List Item = Hole id ByStart ∷ [] in
+    let same : plain (items ++ hole) ≡ plain items = plain-append items hole ∙ append-nil (plain items) in
+    let numbers : ids (items ++ hole) ≡ ids items ++ id ∷ [] = ids-append items hole in
+    record {
+      sound = record {
+        position = kept.sound.position;
+        limit = kept.sound.limit;
+        recorded = omega arith;
+        refused = λ full. absurd (not_refused s goes full);
+        ids = λ other. rw numbers (HasNoIdTwice-push items id kept.sound.ids kept.above other);
+        balanced = rw same kept.sound.balanced;
+        over = rw same kept.sound.over;
+        behind = rw same kept.sound.behind;
+      };
+      above = rw numbers (All-push (λ i. i < id + 1) (ids items) id (more id (ids items) kept.above) (omega arith));
+    }
+
+-- a hole that became an opening, and a closing at the end
+pub IsKept-completed : (s : State) (id kind : ℕ) (made : Made) → IsKept s → Goes s → s.draft.recorded < s.max_events → Contains s.draft.items (Hole id made)
+    → IsKept (record s { draft = completed s.draft id kind })
+IsKept-completed s id kind made kept goes room there =
+    let items = s.draft.items in
+    let inner = filled items id kind in
+    let close : List Item = Close ∷ [] in
+    let reads : plain (inner ++ close) ≡ plain inner ++ steps.Exit ∷ [] = plain-append inner close in
+    let numbers : ids (inner ++ close) ≡ ids items = ids-append inner close ∙ (append-nil (ids inner) ∙ ids-filled id kind items) in
+    let eats : eaten (plain inner ++ steps.Exit ∷ []) ≡ eaten (plain items) =
+    sum_by-append count_of (plain inner) (steps.Exit ∷ []) ∙ (omega (arith, eaten-filled id kind items)) in
+    let once : holes id kind items ≡ 1 = one_hole id kind items made kept.sound.ids there in
+    let deep : depth_after 0 (plain inner) ≡ Some 1 =
+    depth_after-filled id kind items 0 0 (depth_after-balanced (plain items) kept.sound.balanced) ∙ ap (λ n. Some (0 + n)) once in
+    let back : depth_after 0 (plain inner ++ steps.Exit ∷ []) ≡ Some 0 = depth_after-append 0 1 (plain inner) (steps.Exit ∷ []) deep in
+    record {
+      sound = record {
+        position = kept.sound.position;
+        limit = kept.sound.limit;
+        recorded = omega arith;
+        refused = λ full. absurd (not_refused s goes full);
+        ids = λ other. rw numbers (kept.sound.ids other);
+        balanced = rw reads (IsBalanced-depth_after (plain inner ++ steps.Exit ∷ []) back);
+        over = record {
+          each = rw reads (All-push EatsOne (plain inner) steps.Exit (All-filled id kind items kept.sound.over.each) tt);
+          within = rw (reads, eats) kept.sound.over.within;
+        };
+        behind = rw (reads, eats) kept.sound.behind;
+      };
+      above = rw numbers (more s.draft.recorded (ids items) kept.above);
+    }
+
+-- a token at the end, which the parser eats
+pub IsKept-with_token : (s : State) (kind : ℕ) → IsKept s → Goes s → s.draft.recorded < s.max_events → s.position < s.limit
+    → IsKept (record s { position = s.position + 1; draft = with_token s.draft kind 1 })
+IsKept-with_token s kind kept goes room left =
+    let items = s.draft.items in
+    let token : List Item = Token kind 1 ∷ [] in
+    let reads : plain (items ++ token) ≡ plain items ++ steps.Token kind 1 ∷ [] = plain-append items token in
+    let numbers : ids (items ++ token) ≡ ids items = ids-append items token ∙ append-nil (ids items) in
+    let eats : eaten (plain items ++ steps.Token kind 1 ∷ []) ≡ eaten (plain items) + 1 = sum_by-append count_of (plain items) (steps.Token kind 1 ∷ []) in
+    let flat : depth_after 0 (plain items ++ steps.Token kind 1 ∷ []) ≡ Some 0 =
+    depth_after-append 0 0 (plain items) (steps.Token kind 1 ∷ []) (depth_after-balanced (plain items) kept.sound.balanced) in
+    record {
+      sound = record {
+        position = omega arith;
+        limit = kept.sound.limit;
+        recorded = omega arith;
+        refused = λ full. absurd (not_refused s goes full);
+        ids = λ other. rw numbers (kept.sound.ids other);
+        balanced = rw reads (IsBalanced-depth_after (plain items ++ steps.Token kind 1 ∷ []) flat);
+        over = record {
+          each = rw reads (All-push EatsOne (plain items) (steps.Token kind 1) kept.sound.over.each refl);
+          within = rw (reads, eats) (omega (arith, kept.sound.behind, kept.sound.limit));
+        };
+        behind = rw (reads, eats) (omega (arith, kept.sound.behind));
+      };
+      above = rw numbers (more s.draft.recorded (ids items) kept.above);
+    }
+
+-- a parser that fails for want of memory
+pub IsKept-failed : (s : State) → IsKept s → IsKept (record s { first = Some OutOfMemory })
+IsKept-failed s kept = record {
+  sound = record {
+    position = kept.sound.position;
+    limit = kept.sound.limit;
+    recorded = kept.sound.recorded;
+    refused = λ full. absurd (let other = full in cc);
+    ids = kept.sound.ids;
+    balanced = kept.sound.balanced;
+    over = kept.sound.over;
+    behind = kept.sound.behind;
+  };
+  above = kept.above;
+}
+
+-- a parser that goes past a token
+pub IsKept-past : (s : State) → IsKept s → s.position < s.limit → IsKept (record s { position = s.position + 1 })
+IsKept-past s kept left = record {
+  sound = record {
+    position = omega arith;
+    limit = kept.sound.limit;
+    recorded = kept.sound.recorded;
+    refused = kept.sound.refused;
+    ids = kept.sound.ids;
+    balanced = kept.sound.balanced;
+    over = kept.sound.over;
+    behind = omega (arith, kept.sound.behind);
+  };
+  above = kept.above;
+}

@@ -1,0 +1,78 @@
+-- The record of a parse.
+use Rattle.std.specs.Prelude.{◌≡◌, ℕ, ◌<◌, ◌≤◌, ◌==◌, Bool, true, false, List, [], ◌∷◌, All, count_by}
+use Rattle.std.specs.List.{flat_map}
+use Rattle.squawk_parser.specs.Steps as steps
+
+-- how a hole was made: by a start, or in front of a node
+pub data Made : Type 0 where
+  ByStart : Made
+  ByPrecede : Made
+
+pub data Item : Type 0 where
+  -- an open marker: its id, and how it was made
+  Hole : ℕ → Made → Item
+  -- the beginning of a node: its id, its kind, and whether it can still be preceded
+  Open : ℕ → ℕ → Bool → Item
+  -- the end of a node
+  Close : Item
+  -- a token of a kind, and how many raw tokens it has
+  Token : ℕ → ℕ → Item
+
+-- the items in their order, and how many events were recorded
+pub record Draft : Type 0 where
+  pub items : List Item
+  pub recorded : ℕ
+
+-- the draft of a parse that begins
+abbrev pub nothing : Draft
+nothing = record { items = []; recorded = 0 }
+
+-- a marker: the id of its hole, and how that was made
+pub record Mark : Type 0 where
+  pub id : ℕ
+  pub made : Made
+
+-- a completed marker: the id of its opening, and the kind that it was given
+pub record Node : Type 0 where
+  pub id : ℕ
+  pub kind : ℕ
+
+abbrev pub is_hole : Item → Bool
+is_hole (Hole i made) = true
+is_hole (Open i kind free) = false
+is_hole Close = false
+is_hole (Token kind n) = false
+
+-- no open marker is left
+abbrev pub HasNoHole : List Item → Type 0
+HasNoHole items = All (λ item. is_hole item ≡ false) items
+
+-- the ids that an item has
+abbrev pub ids_of : Item → List ℕ
+ids_of (Hole i made) = i ∷ []
+ids_of (Open i kind free) = i ∷ []
+ids_of Close = []
+ids_of (Token kind n) = []
+
+-- the ids of holes and openings, in the order of the items
+abbrev pub ids : List Item → List ℕ
+ids items = flat_map ids_of items
+
+-- no id occurs twice
+abbrev pub HasNoIdTwice : List Item → Type 0
+HasNoIdTwice items = (id : ℕ) → count_by (λ i. i == id) (ids items) ≤ 1
+
+-- every id of the items is below this one
+abbrev pub IsAboveIds : ℕ → List Item → Type 0
+IsAboveIds id items = All (λ i. i < id) (ids items)
+
+-- what an output has for an item
+abbrev pub steps_of : Item → List steps.Step
+steps_of (Hole i made) = []
+steps_of (Open i kind free) = steps.Enter kind ∷ []
+steps_of Close = steps.Exit ∷ []
+steps_of (Token kind n) = steps.Token kind n ∷ []
+
+-- the plain list: the items without the holes, the ids, and whether a node can be preceded
+abbrev pub plain : List Item → List steps.Step
+plain items = flat_map steps_of items

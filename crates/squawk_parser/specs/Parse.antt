@@ -1,0 +1,32 @@
+-- What a parse answers.
+use Rattle.std.specs.Prelude.{◌≡◌, ℕ, Some, None, List, ◌⊎◌}
+use Rattle.squawk_parser.specs.ParserInput.{Entry}
+use Rattle.squawk_parser.specs.Draft.{Draft, HasNoHole, plain}
+use Rattle.squawk_parser.specs.Steps.{Walk}
+use Rattle.squawk_parser.specs.Shape.{IsBalanced, IsOver}
+use Rattle.squawk_parser.specs.State.{State, IsSound}
+use Rattle.squawk_parser.specs.declared.parser.parse_error.ParseError.{ParseError}
+use Rattle.squawk_parser.specs.declared.parser.parse_error.ParseError.TheVariants.{OutOfMemory}
+
+-- The output is that of a draft without holes that the grammar may leave. It is balanced, and over the input.
+pub record IsParse (leaves : Draft → Type 0) (input : List Entry) (output : Walk) : Type 0 where
+  pub draft : Draft
+  pub left : leaves draft
+  pub closed : HasNoHole draft.items
+  pub steps : output.steps ≡ plain draft.items
+  pub recorded : output.recorded ≡ draft.recorded
+  pub turns : output.turns ≡ 0
+  pub balanced : IsBalanced output.steps
+  pub over : IsOver output.steps input
+
+-- why a parse that left this parser is refused: for its first reason, and if it has none, by want of memory
+abbrev pub IsRefusalOf : State → ParseError → Type 0
+IsRefusalOf s reason = (s.first ≡ Some reason) ⊎ ((s.first ≡ None) × (reason ≡ OutOfMemory))
+
+-- a parser that worked over this input, under this limit, was left, and the parse is refused for that
+pub record IsRefused (input : List Entry) (max_events : ℕ) (reason : ParseError) : Type 0 where
+  pub left : State
+  pub sound : IsSound left
+  pub same_input : left.input ≡ input
+  pub same_limit : left.max_events ≡ max_events
+  pub refusal : IsRefusalOf left reason

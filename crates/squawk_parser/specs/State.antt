@@ -1,0 +1,73 @@
+-- What contracts see of a parser.
+use Rattle.std.specs.Prelude.{◌≡◌, ℕ, ◌+◌, ◌<◌, ◌≤◌, Option, Some, None, List, length, nat_lt, if◌then◌else◌, IsSome, Contains}
+use Rattle.squawk_parser.specs.Kinds.{EOF}
+use Rattle.squawk_parser.specs.ParserInput.{Entry, kind_in}
+use Rattle.squawk_parser.specs.Draft.{Draft, nothing, Hole, Mark, HasNoIdTwice, plain}
+use Rattle.squawk_parser.specs.Steps.{eaten}
+use Rattle.squawk_parser.specs.Shape.{IsBalanced, IsOver}
+use Rattle.squawk_parser.specs.declared.parser.parse_error.ParseError.{ParseError}
+use Rattle.squawk_parser.specs.declared.parser.parse_error.ParseError.TheVariants.{OutOfMemory, TooManyEvents}
+
+pub record State : Type 0 where
+  -- what is parsed
+  pub input : List Entry
+  -- how many tokens of it are eaten
+  pub position : ℕ
+  -- where its view of the input ends
+  pub limit : ℕ
+  -- what was recorded
+  pub draft : Draft
+  -- how many events may be recorded
+  pub max_events : ℕ
+  -- why the parser failed, if it did
+  pub first : Option ParseError
+
+-- the parser has not failed
+abbrev pub Goes : State → Type 0
+Goes s = s.first ≡ None
+
+-- a parser at the beginning of an input
+abbrev pub fresh : List Entry → ℕ → State
+fresh input max_events = record { input = input; position = 0; limit = length input; draft = nothing; max_events = max_events; first = None }
+
+-- the parser has done nothing yet
+abbrev pub IsFresh : State → Type 0
+IsFresh s = s ≡ fresh s.input s.max_events
+
+-- the kind of the token that is n places from the position; at the limit and past it the end's
+abbrev pub kind_at : State → ℕ → ℕ
+kind_at s n = if nat_lt (s.position + n) s.limit then kind_in s.input (s.position + n) else EOF
+
+-- the input and the limits stay, and so does a first reason to fail
+pub record Keeps (old new : State) : Type 0 where
+  pub input : new.input ≡ old.input
+  pub limit : new.limit ≡ old.limit
+  pub max_events : new.max_events ≡ old.max_events
+  pub reason : IsSome old.first → new.first ≡ old.first
+
+-- An event is recorded. Unless the parser has failed afterwards, it hadn't failed before and the draft is this one.
+pub record Records (old new : State) (edited : Draft) : Type 0 where
+  pub went : Goes new → Goes old
+  pub draft : Goes new → new.draft ≡ edited
+  -- nothing is recorded by a parser that has failed
+  pub stays : IsSome new.first → new.draft.recorded ≡ old.draft.recorded
+  -- it fails exactly where the limit is reached, and else only by want of memory
+  pub full : Goes old → old.draft.recorded ≡ old.max_events → new.first ≡ Some TooManyEvents
+  pub room : Goes old → old.draft.recorded < old.max_events → IsSome new.first → new.first ≡ Some OutOfMemory
+
+-- the marker's hole is in the draft, or the parser has failed
+abbrev pub HasHole : State → Mark → Type 0
+HasHole s m = Goes s → Contains s.draft.items (Hole m.id m.made)
+
+-- what every parser keeps, failed or not
+pub record IsSound (s : State) : Type 0 where
+  pub position : s.position ≤ s.limit
+  pub limit : s.limit ≤ length s.input
+  pub recorded : s.draft.recorded ≤ s.max_events
+  -- a parser that was refused an event has recorded as many as it may
+  pub refused : s.first ≡ Some TooManyEvents → s.draft.recorded ≡ s.max_events
+  pub ids : HasNoIdTwice s.draft.items
+  -- holes aside
+  pub balanced : IsBalanced (plain s.draft.items)
+  pub over : IsOver (plain s.draft.items) s.input
+  pub behind : eaten (plain s.draft.items) ≤ s.position

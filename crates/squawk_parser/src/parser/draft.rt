@@ -1,0 +1,147 @@
+//! The record of a parse: a plain list of items that is edited in place.
+ghost use Rattle.std.specs.Prelude.{◌≡◌, ◌+◌, ◌^◌, ◌<◌, [], ◌∷◌, map, IfOk, OnOk, OnErr};
+ghost use Rattle.squawk_parser.specs.Draft.{plain};
+ghost use Rattle.squawk_parser.specs.Edits.{started, filled, completed, with_token};
+ghost use Rattle.squawk_parser.specs.DraftView.{item_of};
+ghost use Rattle.squawk_parser.specs.Steps.{Walk};
+
+use crate::output::Output;
+use crate::syntax_kind::SyntaxKind;
+use std::alloc::{AllocError, Global};
+use std::marker::Model;
+
+/// An item of the record. The ids of holes and openings are numbers that no other one has.
+#[derive(Clone, Copy, Debug)]
+enum DraftItem {
+    /// An open marker.
+    Hole {
+        id: u32,
+    },
+    /// The beginning of a node.
+    Open {
+        id: u32,
+        kind: SyntaxKind,
+    },
+    /// The end of a node.
+    Close,
+    /// A token of a kind, with so many tokens of the input.
+    Token {
+        kind: SyntaxKind,
+        n_input_tokens: u8,
+    },
+}
+
+impl DraftItem {
+    /// The item with this id as the beginning of a node if it is a hole; any other item as it is.
+    fn filled(self, id: u32, kind: SyntaxKind) -> DraftItem
+        ensures { item_of result ∷ [] ≡ filled (item_of self ∷ []) id kind }
+    {
+        match self {
+            DraftItem::Hole { id: own } if own == id => DraftItem::Open { id, kind },
+            _ => self,
+        }
+    }
+}
+
+/// What a parser has recorded.
+#[derive(Drop)]
+pub(crate) struct Draft {
+    items: Vec<DraftItem>,
+    recorded: u32,
+}
+
+impl Model for Draft {
+    ghost use Rattle.squawk_parser.specs.Draft as spec;
+
+    ghost Value = { spec.Draft };
+
+    ghost use Rattle.std.specs.Prelude.{map};
+    ghost use Rattle.squawk_parser.specs.DraftView.{item_of};
+
+    ghost view = { λ d. record { items = map item_of d.items.items; recorded = d.recorded } };
+}
+
+impl Draft {
+    /// Nothing.
+    pub(crate) fn new(alloc: Global) -> Draft
+        ensures { result ≡ record { items = []; recorded = 0 } }
+    {
+        Draft {
+            items: Vec::new(alloc),
+            recorded: 0,
+        }
+    }
+
+    /// How many events were recorded.
+    pub(crate) fn recorded(&self) -> u32
+        ensures { result ≡ self.now.recorded }
+    {
+        self.recorded
+    }
+
+    /// A hole at the end.
+    pub(crate) fn start(&mut self, id: u32) -> Result<(), AllocError>
+        requires { self.old.recorded + 1 < 2 ^ 32 }
+        ensures ok { OnOk result (self.new ≡ started self.old id) }
+        ensures err { OnErr result (self.new ≡ self.old) }
+    {
+        self.items.push(DraftItem::Hole { id })?;
+        self.recorded += 1;
+        Ok(())
+    }
+
+    /// The hole becomes an opening in its place, and a closing stands at the end.
+    pub(crate) fn complete(&mut self, id: u32, kind: SyntaxKind) -> Result<(), AllocError>
+        requires { self.old.recorded + 1 < 2 ^ 32 }
+        ensures ok { OnOk result (self.new ≡ completed self.old id kind) }
+        ensures err { OnErr result (self.new ≡ self.old) }
+    {
+        self.items.push(DraftItem::Close)?;
+        fill(&mut self.items, id, kind);
+        self.recorded += 1;
+        Ok(())
+    }
+
+    /// A token at the end.
+    pub(crate) fn token(&mut self, kind: SyntaxKind, n_input_tokens: u8) -> Result<(), AllocError>
+        requires { self.old.recorded + 1 < 2 ^ 32 }
+        ensures ok { OnOk result (self.new ≡ with_token self.old kind n_input_tokens) }
+        ensures err { OnErr result (self.new ≡ self.old) }
+    {
+        self.items.push(DraftItem::Token {
+            kind,
+            n_input_tokens,
+        })?;
+        self.recorded += 1;
+        Ok(())
+    }
+
+    /// The items as an output; holes are left out.
+    pub(crate) fn finish(self, alloc: Global) -> Result<Output, AllocError>
+        ensures { IfOk result (λ o. o ≡ record { steps = plain self.items; recorded = self.recorded; turns = 0 }) }
+    {
+        let Draft { items, recorded } = self;
+        let mut output = Output::with_capacity(alloc, items.len(), recorded)?;
+        for item in &items {
+            match *item {
+                DraftItem::Hole { id: _ } => {}
+                DraftItem::Open { id: _, kind } => output.enter_node(kind)?,
+                DraftItem::Close => output.leave_node()?,
+                DraftItem::Token {
+                    kind,
+                    n_input_tokens,
+                } => output.token(kind, n_input_tokens)?,
+            }
+        }
+        Ok(output)
+    }
+}
+
+/// The hole becomes an opening in its place.
+fn fill(items: &mut Vec<DraftItem>, id: u32, kind: SyntaxKind)
+    ensures { map item_of items.new.items ≡ filled (map item_of items.old.items) id kind }
+{
+    for item in items.iter_mut() {
+        *item = item.filled(id, kind);
+    }
+}

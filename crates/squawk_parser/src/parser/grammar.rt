@@ -1,0 +1,74 @@
+//! Grammars, and the parse of an input by one.
+ghost use Rattle.std.specs.Prelude.{◌≡◌, IfOk, IfErr};
+ghost use Rattle.squawk_parser.specs.Draft.{Draft, HasNoHole, plain};
+ghost use Rattle.squawk_parser.specs.State.{State, IsFresh};
+ghost use Rattle.squawk_parser.specs.Parse.{IsParse, IsRefused};
+
+use crate::input::Input;
+use crate::output::Output;
+use crate::parser::Parser;
+use crate::parser::parse_error::ParseError;
+use std::alloc::{AllocError, Global};
+
+/// Where a grammar begins.
+#[derive(Clone, Copy, Debug, PartialEq, Eq)]
+pub enum EntryPoint {
+    SourceFile,
+    Plpgsql,
+}
+
+/// What an input is parsed by.
+///
+/// An entry point is called with a parser at the beginning of an input. It may leave no marker
+/// open, and it answers an error only where memory was refused to the grammar itself: what the
+/// parser was refused, the parser keeps.
+pub trait Grammar {
+    ghost use Rattle.std.specs.Prelude.{List, ◌≡◌, OnOk};
+    ghost use Rattle.squawk_parser.specs.ParserInput.{Entry};
+    ghost use Rattle.squawk_parser.specs.Draft.{Draft, HasNoHole};
+    ghost use Rattle.squawk_parser.specs.State.{Goes, Keeps, IsFresh};
+    ghost use Rattle.squawk_parser.specs.declared.parser.grammar.EntryPoint.{EntryPoint};
+
+    /// Which drafts a run from an entry point may leave over an input.
+    ghost leaves: { Self → EntryPoint → List Entry → Draft → Type 0 };
+
+    /// Parses the input as a source file.
+    fn entry_point(&self, p: &mut Parser<'_>) -> Result<(), AllocError>
+        requires { IsFresh p.old }
+        ensures keeps { Keeps p.old p.new }
+        ensures closed { OnOk result (Goes p.new → HasNoHole p.new.draft.items) }
+        ensures leaves { OnOk result (Goes p.new → leaves self.now EntryPoint.SourceFile p.old.input p.new.draft) };
+
+    /// Parses the input as the body of a PL/pgSQL function.
+    fn plpgsql_entry_point(&self, p: &mut Parser<'_>) -> Result<(), AllocError>
+        requires { IsFresh p.old }
+        ensures keeps { Keeps p.old p.new }
+        ensures closed { OnOk result (Goes p.new → HasNoHole p.new.draft.items) }
+        ensures leaves { OnOk result (Goes p.new → leaves self.now EntryPoint.Plpgsql p.old.input p.new.draft) };
+}
+
+/// How many events a parse may record.
+const MAX_EVENTS: u32 = 4294967295;
+
+impl EntryPoint {
+    /// The parse of an input by a grammar, from this entry point.
+    ///
+    /// It is refused for the first reason for which the parser failed; if it did not fail, by want
+    /// of memory, where the grammar answers that or the output finds none.
+    pub fn parse<G: Grammar>(
+        &self,
+        alloc: Global,
+        input: &Input,
+        grammar: &G,
+    ) -> Result<Output, ParseError>
+        ensures output { IfOk result (λ o. IsParse (G.leaves grammar.now self.now input.now) input.now o) }
+        ensures refused { IfErr result (λ e. IsRefused input.now MAX_EVENTS e) }
+    {
+        let mut p = Parser::new(alloc, input, MAX_EVENTS);
+        let run = match self {
+            EntryPoint::SourceFile => grammar.entry_point(&mut p),
+            EntryPoint::Plpgsql => grammar.plpgsql_entry_point(&mut p),
+        };
+        p.finish(run)
+    }
+}
