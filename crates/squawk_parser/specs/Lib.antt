@@ -11,3 +11,5 @@ pub mod Edits
 pub mod DraftView
 pub mod State
 pub mod Parse
+pub mod Sent
+pub mod Sending

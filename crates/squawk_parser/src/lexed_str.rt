@@ -1,5 +1,5 @@
 //! The table of a text's raw tokens.
-ghost use Rattle.std.specs.Prelude.{◌≡◌, ◌+◌, ◌<◌, ◌≤◌, length, slice_index, slice_range, MatchResult};
+ghost use Rattle.std.specs.Prelude.{◌≡◌, ◌+◌, ◌^◌, ◌<◌, ◌≤◌, length, slice_index, slice_range, MatchResult};
 ghost use Rattle.squawk_parser.specs.AcceptedTokens.{Refuses};
 ghost use Rattle.squawk_parser.specs.RawTable.{Table, IsTable, table_of, kind_of, piece};
 
@@ -68,6 +68,16 @@ impl<'a> LexedStr<'a> {
         })
     }
 
+    /// The source.
+    pub(crate) fn source(&self) -> &'a str
+        ensures text { result.now ≡ self.now.text }
+        // What every table keeps.
+        ensures table { IsTable self.now }
+        ensures small { length self.now.kinds < 2 ^ 64 }
+    {
+        self.text
+    }
+
     /// How many raw tokens there are.
     pub fn len(&self) -> usize
         ensures len { result ≡ length self.now.kinds }
@@ -121,7 +131,8 @@ impl<'a> LexedStr<'a> {
         requires { i ≤ length self.now.kinds }
         ensures { result ≡ slice_index self.now.starts i }
     {
-        self.starts[i] as usize
+        let start = self.starts[i];
+        start as usize
     }
 }
 

@@ -5,6 +5,7 @@ pub mod input;
 pub mod lexed_str;
 pub mod output;
 pub mod parser;
+pub mod shortcuts;
 pub mod syntax_kind;
 pub mod vocabulary;
 
@@ -12,5 +13,6 @@ pub use input::Input;
 pub use lexed_str::{LexedStr, TableError, Token, TokenKind, check_tokens};
 pub use output::{Output, Step, Steps, Text};
 pub use parser::{CompletedMarker, EntryPoint, Grammar, Marker, ParseError, Parser};
+pub use shortcuts::{OwnedStep, StepList, StepSink, StrStep};
 pub use syntax_kind::SyntaxKind;
 pub use vocabulary::Vocabulary;

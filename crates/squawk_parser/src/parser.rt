@@ -1,20 +1,19 @@
 //! The parser that a grammar works with.
-ghost use Rattle.std.specs.Prelude.{◌≡◌, ◌≢◌, ◌+◌, ◌<◌, ◌^◌, IsTrue, IsSome, IsOk, IfOk, IfErr, not};
-ghost use Rattle.squawk_parser.specs.Draft.{ByStart, IsAboveIds, plain};
-ghost use Rattle.squawk_parser.specs.Edits.{started, with_token};
-ghost use Rattle.squawk_parser.specs.Kinds.{EOF};
+ghost use Rattle.std.specs.Prelude.{◌≡◌, IsOk, IfOk, IfErr};
+ghost use Rattle.squawk_parser.specs.Draft.{plain};
 ghost use Rattle.squawk_parser.specs.Parse.{IsRefusalOf};
-ghost use Rattle.squawk_parser.specs.State.{State, Goes, Keeps, Records, IsSound, fresh, kind_at};
+ghost use Rattle.squawk_parser.specs.State.{Goes, IsSound, fresh};
 
+mod acts;
 mod draft;
 pub mod grammar;
+mod look_ahead;
 pub mod marker;
 pub mod parse_error;
 
 use crate::input::Input;
 use crate::output::Output;
 use crate::parser::draft::Draft;
-use crate::syntax_kind::SyntaxKind;
 pub use grammar::{EntryPoint, Grammar};
 pub use marker::{CompletedMarker, Marker};
 pub use parse_error::ParseError;
@@ -38,7 +37,6 @@ pub struct Parser<'t> {
 }
 
 impl<'t> Model for Parser<'t> {
-    ghost use Rattle.squawk_parser.specs.Parse.{IsRefusalOf};
     ghost use Rattle.squawk_parser.specs.State.{State, IsSound};
     ghost use Rattle.squawk_parser.specs.Draft.{IsAboveIds};
 
@@ -80,72 +78,6 @@ impl<'t> Parser<'t> {
         ensures { result ≡ self.now.first }
     {
         self.first
-    }
-
-    /// The kind of the current token, and [`SyntaxKind::EOF`] at the end.
-    pub fn current(&self) -> SyntaxKind
-        ensures { result ≡ kind_at self.now 0 }
-    {
-        if self.position < self.limit {
-            self.input.kind(self.position)
-        } else {
-            SyntaxKind::EOF
-        }
-    }
-
-    /// Begins a node: all that is recorded until its marker is completed will stand in it.
-    pub fn start(&mut self) -> Marker
-        ensures made { result.made ≡ ByStart }
-        ensures fresh { Goes self.new → IsAboveIds result.id self.old.draft.items }
-        ensures keeps { Keeps self.old self.new }
-        ensures position { self.new.position ≡ self.old.position }
-        ensures records { Records self.old self.new (started self.old.draft result.id) }
-    {
-        let id = self.draft.recorded();
-        if self.has_room() {
-            match self.draft.start(id) {
-                Ok(()) => {}
-                Err(_) => self.first = Some(ParseError::OutOfMemory),
-            }
-        }
-        Marker { id }
-    }
-
-    /// Eats the current token. At the end nothing happens.
-    pub fn bump_any(&mut self)
-        ensures end { kind_at self.old 0 ≡ EOF → self.new ≡ self.old }
-        ensures keeps { Keeps self.old self.new }
-        ensures position { kind_at self.old 0 ≢ EOF → self.new.position ≡ self.old.position + 1 }
-        ensures records { kind_at self.old 0 ≢ EOF → Records self.old self.new (with_token self.old.draft (kind_at self.old 0) 1) }
-    {
-        let kind = self.current();
-        if kind == SyntaxKind::EOF {
-            return;
-        }
-        if self.has_room() {
-            match self.draft.token(kind, 1) {
-                Ok(()) => {}
-                Err(_) => self.first = Some(ParseError::OutOfMemory),
-            }
-        }
-        self.position += 1;
-    }
-
-    /// Whether one more event may be recorded. Where the limit is reached, the parser fails.
-    fn has_room(&mut self) -> bool
-        ensures keeps { Keeps self.old self.new }
-        ensures position { self.new.position ≡ self.old.position }
-        ensures room { IsTrue result → (self.new ≡ self.old) × Goes self.old × (self.old.draft.recorded < self.old.max_events) }
-        ensures full { IsTrue (not result) → Records self.old self.new self.old.draft × IsSome self.new.first }
-    {
-        if self.first.is_some() {
-            return false;
-        }
-        if self.draft.recorded() == self.max_events {
-            self.first = Some(ParseError::TooManyEvents);
-            return false;
-        }
-        true
     }
 
     /// The output of a parse whose grammar answered `run`.

@@ -17,7 +17,7 @@ impl Model for SyntaxKind {
 
     ghost Value = { ℕ };
 
-    ghost view = { λ kind. kind.0 };
+    ghost view = { λ k. k.0 };
 
     ghost inverse = { λ number. record { 0 = number } };
 }

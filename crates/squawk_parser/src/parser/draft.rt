@@ -1,5 +1,5 @@
 //! The record of a parse: a plain list of items that is edited in place.
-ghost use Rattle.std.specs.Prelude.{◌≡◌, ◌+◌, ◌^◌, ◌<◌, [], ◌∷◌, map, IfOk, OnOk, OnErr};
+ghost use Rattle.std.specs.Prelude.{◌≡◌, ◌+◌, ◌^◌, ◌<◌, [], ◌∷◌, ◌++◌, map, IfOk, OnOk, OnErr};
 ghost use Rattle.squawk_parser.specs.Draft.{plain};
 ghost use Rattle.squawk_parser.specs.Edits.{started, filled, completed, with_token};
 ghost use Rattle.squawk_parser.specs.DraftView.{item_of};
@@ -85,9 +85,7 @@ impl Draft {
         ensures ok { OnOk result (self.new ≡ started self.old id) }
         ensures err { OnErr result (self.new ≡ self.old) }
     {
-        self.items.push(DraftItem::Hole { id })?;
-        self.recorded += 1;
-        Ok(())
+        self.push(DraftItem::Hole { id })
     }
 
     /// The hole becomes an opening in its place, and a closing stands at the end.
@@ -96,9 +94,8 @@ impl Draft {
         ensures ok { OnOk result (self.new ≡ completed self.old id kind) }
         ensures err { OnErr result (self.new ≡ self.old) }
     {
-        self.items.push(DraftItem::Close)?;
+        self.push(DraftItem::Close)?;
         fill(&mut self.items, id, kind);
-        self.recorded += 1;
         Ok(())
     }
 
@@ -108,10 +105,19 @@ impl Draft {
         ensures ok { OnOk result (self.new ≡ with_token self.old kind n_input_tokens) }
         ensures err { OnErr result (self.new ≡ self.old) }
     {
-        self.items.push(DraftItem::Token {
+        self.push(DraftItem::Token {
             kind,
             n_input_tokens,
-        })?;
+        })
+    }
+
+    /// One more event: an item at the end.
+    fn push(&mut self, item: DraftItem) -> Result<(), AllocError>
+        requires { self.old.recorded + 1 < 2 ^ 32 }
+        ensures ok { OnOk result (self.new ≡ record { items = self.old.items ++ item_of item ∷ []; recorded = self.old.recorded + 1 }) }
+        ensures err { OnErr result (self.new ≡ self.old) }
+    {
+        self.items.push(item)?;
         self.recorded += 1;
         Ok(())
     }
