@@ -1,0 +1,2 @@
+pub mod FixedLines
+pub mod FixedTable

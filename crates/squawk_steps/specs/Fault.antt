@@ -1,0 +1,41 @@
+-- The statuses and the lines of faults.
+use Rattle.std.specs.Prelude.{ℕ, List, ◌++◌, codes}
+use Rattle.std.specs.Fmt.{decimal}
+use Rattle.squawk_parser.specs.declared.lexed_str.check.TableError.{TableError}
+use Rattle.squawk_parser.specs.declared.lexed_str.check.TableError.TheVariants as table
+use Rattle.squawk_parser.specs.declared.parser.parse_error.ParseError.{ParseError}
+use Rattle.squawk_parser.specs.declared.parser.parse_error.ParseError.TheVariants as parse
+use Rattle.squawk_steps.specs.declared.fault.Fault.{Fault}
+use Rattle.squawk_steps.specs.declared.fault.Fault.TheVariants.{TextTooLong, BadToken, TextLeft, TooManyEvents, DoesNotFit, Memory, Io}
+
+-- the status that the program ends with
+abbrev pub status_of : Fault → ℕ
+status_of TextTooLong = 3
+status_of (BadToken index) = 3
+status_of (TextLeft at) = 3
+status_of TooManyEvents = 5
+status_of DoesNotFit = 6
+status_of Memory = 7
+status_of Io = 8
+
+-- the line that it prints
+abbrev pub line_of : Fault → List ℕ
+line_of TextTooLong = codes "text too long"
+line_of (BadToken index) = codes "bad token " ++ decimal index
+line_of (TextLeft at) = codes "text left at " ++ decimal at
+line_of TooManyEvents = codes "too many events"
+line_of DoesNotFit = codes "does not fit"
+line_of Memory = codes "memory"
+line_of Io = codes "io"
+
+-- the fault of a refused table
+abbrev pub fault_of_table : TableError → Fault
+fault_of_table table.TextTooLong = TextTooLong
+fault_of_table (table.BadToken index) = BadToken index
+fault_of_table (table.TextLeft at) = TextLeft at
+fault_of_table table.OutOfMemory = Memory
+
+-- the fault of a refused parse
+abbrev pub fault_of_parse : ParseError → Fault
+fault_of_parse parse.OutOfMemory = Memory
+fault_of_parse parse.TooManyEvents = TooManyEvents

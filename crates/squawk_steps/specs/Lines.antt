@@ -1,0 +1,27 @@
+-- The lines that are printed for steps.
+use Rattle.std.specs.Prelude.{ℕ, Bool, true, false, List, ◌++◌, codes, encode_utf8_all}
+use Rattle.std.specs.List.{flat_map}
+use Rattle.std.specs.Fmt.{decimal}
+use Rattle.serde_json.specs.Data.{string}
+use Rattle.serde_json.specs.Written.{compact_text}
+use Rattle.squawk_parser.specs.declared.shortcuts.str_step.OwnedStep.{OwnedStep}
+use Rattle.squawk_parser.specs.declared.shortcuts.str_step.OwnedStep.TheVariants.{Token, Enter, Exit}
+
+-- a text as a JSON string
+abbrev pub json_of : List ℕ → List ℕ
+json_of text = compact_text (string (encode_utf8_all text))
+
+-- the line of a step
+abbrev pub step_line : OwnedStep → List ℕ
+step_line (Token kind text) = codes "token " ++ decimal kind ++ codes " " ++ json_of text ++ codes "\n"
+step_line (Enter kind) = codes "enter " ++ decimal kind ++ codes "\n"
+step_line Exit = codes "exit\n"
+
+-- the lines of steps
+abbrev pub step_lines : List OwnedStep → List ℕ
+step_lines steps = flat_map step_line steps
+
+-- the last line: whether all tokens were eaten
+abbrev pub last_line : Bool → List ℕ
+last_line true = codes "all\n"
+last_line false = codes "rest\n"

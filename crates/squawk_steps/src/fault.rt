@@ -1,0 +1,125 @@
+//! Why there is no answer.
+ghost use Rattle.std.specs.Prelude.{◌≡◌};
+ghost use Rattle.squawk_steps.specs.Fault.{status_of};
+
+use squawk_parser::{ParseError, TableError};
+use std::alloc::AllocError;
+use std::error::Error;
+use std::fmt;
+
+/// A reason to end without an answer. Of several reasons the first of this list is told.
+#[derive(Clone, Copy, Debug, PartialEq, Eq)]
+pub enum Fault {
+    /// The text has more bytes than places in it can tell.
+    TextTooLong,
+    /// The raw token at this place isn't one of the text.
+    BadToken { index: usize },
+    /// The raw tokens end at this byte, before the text does.
+    TextLeft { at: usize },
+    /// The parse records more events than it may.
+    TooManyEvents,
+    /// The output isn't one node over the text.
+    DoesNotFit,
+    /// Memory was refused.
+    Memory,
+    /// Writing failed.
+    Io,
+}
+
+impl Fault {
+    /// The status that the program ends with.
+    pub fn status(&self) -> u8
+        ensures { result ≡ status_of self.now }
+    {
+        match *self {
+            Fault::TextTooLong | Fault::BadToken { .. } | Fault::TextLeft { .. } => 3,
+            Fault::TooManyEvents => 5,
+            Fault::DoesNotFit => 6,
+            Fault::Memory => 7,
+            Fault::Io => 8,
+        }
+    }
+}
+
+impl fmt::Display for Fault {
+    ghost use Rattle.std.specs.Prelude.{Some};
+    ghost use Rattle.squawk_steps.specs.Fault.{line_of};
+
+    ghost output = { λ fault. Some (line_of fault) };
+
+    fn fmt<W: fmt::Write>(&self, f: &mut fmt::Formatter<W>) -> fmt::Result {
+        match *self {
+            Fault::TextTooLong => write!(f, "text too long"),
+            Fault::BadToken { index } => write!(f, "bad token {index}"),
+            Fault::TextLeft { at } => write!(f, "text left at {at}"),
+            Fault::TooManyEvents => write!(f, "too many events"),
+            Fault::DoesNotFit => write!(f, "does not fit"),
+            Fault::Memory => write!(f, "memory"),
+            Fault::Io => write!(f, "io"),
+        }
+    }
+}
+
+impl From<TableError> for Fault {
+    ghost use Rattle.squawk_steps.specs.Fault.{fault_of_table};
+
+    ghost from_gives = { λ error fault. fault ≡ fault_of_table error };
+
+    fn from(error: TableError) -> Fault {
+        match error {
+            TableError::TextTooLong => Fault::TextTooLong,
+            TableError::BadToken { index } => Fault::BadToken { index },
+            TableError::TextLeft { at } => Fault::TextLeft { at },
+            TableError::OutOfMemory => Fault::Memory,
+        }
+    }
+}
+
+impl From<ParseError> for Fault {
+    ghost use Rattle.squawk_steps.specs.Fault.{fault_of_parse};
+
+    ghost from_gives = { λ error fault. fault ≡ fault_of_parse error };
+
+    fn from(error: ParseError) -> Fault {
+        match error {
+            ParseError::OutOfMemory => Fault::Memory,
+            ParseError::TooManyEvents => Fault::TooManyEvents,
+        }
+    }
+}
+
+impl From<AllocError> for Fault {
+    ghost use Rattle.squawk_steps.specs.declared.fault.Fault.TheVariants.{Memory};
+
+    ghost from_gives = { λ _ fault. fault ≡ Memory };
+
+    fn from(_error: AllocError) -> Fault {
+        Fault::Memory
+    }
+}
+
+impl Error for Fault {}
+
+#[cfg(test)]
+mod tests {
+    use super::*;
+    use std::test::Fail;
+
+    #[test]
+    fn prints_its_line(rt: HostRuntime) -> Result<(), Fail> {
+        for (fault, line, status) in [
+            (Fault::TextTooLong, "text too long", 3),
+            (Fault::BadToken { index: 12 }, "bad token 12", 3),
+            (Fault::TextLeft { at: 0 }, "text left at 0", 3),
+            (Fault::TooManyEvents, "too many events", 5),
+            (Fault::DoesNotFit, "does not fit", 6),
+            (Fault::Memory, "memory", 7),
+            (Fault::Io, "io", 8),
+        ] {
+            let printed = format!(in rt.alloc(); "{fault}")?;
+            assert_eq!(rt; printed.as_str(), line);
+            assert_eq!(rt; fault.status(), status);
+        }
+        Ok(())
+    }
+}

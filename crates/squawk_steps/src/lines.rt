@@ -1,0 +1,82 @@
+//! Steps as lines.
+ghost use Rattle.std.specs.Prelude.{◌≡◌, [], ◌++◌, string_bytes, IfOk, OnOk, OnErr};
+ghost use Rattle.std.specs.Str.{chars};
+ghost use Rattle.squawk_parser.specs.declared.shortcuts.str_step.OwnedStep.TheVariants.{Token, Enter};
+ghost use Rattle.squawk_steps.specs.Lines.{step_line, json_of, last_line};
+
+use serde_json::Value;
+use squawk_parser::{StepSink, StrStep, SyntaxKind};
+use std::alloc::{AllocError, Global};
+use std::fmt::Write;
+
+/// A sink that makes a line of each step.
+#[derive(Drop)]
+pub struct Lines {
+    alloc: Global,
+    text: String,
+}
+
+impl Lines {
+    /// No lines.
+    pub fn new(alloc: Global) -> Lines
+        ensures { string_bytes result.text ≡ [] }
+    {
+        Lines {
+            alloc,
+            text: String::new(alloc),
+        }
+    }
+
+    /// The lines, and a last one that says whether all tokens were eaten.
+    pub fn finish(self, all: bool) -> Result<String, AllocError>
+        ensures { IfOk result (λ s. string_bytes s ≡ string_bytes self.text ++ last_line all) }
+    {
+        let Lines { alloc: _, mut text } = self;
+        text.push_str(if all { "all\n" } else { "rest\n" })?;
+        Ok(text)
+    }
+}
+
+impl StepSink for Lines {
+    ghost use Rattle.squawk_steps.specs.Lines.{step_lines};
+
+    type Refusal = AllocError;
+
+    ghost stands_after = { λ lines steps. string_bytes lines.text ≡ step_lines steps };
+
+    ghost refuses = { λ _ _ _. Unit {0} };
+
+    fn step(&mut self, step: StrStep<'_>) -> Result<(), AllocError> {
+        let line = match step {
+            StrStep::Token { kind, text } => token_line(self.alloc, kind, text)?,
+            StrStep::Enter { kind } => enter_line(self.alloc, kind)?,
+            StrStep::Exit => String::from_str(self.alloc, "exit\n")?,
+        };
+        self.text.push_str(line.as_str())
+    }
+}
+
+/// The line of a token.
+fn token_line(alloc: Global, kind: SyntaxKind, text: &str) -> Result<String, AllocError>
+    ensures { IfOk result (λ s. string_bytes s ≡ step_line (Token kind (chars text.now))) }
+{
+    let kind = u16::from(kind);
+    let quoted = json_text(alloc, text)?;
+    format!(in alloc; "token {kind} {quoted}\n")
+}
+
+/// The line of the beginning of a node.
+fn enter_line(alloc: Global, kind: SyntaxKind) -> Result<String, AllocError>
+    ensures { IfOk result (λ s. string_bytes s ≡ step_line (Enter kind)) }
+{
+    let kind = u16::from(kind);
+    format!(in alloc; "enter {kind}\n")
+}
+
+/// The text as a JSON string.
+fn json_text(alloc: Global, text: &str) -> Result<String, AllocError>
+    ensures { IfOk result (λ s. string_bytes s ≡ json_of (chars text.now)) }
+{
+    let value = Value::from(String::from_str(alloc, text)?);
+    value.to_string(alloc)
+}
