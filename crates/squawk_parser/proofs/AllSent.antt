@@ -1,6 +1,6 @@
 -- The sent list, once all steps are sent.
 use Rattle.std.proofs.Common.{◌≡◌, ◌∙◌, ℕ, zero, suc, ◌≤◌, List, [], ◌++◌, length, drop, slice_index, arith, ap, sym, refl, inl, inr}
-use Rattle.std.specs.Prelude.{IsUtf8, encode_utf8_all}
+use Rattle.std.specs.Prelude.{encode_utf8_all}
 use Rattle.std.specs.Str.{chars}
 use Rattle.std.proofs.lemmas.Bool.{cases_lt}
 use Rattle.std.proofs.lemmas.List.{append-nil, append_cancel_left, drop_all, length-drop}
@@ -66,29 +66,28 @@ module _ (t : Table) (table : IsTable t) (steps : List Step) (fits : Fits t step
       let none = rest ∙ none_after (eaten steps) (raw_tokens t) (omega arith) in
       ap (slice_index t.starts) (none_left t place within none) ∙ table.ends
 
-  module _ (utf8 : IsUtf8 t.text) where
-    -- what is sent, and the rest of the source
-    sent_and_rest : texts_of (sent_list t steps) ++ chars (drop (slice_index t.starts place) t.text) ≡ chars t.text
-    sent_and_rest =
-        let sent = texts_of (sent_list t steps) in
-        let rest_chars = sym (raw_chars-raw_after t table utf8 place within) ∙ ap raw_chars left in
-        ap (λ xs. sent ++ xs) rest_chars
-        ∙ (texts_of-sent_below (raw_tokens t) steps (IsOverRaw-from_fits t steps fits) (length steps) (omega arith) ∙ raw_chars-raw_tokens t table utf8)
+  -- what is sent, and the rest of the source
+  sent_and_rest : texts_of (sent_list t steps) ++ chars (drop (slice_index t.starts place) t.text) ≡ chars t.text
+  sent_and_rest =
+      let sent = texts_of (sent_list t steps) in
+      let rest_chars = sym (raw_chars-raw_after t table place within) ∙ ap raw_chars left in
+      ap (λ xs. sent ++ xs) rest_chars
+      ∙ (texts_of-sent_below (raw_tokens t) steps (IsOverRaw-from_fits t steps fits) (length steps) (omega arith) ∙ raw_chars-raw_tokens t table)
 
-    pub beginning : IsBeginning (texts_of (sent_list t steps)) (chars t.text)
-    beginning = (chars (drop (slice_index t.starts place) t.text), sent_and_rest)
+  pub beginning : IsBeginning (texts_of (sent_list t steps)) (chars t.text)
+  beginning = (chars (drop (slice_index t.starts place) t.text), sent_and_rest)
 
-    pub whole_text : slice_index t.starts place ≡ length t.text → texts_of (sent_list t steps) ≡ chars t.text
-    whole_text end =
-        let sent = texts_of (sent_list t steps) in
-        let none : chars (drop (slice_index t.starts place) t.text) ≡ [] = ap chars (drop_all (slice_index t.starts place) t.text (omega arith)) ∙ chars-nil in
-        sym (append-nil sent) ∙ (ap (λ xs. sent ++ xs) (sym none) ∙ sent_and_rest)
+  pub whole_text : slice_index t.starts place ≡ length t.text → texts_of (sent_list t steps) ≡ chars t.text
+  whole_text end =
+      let sent = texts_of (sent_list t steps) in
+      let none : chars (drop (slice_index t.starts place) t.text) ≡ [] = ap chars (drop_all (slice_index t.starts place) t.text (omega arith)) ∙ chars-nil in
+      sym (append-nil sent) ∙ (ap (λ xs. sent ++ xs) (sym none) ∙ sent_and_rest)
 
-    pub end_if_whole : texts_of (sent_list t steps) ≡ chars t.text → slice_index t.starts place ≡ length t.text
-    end_if_whole whole =
-        let sent = texts_of (sent_list t steps) in
-        let start = slice_index t.starts place in
-        let boundary = table.boundaries place (omega (arith, table.entries)) in
-        let none : chars (drop start t.text) ≡ [] = append_cancel_left sent (chars (drop start t.text)) [] (sent_and_rest ∙ (sym whole ∙ sym (append-nil sent))) in
-        let nothing : drop start t.text ≡ [] = sym (encodes-chars (drop start t.text) (IsUtf8-drop t.text start utf8 boundary)) ∙ ap encode_utf8_all none in
-        omega (arith, ap length nothing, length-drop start t.text, boundary.0)
+  pub end_if_whole : texts_of (sent_list t steps) ≡ chars t.text → slice_index t.starts place ≡ length t.text
+  end_if_whole whole =
+      let sent = texts_of (sent_list t steps) in
+      let start = slice_index t.starts place in
+      let boundary = table.boundaries place (omega (arith, table.entries)) in
+      let none : chars (drop start t.text) ≡ [] = append_cancel_left sent (chars (drop start t.text)) [] (sent_and_rest ∙ (sym whole ∙ sym (append-nil sent))) in
+      let nothing : drop start t.text ≡ [] = sym (encodes-chars (drop start t.text) (IsUtf8-drop t.text start table.utf8 boundary)) ∙ ap encode_utf8_all none in
+      omega (arith, ap length nothing, length-drop start t.text, boundary.0)

@@ -1,6 +1,5 @@
 -- The characters of a table's raw tokens, and those of its source.
 use Rattle.std.proofs.Common.{◌≡◌, ◌∙◌, ℕ, zero, suc, ◌+◌, ◌-◌, ◌<◌, ◌≤◌, ◌++◌, length, drop, slice_index, arith, ap, sym}
-use Rattle.std.specs.Prelude.{IsUtf8}
 use Rattle.std.specs.Str.{chars}
 use Rattle.std.proofs.lemmas.List.{drop_all}
 use Rattle.std.proofs.lemmas.List.Folds.{drop_split}
@@ -8,7 +7,7 @@ use Rattle.std.proofs.lemmas.Str.{IsUtf8-between, chars-append, chars-nil}
 use Rattle.squawk_parser.specs.RawTable.{Table, IsTable, piece, raw_from, raw_after, raw_tokens}
 use Rattle.squawk_parser.proofs.SentTexts.{raw_chars}
 
-module _ (t : Table) (table : IsTable t) (utf8 : IsUtf8 t.text) where
+module _ (t : Table) (table : IsTable t) where
   -- a raw token's part of the source, and what stands behind it
   chars-piece : (i : ℕ) → i < length t.kinds → chars (drop (slice_index t.starts i) t.text) ≡ chars (piece t i) ++ chars (drop (slice_index t.starts (i + 1)) t.text)
   chars-piece i lt =
@@ -17,7 +16,7 @@ module _ (t : Table) (table : IsTable t) (utf8 : IsUtf8 t.text) where
       let start = table.boundaries i (omega arith) in
       let end = table.boundaries (i + 1) (omega arith) in
       ap chars (drop_split t.text (slice_index t.starts i) (slice_index t.starts (i + 1)) (omega arith))
-      ∙ chars-append (piece t i) (drop (slice_index t.starts (i + 1)) t.text) (IsUtf8-between t.text (slice_index t.starts i) (slice_index t.starts (i + 1)) utf8 (omega arith) start end)
+      ∙ chars-append (piece t i) (drop (slice_index t.starts (i + 1)) t.text) (IsUtf8-between t.text (slice_index t.starts i) (slice_index t.starts (i + 1)) table.utf8 (omega arith) start end)
 
   raw_chars-from : (n i : ℕ) → i + n ≡ length t.kinds → raw_chars (raw_from t i n) ≡ chars (drop (slice_index t.starts i) t.text)
   raw_chars-from zero i all =

@@ -56,6 +56,7 @@ module _ (keyword : Keywords) (text : List ℕ) (tokens : List Token) (ok : IsAc
       let kinds = length-kinds_from keyword text 0 tokens in
       let starts = length-starts_from 0 tokens in
       record {
+        utf8 = utf8;
         entries = omega arith;
         begins = at 0 (omega arith);
         ends = rw kinds (at (length tokens) (omega arith) ∙ ok.whole);

@@ -1,5 +1,5 @@
 -- The table of a text's raw tokens.
-use Rattle.std.specs.Prelude.{◌≡◌, ℕ, zero, suc, ◌+◌, ◌-◌, ◌<◌, Option, List, [], ◌∷◌, length, slice_index, slice_range, unwrap_or, IsCharBoundary}
+use Rattle.std.specs.Prelude.{◌≡◌, ℕ, zero, suc, ◌+◌, ◌-◌, ◌<◌, Option, List, [], ◌∷◌, length, slice_index, slice_range, unwrap_or, IsCharBoundary, IsUtf8}
 use Rattle.std.specs.List.{flat_map}
 use Rattle.squawk_parser.specs.declared.lexed_str.token.Token.{Token}
 use Rattle.squawk_parser.specs.declared.lexed_str.token.TokenKind.{TokenKind}
@@ -39,8 +39,9 @@ table_of keyword text tokens = record { text = text; kinds = kinds_from keyword 
 abbrev pub piece : Table → ℕ → List ℕ
 piece t i = slice_range t.text (slice_index t.starts i) (slice_index t.starts (i + 1))
 
--- what every table keeps: the starts ascend over character boundaries, from 0 to the end of the source
+-- what every table keeps: the source is text, and the starts ascend over character boundaries, from 0 to its end
 pub record IsTable (t : Table) : Type 0 where
+  pub utf8 : IsUtf8 t.text
   pub entries : length t.starts ≡ length t.kinds + 1
   pub begins : slice_index t.starts 0 ≡ 0
   pub ends : slice_index t.starts (length t.kinds) ≡ length t.text

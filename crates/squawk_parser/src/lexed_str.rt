@@ -1,5 +1,5 @@
 //! The table of a text's raw tokens.
-ghost use Rattle.std.specs.Prelude.{◌≡◌, ◌+◌, ◌^◌, ◌<◌, ◌≤◌, length, slice_index, slice_range, MatchResult};
+ghost use Rattle.std.specs.Prelude.{◌≡◌, ◌+◌, ◌<◌, ◌≤◌, length, slice_index, slice_range, MatchResult};
 ghost use Rattle.squawk_parser.specs.AcceptedTokens.{Refuses};
 ghost use Rattle.squawk_parser.specs.RawTable.{Table, IsTable, table_of, kind_of, piece};
 
@@ -66,16 +66,6 @@ impl<'a> LexedStr<'a> {
             kinds,
             starts,
         })
-    }
-
-    /// The source.
-    pub(crate) fn source(&self) -> &'a str
-        ensures text { result.now ≡ self.now.text }
-        // What every table keeps.
-        ensures table { IsTable self.now }
-        ensures small { length self.now.kinds < 2 ^ 64 }
-    {
-        self.text
     }
 
     /// How many raw tokens there are.

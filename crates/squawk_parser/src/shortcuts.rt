@@ -46,7 +46,7 @@ impl LexedStr<'_> {
             → StopsWithin (S.stands_after sink.new) S.refuses l (sent_list self.now output.now.steps) answer) }
     {
         let steps = output.steps();
-        let end = self.source().len();
+        let len = self.len();
         let mut place = 0;
         for (i, step) in steps.iter().enumerate() {
             if receives_trivia(steps, i) {
@@ -54,7 +54,7 @@ impl LexedStr<'_> {
             }
             place = self.send_step(*step, place, sink)?;
         }
-        Ok(self.text_start(place) == end)
+        Ok(place == len)
     }
 
     /// Sends the trivia that stands from a raw place on. The place behind it.

@@ -1,14 +1,14 @@
-use Rattle.std.proofs.Common.{◌≡◌, ◌∙◌, ◌<◌, ℕ, List, length, map, Bool, get_or, slice_index, IsTrue, ap, sym, subst, arith}
-use Rattle.std.specs.Prelude.{◌==◌, IsUtf8}
+use Rattle.std.proofs.Common.{◌≡◌, ◌∙◌, ◌<◌, ◌≤◌, ℕ, List, length, map, Bool, get_or, slice_index, IsTrue, ap, sym, subst, arith}
+use Rattle.std.specs.Prelude.{◌==◌}
 use Rattle.std.proofs.lemmas.Bool.{eqb-true, eq-eqb}
 use Rattle.std.proofs.lemmas.List.{length-map}
 use Rattle.std.proofs.lemmas.Result.{err_from_is_err_and}
-use Rattle.squawk_parser.specs.RawTable.{raw_after, raw_tokens}
+use Rattle.squawk_parser.specs.RawTable.{Table, IsTable, raw_after, raw_tokens}
 use Rattle.squawk_parser.specs.Sent.{is_receiver}
 use Rattle.squawk_parser.specs.StepViews.{step_of}
 use Rattle.squawk_parser.specs.Steps as plain
 use Rattle.squawk_parser.specs.declared.output.step.Step.{Step}
-use Rattle.squawk_parser.proofs.AllSent.{IsOverRaw-from_fits, all_eaten, end_if_eaten, beginning, whole_text, end_if_whole}
+use Rattle.squawk_parser.proofs.AllSent.{IsOverRaw-from_fits, starts_at_end, all_eaten, end_if_eaten, beginning, whole_text, end_if_whole}
 use Rattle.squawk_parser.proofs.ReachedStep.{ReachedStep, reached_receiver, reached_other, stops_in_trivia, sends, took_step, stops_at_step}
 use Rattle.squawk_parser.proofs.Received.{left_before}
 use Rattle.squawk_parser.proofs.StepPlaces.{step_at}
@@ -111,44 +111,38 @@ returns-in_err-place-clause-err g c =
     g.S.StepSink.refuses c.in_err-place.field-0.0 before.left receiver before.stood c.in_err-place.ensures.err)
 
 -- behind all steps
-left_at_end : (g : given.Over) (c : goal.After-text_start g) → raw_after c.args.self.now c.loop-i.place ≡ left_before (raw_tokens c.args.self.now) c.args.output.now.steps (length c.args.output.now.steps)
+left_at_end : (g : given.Over) (c : goal.After-loop-i g) → raw_after c.args.self.now c.loop-i.place ≡ left_before (raw_tokens c.args.self.now) c.args.output.now.steps (length c.args.output.now.steps)
 left_at_end g c =
     let steps = c.args.output.now.steps in
     let end : c.loop-i.i ≡ length steps = omega (arith, length-map c.steps-steps.result.now step_of, ap length c.steps-steps.ensures) in
     subst (λ i. raw_after c.args.self.now c.loop-i.place ≡ left_before (raw_tokens c.args.self.now) steps i) end c.loop-i.invariant.left
 
 -- the code's last test, in the table
-at_end : (start : ℕ) (source : List ℕ) (text : List ℕ) (starts : List ℕ) (place : ℕ) → start ≡ slice_index starts place → source ≡ text
-    → (IsTrue (start == length source) → slice_index starts place ≡ length text) × (slice_index starts place ≡ length text → IsTrue (start == length source))
-at_end start source text starts place is same =
-    (λ e. sym is ∙ (eqb-true start (length source) e ∙ ap length same), λ e. eq-eqb start (length source) (is ∙ (e ∙ sym (ap length same))))
+at_end : (t : Table) → IsTable t → (len place : ℕ) → len ≡ length t.kinds → place ≤ length t.kinds
+    → (IsTrue (place == len) → slice_index t.starts place ≡ length t.text) × (slice_index t.starts place ≡ length t.text → IsTrue (place == len))
+at_end t table len place is within =
+    (λ e. ap (slice_index t.starts) (eqb-true place len e ∙ is) ∙ table.ends, λ e. eq-eqb place len (starts_at_end t table place within e ∙ sym is))
 
 pub returns-clause-all : goal.returns-clause-all
 returns-clause-all g c =
     let t = c.args.self.now in
-    let steps = c.args.output.now.steps in
+    let table = c.len-len.ensures.table in
     let place = c.loop-i.place in
     let within = c.loop-i.invariant.within in
-    let test = at_end c.text_start.result c.source-end.result.now t.text t.starts place c.text_start.ensures c.source-end.ensures.text in
-    let left = left_at_end g c in (
-      λ e. all_eaten t c.source-end.ensures.table steps c.requires place within left (test.0 e),
-      λ all. test.1 (end_if_eaten t c.source-end.ensures.table steps c.requires place within left all),
-    )
+    let test = at_end t table c.len-len.result place c.len-len.ensures.len within in
+    let left = left_at_end g c in
+    (λ e. all_eaten t table c.args.output.now.steps c.requires place within left (test.0 e), λ all. test.1 (end_if_eaten t table c.args.output.now.steps c.requires place within left all))
 
 pub returns-clause-whole : goal.returns-clause-whole
 returns-clause-whole g c =
     let t = c.args.self.now in
-    let steps = c.args.output.now.steps in
+    let table = c.len-len.ensures.table in
     let place = c.loop-i.place in
     let within = c.loop-i.invariant.within in
-    let test = at_end c.text_start.result c.source-end.result.now t.text t.starts place c.text_start.ensures c.source-end.ensures.text in
-    let utf8 = subst IsUtf8 c.source-end.ensures.text c.source-end.utf8 in
-    let left = left_at_end g c in (
-      λ e. whole_text t c.source-end.ensures.table steps c.requires place within left utf8 (test.0 e),
-      λ whole. test.1 (end_if_whole t c.source-end.ensures.table steps c.requires place within left utf8 whole),
-    )
+    let test = at_end t table c.len-len.result place c.len-len.ensures.len within in
+    let left = left_at_end g c in
+    (λ e. whole_text t table c.args.output.now.steps c.requires place within left (test.0 e), λ whole. test.1 (end_if_whole t table c.args.output.now.steps c.requires place within left whole))
 
 pub returns-clause-beginning : goal.returns-clause-beginning
 returns-clause-beginning g c =
-    let utf8 = subst IsUtf8 c.source-end.ensures.text c.source-end.utf8 in
-    beginning c.args.self.now c.source-end.ensures.table c.args.output.now.steps c.requires c.loop-i.place c.loop-i.invariant.within (left_at_end g c) utf8
+    beginning c.args.self.now c.len-len.ensures.table c.args.output.now.steps c.requires c.loop-i.place c.loop-i.invariant.within (left_at_end g c)
