@@ -96,10 +96,10 @@ impl LexedStr<'_> {
     ) -> Result<Input, AllocError>
         ensures { IfOk result (λ input. input ≡ input_of (V.contextual_keyword vocabulary.now) self.now) }
     {
-        let mut tokens = Vec::new(alloc);
+        let mut tokens = Vec::with_capacity(alloc, self.len())?;
         for i in 0..self.len() {
             if !self.kind(i).is_trivia() {
-                tokens.push(self.input_token(i, vocabulary))?;
+                tokens.push_reserved(self.input_token(i, vocabulary));
             }
         }
         Ok(Input { tokens })

@@ -50,14 +50,14 @@ impl<'a> LexedStr<'a> {
             (Refuses text.now tokens.now) }
     {
         check_tokens(text, tokens)?;
-        let mut kinds = Vec::new(alloc);
-        let mut starts = Vec::new(alloc);
+        let mut kinds = Vec::with_capacity(alloc, tokens.len())?;
+        let mut starts = Vec::with_capacity(alloc, tokens.len().saturating_add(1))?;
         let mut at = 0u32;
         for token in tokens {
             let end = at + token.len;
             let piece = &text[at as usize..end as usize];
-            kinds.push(syntax_kind(token.kind, piece, vocabulary))?;
-            starts.push(at)?;
+            kinds.push_reserved(syntax_kind(token.kind, piece, vocabulary));
+            starts.push_reserved(at);
             at = end;
         }
         starts.push(at)?;

@@ -13,5 +13,5 @@ invariant_of-result g c =
     let keyword = g.V.Vocabulary.keyword c.args.vocabulary.now in
     let loop = c.loop-token in
     subst IsTable
-    (is_table_of keyword c.args.text.now c.args.tokens.now loop.kinds.items loop.starts.items c.push-2.new.self.items loop.at loop.token-index (omega arith) loop.invariant.kinds loop.invariant.starts c.in_ok-push-3.ensures.items)
+    (is_table_of keyword c.args.text.now c.args.tokens.now loop.kinds.items loop.starts.items c.push.new.self.items loop.at loop.token-index (omega arith) loop.invariant.kinds loop.invariant.starts c.in_ok-push.ensures.items)
     (IsTable-table_of keyword c.args.text.now c.args.tokens.now c.in_ok-check_tokens.ensures.answer c.utf8.text)
