@@ -46,8 +46,7 @@ fn each_entry_point_is_its_own(rt: HostRuntime) -> Result<(), Fail> {
 struct Looks;
 
 impl Looks {
-    /// Tells the position and the current kind, whether the parser has failed, and the kind that a
-    /// completed marker has.
+    /// Tells the position, the current kind, and whether the parser has failed.
     fn tell(p: &mut Parser<'_>)
         ensures keeps { Keeps p.old p.new }
         ensures went { Goes p.new → Goes p.old }

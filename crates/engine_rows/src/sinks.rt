@@ -10,8 +10,7 @@ use std::test::Fail;
 /// Why a step was refused.
 #[derive(Clone, Copy, Debug, PartialEq, Eq)]
 enum Refusal {
-    /// It came after as many steps as the list takes.
-    Full,
+    OnPurpose,
     OutOfMemory,
 }
 
@@ -21,14 +20,15 @@ impl From<AllocError> for Refusal {
     }
 }
 
-/// A list that takes a number of steps and refuses the next.
+/// A list that refuses one step on purpose, and would take those after it.
 #[derive(Drop)]
-struct FullList {
+struct RefusingList {
     list: StepList,
-    room: usize,
+    /// How many steps it takes before the one that it refuses, until it has refused that.
+    before_refusal: Option<usize>,
 }
 
-impl StepSink for FullList {
+impl StepSink for RefusingList {
     ghost use Rattle.std.specs.Prelude.{◌≡◌};
 
     type Refusal = Refusal;
@@ -38,15 +38,17 @@ impl StepSink for FullList {
     ghost refuses = { λ _ _ _. Unit {0} };
 
     fn step(&mut self, step: StrStep<'_>) -> Result<(), Refusal> {
-        if self.room == 0 {
-            return Err(Refusal::Full);
+        if self.before_refusal == Some(0) {
+            self.before_refusal = None;
+            return Err(Refusal::OnPurpose);
         }
-        self.room -= 1;
+        // Taken apart, since the check doesn't cover a step that is handed on whole.
         match step {
             StrStep::Token { kind, text } => self.list.step(StrStep::Token { kind, text })?,
             StrStep::Enter { kind } => self.list.step(StrStep::Enter { kind })?,
             StrStep::Exit => self.list.step(StrStep::Exit)?,
         }
+        self.before_refusal = self.before_refusal.map(|left| left.saturating_sub(1));
         Ok(())
     }
 }
@@ -64,19 +66,19 @@ fn nothing_is_sent_after_a_refusal(rt: HostRuntime) -> Result<(), Fail> {
         word_step("b"),
         EXIT,
     ];
-    for room in 0..5 {
-        let mut sink = FullList {
+    for taken in 0..5 {
+        let mut sink = RefusingList {
             list: StepList::new(rt.alloc()),
-            room,
+            before_refusal: Some(taken),
         };
         let answer = table.intersperse_trivia(&output, &mut sink);
-        assert_eq!(rt; answer, Err(Refusal::Full), "after {room} steps");
-        assert_steps(&rt, sink.list.steps(), &steps[..room]);
+        assert_eq!(rt; answer, Err(Refusal::OnPurpose), "after {taken} steps");
+        assert_steps(&rt, sink.list.steps(), &steps[..taken]);
     }
 
-    let mut sink = FullList {
+    let mut sink = RefusingList {
         list: StepList::new(rt.alloc()),
-        room: 5,
+        before_refusal: Some(5),
     };
     assert_eq!(rt; table.intersperse_trivia(&output, &mut sink), Ok(true));
     assert_steps(&rt, sink.list.steps(), &steps);
