@@ -4,7 +4,8 @@ use Rattle.squawk_parser.specs.declared.input.InputToken.{InputToken}
 use Rattle.squawk_parser.specs.Kinds.{is_trivia}
 use Rattle.squawk_parser.specs.InputView.{entry_of, entry_at}
 use Rattle.squawk_parser.specs.ParserInput.{Entry, entries_of}
-use Rattle.squawk_parser.specs.RawTable.{Keywords, Table, raw_after, raw_tokens}
+use Rattle.squawk_parser.specs.RawTable.{Table, raw_after, raw_tokens}
+use Rattle.squawk_parser.specs.TokenKinds.{Keywords}
 use Rattle.squawk_parser.proofs.RawTokens.{entries_of-token, entries_of-trivia}
 use Rattle.squawk_parser.proofs.lexed_str.LexedStr.to_input.Goals as goal
 use Rattle.squawk_parser.proofs.lexed_str.LexedStr.to_input.Goals.{then-not-is_trivia, else-not-is_trivia}
@@ -37,17 +38,17 @@ loop-i-preserved g c =
     let all = entries_of contextual (raw_tokens t) in
     let before = c.loop-i.invariant in
     elim c.if-not-is_trivia.branch [
-      then-not-is_trivia w ↦
-        let items = ap (λ v. v.items) w.tokens-is ∙ w.push_reserved.ensures.items in
-        record {
-          done = pushed contextual t i lt old new all w.input_token.result (kind ∙ w.if-not-is_trivia.true) w.input_token.ensures items before.done;
-          len = rw w.tokens-is (omega (arith, w.push_reserved.ensures.len, before.len));
-          room = rw w.tokens-is (w.push_reserved.ensures.capacity ∙ before.room);
-        }
-    | else-not-is_trivia w ↦
-        record {
-          done = skipped contextual t i lt old new all (kind ∙ w.if-not-is_trivia.false) (ap (λ v. v.items) w.tokens-is) before.done;
-          len = rw w.tokens-is (omega (arith, before.len));
-          room = rw w.tokens-is before.room;
-        }
+      | then-not-is_trivia w ↦
+          let items = ap (λ v. v.items) w.tokens-is ∙ w.push_reserved.ensures.items in
+          record {
+            done = pushed contextual t i lt old new all w.input_token.result (kind ∙ w.if-not-is_trivia.true) w.input_token.ensures items before.done;
+            len = rw w.tokens-is (omega (arith, w.push_reserved.ensures.len, before.len));
+            room = rw w.tokens-is (w.push_reserved.ensures.capacity ∙ before.room);
+          }
+      | else-not-is_trivia w ↦
+          record {
+            done = skipped contextual t i lt old new all (kind ∙ w.if-not-is_trivia.false) (ap (λ v. v.items) w.tokens-is) before.done;
+            len = rw w.tokens-is (omega (arith, before.len));
+            room = rw w.tokens-is before.room;
+          }
     ]
