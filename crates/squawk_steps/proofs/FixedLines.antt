@@ -1,7 +1,7 @@
 -- The lines of the fixed run.
-use Rattle.std.proofs.Common.{◌≡◌, ◌∙◌, ℕ, List, [], ◌∷◌, ◌++◌, Option, None, true, ◌<◌, arith, refl}
+use Rattle.std.proofs.Common.{◌≡◌, ℕ, List, [], ◌∷◌, ◌++◌, None, true, ◌<◌, arith, refl}
 use Rattle.std.specs.Prelude.{codes, encode_utf8_all}
-use Rattle.std.specs.Str.{chars, IsUtf8}
+use Rattle.std.specs.Str.{chars}
 use Rattle.std.specs.Fmt.{digits}
 use Rattle.std.proofs.lemmas.Str.{encodes-chars, IsUtf8-from_ascii}
 use Rattle.std.proofs.lemmas.Str.Ascii.{IsAscii-cons, IsAscii-nil}
@@ -10,7 +10,7 @@ use Rattle.squawk_parser.specs.declared.lexed_str.token.Token.{Token}
 use Rattle.squawk_parser.specs.declared.lexed_str.token.TokenKind.TheVariants.{Ident, Whitespace}
 use Rattle.squawk_parser.specs.RawTable.{Keywords, Table, table_of}
 use Rattle.squawk_parser.specs.Sent.{sent_list}
-use Rattle.squawk_steps.specs.Lines.{json_of, step_line, step_lines, last_line}
+use Rattle.squawk_steps.specs.Lines.{step_lines, last_line}
 use Rattle.squawk_steps.specs.Fixed.{node_steps, six_lines}
 
 abbrev pub no_keywords : Keywords

@@ -1,12 +1,12 @@
 -- The fixed tokens are accepted, and the fixed steps fit their table.
-use Rattle.std.proofs.Common.{◌≡◌, ℕ, zero, suc, ◌+◌, ◌<◌, ◌≤◌, List, [], ◌∷◌, length, take, None, arith, ap, ◌∙◌, refl}
-use Rattle.std.specs.Prelude.{codes, All}
+use Rattle.std.proofs.Common.{◌≡◌, ℕ, zero, suc, ◌<◌, List, [], ◌∷◌, take, arith, ap, ◌∙◌, refl}
+use Rattle.std.specs.Prelude.{codes}
 use Rattle.std.proofs.lemmas.List.Elements.{All-nil, All-cons}
 use Rattle.squawk_parser.specs.declared.lexed_str.check.TableError.{TableError}
 use Rattle.squawk_parser.specs.declared.lexed_str.check.TableError.TheVariants.{TextTooLong, BadToken, TextLeft, OutOfMemory}
 use Rattle.squawk_parser.specs.AcceptedTokens.{IsGoodAt, Refuses}
-use Rattle.squawk_parser.specs.Steps.{Step, Walk, Token, Enter, Exit, openings, closings}
-use Rattle.squawk_parser.specs.Shape.{Fits, StandsInOneRoot, EatsOne}
+use Rattle.squawk_parser.specs.Steps.{Walk, Token, Enter, Exit, openings, closings}
+use Rattle.squawk_parser.specs.Shape.{Fits, EatsOne}
 use Rattle.squawk_parser.specs.ParserInput.{Entry, kind_in, input_of}
 use Rattle.squawk_parser.specs.Parse.{IsParse}
 use Rattle.squawk_steps.specs.Fixed.{node_steps, IsTwoTokenNode}

@@ -1,0 +1,44 @@
+//! What the tests share: a vocabulary, grammars, and steps to compare with.
+
+pub mod calls;
+pub mod output;
+pub mod steps;
+pub mod words;
+
+pub use calls::{Calls, FixedGrammar};
+use squawk_parser::{EntryPoint, LexedStr, Output, Token, TokenKind};
+use std::alloc::Global;
+use std::test::Fail;
+pub use steps::{EXIT, assert_steps, enter, space_step, word_step};
+pub use words::{NO_WORDS, Words};
+
+/// The raw token of a word of so many bytes.
+pub fn word(len: u32) -> Token {
+    Token {
+        kind: TokenKind::Ident,
+        len,
+    }
+}
+
+/// The raw token of white space of so many bytes.
+pub fn space(len: u32) -> Token {
+    Token {
+        kind: TokenKind::Whitespace,
+        len,
+    }
+}
+
+/// The table of a text without keywords.
+pub fn table<'a>(alloc: Global, text: &'a str, tokens: &[Token]) -> Result<LexedStr<'a>, Fail> {
+    Ok(LexedStr::new(alloc, text, tokens, &NO_WORDS)?)
+}
+
+/// The output of the calls over a table.
+pub fn parse(alloc: Global, table: &LexedStr<'_>, calls: Calls) -> Result<Output, Fail> {
+    let input = table.to_input(alloc, &NO_WORDS)?;
+    let grammar = FixedGrammar {
+        source_file: calls,
+        plpgsql: calls,
+    };
+    Ok(EntryPoint::SourceFile.parse(alloc, &input, &grammar)?)
+}

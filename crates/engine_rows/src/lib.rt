@@ -1,0 +1,25 @@
+//! Tests of the engine, over its public surface alone.
+//!
+//! The values that they want were worked out by hand.
+#![tactic(auto)]
+
+#[cfg(test)]
+mod fitting;
+#[cfg(test)]
+mod fixture;
+#[cfg(test)]
+mod input;
+#[cfg(test)]
+mod kinds;
+#[cfg(test)]
+mod memory;
+#[cfg(test)]
+mod parser;
+#[cfg(test)]
+mod raw_tokens;
+#[cfg(test)]
+mod sinks;
+#[cfg(test)]
+mod text;
+#[cfg(test)]
+mod trivia;

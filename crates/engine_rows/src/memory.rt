@@ -1,0 +1,154 @@
+//! Calls that ask for memory: each answers what is wanted, or its want of memory.
+//!
+//! These tests also pass where an allocation is refused.
+
+use crate::fixture::output::{self, assert_output, token};
+use crate::fixture::{
+    Calls, EXIT, FixedGrammar, Words, assert_steps, enter, space, space_step, word, word_step,
+};
+use squawk_parser::{
+    EntryPoint, Input, LexedStr, Output, ParseError, Step, StepList, StepSink, StrStep, SyntaxKind,
+    TableError,
+};
+use std::alloc::AllocError;
+use std::process::Abort;
+
+const WORDS: Words<'static> = Words {
+    keywords: &[],
+    contextual_keywords: &[("message", 201)],
+};
+
+/// The table of `a message`, unless memory is wanting.
+fn table(rt: &(impl Abort + AllocGlobal)) -> Option<LexedStr<'static>> {
+    let tokens = [word(1), space(1), word(7)];
+    match LexedStr::new(rt.alloc(), "a message", &tokens, &WORDS) {
+        Ok(table) => Some(table),
+        Err(error) => {
+            assert_eq!(rt; error, TableError::OutOfMemory);
+            None
+        }
+    }
+}
+
+/// The input of a table, unless memory is wanting, which is the one error that there is.
+fn input(rt: &impl AllocGlobal, table: &LexedStr<'_>) -> Option<Input> {
+    table.to_input(rt.alloc(), &WORDS).ok()
+}
+
+/// The output of an input, one node with two tokens, unless memory is wanting.
+fn output(rt: &(impl Abort + AllocGlobal), input: &Input) -> Option<Output> {
+    let grammar = FixedGrammar {
+        source_file: Calls::NodeAroundTwoTokens,
+        plpgsql: Calls::Nothing,
+    };
+    match EntryPoint::SourceFile.parse(rt.alloc(), input, &grammar) {
+        Ok(output) => Some(output),
+        Err(error) => {
+            assert_eq!(rt; error, ParseError::OutOfMemory);
+            None
+        }
+    }
+}
+
+#[test]
+fn table_is_whole(rt: HostRuntime) {
+    let Some(table) = table(&rt) else { return };
+    assert_eq!(rt; table.len(), 3);
+    for (i, (kind, text)) in [(3, "a"), (639, " "), (3, "message")]
+        .into_iter()
+        .enumerate()
+    {
+        assert_eq!(rt; table.kind(i), SyntaxKind::from(kind), "token {i}");
+        assert_eq!(rt; table.text(i), text, "token {i}");
+    }
+}
+
+#[test]
+fn input_is_whole(rt: HostRuntime) {
+    let Some(table) = table(&rt) else { return };
+    let Some(input) = input(&rt, &table) else {
+        return
+    };
+    assert_eq!(rt; input.len(), 2);
+    for (i, contextual_kind) in [3, 201].into_iter().enumerate() {
+        assert_eq!(rt; input.kind(i), SyntaxKind::IDENT, "token {i}");
+        assert_eq!(rt;
+            input.contextual_kind(i),
+            SyntaxKind::from(contextual_kind),
+            "token {i}"
+        );
+        assert!(rt; !input.is_joint(i), "token {i}");
+    }
+}
+
+#[test]
+fn output_is_whole(rt: HostRuntime) {
+    let Some(table) = table(&rt) else { return };
+    let Some(input) = input(&rt, &table) else {
+        return
+    };
+    let Some(output) = output(&rt, &input) else {
+        return
+    };
+    assert_eq!(rt; output.recorded(), 4);
+
+    assert_output(
+        &rt,
+        &output,
+        &[output::enter(700), token(3), token(3), Step::Exit],
+    );
+}
+
+#[test]
+fn refused_step_leaves_a_list_as_it_was(rt: HostRuntime) {
+    let texts = ["a", "b", "message"];
+    let steps = [word_step("a"), word_step("b"), word_step("message")];
+    let mut list = StepList::new(rt.alloc());
+    for (i, text) in texts.iter().enumerate() {
+        if take_word(&mut list, text).is_err() {
+            assert_steps(&rt, list.steps(), &steps[..i]);
+            return;
+        }
+    }
+    assert_steps(&rt, list.steps(), &steps);
+}
+
+/// Hands the token of a word to a list.
+fn take_word(list: &mut StepList, text: &str) -> Result<(), AllocError> {
+    list.step(StrStep::Token {
+        kind: SyntaxKind::IDENT,
+        text,
+    })
+}
+
+#[test]
+fn list_that_refuses_a_step_holds_those_before_it(rt: HostRuntime) {
+    let Some(table) = table(&rt) else { return };
+    let Some(input) = input(&rt, &table) else {
+        return
+    };
+    let Some(output) = output(&rt, &input) else {
+        return
+    };
+    assert!(rt; table.fits(&output));
+
+    let steps = [
+        enter(700),
+        word_step("a"),
+        space_step(" "),
+        word_step("message"),
+        EXIT,
+    ];
+    let mut list = StepList::new(rt.alloc());
+    match table.intersperse_trivia(&output, &mut list) {
+        Ok(is_whole) => {
+            assert!(rt; is_whole);
+            assert_steps(&rt, list.steps(), &steps);
+        }
+        Err(_) => {
+            let taken = list.steps().len();
+            assert!(rt; taken < steps.len());
+            assert_steps(&rt, list.steps(), &steps[..taken]);
+        }
+    }
+}

@@ -1,0 +1,175 @@
+//! Parsers, the grammars that work with them, and the outputs that they leave.
+ghost use Rattle.std.specs.Prelude.{◌≢◌};
+ghost use Rattle.squawk_parser.specs.Draft.{HasNoHole};
+ghost use Rattle.squawk_parser.specs.Kinds.{TOMBSTONE};
+ghost use Rattle.squawk_parser.specs.State.{Goes, Keeps};
+
+use crate::fixture::output::{assert_output, enter, token};
+use crate::fixture::{Calls, FixedGrammar, NO_WORDS, Words, parse, space, table, word};
+use squawk_parser::{EntryPoint, Grammar, Input, LexedStr, ParseError, Parser, Step, SyntaxKind};
+use std::alloc::AllocError;
+use std::test::Fail;
+
+#[test]
+fn output_has_the_tokens_without_trivia(rt: HostRuntime) -> Result<(), Fail> {
+    let table = table(rt.alloc(), "a b", &[word(1), space(1), word(1)])?;
+    let output = parse(rt.alloc(), &table, Calls::NodeAroundTwoTokens)?;
+    assert_output(&rt, &output, &[enter(700), token(3), token(3), Step::Exit]);
+    Ok(())
+}
+
+#[test]
+fn each_entry_point_is_its_own(rt: HostRuntime) -> Result<(), Fail> {
+    let table = table(rt.alloc(), "a", &[word(1)])?;
+    let input = table.to_input(rt.alloc(), &NO_WORDS)?;
+    let grammar = FixedGrammar {
+        source_file: Calls::NodeAroundToken,
+        plpgsql: Calls::TwoNodes,
+    };
+
+    let source_file = EntryPoint::SourceFile.parse(rt.alloc(), &input, &grammar)?;
+    assert_output(&rt, &source_file, &[enter(700), token(3), Step::Exit]);
+    assert_eq!(rt; source_file.recorded(), 3);
+
+    let plpgsql = EntryPoint::Plpgsql.parse(rt.alloc(), &input, &grammar)?;
+    assert_output(
+        &rt,
+        &plpgsql,
+        &[enter(700), Step::Exit, enter(700), Step::Exit],
+    );
+    assert_eq!(rt; plpgsql.recorded(), 4);
+    Ok(())
+}
+
+/// A grammar that tells by the kinds of empty nodes what its parser answers.
+#[derive(Clone, Copy)]
+struct Looks;
+
+impl Looks {
+    /// Tells the position and the current kind, whether the parser has failed, and the kind that a
+    /// completed marker has.
+    fn tell(p: &mut Parser<'_>)
+        ensures keeps { Keeps p.old p.new }
+        ensures went { Goes p.new → Goes p.old }
+        ensures closed { HasNoHole p.old.draft.items → Goes p.new → HasNoHole p.new.draft.items }
+    {
+        let position = match p.position() {
+            0 => 720,
+            1 => 721,
+            _ => 729,
+        };
+        Looks::note(p, position);
+        let current = match u16::from(p.current()) {
+            0 => 730,
+            200 => 731,
+            _ => 739,
+        };
+        Looks::note(p, current);
+        let failed = match p.failed() {
+            None => 740,
+            Some(ParseError::OutOfMemory) => 741,
+            Some(ParseError::TooManyEvents) => 742,
+        };
+        Looks::note(p, failed);
+    }
+
+    /// Completes an empty node of this kind. Its marker has the kind, or another node follows.
+    fn note(p: &mut Parser<'_>, kind: u16)
+        requires { kind ≢ TOMBSTONE }
+        ensures keeps { Keeps p.old p.new }
+        ensures went { Goes p.new → Goes p.old }
+        ensures closed { HasNoHole p.old.draft.items → Goes p.new → HasNoHole p.new.draft.items }
+    {
+        let kind = SyntaxKind::from(kind);
+        let node = p.start().complete(p, kind);
+        if node.kind() != kind {
+            let _ = p.start().complete(p, SyntaxKind::ERROR);
+        }
+    }
+}
+
+impl Grammar for Looks {
+    ghost leaves = { λ _ _ _ _. Unit {0} };
+
+    fn entry_point(&self, p: &mut Parser<'_>) -> Result<(), AllocError> {
+        Looks::tell(p);
+        p.bump_any();
+        Looks::tell(p);
+        p.bump_any();
+        Looks::tell(p);
+        Ok(())
+    }
+
+    fn plpgsql_entry_point(&self, p: &mut Parser<'_>) -> Result<(), AllocError> {
+        self.entry_point(p)
+    }
+}
+
+#[test]
+fn parser_stays_at_the_end(rt: HostRuntime) -> Result<(), Fail> {
+    let words = Words {
+        keywords: &[("select", 200)],
+        contextual_keywords: &[],
+    };
+    let input = LexedStr::new(rt.alloc(), "select", &[word(6)], &words)?.to_input(
+        rt.alloc(),
+        &words,
+    )?;
+    let output = EntryPoint::SourceFile.parse(rt.alloc(), &input, &Looks)?;
+    assert_output(
+        &rt,
+        &output,
+        &[
+            // At `select`.
+            enter(720),
+            Step::Exit,
+            enter(731),
+            Step::Exit,
+            enter(740),
+            Step::Exit,
+            token(200),
+            // At the end.
+            enter(721),
+            Step::Exit,
+            enter(730),
+            Step::Exit,
+            enter(740),
+            Step::Exit,
+            // Still there, after one more try to eat.
+            enter(721),
+            Step::Exit,
+            enter(730),
+            Step::Exit,
+            enter(740),
+            Step::Exit,
+        ],
+    );
+    // Two for each of nine nodes, and one for the token.
+    assert_eq!(rt; output.recorded(), 19);
+    Ok(())
+}
+
+/// A grammar to which memory is refused.
+#[derive(Clone, Copy)]
+struct WantsMemory;
+
+impl Grammar for WantsMemory {
+    ghost leaves = { λ _ _ _ _. Unit {0} };
+
+    fn entry_point(&self, _p: &mut Parser<'_>) -> Result<(), AllocError> {
+        Err(AllocError)
+    }
+
+    fn plpgsql_entry_point(&self, p: &mut Parser<'_>) -> Result<(), AllocError> {
+        self.entry_point(p)
+    }
+}
+
+#[test]
+fn parse_answers_the_want_of_memory_of_its_grammar(rt: HostRuntime) {
+    let input = Input::empty(rt.alloc());
+    for entry_point in [EntryPoint::SourceFile, EntryPoint::Plpgsql] {
+        let answer = entry_point.parse(rt.alloc(), &input, &WantsMemory);
+        assert_eq!(rt; answer.err(), Some(ParseError::OutOfMemory));
+    }
+}
