@@ -22,4 +22,6 @@ mod sinks;
 #[cfg(test)]
 mod text;
 #[cfg(test)]
+mod token_kinds;
+#[cfg(test)]
 mod trivia;

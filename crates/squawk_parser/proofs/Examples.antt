@@ -8,7 +8,8 @@ use Rattle.squawk_parser.specs.declared.lexed_str.token.TokenKind.TheVariants.{I
 use Rattle.squawk_parser.specs.declared.shortcuts.str_step.OwnedStep.{OwnedStep}
 use Rattle.squawk_parser.specs.declared.shortcuts.str_step.OwnedStep.TheVariants as sent
 use Rattle.squawk_parser.specs.AcceptedTokens.{start_of}
-use Rattle.squawk_parser.specs.RawTable.{Keywords, Table, table_of}
+use Rattle.squawk_parser.specs.RawTable.{Table, table_of}
+use Rattle.squawk_parser.specs.TokenKinds.{Keywords}
 use Rattle.squawk_parser.specs.ParserInput.{Entry, input_of}
 use Rattle.squawk_parser.specs.Shape.{no_keywords}
 use Rattle.squawk_parser.specs.Steps as steps

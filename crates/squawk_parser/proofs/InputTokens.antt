@@ -4,7 +4,8 @@ use Rattle.std.proofs.lemmas.Bool.{cases_Bool}
 use Rattle.std.proofs.lemmas.List.{drop-drop, length-drop}
 use Rattle.squawk_parser.specs.Kinds.{is_trivia}
 use Rattle.squawk_parser.specs.ParserInput.{entries_of}
-use Rattle.squawk_parser.specs.RawTable.{Keywords, RawToken}
+use Rattle.squawk_parser.specs.RawTable.{RawToken}
+use Rattle.squawk_parser.specs.TokenKinds.{Keywords}
 use Rattle.squawk_parser.specs.Sent.{input_tokens, past_trivia, after_input}
 
 -- an input has an entry for each of them

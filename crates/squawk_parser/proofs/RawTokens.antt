@@ -1,7 +1,8 @@
 -- The raw tokens that are left from a place on.
 use Rattle.std.proofs.Common.{◌≡◌, ℕ, suc, ◌+◌, ◌-◌, ◌<◌, ◌≤◌, Bool, true, false, not, [], ◌∷◌, length, slice_index, arith, ap, sym, refl, nat_lt, ◌&&◌}
 use Rattle.squawk_parser.specs.Kinds.{is_trivia}
-use Rattle.squawk_parser.specs.RawTable.{Keywords, Table, raw_at, raw_from, raw_after, raw_tokens}
+use Rattle.squawk_parser.specs.RawTable.{Table, raw_at, raw_from, raw_after, raw_tokens}
+use Rattle.squawk_parser.specs.TokenKinds.{Keywords}
 use Rattle.squawk_parser.specs.ParserInput.{entry_for, entries_of, is_followed}
 
 pub raw_after-next : (t : Table) (i : ℕ) → i < length t.kinds → raw_after t i ≡ raw_at t i ∷ raw_after t (i + 1)

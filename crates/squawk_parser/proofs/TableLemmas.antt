@@ -8,7 +8,8 @@ use Rattle.squawk_parser.specs.declared.lexed_str.token.Token.{Token}
 use Rattle.squawk_parser.specs.declared.lexed_str.token.TokenKind.TheVariants.{Ident}
 use Rattle.squawk_parser.specs.AcceptedTokens.{start_of, IsAccepted}
 use Rattle.squawk_parser.proofs.Sums.{sum_by-cons}
-use Rattle.squawk_parser.specs.RawTable.{Keywords, IsTable, Table, table_of, kinds_from, starts_from}
+use Rattle.squawk_parser.specs.RawTable.{IsTable, Table, table_of, kinds_from, starts_from}
+use Rattle.squawk_parser.specs.TokenKinds.{Keywords}
 
 abbrev none : Token
 none = record { kind = Ident; len = 0 }

@@ -1,6 +1,7 @@
 -- When a list of raw tokens is accepted over a text.
 use Rattle.std.specs.Prelude.{◌≡◌, ℕ, ◌+◌, ◌<◌, ◌≤◌, List, length, take, sum_by, Result, Ok, Err, IsCharBoundary}
 use Rattle.std.specs.List.{HoldsAt}
+use Rattle.squawk_parser.specs.TokenRows.{MeetsKind}
 use Rattle.squawk_parser.specs.declared.lexed_str.token.Token.{Token}
 use Rattle.squawk_parser.specs.declared.lexed_str.check.TableError.{TableError}
 use Rattle.squawk_parser.specs.declared.lexed_str.check.TableError.TheVariants.{TextTooLong, BadToken, TextLeft, OutOfMemory}
@@ -9,10 +10,12 @@ use Rattle.squawk_parser.specs.declared.lexed_str.check.TableError.TheVariants.{
 abbrev pub start_of : List Token → ℕ → ℕ
 start_of tokens i = sum_by (λ t. t.len) (take i tokens)
 
--- a token that starts at `start` is good: it isn't empty, and it ends at a character boundary inside the text
+-- A token that starts at `start` is good: it isn't empty, it ends at a character boundary inside the text, and it is what its
+-- kind says.
 pub record IsGood (text : List ℕ) (start : ℕ) (token : Token) : Type 0 where
   pub nonempty : 0 < token.len
   pub boundary : IsCharBoundary text (start + token.len)
+  pub kind : MeetsKind text start token.len token.kind
 
 -- token i of the list is good
 abbrev pub IsGoodAt : List ℕ → List Token → ℕ → Type 0

@@ -1,7 +1,8 @@
 -- What contracts see of an input's tokens.
 use Rattle.std.specs.Prelude.{ℕ, ◌+◌}
 use Rattle.squawk_parser.specs.ParserInput.{Entry, entry_for}
-use Rattle.squawk_parser.specs.RawTable.{Keywords, Table, raw_at, raw_after}
+use Rattle.squawk_parser.specs.RawTable.{Table, raw_at, raw_after}
+use Rattle.squawk_parser.specs.TokenKinds.{Keywords}
 use Rattle.squawk_parser.specs.declared.input.InputToken.{InputToken}
 
 abbrev pub entry_of : InputToken → Entry

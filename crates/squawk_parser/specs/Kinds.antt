@@ -9,6 +9,10 @@ EOF = 0
 abbrev pub TOMBSTONE : ℕ
 TOMBSTONE = 1
 
+-- what is no other token
+abbrev pub ERROR : ℕ
+ERROR = 2
+
 abbrev pub IDENT : ℕ
 IDENT = 3
 

@@ -1,5 +1,7 @@
 pub mod Kinds
+pub mod TokenRows
 pub mod AcceptedTokens
+pub mod TokenKinds
 pub mod RawTable
 pub mod ParserInput
 pub mod InputView

@@ -1,7 +1,8 @@
 -- The input of a parser: the raw tokens that aren't trivia.
 use Rattle.std.specs.Prelude.{ℕ, ◌==◌, Bool, false, not, List, [], ◌∷◌, slice_get, unwrap_or, option_map, if◌then◌else◌}
 use Rattle.squawk_parser.specs.Kinds.{EOF, IDENT, is_trivia}
-use Rattle.squawk_parser.specs.RawTable.{Keywords, Table, RawToken, raw_tokens}
+use Rattle.squawk_parser.specs.RawTable.{Table, RawToken, raw_tokens}
+use Rattle.squawk_parser.specs.TokenKinds.{Keywords}
 
 -- a token of an input: its kind, its contextual kind, and whether it touches the next token of the input
 pub record Entry : Type 0 where

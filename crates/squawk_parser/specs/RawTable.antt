@@ -2,24 +2,13 @@
 use Rattle.std.specs.Prelude.{◌≡◌, ℕ, zero, suc, ◌+◌, ◌-◌, ◌<◌, Option, List, [], ◌∷◌, length, slice_index, slice_range, unwrap_or, IsCharBoundary, IsUtf8}
 use Rattle.std.specs.List.{flat_map}
 use Rattle.squawk_parser.specs.declared.lexed_str.token.Token.{Token}
-use Rattle.squawk_parser.specs.declared.lexed_str.token.TokenKind.{TokenKind}
-use Rattle.squawk_parser.specs.declared.lexed_str.token.TokenKind.TheVariants.{Ident, Whitespace}
-use Rattle.squawk_parser.specs.Kinds.{IDENT, WHITESPACE}
+use Rattle.squawk_parser.specs.TokenKinds.{Keywords, kind_of}
 
 -- a source, the syntax kinds of its raw tokens, and where they start; the last start is the end of the source
 pub record Table : Type 0 where
   pub text : List ℕ
   pub kinds : List ℕ
   pub starts : List ℕ
-
--- which syntax kind a text has as a keyword, if it is one
-abbrev pub Keywords : Type 0
-Keywords = List ℕ → Option ℕ
-
--- the syntax kind of a raw token with this text
-abbrev pub kind_of : Keywords → TokenKind → List ℕ → ℕ
-kind_of keyword Ident text = unwrap_or (keyword text) IDENT
-kind_of keyword Whitespace text = WHITESPACE
 
 -- the kinds of tokens that stand one after another from `at` on
 abbrev pub kinds_from : Keywords → List ℕ → ℕ → List Token → List ℕ

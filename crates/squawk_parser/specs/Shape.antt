@@ -2,7 +2,8 @@
 use Rattle.std.specs.Prelude.{◌≡◌, ℕ, ◌<◌, ◌≤◌, List, [], ◌∷◌, length, take, All}
 use Rattle.squawk_parser.specs.Steps.{Step, Token, Enter, Exit, openings, closings, eaten}
 use Rattle.squawk_parser.specs.ParserInput.{Entry, input_of}
-use Rattle.squawk_parser.specs.RawTable.{Keywords, Table}
+use Rattle.squawk_parser.specs.RawTable.{Table}
+use Rattle.squawk_parser.specs.TokenKinds.{Keywords}
 use Rattle.std.specs.Prelude.{None}
 
 -- no beginning closes more nodes than it opens, and all that are opened are closed

@@ -1,18 +1,21 @@
 //! The table of a text's raw tokens.
 ghost use Rattle.std.specs.Prelude.{◌≡◌, ◌+◌, ◌<◌, ◌≤◌, length, slice_index, slice_range, MatchResult};
 ghost use Rattle.squawk_parser.specs.AcceptedTokens.{Refuses};
-ghost use Rattle.squawk_parser.specs.RawTable.{Table, IsTable, table_of, kind_of, piece};
+ghost use Rattle.squawk_parser.specs.RawTable.{Table, IsTable, table_of, piece};
 
 pub mod check;
+mod kind;
+mod rows;
 pub mod token;
 
+use crate::lexed_str::kind::syntax_kind;
 use crate::syntax_kind::SyntaxKind;
 use crate::vocabulary::Vocabulary;
 pub use check::{TableError, check_tokens};
 use std::alloc::Global;
 use std::marker::Model;
 use std::ops::Range;
-pub use token::{Token, TokenKind};
+pub use token::{Base, LiteralKind, Token, TokenKind};
 
 /// A text and its raw tokens: their syntax kinds, and where they start.
 ///
@@ -123,15 +126,5 @@ impl<'a> LexedStr<'a> {
     {
         let start = self.starts[i];
         start as usize
-    }
-}
-
-/// The syntax kind of a raw token with this text.
-fn syntax_kind<V: Vocabulary>(kind: TokenKind, text: &str, vocabulary: &V) -> SyntaxKind
-    ensures { result ≡ kind_of (V.keyword vocabulary.now) kind text.now }
-{
-    match kind {
-        TokenKind::Ident => vocabulary.from_keyword(text).unwrap_or(SyntaxKind::IDENT),
-        TokenKind::Whitespace => SyntaxKind::WHITESPACE,
     }
 }

@@ -10,7 +10,7 @@ pub mod syntax_kind;
 pub mod vocabulary;
 
 pub use input::Input;
-pub use lexed_str::{LexedStr, TableError, Token, TokenKind, check_tokens};
+pub use lexed_str::{Base, LexedStr, LiteralKind, TableError, Token, TokenKind, check_tokens};
 pub use output::{Output, Step, Steps, Text};
 pub use parser::{CompletedMarker, EntryPoint, Grammar, Marker, ParseError, Parser};
 pub use shortcuts::{OwnedStep, StepList, StepSink, StrStep};

@@ -9,7 +9,7 @@ use crate::syntax_kind::SyntaxKind;
 pub trait Vocabulary {
     ghost use Rattle.std.specs.Prelude.{List, ℕ, IfSome};
     ghost use Rattle.squawk_parser.specs.Kinds.{IsKeyword};
-    ghost use Rattle.squawk_parser.specs.RawTable.{Keywords};
+    ghost use Rattle.squawk_parser.specs.TokenKinds.{Keywords};
 
     /// The keyword that a text is.
     ghost keyword: { Self → Keywords };

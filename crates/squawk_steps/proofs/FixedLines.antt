@@ -8,7 +8,8 @@ use Rattle.std.proofs.lemmas.Str.Ascii.{IsAscii-cons, IsAscii-nil}
 use Rattle.serde_json.proofs.OnLiterals.{serde_json_on_literals}
 use Rattle.squawk_parser.specs.declared.lexed_str.token.Token.{Token}
 use Rattle.squawk_parser.specs.declared.lexed_str.token.TokenKind.TheVariants.{Ident, Whitespace}
-use Rattle.squawk_parser.specs.RawTable.{Keywords, Table, table_of}
+use Rattle.squawk_parser.specs.RawTable.{Table, table_of}
+use Rattle.squawk_parser.specs.TokenKinds.{Keywords}
 use Rattle.squawk_parser.specs.Sent.{sent_list}
 use Rattle.squawk_steps.specs.Lines.{step_lines, last_line}
 use Rattle.squawk_steps.specs.Fixed.{node_steps, six_lines}

@@ -13,9 +13,9 @@ use Rattle.squawk_steps.specs.Fixed.{node_steps, IsTwoTokenNode}
 use Rattle.squawk_steps.proofs.FixedLines.{no_keywords, fixed_tokens, fixed_table}
 
 good_at : (i : ℕ) → i < 3 → IsGoodAt (codes "a b") fixed_tokens i
-good_at zero lt = λ d. record { nonempty = omega arith; boundary = (omega arith, λ _ high. absurd (omega arith)) }
-good_at (suc zero) lt = λ d. record { nonempty = omega arith; boundary = (omega arith, λ _ high. absurd (omega arith)) }
-good_at (suc (suc zero)) lt = λ d. record { nonempty = omega arith; boundary = (omega arith, λ inside _. absurd (omega arith)) }
+good_at zero lt = λ d. record { nonempty = omega arith; boundary = (omega arith, λ _ high. absurd (omega arith)); kind = tt }
+good_at (suc zero) lt = λ d. record { nonempty = omega arith; boundary = (omega arith, λ _ high. absurd (omega arith)); kind = tt }
+good_at (suc (suc zero)) lt = λ d. record { nonempty = omega arith; boundary = (omega arith, λ inside _. absurd (omega arith)); kind = tt }
 good_at (suc (suc (suc i))) lt = absurd (omega arith)
 
 -- the table of the fixed tokens is refused only for want of memory

@@ -2,6 +2,7 @@
 ghost use Rattle.std.specs.Prelude.{◌≡◌, ℕ, ◌+◌, ◌^◌, ◌<◌, ◌≤◌, ◌↔◌, length, IsTrue, IsOk};
 ghost use Rattle.squawk_parser.specs.AcceptedTokens.{IsGood, IsAccepted, Answers};
 
+use crate::lexed_str::rows::meets_kind;
 use crate::lexed_str::token::Token;
 use std::alloc::{AllocError, AllocFailed};
 
@@ -13,8 +14,8 @@ const LONGEST_TEXT: usize = 4294967295;
 pub enum TableError {
     /// The text has more than 4294967295 bytes.
     TextTooLong,
-    /// The raw token at this place is empty, or doesn't end at a character boundary inside the
-    /// text. It is the first such token.
+    /// The raw token at this place is empty, doesn't end at a character boundary inside the text, or
+    /// isn't what its kind says. It is the first such token.
     BadToken { index: usize },
     /// The raw tokens end at this byte, before the text does.
     TextLeft { at: usize },
@@ -47,15 +48,23 @@ fn is_good(text: &str, start: usize, token: Token) -> bool
     requires { start ≤ length text.now }
     ensures { IsTrue result ↔ IsGood text.now start token }
 {
-    match start.checked_add(token.len as usize) {
-        Some(end) => token.len > 0 && text.is_char_boundary(end),
+    let len = token.len as usize;
+    match start.checked_add(len) {
+        Some(end) => {
+            len > 0 && text.is_char_boundary(end) && meets_kind(text, start, len, token.kind)
+        }
         None => false,
     }
 }
 
 /// Whether the tokens are a list that [`LexedStr::new`] takes: the text has at most 4294967295
-/// bytes, every token is longer than 0 bytes and ends at a character boundary inside the text, and
-/// their lengths add up to the text.
+/// bytes, every token is longer than 0 bytes, ends at a character boundary inside the text and is
+/// what its kind says, and their lengths add up to the text.
+///
+/// Of a kind only this is asked, since the engine reads no more: a positional parameter begins with
+/// `$`, with digits up to its junk; places inside a number are in it and at character boundaries,
+/// behind the prefix of a binary or octal integer; a terminated string of the forms `''`, `X''`,
+/// `B''` and `E''` has both its quotes; no token is the end of the text.
 ///
 /// [`LexedStr::new`]: crate::LexedStr::new
 pub fn check_tokens(text: &str, tokens: &[Token]) -> Result<(), TableError>

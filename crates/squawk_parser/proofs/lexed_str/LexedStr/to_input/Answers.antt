@@ -4,7 +4,8 @@ use Rattle.squawk_parser.specs.declared.input.InputToken.{InputToken}
 use Rattle.squawk_parser.specs.Kinds.{is_trivia}
 use Rattle.squawk_parser.specs.InputView.{entry_of, entry_at}
 use Rattle.squawk_parser.specs.ParserInput.{Entry, entries_of}
-use Rattle.squawk_parser.specs.RawTable.{Keywords, Table, raw_after, raw_tokens}
+use Rattle.squawk_parser.specs.RawTable.{Table, raw_after, raw_tokens}
+use Rattle.squawk_parser.specs.TokenKinds.{Keywords}
 use Rattle.squawk_parser.proofs.RawTokens.{entries_of-token, entries_of-trivia}
 use Rattle.squawk_parser.proofs.lexed_str.LexedStr.to_input.Goals as goal
 use Rattle.squawk_parser.proofs.lexed_str.LexedStr.to_input.Goals.{then-not-is_trivia, else-not-is_trivia}
