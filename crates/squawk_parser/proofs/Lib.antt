@@ -21,3 +21,4 @@ pub mod Sinks
 pub mod SourceChars
 pub mod StepPlaces
 pub mod Trivia
+pub mod LexicalExamples

@@ -15,3 +15,6 @@ pub mod State
 pub mod Parse
 pub mod Sent
 pub mod Sending
+pub mod EscapeUnits
+pub mod Continuation
+pub mod LexicalErrors
