@@ -18,6 +18,8 @@ mod parser;
 #[cfg(test)]
 mod raw_tokens;
 #[cfg(test)]
+mod sets;
+#[cfg(test)]
 mod sinks;
 #[cfg(test)]
 mod text;

@@ -1,5 +1,6 @@
 pub mod TableLemmas
 pub mod Texts
+pub mod TokenSetLemmas
 pub mod RawTokens
 pub mod Sums
 pub mod Balance

@@ -1,4 +1,5 @@
 pub mod Kinds
+pub mod TokenSets
 pub mod TokenRows
 pub mod AcceptedTokens
 pub mod TokenKinds

@@ -4,7 +4,9 @@ ghost use Rattle.squawk_parser.specs.Draft.{HasNoHole};
 ghost use Rattle.squawk_parser.specs.State.{IsFresh, Keeps, Goes};
 ghost use Rattle.squawk_steps.specs.Fixed.{IsTwoTokenNode};
 
-use squawk_parser::{EntryPoint, Grammar, Parser, SyntaxKind, Token, TokenKind, Vocabulary};
+use squawk_parser::{
+    EntryPoint, Grammar, Parser, SyntaxKind, Token, TokenKind, TokenSet, Vocabulary,
+};
 use std::alloc::AllocError;
 
 /// The text.
@@ -32,10 +34,25 @@ pub struct NoKeywords;
 
 impl Vocabulary for NoKeywords {
     ghost use Rattle.std.specs.Prelude.{None};
+    ghost use Rattle.squawk_parser.specs.TokenSets.{no_kinds};
 
     ghost keyword = { λ _ _. None };
 
     ghost contextual_keyword = { λ _ _. None };
+
+    ghost all_keywords = { λ _. no_kinds };
+
+    ghost contextual_keywords = { λ _. no_kinds };
+
+    ghost operators = { λ _. no_kinds };
+
+    ghost punctuation = { λ _. no_kinds };
+
+    ghost reserved_keywords = { λ _. no_kinds };
+
+    ghost col_name_keyword_first = { λ _. no_kinds };
+
+    ghost type_func_name_keywords = { λ _. no_kinds };
 
     ghost keywords_are_tokens = { λ _ _. tt };
 
@@ -47,6 +64,34 @@ impl Vocabulary for NoKeywords {
 
     fn from_contextual_keyword(&self, _text: &str) -> Option<SyntaxKind> {
         None
+    }
+
+    fn all_keywords(&self) -> TokenSet {
+        TokenSet::EMPTY
+    }
+
+    fn contextual_keywords(&self) -> TokenSet {
+        TokenSet::EMPTY
+    }
+
+    fn operators(&self) -> TokenSet {
+        TokenSet::EMPTY
+    }
+
+    fn punctuation(&self) -> TokenSet {
+        TokenSet::EMPTY
+    }
+
+    fn reserved_keywords(&self) -> TokenSet {
+        TokenSet::EMPTY
+    }
+
+    fn col_name_keyword_first(&self) -> TokenSet {
+        TokenSet::EMPTY
+    }
+
+    fn type_func_name_keywords(&self) -> TokenSet {
+        TokenSet::EMPTY
     }
 }
 

@@ -1,0 +1,11 @@
+use Rattle.std.proofs.Common.{◌≡◌, ℕ, ◌≤◌, ◌==◌, take, length}
+use Rattle.std.specs.List.{list_any}
+use Rattle.squawk_parser.specs.Kinds.{WHITESPACE}
+use Rattle.squawk_parser.proofs.TokenSetLemmas.{bit_of}
+use Rattle.squawk_parser.proofs.token_set.TokenSet.new.Given as goal
+
+abbrev pub invariant-loop-kind : goal.invariant-loop-kind
+invariant-loop-kind l = record {
+  size : length l.words ≡ 10;
+  kinds : (k : ℕ) → k ≤ WHITESPACE → (bit_of l.words k == 1) ≡ list_any (λ one. one == k) (take l.kind-index l.kinds);
+}
