@@ -38,12 +38,12 @@ impl TokenSet {
         requires { All IsTokenKind kinds.now }
         ensures { (kind : ℕ) → has result kind ≡ list_any (λ one. one == kind) kinds.now }
     {
-        let TokenSet(mut words) = TokenSet::EMPTY;
+        let mut set = TokenSet::EMPTY;
         for kind in kinds {
             let number = usize::from(u16::from(*kind));
-            words[number / 64] |= 1 << (number % 64);
+            set.0[number / 64] |= 1 << (number % 64);
         }
-        TokenSet(words)
+        set
     }
 
     /// The set with these words: token kind `k` is in it where bit `k % 64` of word `k / 64` is 1,

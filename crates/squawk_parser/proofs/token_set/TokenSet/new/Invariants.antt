@@ -6,6 +6,6 @@ use Rattle.squawk_parser.proofs.token_set.TokenSet.new.Given as goal
 
 abbrev pub invariant-loop-kind : goal.invariant-loop-kind
 invariant-loop-kind l = record {
-  size : length l.words ≡ 10;
-  kinds : (k : ℕ) → k ≤ WHITESPACE → (bit_of l.words k == 1) ≡ list_any (λ one. one == k) (take l.kind-index l.kinds);
+  size : length l.set-inside.0 ≡ 10;
+  kinds : (k : ℕ) → k ≤ WHITESPACE → (bit_of l.set-inside.0 k == 1) ≡ list_any (λ one. one == k) (take l.kind-index l.kinds);
 }
