@@ -1,5 +1,5 @@
 -- Which prefixed string a plain string continues.
-use Rattle.std.specs.Prelude.{true, false, Option, Some, None, List, [], ◌∷◌}
+use Rattle.std.specs.Prelude.{true, Option, Some, None, List, [], ◌∷◌}
 use Rattle.squawk_parser.specs.declared.lexed_str.token.Token.{Token}
 use Rattle.squawk_parser.specs.declared.lexed_str.token.TokenKind.{TokenKind}
 use Rattle.squawk_parser.specs.declared.lexed_str.token.TokenKind.TheVariants.{LineComment, BlockComment, Whitespace, Literal}

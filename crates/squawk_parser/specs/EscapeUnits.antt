@@ -1,5 +1,5 @@
 -- The units of an escape string's content: characters, and escapes that are written with several.
-use Rattle.std.specs.Prelude.{◌≡◌, ℕ, zero, suc, ◌+◌, ◌==◌, List, [], ◌∷◌, length, take, drop, sum_by, if◌then◌else◌}
+use Rattle.std.specs.Prelude.{ℕ, zero, suc, ◌==◌, List, [], ◌∷◌, length, take, drop, sum_by, if◌then◌else◌}
 use Rattle.std.specs.Char.{is_ascii_hexdigit, len_utf8}
 
 pub data Unit : Type 0 where

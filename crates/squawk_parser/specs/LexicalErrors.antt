@@ -1,5 +1,5 @@
 -- The lexical errors of raw tokens.
-use Rattle.std.specs.Prelude.{ℕ, ◌+◌, ◌-◌, ◌*◌, ◌<◌, nat_lt, ◌==◌, ◌||◌, ◌&&◌, Bool, true, false, not, Option, Some, None, List, [], ◌∷◌, ◌++◌, map, length, fold, codes, slice_range, encode_utf8, nat_eq, if◌then◌else◌}
+use Rattle.std.specs.Prelude.{ℕ, ◌+◌, ◌-◌, ◌*◌, nat_lt, ◌==◌, ◌||◌, ◌&&◌, Bool, true, false, not, Option, Some, None, List, [], ◌∷◌, ◌++◌, map, length, fold, codes, slice_range, encode_utf8, nat_eq, if◌then◌else◌}
 use Rattle.std.specs.Str.{chars}
 use Rattle.std.specs.Char.{is_ascii_hexdigit, len_utf8}
 use Rattle.std.specs.Cmp.Lexicographic.{pointwise}
@@ -85,7 +85,7 @@ short_escapes at (Other cs ∷ rest) = short_escapes (at + bytes_of (Other cs)) 
 short_escapes at (escape.Escape letter digits ∷ rest) =
     let end = at + bytes_of (escape.Escape letter digits) in
     only_if (nat_lt (length digits) (wanted_digits letter))
-        (record { start = at; end = end; message = codes "incomplete unicode escape"; hint = Some (hint_of letter) })
+    (record { start = at; end = end; message = codes "incomplete unicode escape"; hint = Some (hint_of letter) })
     ++ short_escapes end rest
 
 -- the content of a terminated string of a prefix: what stands from byte `from` on and before the last quote

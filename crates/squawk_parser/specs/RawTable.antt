@@ -1,5 +1,5 @@
 -- The table of a text's raw tokens.
-use Rattle.std.specs.Prelude.{◌≡◌, ℕ, zero, suc, ◌+◌, ◌-◌, ◌<◌, Option, List, [], ◌∷◌, length, slice_index, slice_range, unwrap_or, IsCharBoundary, IsUtf8}
+use Rattle.std.specs.Prelude.{◌≡◌, ℕ, zero, suc, ◌+◌, ◌-◌, ◌<◌, List, [], ◌∷◌, length, slice_index, slice_range, IsCharBoundary, IsUtf8}
 use Rattle.std.specs.List.{flat_map}
 use Rattle.squawk_parser.specs.declared.lexed_str.token.Token.{Token}
 use Rattle.squawk_parser.specs.TokenKinds.{Keywords, kind_of}
