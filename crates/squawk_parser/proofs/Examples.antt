@@ -3,11 +3,11 @@ use Rattle.std.proofs.Common.{◌≡◌, ℕ, Bool, true, false, nat_eq, Some, N
 use Rattle.std.specs.Prelude.{codes}
 use Rattle.std.specs.Str.{chars}
 use Rattle.std.specs.Cmp.Lexicographic.{pointwise}
-use Rattle.squawk_parser.specs.declared.lexed_str.token.Token.{Token}
-use Rattle.squawk_parser.specs.declared.lexed_str.token.TokenKind.TheVariants.{Ident, Whitespace}
+use Rattle.squawk_tokens.specs.declared.token.Token.{Token}
+use Rattle.squawk_tokens.specs.declared.token.TokenKind.TheVariants.{Ident, Whitespace}
 use Rattle.squawk_parser.specs.declared.shortcuts.str_step.OwnedStep.{OwnedStep}
 use Rattle.squawk_parser.specs.declared.shortcuts.str_step.OwnedStep.TheVariants as sent
-use Rattle.squawk_parser.specs.AcceptedTokens.{start_of}
+use Rattle.squawk_tokens.specs.AcceptedTokens.{start_of}
 use Rattle.squawk_parser.specs.RawTable.{Table, table_of}
 use Rattle.squawk_parser.specs.TokenKinds.{Keywords}
 use Rattle.squawk_parser.specs.ParserInput.{Entry, input_of}

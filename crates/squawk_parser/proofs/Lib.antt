@@ -22,4 +22,3 @@ pub mod Sinks
 pub mod SourceChars
 pub mod StepPlaces
 pub mod Trivia
-pub mod LexicalExamples

@@ -4,9 +4,9 @@ use Rattle.std.specs.Prelude.{IsUtf8, IsCharBoundary}
 use Rattle.std.proofs.lemmas.Str.{IsCharBoundary-start}
 use Rattle.std.proofs.lemmas.List.Sums.{sum_by_more}
 use Rattle.std.proofs.lemmas.List.{drop_all, append-nil}
-use Rattle.squawk_parser.specs.declared.lexed_str.token.Token.{Token}
-use Rattle.squawk_parser.specs.declared.lexed_str.token.TokenKind.TheVariants.{Ident}
-use Rattle.squawk_parser.specs.AcceptedTokens.{start_of, IsAccepted}
+use Rattle.squawk_tokens.specs.declared.token.Token.{Token}
+use Rattle.squawk_tokens.specs.declared.token.TokenKind.TheVariants.{Ident}
+use Rattle.squawk_tokens.specs.AcceptedTokens.{start_of, IsAccepted}
 use Rattle.squawk_parser.proofs.Sums.{sum_by-cons}
 use Rattle.squawk_parser.specs.RawTable.{IsTable, Table, table_of, kinds_from, starts_from}
 use Rattle.squawk_parser.specs.TokenKinds.{Keywords}

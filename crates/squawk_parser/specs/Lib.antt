@@ -1,7 +1,5 @@
 pub mod Kinds
 pub mod TokenSets
-pub mod TokenRows
-pub mod AcceptedTokens
 pub mod TokenKinds
 pub mod RawTable
 pub mod ParserInput
@@ -16,6 +14,3 @@ pub mod State
 pub mod Parse
 pub mod Sent
 pub mod Sending
-pub mod EscapeUnits
-pub mod Continuation
-pub mod LexicalErrors

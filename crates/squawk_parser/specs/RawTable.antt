@@ -1,7 +1,7 @@
 -- The table of a text's raw tokens.
 use Rattle.std.specs.Prelude.{◌≡◌, ℕ, zero, suc, ◌+◌, ◌-◌, ◌<◌, List, [], ◌∷◌, length, slice_index, slice_range, IsCharBoundary, IsUtf8}
 use Rattle.std.specs.List.{flat_map}
-use Rattle.squawk_parser.specs.declared.lexed_str.token.Token.{Token}
+use Rattle.squawk_tokens.specs.declared.token.Token.{Token}
 use Rattle.squawk_parser.specs.TokenKinds.{Keywords, kind_of}
 
 -- a source, the syntax kinds of its raw tokens, and where they start; the last start is the end of the source

@@ -1,9 +1,9 @@
 -- The syntax kinds of raw tokens, by their numbers.
 use Rattle.std.specs.Prelude.{ℕ, true, false, Option, List, unwrap_or}
-use Rattle.squawk_parser.specs.declared.lexed_str.token.TokenKind.{TokenKind}
-use Rattle.squawk_parser.specs.declared.lexed_str.token.TokenKind.TheVariants.{Unknown, LineComment, BlockComment, Whitespace, Ident, QuotedIdent, PsqlCommand, PositionalParam, Literal, Semi, Comma, Dot, DotDot, OpenParen, CloseParen, OpenBracket, CloseBracket, OpenCurly, CloseCurly, At, Pound, Tilde, Question, Colon, Eq, Bang, Lt, Gt, Minus, And, Or, Plus, Star, Slash, Caret, Percent, Backtick, Eof}
-use Rattle.squawk_parser.specs.declared.lexed_str.token.LiteralKind.{LiteralKind}
-use Rattle.squawk_parser.specs.declared.lexed_str.token.LiteralKind.TheVariants.{Int, Numeric, Str, NationalStr, ByteStr, BitStr, DollarQuotedString, UnicodeEscStr, EscStr}
+use Rattle.squawk_tokens.specs.declared.token.TokenKind.{TokenKind}
+use Rattle.squawk_tokens.specs.declared.token.TokenKind.TheVariants.{Unknown, LineComment, BlockComment, Whitespace, Ident, QuotedIdent, PsqlCommand, PositionalParam, Literal, Semi, Comma, Dot, DotDot, OpenParen, CloseParen, OpenBracket, CloseBracket, OpenCurly, CloseCurly, At, Pound, Tilde, Question, Colon, Eq, Bang, Lt, Gt, Minus, And, Or, Plus, Star, Slash, Caret, Percent, Backtick, Eof}
+use Rattle.squawk_tokens.specs.declared.token.LiteralKind.{LiteralKind}
+use Rattle.squawk_tokens.specs.declared.token.LiteralKind.TheVariants.{Int, Numeric, Str, NationalStr, ByteStr, BitStr, DollarQuotedString, UnicodeEscStr, EscStr}
 use Rattle.squawk_parser.specs.Kinds.{EOF, ERROR, IDENT, COMMENT, WHITESPACE}
 
 -- which syntax kind a text has as a keyword, if it is one

@@ -1,21 +1,17 @@
 //! The table of a text's raw tokens.
 ghost use Rattle.std.specs.Prelude.{◌≡◌, ◌+◌, ◌<◌, ◌≤◌, length, slice_index, slice_range, MatchResult};
-ghost use Rattle.squawk_parser.specs.AcceptedTokens.{Refuses};
+ghost use Rattle.squawk_tokens.specs.AcceptedTokens.{Refuses};
 ghost use Rattle.squawk_parser.specs.RawTable.{Table, IsTable, table_of, piece};
 
-pub mod check;
 mod kind;
-mod rows;
-pub mod token;
 
 use crate::lexed_str::kind::syntax_kind;
 use crate::syntax_kind::SyntaxKind;
 use crate::vocabulary::Vocabulary;
-pub use check::{TableError, check_tokens};
+pub use squawk_tokens::{Base, LiteralKind, TableError, Token, TokenKind, check_tokens};
 use std::alloc::Global;
 use std::marker::Model;
 use std::ops::Range;
-pub use token::{Base, LiteralKind, Token, TokenKind};
 
 /// A text and its raw tokens: their syntax kinds, and where they start.
 ///

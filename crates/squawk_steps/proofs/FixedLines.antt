@@ -6,8 +6,8 @@ use Rattle.std.specs.Fmt.{digits}
 use Rattle.std.proofs.lemmas.Str.{encodes-chars, IsUtf8-from_ascii}
 use Rattle.std.proofs.lemmas.Str.Ascii.{IsAscii-cons, IsAscii-nil}
 use Rattle.serde_json.proofs.OnLiterals.{serde_json_on_literals}
-use Rattle.squawk_parser.specs.declared.lexed_str.token.Token.{Token}
-use Rattle.squawk_parser.specs.declared.lexed_str.token.TokenKind.TheVariants.{Ident, Whitespace}
+use Rattle.squawk_tokens.specs.declared.token.Token.{Token}
+use Rattle.squawk_tokens.specs.declared.token.TokenKind.TheVariants.{Ident, Whitespace}
 use Rattle.squawk_parser.specs.RawTable.{Table, table_of}
 use Rattle.squawk_parser.specs.TokenKinds.{Keywords}
 use Rattle.squawk_parser.specs.Sent.{sent_list}

@@ -2,9 +2,9 @@
 use Rattle.std.proofs.Common.{◌≡◌, ℕ, zero, suc, ◌<◌, List, [], ◌∷◌, take, arith, ap, ◌∙◌, refl}
 use Rattle.std.specs.Prelude.{codes}
 use Rattle.std.proofs.lemmas.List.Elements.{All-nil, All-cons}
-use Rattle.squawk_parser.specs.declared.lexed_str.check.TableError.{TableError}
-use Rattle.squawk_parser.specs.declared.lexed_str.check.TableError.TheVariants.{TextTooLong, BadToken, TextLeft, OutOfMemory}
-use Rattle.squawk_parser.specs.AcceptedTokens.{IsGoodAt, Refuses}
+use Rattle.squawk_tokens.specs.declared.check.TableError.{TableError}
+use Rattle.squawk_tokens.specs.declared.check.TableError.TheVariants.{TextTooLong, BadToken, TextLeft, OutOfMemory}
+use Rattle.squawk_tokens.specs.AcceptedTokens.{IsGoodAt, Refuses}
 use Rattle.squawk_parser.specs.Steps.{Walk, Token, Enter, Exit, openings, closings}
 use Rattle.squawk_parser.specs.Shape.{Fits, EatsOne}
 use Rattle.squawk_parser.specs.ParserInput.{Entry, kind_in, input_of}

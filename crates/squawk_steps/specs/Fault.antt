@@ -1,8 +1,8 @@
 -- The statuses and the lines of faults.
 use Rattle.std.specs.Prelude.{ℕ, List, ◌++◌, codes}
 use Rattle.std.specs.Fmt.{decimal}
-use Rattle.squawk_parser.specs.declared.lexed_str.check.TableError.{TableError}
-use Rattle.squawk_parser.specs.declared.lexed_str.check.TableError.TheVariants as table
+use Rattle.squawk_tokens.specs.declared.check.TableError.{TableError}
+use Rattle.squawk_tokens.specs.declared.check.TableError.TheVariants as table
 use Rattle.squawk_parser.specs.declared.parser.parse_error.ParseError.{ParseError}
 use Rattle.squawk_parser.specs.declared.parser.parse_error.ParseError.TheVariants as parse
 use Rattle.squawk_steps.specs.declared.fault.Fault.{Fault}

@@ -2,9 +2,9 @@
 ghost use Rattle.std.specs.Prelude.{◌≡◌};
 ghost use Rattle.squawk_parser.specs.TokenKinds.{kind_of, literal_kind_of};
 
-use crate::lexed_str::token::{LiteralKind, TokenKind};
 use crate::syntax_kind::SyntaxKind;
 use crate::vocabulary::Vocabulary;
+use squawk_tokens::{LiteralKind, TokenKind};
 
 /// The syntax kind of a raw token with this text.
 pub(super) fn syntax_kind<V: Vocabulary>(kind: TokenKind, text: &str, vocabulary: &V) -> SyntaxKind

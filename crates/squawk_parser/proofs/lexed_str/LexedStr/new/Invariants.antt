@@ -1,6 +1,6 @@
 use Rattle.std.specs.Prelude.{vec_len, vec_capacity}
 use Rattle.std.proofs.Common.{◌≤◌, length, ◌≡◌, ◌++◌, drop}
-use Rattle.squawk_parser.specs.AcceptedTokens.{start_of}
+use Rattle.squawk_tokens.specs.AcceptedTokens.{start_of}
 use Rattle.squawk_parser.specs.RawTable.{kinds_from, starts_from}
 use Rattle.squawk_parser.proofs.lexed_str.LexedStr.new.Given as goal
 

@@ -1,6 +1,6 @@
 use Rattle.std.proofs.Common.{◌≡◌, ◌≤◌, length}
-use Rattle.squawk_parser.specs.AcceptedTokens.{start_of, AreGoodBelow}
-use Rattle.squawk_parser.proofs.lexed_str.check.check_tokens.Given as goal
+use Rattle.squawk_tokens.specs.AcceptedTokens.{start_of, AreGoodBelow}
+use Rattle.squawk_tokens.proofs.check.check_tokens.Given as goal
 
 abbrev pub invariant-loop-index : goal.invariant-loop-index
 invariant-loop-index l = record {

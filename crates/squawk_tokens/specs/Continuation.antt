@@ -1,9 +1,9 @@
 -- Which prefixed string a plain string continues.
 use Rattle.std.specs.Prelude.{true, Option, Some, None, List, [], ◌∷◌}
-use Rattle.squawk_parser.specs.declared.lexed_str.token.Token.{Token}
-use Rattle.squawk_parser.specs.declared.lexed_str.token.TokenKind.{TokenKind}
-use Rattle.squawk_parser.specs.declared.lexed_str.token.TokenKind.TheVariants.{LineComment, BlockComment, Whitespace, Literal}
-use Rattle.squawk_parser.specs.declared.lexed_str.token.LiteralKind.TheVariants.{Str, ByteStr, BitStr, EscStr}
+use Rattle.squawk_tokens.specs.declared.token.Token.{Token}
+use Rattle.squawk_tokens.specs.declared.token.TokenKind.{TokenKind}
+use Rattle.squawk_tokens.specs.declared.token.TokenKind.TheVariants.{LineComment, BlockComment, Whitespace, Literal}
+use Rattle.squawk_tokens.specs.declared.token.LiteralKind.TheVariants.{Str, ByteStr, BitStr, EscStr}
 
 -- a prefix whose strings have contents with rules: `B`, `X` and `E`
 pub data Prefix : Type 0 where

@@ -1,10 +1,10 @@
 use Rattle.std.proofs.Common.{◌≡◌, ◌<◌, ℕ, List, length, get_or, arith, refl, subst, below_more}
 use Rattle.std.proofs.lemmas.List.{get_or_default}
 use Rattle.std.proofs.lemmas.List.Sums.{sum_by_more}
-use Rattle.squawk_parser.specs.declared.lexed_str.token.Token.{Token}
-use Rattle.squawk_parser.specs.declared.lexed_str.token.TokenKind.TheVariants.{Unknown}
-use Rattle.squawk_parser.specs.AcceptedTokens.{IsGood, IsGoodAt, start_of}
-use Rattle.squawk_parser.proofs.lexed_str.check.check_tokens.Goals as goal
+use Rattle.squawk_tokens.specs.declared.token.Token.{Token}
+use Rattle.squawk_tokens.specs.declared.token.TokenKind.TheVariants.{Unknown}
+use Rattle.squawk_tokens.specs.AcceptedTokens.{IsGood, IsGoodAt, start_of}
+use Rattle.squawk_tokens.proofs.check.check_tokens.Goals as goal
 
 abbrev none : Token
 none = record { kind = Unknown; len = 0 }

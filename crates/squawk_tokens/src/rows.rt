@@ -1,13 +1,13 @@
 //! What a raw token's kind says of its text.
 ghost use Rattle.std.specs.Prelude.{◌+◌, ◌<◌, ◌≤◌, ◌↔◌, false, length, All, IsTrue};
 ghost use Rattle.std.specs.Char.{IsAsciiDigit};
-ghost use Rattle.squawk_parser.specs.declared.lexed_str.token.LiteralKind.TheVariants.{Int};
-ghost use Rattle.squawk_parser.specs.TokenRows.{IsPlace, IsQuoted, IsParam, IsLiteral, MeetsKind};
+ghost use Rattle.squawk_tokens.specs.declared.token.LiteralKind.TheVariants.{Int};
+ghost use Rattle.squawk_tokens.specs.TokenRows.{IsPlace, IsQuoted, IsParam, IsLiteral, MeetsKind};
 
-use crate::lexed_str::token::{Base, LiteralKind, TokenKind};
+use crate::token::{Base, LiteralKind, TokenKind};
 
 /// Whether a token of `len` bytes from `start` on is what its kind says.
-pub(super) fn meets_kind(text: &str, start: usize, len: usize, kind: TokenKind) -> bool
+pub(crate) fn meets_kind(text: &str, start: usize, len: usize, kind: TokenKind) -> bool
     requires fits { start + len ≤ length text.now }
     requires nonempty { 0 < len }
     ensures { IsTrue result ↔ MeetsKind text.now start len kind }

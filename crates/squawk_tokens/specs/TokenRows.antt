@@ -1,12 +1,12 @@
 -- What a raw token's kind says of its text. Only what the engine reads is asked.
 use Rattle.std.specs.Prelude.{◌≡◌, ℕ, ◌+◌, ◌-◌, ◌≤◌, true, false, List, All, Some, None, slice_index, slice_range, IsCharBoundary}
 use Rattle.std.specs.Char.{IsAsciiDigit}
-use Rattle.squawk_parser.specs.declared.lexed_str.token.Base.{Base}
-use Rattle.squawk_parser.specs.declared.lexed_str.token.Base.TheVariants.{Binary, Octal, Decimal, Hexadecimal}
-use Rattle.squawk_parser.specs.declared.lexed_str.token.LiteralKind.{LiteralKind}
-use Rattle.squawk_parser.specs.declared.lexed_str.token.LiteralKind.TheVariants.{Int, Numeric, Str, NationalStr, ByteStr, BitStr, DollarQuotedString, UnicodeEscStr, EscStr}
-use Rattle.squawk_parser.specs.declared.lexed_str.token.TokenKind.{TokenKind}
-use Rattle.squawk_parser.specs.declared.lexed_str.token.TokenKind.TheVariants.{PositionalParam, Literal, Eof}
+use Rattle.squawk_tokens.specs.declared.token.Base.{Base}
+use Rattle.squawk_tokens.specs.declared.token.Base.TheVariants.{Binary, Octal, Decimal, Hexadecimal}
+use Rattle.squawk_tokens.specs.declared.token.LiteralKind.{LiteralKind}
+use Rattle.squawk_tokens.specs.declared.token.LiteralKind.TheVariants.{Int, Numeric, Str, NationalStr, ByteStr, BitStr, DollarQuotedString, UnicodeEscStr, EscStr}
+use Rattle.squawk_tokens.specs.declared.token.TokenKind.{TokenKind}
+use Rattle.squawk_tokens.specs.declared.token.TokenKind.TheVariants.{PositionalParam, Literal, Eof}
 
 -- place `at` is in the token or at its end, and a character begins or the text ends there
 pub record IsPlace (text : List ℕ) (start len at : ℕ) : Type 0 where

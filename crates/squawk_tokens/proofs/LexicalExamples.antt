@@ -3,12 +3,12 @@ use Rattle.std.proofs.Common.{◌≡◌, ℕ, ◌++◌, true, false, Some, List,
 use Rattle.std.specs.Prelude.{codes}
 use Rattle.std.specs.Str.{chars}
 use Rattle.std.specs.Char.{encode_utf8}
-use Rattle.squawk_parser.specs.declared.lexed_str.token.Base.TheVariants.{Binary, Octal, Decimal, Hexadecimal}
-use Rattle.squawk_parser.specs.declared.lexed_str.token.LiteralKind.TheVariants.{Int, Numeric, Str, NationalStr, ByteStr, BitStr, DollarQuotedString, EscStr}
-use Rattle.squawk_parser.specs.declared.lexed_str.token.Token.{Token}
-use Rattle.squawk_parser.specs.declared.lexed_str.token.TokenKind.{TokenKind}
-use Rattle.squawk_parser.specs.declared.lexed_str.token.TokenKind.TheVariants.{BlockComment, Whitespace, Ident, QuotedIdent, PositionalParam, Semi, Literal}
-use Rattle.squawk_parser.specs.LexicalErrors.{Fault, fault, lexical_errors}
+use Rattle.squawk_tokens.specs.declared.token.Base.TheVariants.{Binary, Octal, Decimal, Hexadecimal}
+use Rattle.squawk_tokens.specs.declared.token.LiteralKind.TheVariants.{Int, Numeric, Str, NationalStr, ByteStr, BitStr, DollarQuotedString, EscStr}
+use Rattle.squawk_tokens.specs.declared.token.Token.{Token}
+use Rattle.squawk_tokens.specs.declared.token.TokenKind.{TokenKind}
+use Rattle.squawk_tokens.specs.declared.token.TokenKind.TheVariants.{BlockComment, Whitespace, Ident, QuotedIdent, PositionalParam, Semi, Literal}
+use Rattle.squawk_tokens.specs.LexicalErrors.{Fault, fault, lexical_errors}
 
 abbrev token : TokenKind → ℕ → Token
 token kind len = record { kind = kind; len = len }

@@ -1,9 +1,9 @@
 //! The check of a list of raw tokens against its text.
 ghost use Rattle.std.specs.Prelude.{◌≡◌, ℕ, ◌+◌, ◌^◌, ◌<◌, ◌≤◌, ◌↔◌, length, IsTrue, IsOk};
-ghost use Rattle.squawk_parser.specs.AcceptedTokens.{IsGood, IsAccepted, Answers};
+ghost use Rattle.squawk_tokens.specs.AcceptedTokens.{IsGood, IsAccepted, Answers};
 
-use crate::lexed_str::rows::meets_kind;
-use crate::lexed_str::token::Token;
+use crate::rows::meets_kind;
+use crate::token::Token;
 use std::alloc::{AllocError, AllocFailed};
 
 /// The longest text in bytes: places in it have 32 bits.
@@ -24,7 +24,7 @@ pub enum TableError {
 }
 
 impl From<AllocError> for TableError {
-    ghost use Rattle.squawk_parser.specs.declared.lexed_str.check.TableError.TheVariants.{OutOfMemory};
+    ghost use Rattle.squawk_tokens.specs.declared.check.TableError.TheVariants.{OutOfMemory};
 
     ghost from_gives = { λ _ error. error ≡ OutOfMemory };
 
@@ -34,7 +34,7 @@ impl From<AllocError> for TableError {
 }
 
 impl<T: Drop> From<AllocFailed<T>> for TableError {
-    ghost use Rattle.squawk_parser.specs.declared.lexed_str.check.TableError.TheVariants.{OutOfMemory};
+    ghost use Rattle.squawk_tokens.specs.declared.check.TableError.TheVariants.{OutOfMemory};
 
     ghost from_gives = { λ _ error. error ≡ OutOfMemory };
 
@@ -57,7 +57,7 @@ fn is_good(text: &str, start: usize, token: Token) -> bool
     }
 }
 
-/// Whether the tokens are a list that [`LexedStr::new`] takes: the text has at most 4294967295
+/// Whether the tokens are a list that a table is made of: the text has at most 4294967295
 /// bytes, every token is longer than 0 bytes, ends at a character boundary inside the text and is
 /// what its kind says, and their lengths add up to the text.
 ///
@@ -65,8 +65,6 @@ fn is_good(text: &str, start: usize, token: Token) -> bool
 /// `$`, with digits up to its junk; places inside a number are in it and at character boundaries,
 /// behind the prefix of a binary or octal integer; a terminated string of the forms `''`, `X''`,
 /// `B''` and `E''` has both its quotes; no token is the end of the text.
-///
-/// [`LexedStr::new`]: crate::LexedStr::new
 pub fn check_tokens(text: &str, tokens: &[Token]) -> Result<(), TableError>
     ensures answer { Answers text.now tokens.now result }
     ensures ok { IsOk result ↔ IsAccepted text.now tokens.now }

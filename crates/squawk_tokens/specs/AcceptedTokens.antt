@@ -1,10 +1,10 @@
 -- When a list of raw tokens is accepted over a text.
 use Rattle.std.specs.Prelude.{◌≡◌, ℕ, ◌+◌, ◌<◌, ◌≤◌, List, length, take, sum_by, Result, Ok, Err, IsCharBoundary}
 use Rattle.std.specs.List.{HoldsAt}
-use Rattle.squawk_parser.specs.TokenRows.{MeetsKind}
-use Rattle.squawk_parser.specs.declared.lexed_str.token.Token.{Token}
-use Rattle.squawk_parser.specs.declared.lexed_str.check.TableError.{TableError}
-use Rattle.squawk_parser.specs.declared.lexed_str.check.TableError.TheVariants.{TextTooLong, BadToken, TextLeft, OutOfMemory}
+use Rattle.squawk_tokens.specs.TokenRows.{MeetsKind}
+use Rattle.squawk_tokens.specs.declared.token.Token.{Token}
+use Rattle.squawk_tokens.specs.declared.check.TableError.{TableError}
+use Rattle.squawk_tokens.specs.declared.check.TableError.TheVariants.{TextTooLong, BadToken, TextLeft, OutOfMemory}
 
 -- where token i starts: the sum of the lengths before it
 abbrev pub start_of : List Token → ℕ → ℕ

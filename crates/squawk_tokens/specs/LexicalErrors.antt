@@ -3,17 +3,17 @@ use Rattle.std.specs.Prelude.{ℕ, ◌+◌, ◌-◌, ◌*◌, nat_lt, ◌==◌, 
 use Rattle.std.specs.Str.{chars}
 use Rattle.std.specs.Char.{is_ascii_hexdigit, len_utf8}
 use Rattle.std.specs.Cmp.Lexicographic.{pointwise}
-use Rattle.squawk_parser.specs.declared.lexed_str.token.Base.{Base}
-use Rattle.squawk_parser.specs.declared.lexed_str.token.Base.TheVariants.{Binary, Octal, Decimal, Hexadecimal}
-use Rattle.squawk_parser.specs.declared.lexed_str.token.LiteralKind.{LiteralKind}
-use Rattle.squawk_parser.specs.declared.lexed_str.token.LiteralKind.TheVariants.{Int, Numeric, Str, NationalStr, ByteStr, BitStr, DollarQuotedString, UnicodeEscStr, EscStr}
-use Rattle.squawk_parser.specs.declared.lexed_str.token.Token.{Token}
-use Rattle.squawk_parser.specs.declared.lexed_str.token.TokenKind.{TokenKind}
-use Rattle.squawk_parser.specs.declared.lexed_str.token.TokenKind.TheVariants.{BlockComment, QuotedIdent, PositionalParam, Literal}
-use Rattle.squawk_parser.specs.Continuation.{Prefix, Bit, Byte, continued}
-use Rattle.squawk_parser.specs.Continuation as continuation
-use Rattle.squawk_parser.specs.EscapeUnits.{Unit, Other, wanted_digits, bytes_of, units}
-use Rattle.squawk_parser.specs.EscapeUnits as escape
+use Rattle.squawk_tokens.specs.declared.token.Base.{Base}
+use Rattle.squawk_tokens.specs.declared.token.Base.TheVariants.{Binary, Octal, Decimal, Hexadecimal}
+use Rattle.squawk_tokens.specs.declared.token.LiteralKind.{LiteralKind}
+use Rattle.squawk_tokens.specs.declared.token.LiteralKind.TheVariants.{Int, Numeric, Str, NationalStr, ByteStr, BitStr, DollarQuotedString, UnicodeEscStr, EscStr}
+use Rattle.squawk_tokens.specs.declared.token.Token.{Token}
+use Rattle.squawk_tokens.specs.declared.token.TokenKind.{TokenKind}
+use Rattle.squawk_tokens.specs.declared.token.TokenKind.TheVariants.{BlockComment, QuotedIdent, PositionalParam, Literal}
+use Rattle.squawk_tokens.specs.Continuation.{Prefix, Bit, Byte, continued}
+use Rattle.squawk_tokens.specs.Continuation as continuation
+use Rattle.squawk_tokens.specs.EscapeUnits.{Unit, Other, wanted_digits, bytes_of, units}
+use Rattle.squawk_tokens.specs.EscapeUnits as escape
 
 -- an error: the bytes of the text that it is about, what is wrong, and what is wanted
 pub record Fault : Type 0 where

@@ -1,0 +1,5 @@
+pub mod TokenRows
+pub mod AcceptedTokens
+pub mod EscapeUnits
+pub mod Continuation
+pub mod LexicalErrors
