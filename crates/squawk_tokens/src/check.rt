@@ -1,5 +1,5 @@
 //! The check of a list of raw tokens against its text.
-ghost use Rattle.std.specs.Prelude.{◌≡◌, ℕ, ◌+◌, ◌^◌, ◌<◌, ◌≤◌, ◌↔◌, length, IsTrue, IsOk};
+ghost use Rattle.std.specs.Prelude.{◌≡◌, ℕ, ◌+◌, ◌^◌, ◌<◌, ◌≤◌, ◌↔◌, length, IsTrue, IsOk, IsCharBoundary};
 ghost use Rattle.squawk_tokens.specs.AcceptedTokens.{IsGood, IsAccepted, Answers};
 
 use crate::rows::meets_kind;
@@ -45,13 +45,14 @@ impl<T: Drop> From<AllocFailed<T>> for TableError {
 
 /// Whether a token that starts at byte `start` is good.
 fn is_good(text: &str, start: usize, token: Token) -> bool
-    requires { start ≤ length text.now }
+    requires { IsCharBoundary text.now start }
     ensures { IsTrue result ↔ IsGood text.now start token }
 {
-    let len = token.len as usize;
-    match start.checked_add(len) {
+    match start.checked_add(token.len as usize) {
         Some(end) => {
-            len > 0 && text.is_char_boundary(end) && meets_kind(text, start, len, token.kind)
+            token.len > 0
+                && text.is_char_boundary(end)
+                && meets_kind(&text[start..end], token.kind)
         }
         None => false,
     }

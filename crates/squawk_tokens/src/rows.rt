@@ -2,53 +2,51 @@
 ghost use Rattle.std.specs.Prelude.{◌+◌, ◌<◌, ◌≤◌, ◌↔◌, false, length, All, IsTrue};
 ghost use Rattle.std.specs.Char.{IsAsciiDigit};
 ghost use Rattle.squawk_tokens.specs.declared.token.LiteralKind.TheVariants.{Int};
-ghost use Rattle.squawk_tokens.specs.TokenRows.{IsPlace, IsQuoted, IsParam, IsLiteral, MeetsKind};
+ghost use Rattle.squawk_tokens.specs.TokenRows.{IsQuoted, IsParam, IsLiteral, MeetsKind};
 
 use crate::token::{Base, LiteralKind, TokenKind};
 
-/// Whether a token of `len` bytes from `start` on is what its kind says.
-pub(crate) fn meets_kind(text: &str, start: usize, len: usize, kind: TokenKind) -> bool
-    requires fits { start + len ≤ length text.now }
-    requires nonempty { 0 < len }
-    ensures { IsTrue result ↔ MeetsKind text.now start len kind }
+/// Whether a token with this text is what its kind says.
+pub(crate) fn meets_kind(text: &str, kind: TokenKind) -> bool
+    requires { 0 < length text.now }
+    ensures { IsTrue result ↔ MeetsKind text.now kind }
 {
     match kind {
         TokenKind::PositionalParam {
             trailing_junk_start,
-        } => is_param(text, start, len, trailing_junk_start as usize),
-        TokenKind::Literal { kind } => is_literal(text, start, len, kind),
+        } => is_param(text, trailing_junk_start as usize),
+        TokenKind::Literal { kind } => is_literal(text, kind),
         TokenKind::Eof => false,
         _ => true,
     }
 }
 
 /// Whether a literal is what its kind says.
-fn is_literal(text: &str, start: usize, len: usize, kind: LiteralKind) -> bool
-    requires fits { start + len ≤ length text.now }
-    requires nonempty { 0 < len }
-    ensures { IsTrue result ↔ IsLiteral text.now start len kind }
+fn is_literal(text: &str, kind: LiteralKind) -> bool
+    requires { 0 < length text.now }
+    ensures { IsTrue result ↔ IsLiteral text.now kind }
 {
     match kind {
         LiteralKind::Int {
             empty_int,
             base,
             trailing_junk_start,
-        } => empty_int || is_int(text, start, len, base, trailing_junk_start as usize),
+        } => empty_int || is_int(text, base, trailing_junk_start as usize),
         LiteralKind::Numeric {
             empty_exponent_start: Some(e),
             ..
         } => {
             let e = e as usize;
-            is_place(text, start, len, e) && is_place(text, start, len, e + 1)
+            text.is_char_boundary(e) && text.is_char_boundary(e + 1)
         }
         LiteralKind::Numeric {
             empty_exponent_start: None,
             trailing_junk_start,
-        } => is_place(text, start, len, trailing_junk_start as usize),
-        LiteralKind::Str { terminated } => !terminated || is_quoted(text, start, len, 0),
+        } => text.is_char_boundary(trailing_junk_start as usize),
+        LiteralKind::Str { terminated } => !terminated || is_quoted(text, 0),
         LiteralKind::ByteStr { terminated }
         | LiteralKind::BitStr { terminated }
-        | LiteralKind::EscStr { terminated } => !terminated || is_quoted(text, start, len, 1),
+        | LiteralKind::EscStr { terminated } => !terminated || is_quoted(text, 1),
         LiteralKind::NationalStr { .. }
         | LiteralKind::DollarQuotedString { .. }
         | LiteralKind::UnicodeEscStr { .. } => true,
@@ -56,43 +54,33 @@ fn is_literal(text: &str, start: usize, len: usize, kind: LiteralKind) -> bool
 }
 
 /// Whether the digits of an integer stand where it says.
-fn is_int(text: &str, start: usize, len: usize, base: Base, junk: usize) -> bool
-    requires { start + len ≤ length text.now }
-    ensures { IsTrue result ↔ IsLiteral text.now start len (Int false base junk) }
+fn is_int(text: &str, base: Base, junk: usize) -> bool
+    ensures { IsTrue result ↔ IsLiteral text.now (Int false base junk) }
 {
-    is_place(text, start, len, junk)
+    text.is_char_boundary(junk)
         && match base {
-            Base::Binary | Base::Octal => junk >= 2 && is_place(text, start, len, 2),
+            Base::Binary | Base::Octal => junk >= 2 && text.is_char_boundary(2),
             Base::Decimal | Base::Hexadecimal => true,
         }
 }
 
-/// Whether place `at` is in the token or at its end, at a character boundary.
-fn is_place(text: &str, start: usize, len: usize, at: usize) -> bool
-    requires { start + len ≤ length text.now }
-    ensures { IsTrue result ↔ IsPlace text.now start len at }
-{
-    at <= len && text.is_char_boundary(start + at)
-}
-
 /// Whether a quote stands behind a prefix of so many bytes, and another one at the end.
-fn is_quoted(text: &str, start: usize, len: usize, prefix: usize) -> bool
-    requires fits { start + len ≤ length text.now }
-    requires small { prefix < 2 }
-    ensures { IsTrue result ↔ IsQuoted text.now start len prefix }
+fn is_quoted(text: &str, prefix: usize) -> bool
+    requires { prefix < 2 }
+    ensures { IsTrue result ↔ IsQuoted text.now prefix }
 {
     let bytes = text.as_bytes();
-    len >= prefix + 2 && bytes[start + prefix] == b'\'' && bytes[start + len - 1] == b'\''
+    let len = bytes.len();
+    len >= prefix + 2 && bytes[prefix] == b'\'' && bytes[len - 1] == b'\''
 }
 
 /// Whether a dollar sign stands first, and digits up to the junk.
-fn is_param(text: &str, start: usize, len: usize, junk: usize) -> bool
-    requires fits { start + len ≤ length text.now }
-    requires nonempty { 0 < len }
-    ensures { IsTrue result ↔ IsParam text.now start len junk }
+fn is_param(text: &str, junk: usize) -> bool
+    requires { 0 < length text.now }
+    ensures { IsTrue result ↔ IsParam text.now junk }
 {
     let bytes = text.as_bytes();
-    bytes[start] == b'$' && junk >= 1 && junk <= len && are_digits(&bytes[start + 1..start + junk])
+    bytes[0] == b'$' && junk >= 1 && junk <= bytes.len() && are_digits(&bytes[1..junk])
 }
 
 fn are_digits(bytes: &[u8]) -> bool
