@@ -1,15 +1,11 @@
 -- Which prefixed string a plain string continues.
 use Rattle.std.specs.Prelude.{true, Option, Some, None, List, [], ◌∷◌}
+use Rattle.squawk_tokens.specs.declared.prefix.Prefix.{Prefix}
+use Rattle.squawk_tokens.specs.declared.prefix.Prefix.TheVariants.{Bit, Byte, Escape}
 use Rattle.squawk_tokens.specs.declared.token.Token.{Token}
 use Rattle.squawk_tokens.specs.declared.token.TokenKind.{TokenKind}
 use Rattle.squawk_tokens.specs.declared.token.TokenKind.TheVariants.{LineComment, BlockComment, Whitespace, Literal}
 use Rattle.squawk_tokens.specs.declared.token.LiteralKind.TheVariants.{Str, ByteStr, BitStr, EscStr}
-
--- a prefix whose strings have contents with rules: `B`, `X` and `E`
-pub data Prefix : Type 0 where
-  Bit : Prefix
-  Byte : Prefix
-  Escape : Prefix
 
 -- what a string behind this token continues, where one behind the tokens before it would continue `earlier`
 abbrev pub continued_behind : TokenKind → Option Prefix → Option Prefix

@@ -10,8 +10,10 @@ use Rattle.squawk_tokens.specs.declared.token.LiteralKind.TheVariants.{Int, Nume
 use Rattle.squawk_tokens.specs.declared.token.Token.{Token}
 use Rattle.squawk_tokens.specs.declared.token.TokenKind.{TokenKind}
 use Rattle.squawk_tokens.specs.declared.token.TokenKind.TheVariants.{BlockComment, QuotedIdent, PositionalParam, Literal}
-use Rattle.squawk_tokens.specs.Continuation.{Prefix, Bit, Byte, continued}
-use Rattle.squawk_tokens.specs.Continuation as continuation
+use Rattle.squawk_tokens.specs.declared.prefix.Prefix.{Prefix}
+use Rattle.squawk_tokens.specs.declared.prefix.Prefix.TheVariants.{Bit, Byte}
+use Rattle.squawk_tokens.specs.declared.prefix.Prefix.TheVariants as prefixed
+use Rattle.squawk_tokens.specs.Continuation.{continued}
 use Rattle.squawk_tokens.specs.EscapeUnits.{Unit, Other, wanted_digits, bytes_of, units}
 use Rattle.squawk_tokens.specs.EscapeUnits as escape
 
@@ -30,7 +32,7 @@ fault start end message = record { start = start; end = end; message = message; 
 abbrev pub shifted : ℕ → Fault → Fault
 shifted at f = record f { start = at + f.start; end = at + f.end }
 
-abbrev only_if : Bool → Fault → List Fault
+abbrev pub only_if : Bool → Fault → List Fault
 only_if b f = if b then f ∷ [] else []
 
 -- ---- numbers
@@ -42,25 +44,25 @@ bad_chars good message at (c ∷ cs) =
     only_if (not (good c)) (fault at (at + len_utf8 c) (message c)) ++ bad_chars good message (at + len_utf8 c) cs
 
 -- a digit below this number, or an underscore
-abbrev is_digit_below : ℕ → ℕ → Bool
+abbrev pub is_digit_below : ℕ → ℕ → Bool
 is_digit_below base c = (c == 95) || ((not (nat_lt c 48)) && nat_lt c (48 + base))
 
 -- the digits of a base that is looked at, behind the prefix and up to the junk
-abbrev bad_digits : List ℕ → ℕ → Base → List Fault
+abbrev pub bad_digits : List ℕ → ℕ → Base → List Fault
 bad_digits text junk Binary = bad_chars (is_digit_below 2) (λ _. codes "invalid digit for a base 2 literal") 2 (chars (slice_range text 2 junk))
 bad_digits text junk Octal = bad_chars (is_digit_below 8) (λ _. codes "invalid digit for a base 8 literal") 2 (chars (slice_range text 2 junk))
 bad_digits text junk Decimal = []
 bad_digits text junk Hexadecimal = []
 
 -- what stands behind a number
-abbrev junk_behind : List ℕ → ℕ → List Fault
+abbrev pub junk_behind : List ℕ → ℕ → List Fault
 junk_behind text junk = only_if (nat_lt junk (length text)) (fault junk (length text) (codes "trailing junk after numeric literal"))
 
 -- the number that decimal digits spell
-abbrev value_of : List ℕ → ℕ
+abbrev pub value_of : List ℕ → ℕ
 value_of digits = fold (λ value d. 10 * value + (d - 48)) 0 digits
 
-abbrev param_faults : List ℕ → ℕ → List Fault
+abbrev pub param_faults : List ℕ → ℕ → List Fault
 param_faults text junk =
     if junk == 1 then fault 0 1 (codes "missing parameter number") ∷ [] else
     if nat_lt 2147483647 (value_of (slice_range text 1 junk)) then fault 0 junk (codes "parameter number too large") ∷ [] else
@@ -68,14 +70,14 @@ param_faults text junk =
 
 -- ---- the contents of strings
 
-abbrev is_bit : ℕ → Bool
+abbrev pub is_bit : ℕ → Bool
 is_bit c = (c == 48) || (c == 49)
 
-abbrev quoted : ℕ → List ℕ → List ℕ
+abbrev pub quoted : ℕ → List ℕ → List ℕ
 quoted c rest = codes "\"" ++ (encode_utf8 c ++ (codes "\"" ++ rest))
 
 -- what is wanted of an escape with this letter
-abbrev hint_of : ℕ → List ℕ
+abbrev pub hint_of : ℕ → List ℕ
 hint_of letter = if letter == 117 then codes "expected 4 hex digits, like `\\uXXXX`" else codes "expected 8 hex digits, like `\\UXXXXXXXX`"
 
 -- each escape with fewer digits than it wants, from byte `at` on
@@ -94,7 +96,7 @@ content_faults Bit text from =
     bad_chars is_bit (λ c. quoted c (codes " is not a valid binary digit")) from (chars (slice_range text from (length text - 1)))
 content_faults Byte text from =
     bad_chars is_ascii_hexdigit (λ c. quoted c (codes " is not a valid hexadecimal digit")) from (chars (slice_range text from (length text - 1)))
-content_faults continuation.Escape text from = short_escapes from (units (chars (slice_range text from (length text - 1))))
+content_faults prefixed.Escape text from = short_escapes from (units (chars (slice_range text from (length text - 1))))
 
 -- the content of a plain string that continues a prefix
 abbrev continued_faults : Option Prefix → List ℕ → List Fault
@@ -102,7 +104,7 @@ continued_faults None text = []
 continued_faults (Some prefix) text = content_faults prefix text 1
 
 -- a string that runs to the end of the text
-abbrev open_string : List ℕ → List ℕ → List Fault
+abbrev pub open_string : List ℕ → List ℕ → List Fault
 open_string text what = fault 0 (length text) (codes "missing trailing `'` symbol to terminate the " ++ what) ∷ []
 
 -- ---- tokens
@@ -124,10 +126,10 @@ literal_faults (DollarQuotedString true) text prefix = []
 literal_faults (DollarQuotedString false) text prefix = fault 0 (length text) (codes "unterminated dollar quoted string literal") ∷ []
 literal_faults (UnicodeEscStr true) text prefix = []
 literal_faults (UnicodeEscStr false) text prefix = open_string text (codes "unicode escape string literal")
-literal_faults (EscStr true) text prefix = content_faults continuation.Escape text 2
+literal_faults (EscStr true) text prefix = content_faults prefixed.Escape text 2
 literal_faults (EscStr false) text prefix = open_string text (codes "escape string literal")
 
-abbrev is_one_of : List ℕ → List ℕ → List ℕ → Bool
+abbrev pub is_one_of : List ℕ → List ℕ → List ℕ → Bool
 is_one_of text one other = pointwise nat_eq text one || pointwise nat_eq text other
 
 -- the errors of a token with this text that continues this prefix, counted from its start

@@ -3,3 +3,5 @@ pub mod AcceptedTokens
 pub mod EscapeUnits
 pub mod Continuation
 pub mod LexicalErrors
+pub mod ErrorRanges
+pub mod Found

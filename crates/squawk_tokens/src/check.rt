@@ -50,9 +50,7 @@ fn is_good(text: &str, start: usize, token: Token) -> bool
 {
     match start.checked_add(token.len as usize) {
         Some(end) => {
-            token.len > 0
-                && text.is_char_boundary(end)
-                && meets_kind(&text[start..end], token.kind)
+            token.len > 0 && text.is_char_boundary(end) && meets_kind(&text[start..end], token.kind)
         }
         None => false,
     }

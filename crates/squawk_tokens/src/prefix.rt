@@ -1,0 +1,38 @@
+//! Which prefixed string a plain string continues.
+ghost use Rattle.std.specs.Prelude.{◌≡◌};
+ghost use Rattle.squawk_tokens.specs.Continuation.{continued_behind};
+
+use crate::token::{LiteralKind, TokenKind};
+
+/// A prefix whose strings have contents with rules.
+#[derive(Clone, Copy, Debug, PartialEq, Eq)]
+pub(crate) enum Prefix {
+    /// `B'10'`
+    Bit,
+    /// `X'1F'`
+    Byte,
+    /// `E'text'`
+    Escape,
+}
+
+impl Prefix {
+    /// What a plain string behind a token continues, where one in the token's place would continue
+    /// `earlier`.
+    pub(crate) fn continued_behind(kind: TokenKind, earlier: Option<Prefix>) -> Option<Prefix>
+        ensures { result ≡ continued_behind kind earlier }
+    {
+        match kind {
+            TokenKind::Whitespace | TokenKind::LineComment | TokenKind::BlockComment { .. } => {
+                earlier
+            }
+            TokenKind::Literal { kind } => match kind {
+                LiteralKind::Str { terminated: true } => earlier,
+                LiteralKind::BitStr { terminated: true } => Some(Prefix::Bit),
+                LiteralKind::ByteStr { terminated: true } => Some(Prefix::Byte),
+                LiteralKind::EscStr { terminated: true } => Some(Prefix::Escape),
+                _ => None,
+            },
+            _ => None,
+        }
+    }
+}
