@@ -1,1 +1,3 @@
 pub mod LexicalExamples
+pub mod FoundErrors
+pub mod SourceText

@@ -5,3 +5,4 @@ pub mod Continuation
 pub mod LexicalErrors
 pub mod ErrorRanges
 pub mod Found
+pub mod Alphabets

@@ -5,6 +5,7 @@
 #![tactic(auto)]
 
 pub mod check;
+pub mod converter;
 pub mod lex_error;
 mod prefix;
 mod rows;

@@ -1,0 +1,4 @@
+//! The lexical errors of raw tokens.
+
+mod alphabet;
+mod found;
