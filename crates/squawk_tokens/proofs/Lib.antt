@@ -1,3 +1,4 @@
 pub mod LexicalExamples
 pub mod FoundErrors
 pub mod SourceText
+pub mod FirstUnit

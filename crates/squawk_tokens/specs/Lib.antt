@@ -6,3 +6,4 @@ pub mod LexicalErrors
 pub mod ErrorRanges
 pub mod Found
 pub mod Alphabets
+pub mod UnitCuts

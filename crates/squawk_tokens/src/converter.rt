@@ -1,4 +1,5 @@
 //! The lexical errors of raw tokens.
 
 mod alphabet;
+mod escapes;
 mod found;
