@@ -1,4 +1,8 @@
-pub mod LexicalExamples
-pub mod FoundErrors
 pub mod SourceText
+pub mod FoundErrors
 pub mod FirstUnit
+pub mod Contents
+pub mod Ranges
+pub mod TokenFaults
+pub mod StandApart
+pub mod LexicalExamples
