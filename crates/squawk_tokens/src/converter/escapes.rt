@@ -1,5 +1,5 @@
 //! Escapes of Unicode characters that have too few digits.
-ghost use Rattle.std.specs.Prelude.{◌≡◌, ◌+◌, ◌^◌, ◌<◌, [], drop, take, length, MatchOption, OnOk};
+ghost use Rattle.std.specs.Prelude.{◌≡◌, ◌+◌, ◌^◌, ◌<◌, [], drop, take, length, IfSome, IsUtf8, MatchOption, OnOk};
 ghost use Rattle.std.specs.Str.{chars};
 ghost use Rattle.squawk_tokens.specs.EscapeUnits.{hex_front, units};
 ghost use Rattle.squawk_tokens.specs.Found.{with_faults};
@@ -49,6 +49,7 @@ pub(super) fn short_escapes(
 fn first_unit(content: &str) -> Option<UnitCut<'_>>
     ensures cut { MatchOption result (chars content.now ≡ []) (λ cut. IsCutFrom (chars content.now) cut) }
     ensures bytes { MatchOption result (length content.now ≡ 0) (λ cut. cut.len + length cut.rest.now ≡ length content.now) }
+    ensures utf8 { IfSome result (λ cut. IsUtf8 cut.rest.now) }
 {
     let mut chars = content.chars();
     let first = chars.next()?;
@@ -83,7 +84,8 @@ fn other_unit(len: usize, rest: &str) -> UnitCut<'_>
 /// An escape that wants so many digits behind its letter.
 fn escape<'a>(behind: &'a str, wanted: usize, hint: &'static str) -> UnitCut<'a>
     requires { wanted < 9 }
-    ensures { let digits = length (hex_front (take wanted (chars behind.now))) in IsUnitCut digits wanted hint.now behind.now result }
+    ensures cut { let digits = length (hex_front (take wanted (chars behind.now))) in IsUnitCut digits wanted hint.now behind.now result }
+    ensures utf8 { IsUtf8 result.rest.now }
 {
     let (digits, rest) = hex_digits(behind, wanted);
     UnitCut {
@@ -98,6 +100,7 @@ fn hex_digits(text: &str, most: usize) -> (usize, &str)
     ensures count { result.0 ≡ length (hex_front (take most (chars text.now))) }
     ensures rest { chars result.1.now ≡ drop result.0 (chars text.now) }
     ensures bytes { result.0 + length result.1.now ≡ length text.now }
+    ensures utf8 { IsUtf8 result.1.now }
 {
     let mut rest = text;
     for count in 0..most {
