@@ -2,6 +2,7 @@ pub mod SourceText
 pub mod FoundErrors
 pub mod FirstUnit
 pub mod ContentUnits
+pub mod ParamNumbers
 pub mod Contents
 pub mod Ranges
 pub mod TokenFaults

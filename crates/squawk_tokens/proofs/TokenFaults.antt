@@ -14,7 +14,7 @@ use Rattle.squawk_tokens.specs.declared.token.TokenKind.TheVariants.{BlockCommen
 use Rattle.squawk_tokens.specs.declared.prefix.Prefix.{Prefix}
 use Rattle.squawk_tokens.specs.declared.prefix.Prefix.TheVariants.{Bit, Byte, Escape}
 use Rattle.squawk_tokens.specs.TokenRows.{MeetsKind, IsLiteral, IsParam, IsQuoted, HasPrefix}
-use Rattle.squawk_tokens.specs.LexicalErrors.{fault, only_if, token_faults, literal_faults, content_faults, param_faults, bad_digits, bad_chars, is_digit_below, value_of, is_one_of}
+use Rattle.squawk_tokens.specs.LexicalErrors.{fault, only_if, token_faults, literal_faults, content_faults, param_faults, bad_digits, bad_chars, is_digit_below, value_of, is_empty_ident}
 use Rattle.squawk_tokens.proofs.Ranges.{Within, Within-only_if, Within-append, Within-from}
 use Rattle.squawk_tokens.proofs.Contents.{size, size-chars, Within-bad_chars, Within-escapes}
 
@@ -116,8 +116,7 @@ module _ (text : List ℕ) (utf8 : IsUtf8 text) (some : 0 < length text) where
   pub Within-token_faults : (kind : TokenKind) (p : Option Prefix) → MeetsKind text kind → Within 0 (length text) (token_faults kind text p)
   Within-token_faults (BlockComment false) p is = whole_error
   Within-token_faults (QuotedIdent false uescape) p is = whole_error
-  Within-token_faults (QuotedIdent true false) p is = whole_if (pointwise nat_eq text (codes "\"\"")) _
-  Within-token_faults (QuotedIdent true true) p is = whole_if (is_one_of text (codes "u&\"\"") (codes "U&\"\"")) _
+  Within-token_faults (QuotedIdent true uescape) p is = whole_if (is_empty_ident text uescape) _
   Within-token_faults (PositionalParam junk) p is = Within-param text junk is
   Within-token_faults (Literal kind) p is = Within-literal kind p is
   Within-token_faults kind p is = omega arith

@@ -103,9 +103,25 @@ abbrev continued_faults : Option Prefix → List ℕ → List Fault
 continued_faults None text = []
 continued_faults (Some prefix) text = content_faults prefix text 1
 
--- a string that runs to the end of the text
-abbrev pub open_string : List ℕ → List ℕ → List Fault
-open_string text what = fault 0 (length text) (codes "missing trailing `'` symbol to terminate the " ++ what) ∷ []
+-- the message of a string that lacks its last quote
+abbrev pub unclosed : List ℕ → Option (List ℕ)
+unclosed what = Some (codes "missing trailing `'` symbol to terminate the " ++ what)
+
+-- what is wrong with a string that isn't terminated
+abbrev pub unterminated : LiteralKind → Option (List ℕ)
+unterminated (Str false) = unclosed (codes "string literal")
+unterminated (NationalStr false) = unclosed (codes "national character string literal")
+unterminated (ByteStr false) = unclosed (codes "hex bit string literal")
+unterminated (BitStr false) = unclosed (codes "bit string literal")
+unterminated (UnicodeEscStr false) = unclosed (codes "unicode escape string literal")
+unterminated (EscStr false) = unclosed (codes "escape string literal")
+unterminated (DollarQuotedString false) = Some (codes "unterminated dollar quoted string literal")
+unterminated kind = None
+
+-- an error about the whole token, where there is a message
+abbrev pub whole_token : List ℕ → Option (List ℕ) → List Fault
+whole_token text None = []
+whole_token text (Some message) = fault 0 (length text) message ∷ []
 
 -- ---- tokens
 
@@ -115,31 +131,22 @@ literal_faults (Int false base junk) text prefix = bad_digits text junk base ++ 
 literal_faults (Numeric (Some e) junk) text prefix = fault e (e + 1) (codes "missing digits after the exponent symbol") ∷ []
 literal_faults (Numeric None junk) text prefix = junk_behind text junk
 literal_faults (Str true) text prefix = continued_faults prefix text
-literal_faults (Str false) text prefix = open_string text (codes "string literal")
-literal_faults (NationalStr true) text prefix = []
-literal_faults (NationalStr false) text prefix = open_string text (codes "national character string literal")
 literal_faults (ByteStr true) text prefix = content_faults Byte text 2
-literal_faults (ByteStr false) text prefix = open_string text (codes "hex bit string literal")
 literal_faults (BitStr true) text prefix = content_faults Bit text 2
-literal_faults (BitStr false) text prefix = open_string text (codes "bit string literal")
-literal_faults (DollarQuotedString true) text prefix = []
-literal_faults (DollarQuotedString false) text prefix = fault 0 (length text) (codes "unterminated dollar quoted string literal") ∷ []
-literal_faults (UnicodeEscStr true) text prefix = []
-literal_faults (UnicodeEscStr false) text prefix = open_string text (codes "unicode escape string literal")
 literal_faults (EscStr true) text prefix = content_faults prefixed.Escape text 2
-literal_faults (EscStr false) text prefix = open_string text (codes "escape string literal")
+literal_faults kind text prefix = whole_token text (unterminated kind)
 
-abbrev pub is_one_of : List ℕ → List ℕ → List ℕ → Bool
-is_one_of text one other = pointwise nat_eq text one || pointwise nat_eq text other
+-- a quoted identifier's text has nothing between its quotes
+abbrev pub is_empty_ident : List ℕ → Bool → Bool
+is_empty_ident text true = pointwise nat_eq text (codes "u&\"\"") || pointwise nat_eq text (codes "U&\"\"")
+is_empty_ident text false = pointwise nat_eq text (codes "\"\"")
 
 -- the errors of a token with this text that continues this prefix, counted from its start
 abbrev pub token_faults : TokenKind → List ℕ → Option Prefix → List Fault
 token_faults (BlockComment false) text prefix = fault 0 (length text) (codes "missing trailing `*/` symbols to terminate the block comment") ∷ []
 token_faults (QuotedIdent false uescape) text prefix = fault 0 (length text) (codes "missing trailing \" to terminate the quoted identifier") ∷ []
-token_faults (QuotedIdent true false) text prefix =
-    only_if (pointwise nat_eq text (codes "\"\"")) (fault 0 (length text) (codes "empty delimited identifier"))
-token_faults (QuotedIdent true true) text prefix =
-    only_if (is_one_of text (codes "u&\"\"") (codes "U&\"\"")) (fault 0 (length text) (codes "empty delimited identifier"))
+token_faults (QuotedIdent true uescape) text prefix =
+    only_if (is_empty_ident text uescape) (fault 0 (length text) (codes "empty delimited identifier"))
 token_faults (PositionalParam junk) text prefix = param_faults text junk
 token_faults (Literal kind) text prefix = literal_faults kind text prefix
 token_faults kind text prefix = []

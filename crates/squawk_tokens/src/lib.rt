@@ -12,5 +12,6 @@ mod rows;
 pub mod token;
 
 pub use check::{TableError, check_tokens};
+pub use converter::lexical_errors;
 pub use lex_error::LexError;
 pub use token::{Base, LiteralKind, Token, TokenKind};
