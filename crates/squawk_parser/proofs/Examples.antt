@@ -45,7 +45,7 @@ three_words = table_of no_keywords (codes "a b c") (word 1 ∷ space 1 ∷ word 
 start_of_two : start_of (word 1 ∷ space 1 ∷ word 1 ∷ []) 2 ≡ 2
 start_of_two = refl
 
-table_of_two : two_words ≡ record { text = codes "a b"; kinds = 3 ∷ 639 ∷ 3 ∷ []; starts = 0 ∷ 1 ∷ 2 ∷ 3 ∷ [] }
+table_of_two : two_words ≡ record { text = codes "a b"; kinds = 3 ∷ 639 ∷ 3 ∷ []; starts = 0 ∷ 1 ∷ 2 ∷ 3 ∷ []; errors = [] }
 table_of_two = refl
 
 table_of_keyword : (table_of select_only (codes "select x") (word 6 ∷ space 1 ∷ word 1 ∷ [])).kinds ≡ 200 ∷ 639 ∷ 3 ∷ []

@@ -1,5 +1,5 @@
 -- The table of an accepted list.
-use Rattle.std.proofs.Common.{◌≡◌, ℕ, zero, suc, ◌+◌, ◌<◌, ◌≤◌, List, [], ◌∷◌, ◌++◌, length, take, drop, slice_index, arith, add-one, add-zero, zero-add, ap, sym, refl, ◌∙◌, ◌⊎◌, inl, inr}
+use Rattle.std.proofs.Common.{◌≡◌, ℕ, zero, suc, ◌+◌, ◌<◌, ◌≤◌, List, [], ◌∷◌, ◌++◌, length, take, drop, slice_index, get_or, arith, add-one, add-zero, zero-add, ap, sym, refl, ◌∙◌, ◌⊎◌, inl, inr}
 use Rattle.std.specs.Prelude.{IsUtf8, IsCharBoundary}
 use Rattle.std.proofs.lemmas.Str.{IsCharBoundary-start}
 use Rattle.std.proofs.lemmas.List.Sums.{sum_by_more}
@@ -7,6 +7,8 @@ use Rattle.std.proofs.lemmas.List.{drop_all, append-nil}
 use Rattle.squawk_tokens.specs.declared.token.Token.{Token}
 use Rattle.squawk_tokens.specs.declared.token.TokenKind.TheVariants.{Ident}
 use Rattle.squawk_tokens.specs.AcceptedTokens.{start_of, IsAccepted}
+use Rattle.squawk_tokens.specs.ErrorRanges.{LiesIn, StandApart}
+use Rattle.squawk_tokens.specs.LexicalErrors.{Fault, lexical_errors}
 use Rattle.squawk_parser.proofs.Sums.{sum_by-cons}
 use Rattle.squawk_parser.specs.RawTable.{IsTable, Table, table_of, kinds_from, starts_from}
 use Rattle.squawk_parser.specs.TokenKinds.{Keywords}
@@ -52,8 +54,23 @@ module _ (keyword : Keywords) (text : List ℕ) (tokens : List Token) (ok : IsAc
   at : (i : ℕ) → i ≤ length tokens → slice_index (starts_from 0 tokens) i ≡ start_of tokens i
   at i le = starts_from_at 0 tokens i le ∙ zero-add (start_of tokens i)
 
-  pub IsTable-table_of : IsUtf8 text → IsTable (table_of keyword text tokens)
-  IsTable-table_of utf8 =
+  -- an error that lies in a token lies in the table's
+  in_table : (fault : Fault) → ((i : ℕ) × LiesIn (start_of tokens) (length tokens) fault i)
+      → (i : ℕ) × LiesIn (slice_index (starts_from 0 tokens)) (length (kinds_from keyword text 0 tokens)) fault i
+  in_table fault (i, lies) =
+      let kinds = length-kinds_from keyword text 0 tokens in
+      let within = lies.within in (
+        i,
+        record {
+          within = omega arith;
+          begins = rw (at i (omega arith)) lies.begins;
+          nonempty = lies.nonempty;
+          ends = rw (at (i + 1) (omega arith)) lies.ends;
+        },
+      )
+
+  pub IsTable-table_of : IsUtf8 text → StandApart (start_of tokens) (length tokens) (lexical_errors text tokens) → IsTable (table_of keyword text tokens)
+  IsTable-table_of utf8 apart =
       let kinds = length-kinds_from keyword text 0 tokens in
       let starts = length-starts_from 0 tokens in
       record {
@@ -63,16 +80,18 @@ module _ (keyword : Keywords) (text : List ℕ) (tokens : List Token) (ok : IsAc
         ends = rw kinds (at (length tokens) (omega arith) ∙ ok.whole);
         boundaries = λ i lt. rw (at i (omega arith)) (boundary utf8 i (omega arith));
         ascends = λ i j l lt. rw (at i (omega arith), at j (omega arith)) (ascends i j l (omega arith));
+        errors = record { each = λ k d lt. in_table (get_or (lexical_errors text tokens) k d) (apart.each k d lt); ascend = apart.ascend };
       }
 
 -- what was made token by token is the table
-pub is_table_of : (keyword : Keywords) (text : List ℕ) (tokens : List Token) (kinds before starts : List ℕ) (at n : ℕ) → length tokens ≤ n
+pub is_table_of : (keyword : Keywords) (text : List ℕ) (tokens : List Token) (kinds before starts : List ℕ) (errors : List Fault) (at n : ℕ) → length tokens ≤ n
     → kinds ++ kinds_from keyword text at (drop n tokens) ≡ kinds_from keyword text 0 tokens
-    → before ++ starts_from at (drop n tokens) ≡ starts_from 0 tokens → starts ≡ before ++ at ∷ []
-    → table_of keyword text tokens ≡ record { text = text; kinds = kinds; starts = starts }
-is_table_of keyword text tokens kinds before starts at n past k s made =
+    → before ++ starts_from at (drop n tokens) ≡ starts_from 0 tokens → starts ≡ before ++ at ∷ [] → errors ≡ lexical_errors text tokens
+    → table_of keyword text tokens ≡ record { text = text; kinds = kinds; starts = starts; errors = errors }
+is_table_of keyword text tokens kinds before starts errors at n past k s made found =
     let none_left : drop n tokens ≡ [] = drop_all n tokens past in
     let same_kinds : kinds_from keyword text 0 tokens ≡ kinds = sym k ∙ (ap (λ ts. kinds ++ kinds_from keyword text at ts) none_left ∙ append-nil kinds) in
     let same_starts : starts_from 0 tokens ≡ starts = sym s ∙ (ap (λ ts. before ++ starts_from at ts) none_left ∙ sym made) in
-    ap (λ k. let t : Table = record { text = text; kinds = k; starts = starts_from 0 tokens } in t) same_kinds
-    ∙ ap (λ s. let t : Table = record { text = text; kinds = kinds; starts = s } in t) same_starts
+    ap (λ k. let t : Table = record { text = text; kinds = k; starts = starts_from 0 tokens; errors = lexical_errors text tokens } in t) same_kinds
+    ∙ (ap (λ s. let t : Table = record { text = text; kinds = kinds; starts = s; errors = lexical_errors text tokens } in t) same_starts
+    ∙ ap (λ e. let t : Table = record { text = text; kinds = kinds; starts = starts; errors = e } in t) (sym found))

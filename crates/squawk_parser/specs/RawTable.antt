@@ -2,13 +2,17 @@
 use Rattle.std.specs.Prelude.{◌≡◌, ℕ, zero, suc, ◌+◌, ◌-◌, ◌<◌, List, [], ◌∷◌, length, slice_index, slice_range, IsCharBoundary, IsUtf8}
 use Rattle.std.specs.List.{flat_map}
 use Rattle.squawk_tokens.specs.declared.token.Token.{Token}
+use Rattle.squawk_tokens.specs.ErrorRanges.{StandApart}
+use Rattle.squawk_tokens.specs.LexicalErrors.{Fault, lexical_errors}
 use Rattle.squawk_parser.specs.TokenKinds.{Keywords, kind_of}
 
--- a source, the syntax kinds of its raw tokens, and where they start; the last start is the end of the source
+-- A source, the syntax kinds of its raw tokens, where they start, and their lexical errors. The last start is the end of the
+-- source.
 pub record Table : Type 0 where
   pub text : List ℕ
   pub kinds : List ℕ
   pub starts : List ℕ
+  pub errors : List Fault
 
 -- the kinds of tokens that stand one after another from `at` on
 abbrev pub kinds_from : Keywords → List ℕ → ℕ → List Token → List ℕ
@@ -22,13 +26,19 @@ starts_from at (t ∷ ts) = at ∷ starts_from (at + t.len) ts
 
 -- the table of a list of tokens over a text
 abbrev pub table_of : Keywords → List ℕ → List Token → Table
-table_of keyword text tokens = record { text = text; kinds = kinds_from keyword text 0 tokens; starts = starts_from 0 tokens }
+table_of keyword text tokens = record {
+  text = text;
+  kinds = kinds_from keyword text 0 tokens;
+  starts = starts_from 0 tokens;
+  errors = lexical_errors text tokens;
+}
 
 -- the part of the source under raw token i
 abbrev pub piece : Table → ℕ → List ℕ
 piece t i = slice_range t.text (slice_index t.starts i) (slice_index t.starts (i + 1))
 
--- what every table keeps: the source is text, and the starts ascend over character boundaries, from 0 to its end
+-- What every table keeps: the source is text, the starts ascend over character boundaries, from 0 to its end, and the errors
+-- ascend without overlapping, each in one raw token.
 pub record IsTable (t : Table) : Type 0 where
   pub utf8 : IsUtf8 t.text
   pub entries : length t.starts ≡ length t.kinds + 1
@@ -36,6 +46,7 @@ pub record IsTable (t : Table) : Type 0 where
   pub ends : slice_index t.starts (length t.kinds) ≡ length t.text
   pub boundaries : (i : ℕ) → i < length t.starts → IsCharBoundary t.text (slice_index t.starts i)
   pub ascends : (i j : ℕ) → i < j → j < length t.starts → slice_index t.starts i < slice_index t.starts j
+  pub errors : StandApart (slice_index t.starts) (length t.kinds) t.errors
 
 -- a raw token: its syntax kind and its part of the source
 pub record RawToken : Type 0 where

@@ -1,19 +1,23 @@
 //! The table of a text's raw tokens.
 ghost use Rattle.std.specs.Prelude.{◌≡◌, ◌+◌, ◌<◌, ◌≤◌, length, slice_index, slice_range, MatchResult};
 ghost use Rattle.squawk_tokens.specs.AcceptedTokens.{Refuses};
+ghost use Rattle.squawk_tokens.specs.ErrorRanges.{StandApart};
 ghost use Rattle.squawk_parser.specs.RawTable.{Table, IsTable, table_of, piece};
 
 mod kind;
+pub mod lex_errors;
 
 use crate::lexed_str::kind::syntax_kind;
 use crate::syntax_kind::SyntaxKind;
 use crate::vocabulary::Vocabulary;
-pub use squawk_tokens::{Base, LiteralKind, TableError, Token, TokenKind, check_tokens};
+pub use lex_errors::LexErrors;
+use squawk_tokens::lexical_errors;
+pub use squawk_tokens::{Base, LexError, LiteralKind, TableError, Token, TokenKind, check_tokens};
 use std::alloc::Global;
 use std::marker::Model;
 use std::ops::Range;
 
-/// A text and its raw tokens: their syntax kinds, and where they start.
+/// A text and its raw tokens: their syntax kinds, where they start, and their lexical errors.
 ///
 /// Places of raw tokens count from 0, places in the text are bytes. The text is borrowed: what
 /// the readers hand out are parts of it, which live as long as it does.
@@ -22,6 +26,7 @@ pub struct LexedStr<'a> {
     text: &'a str,
     kinds: Vec<SyntaxKind>,
     starts: Vec<u32>,
+    errors: Vec<LexError>,
 }
 
 impl<'a> Model for LexedStr<'a> {
@@ -29,13 +34,13 @@ impl<'a> Model for LexedStr<'a> {
 
     ghost Value = { Table };
 
-    ghost view = { λ t. record { text = t.text.now; kinds = t.kinds.items; starts = t.starts.items } };
+    ghost view = { λ t. record { text = t.text.now; kinds = t.kinds.items; starts = t.starts.items; errors = t.errors.items } };
 
-    ghost invariant = { λ t. IsTable (record { text = t.text.now; kinds = t.kinds.items; starts = t.starts.items }) };
+    ghost invariant = { λ t. IsTable (record { text = t.text.now; kinds = t.kinds.items; starts = t.starts.items; errors = t.errors.items }) };
 }
 
 impl<'a> LexedStr<'a> {
-    /// The table of the tokens, in one pass over them.
+    /// The table of the tokens.
     ///
     /// It refuses what [`check_tokens`] refuses, in that order and before it asks for memory.
     pub fn new<V: Vocabulary>(
@@ -49,6 +54,7 @@ impl<'a> LexedStr<'a> {
             (Refuses text.now tokens.now) }
     {
         check_tokens(text, tokens)?;
+        let errors = lexical_errors(alloc, text, tokens)?;
         let mut kinds = Vec::with_capacity(alloc, tokens.len())?;
         let mut starts = Vec::with_capacity(alloc, tokens.len().saturating_add(1))?;
         let mut at = 0u32;
@@ -64,6 +70,7 @@ impl<'a> LexedStr<'a> {
             text,
             kinds,
             starts,
+            errors,
         })
     }
 
@@ -122,5 +129,13 @@ impl<'a> LexedStr<'a> {
     {
         let start = self.starts[i];
         start as usize
+    }
+    /// The lexical errors of the raw tokens, in the order of their places.
+    pub fn errors(&self) -> LexErrors<'_>
+        ensures errors { result ≡ self.now.errors }
+        // They ascend without overlapping, and each lies in one raw token.
+        ensures apart { StandApart (slice_index self.now.starts) (length self.now.kinds) self.now.errors }
+    {
+        LexErrors::new(&self.errors)
     }
 }

@@ -13,7 +13,9 @@ pub mod vocabulary;
 
 pub use classes::{is_col_name_keyword, is_reserved_keyword, is_type_func_name_keyword};
 pub use input::Input;
-pub use lexed_str::{Base, LexedStr, LiteralKind, TableError, Token, TokenKind, check_tokens};
+pub use lexed_str::{
+    Base, LexError, LexErrors, LexedStr, LiteralKind, TableError, Token, TokenKind, check_tokens,
+};
 pub use output::{Output, Step, Steps, Text};
 pub use parser::{CompletedMarker, EntryPoint, Grammar, Marker, ParseError, Parser};
 pub use shortcuts::{OwnedStep, StepList, StepSink, StrStep};

@@ -66,7 +66,8 @@ fn token_errors(
             "missing trailing `*/` symbols to terminate the block comment",
         ),
         TokenKind::QuotedIdent {
-            terminated: false, ..
+            terminated: false,
+            ..
         } => whole_token(
             found,
             text,

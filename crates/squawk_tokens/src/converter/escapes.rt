@@ -22,11 +22,7 @@ struct UnitCut<'a> {
 
 /// Adds an error for each escape with too few digits. The content stands from byte `from` of the
 /// token on.
-pub(super) fn short_escapes(
-    found: &mut Found,
-    content: &str,
-    from: usize,
-) -> Result<(), AllocError>
+pub(super) fn short_escapes(found: &mut Found, content: &str, from: usize) -> Result<(), AllocError>
     requires { found.old.at + (from + length content.now) < 2 ^ 32 }
     ensures { OnOk result (found.new ≡ with_faults found.old (short_escapes from (units (chars content.now)))) }
 {

@@ -24,7 +24,8 @@ pub(super) fn literal_errors(
 {
     match kind {
         LiteralKind::Int {
-            empty_int: true, ..
+            empty_int: true,
+            ..
         } => whole_token(found, text, "missing digits after the integer base prefix"),
         LiteralKind::Int {
             empty_int: false,

@@ -34,12 +34,7 @@ pub(super) fn int_errors(
 /// Adds an error for each character that is no digit of the base. Only those of a binary or an octal
 /// integer are looked at.
 #[tactic(auto, using(crate::proofs::FoundErrors::with_none))]
-fn digit_errors(
-    found: &mut Found,
-    text: &str,
-    base: Base,
-    junk: usize,
-) -> Result<(), AllocError>
+fn digit_errors(found: &mut Found, text: &str, base: Base, junk: usize) -> Result<(), AllocError>
     requires room { found.old.at + length text.now < 2 ^ 32 }
     requires digits { IsLiteral text.now (Int false base junk) }
     ensures { OnOk result (found.new ≡ with_faults found.old (bad_digits text.now junk base)) }
@@ -100,7 +95,12 @@ pub(super) fn param_errors(found: &mut Found, text: &str, junk: usize) -> Result
     if is_too_large(&text.as_bytes()[1..junk]) {
         return found.add(0, junk, "parameter number too large");
     }
-    junk_errors(found, text, junk, "trailing junk after positional parameter")
+    junk_errors(
+        found,
+        text,
+        junk,
+        "trailing junk after positional parameter",
+    )
 }
 
 /// Whether the digits spell a number that no parameter has.

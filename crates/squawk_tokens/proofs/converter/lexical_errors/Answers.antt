@@ -56,10 +56,10 @@ loop-token-preserved c =
     let end : c.found.inside.at + token.len ≡ start_of tokens here.token-index + token.len = ap (λ n. n + token.len) (at ∙ here.invariant.sum) in
     let told : c.token_errors.new.found ≡ with_faults here.found (token_faults token.kind c.range-piece.result.now here.continued) = c.in_ok-token_errors.ensures in
     let made : c.found-in-loop-token.inside.errors.items ≡ here.found.errors ++ map (shifted here.found.at) (token_faults token.kind (slice_range text here.found.at (here.found.at + token.len)) here.continued) =
-        ap (λ (f : Found). f.errors) c.found-in-loop-token.view_is
-        ∙ (ap (λ (f : Found). f.errors) told
-        ∙ ap (λ piece. here.found.errors ++ map (shifted here.found.at) (token_faults token.kind piece here.continued))
-        (c.range-piece.ensures.value ∙ ap (λ start. slice_range text start (start + token.len)) at)) in
+    ap (λ (f : Found). f.errors) c.found-in-loop-token.view_is
+    ∙ (ap (λ (f : Found). f.errors) told
+    ∙ ap (λ piece. here.found.errors ++ map (shifted here.found.at) (token_faults token.kind piece here.continued))
+    (c.range-piece.ensures.value ∙ ap (λ start. slice_range text start (start + token.len)) at)) in
     record {
       sum = omega (arith, end, more);
       boundary = rw end good.boundary;

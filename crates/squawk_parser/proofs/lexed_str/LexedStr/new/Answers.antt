@@ -1,4 +1,6 @@
-use Rattle.std.proofs.Common.{arith, subst}
+use Rattle.std.proofs.Common.{length, arith, subst}
+use Rattle.squawk_tokens.specs.AcceptedTokens.{start_of}
+use Rattle.squawk_tokens.specs.ErrorRanges.{StandApart}
 use Rattle.squawk_parser.specs.RawTable.{IsTable}
 use Rattle.squawk_parser.proofs.TableLemmas.{boundary, IsTable-table_of, is_table_of}
 use Rattle.squawk_parser.proofs.lexed_str.LexedStr.new.Goals as goal
@@ -13,5 +15,6 @@ invariant_of-result g c =
     let keyword = g.V.Vocabulary.keyword c.args.vocabulary.now in
     let loop = c.loop-token in
     subst IsTable
-    (is_table_of keyword c.args.text.now c.args.tokens.now loop.kinds.items loop.starts.items c.push.new.self.items loop.at loop.token-index (omega arith) loop.invariant.kinds loop.invariant.starts c.in_ok-push.ensures.items)
-    (IsTable-table_of keyword c.args.text.now c.args.tokens.now c.in_ok-check_tokens.ensures.answer c.utf8.text)
+    (is_table_of keyword c.args.text.now c.args.tokens.now loop.kinds.items loop.starts.items c.push.new.self.items c.in_ok-errors.errors.items loop.at loop.token-index (omega arith) loop.invariant.kinds loop.invariant.starts c.in_ok-push.ensures.items c.in_ok-errors.ensures.errors)
+    (IsTable-table_of keyword c.args.text.now c.args.tokens.now c.in_ok-check_tokens.ensures.answer c.utf8.text
+    (subst (StandApart (start_of c.args.tokens.now) (length c.args.tokens.now)) c.in_ok-errors.ensures.errors c.in_ok-errors.ensures.apart))

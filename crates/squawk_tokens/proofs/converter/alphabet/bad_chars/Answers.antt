@@ -5,7 +5,6 @@ use Rattle.std.specs.Str.{chars}
 use Rattle.std.specs.Str.Iter.{chars_rest}
 use Rattle.std.proofs.lemmas.Str.{chars-nil}
 use Rattle.std.proofs.lemmas.List.{nil_from_length}
-
 use Rattle.squawk_tokens.specs.Alphabets.{has, message_of}
 use Rattle.squawk_tokens.specs.Found.{Found, with_faults}
 use Rattle.squawk_tokens.specs.LexicalErrors.{Fault, fault, bad_chars}
@@ -39,7 +38,7 @@ loop-c-preserved-in_ok-push c =
     let found = c.loop-c.found in
     let at = c.loop-c.at in
     let added : c.push.new.self ≡ with_faults found (fault at (at + len_utf8 c.in-Some.c) (message c.in-Some.c) ∷ []) =
-        c.in_ok-push.ensures ∙ same_fault found at (at + c.len_utf8.result) (at + len_utf8 c.in-Some.c) (string_bytes c.in_ok-message.message) (message c.in-Some.c) (ap (λ n. at + n) c.len_utf8.ensures.value) c.in_ok-message.ensures in
+    c.in_ok-push.ensures ∙ same_fault found at (at + c.len_utf8.result) (at + len_utf8 c.in-Some.c) (string_bytes c.in_ok-message.message) (message c.in-Some.c) (ap (λ n. at + n) c.len_utf8.ensures.value) c.in_ok-message.ensures in
     record {
       utf8 = begins.utf8;
       place = omega (arith, begins.bytes, c.loop-c.invariant.place, c.len_utf8.ensures.value);

@@ -41,24 +41,24 @@ returns-clause-cut c =
     let front = backslash c.args.content.now c.next.new.self.rest.now c.next-2.new.self.rest.now c.in_ok-first.first c.in-Some.letter begins c.if-first-ne92.false next in
     let behind : chars c.as_str-behind-2.result.now ≡ chars c.next-2.new.self.rest.now = ap chars c.as_str-behind-2.ensures in
     elim c.match-letter.branch [
-    in-u w ↦
-        let whole : chars c.args.content.now ≡ 92 ∷ 117 ∷ chars c.as_str-behind-2.result.now = front ∙ (ap (λ letter. 92 ∷ letter ∷ chars c.next-2.new.self.rest.now) w.in-u.is ∙ ap (λ cs. 92 ∷ 117 ∷ cs) (sym behind)) in
-        rw (whole, w.result-is) (short_cut c.as_str-behind-2.result.now w.escape.result w.escape.ensures.cut)
-    | in-U w ↦
-        let whole : chars c.args.content.now ≡ 92 ∷ 85 ∷ chars c.as_str-behind-2.result.now = front ∙ (ap (λ letter. 92 ∷ letter ∷ chars c.next-2.new.self.rest.now) w.in-U.is ∙ ap (λ cs. 92 ∷ 85 ∷ cs) (sym behind)) in
-        rw (whole, w.result-is) (long_cut c.as_str-behind-2.result.now w.escape-in-U.result w.escape-in-U.ensures.cut)
-    | in_default-letter w ↦
-        let cut = w.other_unit-in_default-letter.ensures in
-        let small : c.in-Some.letter ≢ 117 = omega arith in
-        let large : c.in-Some.letter ≢ 85 = omega arith in
-        rw (front, w.result-is)
-        (other_cut c.in-Some.letter (chars c.next-2.new.self.rest.now) w.other_unit-in_default-letter.result small large (cut.len ∙ ap (λ n. 1 + n) w.len_utf8-in_default-letter.ensures.value) cut.hint (ap chars cut.rest ∙ behind))
+      | in-u w ↦
+          let whole : chars c.args.content.now ≡ 92 ∷ 117 ∷ chars c.as_str-behind-2.result.now = front ∙ (ap (λ letter. 92 ∷ letter ∷ chars c.next-2.new.self.rest.now) w.in-u.is ∙ ap (λ cs. 92 ∷ 117 ∷ cs) (sym behind)) in
+          rw (whole, w.result-is) (short_cut c.as_str-behind-2.result.now w.escape.result w.escape.ensures.cut)
+      | in-U w ↦
+          let whole : chars c.args.content.now ≡ 92 ∷ 85 ∷ chars c.as_str-behind-2.result.now = front ∙ (ap (λ letter. 92 ∷ letter ∷ chars c.next-2.new.self.rest.now) w.in-U.is ∙ ap (λ cs. 92 ∷ 85 ∷ cs) (sym behind)) in
+          rw (whole, w.result-is) (long_cut c.as_str-behind-2.result.now w.escape-in-U.result w.escape-in-U.ensures.cut)
+      | in_default-letter w ↦
+          let cut = w.other_unit-in_default-letter.ensures in
+          let small : c.in-Some.letter ≢ 117 = omega arith in
+          let large : c.in-Some.letter ≢ 85 = omega arith in
+          rw (front, w.result-is)
+          (other_cut c.in-Some.letter (chars c.next-2.new.self.rest.now) w.other_unit-in_default-letter.result small large (cut.len ∙ ap (λ n. 1 + n) w.len_utf8-in_default-letter.ensures.value) cut.hint (ap chars cut.rest ∙ behind))
     ]
 
 pub returns-clause-utf8 : goal.returns-clause-utf8
 returns-clause-utf8 c =
     elim c.match-letter.branch [
-    in-u w ↦ rw w.result-is w.escape.ensures.utf8
-    | in-U w ↦ rw w.result-is w.escape-in-U.ensures.utf8
-    | in_default-letter w ↦ rw (w.result-is, w.other_unit-in_default-letter.ensures.rest) c.as_str-behind-2.utf8
+      | in-u w ↦ rw w.result-is w.escape.ensures.utf8
+      | in-U w ↦ rw w.result-is w.escape-in-U.ensures.utf8
+      | in_default-letter w ↦ rw (w.result-is, w.other_unit-in_default-letter.ensures.rest) c.as_str-behind-2.utf8
     ]

@@ -35,7 +35,7 @@ loop-count-preserved c =
     let one_less : c.args.most - here.count ≡ suc left = omega arith in
     let more = digits_go_on (c.args.most - here.count) left c.in-Some.c (chars c.next.new.self.rest.now) one_less hex in
     let dropped : drop (here.count + 1) (chars c.args.text.now) ≡ chars c.next.new.self.rest.now =
-        sym (drop-drop 1 here.count (chars c.args.text.now)) ∙ ap (drop 1) (sym here.invariant.rest ∙ begins.chars) in
+    sym (drop-drop 1 here.count (chars c.args.text.now)) ∙ ap (drop 1) (sym here.invariant.rest ∙ begins.chars) in
     rw c.as_str-rest.ensures
     (record {
       text = begins.utf8;

@@ -29,23 +29,23 @@ loop-unit-preserved c =
     let at = here.at in
     let left = short_escapes (at + unit.len) (units (chars unit.rest.now)) in
     elim c.match-unit.branch [
-    in-Some-hint+in_ok-hint+in_ok-message+in_ok-push w ↦
-        let hint = w.in-Some-hint.hint.now in
-        let added : c.match-unit.found ≡ with_faults here.found (escape_fault at (at + unit.len) hint ∷ []) =
-            w.found-is ∙ (w.in_ok-push.ensures ∙ same_fault here.found at (at + unit.len) (string_bytes w.in_ok-message.message) (string_bytes w.in_ok-hint.hint) hint w.in_ok-message.ensures.ok w.in_ok-hint.ensures.ok) in
-        let turn = turn_with (chars here.rest.now) unit hint at c.in-Some.ensures.cut (ap (option_map (λ hint. hint.now)) w.in-Some-hint.is) in
-        record {
-          text = c.in-Some.ensures.utf8;
-          place = omega (arith, here.invariant.place, c.in-Some.ensures.bytes);
-          base = ap (λ (f : Found). f.at) added ∙ here.invariant.base;
-          found = one_more here.found c.match-unit.found (escape_fault at (at + unit.len) hint) left (short_escapes at (units (chars here.rest.now))) added turn ∙ here.invariant.found;
-        }
-    | in_default-hint w ↦
-        let turn = turn_without (chars here.rest.now) unit at c.in-Some.ensures.cut w.in_default-hint.is in
-        record {
-          text = c.in-Some.ensures.utf8;
-          place = omega (arith, here.invariant.place, c.in-Some.ensures.bytes);
-          base = ap (λ (f : Found). f.at) w.found-is ∙ here.invariant.base;
-          found = ap (λ f. with_faults f left) w.found-is ∙ (ap (λ fs. with_faults here.found fs) turn ∙ here.invariant.found);
-        }
+      | in-Some-hint+in_ok-hint+in_ok-message+in_ok-push w ↦
+          let hint = w.in-Some-hint.hint.now in
+          let added : c.match-unit.found ≡ with_faults here.found (escape_fault at (at + unit.len) hint ∷ []) =
+          w.found-is ∙ (w.in_ok-push.ensures ∙ same_fault here.found at (at + unit.len) (string_bytes w.in_ok-message.message) (string_bytes w.in_ok-hint.hint) hint w.in_ok-message.ensures.ok w.in_ok-hint.ensures.ok) in
+          let turn = turn_with (chars here.rest.now) unit hint at c.in-Some.ensures.cut (ap (option_map (λ hint. hint.now)) w.in-Some-hint.is) in
+          record {
+            text = c.in-Some.ensures.utf8;
+            place = omega (arith, here.invariant.place, c.in-Some.ensures.bytes);
+            base = ap (λ (f : Found). f.at) added ∙ here.invariant.base;
+            found = one_more here.found c.match-unit.found (escape_fault at (at + unit.len) hint) left (short_escapes at (units (chars here.rest.now))) added turn ∙ here.invariant.found;
+          }
+      | in_default-hint w ↦
+          let turn = turn_without (chars here.rest.now) unit at c.in-Some.ensures.cut w.in_default-hint.is in
+          record {
+            text = c.in-Some.ensures.utf8;
+            place = omega (arith, here.invariant.place, c.in-Some.ensures.bytes);
+            base = ap (λ (f : Found). f.at) w.found-is ∙ here.invariant.base;
+            found = ap (λ f. with_faults f left) w.found-is ∙ (ap (λ fs. with_faults here.found fs) turn ∙ here.invariant.found);
+          }
     ]
