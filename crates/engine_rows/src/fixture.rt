@@ -1,6 +1,7 @@
 //! What the tests share: a vocabulary, grammars, and steps to compare with.
 
 pub mod calls;
+pub mod errors;
 pub mod output;
 pub mod steps;
 pub mod words;

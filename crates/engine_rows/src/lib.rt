@@ -12,6 +12,8 @@ mod input;
 #[cfg(test)]
 mod kinds;
 #[cfg(test)]
+mod lexical_errors;
+#[cfg(test)]
 mod memory;
 #[cfg(test)]
 mod parser;
@@ -21,6 +23,8 @@ mod raw_tokens;
 mod sets;
 #[cfg(test)]
 mod sinks;
+#[cfg(test)]
+mod string_errors;
 #[cfg(test)]
 mod text;
 #[cfg(test)]

@@ -2,13 +2,18 @@
 //!
 //! These tests also pass where an allocation is refused.
 
+use crate::fixture::errors::{
+    BAD_STRINGS, FOUR_DIGITS, Wanted, assert_table, bad_strings, errors_of_bad_strings, escapes,
+    incomplete, string,
+};
 use crate::fixture::output::{self, assert_output, token};
 use crate::fixture::{
-    Calls, EXIT, FixedGrammar, Words, assert_steps, enter, space, space_step, word, word_step,
+    Calls, EXIT, FixedGrammar, NO_WORDS, Words, assert_steps, enter, space, space_step, word,
+    word_step,
 };
 use squawk_parser::{
     EntryPoint, Input, LexedStr, Output, ParseError, Step, StepList, StepSink, StrStep, SyntaxKind,
-    TableError,
+    TableError, Token,
 };
 use std::alloc::AllocError;
 use std::process::Abort;
@@ -151,4 +156,32 @@ fn list_that_refuses_a_step_holds_those_before_it(rt: HostRuntime) {
             assert_steps(&rt, list.steps(), &steps[..taken]);
         }
     }
+}
+
+/// Ends the test unless the text has exactly the wanted errors, or memory is wanting.
+fn assert_errors_if_made(
+    rt: &(impl Abort + AllocGlobal),
+    text: &str,
+    tokens: &[Token],
+    wanted: &[Wanted],
+) {
+    match LexedStr::new(rt.alloc(), text, tokens, &NO_WORDS) {
+        Ok(table) => assert_table(rt, text, &table, wanted),
+        Err(error) => assert_eq!(rt; error, TableError::OutOfMemory, "{text:?}"),
+    }
+}
+
+#[test]
+fn errors_of_three_strings_are_whole(rt: HostRuntime) {
+    assert_errors_if_made(&rt, BAD_STRINGS, &bad_strings(), &errors_of_bad_strings());
+}
+
+#[test]
+fn error_of_a_continued_string_is_whole(rt: HostRuntime) {
+    assert_errors_if_made(
+        &rt,
+        "E'ok'\n'\\u0'",
+        &[escapes(5), space(1), string(5)],
+        &[incomplete(7, 10, FOUR_DIGITS)],
+    );
 }
