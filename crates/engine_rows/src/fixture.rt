@@ -2,6 +2,7 @@
 
 pub mod calls;
 pub mod errors;
+pub mod notes;
 pub mod output;
 pub mod steps;
 pub mod words;

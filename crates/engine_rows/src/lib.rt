@@ -14,6 +14,8 @@ mod kinds;
 #[cfg(test)]
 mod lexical_errors;
 #[cfg(test)]
+mod looks;
+#[cfg(test)]
 mod memory;
 #[cfg(test)]
 mod parser;

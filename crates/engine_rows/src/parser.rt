@@ -1,9 +1,8 @@
 //! Parsers, the grammars that work with them, and the outputs that they leave.
-ghost use Rattle.std.specs.Prelude.{◌≢◌};
 ghost use Rattle.squawk_parser.specs.Draft.{HasNoHole};
-ghost use Rattle.squawk_parser.specs.Kinds.{TOMBSTONE};
 ghost use Rattle.squawk_parser.specs.State.{Goes, Keeps};
 
+use crate::fixture::notes::note_three;
 use crate::fixture::output::{assert_output, enter, token};
 use crate::fixture::{Calls, FixedGrammar, NO_WORDS, Words, parse, space, table, word};
 use squawk_parser::{EntryPoint, Grammar, Input, LexedStr, ParseError, Parser, Step, SyntaxKind};
@@ -57,33 +56,17 @@ impl Looks {
             1 => 721,
             _ => 729,
         };
-        Looks::note(p, position);
         let current = match u16::from(p.current()) {
             0 => 730,
             200 => 731,
             _ => 739,
         };
-        Looks::note(p, current);
         let failed = match p.failed() {
             None => 740,
             Some(ParseError::OutOfMemory) => 741,
             Some(ParseError::TooManyEvents) => 742,
         };
-        Looks::note(p, failed);
-    }
-
-    /// Completes an empty node of this kind. Its marker has the kind, or another node follows.
-    fn note(p: &mut Parser<'_>, kind: u16)
-        requires { kind ≢ TOMBSTONE }
-        ensures keeps { Keeps p.old p.new }
-        ensures went { Goes p.new → Goes p.old }
-        ensures closed { HasNoHole p.old.draft.items → Goes p.new → HasNoHole p.new.draft.items }
-    {
-        let kind = SyntaxKind::from(kind);
-        let node = p.start().complete(p, kind);
-        if node.kind() != kind {
-            let _ = p.start().complete(p, SyntaxKind::ERROR);
-        }
+        note_three(p, position, current, failed);
     }
 }
 

@@ -8,6 +8,7 @@ pub mod Filled
 pub mod Soundness
 pub mod ParserViews
 pub mod Examples
+pub mod LookAheadExamples
 pub mod AllSent
 pub mod InputTokens
 pub mod OneRoot

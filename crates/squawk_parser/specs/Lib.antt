@@ -4,6 +4,9 @@ pub mod TokenKinds
 pub mod RawTable
 pub mod ParserInput
 pub mod InputView
+pub mod LookAhead
+pub mod Operators
+pub mod Composites
 pub mod Steps
 pub mod StepViews
 pub mod Shape

@@ -1,7 +1,7 @@
 -- What contracts see of a parser.
 use Rattle.std.specs.Prelude.{◌≡◌, ℕ, ◌+◌, ◌<◌, ◌≤◌, Option, Some, None, List, length, nat_lt, if◌then◌else◌, IsSome, Contains}
 use Rattle.squawk_parser.specs.Kinds.{EOF}
-use Rattle.squawk_parser.specs.ParserInput.{Entry, kind_in}
+use Rattle.squawk_parser.specs.ParserInput.{Entry, kind_in, contextual_kind_in}
 use Rattle.squawk_parser.specs.Draft.{Draft, nothing, Hole, Mark, HasNoIdTwice, plain}
 use Rattle.squawk_parser.specs.Steps.{eaten}
 use Rattle.squawk_parser.specs.Shape.{IsBalanced, IsOver}
@@ -37,6 +37,10 @@ IsFresh s = s ≡ fresh s.input s.max_events
 -- the kind of the token that is n places from the position; at the limit and past it the end's
 abbrev pub kind_at : State → ℕ → ℕ
 kind_at s n = if nat_lt (s.position + n) s.limit then kind_in s.input (s.position + n) else EOF
+
+-- the same of its contextual kind
+abbrev pub contextual_kind_at : State → ℕ → ℕ
+contextual_kind_at s n = if nat_lt (s.position + n) s.limit then contextual_kind_in s.input (s.position + n) else EOF
 
 -- the input and the limits stay, and so does a first reason to fail
 pub record Keeps (old new : State) : Type 0 where

@@ -1,19 +1,87 @@
 //! What a grammar sees of its input.
-ghost use Rattle.std.specs.Prelude.{◌≡◌};
-ghost use Rattle.squawk_parser.specs.State.{kind_at};
+//!
+//! A look is at the token that is so many places from the current one. It sees no token at the limit
+//! or past it; there, and past the input, both kinds are [`SyntaxKind::EOF`].
+ghost use Rattle.std.specs.Prelude.{◌≡◌, ◌+◌, ◌<◌, ◌==◌, SomeIff};
+ghost use Rattle.squawk_parser.specs.State.{kind_at, contextual_kind_at};
+ghost use Rattle.squawk_parser.specs.TokenSets.{has};
 
 use crate::parser::Parser;
 use crate::syntax_kind::SyntaxKind;
+use crate::token_set::TokenSet;
 
 impl Parser<'_> {
-    /// The kind of the current token, and [`SyntaxKind::EOF`] at the end.
+    /// The kind of the current token.
     pub fn current(&self) -> SyntaxKind
         ensures { result ≡ kind_at self.now 0 }
     {
-        if self.position < self.limit {
-            self.input.kind(self.position)
+        self.nth(0)
+    }
+
+    /// The kind of the token `n` places ahead.
+    pub fn nth(&self, n: usize) -> SyntaxKind
+        ensures { result ≡ kind_at self.now n }
+    {
+        match self.seen(n) {
+            Some(place) => self.input.kind(place),
+            None => SyntaxKind::EOF,
+        }
+    }
+
+    /// The contextual kind of the token `n` places ahead.
+    pub fn nth_contextual_kind(&self, n: usize) -> SyntaxKind
+        ensures { result ≡ contextual_kind_at self.now n }
+    {
+        match self.seen(n) {
+            Some(place) => self.input.contextual_kind(place),
+            None => SyntaxKind::EOF,
+        }
+    }
+
+    /// Whether the set has the current kind.
+    pub fn at_ts(&self, set: TokenSet) -> bool
+        ensures { result ≡ has set (kind_at self.now 0) }
+    {
+        self.nth_at_ts(0, set)
+    }
+
+    /// Whether the set has the kind of the token `n` places ahead.
+    pub fn nth_at_ts(&self, n: usize, set: TokenSet) -> bool
+        ensures { result ≡ has set (kind_at self.now n) }
+    {
+        set.contains(self.nth(n))
+    }
+
+    /// Whether the set has the contextual kind of the token `n` places ahead.
+    pub fn nth_at_contextual_ts(&self, n: usize, set: TokenSet) -> bool
+        ensures { result ≡ has set (contextual_kind_at self.now n) }
+    {
+        set.contains(self.nth_contextual_kind(n))
+    }
+
+    /// Whether the current token is this contextual keyword.
+    pub fn at_contextual_kw(&self, keyword: SyntaxKind) -> bool
+        ensures { result ≡ (contextual_kind_at self.now 0 == keyword) }
+    {
+        self.nth_at_contextual_kw(0, keyword)
+    }
+
+    /// Whether the token `n` places ahead is this contextual keyword.
+    pub fn nth_at_contextual_kw(&self, n: usize, keyword: SyntaxKind) -> bool
+        ensures { result ≡ (contextual_kind_at self.now n == keyword) }
+    {
+        self.nth_contextual_kind(n) == keyword
+    }
+
+    /// The place in the input of the token `n` places ahead, if it is seen.
+    fn seen(&self, n: usize) -> Option<usize>
+        ensures { SomeIff result (self.now.position + n < self.now.limit) (self.now.position + n) }
+    {
+        let place = self.position.saturating_add(n);
+        if place < self.limit {
+            Some(place)
         } else {
-            SyntaxKind::EOF
+            None
         }
     }
 }

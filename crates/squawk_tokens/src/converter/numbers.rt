@@ -106,7 +106,7 @@ pub(super) fn param_errors(found: &mut Found, text: &str, junk: usize) -> Result
 /// Whether the digits spell a number that no parameter has.
 fn is_too_large(digits: &[u8]) -> bool
     requires { All IsAsciiDigit digits.now }
-    ensures { result ≡ nat_lt GREATEST_PARAM (value_of digits.now) }
+    ensures { result ≡ nat_lt 2147483647 (value_of digits.now) }
 {
     let mut value = 0;
     for digit in digits {

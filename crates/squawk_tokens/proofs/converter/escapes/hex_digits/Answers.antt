@@ -1,11 +1,10 @@
-use Rattle.std.proofs.Common.{◌≡◌, ◌∙◌, ℕ, suc, zero, ◌+◌, ◌-◌, ◌<◌, Bool, true, false, List, ◌∷◌, length, take, drop, arith, ap, sym, refl}
-use Rattle.std.specs.Char.{is_ascii_hexdigit, len_utf8}
+use Rattle.std.proofs.Common.{◌≡◌, ◌∙◌, ℕ, suc, zero, ◌+◌, ◌-◌, Bool, true, false, List, ◌∷◌, length, take, drop, arith, ap, sym, refl}
+use Rattle.std.specs.Char.{is_ascii_hexdigit}
 use Rattle.std.specs.Str.{chars}
-use Rattle.std.proofs.lemmas.Bool.Decides.{nat_tests}
 use Rattle.std.proofs.lemmas.List.{drop-drop}
-use Rattle.std.proofs.lemmas.Str.{len_utf8_ascii}
 use Rattle.squawk_tokens.specs.EscapeUnits.{hex_front}
-use Rattle.squawk_tokens.proofs.SourceText.{BeginsWith, begins_with}
+use Rattle.squawk_tokens.proofs.FirstUnit.{digit_len}
+use Rattle.squawk_tokens.proofs.SourceText.{begins_with}
 use Rattle.squawk_tokens.proofs.converter.escapes.hex_digits.Goals as goal
 
 -- another character ends the digits
@@ -15,10 +14,6 @@ digits_end (suc n) c cs e = rw e refl
 
 digits_go_on : (n m c : ℕ) (cs : List ℕ) → n ≡ suc m → is_ascii_hexdigit c ≡ true → length (hex_front (take n (c ∷ cs))) ≡ suc (length (hex_front (take m cs)))
 digits_go_on n m c cs is e = rw (is, e) refl
-
--- a hexadecimal digit is one byte
-digit_len : (c : ℕ) → is_ascii_hexdigit c ≡ true → len_utf8 c ≡ 1
-digit_len c e = let small : c < 128 = grind (arith, nat_tests) in len_utf8_ascii c small
 
 pub returns-then-not-is_ascii_hexdigit-clause-count : goal.returns-then-not-is_ascii_hexdigit-clause-count
 returns-then-not-is_ascii_hexdigit-clause-count c =

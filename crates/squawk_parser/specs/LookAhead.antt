@@ -1,0 +1,13 @@
+-- What a parser sees of its input.
+use Rattle.std.specs.Prelude.{ℕ, ◌+◌, Bool, false, List, [], ◌∷◌, take, drop}
+use Rattle.squawk_parser.specs.ParserInput.{Entry}
+
+-- the tokens from this place on that stand before the limit
+abbrev pub seen_from : List Entry → ℕ → ℕ → List Entry
+seen_from input limit place = drop place (take limit input)
+
+-- whether the first of these tokens touches the second; where there is no second, it doesn't
+abbrev pub touches_next : List Entry → Bool
+touches_next [] = false
+touches_next (e ∷ []) = false
+touches_next (e ∷ next ∷ rest) = e.touches
