@@ -8,6 +8,7 @@ use std::alloc::AllocError;
 use std::test::Fail;
 
 /// A grammar that looks ahead over `message raise select` and tells what it saw.
+#[derive(Clone, Copy)]
 struct Ahead {
     identifiers: TokenSet,
     raise: TokenSet,
