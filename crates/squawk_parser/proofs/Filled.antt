@@ -8,7 +8,8 @@ use Rattle.squawk_parser.specs.Steps.{eaten, count_of}
 use Rattle.squawk_parser.specs.Draft.{Made, Item, Hole, Open, Close, Token, ids, ids_of, plain, HasNoIdTwice}
 use Rattle.squawk_parser.specs.Edits.{filled, is_hole_of}
 use Rattle.squawk_parser.specs.Shape.{EatsOne}
-use Rattle.squawk_parser.proofs.Sums.{sum_by-cons, count_by-cons}
+use Rattle.std.proofs.lemmas.List.Sums.{sum_by-cons}
+use Rattle.squawk_parser.proofs.Sums.{count_by-cons}
 use Rattle.squawk_parser.proofs.Balance.{depth_after, depth_after-suc}
 
 module _ (id kind : ℕ) where

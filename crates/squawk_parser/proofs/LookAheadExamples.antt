@@ -1,5 +1,5 @@
 -- Operators and composite kinds at the front of small inputs: what stands there was worked out by hand.
-use Rattle.std.proofs.Common.{◌≡◌, ℕ, Bool, true, false, List, [], ◌∷◌, take, drop, refl}
+use Rattle.std.proofs.Common.{◌≡◌, ℕ, Bool, true, false, [], ◌∷◌, refl}
 use Rattle.std.specs.List.{list_any}
 use Rattle.std.specs.Prelude.{◌==◌}
 use Rattle.squawk_parser.specs.Kinds.{IDENT, AT, BANG, COLON, EQ, L_ANGLE, R_ANGLE, MINUS, PLUS, STAR, COLON_EQ, NEQ, LTEQ, FAT_ARROW, IS_KW, NFC_KW, NORMALIZED_KW, DISTINCT_KW, FROM_KW, COLON_COLON, IS_DISTINCT_FROM, IS_NORMALIZED, CUSTOM_OP}

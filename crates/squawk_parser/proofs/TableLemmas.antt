@@ -2,14 +2,13 @@
 use Rattle.std.proofs.Common.{◌≡◌, ℕ, zero, suc, ◌+◌, ◌<◌, ◌≤◌, List, [], ◌∷◌, ◌++◌, length, take, drop, slice_index, get_or, arith, add-one, add-zero, zero-add, ap, sym, refl, ◌∙◌, ◌⊎◌, inl, inr}
 use Rattle.std.specs.Prelude.{IsUtf8, IsCharBoundary}
 use Rattle.std.proofs.lemmas.Str.{IsCharBoundary-start}
-use Rattle.std.proofs.lemmas.List.Sums.{sum_by_more}
+use Rattle.std.proofs.lemmas.List.Sums.{sum_by_more, sum_by-cons}
 use Rattle.std.proofs.lemmas.List.{drop_all, append-nil}
 use Rattle.squawk_tokens.specs.declared.token.Token.{Token}
 use Rattle.squawk_tokens.specs.declared.token.TokenKind.TheVariants.{Ident}
 use Rattle.squawk_tokens.specs.AcceptedTokens.{start_of, IsAccepted}
 use Rattle.squawk_tokens.specs.ErrorRanges.{LiesIn, StandApart}
 use Rattle.squawk_tokens.specs.LexicalErrors.{Fault, lexical_errors}
-use Rattle.squawk_parser.proofs.Sums.{sum_by-cons}
 use Rattle.squawk_parser.specs.RawTable.{IsTable, Table, table_of, kinds_from, starts_from}
 use Rattle.squawk_parser.specs.TokenKinds.{Keywords}
 

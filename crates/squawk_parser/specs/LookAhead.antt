@@ -1,5 +1,5 @@
 -- What a parser sees of its input.
-use Rattle.std.specs.Prelude.{ℕ, ◌+◌, Bool, false, List, [], ◌∷◌, take, drop}
+use Rattle.std.specs.Prelude.{ℕ, Bool, false, List, [], ◌∷◌, take, drop}
 use Rattle.squawk_parser.specs.ParserInput.{Entry}
 
 -- the tokens from this place on that stand before the limit

@@ -1,10 +1,10 @@
 -- The units of a content, one after another.
-use Rattle.std.proofs.Common.{◌≡◌, ◌∙◌, ℕ, zero, suc, ◌+◌, ◌-◌, ◌<◌, ◌≤◌, nat_lt, ◌==◌, Bool, true, false, cond, Option, Some, None, List, [], ◌∷◌, ◌++◌, length, drop, length-drop, arith, ap, sym, refl}
+use Rattle.std.proofs.Common.{◌≡◌, ◌∙◌, ℕ, zero, suc, ◌+◌, ◌<◌, ◌≤◌, nat_lt, ◌==◌, Bool, true, false, cond, Some, None, List, [], ◌∷◌, ◌++◌, length, drop, length-drop, arith, ap, sym, refl}
 use Rattle.std.specs.Prelude.{codes, option_map}
 use Rattle.std.specs.Str.{chars}
 use Rattle.squawk_tokens.specs.EscapeUnits.{Unit, Escape, Other, first_unit, first_units, units, chars_of, bytes_of, wanted_digits, escape_at}
 use Rattle.squawk_tokens.specs.LexicalErrors.{Fault, only_if, short_escapes, hint_of}
-use Rattle.squawk_tokens.specs.UnitCuts.{HasCut, IsCutFrom, wanted_of}
+use Rattle.squawk_tokens.specs.UnitCuts.{IsCutFrom, wanted_of}
 use Rattle.squawk_tokens.specs.declared.converter.escapes.UnitCut.{UnitCut}
 
 -- ---- cutting

@@ -1,19 +1,15 @@
 -- The first unit of a content, by its first characters.
-use Rattle.std.proofs.Common.{◌≡◌, ◌≢◌, ◌∙◌, ℕ, zero, suc, ◌+◌, ◌<◌, nat_lt, ◌==◌, Bool, true, false, cond, Option, Some, None, List, [], ◌∷◌, length, take, drop, arith, add-zero, zero-add, ap, sym, refl, subst}
+use Rattle.std.proofs.Common.{◌≡◌, ◌≢◌, ◌∙◌, ℕ, ◌+◌, ◌<◌, ◌==◌, Bool, true, false, cond, None, List, [], ◌∷◌, length, take, arith, zero-add, ap, sym, refl}
 use Rattle.std.specs.Prelude.{sum_by, option_map}
 use Rattle.std.specs.Char.{is_ascii_hexdigit, len_utf8}
 use Rattle.std.specs.Str.{chars}
 use Rattle.std.proofs.lemmas.Bool.Decides.{nat_tests}
-use Rattle.std.proofs.lemmas.List.Sums.{sum_by-append}
+use Rattle.std.proofs.lemmas.List.Sums.{sum_by-cons}
 use Rattle.std.proofs.lemmas.Str.{len_utf8_ascii}
-use Rattle.squawk_tokens.specs.EscapeUnits.{Unit, Escape, Other, hex_front, first_unit, chars_of, bytes_of, wanted_digits}
+use Rattle.squawk_tokens.specs.EscapeUnits.{Escape, Other, hex_front, first_unit, bytes_of}
 use Rattle.squawk_tokens.specs.LexicalErrors.{hint_of}
-use Rattle.squawk_tokens.specs.UnitCuts.{HasCut, IsCutFrom, IsUnitCut, wanted_of}
+use Rattle.squawk_tokens.specs.UnitCuts.{IsCutFrom, IsUnitCut}
 use Rattle.squawk_tokens.specs.declared.converter.escapes.UnitCut.{UnitCut}
-
--- the bytes of characters are those of the first and of the others
-pub bytes-cons : (c : ℕ) (cs : List ℕ) → sum_by len_utf8 (c ∷ cs) ≡ len_utf8 c + sum_by len_utf8 cs
-bytes-cons c cs = omega (arith, sum_by-append len_utf8 (c ∷ []) cs)
 
 -- a hexadecimal digit is one byte
 pub digit_len : (c : ℕ) → is_ascii_hexdigit c ≡ true → len_utf8 c ≡ 1
@@ -21,7 +17,7 @@ digit_len c e = let small : c < 128 = grind (arith, nat_tests) in len_utf8_ascii
 
 digits_step : (c : ℕ) (cs : List ℕ) (b : Bool) → b ≡ is_ascii_hexdigit c → sum_by len_utf8 (hex_front cs) ≡ length (hex_front cs)
     → sum_by len_utf8 (cond b (c ∷ hex_front cs) []) ≡ length (cond b (c ∷ hex_front cs) [])
-digits_step c cs true e all = omega (arith, bytes-cons c (hex_front cs), digit_len c (sym e), all)
+digits_step c cs true e all = omega (arith, sum_by-cons len_utf8 c (hex_front cs), digit_len c (sym e), all)
 digits_step c cs false e all = refl
 
 digits_bytes : (cs : List ℕ) → sum_by len_utf8 (hex_front cs) ≡ length (hex_front cs)
@@ -31,7 +27,7 @@ digits_bytes (c ∷ cs) = digits_step c cs (is_ascii_hexdigit c) refl (digits_by
 -- an escape has its backslash, its letter and its digits
 escape_bytes : (letter : ℕ) (cs : List ℕ) → len_utf8 letter ≡ 1 → bytes_of (Escape letter (hex_front cs)) ≡ 2 + length (hex_front cs)
 escape_bytes letter cs one =
-    omega (arith, bytes-cons 92 (letter ∷ hex_front cs), bytes-cons letter (hex_front cs), digits_bytes cs, one)
+    omega (arith, sum_by-cons len_utf8 92 (letter ∷ hex_front cs), sum_by-cons len_utf8 letter (hex_front cs), digits_bytes cs, one)
 
 plain_unit : (c : ℕ) (cs : List ℕ) → (c == 92) ≡ false → first_unit c cs ≡ Other (c ∷ [])
 plain_unit c [] e = refl
@@ -60,7 +56,7 @@ other_cut c cs cut small large len hint rest =
     let no : (c == 117) ≡ false = grind (arith, nat_tests) in
     let nor : (c == 85) ≡ false = grind (arith, nat_tests) in
     rw (other_unit c cs no nor) (record {
-      len = omega (arith, len, bytes-cons 92 (c ∷ []), bytes-cons c []);
+      len = omega (arith, len, sum_by-cons len_utf8 92 (c ∷ []), sum_by-cons len_utf8 c []);
       hint = ap (option_map (λ hint. hint.now)) hint;
       rest = rest;
     })

@@ -1,8 +1,7 @@
 -- The errors of a token are within its text.
 use Rattle.std.proofs.Common.{◌≡◌, ℕ, ◌+◌, ◌-◌, ◌<◌, ◌≤◌, Bool, true, false, List, Option, Some, None, length, arith, refl, length-take, length-drop}
-use Rattle.std.specs.Prelude.{◌==◌, nat_lt, nat_eq, codes, slice_range, IsUtf8, IsCharBoundary}
+use Rattle.std.specs.Prelude.{◌==◌, nat_lt, slice_range, IsUtf8, IsCharBoundary}
 use Rattle.std.specs.Str.{chars}
-use Rattle.std.specs.Cmp.Lexicographic.{pointwise}
 use Rattle.std.proofs.lemmas.Bool.{cond_both, ltb-true}
 use Rattle.std.proofs.lemmas.Str.{IsUtf8-between, IsCharBoundary-after_ascii, IsCharBoundary-before_ascii}
 use Rattle.squawk_tokens.specs.declared.token.Base.{Base}

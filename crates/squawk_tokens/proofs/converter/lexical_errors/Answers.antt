@@ -6,7 +6,7 @@ use Rattle.std.proofs.lemmas.Str.{IsCharBoundary-start}
 use Rattle.squawk_tokens.specs.declared.prefix.Prefix.{Prefix}
 use Rattle.squawk_tokens.specs.declared.token.Token.{Token}
 use Rattle.squawk_tokens.specs.declared.token.TokenKind.TheVariants.{Unknown}
-use Rattle.squawk_tokens.specs.AcceptedTokens.{IsGood, start_of}
+use Rattle.squawk_tokens.specs.AcceptedTokens.{start_of}
 use Rattle.squawk_tokens.specs.Continuation.{continued, continued_behind}
 use Rattle.squawk_tokens.specs.ErrorRanges.{StandApart}
 use Rattle.squawk_tokens.specs.Found.{Found, with_faults}

@@ -1,5 +1,5 @@
-use Rattle.std.proofs.Common.{◌≡◌, ◌∙◌, ℕ, ◌+◌, ◌<◌, Bool, true, false, Option, None, List, [], ◌∷◌, ◌++◌, length, arith, ap, sym, refl}
-use Rattle.std.specs.Prelude.{IsUtf8, string_bytes}
+use Rattle.std.proofs.Common.{◌≡◌, ◌∙◌, ℕ, ◌+◌, Bool, true, false, List, [], ◌∷◌, length, arith, ap, sym, refl}
+use Rattle.std.specs.Prelude.{string_bytes}
 use Rattle.std.specs.Char.{len_utf8}
 use Rattle.std.specs.Str.{chars}
 use Rattle.std.specs.Str.Iter.{chars_rest}
@@ -7,7 +7,7 @@ use Rattle.std.proofs.lemmas.Str.{chars-nil}
 use Rattle.std.proofs.lemmas.List.{nil_from_length}
 use Rattle.squawk_tokens.specs.Alphabets.{has, message_of}
 use Rattle.squawk_tokens.specs.Found.{Found, with_faults}
-use Rattle.squawk_tokens.specs.LexicalErrors.{Fault, fault, bad_chars}
+use Rattle.squawk_tokens.specs.LexicalErrors.{fault, bad_chars}
 use Rattle.squawk_tokens.proofs.FoundErrors.{with_more, with_none}
 use Rattle.squawk_tokens.proofs.SourceText.{BeginsWith, begins_with}
 use Rattle.squawk_tokens.proofs.converter.alphabet.bad_chars.Goals as goal

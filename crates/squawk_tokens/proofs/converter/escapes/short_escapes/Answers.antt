@@ -1,4 +1,4 @@
-use Rattle.std.proofs.Common.{◌≡◌, ◌∙◌, ℕ, ◌+◌, Some, List, [], ◌∷◌, length, arith, ap, string_bytes}
+use Rattle.std.proofs.Common.{◌≡◌, ◌∙◌, ℕ, ◌+◌, Some, List, [], ◌∷◌, arith, ap, string_bytes}
 use Rattle.std.specs.Prelude.{codes, option_map}
 use Rattle.std.specs.Str.{chars}
 use Rattle.squawk_tokens.specs.EscapeUnits.{units}
