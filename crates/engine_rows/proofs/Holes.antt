@@ -4,7 +4,7 @@ use Rattle.std.specs.Prelude.{All, Contains, filter}
 use Rattle.std.proofs.lemmas.Bool.{eqb-true, eqb-false, eq-eqb}
 use Rattle.std.proofs.lemmas.List.{append-nil}
 use Rattle.std.proofs.lemmas.List.Elements.{All-nil, All-cons, All-head, All-tail, All-filter, All-contains, All-contains_itself, filter-append}
-use Rattle.squawk_parser.specs.Kinds.{EOF}
+use Rattle.squawk_kinds.specs.Kinds.{EOF}
 use Rattle.squawk_parser.specs.Draft.{Item, Hole, Open, Close, Token, Made, ByStart, is_hole, ids, HasNoHole, IsAboveIds}
 use Rattle.squawk_parser.specs.Edits.{started, completed, filled, with_token, is_hole_of}
 use Rattle.squawk_parser.specs.State.{State, Goes, Records, IsFresh, kind_at}

@@ -1,7 +1,7 @@
 -- The keywords of a vocabulary that is written out.
 use Rattle.std.specs.Prelude.{ℕ, ◌≡◌, Bool, true, false, nat_lt, ◌&&◌, List, [], ◌∷◌, Some, find, option_map, IfSome, cond, refl}
 use Rattle.std.proofs.Common.{arith}
-use Rattle.squawk_parser.specs.Kinds.{IsKeyword}
+use Rattle.squawk_kinds.specs.Kinds.{IsKeyword}
 
 -- the number of a token of the caller's
 abbrev pub is_caller_token : ℕ → Bool

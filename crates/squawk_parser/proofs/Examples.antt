@@ -1,77 +1,9 @@
--- The definitions on small texts: what they give is worked out by hand.
-use Rattle.std.proofs.Common.{◌≡◌, ℕ, Bool, true, false, nat_eq, Some, None, List, [], ◌∷◌, refl, if◌then◌else◌}
-use Rattle.std.specs.Prelude.{codes}
-use Rattle.std.specs.Str.{chars}
-use Rattle.std.specs.Cmp.Lexicographic.{pointwise}
-use Rattle.squawk_tokens.specs.declared.token.Token.{Token}
-use Rattle.squawk_tokens.specs.declared.token.TokenKind.TheVariants.{Ident, Whitespace}
-use Rattle.squawk_parser.specs.declared.shortcuts.str_step.OwnedStep.{OwnedStep}
-use Rattle.squawk_parser.specs.declared.shortcuts.str_step.OwnedStep.TheVariants as sent
-use Rattle.squawk_tokens.specs.AcceptedTokens.{start_of}
-use Rattle.squawk_parser.specs.RawTable.{Table, table_of}
-use Rattle.squawk_parser.specs.TokenKinds.{Keywords}
-use Rattle.squawk_parser.specs.ParserInput.{Entry, input_of}
-use Rattle.squawk_parser.specs.Shape.{no_keywords}
-use Rattle.squawk_parser.specs.Steps as steps
-use Rattle.squawk_parser.specs.Steps.{Step}
+-- The definitions of drafts on small ones: what they give is worked out by hand.
+use Rattle.std.proofs.Common.{◌≡◌, true, [], ◌∷◌, refl}
 use Rattle.squawk_parser.specs.Draft as items
 use Rattle.squawk_parser.specs.Draft.{Draft, nothing, plain}
 use Rattle.squawk_parser.specs.Edits.{started, completed, with_token}
-use Rattle.squawk_parser.specs.Sent.{sent_list, texts_of}
-
--- ---- texts and their tokens
-
-abbrev word : ℕ → Token
-word len = record { kind = Ident; len = len }
-
-abbrev space : ℕ → Token
-space len = record { kind = Whitespace; len = len }
-
--- each word of "message raise" has a contextual keyword, and "select" is a keyword
-abbrev select_only : Keywords
-select_only text = if pointwise nat_eq text (codes "select") then Some 200 else None
-
-abbrev messages : Keywords
-messages text = if pointwise nat_eq text (codes "message") then Some 201 else if pointwise nat_eq text (codes "raise") then Some 202 else None
-
-abbrev two_words : Table
-two_words = table_of no_keywords (codes "a b") (word 1 ∷ space 1 ∷ word 1 ∷ [])
-
-abbrev three_words : Table
-three_words = table_of no_keywords (codes "a b c") (word 1 ∷ space 1 ∷ word 1 ∷ space 1 ∷ word 1 ∷ [])
-
--- ---- tables
-
-start_of_two : start_of (word 1 ∷ space 1 ∷ word 1 ∷ []) 2 ≡ 2
-start_of_two = refl
-
-table_of_two : two_words ≡ record { text = codes "a b"; kinds = 3 ∷ 639 ∷ 3 ∷ []; starts = 0 ∷ 1 ∷ 2 ∷ 3 ∷ []; errors = [] }
-table_of_two = refl
-
-table_of_keyword : (table_of select_only (codes "select x") (word 6 ∷ space 1 ∷ word 1 ∷ [])).kinds ≡ 200 ∷ 639 ∷ 3 ∷ []
-table_of_keyword = refl
-
--- ---- inputs
-
-abbrev entry : ℕ → ℕ → Bool → Entry
-entry kind contextual touches = record { kind = kind; contextual_kind = contextual; touches = touches }
-
--- a space keeps two words apart
-input_of_two : input_of no_keywords two_words ≡ entry 3 3 false ∷ entry 3 3 false ∷ []
-input_of_two = refl
-
--- nothing stands between the first and the second word, and nothing comes after the second
-input_of_joint : input_of no_keywords (table_of no_keywords (codes "ab") (word 1 ∷ word 1 ∷ [])) ≡ entry 3 3 true ∷ entry 3 3 false ∷ []
-input_of_joint = refl
-
-input_of_contextual : input_of messages (table_of no_keywords (codes "message raise") (word 7 ∷ space 1 ∷ word 5 ∷ [])) ≡ entry 3 201 false ∷ entry 3 202 false ∷ []
-input_of_contextual = refl
-
--- a keyword has no contextual kind
-input_of_keyword : input_of messages (table_of select_only (codes "select") (word 6 ∷ [])) ≡ entry 200 0 false ∷ []
-input_of_keyword = refl
-
--- ---- drafts
+use Rattle.squawk_table.proofs.Examples.{crossing_steps}
 
 abbrev token : Draft → Draft
 token d = with_token d 3 1
@@ -87,62 +19,8 @@ one_node = refl
 abbrev crossing : Draft
 crossing = completed (completed (token (completed (token (started (token (started (started nothing 0) 1)) 2)) 1 703)) 2 704) 0 700
 
-abbrev crossing_steps : List Step
-crossing_steps =
-    steps.Enter 700 ∷ steps.Enter 703 ∷ steps.Token 3 1 ∷ steps.Enter 704 ∷ steps.Token 3 1 ∷ steps.Exit ∷ steps.Token 3 1 ∷ steps.Exit ∷ steps.Exit ∷ []
-
 plain_of_crossing : plain crossing.items ≡ crossing_steps
 plain_of_crossing = refl
 
 recorded_of_crossing : crossing.recorded ≡ 9
 recorded_of_crossing = refl
-
--- ---- what is sent
-
-abbrev a : OwnedStep
-a = sent.Token 3 (codes "a")
-
-abbrev b : OwnedStep
-b = sent.Token 3 (codes "b")
-
-abbrev c : OwnedStep
-c = sent.Token 3 (codes "c")
-
-abbrev gap : OwnedStep
-gap = sent.Token 639 (codes " ")
-
--- an empty text
-sent_of_nothing : sent_list (table_of no_keywords [] []) (steps.Enter 700 ∷ steps.Exit ∷ []) ≡ sent.Enter 700 ∷ sent.Exit ∷ []
-unfolding chars
-sent_of_nothing = refl
-
--- trivia stands before the token after it
-sent_of_two : sent_list two_words (steps.Enter 700 ∷ steps.Token 3 1 ∷ steps.Token 3 1 ∷ steps.Exit ∷ []) ≡ sent.Enter 700 ∷ a ∷ gap ∷ b ∷ sent.Exit ∷ []
-unfolding chars
-sent_of_two = refl
-
--- what comes after the last token that is eaten isn't sent, but for the trivia before the end
-sent_of_one : sent_list two_words (steps.Enter 700 ∷ steps.Token 3 1 ∷ steps.Exit ∷ []) ≡ sent.Enter 700 ∷ a ∷ gap ∷ sent.Exit ∷ []
-unfolding chars
-sent_of_one = refl
-
--- trivia stands before the opening of a node, not in it, and not before the end of an inner one
-sent_of_crossing : sent_list three_words crossing_steps
-    ≡ sent.Enter 700 ∷ sent.Enter 703 ∷ a ∷ gap ∷ sent.Enter 704 ∷ b ∷ sent.Exit ∷ gap ∷ c ∷ sent.Exit ∷ sent.Exit ∷ []
-unfolding chars
-sent_of_crossing = refl
-
--- trivia at the beginning of a text stands in the root
-sent_of_mark : sent_list (table_of no_keywords (239 ∷ 187 ∷ 191 ∷ codes "a") (space 3 ∷ word 1 ∷ [])) (steps.Enter 700 ∷ steps.Token 3 1 ∷ steps.Exit ∷ [])
-    ≡ sent.Enter 700 ∷ sent.Token 639 (65279 ∷ []) ∷ a ∷ sent.Exit ∷ []
-unfolding chars
-sent_of_mark = refl
-
--- trivia at the end of a text stands before the end of the root
-sent_of_trailing : sent_list (table_of no_keywords (codes "a ") (word 1 ∷ space 1 ∷ [])) (steps.Enter 700 ∷ steps.Enter 701 ∷ steps.Token 3 1 ∷ steps.Exit ∷ steps.Exit ∷ [])
-    ≡ sent.Enter 700 ∷ sent.Enter 701 ∷ a ∷ sent.Exit ∷ gap ∷ sent.Exit ∷ []
-unfolding chars
-sent_of_trailing = refl
-
-texts_of_two : texts_of (sent.Enter 700 ∷ a ∷ gap ∷ b ∷ sent.Exit ∷ []) ≡ codes "a b"
-texts_of_two = refl

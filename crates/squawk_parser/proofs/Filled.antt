@@ -3,11 +3,11 @@ use Rattle.std.proofs.Common.{◌≡◌, ℕ, zero, suc, ◌+◌, ◌≤◌, ◌
 use Rattle.std.specs.Prelude.{All, Contains, count_by}
 use Rattle.std.proofs.lemmas.Bool.{eqb-true, eq-eqb}
 use Rattle.std.proofs.lemmas.List.Elements.{All-cons, All-head, All-tail}
-use Rattle.squawk_parser.specs.Steps as steps
-use Rattle.squawk_parser.specs.Steps.{eaten, count_of}
+use Rattle.squawk_table.specs.Steps as steps
+use Rattle.squawk_table.specs.Steps.{eaten, count_of}
 use Rattle.squawk_parser.specs.Draft.{Made, Item, Hole, Open, Close, Token, ids, ids_of, plain, HasNoIdTwice}
 use Rattle.squawk_parser.specs.Edits.{filled, is_hole_of}
-use Rattle.squawk_parser.specs.Shape.{EatsOne}
+use Rattle.squawk_table.specs.Shape.{EatsOne}
 use Rattle.std.proofs.lemmas.List.Sums.{sum_by-cons}
 use Rattle.squawk_parser.proofs.Sums.{count_by-cons}
 use Rattle.squawk_parser.proofs.Balance.{depth_after, depth_after-suc}

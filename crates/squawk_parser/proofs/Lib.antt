@@ -1,7 +1,3 @@
-pub mod TableLemmas
-pub mod Texts
-pub mod TokenSetLemmas
-pub mod RawTokens
 pub mod Sums
 pub mod Balance
 pub mod Filled
@@ -9,17 +5,3 @@ pub mod Soundness
 pub mod ParserViews
 pub mod Examples
 pub mod LookAheadExamples
-pub mod AllSent
-pub mod InputTokens
-pub mod OneRoot
-pub mod ReachedStep
-pub mod Received
-pub mod Receivers
-pub mod RootEnd
-pub mod SentBelow
-pub mod SentSteps
-pub mod SentTexts
-pub mod Sinks
-pub mod SourceChars
-pub mod StepPlaces
-pub mod Trivia

@@ -2,11 +2,11 @@
 use Rattle.std.proofs.Common.{◌≡◌, ℕ, Bool, true, false, [], ◌∷◌, refl}
 use Rattle.std.specs.List.{list_any}
 use Rattle.std.specs.Prelude.{◌==◌}
-use Rattle.squawk_parser.specs.Kinds.{IDENT, AT, BANG, COLON, EQ, L_ANGLE, R_ANGLE, MINUS, PLUS, STAR, COLON_EQ, NEQ, LTEQ, FAT_ARROW, IS_KW, NFC_KW, NORMALIZED_KW, DISTINCT_KW, FROM_KW, COLON_COLON, IS_DISTINCT_FROM, IS_NORMALIZED, CUSTOM_OP}
+use Rattle.squawk_kinds.specs.Kinds.{IDENT, AT, BANG, COLON, EQ, L_ANGLE, R_ANGLE, MINUS, PLUS, STAR, COLON_EQ, NEQ, LTEQ, FAT_ARROW, IS_KW, NFC_KW, NORMALIZED_KW, DISTINCT_KW, FROM_KW, COLON_COLON, IS_DISTINCT_FROM, IS_NORMALIZED, CUSTOM_OP}
 use Rattle.squawk_parser.specs.LookAhead.{seen_from}
 use Rattle.squawk_parser.specs.Operators.{operator_length, is_next_apart}
 use Rattle.squawk_parser.specs.Composites.{stands_at}
-use Rattle.squawk_parser.specs.ParserInput.{Entry}
+use Rattle.squawk_table.specs.ParserInput.{Entry}
 
 -- a token that touches the next, and one that doesn't
 abbrev joined : ℕ → Entry

@@ -1,6 +1,6 @@
 -- The fields of a parser, as contracts see them.
 use Rattle.std.proofs.Common.{◌≡◌, ◌+◌, ◌<◌, ◌∙◌, ℕ, Bool, true, false, nat_eq, nat_lt, if◌then◌else◌, ap, refl, arith}
-use Rattle.squawk_parser.specs.ParserInput.{kind_in}
+use Rattle.squawk_table.specs.ParserInput.{kind_in}
 use Rattle.squawk_parser.specs.declared.parser.Parser.TheInside.{Inside}
 use Rattle.squawk_parser.specs.Draft.{IsAboveIds}
 use Rattle.squawk_parser.specs.State.{State, Goes, IsSound, kind_at}

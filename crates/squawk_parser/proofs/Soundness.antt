@@ -6,11 +6,11 @@ use Rattle.std.proofs.lemmas.List.{append-nil}
 use Rattle.std.proofs.lemmas.List.Sums.{sum_by-append}
 use Rattle.std.proofs.lemmas.List.Elements.{All-head, All-tail, All-push, All-weaker}
 use Rattle.std.proofs.lemmas.Grind.{flat_map-append}
-use Rattle.squawk_parser.specs.Steps as steps
-use Rattle.squawk_parser.specs.Steps.{Step, eaten, count_of}
+use Rattle.squawk_table.specs.Steps as steps
+use Rattle.squawk_table.specs.Steps.{Step, eaten, count_of}
 use Rattle.squawk_parser.specs.Draft.{Made, Item, Hole, Close, Token, ByStart, ids, ids_of, steps_of, plain, HasNoIdTwice, IsAboveIds}
 use Rattle.squawk_parser.specs.Edits.{started, completed, filled, with_token}
-use Rattle.squawk_parser.specs.Shape.{EatsOne}
+use Rattle.squawk_table.specs.Shape.{EatsOne}
 use Rattle.squawk_parser.specs.State.{State, IsSound, Goes}
 use Rattle.squawk_parser.specs.declared.parser.parse_error.ParseError.TheVariants.{OutOfMemory, TooManyEvents}
 use Rattle.squawk_parser.proofs.Sums.{count_by-cons}

@@ -1,7 +1,7 @@
 -- The record of a parse.
 use Rattle.std.specs.Prelude.{◌≡◌, ℕ, ◌<◌, ◌≤◌, ◌==◌, Bool, true, false, List, [], ◌∷◌, All, count_by}
 use Rattle.std.specs.List.{flat_map}
-use Rattle.squawk_parser.specs.Steps as steps
+use Rattle.squawk_table.specs.Steps as steps
 
 -- how a hole was made: by a start, or in front of a node
 pub data Made : Type 0 where

@@ -1,6 +1,6 @@
 -- What a parser sees of its input.
 use Rattle.std.specs.Prelude.{ℕ, Bool, false, List, [], ◌∷◌, take, drop}
-use Rattle.squawk_parser.specs.ParserInput.{Entry}
+use Rattle.squawk_table.specs.ParserInput.{Entry}
 
 -- the tokens from this place on that stand before the limit
 abbrev pub seen_from : List Entry → ℕ → ℕ → List Entry

@@ -1,8 +1,8 @@
 -- Names of operators, after PostgreSQL's CREATE OPERATOR.
 use Rattle.std.specs.Prelude.{ℕ, zero, suc, ◌==◌, ◌&&◌, ◌||◌, not, Bool, true, false, List, [], ◌∷◌, length, take, if◌then◌else◌}
 use Rattle.std.specs.List.{list_any}
-use Rattle.squawk_parser.specs.Kinds.{AT, POUND, TILDE, QUESTION, BANG, MINUS, AMP, PIPE, PLUS, CARET, PERCENT, BACKTICK}
-use Rattle.squawk_parser.specs.ParserInput.{Entry, kind_in}
+use Rattle.squawk_kinds.specs.Kinds.{AT, POUND, TILDE, QUESTION, BANG, MINUS, AMP, PIPE, PLUS, CARET, PERCENT, BACKTICK}
+use Rattle.squawk_table.specs.ParserInput.{Entry, kind_in}
 use Rattle.squawk_parser.specs.LookAhead.{touches_next}
 
 -- the signs, in which a name of several characters may not end

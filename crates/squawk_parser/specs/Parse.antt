@@ -1,9 +1,9 @@
 -- What a parse answers.
 use Rattle.std.specs.Prelude.{◌≡◌, ℕ, Some, None, List, ◌⊎◌}
-use Rattle.squawk_parser.specs.ParserInput.{Entry}
+use Rattle.squawk_table.specs.ParserInput.{Entry}
 use Rattle.squawk_parser.specs.Draft.{Draft, HasNoHole, plain}
-use Rattle.squawk_parser.specs.Steps.{Walk}
-use Rattle.squawk_parser.specs.Shape.{IsBalanced, IsOver}
+use Rattle.squawk_table.specs.Steps.{Walk}
+use Rattle.squawk_table.specs.Shape.{IsBalanced, IsOver}
 use Rattle.squawk_parser.specs.State.{State, IsSound}
 use Rattle.squawk_parser.specs.declared.parser.parse_error.ParseError.{ParseError}
 use Rattle.squawk_parser.specs.declared.parser.parse_error.ParseError.TheVariants.{OutOfMemory}

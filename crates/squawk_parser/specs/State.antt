@@ -1,10 +1,10 @@
 -- What contracts see of a parser.
 use Rattle.std.specs.Prelude.{◌≡◌, ℕ, ◌+◌, ◌<◌, ◌≤◌, Option, Some, None, List, length, nat_lt, if◌then◌else◌, IsSome, Contains}
-use Rattle.squawk_parser.specs.Kinds.{EOF}
-use Rattle.squawk_parser.specs.ParserInput.{Entry, kind_in, contextual_kind_in}
+use Rattle.squawk_kinds.specs.Kinds.{EOF}
+use Rattle.squawk_table.specs.ParserInput.{Entry, kind_in, contextual_kind_in}
 use Rattle.squawk_parser.specs.Draft.{Draft, nothing, Hole, Mark, HasNoIdTwice, plain}
-use Rattle.squawk_parser.specs.Steps.{eaten}
-use Rattle.squawk_parser.specs.Shape.{IsBalanced, IsOver}
+use Rattle.squawk_table.specs.Steps.{eaten}
+use Rattle.squawk_table.specs.Shape.{IsBalanced, IsOver}
 use Rattle.squawk_parser.specs.declared.parser.parse_error.ParseError.{ParseError}
 use Rattle.squawk_parser.specs.declared.parser.parse_error.ParseError.TheVariants.{OutOfMemory, TooManyEvents}
 

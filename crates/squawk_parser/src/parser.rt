@@ -11,12 +11,11 @@ mod look_ahead;
 pub mod marker;
 pub mod parse_error;
 
-use crate::input::Input;
-use crate::output::Output;
 use crate::parser::draft::Draft;
 pub use grammar::{EntryPoint, Grammar};
 pub use marker::{CompletedMarker, Marker};
 pub use parse_error::ParseError;
+use squawk_table::{Input, Output};
 use std::alloc::{AllocError, Global};
 use std::marker::Model;
 

@@ -8,9 +8,9 @@ use Rattle.std.proofs.lemmas.Str.Ascii.{IsAscii-cons, IsAscii-nil}
 use Rattle.serde_json.proofs.OnLiterals.{serde_json_on_literals}
 use Rattle.squawk_tokens.specs.declared.token.Token.{Token}
 use Rattle.squawk_tokens.specs.declared.token.TokenKind.TheVariants.{Ident, Whitespace}
-use Rattle.squawk_parser.specs.RawTable.{Table, table_of}
-use Rattle.squawk_parser.specs.TokenKinds.{Keywords}
-use Rattle.squawk_parser.specs.Sent.{sent_list}
+use Rattle.squawk_table.specs.RawTable.{Table, table_of}
+use Rattle.squawk_kinds.specs.Keywords.{Keywords}
+use Rattle.squawk_table.specs.Sent.{sent_list}
 use Rattle.squawk_steps.specs.Lines.{step_lines, last_line}
 use Rattle.squawk_steps.specs.Fixed.{node_steps, six_lines}
 

@@ -5,9 +5,9 @@ use Rattle.std.proofs.lemmas.List.Elements.{All-nil, All-cons}
 use Rattle.squawk_tokens.specs.declared.check.TableError.{TableError}
 use Rattle.squawk_tokens.specs.declared.check.TableError.TheVariants.{TextTooLong, BadToken, TextLeft, OutOfMemory}
 use Rattle.squawk_tokens.specs.AcceptedTokens.{IsGoodAt, Refuses}
-use Rattle.squawk_parser.specs.Steps.{Walk, Token, Enter, Exit, openings, closings}
-use Rattle.squawk_parser.specs.Shape.{Fits, EatsOne}
-use Rattle.squawk_parser.specs.ParserInput.{Entry, kind_in, input_of}
+use Rattle.squawk_table.specs.Steps.{Walk, Token, Enter, Exit, openings, closings}
+use Rattle.squawk_table.specs.Shape.{Fits, EatsOne}
+use Rattle.squawk_table.specs.ParserInput.{Entry, kind_in, input_of}
 use Rattle.squawk_parser.specs.Parse.{IsParse}
 use Rattle.squawk_steps.specs.Fixed.{node_steps, IsTwoTokenNode}
 use Rattle.squawk_steps.proofs.FixedLines.{no_keywords, fixed_tokens, fixed_table}

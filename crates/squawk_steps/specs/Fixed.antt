@@ -1,11 +1,11 @@
 -- What the fixed run leaves and prints.
 use Rattle.std.specs.Prelude.{◌≡◌, ◌≢◌, ℕ, List, [], ◌∷◌, codes}
-use Rattle.squawk_parser.specs.Kinds.{EOF}
-use Rattle.squawk_parser.specs.ParserInput.{Entry, kind_in}
+use Rattle.squawk_kinds.specs.Kinds.{EOF}
+use Rattle.squawk_table.specs.ParserInput.{Entry, kind_in}
 use Rattle.squawk_parser.specs.Draft.{Draft, plain}
 use Rattle.squawk_steps.specs.declared.fault.Fault.{Fault}
 use Rattle.squawk_steps.specs.declared.fault.Fault.TheVariants.{TextTooLong, BadToken, TextLeft, TooManyEvents, DoesNotFit, Memory, Io}
-use Rattle.squawk_parser.specs.Steps.{Step, Token, Enter, Exit}
+use Rattle.squawk_table.specs.Steps.{Step, Token, Enter, Exit}
 
 -- one node with two tokens
 abbrev pub node_steps : ℕ → ℕ → List Step

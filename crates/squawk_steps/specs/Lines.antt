@@ -4,8 +4,8 @@ use Rattle.std.specs.List.{flat_map}
 use Rattle.std.specs.Fmt.{decimal}
 use Rattle.serde_json.specs.Data.{string}
 use Rattle.serde_json.specs.Written.{compact_text}
-use Rattle.squawk_parser.specs.declared.shortcuts.str_step.OwnedStep.{OwnedStep}
-use Rattle.squawk_parser.specs.declared.shortcuts.str_step.OwnedStep.TheVariants.{Token, Enter, Exit}
+use Rattle.squawk_table.specs.declared.shortcuts.str_step.OwnedStep.{OwnedStep}
+use Rattle.squawk_table.specs.declared.shortcuts.str_step.OwnedStep.TheVariants.{Token, Enter, Exit}
 
 -- a text as a JSON string
 abbrev pub json_of : List ℕ → List ℕ

@@ -34,7 +34,7 @@ pub struct NoKeywords;
 
 impl Vocabulary for NoKeywords {
     ghost use Rattle.std.specs.Prelude.{None};
-    ghost use Rattle.squawk_parser.specs.TokenSets.{no_kinds};
+    ghost use Rattle.squawk_kinds.specs.TokenSets.{no_kinds};
 
     ghost keyword = { λ _ _. None };
 

@@ -1,7 +1,7 @@
 //! Steps as lines.
 ghost use Rattle.std.specs.Prelude.{◌≡◌, [], ◌++◌, string_bytes, IfOk, OnOk, OnErr};
 ghost use Rattle.std.specs.Str.{chars};
-ghost use Rattle.squawk_parser.specs.declared.shortcuts.str_step.OwnedStep.TheVariants.{Token, Enter};
+ghost use Rattle.squawk_table.specs.declared.shortcuts.str_step.OwnedStep.TheVariants.{Token, Enter};
 ghost use Rattle.squawk_steps.specs.Lines.{step_line, json_of, last_line};
 
 use serde_json::Value;

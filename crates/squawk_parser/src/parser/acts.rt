@@ -2,13 +2,13 @@
 ghost use Rattle.std.specs.Prelude.{◌≡◌, ◌≢◌, ◌+◌, ◌<◌, IsTrue, IsSome, not};
 ghost use Rattle.squawk_parser.specs.Draft.{ByStart, IsAboveIds};
 ghost use Rattle.squawk_parser.specs.Edits.{started, with_token};
-ghost use Rattle.squawk_parser.specs.Kinds.{EOF};
+ghost use Rattle.squawk_kinds.specs.Kinds.{EOF};
 ghost use Rattle.squawk_parser.specs.State.{Goes, Keeps, Records, kind_at};
 
 use crate::parser::Parser;
 use crate::parser::marker::Marker;
 use crate::parser::parse_error::ParseError;
-use crate::syntax_kind::SyntaxKind;
+use squawk_kinds::SyntaxKind;
 
 impl Parser<'_> {
     /// Begins a node: all that is recorded until its marker is completed will stand in it.

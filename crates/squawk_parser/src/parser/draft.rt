@@ -3,10 +3,10 @@ ghost use Rattle.std.specs.Prelude.{◌≡◌, ◌+◌, ◌^◌, ◌<◌, [], �
 ghost use Rattle.squawk_parser.specs.Draft.{plain};
 ghost use Rattle.squawk_parser.specs.Edits.{started, filled, completed, with_token};
 ghost use Rattle.squawk_parser.specs.DraftView.{item_of};
-ghost use Rattle.squawk_parser.specs.Steps.{Walk};
+ghost use Rattle.squawk_table.specs.Steps.{Walk};
 
-use crate::output::Output;
-use crate::syntax_kind::SyntaxKind;
+use squawk_kinds::SyntaxKind;
+use squawk_table::{Output, OutputBuilder};
 use std::alloc::{AllocError, Global};
 use std::marker::Model;
 
@@ -127,7 +127,7 @@ impl Draft {
         ensures { IfOk result (λ o. o ≡ record { steps = plain self.items; recorded = self.recorded; turns = 0 }) }
     {
         let Draft { items, recorded } = self;
-        let mut output = Output::with_capacity(alloc, items.len(), recorded)?;
+        let mut output = OutputBuilder::with_capacity(alloc, items.len(), recorded)?;
         for item in &items {
             match *item {
                 DraftItem::Hole { id: _ } => {}
@@ -139,7 +139,7 @@ impl Draft {
                 } => output.token(kind, n_input_tokens)?,
             }
         }
-        Ok(output)
+        Ok(output.finish())
     }
 }
 

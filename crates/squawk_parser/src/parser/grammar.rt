@@ -4,10 +4,9 @@ ghost use Rattle.squawk_parser.specs.Draft.{Draft, HasNoHole, plain};
 ghost use Rattle.squawk_parser.specs.State.{State, IsFresh};
 ghost use Rattle.squawk_parser.specs.Parse.{IsParse, IsRefused};
 
-use crate::input::Input;
-use crate::output::Output;
 use crate::parser::Parser;
 use crate::parser::parse_error::ParseError;
+use squawk_table::{Input, Output};
 use std::alloc::{AllocError, Global};
 
 /// Where a grammar begins.
@@ -24,7 +23,7 @@ pub enum EntryPoint {
 /// parser was refused, the parser keeps.
 pub trait Grammar {
     ghost use Rattle.std.specs.Prelude.{List, ◌≡◌, OnOk};
-    ghost use Rattle.squawk_parser.specs.ParserInput.{Entry};
+    ghost use Rattle.squawk_table.specs.ParserInput.{Entry};
     ghost use Rattle.squawk_parser.specs.Draft.{Draft, HasNoHole};
     ghost use Rattle.squawk_parser.specs.State.{Goes, Keeps, IsFresh};
     ghost use Rattle.squawk_parser.specs.declared.parser.grammar.EntryPoint.{EntryPoint};

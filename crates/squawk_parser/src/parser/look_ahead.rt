@@ -4,11 +4,10 @@
 //! or past it; there, and past the input, both kinds are [`SyntaxKind::EOF`].
 ghost use Rattle.std.specs.Prelude.{◌≡◌, ◌+◌, ◌<◌, ◌==◌, SomeIff};
 ghost use Rattle.squawk_parser.specs.State.{kind_at, contextual_kind_at};
-ghost use Rattle.squawk_parser.specs.TokenSets.{has};
+ghost use Rattle.squawk_kinds.specs.TokenSets.{has};
 
 use crate::parser::Parser;
-use crate::syntax_kind::SyntaxKind;
-use crate::token_set::TokenSet;
+use squawk_kinds::{SyntaxKind, TokenSet};
 
 impl Parser<'_> {
     /// The kind of the current token.

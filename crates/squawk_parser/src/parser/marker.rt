@@ -1,12 +1,12 @@
 //! Markers: nodes that are begun, and nodes that are complete.
 ghost use Rattle.std.specs.Prelude.{◌≡◌, ◌≢◌};
 ghost use Rattle.squawk_parser.specs.Edits.{completed};
-ghost use Rattle.squawk_parser.specs.Kinds.{TOMBSTONE};
+ghost use Rattle.squawk_kinds.specs.Kinds.{TOMBSTONE};
 ghost use Rattle.squawk_parser.specs.State.{Keeps, Records, HasHole};
 
 use crate::parser::Parser;
 use crate::parser::parse_error::ParseError;
-use crate::syntax_kind::SyntaxKind;
+use squawk_kinds::SyntaxKind;
 use std::marker::Model;
 
 /// A node that [`Parser::start`] began and that has no kind yet.

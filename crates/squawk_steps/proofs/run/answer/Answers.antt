@@ -1,9 +1,9 @@
 use Rattle.std.proofs.Common.{◌≡◌, ◌∙◌, ◌++◌, ℕ, Bool, true, List, [], ap, refl}
-use Rattle.squawk_parser.specs.ParserInput.{input_of}
-use Rattle.squawk_parser.specs.RawTable.{Table}
-use Rattle.squawk_parser.specs.Sent.{sent_list}
-use Rattle.squawk_parser.specs.Shape.{Fits}
-use Rattle.squawk_parser.specs.Steps.{Step}
+use Rattle.squawk_table.specs.ParserInput.{input_of}
+use Rattle.squawk_table.specs.RawTable.{Table}
+use Rattle.squawk_table.specs.Sent.{sent_list}
+use Rattle.squawk_table.specs.Shape.{Fits}
+use Rattle.squawk_table.specs.Steps.{Step}
 use Rattle.squawk_steps.specs.Fixed.{node_steps}
 use Rattle.squawk_steps.specs.Lines.{step_lines, last_line}
 use Rattle.squawk_steps.proofs.FixedLines.{no_keywords, fixed_table, step_lines-fixed}

@@ -1,0 +1,14 @@
+//! Kinds of tokens and nodes, sets of token kinds, and the caller's keywords.
+//!
+//! `squawk_parser` hands on all that a user needs.
+#![tactic(auto)]
+
+pub mod classes;
+pub mod syntax_kind;
+pub mod token_set;
+pub mod vocabulary;
+
+pub use classes::{is_col_name_keyword, is_reserved_keyword, is_type_func_name_keyword};
+pub use syntax_kind::SyntaxKind;
+pub use token_set::TokenSet;
+pub use vocabulary::Vocabulary;

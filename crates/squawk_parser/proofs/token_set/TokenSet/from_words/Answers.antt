@@ -1,5 +1,0 @@
-use Rattle.squawk_parser.proofs.TokenSetLemmas.{has-bit}
-use Rattle.squawk_parser.proofs.token_set.TokenSet.from_words.Goals as goal
-
-pub returns-clause-kinds : goal.returns-clause-kinds
-returns-clause-kinds c k = has-bit c.args.words k

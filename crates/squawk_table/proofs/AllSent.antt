@@ -1,0 +1,93 @@
+-- The sent list, once all steps are sent.
+use Rattle.std.proofs.Common.{◌≡◌, ◌∙◌, ℕ, zero, suc, ◌≤◌, List, [], ◌++◌, length, drop, slice_index, arith, ap, sym, refl, inl, inr}
+use Rattle.std.specs.Prelude.{encode_utf8_all}
+use Rattle.std.specs.Str.{chars}
+use Rattle.std.proofs.lemmas.Bool.{cases_lt}
+use Rattle.std.proofs.lemmas.List.{append-nil, append_cancel_left, drop_all, length-drop}
+use Rattle.std.proofs.lemmas.Str.{IsUtf8-drop, encodes-chars, chars-nil}
+use Rattle.squawk_table.specs.ParserInput.{input_of}
+use Rattle.squawk_table.specs.RawTable.{Table, IsTable, raw_after, raw_tokens}
+use Rattle.squawk_table.specs.Sent.{past_trivia, after_input, input_tokens, sent_list, texts_of, IsBeginning}
+use Rattle.squawk_table.specs.Shape.{Fits, no_keywords}
+use Rattle.squawk_table.specs.Steps.{Step, eaten}
+use Rattle.squawk_table.proofs.InputTokens.{length-entries_of, token_after, none_after}
+use Rattle.squawk_table.proofs.RawTokens.{raw_after-next, raw_after-end}
+use Rattle.squawk_table.proofs.Received.{left_before}
+use Rattle.squawk_table.proofs.RootEnd.{left_before-all}
+use Rattle.squawk_table.proofs.SentSteps.{IsOverRaw}
+use Rattle.squawk_table.proofs.SentTexts.{raw_chars, texts_of-sent_below}
+use Rattle.squawk_table.proofs.SourceChars.{raw_chars-raw_after, raw_chars-raw_tokens}
+
+-- the starts ascend, so that no table has more raw tokens than bytes
+pub start-ge : (t : Table) → IsTable t → (i : ℕ) → i ≤ length t.kinds → i ≤ slice_index t.starts i
+start-ge t table zero le = omega arith
+start-ge t table (suc i) le = omega (arith, start-ge t table i (omega arith), table.ascends i (suc i) (omega arith) (omega (arith, table.entries)), table.entries)
+
+-- a walk that fits a table has no more tokens than its raw tokens have
+pub IsOverRaw-from_fits : (t : Table) (steps : List Step) → Fits t steps → IsOverRaw (raw_tokens t) steps
+IsOverRaw-from_fits t steps fits =
+    record { each = fits.over.each; within = omega (arith, fits.over.within, length-entries_of no_keywords (raw_tokens t)) }
+
+-- the end of the source is the start behind all raw tokens, and no other
+pub starts_at_end : (t : Table) → IsTable t → (place : ℕ) → place ≤ length t.kinds → slice_index t.starts place ≡ length t.text → place ≡ length t.kinds
+starts_at_end t table place le e =
+    elim (cases_lt place (length t.kinds)) [
+      | inl lt ↦ absurd (omega (arith, table.ascends place (length t.kinds) lt (omega (arith, table.entries)), table.ends))
+      | inr past ↦ omega arith
+    ]
+
+none_left : (t : Table) (place : ℕ) → place ≤ length t.kinds → raw_after t place ≡ [] → place ≡ length t.kinds
+none_left t place le none =
+    elim (cases_lt place (length t.kinds)) [
+      | inl lt ↦ let some = sym (raw_after-next t place lt) ∙ none in absurd (omega (arith, ap length some))
+      | inr past ↦ omega arith
+    ]
+
+module _ (t : Table) (table : IsTable t) (steps : List Step) (fits : Fits t steps) (place : ℕ) (within : place ≤ length t.kinds)
+    (left : raw_after t place ≡ left_before (raw_tokens t) steps (length steps)) where
+  rest : raw_after t place ≡ past_trivia (after_input (eaten steps) (raw_tokens t))
+  rest = left ∙ left_before-all (raw_tokens t) steps (length steps) fits.root refl
+
+  pub all_eaten : slice_index t.starts place ≡ length t.text → eaten steps ≡ length (input_of no_keywords t)
+  all_eaten end =
+      let count = length-entries_of no_keywords (raw_tokens t) in
+      let none = sym rest ∙ raw_after-end t place (omega (arith, starts_at_end t table place within end)) in
+      elim (cases_lt (eaten steps) (length (input_tokens (raw_tokens t)))) [
+        | inl lt ↦
+            let next = token_after (eaten steps) (raw_tokens t) lt in
+            let some = sym next.stands ∙ none in
+            absurd (omega (arith, ap length some))
+        | inr past ↦ omega (arith, fits.over.within)
+      ]
+
+  pub end_if_eaten : eaten steps ≡ length (input_of no_keywords t) → slice_index t.starts place ≡ length t.text
+  end_if_eaten all =
+      let count = length-entries_of no_keywords (raw_tokens t) in
+      let none = rest ∙ none_after (eaten steps) (raw_tokens t) (omega arith) in
+      ap (slice_index t.starts) (none_left t place within none) ∙ table.ends
+
+  -- what is sent, and the rest of the source
+  sent_and_rest : texts_of (sent_list t steps) ++ chars (drop (slice_index t.starts place) t.text) ≡ chars t.text
+  sent_and_rest =
+      let sent = texts_of (sent_list t steps) in
+      let rest_chars = sym (raw_chars-raw_after t table place within) ∙ ap raw_chars left in
+      ap (λ xs. sent ++ xs) rest_chars
+      ∙ (texts_of-sent_below (raw_tokens t) steps (IsOverRaw-from_fits t steps fits) (length steps) (omega arith) ∙ raw_chars-raw_tokens t table)
+
+  pub beginning : IsBeginning (texts_of (sent_list t steps)) (chars t.text)
+  beginning = (chars (drop (slice_index t.starts place) t.text), sent_and_rest)
+
+  pub whole_text : slice_index t.starts place ≡ length t.text → texts_of (sent_list t steps) ≡ chars t.text
+  whole_text end =
+      let sent = texts_of (sent_list t steps) in
+      let none : chars (drop (slice_index t.starts place) t.text) ≡ [] = ap chars (drop_all (slice_index t.starts place) t.text (omega arith)) ∙ chars-nil in
+      sym (append-nil sent) ∙ (ap (λ xs. sent ++ xs) (sym none) ∙ sent_and_rest)
+
+  pub end_if_whole : texts_of (sent_list t steps) ≡ chars t.text → slice_index t.starts place ≡ length t.text
+  end_if_whole whole =
+      let sent = texts_of (sent_list t steps) in
+      let start = slice_index t.starts place in
+      let boundary = table.boundaries place (omega (arith, table.entries)) in
+      let none : chars (drop start t.text) ≡ [] = append_cancel_left sent (chars (drop start t.text)) [] (sent_and_rest ∙ (sym whole ∙ sym (append-nil sent))) in
+      let nothing : drop start t.text ≡ [] = sym (encodes-chars (drop start t.text) (IsUtf8-drop t.text start table.utf8 boundary)) ∙ ap encode_utf8_all none in
+      omega (arith, ap length nothing, length-drop start t.text, boundary.0)

@@ -1,0 +1,9 @@
+pub mod TokenKinds
+pub mod RawTable
+pub mod ParserInput
+pub mod InputView
+pub mod Steps
+pub mod StepViews
+pub mod Shape
+pub mod Sent
+pub mod Sending

@@ -1,0 +1,69 @@
+//! The syntax kinds of raw tokens.
+ghost use Rattle.std.specs.Prelude.{◌≡◌};
+ghost use Rattle.squawk_table.specs.TokenKinds.{kind_of, literal_kind_of};
+
+use squawk_kinds::{SyntaxKind, Vocabulary};
+use squawk_tokens::{LiteralKind, TokenKind};
+
+/// The syntax kind of a raw token with this text.
+pub(super) fn syntax_kind<V: Vocabulary>(kind: TokenKind, text: &str, vocabulary: &V) -> SyntaxKind
+    ensures { result ≡ kind_of (V.keyword vocabulary.now) kind text.now }
+{
+    match kind {
+        TokenKind::Unknown => SyntaxKind::ERROR,
+        TokenKind::LineComment | TokenKind::BlockComment { .. } => SyntaxKind::COMMENT,
+        TokenKind::Whitespace => SyntaxKind::WHITESPACE,
+        TokenKind::Ident => vocabulary.from_keyword(text).unwrap_or(SyntaxKind::IDENT),
+        TokenKind::QuotedIdent { .. } => SyntaxKind::IDENT,
+        TokenKind::PsqlCommand { ends_query: true } => SyntaxKind::PSQL_TERMINATOR_TEXT,
+        TokenKind::PsqlCommand { ends_query: false } => SyntaxKind::PSQL_COMMAND_TEXT,
+        TokenKind::PositionalParam { .. } => SyntaxKind::POSITIONAL_PARAM,
+        TokenKind::Literal { kind } => literal_kind(kind),
+        TokenKind::Semi => SyntaxKind::SEMICOLON,
+        TokenKind::Comma => SyntaxKind::COMMA,
+        TokenKind::Dot => SyntaxKind::DOT,
+        TokenKind::DotDot => SyntaxKind::DOT_DOT,
+        TokenKind::OpenParen => SyntaxKind::L_PAREN,
+        TokenKind::CloseParen => SyntaxKind::R_PAREN,
+        TokenKind::OpenBracket => SyntaxKind::L_BRACK,
+        TokenKind::CloseBracket => SyntaxKind::R_BRACK,
+        TokenKind::OpenCurly => SyntaxKind::L_CURLY,
+        TokenKind::CloseCurly => SyntaxKind::R_CURLY,
+        TokenKind::At => SyntaxKind::AT,
+        TokenKind::Pound => SyntaxKind::POUND,
+        TokenKind::Tilde => SyntaxKind::TILDE,
+        TokenKind::Question => SyntaxKind::QUESTION,
+        TokenKind::Colon => SyntaxKind::COLON,
+        TokenKind::Eq => SyntaxKind::EQ,
+        TokenKind::Bang => SyntaxKind::BANG,
+        TokenKind::Lt => SyntaxKind::L_ANGLE,
+        TokenKind::Gt => SyntaxKind::R_ANGLE,
+        TokenKind::Minus => SyntaxKind::MINUS,
+        TokenKind::And => SyntaxKind::AMP,
+        TokenKind::Or => SyntaxKind::PIPE,
+        TokenKind::Plus => SyntaxKind::PLUS,
+        TokenKind::Star => SyntaxKind::STAR,
+        TokenKind::Slash => SyntaxKind::SLASH,
+        TokenKind::Caret => SyntaxKind::CARET,
+        TokenKind::Percent => SyntaxKind::PERCENT,
+        TokenKind::Backtick => SyntaxKind::BACKTICK,
+        TokenKind::Eof => SyntaxKind::EOF,
+    }
+}
+
+/// The syntax kind of a literal.
+fn literal_kind(kind: LiteralKind) -> SyntaxKind
+    ensures { result ≡ literal_kind_of kind }
+{
+    match kind {
+        LiteralKind::Int { .. } => SyntaxKind::INT_NUMBER,
+        LiteralKind::Numeric { .. } => SyntaxKind::NUMERIC_NUMBER,
+        LiteralKind::Str { .. } => SyntaxKind::STRING,
+        LiteralKind::NationalStr { .. } => SyntaxKind::NATIONAL_STRING,
+        LiteralKind::ByteStr { .. } => SyntaxKind::BYTE_STRING,
+        LiteralKind::BitStr { .. } => SyntaxKind::BIT_STRING,
+        LiteralKind::DollarQuotedString { .. } => SyntaxKind::DOLLAR_QUOTED_STRING,
+        LiteralKind::UnicodeEscStr { .. } => SyntaxKind::UNICODE_ESC_STRING,
+        LiteralKind::EscStr { .. } => SyntaxKind::ESC_STRING,
+    }
+}

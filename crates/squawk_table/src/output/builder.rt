@@ -1,0 +1,86 @@
+//! How an output is made.
+ghost use Rattle.std.specs.Prelude.{◌≡◌, [], ◌∷◌, ◌++◌, IfOk};
+ghost use Rattle.squawk_table.specs.Steps.{Token, Enter, Exit};
+
+use crate::output::Output;
+use crate::output::step::Step;
+use squawk_kinds::SyntaxKind;
+use std::alloc::{AllocError, Global};
+use std::marker::Model;
+
+/// An output that is being made, step by step. Contracts see it as the output that it will be.
+///
+/// It is made for the parser. `squawk_parser` doesn't hand it on: for its users an output comes
+/// from [`Output::empty`] or from a parse, and from nothing else.
+#[derive(Drop)]
+pub struct OutputBuilder {
+    steps: Vec<Step>,
+    recorded: u32,
+}
+
+impl Model for OutputBuilder {
+    ghost use Rattle.squawk_table.specs.Steps.{Walk};
+
+    ghost Value = { Walk };
+
+    ghost use Rattle.std.specs.Prelude.{map};
+    ghost use Rattle.squawk_table.specs.StepViews.{step_of};
+
+    ghost view = { λ b. record { steps = map step_of b.steps.items; recorded = b.recorded; turns = 0 } };
+}
+
+impl OutputBuilder {
+    /// The output without steps of a parse that recorded so many events, with room for `steps`
+    /// steps.
+    pub fn with_capacity(
+        alloc: Global,
+        steps: usize,
+        recorded: u32,
+    ) -> Result<OutputBuilder, AllocError>
+        ensures { IfOk result (λ o. o ≡ record { steps = []; recorded = recorded; turns = 0 }) }
+    {
+        Ok(OutputBuilder {
+            steps: Vec::with_capacity(alloc, steps)?,
+            recorded,
+        })
+    }
+
+    /// Puts a token at the end.
+    pub fn token(&mut self, kind: SyntaxKind, n_input_tokens: u8) -> Result<(), AllocError>
+        ensures { IfOk result (λ _. self.new ≡ record self.old { steps = self.old.steps ++ Token kind n_input_tokens ∷ [] }) }
+    {
+        self.steps.push(Step::Token {
+            kind,
+            n_input_tokens,
+        })?;
+        Ok(())
+    }
+
+    /// Puts the beginning of a node at the end.
+    pub fn enter_node(&mut self, kind: SyntaxKind) -> Result<(), AllocError>
+        ensures { IfOk result (λ _. self.new ≡ record self.old { steps = self.old.steps ++ Enter kind ∷ [] }) }
+    {
+        self.steps.push(Step::Enter { kind })?;
+        Ok(())
+    }
+
+    /// Puts the end of a node at the end.
+    pub fn leave_node(&mut self) -> Result<(), AllocError>
+        ensures { IfOk result (λ _. self.new ≡ record self.old { steps = self.old.steps ++ Exit ∷ [] }) }
+    {
+        self.steps.push(Step::Exit)?;
+        Ok(())
+    }
+
+    /// The output.
+    pub fn finish(self) -> Output
+        ensures { result ≡ self }
+    {
+        let OutputBuilder { steps, recorded } = self;
+        Output {
+            steps,
+            recorded,
+            turns: 0,
+        }
+    }
+}

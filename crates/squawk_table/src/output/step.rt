@@ -1,0 +1,19 @@
+//! The steps of an output.
+
+use squawk_kinds::SyntaxKind;
+
+/// A step of a walk over a syntax tree.
+#[derive(Clone, Copy, Debug, PartialEq, Eq)]
+pub enum Step {
+    /// A token of a kind, with so many tokens of the input.
+    Token {
+        kind: SyntaxKind,
+        n_input_tokens: u8,
+    },
+    /// The beginning of a node.
+    Enter {
+        kind: SyntaxKind,
+    },
+    /// The end of the node that was entered last and not left yet.
+    Exit,
+}

@@ -1,0 +1,122 @@
+//! Trivia put back: an output sent over its text.
+ghost use Rattle.std.specs.Prelude.{◌≡◌, ◌+◌, ◌^◌, ◌<◌, ◌≤◌, ◌↔◌, List, ◌++◌, length, map, IsTrue, OnOk, IfOk, IfErr};
+ghost use Rattle.std.specs.Str.{chars};
+ghost use Rattle.squawk_table.specs.ParserInput.{input_of};
+ghost use Rattle.squawk_table.specs.RawTable.{raw_after};
+ghost use Rattle.squawk_table.specs.Sent.{sent_list, sent_raw, leading_trivia, past_trivia, is_receiver, texts_of, IsBeginning, StopsWithin};
+ghost use Rattle.squawk_table.specs.Sending.{sent_here, HasToken, next_place, SendsOne};
+ghost use Rattle.squawk_table.specs.Shape.{Fits, StandsInOneRoot, no_keywords};
+ghost use Rattle.squawk_table.specs.StepViews.{step_of, owned_step_of};
+ghost use Rattle.squawk_table.specs.Steps.{eaten};
+ghost use Rattle.squawk_table.specs.declared.shortcuts.str_step.OwnedStep.{OwnedStep};
+
+mod fit;
+pub mod step_list;
+pub mod str_step;
+
+use crate::lexed_str::LexedStr;
+use crate::output::{Output, Step};
+pub use step_list::StepList;
+pub use str_step::{OwnedStep, StepSink, StrStep};
+
+impl LexedStr<'_> {
+    /// Sends the steps of an output to a sink, with the texts of its tokens and with the trivia
+    /// between them. Whether the output has all raw tokens that aren't trivia.
+    ///
+    /// Trivia goes directly before the next token, before the opening of a node, or before the end
+    /// of the last node, whichever comes first: so no node but the last begins or ends with it.
+    /// Where the sink refuses a step, nothing more is sent, and its refusal is answered.
+    ///
+    /// The output [`fits`](LexedStr::fits) the table.
+    pub fn intersperse_trivia<S: StepSink>(
+        &self,
+        output: &Output,
+        sink: &mut S,
+    ) -> Result<bool, S::Refusal>
+        requires { Fits self.now output.now.steps }
+
+        // All is eaten where the input is, and there the texts are the whole source.
+        ensures all { IfOk result (λ all. IsTrue all ↔ (eaten output.now.steps ≡ length (input_of no_keywords self.now))) }
+        ensures whole { IfOk result (λ all. IsTrue all ↔ (texts_of (sent_list self.now output.now.steps) ≡ chars self.now.text)) }
+        ensures beginning { OnOk result (IsBeginning (texts_of (sent_list self.now output.now.steps)) (chars self.now.text)) }
+
+        ensures ok { OnOk result ((l : List OwnedStep) → S.stands_after sink.old l
+            → S.stands_after sink.new (l ++ sent_list self.now output.now.steps)) }
+        ensures err { IfErr result (λ answer. (l : List OwnedStep) → S.stands_after sink.old l
+            → StopsWithin (S.stands_after sink.new) S.refuses l (sent_list self.now output.now.steps) answer) }
+    {
+        let steps = output.steps();
+        let len = self.len();
+        let mut place = 0;
+        for (i, step) in steps.iter().enumerate() {
+            if receives_trivia(steps, i) {
+                place = self.send_trivia(place, sink)?;
+            }
+            place = self.send_step(*step, place, sink)?;
+        }
+        Ok(place == len)
+    }
+
+    /// Sends the trivia that stands from a raw place on. The place behind it.
+    fn send_trivia<S: StepSink>(&self, from: usize, sink: &mut S) -> Result<usize, S::Refusal>
+        requires { from ≤ length self.now.kinds }
+        ensures place { IfOk result (λ to. (to ≤ length self.now.kinds) × (raw_after self.now to ≡ past_trivia (raw_after self.now from))) }
+        ensures ok { OnOk result ((l : List OwnedStep) → S.stands_after sink.old l
+            → S.stands_after sink.new (l ++ map sent_raw (leading_trivia (raw_after self.now from)))) }
+        ensures err { IfErr result (λ answer. (l : List OwnedStep) → S.stands_after sink.old l
+            → StopsWithin (S.stands_after sink.new) S.refuses l (map sent_raw (leading_trivia (raw_after self.now from))) answer) }
+    {
+        let mut place = from;
+        while place < self.len() && self.kind(place).is_trivia() {
+            sink.step(StrStep::Token {
+                kind: self.kind(place),
+                text: self.text(place),
+            })?;
+            place += 1;
+        }
+        Ok(place)
+    }
+
+    /// Sends a step; a token has the raw token at this place. The place behind it.
+    fn send_step<S: StepSink>(
+        &self,
+        step: Step,
+        place: usize,
+        sink: &mut S,
+    ) -> Result<usize, S::Refusal>
+        requires small { length self.now.kinds < 2 ^ 64 }
+        requires within { place ≤ length self.now.kinds }
+        requires token { HasToken self.now place (step_of step) }
+        ensures place { IfOk result (λ to. to ≡ next_place place (step_of step)) }
+        ensures sent { (l : List OwnedStep) → S.stands_after sink.old l → SendsOne (S.stands_after sink.new) S.refuses l (sent_here self.now place (step_of step)) result }
+    {
+        match step {
+            Step::Token { kind, .. } => {
+                let text = self.text(place);
+                sink.step(StrStep::Token { kind, text })?;
+                Ok(place + 1)
+            }
+            Step::Enter { kind } => {
+                sink.step(StrStep::Enter { kind })?;
+                Ok(place)
+            }
+            Step::Exit => {
+                sink.step(StrStep::Exit)?;
+                Ok(place)
+            }
+        }
+    }
+}
+
+/// Whether trivia may stand directly before step `i` of an output.
+fn receives_trivia(steps: &[Step], i: usize) -> bool
+    requires root { StandsInOneRoot (map step_of steps.now) }
+    requires within { i < length steps.now }
+    ensures { result ≡ is_receiver (map step_of steps.now) i }
+{
+    match steps[i] {
+        Step::Token { .. } => true,
+        Step::Enter { .. } => i > 0,
+        Step::Exit => i + 1 == steps.len(),
+    }
+}

@@ -1,0 +1,47 @@
+//! What is sent for an output over its text, and the trait of what it is sent to.
+ghost use Rattle.std.specs.Prelude.{List, [], ◌∷◌, ◌++◌, MatchResult};
+
+use crate::output::Text;
+use squawk_kinds::SyntaxKind;
+
+/// A step of a walk over a syntax tree, with the texts of its tokens.
+#[derive(Clone, Copy, Debug)]
+pub enum StrStep<'a> {
+    /// A token and the part of the source under it.
+    Token { kind: SyntaxKind, text: &'a str },
+    /// The beginning of a node.
+    Enter { kind: SyntaxKind },
+    /// The end of the node that was entered last and not left yet.
+    Exit,
+}
+
+/// The same, with texts of its own.
+#[derive(Debug, Drop)]
+pub enum OwnedStep {
+    Token { kind: SyntaxKind, text: Text },
+    Enter { kind: SyntaxKind },
+    Exit,
+}
+
+/// What steps are sent to: a builder of trees, a printer, a list.
+///
+/// A sink may refuse a step. It then stands as before.
+pub trait StepSink {
+    ghost use Rattle.squawk_table.specs.declared.shortcuts.str_step.OwnedStep.{OwnedStep};
+    ghost use Rattle.squawk_table.specs.StepViews.{owned_step_of};
+
+    /// Why a step was refused.
+    type Refusal;
+
+    /// Whether the sink stands after the steps of a list.
+    ghost stands_after: { Self → List OwnedStep → Type 0 };
+
+    /// Whether a step that came after the steps of a list may be refused with an answer.
+    ghost refuses: { List OwnedStep → OwnedStep → Self.Refusal → Type 0 };
+
+    /// Takes a step, or refuses it.
+    fn step(&mut self, step: StrStep<'_>) -> Result<(), Self::Refusal>
+        ensures { (l : List OwnedStep) → stands_after self.old l → MatchResult result
+            (λ _. stands_after self.new (l ++ owned_step_of step.entry ∷ []))
+            (λ answer. stands_after self.new l × refuses l (owned_step_of step.entry) answer) };
+}
