@@ -1,6 +1,7 @@
 //! Kinds of tokens and nodes, sets of token kinds, and the caller's keywords.
 //!
-//! `squawk_parser` hands on all that a user needs.
+//! `squawk_parser` hands on all that a user needs. Only `u16::from(kind)` is found nowhere but in crates
+//! that list this one.
 #![tactic(auto)]
 
 pub mod classes;
