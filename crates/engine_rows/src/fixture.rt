@@ -2,17 +2,20 @@
 
 pub mod calls;
 pub mod errors;
+pub mod keywords;
+pub mod looks;
 pub mod notes;
 pub mod output;
+pub mod signs;
 pub mod steps;
 pub mod words;
 
 pub use calls::{Calls, FixedGrammar};
+pub use keywords::{Keywords, NO_KEYWORDS};
 use squawk_parser::{EntryPoint, LexedStr, Output, Token, TokenKind};
 use std::alloc::Global;
 use std::test::Fail;
 pub use steps::{EXIT, assert_steps, enter, space_step, word_step};
-pub use words::{NO_WORDS, Words};
 
 /// The raw token of a word of so many bytes.
 pub fn word(len: u32) -> Token {
@@ -32,12 +35,12 @@ pub fn space(len: u32) -> Token {
 
 /// The table of a text without keywords.
 pub fn table<'a>(alloc: Global, text: &'a str, tokens: &[Token]) -> Result<LexedStr<'a>, Fail> {
-    Ok(LexedStr::new(alloc, text, tokens, &NO_WORDS)?)
+    Ok(LexedStr::new(alloc, text, tokens, &NO_KEYWORDS)?)
 }
 
 /// The output of the calls over a table.
 pub fn parse(alloc: Global, table: &LexedStr<'_>, calls: Calls) -> Result<Output, Fail> {
-    let input = table.to_input(alloc, &NO_WORDS)?;
+    let input = table.to_input(alloc, &NO_KEYWORDS)?;
     let grammar = FixedGrammar {
         source_file: calls,
         plpgsql: calls,

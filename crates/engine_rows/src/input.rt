@@ -1,12 +1,17 @@
 //! The tokens that a parser sees.
 
-use crate::fixture::{NO_WORDS, Words, space, word};
+use crate::fixture::{Keywords, NO_KEYWORDS, space, word};
 use squawk_parser::{Input, LexedStr, SyntaxKind, Token};
 use std::alloc::Global;
 use std::process::Abort;
 use std::test::Fail;
 
-fn input_of(alloc: Global, text: &str, tokens: &[Token], words: &Words<'_>) -> Result<Input, Fail> {
+fn input_of(
+    alloc: Global,
+    text: &str,
+    tokens: &[Token],
+    words: &Keywords<'_>,
+) -> Result<Input, Fail> {
     Ok(LexedStr::new(alloc, text, tokens, words)?.to_input(alloc, words)?)
 }
 
@@ -29,7 +34,7 @@ fn assert_kinds(rt: &impl Abort, input: &Input, wanted: &[(u16, u16)]) {
 
 #[test]
 fn contextual_keyword_is_an_identifier(rt: HostRuntime) -> Result<(), Fail> {
-    let words = Words {
+    let words = Keywords {
         keywords: &[],
         contextual_keywords: &[("message", 201), ("raise", 202), ("elsif", 203)],
     };
@@ -41,7 +46,7 @@ fn contextual_keyword_is_an_identifier(rt: HostRuntime) -> Result<(), Fail> {
 
 #[test]
 fn keyword_is_no_contextual_keyword(rt: HostRuntime) -> Result<(), Fail> {
-    let words = Words {
+    let words = Keywords {
         keywords: &[("select", 200), ("begin", 206), ("declare", 207)],
         contextual_keywords: &[],
     };
@@ -53,7 +58,7 @@ fn keyword_is_no_contextual_keyword(rt: HostRuntime) -> Result<(), Fail> {
 
 #[test]
 fn other_word_is_an_identifier_in_every_context(rt: HostRuntime) -> Result<(), Fail> {
-    let words = Words {
+    let words = Keywords {
         keywords: &[("select", 200)],
         contextual_keywords: &[("message", 201)],
     };
@@ -70,12 +75,17 @@ fn empty_input_is_at_its_end(rt: HostRuntime) {
 
 #[test]
 fn words_that_touch_are_joint(rt: HostRuntime) -> Result<(), Fail> {
-    let touching = input_of(rt.alloc(), "ab", &[word(1), word(1)], &NO_WORDS)?;
+    let touching = input_of(rt.alloc(), "ab", &[word(1), word(1)], &NO_KEYWORDS)?;
     assert_eq!(rt; touching.len(), 2);
     assert!(rt; touching.is_joint(0));
     assert!(rt; !touching.is_joint(1));
 
-    let apart = input_of(rt.alloc(), "a b", &[word(1), space(1), word(1)], &NO_WORDS)?;
+    let apart = input_of(
+        rt.alloc(),
+        "a b",
+        &[word(1), space(1), word(1)],
+        &NO_KEYWORDS,
+    )?;
     assert_eq!(rt; apart.len(), 2);
     assert!(rt; !apart.is_joint(0));
     assert!(rt; !apart.is_joint(1));

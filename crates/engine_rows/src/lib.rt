@@ -4,6 +4,8 @@
 #![tactic(auto)]
 
 #[cfg(test)]
+mod composites;
+#[cfg(test)]
 mod fitting;
 #[cfg(test)]
 mod fixture;
@@ -14,9 +16,13 @@ mod kinds;
 #[cfg(test)]
 mod lexical_errors;
 #[cfg(test)]
+mod limits;
+#[cfg(test)]
 mod looks;
 #[cfg(test)]
 mod memory;
+#[cfg(test)]
+mod operators;
 #[cfg(test)]
 mod parser;
 #[cfg(test)]

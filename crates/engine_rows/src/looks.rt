@@ -2,8 +2,9 @@
 
 use crate::fixture::notes::{NO, YES, note_three, yes_or_no};
 use crate::fixture::output::enter;
-use crate::fixture::{Words, space, word};
-use squawk_parser::{EntryPoint, Grammar, LexedStr, Parser, Step, SyntaxKind, TokenSet};
+use crate::fixture::words::no_words;
+use crate::fixture::{Keywords, space, word};
+use squawk_parser::{EntryPoint, Grammar, LexedStr, Parser, Step, SyntaxKind, TokenSet, Words};
 use std::alloc::AllocError;
 use std::test::Fail;
 
@@ -21,7 +22,15 @@ const RAISE: u16 = 202;
 const SELECT: u16 = 200;
 
 impl Grammar for Ahead {
+    ghost use Rattle.squawk_parser.specs.Words.{no_words};
+
     ghost leaves = { λ _ _ _ _. Unit {0} };
+
+    ghost meaning = { λ _. no_words };
+
+    fn words(&self) -> Words<'_> {
+        no_words()
+    }
 
     fn entry_point(&self, p: &mut Parser<'_>) -> Result<(), AllocError> {
         let third = yes_or_no(p.nth(2) == SyntaxKind::from(SELECT));
@@ -53,7 +62,7 @@ impl Grammar for Ahead {
 
 #[test]
 fn looks_see_the_kinds_ahead(rt: HostRuntime) -> Result<(), Fail> {
-    let words = Words {
+    let words = Keywords {
         keywords: &[("select", SELECT)],
         contextual_keywords: &[("message", MESSAGE), ("raise", RAISE)],
     };

@@ -8,7 +8,7 @@ use crate::fixture::errors::{
 };
 use crate::fixture::output::{self, assert_output, token};
 use crate::fixture::{
-    Calls, EXIT, FixedGrammar, NO_WORDS, Words, assert_steps, enter, space, space_step, word,
+    Calls, EXIT, FixedGrammar, Keywords, NO_KEYWORDS, assert_steps, enter, space, space_step, word,
     word_step,
 };
 use squawk_parser::{
@@ -18,7 +18,7 @@ use squawk_parser::{
 use std::alloc::AllocError;
 use std::process::Abort;
 
-const WORDS: Words<'static> = Words {
+const WORDS: Keywords<'static> = Keywords {
     keywords: &[],
     contextual_keywords: &[("message", 201)],
 };
@@ -165,7 +165,7 @@ fn assert_errors_if_made(
     tokens: &[Token],
     wanted: &[Wanted],
 ) {
-    match LexedStr::new(rt.alloc(), text, tokens, &NO_WORDS) {
+    match LexedStr::new(rt.alloc(), text, tokens, &NO_KEYWORDS) {
         Ok(table) => assert_table(rt, text, &table, wanted),
         Err(error) => assert_eq!(rt; error, TableError::OutOfMemory, "{text:?}"),
     }

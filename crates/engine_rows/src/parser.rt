@@ -4,8 +4,11 @@ ghost use Rattle.squawk_parser.specs.State.{Goes, Keeps};
 
 use crate::fixture::notes::note_three;
 use crate::fixture::output::{assert_output, enter, token};
-use crate::fixture::{Calls, FixedGrammar, NO_WORDS, Words, parse, space, table, word};
-use squawk_parser::{EntryPoint, Grammar, Input, LexedStr, ParseError, Parser, Step, SyntaxKind};
+use crate::fixture::words::no_words;
+use crate::fixture::{Calls, FixedGrammar, Keywords, NO_KEYWORDS, parse, space, table, word};
+use squawk_parser::{
+    EntryPoint, Grammar, Input, LexedStr, ParseError, Parser, Step, SyntaxKind, Words,
+};
 use std::alloc::AllocError;
 use std::test::Fail;
 
@@ -20,7 +23,7 @@ fn output_has_the_tokens_without_trivia(rt: HostRuntime) -> Result<(), Fail> {
 #[test]
 fn each_entry_point_is_its_own(rt: HostRuntime) -> Result<(), Fail> {
     let table = table(rt.alloc(), "a", &[word(1)])?;
-    let input = table.to_input(rt.alloc(), &NO_WORDS)?;
+    let input = table.to_input(rt.alloc(), &NO_KEYWORDS)?;
     let grammar = FixedGrammar {
         source_file: Calls::NodeAroundToken,
         plpgsql: Calls::TwoNodes,
@@ -71,7 +74,15 @@ impl Looks {
 }
 
 impl Grammar for Looks {
+    ghost use Rattle.squawk_parser.specs.Words.{no_words};
+
     ghost leaves = { λ _ _ _ _. Unit {0} };
+
+    ghost meaning = { λ _. no_words };
+
+    fn words(&self) -> Words<'_> {
+        no_words()
+    }
 
     fn entry_point(&self, p: &mut Parser<'_>) -> Result<(), AllocError> {
         Looks::tell(p);
@@ -89,7 +100,7 @@ impl Grammar for Looks {
 
 #[test]
 fn parser_stays_at_the_end(rt: HostRuntime) -> Result<(), Fail> {
-    let words = Words {
+    let words = Keywords {
         keywords: &[("select", 200)],
         contextual_keywords: &[],
     };
@@ -136,7 +147,15 @@ fn parser_stays_at_the_end(rt: HostRuntime) -> Result<(), Fail> {
 struct WantsMemory;
 
 impl Grammar for WantsMemory {
+    ghost use Rattle.squawk_parser.specs.Words.{no_words};
+
     ghost leaves = { λ _ _ _ _. Unit {0} };
+
+    ghost meaning = { λ _. no_words };
+
+    fn words(&self) -> Words<'_> {
+        no_words()
+    }
 
     fn entry_point(&self, _p: &mut Parser<'_>) -> Result<(), AllocError> {
         Err(AllocError)

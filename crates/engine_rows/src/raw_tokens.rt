@@ -1,6 +1,6 @@
 //! Lists of raw tokens, and the tables of those that are accepted.
 
-use crate::fixture::{NO_WORDS, Words, space, word};
+use crate::fixture::{Keywords, NO_KEYWORDS, space, word};
 use squawk_parser::{LexedStr, SyntaxKind, TableError, Token, check_tokens};
 use std::process::Abort;
 use std::test::Fail;
@@ -13,7 +13,7 @@ fn assert_refused(
     reason: TableError,
 ) {
     assert_eq!(rt; check_tokens(text, tokens), Err(reason), "{text:?}");
-    let table = LexedStr::new(rt.alloc(), text, tokens, &NO_WORDS);
+    let table = LexedStr::new(rt.alloc(), text, tokens, &NO_KEYWORDS);
     assert_eq!(rt; table.err(), Some(reason), "{text:?}");
 }
 
@@ -40,7 +40,7 @@ fn tokens_that_fill_the_text_are_accepted(rt: HostRuntime) -> Result<(), Fail> {
     let cases: [(&str, &[Token]); 2] = [("", &[]), ("a b", &words)];
     for (text, tokens) in cases {
         assert_eq!(rt; check_tokens(text, tokens), Ok(()), "{text:?}");
-        let table = LexedStr::new(rt.alloc(), text, tokens, &NO_WORDS)?;
+        let table = LexedStr::new(rt.alloc(), text, tokens, &NO_KEYWORDS)?;
         assert_eq!(rt; table.len(), tokens.len(), "{text:?}");
     }
     Ok(())
@@ -48,7 +48,7 @@ fn tokens_that_fill_the_text_are_accepted(rt: HostRuntime) -> Result<(), Fail> {
 
 #[test]
 fn table_knows_the_kinds_texts_and_places_of_its_tokens(rt: HostRuntime) -> Result<(), Fail> {
-    let words = Words {
+    let words = Keywords {
         keywords: &[("select", 200)],
         contextual_keywords: &[],
     };

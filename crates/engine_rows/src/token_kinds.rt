@@ -1,6 +1,6 @@
 //! What the kinds of raw tokens say of their texts, and the syntax kinds that they give.
 
-use crate::fixture::NO_WORDS;
+use crate::fixture::NO_KEYWORDS;
 use squawk_parser::{
     Base, LexedStr, LiteralKind, SyntaxKind, TableError, Token, TokenKind, check_tokens,
 };
@@ -122,7 +122,7 @@ fn kinds_that_fit_their_texts_are_good(rt: HostRuntime) {
 
 /// The syntax kind of a token of one byte.
 fn syntax_kind(rt: &impl AllocGlobal, kind: TokenKind) -> Result<u16, Fail> {
-    let table = LexedStr::new(rt.alloc(), "x", &[Token { kind, len: 1 }], &NO_WORDS)?;
+    let table = LexedStr::new(rt.alloc(), "x", &[Token { kind, len: 1 }], &NO_KEYWORDS)?;
     if table.len() == 0 {
         return Ok(0);
     }
@@ -212,7 +212,7 @@ fn literals_give_their_syntax_kinds(rt: HostRuntime) -> Result<(), Fail> {
         kind: param(2),
         len: 2,
     }];
-    let table = LexedStr::new(rt.alloc(), text, &tokens, &NO_WORDS)?;
+    let table = LexedStr::new(rt.alloc(), text, &tokens, &NO_KEYWORDS)?;
     assert_eq!(rt; table.len(), 1);
     assert_eq!(rt; table.kind(0), SyntaxKind::POSITIONAL_PARAM);
     Ok(())

@@ -1,3 +1,4 @@
+pub mod CompositeLemmas
 pub mod Sums
 pub mod Balance
 pub mod Filled
@@ -5,3 +6,7 @@ pub mod Soundness
 pub mod ParserViews
 pub mod Examples
 pub mod LookAheadExamples
+pub mod OperatorLength
+pub mod PlainKinds
+pub mod SeenTokens
+pub mod TouchingRun

@@ -3,11 +3,12 @@ use Rattle.std.proofs.Common.{◌≡◌, ◌+◌, ◌<◌, ◌∙◌, ℕ, Bool,
 use Rattle.squawk_table.specs.ParserInput.{kind_in}
 use Rattle.squawk_parser.specs.declared.parser.Parser.TheInside.{Inside}
 use Rattle.squawk_parser.specs.Draft.{IsAboveIds}
+use Rattle.squawk_parser.specs.Words.{words_of}
 use Rattle.squawk_parser.specs.State.{State, Goes, IsSound, kind_at}
 use Rattle.squawk_parser.proofs.Soundness.{IsKept}
 
 abbrev pub seen : Inside → State
-seen p = record { input = p.input.now; position = p.position; limit = p.limit; draft = p.draft; max_events = p.max_events; first = p.first }
+seen p = record { input = p.input.now; words = words_of (record { operator_first = p.operator_first; names = p.names }); position = p.position; limit = p.limit; draft = p.draft; max_events = p.max_events; first = p.first }
 
 -- the invariant of a parser, as one record
 pub kept : (p : Inside) → IsSound (seen p) × IsAboveIds p.draft.recorded p.draft.items → IsKept (seen p)

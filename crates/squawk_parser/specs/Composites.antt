@@ -6,14 +6,14 @@ use Rattle.squawk_table.specs.ParserInput.{Entry, kind_in}
 use Rattle.squawk_parser.specs.LookAhead.{touches_next}
 use Rattle.squawk_parser.specs.Operators.{operator_length}
 
--- a part of a sequence
-pub data Part : Type 0 where
+-- an element of a sequence
+pub data Element : Type 0 where
   -- a token of this kind
-  One : ℕ → Part
+  One : ℕ → Element
   -- at most one token of these kinds, in a node of its own
-  AtMostOne : ℕ → List ℕ → Part
+  AtMostOne : ℕ → List ℕ → Element
 
--- what follows the parts of a sequence, inside its node
+-- what follows the elements of a sequence, inside its node
 pub data Tail : Type 0 where
   NoTail : Tail
   -- what a grammar says
@@ -28,7 +28,7 @@ pub data Form : Type 0 where
   -- they touch, and make a node with a token each
   Touching : List ℕ → Form
   -- trivia may stand between them; they make a node with a token each
-  Sequence : List Part → Tail → Form
+  Sequence : List Element → Tail → Form
   -- they are an operator, and make a node with a token each
   Operator : Form
 
@@ -39,14 +39,18 @@ pub record Composite : Type 0 where
 abbrev pub glued : ℕ → List ℕ → Composite
 glued kind parts = record { kind = kind; form = Glued parts }
 
-abbrev pub in_sequence : ℕ → List Part → Composite
-in_sequence kind parts = record { kind = kind; form = Sequence parts NoTail }
+abbrev pub in_sequence : ℕ → List Element → Composite
+in_sequence kind elements = record { kind = kind; form = Sequence elements NoTail }
 
-abbrev pub with_tail : ℕ → List Part → Composite
-with_tail kind parts = record { kind = kind; form = Sequence parts Open }
+abbrev pub with_tail : ℕ → List Element → Composite
+with_tail kind elements = record { kind = kind; form = Sequence elements Open }
 
-abbrev pub normal_form : Part
-normal_form = AtMostOne UNICODE_NORMAL_FORM (NFC_KW ∷ NFD_KW ∷ NFKC_KW ∷ NFKD_KW ∷ [])
+-- the keywords of Unicode's normal forms
+abbrev pub normal_forms : List ℕ
+normal_forms = NFC_KW ∷ NFD_KW ∷ NFKC_KW ∷ NFKD_KW ∷ []
+
+abbrev pub normal_form : Element
+normal_form = AtMostOne UNICODE_NORMAL_FORM normal_forms
 
 -- all of them, each once
 abbrev pub composites : List Composite
@@ -99,19 +103,18 @@ abbrev pub are_apart : (ℕ → Bool) → ℕ → List Entry → Bool
 are_apart operator_kind n seen =
     not (operator_kind (kind_in seen 0) && operator_kind (kind_in seen n) && touches_next (drop (n - 1) seen)) || (operator_length operator_kind seen == n)
 
--- how many tokens the parts of a sequence have at the front, if they stand there
-abbrev pub sequence_length : List Part → List Entry → Option ℕ
+-- how many tokens the elements of a sequence have at the front, if they stand there
+abbrev pub sequence_length : List Element → List Entry → Option ℕ
 sequence_length [] seen = Some 0
-sequence_length (One kind ∷ parts) [] = None
-sequence_length (One kind ∷ parts) (e ∷ seen) = if e.kind == kind then option_map suc (sequence_length parts seen) else None
-sequence_length (AtMostOne node kinds ∷ parts) [] = sequence_length parts []
-sequence_length (AtMostOne node kinds ∷ parts) (e ∷ seen) =
-    if list_any (λ kind. e.kind == kind) kinds then option_map suc (sequence_length parts seen) else sequence_length parts (e ∷ seen)
+sequence_length (One kind ∷ elements) seen =
+    if kind_in seen 0 == kind then option_map suc (sequence_length elements (drop 1 seen)) else None
+sequence_length (AtMostOne node kinds ∷ elements) seen =
+    if list_any (λ kind. kind_in seen 0 == kind) kinds then option_map suc (sequence_length elements (drop 1 seen)) else sequence_length elements seen
 
 abbrev pub has_form : (ℕ → Bool) → Form → List Entry → Bool
 has_form operator_kind (Glued parts) seen = do_touch parts seen && are_apart operator_kind (length parts) seen
 has_form operator_kind (Touching parts) seen = do_touch parts seen && are_apart operator_kind (length parts) seen
-has_form operator_kind (Sequence parts tail) seen = is_some (sequence_length parts seen)
+has_form operator_kind (Sequence elements tail) seen = is_some (sequence_length elements seen)
 has_form operator_kind Operator seen = operator_kind (kind_in seen 0)
 
 -- a kind that isn't composite stands where the first token has it

@@ -1,5 +1,5 @@
 -- The record of a parse.
-use Rattle.std.specs.Prelude.{◌≡◌, ℕ, ◌<◌, ◌≤◌, ◌==◌, Bool, true, false, List, [], ◌∷◌, All, count_by}
+use Rattle.std.specs.Prelude.{◌≡◌, ℕ, ◌<◌, ◌≤◌, ◌==◌, Bool, true, false, List, [], ◌∷◌, All, count_by, filter}
 use Rattle.std.specs.List.{flat_map}
 use Rattle.squawk_table.specs.Steps as steps
 
@@ -46,6 +46,10 @@ is_hole (Token kind n) = false
 -- no open marker is left
 abbrev pub HasNoHole : List Item → Type 0
 HasNoHole items = All (λ item. is_hole item ≡ false) items
+
+-- the open markers, in the order of the items
+abbrev pub holes_of : List Item → List Item
+holes_of items = filter is_hole items
 
 -- the ids that an item has
 abbrev pub ids_of : Item → List ℕ

@@ -1,6 +1,8 @@
 pub mod LookAhead
 pub mod Operators
 pub mod Composites
+pub mod CompositeRows
+pub mod Words
 pub mod Draft
 pub mod Edits
 pub mod DraftView

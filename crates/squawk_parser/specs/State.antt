@@ -1,7 +1,9 @@
 -- What contracts see of a parser.
-use Rattle.std.specs.Prelude.{◌≡◌, ℕ, ◌+◌, ◌<◌, ◌≤◌, Option, Some, None, List, length, nat_lt, if◌then◌else◌, IsSome, Contains}
+use Rattle.std.specs.Prelude.{◌≡◌, ℕ, ◌+◌, ◌<◌, ◌≤◌, min, Option, Some, None, List, length, nat_lt, if◌then◌else◌, IsSome, Contains}
 use Rattle.squawk_kinds.specs.Kinds.{EOF}
 use Rattle.squawk_table.specs.ParserInput.{Entry, kind_in, contextual_kind_in}
+use Rattle.squawk_parser.specs.LookAhead.{seen_from}
+use Rattle.squawk_parser.specs.Words.{Words, HasNoEnd}
 use Rattle.squawk_parser.specs.Draft.{Draft, nothing, Hole, Mark, HasNoIdTwice, plain}
 use Rattle.squawk_table.specs.Steps.{eaten}
 use Rattle.squawk_table.specs.Shape.{IsBalanced, IsOver}
@@ -11,6 +13,8 @@ use Rattle.squawk_parser.specs.declared.parser.parse_error.ParseError.TheVariant
 pub record State : Type 0 where
   -- what is parsed
   pub input : List Entry
+  -- what the grammar tells about its kinds
+  pub words : Words
   -- how many tokens of it are eaten
   pub position : ℕ
   -- where its view of the input ends
@@ -27,12 +31,12 @@ abbrev pub Goes : State → Type 0
 Goes s = s.first ≡ None
 
 -- a parser at the beginning of an input
-abbrev pub fresh : List Entry → ℕ → State
-fresh input max_events = record { input = input; position = 0; limit = length input; draft = nothing; max_events = max_events; first = None }
+abbrev pub fresh : List Entry → Words → ℕ → State
+fresh input words max_events = record { input = input; words = words; position = 0; limit = length input; draft = nothing; max_events = max_events; first = None }
 
 -- the parser has done nothing yet
 abbrev pub IsFresh : State → Type 0
-IsFresh s = s ≡ fresh s.input s.max_events
+IsFresh s = s ≡ fresh s.input s.words s.max_events
 
 -- the kind of the token that is n places from the position; at the limit and past it the end's
 abbrev pub kind_at : State → ℕ → ℕ
@@ -42,9 +46,22 @@ kind_at s n = if nat_lt (s.position + n) s.limit then kind_in s.input (s.positio
 abbrev pub contextual_kind_at : State → ℕ → ℕ
 contextual_kind_at s n = if nat_lt (s.position + n) s.limit then contextual_kind_in s.input (s.position + n) else EOF
 
--- the input and the limits stay, and so does a first reason to fail
+-- the tokens from n places ahead on that stand before the limit
+abbrev pub ahead : State → ℕ → List Entry
+ahead s n = seen_from s.input s.limit (s.position + n)
+
+-- the parser that sees n tokens at most
+abbrev pub limited : State → ℕ → State
+limited s n = record s { limit = min s.limit (s.position + n) }
+
+-- the parser under another's limit
+abbrev pub with_limit_of : State → State → State
+with_limit_of s other = record s { limit = other.limit }
+
+-- the input, the words and the limits stay, and so does a first reason to fail
 pub record Keeps (old new : State) : Type 0 where
   pub input : new.input ≡ old.input
+  pub words : new.words ≡ old.words
   pub limit : new.limit ≡ old.limit
   pub max_events : new.max_events ≡ old.max_events
   pub reason : IsSome old.first → new.first ≡ old.first
@@ -67,6 +84,7 @@ HasHole s m = Goes s → Contains s.draft.items (Hole m.id m.made)
 pub record IsSound (s : State) : Type 0 where
   pub position : s.position ≤ s.limit
   pub limit : s.limit ≤ length s.input
+  pub words : HasNoEnd s.words
   pub recorded : s.draft.recorded ≤ s.max_events
   -- a parser that was refused an event has recorded as many as it may
   pub refused : s.first ≡ Some TooManyEvents → s.draft.recorded ≡ s.max_events

@@ -3,21 +3,29 @@ ghost use Rattle.std.specs.Prelude.{◌≡◌, IsOk, IfOk, IfErr};
 ghost use Rattle.squawk_parser.specs.Draft.{plain};
 ghost use Rattle.squawk_parser.specs.Parse.{IsRefusalOf};
 ghost use Rattle.squawk_parser.specs.State.{Goes, IsSound, fresh};
+ghost use Rattle.squawk_parser.specs.Words.{HasNoEnd, words_of};
 
 mod acts;
+mod composite;
 mod draft;
 pub mod grammar;
 mod look_ahead;
 pub mod marker;
 pub mod parse_error;
+pub mod part;
+mod view;
+pub mod words;
 
 use crate::parser::draft::Draft;
 pub use grammar::{EntryPoint, Grammar};
 pub use marker::{CompletedMarker, Marker};
 pub use parse_error::ParseError;
+pub use part::Part;
+use squawk_kinds::{SyntaxKind, TokenSet};
 use squawk_table::{Input, Output};
 use std::alloc::{AllocError, Global};
 use std::marker::Model;
+pub use words::Words;
 
 /// A parse that is going on: an input, a position in it, and a draft of what was recorded.
 ///
@@ -27,6 +35,8 @@ use std::marker::Model;
 #[derive(Drop)]
 pub struct Parser<'t> {
     input: &'t Input,
+    operator_first: TokenSet,
+    names: &'t [(SyntaxKind, &'t str)],
     alloc: Global,
     position: usize,
     limit: usize,
@@ -38,22 +48,30 @@ pub struct Parser<'t> {
 impl<'t> Model for Parser<'t> {
     ghost use Rattle.squawk_parser.specs.State.{State, IsSound};
     ghost use Rattle.squawk_parser.specs.Draft.{IsAboveIds};
+    ghost use Rattle.squawk_parser.specs.Words.{words_of};
 
     ghost Value = { State };
 
-    ghost view = { λ p. record { input = p.input.now; position = p.position; limit = p.limit; draft = p.draft; max_events = p.max_events; first = p.first } };
+    ghost view = { λ p. record { input = p.input.now; words = words_of (record { operator_first = p.operator_first; names = p.names }); position = p.position; limit = p.limit; draft = p.draft; max_events = p.max_events; first = p.first } };
 
-    ghost invariant = { λ p. IsSound (record { input = p.input.now; position = p.position; limit = p.limit; draft = p.draft; max_events = p.max_events; first = p.first })
+    ghost invariant = { λ p. IsSound (record { input = p.input.now; words = words_of (record { operator_first = p.operator_first; names = p.names }); position = p.position; limit = p.limit; draft = p.draft; max_events = p.max_events; first = p.first })
         × IsAboveIds p.draft.recorded p.draft.items };
 }
 
 impl<'t> Parser<'t> {
     /// A parser at the beginning of an input.
-    fn new(alloc: Global, input: &'t Input, max_events: u32) -> Parser<'t>
-        ensures { result ≡ fresh input.now max_events }
+    fn new(alloc: Global, input: &'t Input, words: Words<'t>, max_events: u32) -> Parser<'t>
+        requires { HasNoEnd (words_of words) }
+        ensures { result ≡ fresh input.now (words_of words.entry) max_events }
     {
+        let Words {
+            operator_first,
+            names,
+        } = words;
         Parser {
             input,
+            operator_first,
+            names,
             alloc,
             position: 0,
             limit: input.len(),
@@ -91,6 +109,8 @@ impl<'t> Parser<'t> {
     {
         let Parser {
             input: _,
+            operator_first: _,
+            names: _,
             alloc,
             position: _,
             limit: _,

@@ -5,7 +5,7 @@ ghost use Rattle.squawk_parser.specs.State.{IsFresh, Keeps, Goes};
 ghost use Rattle.squawk_steps.specs.Fixed.{IsTwoTokenNode};
 
 use squawk_parser::{
-    EntryPoint, Grammar, Parser, SyntaxKind, Token, TokenKind, TokenSet, Vocabulary,
+    EntryPoint, Grammar, Parser, SyntaxKind, Token, TokenKind, TokenSet, Vocabulary, Words,
 };
 use std::alloc::AllocError;
 
@@ -101,8 +101,19 @@ pub struct TwoTokens;
 
 impl Grammar for TwoTokens {
     ghost use Rattle.squawk_steps.specs.Fixed.{IsTwoTokenNode};
+    ghost use Rattle.squawk_parser.specs.Words.{no_words};
 
     ghost leaves = { λ _ _ input draft. IsTwoTokenNode input draft };
+
+    ghost meaning = { λ _. no_words };
+
+    #[tactic(auto, using(squawk_parser::specs::Words::no_words_has_no_end))]
+    fn words(&self) -> Words<'_> {
+        Words {
+            operator_first: TokenSet::EMPTY,
+            names: &[],
+        }
+    }
 
     fn entry_point(&self, p: &mut Parser<'_>) -> Result<(), AllocError> {
         two_tokens(p);

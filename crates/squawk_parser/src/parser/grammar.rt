@@ -6,6 +6,7 @@ ghost use Rattle.squawk_parser.specs.Parse.{IsParse, IsRefused};
 
 use crate::parser::Parser;
 use crate::parser::parse_error::ParseError;
+use crate::parser::words::Words;
 use squawk_table::{Input, Output};
 use std::alloc::{AllocError, Global};
 
@@ -18,7 +19,8 @@ pub enum EntryPoint {
 
 /// What an input is parsed by.
 ///
-/// An entry point is called with a parser at the beginning of an input. It may leave no marker
+/// An entry point is called with a parser at the beginning of an input that has the grammar's words.
+/// It may leave no marker
 /// open, and it answers an error only where memory was refused to the grammar itself: what the
 /// parser was refused, the parser keeps.
 pub trait Grammar {
@@ -26,21 +28,32 @@ pub trait Grammar {
     ghost use Rattle.squawk_table.specs.ParserInput.{Entry};
     ghost use Rattle.squawk_parser.specs.Draft.{Draft, HasNoHole};
     ghost use Rattle.squawk_parser.specs.State.{Goes, Keeps, IsFresh};
+    ghost use Rattle.squawk_parser.specs.Words as spec;
     ghost use Rattle.squawk_parser.specs.declared.parser.grammar.EntryPoint.{EntryPoint};
 
     /// Which drafts a run from an entry point may leave over an input.
     ghost leaves: { Self → EntryPoint → List Entry → Draft → Type 0 };
 
+    /// What the grammar tells about its kinds.
+    ghost meaning: { Self → spec.Words };
+
+    /// What the grammar tells about its kinds. The end is no kind of an operator.
+    fn words(&self) -> Words<'_>
+        ensures words { spec.words_of result ≡ meaning self.now }
+        ensures operators { spec.HasNoEnd (meaning self.now) };
+
     /// Parses the input as a source file.
     fn entry_point(&self, p: &mut Parser<'_>) -> Result<(), AllocError>
-        requires { IsFresh p.old }
+        requires fresh { IsFresh p.old }
+        requires words { p.old.words ≡ meaning self.now }
         ensures keeps { Keeps p.old p.new }
         ensures closed { OnOk result (Goes p.new → HasNoHole p.new.draft.items) }
         ensures leaves { OnOk result (Goes p.new → leaves self.now EntryPoint.SourceFile p.old.input p.new.draft) };
 
     /// Parses the input as the body of a PL/pgSQL function.
     fn plpgsql_entry_point(&self, p: &mut Parser<'_>) -> Result<(), AllocError>
-        requires { IsFresh p.old }
+        requires fresh { IsFresh p.old }
+        requires words { p.old.words ≡ meaning self.now }
         ensures keeps { Keeps p.old p.new }
         ensures closed { OnOk result (Goes p.new → HasNoHole p.new.draft.items) }
         ensures leaves { OnOk result (Goes p.new → leaves self.now EntryPoint.Plpgsql p.old.input p.new.draft) };
@@ -63,7 +76,7 @@ impl EntryPoint {
         ensures output { IfOk result (λ o. IsParse (G.leaves grammar.now self.now input.now) input.now o) }
         ensures refused { IfErr result (λ e. IsRefused input.now MAX_EVENTS e) }
     {
-        let mut p = Parser::new(alloc, input, MAX_EVENTS);
+        let mut p = Parser::new(alloc, input, grammar.words(), MAX_EVENTS);
         let run = match self {
             EntryPoint::SourceFile => grammar.entry_point(&mut p),
             EntryPoint::Plpgsql => grammar.plpgsql_entry_point(&mut p),

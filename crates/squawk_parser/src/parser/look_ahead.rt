@@ -3,10 +3,13 @@
 //! A look is at the token that is so many places from the current one. It sees no token at the limit
 //! or past it; there, and past the input, both kinds are [`SyntaxKind::EOF`].
 ghost use Rattle.std.specs.Prelude.{◌≡◌, ◌+◌, ◌<◌, ◌==◌, SomeIff};
-ghost use Rattle.squawk_parser.specs.State.{kind_at, contextual_kind_at};
+ghost use Rattle.squawk_parser.specs.Composites.{stands_at};
+ghost use Rattle.squawk_parser.specs.Operators.{operator_length, is_next_apart};
+ghost use Rattle.squawk_parser.specs.State.{ahead, kind_at, contextual_kind_at};
 ghost use Rattle.squawk_kinds.specs.TokenSets.{has};
 
 use crate::parser::Parser;
+use crate::parser::view::View;
 use squawk_kinds::{SyntaxKind, TokenSet};
 
 impl Parser<'_> {
@@ -35,6 +38,20 @@ impl Parser<'_> {
             Some(place) => self.input.contextual_kind(place),
             None => SyntaxKind::EOF,
         }
+    }
+
+    /// Whether the kind, which may be a composite one, stands at the position.
+    pub fn at(&self, kind: SyntaxKind) -> bool
+        ensures { result ≡ stands_at (has self.now.words.operator_first) kind (ahead self.now 0) }
+    {
+        self.nth_at(0, kind)
+    }
+
+    /// Whether the kind, which may be a composite one, stands `n` places ahead.
+    pub fn nth_at(&self, n: usize, kind: SyntaxKind) -> bool
+        ensures { result ≡ stands_at (has self.now.words.operator_first) kind (ahead self.now n) }
+    {
+        self.view(n).is_at(kind, &self.operator_first)
     }
 
     /// Whether the set has the current kind.
@@ -70,6 +87,27 @@ impl Parser<'_> {
         ensures { result ≡ (contextual_kind_at self.now n == keyword) }
     {
         self.nth_contextual_kind(n) == keyword
+    }
+
+    /// How many tokens the operator at the position has; 0 where none stands there.
+    pub fn op_len(&self) -> usize
+        ensures { result ≡ operator_length (has self.now.words.operator_first) (ahead self.now 0) }
+    {
+        self.view(0).operator_len(&self.operator_first)
+    }
+
+    /// Whether no operator joins the current token and the next.
+    pub fn next_not_joined_op(&self) -> bool
+        ensures { result ≡ is_next_apart (has self.now.words.operator_first) (ahead self.now 0) }
+    {
+        self.view(0).is_next_apart(&self.operator_first)
+    }
+
+    /// The tokens from `n` places ahead on.
+    fn view(&self, n: usize) -> View<'_>
+        ensures { result ≡ ahead self.now n }
+    {
+        View::new(self.input, self.position.saturating_add(n), self.limit)
     }
 
     /// The place in the input of the token `n` places ahead, if it is seen.

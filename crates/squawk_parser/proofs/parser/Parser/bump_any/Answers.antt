@@ -1,6 +1,7 @@
 use Rattle.std.proofs.Common.{◌+◌, ◌<◌, ◌∙◌, ap, sym, refl, subst}
 use Rattle.squawk_parser.specs.declared.parser.Parser.TheInside.{Inside}
 use Rattle.squawk_parser.specs.Draft.{IsAboveIds}
+use Rattle.squawk_parser.specs.Words.{words_of}
 use Rattle.squawk_parser.specs.State.{IsSound}
 use Rattle.squawk_parser.proofs.Soundness.{IsKept-with_token, IsKept-failed, IsKept-past}
 use Rattle.squawk_parser.proofs.ParserViews.{seen, kept, has_room, at_token}
@@ -16,7 +17,7 @@ invariant_of-self c =
     at_token s old c.current-kind.result (ap (λ t. t.limit) c.self.view_is ∙ more.keeps.limit) (ap (λ t. t.position) c.self.view_is ∙ more.position) c.current-kind.ensures c.if-eq.ensures in
     let before = kept c.self.inside c.self.invariant in
     let Goal : Inside → Type 0 =
-    λ p. IsSound (record { input = p.input.now; position = p.position + 1; limit = p.limit; draft = p.draft; max_events = p.max_events; first = p.first }) × IsAboveIds p.draft.recorded p.draft.items in
+    λ p. IsSound (record { input = p.input.now; words = words_of (record { operator_first = p.operator_first; names = p.names }); position = p.position + 1; limit = p.limit; draft = p.draft; max_events = p.max_events; first = p.first }) × IsAboveIds p.draft.recorded p.draft.items in
     let done = c.if-has_room.self-inside in
     elim c.if-has_room.branch [
       | then-has_room+in-Ok w ↦

@@ -1,0 +1,79 @@
+use Rattle.std.proofs.Common.{◌≡◌, ◌∙◌, ◌+◌, ◌-◌, ◌||◌, false, arith, ap, sym}
+use Rattle.squawk_parser.specs.Operators.{is_special, operator_length}
+use Rattle.squawk_kinds.specs.TokenSets.{has}
+use Rattle.squawk_parser.proofs.OperatorLength.{longest_after, longest_from, longest_from-same, longest_after-one, longest_after-special, longest_after-no_sign, longest_after-sign}
+use Rattle.squawk_parser.proofs.TouchingRun.{run_at, longest_at-start, longest_at-limit, longest_at-other, longest_at-last, longest_at-next}
+use Rattle.squawk_parser.proofs.parser.view.View.operator_len.Goals as goal
+use Rattle.squawk_parser.proofs.parser.view.View.operator_len.Goals.{Joined-len-eq1, Joined-has_special, then-has_special, else-has_special, then-len-eq1, then-len-eq1-via-then-len-eq1, then-len-eq1-via-else-len-eq1+then-has_special-2, then-len-eq1-via-else-len-eq1+else-has_special-2+then-not-is_sign, else-len-eq1+else-has_special-2+else-not-is_sign}
+
+pub loop-place-init : goal.loop-place-init
+loop-place-init c =
+    let view = c.self.inside in
+    let operator_kind = has c.args.operator_first.now in
+    let none : view.place - view.place ≡ 0 = omega arith in
+    ap (λ len. longest_from len false 0 (run_at operator_kind view.input.now view.limit view.place)) none
+    ∙ (longest_at-start operator_kind view.input.now view.limit view.place ∙ ap (operator_length operator_kind) c.self.view_is)
+
+pub returns-after-loop-place : goal.returns-after-loop-place
+returns-after-loop-place c =
+    let view = c.self.inside in
+    let l = c.loop-place in
+    sym (longest_at-limit (has c.args.operator_first.now) view.input.now view.limit l.place (l.place - view.place) l.has_special l.longest c.loop-place-test.false) ∙ l.invariant
+
+pub returns-then-not-contains : goal.returns-then-not-contains
+returns-then-not-contains c =
+    let view = c.self.inside in
+    let l = c.loop-place in
+    sym (longest_at-other (has c.args.operator_first.now) view.input.now view.limit l.place (l.place - view.place) l.has_special l.longest
+    c.kind-kind.result c.loop-place-test.true c.self.invariant c.kind-kind.ensures (sym c.contains.ensures ∙ c.if-not-contains.true)) ∙ l.invariant
+
+-- what the turn makes of the test for a special kind
+special_here : (c : Joined-has_special) → c.if-has_special.has_special ≡ (c.loop-place.has_special || is_special c.kind-kind.result)
+special_here c = elim c.if-has_special.branch [
+  | then-has_special w ↦ w.has_special-is ∙ (w.if-has_special.true ∙ ap (λ special. special || is_special c.kind-kind.result) (sym w.if-has_special.true))
+  | else-has_special w ↦
+      w.has_special-is ∙ (w.is_special-has_special.ensures ∙ ap (λ special. special || is_special c.kind-kind.result) (sym w.if-has_special.false))
+]
+
+-- what the turn makes of the longest name
+longest_here : (c : Joined-len-eq1)
+    → c.if-len-eq1.longest ≡ longest_after (c.loop-place.place - c.self.inside.place + 1) c.if-has_special.has_special c.loop-place.longest c.kind-kind.result
+longest_here c =
+    let len = c.loop-place.place - c.self.inside.place + 1 in
+    let special = c.if-has_special.has_special in
+    let longest = c.loop-place.longest in
+    let kind = c.kind-kind.result in
+    elim c.if-len-eq1.branch [
+      | then-len-eq1 w ↦ elim w.then-len-eq1.branch [
+        | then-len-eq1-via-then-len-eq1 v ↦ w.longest-is ∙ sym (longest_after-one len special longest kind v.if-len-eq1.true)
+        | then-len-eq1-via-else-len-eq1+then-has_special-2 v ↦ w.longest-is ∙ sym (longest_after-special len special longest kind v.if-has_special-2.true)
+        | then-len-eq1-via-else-len-eq1+else-has_special-2+then-not-is_sign v ↦
+            w.longest-is ∙ sym (longest_after-no_sign len special longest kind (sym v.is_sign.ensures ∙ v.if-not-is_sign.true))
+      ]
+      | else-len-eq1+else-has_special-2+else-not-is_sign w ↦
+          w.longest-is ∙ sym (longest_after-sign len special longest kind w.if-len-eq1.false w.if-has_special-2.false (sym w.is_sign.ensures ∙ w.if-not-is_sign.false))
+    ]
+
+pub returns-then-not-is_joint : goal.returns-then-not-is_joint
+returns-then-not-is_joint c =
+    let view = c.self.inside in
+    let l = c.loop-place in
+    let special = special_here (goal.at.returns-then-not-is_joint c).Joined-has_special in
+    longest_here (goal.at.returns-then-not-is_joint c).Joined-len-eq1
+    ∙ (ap (λ any. longest_after (l.place - view.place + 1) any l.longest c.kind-kind.result) special
+    ∙ (sym (longest_at-last (has c.args.operator_first.now) view.input.now view.limit l.place (l.place - view.place) l.has_special l.longest
+    c.kind-kind.result c.loop-place-test.true c.self.invariant c.kind-kind.ensures (sym c.contains.ensures ∙ c.if-not-contains.false)
+    (sym c.is_joint.ensures ∙ c.if-not-is_joint.true)) ∙ l.invariant))
+
+pub loop-place-preserved : goal.loop-place-preserved
+loop-place-preserved c =
+    let view = c.self.inside in
+    let l = c.loop-place in
+    let special = special_here (goal.at.loop-place-preserved c).Joined-has_special in
+    let longest = longest_here (goal.at.loop-place-preserved c).Joined-len-eq1
+    ∙ ap (λ any. longest_after (l.place - view.place + 1) any l.longest c.kind-kind.result) special in
+    let len : l.place + 1 - view.place ≡ l.place - view.place + 1 = omega arith in
+    longest_from-same (run_at (has c.args.operator_first.now) view.input.now view.limit (l.place + 1)) len special longest
+    ∙ (sym (longest_at-next (has c.args.operator_first.now) view.input.now view.limit l.place (l.place - view.place) l.has_special l.longest
+    c.kind-kind.result c.loop-place-test.true c.self.invariant c.kind-kind.ensures (sym c.contains.ensures ∙ c.if-not-contains.false)
+    (sym c.is_joint.ensures ∙ c.if-not-is_joint.false)) ∙ l.invariant)

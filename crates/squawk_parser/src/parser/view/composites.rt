@@ -1,0 +1,79 @@
+//! Whether a composite kind stands at the front of a view.
+ghost use Rattle.std.specs.Prelude.{◌≡◌, ◌≤◌, ◌==◌, map};
+ghost use Rattle.std.specs.List.{list_any};
+ghost use Rattle.squawk_parser.specs.CompositeRows.{element_of};
+ghost use Rattle.squawk_parser.specs.Composites.{stands_at, do_touch, are_apart, sequence_length, normal_forms};
+ghost use Rattle.squawk_kinds.specs.TokenSets.{has};
+
+use crate::parser::composite::{Form, Parts, composite};
+use crate::parser::view::View;
+use squawk_kinds::{SyntaxKind, TokenSet};
+
+impl View<'_> {
+    /// Whether the kind, composite or not, stands at the front.
+    pub(in crate::parser) fn is_at(&self, kind: SyntaxKind, operator_first: &TokenSet) -> bool
+        ensures { result ≡ stands_at (has operator_first.now) kind self.now }
+    {
+        match composite(kind) {
+            None => self.kind(0) == kind,
+            Some(Form::Glued(parts) | Form::Touching(parts)) => {
+                self.do_touch(&parts) && self.are_apart(parts.as_slice().len(), operator_first)
+            }
+            Some(Form::Sequence { parts, tail: _ }) => self.sequence_len(&parts).is_some(),
+            Some(Form::Operator) => operator_first.contains(self.kind(0)),
+        }
+    }
+
+    /// Whether the parts stand at the front, each touching the next.
+    fn do_touch(&self, parts: &Parts) -> bool
+        ensures { result ≡ do_touch parts.now self.now }
+    {
+        let parts = parts.as_slice();
+        for (i, part) in parts.iter().enumerate() {
+            if self.kind(i) != *part || i + 1 < parts.len() && !self.touches_next(i) {
+                return false;
+            }
+        }
+        true
+    }
+
+    /// Whether the first `n` tokens, which touch, are no part of another operator.
+    fn are_apart(&self, n: usize, operator_first: &TokenSet) -> bool
+        requires { 1 ≤ n }
+        ensures { result ≡ are_apart (has operator_first.now) n self.now }
+    {
+        !(operator_first.contains(self.kind(0))
+            && operator_first.contains(self.kind(n))
+            && self.touches_next(n - 1))
+            || self.operator_len(operator_first) == n
+    }
+
+    /// How many tokens the parts of a sequence have at the front, if they stand there.
+    fn sequence_len(&self, parts: &Parts) -> Option<usize>
+        ensures { result ≡ sequence_length (map element_of parts.now) self.now }
+    {
+        let mut len = 0;
+        for part in parts.as_slice() {
+            if *part == SyntaxKind::UNICODE_NORMAL_FORM {
+                if is_normal_form(self.kind(len)) {
+                    len += 1;
+                }
+            } else if self.kind(len) == *part {
+                len += 1;
+            } else {
+                return None;
+            }
+        }
+        Some(len)
+    }
+}
+
+/// Whether the kind is that of a normal form of Unicode.
+fn is_normal_form(kind: SyntaxKind) -> bool
+    ensures { result ≡ list_any (λ form. kind == form) normal_forms }
+{
+    matches!(
+        kind,
+        SyntaxKind::NFC_KW | SyntaxKind::NFD_KW | SyntaxKind::NFKC_KW | SyntaxKind::NFKD_KW
+    )
+}
