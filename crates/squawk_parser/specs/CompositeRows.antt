@@ -11,11 +11,13 @@ use Rattle.squawk_parser.specs.declared.parser.composite.Tail.TheVariants as tai
 abbrev pub element_of : ℕ → Element
 element_of kind = if kind == UNICODE_NORMAL_FORM then normal_form else One kind
 
+-- what follows the elements of a row, as the table of the definitions has it
 abbrev pub tail_of : Tail → TheTail
 tail_of tail.Nothing = NoTail
 tail_of tail.Open = Open
 tail_of (tail.ClosedBy kind) = ClosedBy kind
 
+-- and how the tokens of the row stand, and what they make
 abbrev pub form_of : Form → TheForm
 form_of (form.Glued parts) = Glued parts
 form_of (form.Touching parts) = Touching parts
