@@ -1,5 +1,5 @@
 -- The sent list, once all steps are sent.
-use Rattle.std.proofs.Common.{◌≡◌, ◌∙◌, ℕ, zero, suc, ◌≤◌, List, [], ◌++◌, length, drop, slice_index, arith, ap, sym, refl, inl, inr}
+use Rattle.std.proofs.Common.{◌≡◌, ◌∙◌, ℕ, zero, suc, ◌≤◌, List, [], ◌++◌, length, drop, slice_index, arith, ap, sym, subst, inl, inr}
 use Rattle.std.specs.Prelude.{encode_utf8_all}
 use Rattle.std.specs.Str.{chars}
 use Rattle.std.proofs.lemmas.Bool.{cases_lt}
@@ -7,26 +7,31 @@ use Rattle.std.proofs.lemmas.List.{append-nil, append_cancel_left, drop_all, len
 use Rattle.std.proofs.lemmas.Str.{IsUtf8-drop, encodes-chars, chars-nil}
 use Rattle.squawk_table.specs.ParserInput.{input_of}
 use Rattle.squawk_table.specs.RawTable.{Table, IsTable, raw_after, raw_tokens}
-use Rattle.squawk_table.specs.Sent.{past_trivia, after_input, input_tokens, sent_list, texts_of, IsBeginning}
-use Rattle.squawk_table.specs.Shape.{Fits, no_keywords}
-use Rattle.squawk_table.specs.Steps.{Step, eaten}
+use Rattle.squawk_table.specs.Sent.{errors_moved, past_trivia, after_input, input_tokens, sent_list, texts_of, IsBeginning}
+use Rattle.squawk_table.specs.Shape.{Fits, StandsInOneRoot, no_keywords}
+use Rattle.squawk_table.specs.Steps.{Step, eaten, without_errors}
+use Rattle.squawk_table.proofs.ErrorsMoved.{IsOver-moved, without_errors-moved, eaten-moved}
 use Rattle.squawk_table.proofs.InputTokens.{length-entries_of, token_after, none_after}
+use Rattle.squawk_table.proofs.Over.{eaten-le}
 use Rattle.squawk_table.proofs.RawTokens.{raw_after-next, raw_after-end}
 use Rattle.squawk_table.proofs.Received.{left_before}
 use Rattle.squawk_table.proofs.RootEnd.{left_before-all}
 use Rattle.squawk_table.proofs.SentSteps.{IsOverRaw}
 use Rattle.squawk_table.proofs.SentTexts.{raw_chars, texts_of-sent_below}
-use Rattle.squawk_table.proofs.SourceChars.{raw_chars-raw_after, raw_chars-raw_tokens}
+use Rattle.squawk_table.proofs.SourceChars.{AreTexts-raw_tokens, raw_chars-raw_after, raw_chars-raw_tokens}
 
 -- the starts ascend, so that no table has more raw tokens than bytes
 pub start-ge : (t : Table) → IsTable t → (i : ℕ) → i ≤ length t.kinds → i ≤ slice_index t.starts i
 start-ge t table zero le = omega arith
 start-ge t table (suc i) le = omega (arith, start-ge t table i (omega arith), table.ascends i (suc i) (omega arith) (omega (arith, table.entries)), table.entries)
 
--- a walk that fits a table has no more tokens than its raw tokens have
-pub IsOverRaw-from_fits : (t : Table) (steps : List Step) → Fits t steps → IsOverRaw (raw_tokens t) steps
-IsOverRaw-from_fits t steps fits =
-    record { each = fits.over.each; within = omega (arith, fits.over.within, length-entries_of no_keywords (raw_tokens t)) }
+-- errors moved, a walk that fits a table is over its raw tokens
+pub IsOverRaw-from_fits : (t : Table) (steps : List Step) → Fits t steps → IsOverRaw (raw_tokens t) (errors_moved steps)
+IsOverRaw-from_fits t steps fits = IsOver-moved steps (input_of no_keywords t) fits.over
+
+-- and it stands in one root
+pub root_moved : (t : Table) (steps : List Step) → Fits t steps → StandsInOneRoot (without_errors (errors_moved steps))
+root_moved t steps fits = subst StandsInOneRoot (sym (without_errors-moved steps)) fits.root
 
 -- the end of the source is the start behind all raw tokens, and no other
 pub starts_at_end : (t : Table) → IsTable t → (place : ℕ) → place ≤ length t.kinds → slice_index t.starts place ≡ length t.text → place ≡ length t.kinds
@@ -44,9 +49,11 @@ none_left t place le none =
     ]
 
 module _ (t : Table) (table : IsTable t) (steps : List Step) (fits : Fits t steps) (place : ℕ) (within : place ≤ length t.kinds)
-    (left : raw_after t place ≡ left_before (raw_tokens t) steps (length steps)) where
+    (left : raw_after t place ≡ left_before (raw_tokens t) (errors_moved steps) (length (errors_moved steps))) where
   rest : raw_after t place ≡ past_trivia (after_input (eaten steps) (raw_tokens t))
-  rest = left ∙ left_before-all (raw_tokens t) steps (length steps) fits.root refl
+  rest =
+      left
+      ∙ (left_before-all (errors_moved steps) (root_moved t steps fits) (raw_tokens t) ∙ ap (λ n. past_trivia (after_input n (raw_tokens t))) (eaten-moved steps))
 
   pub all_eaten : slice_index t.starts place ≡ length t.text → eaten steps ≡ length (input_of no_keywords t)
   all_eaten end =
@@ -57,7 +64,7 @@ module _ (t : Table) (table : IsTable t) (steps : List Step) (fits : Fits t step
             let next = token_after (eaten steps) (raw_tokens t) lt in
             let some = sym next.stands ∙ none in
             absurd (omega (arith, ap length some))
-        | inr past ↦ omega (arith, fits.over.within)
+        | inr past ↦ omega (arith, eaten-le steps (input_of no_keywords t) fits.over)
       ]
 
   pub end_if_eaten : eaten steps ≡ length (input_of no_keywords t) → slice_index t.starts place ≡ length t.text
@@ -72,7 +79,7 @@ module _ (t : Table) (table : IsTable t) (steps : List Step) (fits : Fits t step
       let sent = texts_of (sent_list t steps) in
       let rest_chars = sym (raw_chars-raw_after t table place within) ∙ ap raw_chars left in
       ap (λ xs. sent ++ xs) rest_chars
-      ∙ (texts_of-sent_below (raw_tokens t) steps (IsOverRaw-from_fits t steps fits) (length steps) (omega arith) ∙ raw_chars-raw_tokens t table)
+      ∙ (texts_of-sent_below (raw_tokens t) (errors_moved steps) (AreTexts-raw_tokens t table) (IsOverRaw-from_fits t steps fits) (length (errors_moved steps)) (omega arith) ∙ raw_chars-raw_tokens t table)
 
   pub beginning : IsBeginning (texts_of (sent_list t steps)) (chars t.text)
   beginning = (chars (drop (slice_index t.starts place) t.text), sent_and_rest)

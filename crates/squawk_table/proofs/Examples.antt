@@ -1,8 +1,9 @@
 -- The definitions on small texts: what they give is worked out by hand.
-use Rattle.std.proofs.Common.{◌≡◌, ℕ, Bool, true, false, nat_eq, Some, None, List, [], ◌∷◌, refl, if◌then◌else◌}
+use Rattle.std.proofs.Common.{◌≡◌, ℕ, zero, suc, ◌+◌, ◌<◌, arith, Bool, true, false, nat_eq, Some, None, List, [], ◌∷◌, refl, if◌then◌else◌}
 use Rattle.std.specs.Prelude.{codes}
 use Rattle.std.specs.Str.{chars}
 use Rattle.std.specs.Cmp.Lexicographic.{pointwise}
+use Rattle.std.proofs.lemmas.Bool.{false≢true}
 use Rattle.squawk_tokens.specs.declared.token.Token.{Token}
 use Rattle.squawk_tokens.specs.declared.token.TokenKind.TheVariants.{Ident, Whitespace}
 use Rattle.squawk_table.specs.declared.shortcuts.str_step.OwnedStep.{OwnedStep}
@@ -10,11 +11,11 @@ use Rattle.squawk_table.specs.declared.shortcuts.str_step.OwnedStep.TheVariants 
 use Rattle.squawk_tokens.specs.AcceptedTokens.{start_of}
 use Rattle.squawk_table.specs.RawTable.{Table, table_of}
 use Rattle.squawk_kinds.specs.Keywords.{Keywords}
-use Rattle.squawk_table.specs.ParserInput.{Entry, input_of}
-use Rattle.squawk_table.specs.Shape.{no_keywords}
+use Rattle.squawk_table.specs.ParserInput.{Entry, input_of, touches_in}
+use Rattle.squawk_table.specs.Shape.{IsOver, no_keywords}
 use Rattle.squawk_table.specs.Steps as steps
 use Rattle.squawk_table.specs.Steps.{Step}
-use Rattle.squawk_table.specs.Sent.{sent_list, texts_of}
+use Rattle.squawk_table.specs.Sent.{errors_moved, sent_list, texts_of}
 
 -- ---- texts and their tokens
 
@@ -122,3 +123,49 @@ sent_of_trailing = refl
 
 texts_of_two : texts_of (sent.Enter 700 ∷ a ∷ gap ∷ b ∷ sent.Exit ∷ []) ≡ codes "a b"
 texts_of_two = refl
+
+-- ---- errors
+
+-- an error goes before one closing, not before two
+errors_moved_once : errors_moved (steps.Exit ∷ steps.Exit ∷ steps.Error (codes "e") ∷ []) ≡ steps.Exit ∷ steps.Error (codes "e") ∷ steps.Exit ∷ []
+errors_moved_once = refl
+
+-- several errors keep their order
+errors_moved_together : errors_moved (steps.Exit ∷ steps.Error (codes "e") ∷ steps.Error (codes "f") ∷ steps.Enter 5 ∷ [])
+    ≡ steps.Error (codes "e") ∷ steps.Error (codes "f") ∷ steps.Exit ∷ steps.Enter 5 ∷ []
+errors_moved_together = refl
+
+-- an error before the end of the root stands before the trivia there
+sent_of_error : sent_list (table_of no_keywords (codes "x ") (word 1 ∷ space 1 ∷ []))
+    (steps.Enter 700 ∷ steps.Enter 701 ∷ steps.Token 3 1 ∷ steps.Exit ∷ steps.Error (codes "e") ∷ steps.Exit ∷ [])
+    ≡ sent.Enter 700 ∷ sent.Enter 701 ∷ sent.Token 3 (codes "x") ∷ sent.Error (codes "e") 1 ∷ sent.Exit ∷ gap ∷ sent.Exit ∷ []
+unfolding chars lib.Utf8.encode
+sent_of_error = refl
+
+-- and so does one behind the root, while one before the root stays there
+sent_of_outer_errors : sent_list (table_of no_keywords (codes "a ") (word 1 ∷ space 1 ∷ []))
+    (steps.Error (codes "m") ∷ steps.Enter 700 ∷ steps.Enter 701 ∷ steps.Token 3 1 ∷ steps.Exit ∷ steps.Exit ∷ steps.Error (codes "n") ∷ [])
+    ≡ sent.Error (codes "m") 0 ∷ sent.Enter 700 ∷ sent.Enter 701 ∷ a ∷ sent.Exit ∷ sent.Error (codes "n") 1 ∷ gap ∷ sent.Exit ∷ []
+unfolding chars lib.Utf8.encode
+sent_of_outer_errors = refl
+
+-- ---- tokens of several input tokens
+
+-- two tokens that touch are one
+over_touching : IsOver (steps.Token 20 2 ∷ []) (entry 20 0 true ∷ entry 23 0 false ∷ [])
+over_touching = (record { some = omega arith; there = omega arith; touch = first_touches }, tt)
+  where
+    first_touches : (i : ℕ) → i + 1 < 2 → touches_in (entry 20 0 true ∷ entry 23 0 false ∷ []) i ≡ true
+    first_touches zero lt = refl
+    first_touches (suc i) lt = absurd (omega arith)
+
+-- and two that stand apart aren't
+apart_isnt_over : IsOver (steps.Token 20 2 ∷ []) (entry 20 0 false ∷ entry 23 0 false ∷ []) → ⊥
+apart_isnt_over over = false≢true (over.0.touch 0 (omega arith))
+
+-- the text of two that touch is joined
+sent_of_joined : sent_list (table_of no_keywords (codes "ab c") (word 1 ∷ word 1 ∷ space 1 ∷ word 1 ∷ []))
+    (steps.Enter 700 ∷ steps.Token 3 2 ∷ steps.Error (codes "e") ∷ steps.Token 3 1 ∷ steps.Exit ∷ [])
+    ≡ sent.Enter 700 ∷ sent.Token 3 (codes "ab") ∷ sent.Error (codes "e") 2 ∷ gap ∷ c ∷ sent.Exit ∷ []
+unfolding chars lib.Utf8.encode
+sent_of_joined = refl

@@ -66,3 +66,16 @@ none_after c raw le =
           absurd (omega (arith, ap length left, length-drop c (input_tokens raw)))
       | inr none ↦ none.0
     ]
+
+-- ---- the same of entries
+
+entries_of-next : (contextual : Keywords) (raw : List RawToken) → entries_of contextual (drop 1 (past_trivia raw)) ≡ drop 1 (entries_of contextual raw)
+entries_of-next contextual [] = refl
+entries_of-next contextual (r ∷ raw) =
+    elim (cases_Bool (is_trivia r.kind)) [ inl e ↦ rw e (entries_of-next contextual raw) | inr e ↦ rw e refl ]
+
+pub entries_of-after_input : (contextual : Keywords) (c : ℕ) (raw : List RawToken) → entries_of contextual (after_input c raw) ≡ drop c (entries_of contextual raw)
+entries_of-after_input contextual zero raw = refl
+entries_of-after_input contextual (suc c) raw =
+    entries_of-next contextual (after_input c raw)
+    ∙ (ap (drop 1) (entries_of-after_input contextual c raw) ∙ (drop-drop 1 c (entries_of contextual raw) ∙ ap (λ n. drop n (entries_of contextual raw)) (add-one c)))

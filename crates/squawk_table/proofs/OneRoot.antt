@@ -2,7 +2,7 @@
 use Rattle.std.proofs.Common.{◌≡◌, ℕ, ◌+◌, ◌<◌, ◌≤◌, List, [], ◌∷◌, cond, length, take, get_or, arith, ap, sym, subst, ◌⊎◌, inl, inr}
 use Rattle.std.proofs.lemmas.List.{take_all}
 use Rattle.squawk_table.specs.Shape.{BeginsWithEnter, StandsInOneRoot}
-use Rattle.squawk_table.specs.Steps.{Step, Token, Enter, Exit, is_enter, is_exit, openings, closings}
+use Rattle.squawk_table.specs.Steps.{Step, Token, Enter, Exit, Error, is_enter, is_exit, openings, closings}
 use Rattle.squawk_table.proofs.StepPlaces.{openings-take_more, closings-take_more}
 
 -- the first i steps stand in one root, as far as they tell, and so many nodes are open after them
@@ -17,11 +17,13 @@ abbrev pub MayBegin : Step → Type 0
 MayBegin (Token kind n) = ⊥
 MayBegin (Enter kind) = Unit {0}
 MayBegin Exit = ⊥
+MayBegin (Error text) = ⊥
 
 begins_with_first : (x : Step) (steps : List Step) → MayBegin x → BeginsWithEnter (x ∷ steps)
 begins_with_first (Token kind n) steps may = may
 begins_with_first (Enter kind) steps may = tt
 begins_with_first Exit steps may = may
+begins_with_first (Error text) steps may = may
 
 begins_with : (steps : List Step) (step : Step) → 0 < length steps → get_or steps 0 step ≡ step → MayBegin step → BeginsWithEnter steps
 begins_with [] step lt at may = absurd (omega arith)
@@ -31,6 +33,7 @@ first_of_begun : (x : Step) (steps : List Step) → BeginsWithEnter (x ∷ steps
 first_of_begun (Token kind n) steps begins = begins
 first_of_begun (Enter kind) steps begins = tt
 first_of_begun Exit steps begins = begins
+first_of_begun (Error text) steps begins = begins
 
 -- the first step of a walk that begins with an opening
 pub first_step : (steps : List Step) (step : Step) → get_or steps 0 step ≡ step → BeginsWithEnter steps → MayBegin step

@@ -1,5 +1,5 @@
 -- What is left of the raw tokens before each step of a walk.
-use Rattle.std.proofs.Common.{◌≡◌, ◌∙◌, ℕ, zero, suc, ◌+◌, ◌<◌, ◌≤◌, Bool, true, false, not, ◌&&◌, ◌||◌, List, [], ◌∷◌, if◌then◌else◌, length, take, drop, get_or, arith, add-one, ap, sym, refl}
+use Rattle.std.proofs.Common.{◌≡◌, ◌∙◌, ℕ, zero, suc, ◌+◌, ◌<◌, ◌≤◌, Bool, true, false, not, ◌&&◌, ◌||◌, List, [], if◌then◌else◌, length, take, get_or, arith, add-one, ap, sym, refl}
 use Rattle.std.specs.Prelude.{◌==◌}
 use Rattle.std.proofs.lemmas.Bool.{eq-eqb, ne_eqb, and_right}
 use Rattle.std.proofs.lemmas.List.{take-take}
@@ -8,7 +8,6 @@ use Rattle.squawk_table.specs.RawTable.{RawToken}
 use Rattle.squawk_table.specs.Sent.{leading_trivia, past_trivia, after_input, trivia_run, eaten_before, is_receiver, is_received, trivia_before}
 use Rattle.squawk_table.specs.Steps.{Step, count_of, eaten}
 use Rattle.squawk_table.proofs.StepPlaces.{eaten-take_more}
-use Rattle.squawk_table.proofs.InputTokens.{NextToken}
 use Rattle.squawk_table.proofs.Trivia.{past_trivia-past_trivia, leading_trivia-past_trivia}
 
 -- the raw tokens that are left before step i: without the trivia at their front, if a step received that already
@@ -81,23 +80,20 @@ module _ (raw : List RawToken) (steps : List Step) (i : ℕ) (step : Step) (lt :
       ap (λ c. behind raw c (is_received steps c (i + 1))) same
       ∙ (ap (behind raw c) (is_received-same steps c i refl) ∙ behind-or raw c (is_receiver steps i) (is_received steps c i))
 
-  -- behind a token nothing is received yet
-  is_received-token : count_of step ≡ 1 → is_received steps (eaten_before steps (i + 1)) (i + 1) ≡ false
-  is_received-token one =
-      is_received-later steps (eaten_before steps (i + 1)) (i + 1)
-      (λ k low. omega (arith, eaten_before-le steps k i (omega arith), eaten-take_more steps i step lt at))
+  module _ (some : 1 ≤ count_of step) where
+    -- behind a token nothing is received yet
+    is_received-token : is_received steps (eaten_before steps (i + 1)) (i + 1) ≡ false
+    is_received-token =
+        is_received-later steps (eaten_before steps (i + 1)) (i + 1)
+        (λ k low. omega (arith, eaten_before-le steps k i (omega arith), eaten-take_more steps i step lt at))
 
-  left_before-token : count_of step ≡ 1 → left_before raw steps (i + 1) ≡ drop 1 (past_trivia (after_input (eaten_before steps i) raw))
-  left_before-token one =
-      let more : eaten_before steps (i + 1) ≡ suc (eaten_before steps i) = omega (arith, eaten-take_more steps i step lt at) in
-      ap (behind raw (eaten_before steps (i + 1))) (is_received-token one) ∙ ap (λ c. after_input c raw) more
+    pub left_before-token : left_before raw steps (i + 1) ≡ after_input (eaten_before steps i + count_of step) raw
+    left_before-token =
+        ap (behind raw (eaten_before steps (i + 1))) is_received-token ∙ ap (λ c. after_input c raw) (eaten-take_more steps i step lt at)
 
-  -- a token is the next token of the input, and it leaves what stands behind that
-  pub left_at-token : count_of step ≡ 1 → is_receiver steps i ≡ true → (next : NextToken (after_input (eaten_before steps i) raw))
-      → left_at raw steps i ≡ next.token ∷ left_before raw steps (i + 1)
-  left_at-token one receiver next =
+  -- a receiver stands directly before the next token of the input
+  pub left_at-receiver : is_receiver steps i ≡ true → left_at raw steps i ≡ past_trivia (after_input (eaten_before steps i) raw)
+  left_at-receiver receiver =
       let c = eaten_before steps i in
       let left = left_before raw steps i in
-      let rest : left_before raw steps (i + 1) ≡ next.rest = left_before-token one ∙ ap (drop 1) next.stands in
-      ap (λ b. if b then past_trivia left else left) receiver
-      ∙ (past_trivia-behind raw c (is_received steps c i) ∙ (next.stands ∙ ap (λ xs. next.token ∷ xs) (sym rest)))
+      ap (λ b. if b then past_trivia left else left) receiver ∙ past_trivia-behind raw c (is_received steps c i)

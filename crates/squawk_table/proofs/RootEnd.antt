@@ -1,15 +1,16 @@
 -- The end of a walk that stands in one root.
-use Rattle.std.proofs.Common.{◌≡◌, ◌∙◌, ℕ, ◌+◌, ◌-◌, ◌<◌, ◌≤◌, true, List, length, take, get_or, arith, ap, sym, refl, subst, inl, inr}
-use Rattle.std.proofs.lemmas.Bool.{eq-eqb, cases_lt, or_left}
+use Rattle.std.proofs.Common.{◌≡◌, ◌∙◌, ℕ, zero, suc, ◌+◌, ◌<◌, ◌≤◌, true, false, List, length, take, get_or, arith, add-one, ap, refl, subst, inl, inr}
+use Rattle.std.proofs.lemmas.Bool.{cases_lt, or_left, or_right}
 use Rattle.std.proofs.lemmas.List.{take_all, get_or_default}
 use Rattle.squawk_table.specs.RawTable.{RawToken}
 use Rattle.squawk_table.specs.Sent.{past_trivia, after_input, eaten_before, is_receiver, is_received}
 use Rattle.squawk_table.specs.Shape.{StandsInOneRoot}
-use Rattle.squawk_table.specs.Steps.{Step, Token, Enter, Exit, openings, closings, eaten}
+use Rattle.squawk_table.specs.Steps.{Step, Token, Enter, Exit, Error, is_error, count_of, openings, closings, eaten, without_errors}
 use Rattle.squawk_table.proofs.OneRoot.{first_step, length-root}
 use Rattle.squawk_table.proofs.Received.{left_before, behind, is_received-same}
-use Rattle.squawk_table.proofs.Receivers.{is_receiver-at, receives-exit}
+use Rattle.squawk_table.proofs.Receivers.{is_receiver-at, last_receives}
 use Rattle.squawk_table.proofs.StepPlaces.{eaten-take_more, openings-take_more, closings-take_more}
+use Rattle.squawk_table.proofs.WithoutErrors.{kept, kept-error, kept-more, kept-at, kept-lt}
 
 module _ (steps : List Step) (root : StandsInOneRoot steps) (last : ℕ) (end : last + 1 ≡ length steps) where
   all_steps : take (last + 1) steps ≡ steps
@@ -21,7 +22,7 @@ module _ (steps : List Step) (root : StandsInOneRoot steps) (last : ℕ) (end : 
       omega (arith, root.inside last positive (omega arith), root.closed, ap closings all_steps, ap openings all_steps)
 
   -- the last step is a closing
-  last_step : (step : Step) → get_or steps last step ≡ step → step ≡ Exit
+  pub last_step : (step : Step) → get_or steps last step ≡ step → step ≡ Exit
   last_step (Token kind n) at =
       let first : 0 < length steps = omega arith in
       let lt : last < length steps = omega arith in
@@ -44,30 +45,60 @@ module _ (steps : List Step) (root : StandsInOneRoot steps) (last : ℕ) (end : 
             let closed_none : closings (take last steps) ≡ 0 = ap (λ i. closings (take i steps)) e in
             absurd (omega (arith, root.closed, ap closings all_steps, ap openings all_steps))
       ]
+  last_step (Error text) at =
+      let first : 0 < length steps = omega arith in
+      let lt : last < length steps = omega arith in
+      let closed = closings-take_more steps last (Error text) lt at in
+      let opened = openings-take_more steps last (Error text) lt at in
+      elim (cases_lt 0 last) [
+        | inl positive ↦ absurd (token_or_enter (Error text) at (omega arith) (omega arith) positive)
+        | inr none ↦
+            let e : last ≡ 0 = omega arith in
+            absurd (first_step steps (Error text) (subst (λ i. get_or steps i (Error text) ≡ Error text) e at) root.begins)
+      ]
   last_step Exit at = refl
 
-  at_last : get_or steps last Exit ≡ Exit
-  at_last =
-      let step = get_or steps last Exit in
-      last_step step (get_or_default steps last step Exit (omega arith))
+-- ---- with errors
 
-  -- so it received what was left
-  end_received : is_received steps (eaten_before steps (last + 1)) (last + 1) ≡ true
-  end_received =
-      let lt : last < length steps = omega arith in
-      let at = at_last in
-      let c = eaten_before steps (last + 1) in
-      let same : eaten_before steps last ≡ c = omega (arith, eaten-take_more steps last Exit lt at) in
-      let receiver = is_receiver-at steps last Exit lt at ∙ (sym (receives-exit steps root last lt) ∙ eq-eqb (last + 1) (length steps) end) in
-      is_received-same steps c last same ∙ or_left (is_receiver steps last) (is_received steps c last) receiver
+module _ (steps : List Step) (root : StandsInOneRoot (without_errors steps)) where
+  module _ (i : ℕ) (step : Step) (lt : i < length steps) (at : get_or steps i step ≡ step) (past : length (without_errors steps) ≤ kept steps (i + 1)) where
+    -- a step that isn't an error, and behind which only errors stand, closes the root
+    closes_root : is_error step ≡ false → step ≡ Exit
+    closes_root other =
+        let low = kept-lt steps i step lt at other in
+        last_step (without_errors steps) root (kept steps i) (omega (arith, kept-more steps i step lt at other)) step (kept-at steps i step lt at other)
 
-  pub left_before-end : (raw : List RawToken) → left_before raw steps (last + 1) ≡ past_trivia (after_input (eaten steps) raw)
-  left_before-end raw =
-      ap (behind raw (eaten_before steps (last + 1))) end_received ∙ ap (λ s. past_trivia (after_input (eaten s) raw)) all_steps
+    same_eaten : count_of step ≡ 0 → eaten_before steps i ≡ eaten_before steps (i + 1)
+    same_eaten none = omega (arith, eaten-take_more steps i step lt at)
 
--- behind all steps no trivia is left in front of the next token of the input
-pub left_before-all : (raw : List RawToken) (steps : List Step) (i : ℕ) → StandsInOneRoot steps → i ≡ length steps → left_before raw steps i ≡ past_trivia (after_input (eaten steps) raw)
-left_before-all raw steps i root all =
-    let some = length-root steps root.begins in
-    let end : (length steps - 1) + 1 ≡ length steps = omega arith in
-    ap (left_before raw steps) (all ∙ sym end) ∙ left_before-end steps root (length steps - 1) end raw
+  one_more : (i : ℕ) (step : Step) → i < length steps → get_or steps i step ≡ step → length (without_errors steps) ≤ kept steps (i + 1)
+      → (length (without_errors steps) ≤ kept steps i → is_received steps (eaten_before steps i) i ≡ true) → is_received steps (eaten_before steps (i + 1)) (i + 1) ≡ true
+  one_more i (Token kind n) lt at past before = let wrong = closes_root i (Token kind n) lt at past refl in cc
+  one_more i (Enter kind) lt at past before = let wrong = closes_root i (Enter kind) lt at past refl in cc
+  one_more i Exit lt at past before =
+      let same = same_eaten i Exit lt at past refl in
+      let c = eaten_before steps (i + 1) in
+      let receiver = is_receiver-at steps i Exit lt at ∙ last_receives steps root i past in
+      is_received-same steps c i same ∙ or_left (is_receiver steps i) (is_received steps c i) receiver
+  one_more i (Error text) lt at past before =
+      let same = same_eaten i (Error text) lt at past refl in
+      let c = eaten_before steps (i + 1) in
+      let received : is_received steps c i ≡ true =
+      subst (λ c. is_received steps c i ≡ true) same (before (omega (arith, kept-error steps i (Error text) lt at refl))) in
+      is_received-same steps c i same ∙ or_right (is_receiver steps i) (is_received steps c i) received
+
+  -- behind all steps but errors the trivia was received that was left
+  end_received : (i : ℕ) → i ≤ length steps → length (without_errors steps) ≤ kept steps i → is_received steps (eaten_before steps i) i ≡ true
+  end_received zero le past = absurd (omega (arith, length-root (without_errors steps) root.begins))
+  end_received (suc i) le past =
+      let step = get_or steps i Exit in
+      let at = get_or_default steps i step Exit (omega arith) in
+      subst (λ k. is_received steps (eaten_before steps k) k ≡ true) (add-one i)
+      (one_more i step (omega arith) at (rw (add-one i) past) (end_received i (omega arith)))
+
+  -- so that none is left in front of the next token of the input
+  pub left_before-all : (raw : List RawToken) → left_before raw steps (length steps) ≡ past_trivia (after_input (eaten steps) raw)
+  left_before-all raw =
+      let whole : take (length steps) steps ≡ steps = take_all (length steps) steps (omega arith) in
+      let received = end_received (length steps) (omega arith) (omega (arith, ap (λ xs. length (without_errors xs)) whole)) in
+      ap (behind raw (eaten_before steps (length steps))) received ∙ ap (λ s. past_trivia (after_input (eaten s) raw)) whole

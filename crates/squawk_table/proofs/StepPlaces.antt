@@ -2,17 +2,15 @@
 use Rattle.std.proofs.Common.{◌≡◌, ◌∙◌, ℕ, ◌+◌, ◌<◌, List, cond, length, map, take, get_or, ap, sym}
 use Rattle.std.proofs.lemmas.List.{get_or-map}
 use Rattle.std.proofs.lemmas.List.Sums.{sum_by_more}
-use Rattle.squawk_table.specs.StepViews.{step_of}
+use Rattle.squawk_table.specs.StepViews.{stored_of}
 use Rattle.squawk_table.specs.Steps as plain
 use Rattle.squawk_table.specs.Steps.{is_enter, is_exit, count_of, openings, closings, eaten}
-use Rattle.squawk_table.specs.declared.output.step.Step.{Step}
-
-pub step_read : (steps : List Step) (i : ℕ) (d x : Step) (e : plain.Step) → i < length steps → get_or steps i d ≡ x → get_or (map step_of steps) i e ≡ step_of x
-step_read steps i d x e lt is = get_or-map step_of steps i d e lt ∙ ap step_of is
+use Rattle.squawk_table.specs.declared.output.stored.StoredStep.{StoredStep}
 
 -- what the code reads at a place is the step of the walk there
-pub step_at : (steps : List Step) (i : ℕ) (x : Step) (d : plain.Step) → i < length steps → x ≡ get_or steps i x → get_or (map step_of steps) i d ≡ step_of x
-step_at steps i x d lt e = get_or-map step_of steps i x d lt ∙ ap step_of (sym e)
+pub step_at : (steps : List StoredStep) (i : ℕ) (x : StoredStep) (d : plain.Step) → i < length steps → x ≡ get_or steps i x
+    → get_or (map stored_of steps) i d ≡ stored_of x
+step_at steps i x d lt e = get_or-map stored_of steps i x d lt ∙ ap stored_of (sym e)
 
 module _ (steps : List plain.Step) (i : ℕ) (step : plain.Step) (lt : i < length steps) (at : get_or steps i step ≡ step) where
   pub eaten-take_more : eaten (take (i + 1) steps) ≡ eaten (take i steps) + count_of step

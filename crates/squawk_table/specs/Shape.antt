@@ -1,7 +1,7 @@
 -- The shape of a walk: balanced, in one root, over an input.
-use Rattle.std.specs.Prelude.{◌≡◌, ℕ, ◌<◌, ◌≤◌, List, [], ◌∷◌, length, take, All}
-use Rattle.squawk_table.specs.Steps.{Step, Token, Enter, Exit, openings, closings, eaten}
-use Rattle.squawk_table.specs.ParserInput.{Entry, input_of}
+use Rattle.std.specs.Prelude.{◌≡◌, ℕ, ◌+◌, ◌<◌, ◌≤◌, true, List, [], ◌∷◌, length, take, drop}
+use Rattle.squawk_table.specs.Steps.{Step, Token, Enter, Exit, Error, openings, closings, without_errors}
+use Rattle.squawk_table.specs.ParserInput.{Entry, input_of, touches_in}
 use Rattle.squawk_table.specs.RawTable.{Table}
 use Rattle.squawk_kinds.specs.Keywords.{Keywords}
 use Rattle.std.specs.Prelude.{None}
@@ -17,6 +17,7 @@ BeginsWithEnter [] = ⊥
 BeginsWithEnter (Token kind n ∷ steps) = ⊥
 BeginsWithEnter (Enter kind ∷ steps) = Unit {0}
 BeginsWithEnter (Exit ∷ steps) = ⊥
+BeginsWithEnter (Error text ∷ steps) = ⊥
 
 -- The walk begins with an opening. No beginning closes more nodes than it opens, and of those that aren't empty only the whole
 -- walk closes as many.
@@ -25,22 +26,25 @@ pub record StandsInOneRoot (steps : List Step) : Type 0 where
   pub inside : (k : ℕ) → 0 < k → k < length steps → closings (take k steps) < openings (take k steps)
   pub closed : closings steps ≡ openings steps
 
--- a token has one input token
-abbrev pub EatsOne : Step → Type 0
-EatsOne (Token kind n) = n ≡ 1
-EatsOne (Enter kind) = Unit {0}
-EatsOne Exit = Unit {0}
+-- the first n tokens of an input are there, at least one, and they touch one another
+pub record AreOneToken (n : ℕ) (input : List Entry) : Type 0 where
+  pub some : 1 ≤ n
+  pub there : n ≤ length input
+  pub touch : (i : ℕ) → i + 1 < n → touches_in input i ≡ true
 
--- each token has one input token, and there are as many in the input
-pub record IsOver (steps : List Step) (input : List Entry) : Type 0 where
-  pub each : All EatsOne steps
-  pub within : eaten steps ≤ length input
+-- Read from the left, each token of the walk has the next tokens of the input, at least one, and these touch one another.
+abbrev pub IsOver : List Step → List Entry → Type 0
+IsOver [] input = Unit {0}
+IsOver (Token kind n ∷ steps) input = AreOneToken n input × IsOver steps (drop n input)
+IsOver (Enter kind ∷ steps) input = IsOver steps input
+IsOver (Exit ∷ steps) input = IsOver steps input
+IsOver (Error text ∷ steps) input = IsOver steps input
 
 -- which tokens an input has doesn't depend on contextual keywords
 abbrev pub no_keywords : Keywords
 no_keywords text = None
 
--- the walk stands in one root, over the input of the table
+-- errors aside, the walk stands in one root, and it is over the input of the table
 pub record Fits (table : Table) (steps : List Step) : Type 0 where
-  pub root : StandsInOneRoot steps
+  pub root : StandsInOneRoot (without_errors steps)
   pub over : IsOver steps (input_of no_keywords table)

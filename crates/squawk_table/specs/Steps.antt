@@ -1,5 +1,5 @@
 -- The steps of a walk over a syntax tree.
-use Rattle.std.specs.Prelude.{ℕ, Bool, true, false, List, sum_by, count_by}
+use Rattle.std.specs.Prelude.{ℕ, Bool, true, false, not, List, filter, sum_by, count_by}
 
 pub data Step : Type 0 where
   -- a token of a kind, and how many input tokens it has
@@ -8,6 +8,8 @@ pub data Step : Type 0 where
   Enter : ℕ → Step
   -- the end of a node
   Exit : Step
+  -- an error with its text
+  Error : List ℕ → Step
 
 -- what an output holds: its steps, how many events were recorded for them, and how many turns made them
 pub record Walk : Type 0 where
@@ -19,17 +21,26 @@ abbrev pub is_enter : Step → Bool
 is_enter (Token kind n) = false
 is_enter (Enter kind) = true
 is_enter Exit = false
+is_enter (Error text) = false
 
 abbrev pub is_exit : Step → Bool
 is_exit (Token kind n) = false
 is_exit (Enter kind) = false
 is_exit Exit = true
+is_exit (Error text) = false
+
+abbrev pub is_error : Step → Bool
+is_error (Token kind n) = false
+is_error (Enter kind) = false
+is_error Exit = false
+is_error (Error text) = true
 
 -- how many input tokens a step eats
 abbrev pub count_of : Step → ℕ
 count_of (Token kind n) = n
 count_of (Enter kind) = 0
 count_of Exit = 0
+count_of (Error text) = 0
 
 -- how many nodes the steps open
 abbrev pub openings : List Step → ℕ
@@ -38,6 +49,14 @@ openings steps = count_by is_enter steps
 -- how many nodes they close
 abbrev pub closings : List Step → ℕ
 closings steps = count_by is_exit steps
+
+-- how many errors there are
+abbrev pub errors_in : List Step → ℕ
+errors_in steps = count_by is_error steps
+
+-- the other steps
+abbrev pub without_errors : List Step → List Step
+without_errors steps = filter (λ step. not (is_error step)) steps
 
 -- how many input tokens they eat
 abbrev pub eaten : List Step → ℕ

@@ -129,6 +129,7 @@ impl<'a> LexedStr<'a> {
         let start = self.starts[i];
         start as usize
     }
+
     /// The lexical errors of the raw tokens, in the order of their places.
     pub fn errors(&self) -> LexErrors<'_>
         ensures errors { result ≡ self.now.errors }

@@ -1,25 +1,27 @@
 //! The output of a parse.
 ghost use Rattle.std.specs.Prelude.{◌≡◌, [], map};
-ghost use Rattle.squawk_table.specs.StepViews.{step_of};
+ghost use Rattle.squawk_table.specs.StepViews.{stored_of};
 
 pub(crate) mod builder;
 pub mod step;
 pub mod steps;
+pub(crate) mod stored;
 pub mod text;
 
 use std::alloc::Global;
 use std::marker::Model;
 pub use step::Step;
 pub use steps::Steps;
+use stored::StoredStep;
 pub use text::Text;
 
 /// A walk over a syntax tree from the left, node by node, as a list of steps.
 ///
 /// It speaks of tokens of the input that was parsed and knows neither their texts nor the trivia
-/// between them.
+/// between them. Its errors stand where they were recorded.
 #[derive(Drop)]
 pub struct Output {
-    steps: Vec<Step>,
+    steps: Vec<StoredStep>,
     recorded: u32,
     turns: u64,
 }
@@ -30,9 +32,9 @@ impl Model for Output {
     ghost Value = { Walk };
 
     ghost use Rattle.std.specs.Prelude.{map};
-    ghost use Rattle.squawk_table.specs.StepViews.{step_of};
+    ghost use Rattle.squawk_table.specs.StepViews.{stored_of};
 
-    ghost view = { λ o. record { steps = map step_of o.steps.items; recorded = o.recorded; turns = o.turns } };
+    ghost view = { λ o. record { steps = map stored_of o.steps.items; recorded = o.recorded; turns = o.turns } };
 }
 
 impl Output {
@@ -55,13 +57,14 @@ impl Output {
     }
 
     /// The same steps.
-    pub(crate) fn steps(&self) -> &[Step]
-        ensures { map step_of result.now ≡ self.now.steps }
+    pub(crate) fn steps(&self) -> &[StoredStep]
+        ensures { map stored_of result.now ≡ self.now.steps }
     {
         &self.steps
     }
 
-    /// How many events the parse recorded: one for each start, completion and token.
+    /// How many events the parse recorded: one for each start, completion, token and
+    /// error.
     pub fn recorded(&self) -> u32
         ensures { result ≡ self.now.recorded }
     {

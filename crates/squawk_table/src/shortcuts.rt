@@ -3,19 +3,21 @@ ghost use Rattle.std.specs.Prelude.{◌≡◌, ◌+◌, ◌^◌, ◌<◌, ◌≤
 ghost use Rattle.std.specs.Str.{chars};
 ghost use Rattle.squawk_table.specs.ParserInput.{input_of};
 ghost use Rattle.squawk_table.specs.RawTable.{raw_after};
-ghost use Rattle.squawk_table.specs.Sent.{sent_list, sent_raw, leading_trivia, past_trivia, is_receiver, texts_of, IsBeginning, StopsWithin};
-ghost use Rattle.squawk_table.specs.Sending.{sent_here, HasToken, next_place, SendsOne};
-ghost use Rattle.squawk_table.specs.Shape.{Fits, StandsInOneRoot, no_keywords};
+ghost use Rattle.squawk_table.specs.Sent.{sent_list, sent_raw, leading_trivia, past_trivia, texts_of, IsBeginning, StopsWithin};
+ghost use Rattle.squawk_table.specs.Sending.{sent_here, HasTokens, next_place, receives_at, depth_behind, SendsOne};
+ghost use Rattle.squawk_table.specs.Shape.{Fits, no_keywords};
 ghost use Rattle.squawk_table.specs.StepViews.{step_of, owned_step_of};
 ghost use Rattle.squawk_table.specs.Steps.{eaten};
 ghost use Rattle.squawk_table.specs.declared.shortcuts.str_step.OwnedStep.{OwnedStep};
 
 mod fit;
+mod moved;
 pub mod step_list;
 pub mod str_step;
 
 use crate::lexed_str::LexedStr;
 use crate::output::{Output, Step};
+use moved::MovedErrors;
 pub use step_list::StepList;
 pub use str_step::{OwnedStep, StepSink, StrStep};
 
@@ -24,7 +26,9 @@ impl LexedStr<'_> {
     /// between them. Whether the output has all raw tokens that aren't trivia.
     ///
     /// Trivia goes directly before the next token, before the opening of a node, or before the end
-    /// of the last node, whichever comes first: so no node but the last begins or ends with it.
+    /// of the root, whichever comes first: so no node but the root begins or ends with it. Errors
+    /// that stand directly behind the end of a node go before that end. The position of an error is
+    /// the number of bytes of the source that were sent before it.
     /// Where the sink refuses a step, nothing more is sent, and its refusal is answered.
     ///
     /// The output [`fits`](LexedStr::fits) the table.
@@ -45,14 +49,16 @@ impl LexedStr<'_> {
         ensures err { IfErr result (λ answer. (l : List OwnedStep) → S.stands_after sink.old l
             → StopsWithin (S.stands_after sink.new) S.refuses l (sent_list self.now output.now.steps) answer) }
     {
-        let steps = output.steps();
         let len = self.len();
+        let mut steps = MovedErrors::new(output.steps());
         let mut place = 0;
-        for (i, step) in steps.iter().enumerate() {
-            if receives_trivia(steps, i) {
+        let mut depth = 0;
+        while let Some(step) = steps.next() {
+            if receives_trivia(&step, depth) {
                 place = self.send_trivia(place, sink)?;
             }
-            place = self.send_step(*step, place, sink)?;
+            depth = depth_behind(&step, depth);
+            place = self.send_step(&step, place, sink)?;
         }
         Ok(place == len)
     }
@@ -77,46 +83,66 @@ impl LexedStr<'_> {
         Ok(place)
     }
 
-    /// Sends a step; a token has the raw token at this place. The place behind it.
+    /// Sends a step; a token has the raw tokens from this place on. The place behind it.
     fn send_step<S: StepSink>(
         &self,
-        step: Step,
+        step: &Step<'_>,
         place: usize,
         sink: &mut S,
     ) -> Result<usize, S::Refusal>
-        requires small { length self.now.kinds < 2 ^ 64 }
+        requires counted { length self.now.kinds < 2 ^ 64 }
         requires within { place ≤ length self.now.kinds }
-        requires token { HasToken self.now place (step_of step) }
-        ensures place { IfOk result (λ to. to ≡ next_place place (step_of step)) }
-        ensures sent { (l : List OwnedStep) → S.stands_after sink.old l → SendsOne (S.stands_after sink.new) S.refuses l (sent_here self.now place (step_of step)) result }
+        requires token { HasTokens self.now place (step_of step.now) }
+        ensures place { IfOk result (λ to. to ≡ next_place place (step_of step.now)) }
+        ensures sent { (l : List OwnedStep) → S.stands_after sink.old l → SendsOne (S.stands_after sink.new) S.refuses l (sent_here self.now place (step_of step.now)) result }
     {
         match step {
-            Step::Token { kind, .. } => {
-                let text = self.text(place);
-                sink.step(StrStep::Token { kind, text })?;
-                Ok(place + 1)
+            Step::Token {
+                kind,
+                n_input_tokens,
+            } => {
+                let end = place + *n_input_tokens as usize;
+                let text = self.range_text(place..end);
+                sink.step(StrStep::Token { kind: *kind, text })?;
+                Ok(end)
             }
             Step::Enter { kind } => {
-                sink.step(StrStep::Enter { kind })?;
+                sink.step(StrStep::Enter { kind: *kind })?;
                 Ok(place)
             }
             Step::Exit => {
                 sink.step(StrStep::Exit)?;
                 Ok(place)
             }
+            Step::Error { msg } => {
+                let pos = self.text_start(place);
+                sink.step(StrStep::Error { msg, pos })?;
+                Ok(place)
+            }
         }
     }
 }
 
-/// Whether trivia may stand directly before step `i` of an output.
-fn receives_trivia(steps: &[Step], i: usize) -> bool
-    requires root { StandsInOneRoot (map step_of steps.now) }
-    requires within { i < length steps.now }
-    ensures { result ≡ is_receiver (map step_of steps.now) i }
+/// Whether trivia may stand directly before a step inside of so many nodes.
+fn receives_trivia(step: &Step<'_>, depth: usize) -> bool
+    ensures { result ≡ receives_at depth (step_of step.now) }
 {
-    match steps[i] {
+    match step {
         Step::Token { .. } => true,
-        Step::Enter { .. } => i > 0,
-        Step::Exit => i + 1 == steps.len(),
+        Step::Enter { .. } => depth > 0,
+        Step::Exit => depth == 1,
+        Step::Error { .. } => false,
+    }
+}
+
+/// In how many nodes the place behind a step is.
+fn depth_behind(step: &Step<'_>, depth: usize) -> usize
+    requires { depth + 1 < 2 ^ 64 }
+    ensures { result ≡ depth_behind depth (step_of step.now) }
+{
+    match step {
+        Step::Enter { .. } => depth + 1,
+        Step::Exit => depth.saturating_sub(1),
+        Step::Token { .. } | Step::Error { .. } => depth,
     }
 }

@@ -1,9 +1,10 @@
 //! How an output is made.
 ghost use Rattle.std.specs.Prelude.{◌≡◌, [], ◌∷◌, ◌++◌, IfOk};
-ghost use Rattle.squawk_table.specs.Steps.{Token, Enter, Exit};
+ghost use Rattle.squawk_table.specs.Steps.{Token, Enter, Exit, Error};
 
 use crate::output::Output;
-use crate::output::step::Step;
+use crate::output::stored::StoredStep;
+use crate::output::text::Text;
 use squawk_kinds::SyntaxKind;
 use std::alloc::{AllocError, Global};
 use std::marker::Model;
@@ -14,7 +15,7 @@ use std::marker::Model;
 /// from [`Output::empty`] or from a parse, and from nothing else.
 #[derive(Drop)]
 pub struct OutputBuilder {
-    steps: Vec<Step>,
+    steps: Vec<StoredStep>,
     recorded: u32,
 }
 
@@ -24,9 +25,9 @@ impl Model for OutputBuilder {
     ghost Value = { Walk };
 
     ghost use Rattle.std.specs.Prelude.{map};
-    ghost use Rattle.squawk_table.specs.StepViews.{step_of};
+    ghost use Rattle.squawk_table.specs.StepViews.{stored_of};
 
-    ghost view = { λ b. record { steps = map step_of b.steps.items; recorded = b.recorded; turns = 0 } };
+    ghost view = { λ b. record { steps = map stored_of b.steps.items; recorded = b.recorded; turns = 0 } };
 }
 
 impl OutputBuilder {
@@ -49,7 +50,7 @@ impl OutputBuilder {
     pub fn token(&mut self, kind: SyntaxKind, n_input_tokens: u8) -> Result<(), AllocError>
         ensures { IfOk result (λ _. self.new ≡ record self.old { steps = self.old.steps ++ Token kind n_input_tokens ∷ [] }) }
     {
-        self.steps.push(Step::Token {
+        self.steps.push(StoredStep::Token {
             kind,
             n_input_tokens,
         })?;
@@ -60,7 +61,7 @@ impl OutputBuilder {
     pub fn enter_node(&mut self, kind: SyntaxKind) -> Result<(), AllocError>
         ensures { IfOk result (λ _. self.new ≡ record self.old { steps = self.old.steps ++ Enter kind ∷ [] }) }
     {
-        self.steps.push(Step::Enter { kind })?;
+        self.steps.push(StoredStep::Enter { kind })?;
         Ok(())
     }
 
@@ -68,7 +69,15 @@ impl OutputBuilder {
     pub fn leave_node(&mut self) -> Result<(), AllocError>
         ensures { IfOk result (λ _. self.new ≡ record self.old { steps = self.old.steps ++ Exit ∷ [] }) }
     {
-        self.steps.push(Step::Exit)?;
+        self.steps.push(StoredStep::Exit)?;
+        Ok(())
+    }
+
+    /// Puts an error at the end.
+    pub fn error(&mut self, msg: Text) -> Result<(), AllocError>
+        ensures { IfOk result (λ _. self.new ≡ record self.old { steps = self.old.steps ++ Error msg ∷ [] }) }
+    {
+        self.steps.push(StoredStep::Error { msg })?;
         Ok(())
     }
 

@@ -4,7 +4,7 @@ use squawk_kinds::SyntaxKind;
 
 /// A step of a walk over a syntax tree.
 #[derive(Clone, Copy, Debug, PartialEq, Eq)]
-pub enum Step {
+pub enum Step<'a> {
     /// A token of a kind, with so many tokens of the input.
     Token {
         kind: SyntaxKind,
@@ -16,4 +16,8 @@ pub enum Step {
     },
     /// The end of the node that was entered last and not left yet.
     Exit,
+    /// An error, with its text.
+    Error {
+        msg: &'a str,
+    },
 }

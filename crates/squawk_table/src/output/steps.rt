@@ -1,14 +1,15 @@
 //! The steps of an output, one after another.
 ghost use Rattle.std.specs.Prelude.{◌≡◌, map};
-ghost use Rattle.squawk_table.specs.StepViews.{step_of};
+ghost use Rattle.squawk_table.specs.StepViews.{stored_of};
 
 use crate::output::step::Step;
+use crate::output::stored::StoredStep;
 use std::marker::Model;
 
 /// The steps that are left of an output.
 #[derive(Drop)]
 pub struct Steps<'a> {
-    steps: &'a [Step],
+    steps: &'a [StoredStep],
 }
 
 impl<'a> Model for Steps<'a> {
@@ -17,35 +18,35 @@ impl<'a> Model for Steps<'a> {
 
     ghost Value = { List plain.Step };
 
-    ghost use Rattle.squawk_table.specs.StepViews.{step_of};
+    ghost use Rattle.squawk_table.specs.StepViews.{stored_of};
 
-    ghost view = { λ s. map step_of s.steps.now };
+    ghost view = { λ s. map stored_of s.steps.now };
 }
 
 impl<'a> Steps<'a> {
-    pub(crate) fn new(steps: &'a [Step]) -> Steps<'a>
-        ensures { result ≡ map step_of steps.now }
+    pub(crate) fn new(steps: &'a [StoredStep]) -> Steps<'a>
+        ensures { result ≡ map stored_of steps.now }
     {
         Steps { steps }
     }
 }
 
-impl Iterator for Steps<'_> {
+impl<'a> Iterator for Steps<'a> {
     ghost use Rattle.std.specs.Prelude.{◌≡◌, length, Some, IfSome};
     ghost use Rattle.std.specs.Iterator.{YieldsFirstBy, UpTo, item_count};
     ghost use Rattle.std.specs.Iterator.SizeHint.{IsWithinCount};
     ghost use Rattle.squawk_table.specs.StepViews.{step_of};
 
-    type Item = Step;
+    type Item = Step<'a>;
 
     ghost next_gives = { YieldsFirstBy step_of (λ s. s) };
 
     ghost remaining = { item_count (λ s. s) };
 
-    fn next(&mut self) -> Option<Step> {
+    fn next(&mut self) -> Option<Step<'a>> {
         let (first, rest) = self.steps.split_first()?;
         self.steps = rest;
-        Some(*first)
+        Some(first.lend())
     }
 
     fn size_hint(&self) -> (usize, Option<usize>)

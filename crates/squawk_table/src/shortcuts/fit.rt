@@ -1,68 +1,92 @@
 //! The test whether an output can be sent over a table.
-ghost use Rattle.std.specs.Prelude.{◌≡◌, ◌≤◌, ◌↔◌, All, IsTrue, length, map};
+ghost use Rattle.std.specs.Prelude.{◌≡◌, ◌+◌, ◌≤◌, ◌↔◌, IsTrue, SomeIff, length, map, take};
 ghost use Rattle.squawk_table.specs.ParserInput.{input_of};
-ghost use Rattle.squawk_table.specs.Shape.{StandsInOneRoot, EatsOne, Fits, no_keywords};
-ghost use Rattle.squawk_table.specs.StepViews.{step_of};
-ghost use Rattle.squawk_table.specs.Steps.{eaten};
+ghost use Rattle.squawk_table.specs.RawTable.{raw_after};
+ghost use Rattle.squawk_table.specs.Sent.{past_trivia, HasNoTrivia};
+ghost use Rattle.squawk_table.specs.Shape.{StandsInOneRoot, IsOver, Fits, no_keywords};
+ghost use Rattle.squawk_table.specs.StepViews.{stored_of};
+ghost use Rattle.squawk_table.specs.Steps.{without_errors};
 
 use crate::lexed_str::LexedStr;
-use crate::output::{Output, Step};
+use crate::output::Output;
+use crate::output::stored::StoredStep;
 
 impl LexedStr<'_> {
-    /// Whether the output can be sent over this table: it is one node with all that it holds, and
-    /// it has no more tokens than the table has raw tokens that aren't trivia.
+    /// Whether the output can be sent over this table: errors aside, it is one node with all that
+    /// it holds, and under each of its tokens stand the next raw tokens that aren't trivia, with
+    /// nothing between them.
     pub fn fits(&self, output: &Output) -> bool
         ensures { IsTrue result ↔ Fits self.now output.now.steps }
     {
         let steps = output.steps();
-        stands_in_one_root(steps) && is_over(steps, self.input_len())
+        stands_in_one_root(steps) && self.is_under(steps)
     }
 
-    /// How many raw tokens aren't trivia.
-    fn input_len(&self) -> usize
-        ensures { result ≡ length (input_of no_keywords self.now) }
+    /// Whether each token of the steps has the next raw tokens that aren't trivia, at least one, and
+    /// they touch one another.
+    fn is_under(&self, steps: &[StoredStep]) -> bool
+        ensures { IsTrue result ↔ IsOver (map stored_of steps.now) (input_of no_keywords self.now) }
     {
-        let mut count = 0;
-        for i in 0..self.len() {
-            if !self.kind(i).is_trivia() {
-                count += 1;
+        let mut place = 0;
+        for step in steps {
+            if let StoredStep::Token { n_input_tokens, .. } = step {
+                match self.one_token(self.past_trivia(place), *n_input_tokens) {
+                    Some(end) => place = end,
+                    None => return false,
+                }
             }
         }
-        count
+        true
+    }
+
+    /// The place behind the trivia that stands from a raw place on.
+    fn past_trivia(&self, from: usize) -> usize
+        requires { from ≤ length self.now.kinds }
+        ensures { (result ≤ length self.now.kinds) × (raw_after self.now result ≡ past_trivia (raw_after self.now from)) }
+    {
+        let mut place = from;
+        while place < self.len() && self.kind(place).is_trivia() {
+            place += 1;
+        }
+        place
+    }
+
+    /// The place behind `n` raw tokens, if they stand from this place on and none of them is trivia.
+    fn one_token(&self, place: usize, n: u8) -> Option<usize>
+        requires { place ≤ length self.now.kinds }
+        ensures { SomeIff result (HasNoTrivia (take n (raw_after self.now place)) × (1 ≤ n) × (place + n ≤ length self.now.kinds)) (place + n) }
+    {
+        if n == 0 || n as usize > self.len() - place {
+            return None;
+        }
+        let end = place + n as usize;
+        for i in place..end {
+            if self.kind(i).is_trivia() {
+                return None;
+            }
+        }
+        Some(end)
     }
 }
 
-/// Whether the steps are one node with all that it holds.
-fn stands_in_one_root(steps: &[Step]) -> bool
-    ensures { IsTrue result ↔ StandsInOneRoot (map step_of steps.now) }
+/// Whether the steps, errors aside, are one node with all that it holds.
+fn stands_in_one_root(steps: &[StoredStep]) -> bool
+    ensures { IsTrue result ↔ StandsInOneRoot (without_errors (map stored_of steps.now)) }
 {
     let mut depth = 0usize;
-    for (i, step) in steps.iter().enumerate() {
-        if depth == 0 && i > 0 {
-            return false;
-        }
+    let mut has_root = false;
+    for step in steps {
         match step {
-            Step::Enter { .. } => depth += 1,
-            Step::Exit if depth > 0 => depth -= 1,
-            Step::Token { .. } if depth > 0 => {}
+            StoredStep::Error { .. } => {}
+            StoredStep::Enter { .. } if depth > 0 => depth += 1,
+            StoredStep::Enter { .. } if !has_root => {
+                depth = 1;
+                has_root = true;
+            }
+            StoredStep::Exit if depth > 0 => depth -= 1,
+            StoredStep::Token { .. } if depth > 0 => {}
             _ => return false,
         }
     }
-    depth == 0 && !steps.is_empty()
-}
-
-/// Whether each token has one token of the input, and the input has so many.
-fn is_over(steps: &[Step], input_len: usize) -> bool
-    ensures { IsTrue result ↔ (All EatsOne (map step_of steps.now) × (eaten (map step_of steps.now) ≤ input_len)) }
-{
-    let mut left = input_len;
-    for step in steps {
-        if let Step::Token { n_input_tokens, .. } = step {
-            if *n_input_tokens != 1 || left == 0 {
-                return false;
-            }
-            left -= 1;
-        }
-    }
-    true
+    has_root && depth == 0
 }

@@ -58,6 +58,10 @@ impl StepSink for StepList {
             },
             StrStep::Enter { kind } => OwnedStep::Enter { kind },
             StrStep::Exit => OwnedStep::Exit,
+            StrStep::Error { msg, pos } => OwnedStep::Error {
+                msg: Text::new(String::from_str(self.alloc, msg)?),
+                pos,
+            },
         };
         self.steps.push(owned)?;
         Ok(())

@@ -13,6 +13,8 @@ pub enum StrStep<'a> {
     Enter { kind: SyntaxKind },
     /// The end of the node that was entered last and not left yet.
     Exit,
+    /// An error, with its text and the number of bytes of the source that stand before it.
+    Error { msg: &'a str, pos: usize },
 }
 
 /// The same, with texts of its own.
@@ -21,6 +23,7 @@ pub enum OwnedStep {
     Token { kind: SyntaxKind, text: Text },
     Enter { kind: SyntaxKind },
     Exit,
+    Error { msg: Text, pos: usize },
 }
 
 /// What steps are sent to: a builder of trees, a printer, a list.

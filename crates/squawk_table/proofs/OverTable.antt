@@ -1,0 +1,42 @@
+-- A walk over the input of a table, from a raw place on.
+use Rattle.std.proofs.Common.{◌≡◌, ◌∙◌, ℕ, ◌+◌, ◌-◌, ◌≤◌, List, ◌∷◌, length, take, drop, arith, ap, sym, subst, refl}
+use Rattle.squawk_table.specs.ParserInput.{Entry, entries_of}
+use Rattle.squawk_table.specs.RawTable.{Table, raw_after}
+use Rattle.squawk_table.specs.Sent.{past_trivia, HasNoTrivia}
+use Rattle.squawk_table.specs.Shape.{IsOver, no_keywords}
+use Rattle.squawk_table.specs.Steps.{Step, Token, Enter, Exit, Error}
+use Rattle.squawk_table.proofs.FrontTokens.{FrontTokens, FrontTokens-one, one-FrontTokens, drop-entries_of, entries_of-past_trivia, length-raw_after, raw_after-add}
+
+-- the entries of the raw tokens that are left from a place on
+abbrev pub entries_after : Table → ℕ → List Entry
+entries_after t place = entries_of no_keywords (raw_after t place)
+
+module _ (t : Table) (steps : List Step) (place begin kind n : ℕ) (within : begin ≤ length t.kinds) (past : raw_after t begin ≡ past_trivia (raw_after t place)) where
+  -- the code's test of a token tells whether the walk goes on with it
+  pub front_there : IsOver (Token kind n ∷ steps) (entries_after t place) → HasNoTrivia (take n (raw_after t begin)) × 1 ≤ n × begin + n ≤ length t.kinds
+  front_there over =
+      let front = subst (FrontTokens n) (sym past) (FrontTokens-one no_keywords n (raw_after t place) over.0) in
+      (front.input, front.some, omega (arith, front.there, length-raw_after t (length t.kinds - begin) begin (omega arith)))
+
+  module _ (input : HasNoTrivia (take n (raw_after t begin))) (some : 1 ≤ n) (room : begin + n ≤ length t.kinds) where
+    front : FrontTokens n (raw_after t begin)
+    front = record { some = some; there = omega (arith, length-raw_after t (length t.kinds - begin) begin (omega arith)); input = input }
+
+    rest : drop n (entries_after t place) ≡ entries_after t (begin + n)
+    rest =
+        ap (drop n) (sym (entries_of-past_trivia no_keywords (raw_after t place)) ∙ ap (entries_of no_keywords) (sym past))
+        ∙ (drop-entries_of no_keywords n (raw_after t begin) front.there input ∙ ap (entries_of no_keywords) (sym (raw_after-add t n begin room)))
+
+    pub over_rest : IsOver (Token kind n ∷ steps) (entries_after t place) → IsOver steps (entries_after t (begin + n))
+    over_rest over = subst (IsOver steps) rest over.1
+
+    pub over_all : IsOver steps (entries_after t (begin + n)) → IsOver (Token kind n ∷ steps) (entries_after t place)
+    over_all over = (one-FrontTokens no_keywords n (raw_after t place) (subst (FrontTokens n) past front), subst (IsOver steps) (sym rest) over)
+
+-- a step that isn't a token eats nothing
+pub over_other : (step : Step) (steps : List Step) (input : List Entry) → ((kind n : ℕ) → step ≡ Token kind n → ⊥)
+    → (IsOver (step ∷ steps) input → IsOver steps input) × (IsOver steps input → IsOver (step ∷ steps) input)
+over_other (Token kind n) steps input other = absurd (other kind n refl)
+over_other (Enter kind) steps input other = (λ over. over, λ over. over)
+over_other Exit steps input other = (λ over. over, λ over. over)
+over_other (Error text) steps input other = (λ over. over, λ over. over)

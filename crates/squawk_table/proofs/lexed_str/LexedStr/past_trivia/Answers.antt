@@ -1,0 +1,12 @@
+use Rattle.std.proofs.Common.{◌∙◌, ◌<◌, length, arith, ap, sym}
+use Rattle.squawk_kinds.specs.Kinds.{is_trivia}
+use Rattle.squawk_table.proofs.Trivia.{past_trivia-more}
+use Rattle.squawk_table.proofs.lexed_str.LexedStr.past_trivia.Goals as goal
+
+pub loop-place-preserved : goal.loop-place-preserved
+loop-place-preserved c =
+    let t = c.args.self.now in
+    let i = c.loop-place.place in
+    let lt : i < length t.kinds = omega arith in
+    let trivia = sym (c.is_trivia.ensures ∙ ap is_trivia c.kind.ensures) ∙ c.if-is_trivia.true in
+    record { within = omega arith; past = sym (past_trivia-more t i lt trivia) ∙ c.loop-place.invariant.past }
