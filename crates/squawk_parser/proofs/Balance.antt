@@ -1,6 +1,6 @@
 -- Balanced walks, by the depth that they reach.
 use Rattle.std.proofs.Common.{◌≡◌, ℕ, zero, suc, ◌+◌, ◌≤◌, Option, Some, None, List, [], ◌∷◌, ◌++◌, take, arith, ap, refl, ◌∙◌}
-use Rattle.squawk_table.specs.Steps.{Step, Token, Enter, Exit, openings, closings, is_enter, is_exit}
+use Rattle.squawk_table.specs.Steps.{Step, Token, Enter, Exit, Error, openings, closings, is_enter, is_exit}
 use Rattle.squawk_table.specs.Shape.{IsBalanced}
 use Rattle.squawk_parser.proofs.Sums.{count_by-cons}
 
@@ -11,6 +11,7 @@ depth_after d (Token kind n ∷ steps) = depth_after d steps
 depth_after d (Enter kind ∷ steps) = depth_after (suc d) steps
 depth_after zero (Exit ∷ steps) = None
 depth_after (suc d) (Exit ∷ steps) = depth_after d steps
+depth_after d (Error text ∷ steps) = depth_after d steps
 
 pub depth_after-append : (d e : ℕ) (xs ys : List Step) → depth_after d xs ≡ Some e → depth_after d (xs ++ ys) ≡ depth_after e ys
 depth_after-append d e [] ys h = let same : d ≡ e = cc in ap (λ n. depth_after n ys) same
@@ -18,6 +19,7 @@ depth_after-append d e (Token kind n ∷ xs) ys h = depth_after-append d e xs ys
 depth_after-append d e (Enter kind ∷ xs) ys h = depth_after-append (suc d) e xs ys h
 depth_after-append zero e (Exit ∷ xs) ys h = absurd (cc)
 depth_after-append (suc d) e (Exit ∷ xs) ys h = depth_after-append d e xs ys h
+depth_after-append d e (Error text ∷ xs) ys h = depth_after-append d e xs ys h
 
 -- one deeper at the start is one deeper at the end
 pub depth_after-suc : (d e : ℕ) (xs : List Step) → depth_after d xs ≡ Some e → depth_after (suc d) xs ≡ Some (suc e)
@@ -26,6 +28,7 @@ depth_after-suc d e (Token kind n ∷ xs) h = depth_after-suc d e xs h
 depth_after-suc d e (Enter kind ∷ xs) h = depth_after-suc (suc d) e xs h
 depth_after-suc zero e (Exit ∷ xs) h = absurd (cc)
 depth_after-suc (suc d) e (Exit ∷ xs) h = depth_after-suc d e xs h
+depth_after-suc d e (Error text ∷ xs) h = depth_after-suc d e xs h
 
 -- no beginning leaves more than d nodes and those that it enters
 abbrev NeverBelow : ℕ → List Step → Type 0
@@ -43,6 +46,9 @@ leaves xs = (count_by-cons is_exit Exit xs, count_by-cons is_enter Exit xs ∙ (
 
 eats : (kind n : ℕ) (xs : List Step) → (closings (Token kind n ∷ xs) ≡ closings xs) × (openings (Token kind n ∷ xs) ≡ openings xs)
 eats kind n xs = (count_by-cons is_exit (Token kind n) xs ∙ (omega arith), count_by-cons is_enter (Token kind n) xs ∙ (omega arith))
+
+reports : (text : List ℕ) (xs : List Step) → (closings (Error text ∷ xs) ≡ closings xs) × (openings (Error text ∷ xs) ≡ openings xs)
+reports text xs = (count_by-cons is_exit (Error text) xs ∙ (omega arith), count_by-cons is_enter (Error text) xs ∙ (omega arith))
 
 pub reached : (d e : ℕ) (xs : List Step) → depth_after d xs ≡ Some e → Reaches d e xs
 reached d e [] h = let same : d ≡ e = cc in record { never_below = elim [ zero ↦ omega arith | suc k ↦ omega arith ]; end = omega arith }
@@ -68,6 +74,13 @@ reached (suc d) e (Exit ∷ xs) h =
       never_below = elim [ zero ↦ omega arith | suc k ↦ omega (arith, r.never_below k, (leaves (take k xs)).0, (leaves (take k xs)).1) ];
       end = omega (arith, r.end, now.0, now.1);
     }
+reached d e (Error text ∷ xs) h =
+    let r = reached d e xs h in
+    let now = reports text xs in
+    record {
+      never_below = elim [ zero ↦ omega arith | suc k ↦ omega (arith, r.never_below k, (reports text (take k xs)).0, (reports text (take k xs)).1) ];
+      end = omega (arith, r.end, now.0, now.1);
+    }
 
 pub reaches : (d : ℕ) (xs : List Step) → NeverBelow d xs → (e : ℕ) × (depth_after d xs ≡ Some e)
 reaches d [] h = (d, refl)
@@ -78,6 +91,8 @@ reaches d (Enter kind ∷ xs) h =
 reaches zero (Exit ∷ xs) h = absurd (omega (arith, h 1, (leaves (take 0 xs)).0, (leaves (take 0 xs)).1))
 reaches (suc d) (Exit ∷ xs) h =
     reaches d xs (λ k. omega (arith, h (suc k), (leaves (take k xs)).0, (leaves (take k xs)).1))
+reaches d (Error text ∷ xs) h =
+    reaches d xs (λ k. omega (arith, h (suc k), (reports text (take k xs)).0, (reports text (take k xs)).1))
 
 -- a balanced walk comes back to where it began
 pub depth_after-balanced : (xs : List Step) → IsBalanced xs → depth_after 0 xs ≡ Some 0

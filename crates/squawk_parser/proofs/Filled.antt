@@ -1,13 +1,13 @@
 -- The items of a draft in which a hole became an opening.
 use Rattle.std.proofs.Common.{◌≡◌, ℕ, zero, suc, ◌+◌, ◌≤◌, ◌==◌, Bool, true, false, Some, List, [], ◌∷◌, ◌++◌, cond, arith, ap, sym, refl, ◌∙◌}
-use Rattle.std.specs.Prelude.{All, Contains, count_by}
+use Rattle.std.specs.Prelude.{Contains, count_by, drop}
 use Rattle.std.proofs.lemmas.Bool.{eqb-true, eq-eqb}
-use Rattle.std.proofs.lemmas.List.Elements.{All-cons, All-head, All-tail}
 use Rattle.squawk_table.specs.Steps as steps
 use Rattle.squawk_table.specs.Steps.{eaten, count_of}
-use Rattle.squawk_parser.specs.Draft.{Made, Item, Hole, Open, Close, Token, ids, ids_of, plain, HasNoIdTwice}
+use Rattle.squawk_parser.specs.Draft.{Made, Item, Hole, Open, Close, Token, Error, is_error, errors_of, ids, ids_of, plain, HasNoIdTwice}
 use Rattle.squawk_parser.specs.Edits.{filled, is_hole_of}
-use Rattle.squawk_table.specs.Shape.{EatsOne}
+use Rattle.squawk_table.specs.ParserInput.{Entry}
+use Rattle.squawk_table.specs.Shape.{IsOver}
 use Rattle.std.proofs.lemmas.List.Sums.{sum_by-cons}
 use Rattle.squawk_parser.proofs.Sums.{count_by-cons}
 use Rattle.squawk_parser.proofs.Balance.{depth_after, depth_after-suc}
@@ -37,6 +37,7 @@ module _ (id kind : ℕ) where
   ids-filled (Open i k free ∷ items) = ap (λ xs. i ∷ xs) (ids-filled items)
   ids-filled (Close ∷ items) = ids-filled items
   ids-filled (Token k n ∷ items) = ids-filled items
+  ids-filled (Error text ∷ items) = ids-filled items
 
   -- the tokens stay
   eats_cases : (i : ℕ) (made : Made) (rest : List Item) (b : Bool) → eaten (plain (hole_filled i made b ∷ rest)) ≡ eaten (plain rest)
@@ -53,21 +54,41 @@ module _ (id kind : ℕ) where
       sum_by-cons count_of steps.Exit (plain (filled items id kind)) ∙ (ap (λ n. 0 + n) (eaten-filled items) ∙ sym (sum_by-cons count_of steps.Exit (plain items)))
   eaten-filled (Token k n ∷ items) =
       sum_by-cons count_of (steps.Token k n) (plain (filled items id kind)) ∙ (ap (λ m. n + m) (eaten-filled items) ∙ sym (sum_by-cons count_of (steps.Token k n) (plain items)))
+  eaten-filled (Error text ∷ items) =
+      sum_by-cons count_of (steps.Error text) (plain (filled items id kind)) ∙ (ap (λ n. 0 + n) (eaten-filled items) ∙ sym (sum_by-cons count_of (steps.Error text) (plain items)))
 
-  one_cases : (i : ℕ) (made : Made) (rest : List Item) (b : Bool) → All EatsOne (plain rest) → All EatsOne (plain (hole_filled i made b ∷ rest))
-  one_cases i made rest true all = All-cons EatsOne (steps.Enter kind) (plain rest) tt all
-  one_cases i made rest false all = all
+  -- the errors stay
+  errors_cases : (i : ℕ) (made : Made) (rest : List Item) (b : Bool) → errors_of (hole_filled i made b ∷ rest) ≡ errors_of rest
+  errors_cases i made rest true = count_by-cons is_error (Open id kind true) rest ∙ omega arith
+  errors_cases i made rest false = count_by-cons is_error (Hole i made) rest ∙ omega arith
 
-  pub All-filled : (items : List Item) → All EatsOne (plain items) → All EatsOne (plain (filled items id kind))
-  All-filled [] all = all
-  All-filled (Hole i made ∷ items) all =
-      rw (filled-hole i made items) (one_cases i made (filled items id kind) (i == id) (All-filled items all))
-  All-filled (Open i k free ∷ items) all =
-      All-cons EatsOne (steps.Enter k) (plain (filled items id kind)) tt (All-filled items (All-tail EatsOne (steps.Enter k) (plain items) all))
-  All-filled (Close ∷ items) all =
-      All-cons EatsOne steps.Exit (plain (filled items id kind)) tt (All-filled items (All-tail EatsOne steps.Exit (plain items) all))
-  All-filled (Token k n ∷ items) all =
-      All-cons EatsOne (steps.Token k n) (plain (filled items id kind)) (All-head EatsOne (steps.Token k n) (plain items) all) (All-filled items (All-tail EatsOne (steps.Token k n) (plain items) all))
+  pub errors-filled : (items : List Item) → errors_of (filled items id kind) ≡ errors_of items
+  errors-filled [] = refl
+  errors-filled (Hole i made ∷ items) =
+      ap errors_of (filled-hole i made items)
+      ∙ (errors_cases i made (filled items id kind) (i == id) ∙ (errors-filled items ∙ sym (count_by-cons is_error (Hole i made) items ∙ omega arith)))
+  errors-filled (Open i k free ∷ items) =
+      omega (arith, errors-filled items, count_by-cons is_error (Open i k free) (filled items id kind), count_by-cons is_error (Open i k free) items)
+  errors-filled (Close ∷ items) =
+      omega (arith, errors-filled items, count_by-cons is_error Close (filled items id kind), count_by-cons is_error Close items)
+  errors-filled (Token k n ∷ items) =
+      omega (arith, errors-filled items, count_by-cons is_error (Token k n) (filled items id kind), count_by-cons is_error (Token k n) items)
+  errors-filled (Error text ∷ items) =
+      omega (arith, errors-filled items, count_by-cons is_error (Error text) (filled items id kind), count_by-cons is_error (Error text) items)
+
+  -- and they are over the same input
+  over_cases : (i : ℕ) (made : Made) (rest : List Item) (input : List Entry) (b : Bool) → IsOver (plain rest) input → IsOver (plain (hole_filled i made b ∷ rest)) input
+  over_cases i made rest input true over = over
+  over_cases i made rest input false over = over
+
+  pub IsOver-filled : (items : List Item) (input : List Entry) → IsOver (plain items) input → IsOver (plain (filled items id kind)) input
+  IsOver-filled [] input over = over
+  IsOver-filled (Hole i made ∷ items) input over =
+      rw (filled-hole i made items) (over_cases i made (filled items id kind) input (i == id) (IsOver-filled items input over))
+  IsOver-filled (Open i k free ∷ items) input over = IsOver-filled items input over
+  IsOver-filled (Close ∷ items) input over = IsOver-filled items input over
+  IsOver-filled (Token k n ∷ items) input over = (over.0, IsOver-filled items (drop n input) over.1)
+  IsOver-filled (Error text ∷ items) input over = IsOver-filled items input over
 
   -- how many holes of the marker there are
   abbrev pub holes : List Item → ℕ
@@ -101,6 +122,8 @@ module _ (id kind : ℕ) where
       depth_after-filled items d e h ∙ ap (λ n. Some (e + n)) (sym (holes-cons Close items ∙ omega arith))
   depth_after-filled (Token k n ∷ items) d e h =
       depth_after-filled items d e h ∙ ap (λ n. Some (e + n)) (sym (holes-cons (Token k n) items ∙ omega arith))
+  depth_after-filled (Error text ∷ items) d e h =
+      depth_after-filled items d e h ∙ ap (λ n. Some (e + n)) (sym (holes-cons (Error text) items ∙ omega arith))
 
   -- no more than there are items with the id
   abbrev uses : List ℕ → ℕ
@@ -114,6 +137,7 @@ module _ (id kind : ℕ) where
       omega (arith, holes-le-uses items, holes-cons (Open i k free) items, count_by-cons (λ i. i == id) i (ids items))
   holes-le-uses (Close ∷ items) = omega (arith, holes-le-uses items, holes-cons Close items)
   holes-le-uses (Token k n ∷ items) = omega (arith, holes-le-uses items, holes-cons (Token k n) items)
+  holes-le-uses (Error text ∷ items) = omega (arith, holes-le-uses items, holes-cons (Error text) items)
 
   here_cases : (item : Item) (made : Made) (items : List Item) → item ≡ Hole id made → 1 ≤ holes (item ∷ items)
   here_cases item made items e =

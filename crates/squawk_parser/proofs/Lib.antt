@@ -1,5 +1,10 @@
+pub mod CompositeFacts
 pub mod CompositeLemmas
+pub mod RecordedItems
+pub mod RecordedSteps
+pub mod Recovery
 pub mod Sums
+pub mod TailHoles
 pub mod Balance
 pub mod Filled
 pub mod Soundness
@@ -7,6 +12,14 @@ pub mod ParserViews
 pub mod Examples
 pub mod LookAheadExamples
 pub mod OperatorLength
+pub mod OneToken
+pub mod PlainErrors
 pub mod PlainKinds
+pub mod RefusedError
+pub mod EatenParts
+pub mod EatenWithTail
+pub mod EatenOperator
 pub mod SeenTokens
+pub mod SeenSteps
 pub mod TouchingRun
+pub mod EatenExamples

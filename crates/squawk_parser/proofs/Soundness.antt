@@ -1,6 +1,6 @@
 -- A parser stays sound under its acts.
-use Rattle.std.proofs.Common.{◌≡◌, ℕ, ◌+◌, ◌<◌, ◌≤◌, ◌==◌, Bool, true, false, Some, List, [], ◌∷◌, ◌++◌, cond, arith, ap, sym, refl, ◌∙◌}
-use Rattle.std.specs.Prelude.{All, Contains, count_by}
+use Rattle.std.proofs.Common.{◌≡◌, ℕ, ◌+◌, ◌<◌, ◌≤◌, ◌==◌, Bool, true, false, Some, List, [], ◌∷◌, ◌++◌, cond, drop, arith, add-zero, ap, sym, refl, ◌∙◌}
+use Rattle.std.specs.Prelude.{All, Contains, IsSome, count_by}
 use Rattle.std.proofs.lemmas.Bool.{eqb-true}
 use Rattle.std.proofs.lemmas.List.{append-nil}
 use Rattle.std.proofs.lemmas.List.Sums.{sum_by-append}
@@ -8,20 +8,27 @@ use Rattle.std.proofs.lemmas.List.Elements.{All-head, All-tail, All-push, All-we
 use Rattle.std.proofs.lemmas.Grind.{flat_map-append}
 use Rattle.squawk_table.specs.Steps as steps
 use Rattle.squawk_table.specs.Steps.{Step, eaten, count_of}
-use Rattle.squawk_parser.specs.Draft.{Made, Item, Hole, Close, Token, ByStart, ids, ids_of, steps_of, plain, HasNoIdTwice, IsAboveIds}
-use Rattle.squawk_parser.specs.Edits.{started, completed, filled, with_token}
-use Rattle.squawk_table.specs.Shape.{EatsOne}
-use Rattle.squawk_parser.specs.State.{State, IsSound, Goes}
-use Rattle.squawk_parser.specs.declared.parser.parse_error.ParseError.TheVariants.{OutOfMemory, TooManyEvents}
+use Rattle.squawk_parser.specs.Draft.{Made, Item, Hole, Close, Token, Error, ByStart, is_error, errors_of, ids, ids_of, steps_of, plain, HasNoIdTwice, IsAboveIds}
+use Rattle.squawk_parser.specs.Edits.{started, completed, filled, with_token, with_error}
+use Rattle.squawk_table.specs.Shape.{AreOneToken}
+use Rattle.squawk_table.proofs.Over.{IsOver-token_last, IsOver-exit_last, IsOver-error_last}
+use Rattle.squawk_parser.specs.State.{State, IsSound, Goes, ahead}
+use Rattle.squawk_parser.specs.declared.parser.parse_error.ParseError.{ParseError}
+use Rattle.squawk_parser.specs.declared.parser.parse_error.ParseError.TheVariants.{OutOfMemory, TooManyEvents, TooManyErrors}
 use Rattle.squawk_parser.proofs.Sums.{count_by-cons}
 use Rattle.squawk_parser.proofs.Balance.{depth_after, depth_after-append, depth_after-balanced, IsBalanced-depth_after}
-use Rattle.squawk_parser.proofs.Filled.{ids-filled, eaten-filled, All-filled, depth_after-filled, one_hole, holes}
+use Rattle.squawk_parser.proofs.Filled.{ids-filled, eaten-filled, errors-filled, IsOver-filled, depth_after-filled, one_hole, holes}
+use Rattle.squawk_parser.proofs.OneToken.{AreOneToken-seen, AreOneToken-within}
 
 plain-append : (xs ys : List Item) → plain (xs ++ ys) ≡ plain xs ++ plain ys
 plain-append xs ys = flat_map-append steps_of xs ys
 
 ids-append : (xs ys : List Item) → ids (xs ++ ys) ≡ ids xs ++ ids ys
 ids-append xs ys = flat_map-append ids_of xs ys
+
+-- one more item has one error more, or none
+errors_of-push : (items : List Item) (item : Item) → errors_of (items ++ item ∷ []) ≡ errors_of items + cond (is_error item) 1 0
+errors_of-push items item = omega (arith, sum_by-append (λ i. cond (is_error i) 1 0) items (item ∷ []))
 
 -- what a parser keeps, with its draft's ids below the next one
 pub record IsKept (s : State) : Type 0 where
@@ -56,9 +63,12 @@ HasNoIdTwice-push items id once above other = cases (id == other) refl
 more : (n : ℕ) (is : List ℕ) → All (λ i. i < n) is → All (λ i. i < n + 1) is
 more n is all = All-weaker (λ i. i < n) (λ i. i < n + 1) (λ i lt. omega arith) is all
 
--- a parser that goes on isn't refused an event
-not_refused : (s : State) → Goes s → s.first ≡ Some TooManyEvents → ⊥
-not_refused s goes full = cc
+-- a parser that goes on isn't refused anything
+not_refused : (s : State) (reason : ParseError) → Goes s → s.first ≡ Some reason → ⊥
+not_refused s reason goes refused = cc
+
+pub not_failed : (s : State) → Goes s → IsSome s.first → ⊥
+not_failed s goes failed = cc
 
 -- a hole at the end
 pub IsKept-started : (s : State) → IsKept s → Goes s → s.draft.recorded < s.max_events → IsKept (record s { draft = started s.draft s.draft.recorded })
@@ -74,11 +84,14 @@ IsKept-started s kept goes room =
         limit = kept.sound.limit;
         words = kept.sound.words;
         recorded = omega arith;
-        refused = λ full. absurd (not_refused s goes full);
+        errors = omega (arith, kept.sound.errors, errors_of-push items (Hole id ByStart));
+        refused = λ full. absurd (not_refused s TooManyEvents goes full);
+        refused_error = λ full. absurd (not_refused s TooManyErrors goes full);
         ids = λ other. rw numbers (HasNoIdTwice-push items id kept.sound.ids kept.above other);
         balanced = rw same kept.sound.balanced;
         over = rw same kept.sound.over;
         behind = rw same kept.sound.behind;
+        exact = λ goes. rw same (kept.sound.exact goes);
       };
       above = rw numbers (All-push (λ i. i < id + 1) (ids items) id (more id (ids items) kept.above) (omega arith));
     }
@@ -104,43 +117,82 @@ IsKept-completed s id kind made kept goes room there =
         limit = kept.sound.limit;
         words = kept.sound.words;
         recorded = omega arith;
-        refused = λ full. absurd (not_refused s goes full);
+        errors = omega (arith, kept.sound.errors, errors_of-push inner Close, errors-filled id kind items);
+        refused = λ full. absurd (not_refused s TooManyEvents goes full);
+        refused_error = λ full. absurd (not_refused s TooManyErrors goes full);
         ids = λ other. rw numbers (kept.sound.ids other);
         balanced = rw reads (IsBalanced-depth_after (plain inner ++ steps.Exit ∷ []) back);
-        over = record {
-          each = rw reads (All-push EatsOne (plain inner) steps.Exit (All-filled id kind items kept.sound.over.each) tt);
-          within = rw (reads, eats) kept.sound.over.within;
-        };
+        over = rw reads (IsOver-exit_last (plain inner) s.input (IsOver-filled id kind items s.input kept.sound.over));
         behind = rw (reads, eats) kept.sound.behind;
+        exact = λ goes. rw (reads, eats) (kept.sound.exact goes);
       };
       above = rw numbers (more s.draft.recorded (ids items) kept.above);
     }
 
--- a token at the end, which the parser eats
-pub IsKept-with_token : (s : State) (kind : ℕ) → IsKept s → Goes s → s.draft.recorded < s.max_events → s.position < s.limit
-    → IsKept (record s { position = s.position + 1; draft = with_token s.draft kind 1 })
-IsKept-with_token s kind kept goes room left =
+-- the tokens of a parser that goes on end at its position
+at_position : (s : State) (n : ℕ) → IsKept s → Goes s → AreOneToken n (ahead s 0) → AreOneToken n (drop (eaten (plain s.draft.items)) s.input)
+at_position s n kept goes one = rw (kept.sound.exact goes) (AreOneToken-seen n s.limit s.position s.input (rw add-zero at one))
+
+-- and those that it sees there as one token stand before its limit
+within : (s : State) (n : ℕ) → AreOneToken n (ahead s 0) → s.position + n ≤ s.limit
+within s n one = AreOneToken-within n s.limit s.position s.input (rw add-zero at one)
+
+-- n tokens as one at the end, which the parser eats
+pub IsKept-with_token : (s : State) (kind n : ℕ) → IsKept s → Goes s → s.draft.recorded < s.max_events → AreOneToken n (ahead s 0)
+    → IsKept (record s { position = s.position + n; draft = with_token s.draft kind n })
+IsKept-with_token s kind n kept goes room one =
     let items = s.draft.items in
-    let token : List Item = Token kind 1 ∷ [] in
-    let reads : plain (items ++ token) ≡ plain items ++ steps.Token kind 1 ∷ [] = plain-append items token in
+    let token : List Item = Token kind n ∷ [] in
+    let reads : plain (items ++ token) ≡ plain items ++ steps.Token kind n ∷ [] = plain-append items token in
     let numbers : ids (items ++ token) ≡ ids items = ids-append items token ∙ append-nil (ids items) in
-    let eats : eaten (plain items ++ steps.Token kind 1 ∷ []) ≡ eaten (plain items) + 1 = sum_by-append count_of (plain items) (steps.Token kind 1 ∷ []) in
-    let flat : depth_after 0 (plain items ++ steps.Token kind 1 ∷ []) ≡ Some 0 =
-    depth_after-append 0 0 (plain items) (steps.Token kind 1 ∷ []) (depth_after-balanced (plain items) kept.sound.balanced) in
+    let eats : eaten (plain items ++ steps.Token kind n ∷ []) ≡ eaten (plain items) + n =
+    sum_by-append count_of (plain items) (steps.Token kind n ∷ []) ∙ omega arith in
+    let flat : depth_after 0 (plain items ++ steps.Token kind n ∷ []) ≡ Some 0 =
+    depth_after-append 0 0 (plain items) (steps.Token kind n ∷ []) (depth_after-balanced (plain items) kept.sound.balanced) in
     record {
       sound = record {
-        position = omega arith;
+        position = within s n one;
         limit = kept.sound.limit;
         words = kept.sound.words;
         recorded = omega arith;
-        refused = λ full. absurd (not_refused s goes full);
+        errors = omega (arith, kept.sound.errors, errors_of-push items (Token kind n));
+        refused = λ full. absurd (not_refused s TooManyEvents goes full);
+        refused_error = λ full. absurd (not_refused s TooManyErrors goes full);
         ids = λ other. rw numbers (kept.sound.ids other);
-        balanced = rw reads (IsBalanced-depth_after (plain items ++ steps.Token kind 1 ∷ []) flat);
-        over = record {
-          each = rw reads (All-push EatsOne (plain items) (steps.Token kind 1) kept.sound.over.each refl);
-          within = rw (reads, eats) (omega (arith, kept.sound.behind, kept.sound.limit));
-        };
+        balanced = rw reads (IsBalanced-depth_after (plain items ++ steps.Token kind n ∷ []) flat);
+        over = rw reads (IsOver-token_last (plain items) s.input kind n kept.sound.over (at_position s n kept goes one));
         behind = rw (reads, eats) (omega (arith, kept.sound.behind));
+        exact = λ goes. rw (reads, eats) (ap (λ k. k + n) (kept.sound.exact goes));
+      };
+      above = rw numbers (more s.draft.recorded (ids items) kept.above);
+    }
+
+-- an error at the end
+pub IsKept-with_error : (s : State) (text : List ℕ) → IsKept s → Goes s → s.draft.recorded < s.max_events → errors_of s.draft.items < s.max_errors
+    → IsKept (record s { draft = with_error s.draft text })
+IsKept-with_error s text kept goes room errors =
+    let items = s.draft.items in
+    let error : List Item = Error text ∷ [] in
+    let reads : plain (items ++ error) ≡ plain items ++ steps.Error text ∷ [] = plain-append items error in
+    let numbers : ids (items ++ error) ≡ ids items = ids-append items error ∙ append-nil (ids items) in
+    let eats : eaten (plain items ++ steps.Error text ∷ []) ≡ eaten (plain items) =
+    sum_by-append count_of (plain items) (steps.Error text ∷ []) ∙ (omega arith) in
+    let flat : depth_after 0 (plain items ++ steps.Error text ∷ []) ≡ Some 0 =
+    depth_after-append 0 0 (plain items) (steps.Error text ∷ []) (depth_after-balanced (plain items) kept.sound.balanced) in
+    record {
+      sound = record {
+        position = kept.sound.position;
+        limit = kept.sound.limit;
+        words = kept.sound.words;
+        recorded = omega arith;
+        errors = omega (arith, errors_of-push items (Error text));
+        refused = λ full. absurd (not_refused s TooManyEvents goes full);
+        refused_error = λ full. absurd (not_refused s TooManyErrors goes full);
+        ids = λ other. rw numbers (kept.sound.ids other);
+        balanced = rw reads (IsBalanced-depth_after (plain items ++ steps.Error text ∷ []) flat);
+        over = rw reads (IsOver-error_last (plain items) s.input text kept.sound.over);
+        behind = rw (reads, eats) kept.sound.behind;
+        exact = λ goes. rw (reads, eats) (kept.sound.exact goes);
       };
       above = rw numbers (more s.draft.recorded (ids items) kept.above);
     }
@@ -153,28 +205,34 @@ IsKept-failed s kept = record {
     limit = kept.sound.limit;
     words = kept.sound.words;
     recorded = kept.sound.recorded;
+    errors = kept.sound.errors;
     refused = λ full. absurd (let other = full in cc);
+    refused_error = λ full. absurd (let other = full in cc);
     ids = kept.sound.ids;
     balanced = kept.sound.balanced;
     over = kept.sound.over;
     behind = kept.sound.behind;
+    exact = λ goes. absurd (let other = goes in cc);
   };
   above = kept.above;
 }
 
--- a parser that goes past a token
-pub IsKept-past : (s : State) → IsKept s → s.position < s.limit → IsKept (record s { position = s.position + 1 })
-IsKept-past s kept left = record {
+-- a parser that has failed goes past n tokens
+pub IsKept-past : (s : State) (n : ℕ) → IsKept s → IsSome s.first → AreOneToken n (ahead s 0) → IsKept (record s { position = s.position + n })
+IsKept-past s n kept failed one = record {
   sound = record {
-    position = omega arith;
+    position = within s n one;
     limit = kept.sound.limit;
     words = kept.sound.words;
     recorded = kept.sound.recorded;
+    errors = kept.sound.errors;
     refused = kept.sound.refused;
+    refused_error = kept.sound.refused_error;
     ids = kept.sound.ids;
     balanced = kept.sound.balanced;
     over = kept.sound.over;
     behind = omega (arith, kept.sound.behind);
+    exact = λ goes. absurd (not_failed s goes failed);
   };
   above = kept.above;
 }

@@ -1,7 +1,7 @@
 -- The composite kinds: which tokens stand for one.
-use Rattle.std.specs.Prelude.{ℕ, suc, ◌-◌, ◌==◌, ◌&&◌, ◌||◌, not, Bool, true, Option, Some, None, List, [], ◌∷◌, length, drop, is_some, option_map, if◌then◌else◌}
+use Rattle.std.specs.Prelude.{◌≢◌, ℕ, suc, All, ◌-◌, ◌==◌, ◌&&◌, ◌||◌, not, Bool, true, Option, Some, None, List, [], ◌∷◌, length, drop, is_some, option_map, if◌then◌else◌}
 use Rattle.std.specs.List.{find, list_any}
-use Rattle.squawk_kinds.specs.Kinds.{L_PAREN, R_PAREN, COLON, EQ, BANG, L_ANGLE, R_ANGLE, COLON_EQ, NEQ, NEQB, LTEQ, FAT_ARROW, LESS_LESS, GREATER_GREATER, GTEQ, SIMILAR_KW, TO_KW, AT_KW, TIME_KW, ZONE_KW, LOCAL_KW, IS_KW, NOT_KW, NFC_KW, NFD_KW, NFKC_KW, NFKD_KW, NORMALIZED_KW, JSON_KW, OBJECT_KW, ARRAY_KW, VALUE_KW, SCALAR_KW, DISTINCT_KW, FROM_KW, OPERATOR_KW, LIKE_KW, ILIKE_KW, IN_KW, SIMILAR_TO, AT_TIME_ZONE, AT_LOCAL, IS_NOT_NORMALIZED, IS_NORMALIZED, COLON_COLON, IS_JSON, IS_NOT_JSON, IS_NOT_JSON_OBJECT, IS_NOT_JSON_ARRAY, IS_NOT_JSON_VALUE, IS_NOT_JSON_SCALAR, IS_JSON_OBJECT, IS_JSON_ARRAY, IS_JSON_VALUE, IS_JSON_SCALAR, NOT_SIMILAR_TO, IS_NOT_DISTINCT_FROM, OPERATOR_CALL, IS_DISTINCT_FROM, NOT_LIKE, NOT_ILIKE, NOT_IN, IS_NOT, CUSTOM_OP, UNICODE_NORMAL_FORM}
+use Rattle.squawk_kinds.specs.Kinds.{EOF, L_PAREN, R_PAREN, COLON, EQ, BANG, L_ANGLE, R_ANGLE, COLON_EQ, NEQ, NEQB, LTEQ, FAT_ARROW, LESS_LESS, GREATER_GREATER, GTEQ, SIMILAR_KW, TO_KW, AT_KW, TIME_KW, ZONE_KW, LOCAL_KW, IS_KW, NOT_KW, NFC_KW, NFD_KW, NFKC_KW, NFKD_KW, NORMALIZED_KW, JSON_KW, OBJECT_KW, ARRAY_KW, VALUE_KW, SCALAR_KW, DISTINCT_KW, FROM_KW, OPERATOR_KW, LIKE_KW, ILIKE_KW, IN_KW, SIMILAR_TO, AT_TIME_ZONE, AT_LOCAL, IS_NOT_NORMALIZED, IS_NORMALIZED, COLON_COLON, IS_JSON, IS_NOT_JSON, IS_NOT_JSON_OBJECT, IS_NOT_JSON_ARRAY, IS_NOT_JSON_VALUE, IS_NOT_JSON_SCALAR, IS_JSON_OBJECT, IS_JSON_ARRAY, IS_JSON_VALUE, IS_JSON_SCALAR, NOT_SIMILAR_TO, IS_NOT_DISTINCT_FROM, OPERATOR_CALL, IS_DISTINCT_FROM, NOT_LIKE, NOT_ILIKE, NOT_IN, IS_NOT, CUSTOM_OP, UNICODE_NORMAL_FORM}
 use Rattle.squawk_table.specs.ParserInput.{Entry, kind_in}
 use Rattle.squawk_parser.specs.LookAhead.{touches_next}
 use Rattle.squawk_parser.specs.Operators.{operator_length}
@@ -89,6 +89,10 @@ composites =
     ∷ record { kind = OPERATOR_CALL; form = Sequence (One OPERATOR_KW ∷ One L_PAREN ∷ []) (ClosedBy R_PAREN) }
     ∷ record { kind = CUSTOM_OP; form = Operator }
     ∷ []
+
+-- no kind of these is the end's
+abbrev pub HasNoEndKind : List ℕ → Type 0
+HasNoEndKind kinds = All (λ kind. kind ≢ EOF) kinds
 
 -- ---- where they stand
 

@@ -15,8 +15,10 @@ pub data Item : Type 0 where
   Open : ℕ → ℕ → Bool → Item
   -- the end of a node
   Close : Item
-  -- a token of a kind, and how many raw tokens it has
+  -- a token of a kind, and how many input tokens it has
   Token : ℕ → ℕ → Item
+  -- an error with its text
+  Error : List ℕ → Item
 
 -- the items in their order, and how many events were recorded
 pub record Draft : Type 0 where
@@ -42,6 +44,14 @@ is_hole (Hole i made) = true
 is_hole (Open i kind free) = false
 is_hole Close = false
 is_hole (Token kind n) = false
+is_hole (Error text) = false
+
+abbrev pub is_error : Item → Bool
+is_error (Hole i made) = false
+is_error (Open i kind free) = false
+is_error Close = false
+is_error (Token kind n) = false
+is_error (Error text) = true
 
 -- no open marker is left
 abbrev pub HasNoHole : List Item → Type 0
@@ -51,12 +61,17 @@ HasNoHole items = All (λ item. is_hole item ≡ false) items
 abbrev pub holes_of : List Item → List Item
 holes_of items = filter is_hole items
 
+-- how many errors were recorded
+abbrev pub errors_of : List Item → ℕ
+errors_of items = count_by is_error items
+
 -- the ids that an item has
 abbrev pub ids_of : Item → List ℕ
 ids_of (Hole i made) = i ∷ []
 ids_of (Open i kind free) = i ∷ []
 ids_of Close = []
 ids_of (Token kind n) = []
+ids_of (Error text) = []
 
 -- the ids of holes and openings, in the order of the items
 abbrev pub ids : List Item → List ℕ
@@ -76,6 +91,7 @@ steps_of (Hole i made) = []
 steps_of (Open i kind free) = steps.Enter kind ∷ []
 steps_of Close = steps.Exit ∷ []
 steps_of (Token kind n) = steps.Token kind n ∷ []
+steps_of (Error text) = steps.Error text ∷ []
 
 -- the plain list: the items without the holes, the ids, and whether a node can be preceded
 abbrev pub plain : List Item → List steps.Step

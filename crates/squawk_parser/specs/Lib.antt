@@ -7,4 +7,6 @@ pub mod Draft
 pub mod Edits
 pub mod DraftView
 pub mod State
+pub mod Recorded
+pub mod Eaten
 pub mod Parse

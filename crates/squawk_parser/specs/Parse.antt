@@ -23,10 +23,11 @@ pub record IsParse (leaves : Draft → Type 0) (input : List Entry) (output : Wa
 abbrev pub IsRefusalOf : State → ParseError → Type 0
 IsRefusalOf s reason = (s.first ≡ Some reason) ⊎ ((s.first ≡ None) × (reason ≡ OutOfMemory))
 
--- a parser that worked over this input, under this limit, was left, and the parse is refused for that
-pub record IsRefused (input : List Entry) (max_events : ℕ) (reason : ParseError) : Type 0 where
+-- a parser that worked over this input, under these limits, was left, and the parse is refused for that
+pub record IsRefused (input : List Entry) (max_events max_errors : ℕ) (reason : ParseError) : Type 0 where
   pub left : State
   pub sound : IsSound left
   pub same_input : left.input ≡ input
-  pub same_limit : left.max_events ≡ max_events
+  pub same_events : left.max_events ≡ max_events
+  pub same_errors : left.max_errors ≡ max_errors
   pub refusal : IsRefusalOf left reason

@@ -4,11 +4,11 @@ use Rattle.squawk_kinds.specs.Kinds.{EOF}
 use Rattle.squawk_table.specs.ParserInput.{Entry, kind_in, contextual_kind_in}
 use Rattle.squawk_parser.specs.LookAhead.{seen_from}
 use Rattle.squawk_parser.specs.Words.{Words, HasNoEnd}
-use Rattle.squawk_parser.specs.Draft.{Draft, nothing, Hole, Mark, HasNoIdTwice, plain}
+use Rattle.squawk_parser.specs.Draft.{Draft, nothing, Hole, Mark, HasNoIdTwice, errors_of, plain}
 use Rattle.squawk_table.specs.Steps.{eaten}
 use Rattle.squawk_table.specs.Shape.{IsBalanced, IsOver}
 use Rattle.squawk_parser.specs.declared.parser.parse_error.ParseError.{ParseError}
-use Rattle.squawk_parser.specs.declared.parser.parse_error.ParseError.TheVariants.{OutOfMemory, TooManyEvents}
+use Rattle.squawk_parser.specs.declared.parser.parse_error.ParseError.TheVariants.{OutOfMemory, TooManyEvents, TooManyErrors}
 
 pub record State : Type 0 where
   -- what is parsed
@@ -23,6 +23,8 @@ pub record State : Type 0 where
   pub draft : Draft
   -- how many events may be recorded
   pub max_events : ℕ
+  -- and how many errors
+  pub max_errors : ℕ
   -- why the parser failed, if it did
   pub first : Option ParseError
 
@@ -31,12 +33,12 @@ abbrev pub Goes : State → Type 0
 Goes s = s.first ≡ None
 
 -- a parser at the beginning of an input
-abbrev pub fresh : List Entry → Words → ℕ → State
-fresh input words max_events = record { input = input; words = words; position = 0; limit = length input; draft = nothing; max_events = max_events; first = None }
+abbrev pub fresh : List Entry → Words → ℕ → ℕ → State
+fresh input words max_events max_errors = record { input = input; words = words; position = 0; limit = length input; draft = nothing; max_events = max_events; max_errors = max_errors; first = None }
 
 -- the parser has done nothing yet
 abbrev pub IsFresh : State → Type 0
-IsFresh s = s ≡ fresh s.input s.words s.max_events
+IsFresh s = s ≡ fresh s.input s.words s.max_events s.max_errors
 
 -- the kind of the token that is n places from the position; at the limit and past it the end's
 abbrev pub kind_at : State → ℕ → ℕ
@@ -64,14 +66,17 @@ pub record Keeps (old new : State) : Type 0 where
   pub words : new.words ≡ old.words
   pub limit : new.limit ≡ old.limit
   pub max_events : new.max_events ≡ old.max_events
+  pub max_errors : new.max_errors ≡ old.max_errors
   pub reason : IsSome old.first → new.first ≡ old.first
 
--- An event is recorded. Unless the parser has failed afterwards, it hadn't failed before and the draft is this one.
+-- An event that is no error is recorded. Unless the parser has failed afterwards, it hadn't failed before and the draft is this one.
 pub record Records (old new : State) (edited : Draft) : Type 0 where
   pub went : Goes new → Goes old
   pub draft : Goes new → new.draft ≡ edited
   -- nothing is recorded by a parser that has failed
-  pub stays : IsSome new.first → new.draft.recorded ≡ old.draft.recorded
+  pub stays : IsSome new.first → new.draft ≡ old.draft
+  -- no more events were recorded than may be
+  pub within : old.draft.recorded ≤ old.max_events
   -- it fails exactly where the limit is reached, and else only by want of memory
   pub full : Goes old → old.draft.recorded ≡ old.max_events → new.first ≡ Some TooManyEvents
   pub room : Goes old → old.draft.recorded < old.max_events → IsSome new.first → new.first ≡ Some OutOfMemory
@@ -86,10 +91,15 @@ pub record IsSound (s : State) : Type 0 where
   pub limit : s.limit ≤ length s.input
   pub words : HasNoEnd s.words
   pub recorded : s.draft.recorded ≤ s.max_events
+  pub errors : errors_of s.draft.items ≤ s.max_errors
   -- a parser that was refused an event has recorded as many as it may
   pub refused : s.first ≡ Some TooManyEvents → s.draft.recorded ≡ s.max_events
+  -- one that was refused an error has recorded as many errors as it may, and fewer events
+  pub refused_error : s.first ≡ Some TooManyErrors → (errors_of s.draft.items ≡ s.max_errors) × (s.draft.recorded < s.max_events)
   pub ids : HasNoIdTwice s.draft.items
   -- holes aside
   pub balanced : IsBalanced (plain s.draft.items)
   pub over : IsOver (plain s.draft.items) s.input
   pub behind : eaten (plain s.draft.items) ≤ s.position
+  -- the position is what the tokens of a parser that goes on have eaten
+  pub exact : Goes s → eaten (plain s.draft.items) ≡ s.position

@@ -8,16 +8,21 @@ ghost use Rattle.squawk_parser.specs.Words.{HasNoEnd, words_of};
 mod acts;
 mod composite;
 mod draft;
+mod eat;
 pub mod grammar;
+pub mod limits;
 mod look_ahead;
 pub mod marker;
 pub mod parse_error;
 pub mod part;
+mod recording;
+pub mod tails;
 mod view;
 pub mod words;
 
 use crate::parser::draft::Draft;
 pub use grammar::{EntryPoint, Grammar};
+pub use limits::Limits;
 pub use marker::{CompletedMarker, Marker};
 pub use parse_error::ParseError;
 pub use part::Part;
@@ -25,12 +30,13 @@ use squawk_kinds::{SyntaxKind, TokenSet};
 use squawk_table::{Input, Output};
 use std::alloc::{AllocError, Global};
 use std::marker::Model;
+pub use tails::has_tail;
 pub use words::Words;
 
 /// A parse that is going on: an input, a position in it, and a draft of what was recorded.
 ///
-/// An act that records something can be refused, by want of memory or where the limit of events
-/// is reached. It doesn't say so. From then on the parser has failed: it keeps its first reason,
+/// An act that records something can be refused, by want of memory or where a limit of events or
+/// of errors is reached. It doesn't say so. From then on the parser has failed: it keeps its first reason,
 /// it records nothing more, and its position and its looks go on as if it had not failed.
 #[derive(Drop)]
 pub struct Parser<'t> {
@@ -41,7 +47,7 @@ pub struct Parser<'t> {
     position: usize,
     limit: usize,
     draft: Draft,
-    max_events: u32,
+    limits: Limits,
     first: Option<ParseError>,
 }
 
@@ -52,17 +58,17 @@ impl<'t> Model for Parser<'t> {
 
     ghost Value = { State };
 
-    ghost view = { λ p. record { input = p.input.now; words = words_of (record { operator_first = p.operator_first; names = p.names }); position = p.position; limit = p.limit; draft = p.draft; max_events = p.max_events; first = p.first } };
+    ghost view = { λ p. record { input = p.input.now; words = words_of (record { operator_first = p.operator_first; names = p.names }); position = p.position; limit = p.limit; draft = p.draft; max_events = p.limits.events; max_errors = p.limits.errors; first = p.first } };
 
-    ghost invariant = { λ p. IsSound (record { input = p.input.now; words = words_of (record { operator_first = p.operator_first; names = p.names }); position = p.position; limit = p.limit; draft = p.draft; max_events = p.max_events; first = p.first })
+    ghost invariant = { λ p. IsSound (record { input = p.input.now; words = words_of (record { operator_first = p.operator_first; names = p.names }); position = p.position; limit = p.limit; draft = p.draft; max_events = p.limits.events; max_errors = p.limits.errors; first = p.first })
         × IsAboveIds p.draft.recorded p.draft.items };
 }
 
 impl<'t> Parser<'t> {
     /// A parser at the beginning of an input.
-    fn new(alloc: Global, input: &'t Input, words: Words<'t>, max_events: u32) -> Parser<'t>
+    fn new(alloc: Global, input: &'t Input, words: Words<'t>, limits: Limits) -> Parser<'t>
         requires { HasNoEnd (words_of words) }
-        ensures { result ≡ fresh input.now (words_of words.entry) max_events }
+        ensures { result ≡ fresh input.now (words_of words.entry) limits.events limits.errors }
     {
         let Words {
             operator_first,
@@ -76,7 +82,7 @@ impl<'t> Parser<'t> {
             position: 0,
             limit: input.len(),
             draft: Draft::new(alloc),
-            max_events,
+            limits,
             first: None,
         }
     }
@@ -115,7 +121,7 @@ impl<'t> Parser<'t> {
             position: _,
             limit: _,
             draft,
-            max_events: _,
+            limits: _,
             first,
         } = self;
         if let Some(reason) = first {

@@ -1,14 +1,19 @@
 //! What a grammar records.
-ghost use Rattle.std.specs.Prelude.{◌≡◌, ◌≢◌, ◌+◌, ◌<◌, IsTrue, IsSome, not};
-ghost use Rattle.squawk_parser.specs.Draft.{ByStart, IsAboveIds};
-ghost use Rattle.squawk_parser.specs.Edits.{started, with_token};
+ghost use Rattle.std.specs.Prelude.{◌≡◌, ◌≢◌, ◌+◌, ◌∷◌, []};
+ghost use Rattle.std.specs.Str.{chars};
 ghost use Rattle.squawk_kinds.specs.Kinds.{EOF};
-ghost use Rattle.squawk_parser.specs.State.{Goes, Keeps, Records, kind_at};
+ghost use Rattle.squawk_kinds.specs.TokenSets.{has};
+ghost use Rattle.squawk_table.specs.Steps.{Error};
+ghost use Rattle.squawk_parser.specs.Draft.{ByStart, IsAboveIds};
+ghost use Rattle.squawk_parser.specs.Eaten.{recovery_steps, no_recovery};
+ghost use Rattle.squawk_parser.specs.Edits.{started, with_token};
+ghost use Rattle.squawk_parser.specs.Recorded.{Puts};
+ghost use Rattle.squawk_parser.specs.State.{Goes, Keeps, Records, ahead, kind_at};
 
 use crate::parser::Parser;
 use crate::parser::marker::Marker;
 use crate::parser::parse_error::ParseError;
-use squawk_kinds::SyntaxKind;
+use squawk_kinds::{SyntaxKind, TokenSet};
 
 impl Parser<'_> {
     /// Begins a node: all that is recorded until its marker is completed will stand in it.
@@ -40,29 +45,54 @@ impl Parser<'_> {
         if kind == SyntaxKind::EOF {
             return;
         }
-        if self.has_room() {
-            match self.draft.token(kind, 1) {
-                Ok(()) => {}
-                Err(_) => self.first = Some(ParseError::OutOfMemory),
-            }
-        }
-        self.position += 1;
+        self.do_bump(kind, 1);
     }
 
-    /// Whether one more event may be recorded. Where the limit is reached, the parser fails.
-    pub(super) fn has_room(&mut self) -> bool
+    /// Eats the current token as one of this kind. At the end nothing happens.
+    pub fn bump_remap(&mut self, kind: SyntaxKind)
+        ensures end { kind_at self.old 0 ≡ EOF → self.new ≡ self.old }
         ensures keeps { Keeps self.old self.new }
-        ensures position { self.new.position ≡ self.old.position }
-        ensures room { IsTrue result → (self.new ≡ self.old) × Goes self.old × (self.old.draft.recorded < self.old.max_events) }
-        ensures full { IsTrue (not result) → Records self.old self.new self.old.draft × IsSome self.new.first }
+        ensures position { kind_at self.old 0 ≢ EOF → self.new.position ≡ self.old.position + 1 }
+        ensures records { kind_at self.old 0 ≢ EOF → Records self.old self.new (with_token self.old.draft kind 1) }
     {
-        if self.first.is_some() {
-            return false;
+        if self.current() != SyntaxKind::EOF {
+            self.do_bump(kind, 1);
         }
-        if self.draft.recorded() == self.max_events {
-            self.first = Some(ParseError::TooManyEvents);
-            return false;
+    }
+
+    /// Records an error. Its text is copied.
+    pub fn error(&mut self, msg: &str)
+        ensures keeps { Keeps self.old self.new }
+        ensures puts { Puts (Error (chars msg.now) ∷ []) self.old self.new }
+    {
+        if self.has_room_for_error() {
+            let text = String::from_str(self.alloc, msg);
+            self.put_error(text);
         }
-        true
+    }
+
+    /// Records an error. Unless the current token is one to go on from, the error and that token, if
+    /// there is one, stand in a node [`SyntaxKind::ERROR`].
+    pub fn err_recover(&mut self, msg: &str, recovery: TokenSet)
+        ensures keeps { Keeps self.old self.new }
+        ensures puts { Puts (recovery_steps (chars msg.now) (has recovery) (ahead self.old 0)) self.old self.new }
+    {
+        if self.at_ts(recovery) {
+            self.error(msg);
+            return;
+        }
+        let node = self.start();
+        self.error(msg);
+        self.bump_any();
+        node.complete(self, SyntaxKind::ERROR);
+    }
+
+    /// Records an error and eats the current token, if there is one, in a node
+    /// [`SyntaxKind::ERROR`].
+    pub fn err_and_bump(&mut self, msg: &str)
+        ensures keeps { Keeps self.old self.new }
+        ensures puts { Puts (recovery_steps (chars msg.now) no_recovery (ahead self.old 0)) self.old self.new }
+    {
+        self.err_recover(msg, TokenSet::EMPTY);
     }
 }

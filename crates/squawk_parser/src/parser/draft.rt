@@ -1,17 +1,17 @@
 //! The record of a parse: a plain list of items that is edited in place.
-ghost use Rattle.std.specs.Prelude.{◌≡◌, ◌+◌, ◌^◌, ◌<◌, [], ◌∷◌, ◌++◌, map, IfOk, OnOk, OnErr};
-ghost use Rattle.squawk_parser.specs.Draft.{plain};
-ghost use Rattle.squawk_parser.specs.Edits.{started, filled, completed, with_token};
+ghost use Rattle.std.specs.Prelude.{◌≡◌, ◌+◌, ◌^◌, ◌<◌, false, [], ◌∷◌, ◌++◌, map, IfOk, OnOk, OnErr};
+ghost use Rattle.squawk_parser.specs.Draft.{errors_of, is_error, plain};
+ghost use Rattle.squawk_parser.specs.Edits.{started, filled, completed, with_token, with_error};
 ghost use Rattle.squawk_parser.specs.DraftView.{item_of};
 ghost use Rattle.squawk_table.specs.Steps.{Walk};
 
 use squawk_kinds::SyntaxKind;
-use squawk_table::{Output, OutputBuilder};
+use squawk_table::{Output, OutputBuilder, Text};
 use std::alloc::{AllocError, Global};
 use std::marker::Model;
 
 /// An item of the record. The ids of holes and openings are numbers that no other one has.
-#[derive(Clone, Copy, Debug)]
+#[derive(Debug, Drop)]
 enum DraftItem {
     /// An open marker.
     Hole {
@@ -29,16 +29,20 @@ enum DraftItem {
         kind: SyntaxKind,
         n_input_tokens: u8,
     },
+    /// An error, with its text.
+    Error {
+        msg: Text,
+    },
 }
 
 impl DraftItem {
-    /// The item with this id as the beginning of a node if it is a hole; any other item as it is.
-    fn filled(self, id: u32, kind: SyntaxKind) -> DraftItem
-        ensures { item_of result ∷ [] ≡ filled (item_of self ∷ []) id kind }
+    /// The hole with this id becomes the beginning of a node; any other item stays as it is.
+    fn fill(&mut self, id: u32, kind: SyntaxKind)
+        ensures { item_of self.new ∷ [] ≡ filled (item_of self.old ∷ []) id kind }
     {
         match self {
-            DraftItem::Hole { id: own } if own == id => DraftItem::Open { id, kind },
-            _ => self,
+            DraftItem::Hole { id: own } if *own == id => *self = DraftItem::Open { id, kind },
+            _ => {}
         }
     }
 }
@@ -48,6 +52,7 @@ impl DraftItem {
 pub(crate) struct Draft {
     items: Vec<DraftItem>,
     recorded: u32,
+    errors: u32,
 }
 
 impl Model for Draft {
@@ -59,6 +64,10 @@ impl Model for Draft {
     ghost use Rattle.squawk_parser.specs.DraftView.{item_of};
 
     ghost view = { λ d. record { items = map item_of d.items.items; recorded = d.recorded } };
+
+    ghost use Rattle.std.specs.Prelude.{◌≡◌};
+
+    ghost invariant = { λ d. d.errors ≡ spec.errors_of (map item_of d.items.items) };
 }
 
 impl Draft {
@@ -69,6 +78,7 @@ impl Draft {
         Draft {
             items: Vec::new(alloc),
             recorded: 0,
+            errors: 0,
         }
     }
 
@@ -77,6 +87,13 @@ impl Draft {
         ensures { result ≡ self.now.recorded }
     {
         self.recorded
+    }
+
+    /// How many of them are errors.
+    pub(crate) fn errors(&self) -> u32
+        ensures { result ≡ errors_of self.now.items }
+    {
+        self.errors
     }
 
     /// A hole at the end.
@@ -111,9 +128,23 @@ impl Draft {
         })
     }
 
-    /// One more event: an item at the end.
+    /// An error at the end.
+    pub(crate) fn error(&mut self, msg: Text) -> Result<(), AllocError>
+        requires room { self.old.recorded + 1 < 2 ^ 32 }
+        requires errors { errors_of self.old.items + 1 < 2 ^ 32 }
+        ensures ok { OnOk result (self.new ≡ with_error self.old msg) }
+        ensures err { OnErr result (self.new ≡ self.old) }
+    {
+        self.items.push(DraftItem::Error { msg })?;
+        self.recorded += 1;
+        self.errors += 1;
+        Ok(())
+    }
+
+    /// One more event that is no error: an item at the end.
     fn push(&mut self, item: DraftItem) -> Result<(), AllocError>
-        requires { self.old.recorded + 1 < 2 ^ 32 }
+        requires room { self.old.recorded + 1 < 2 ^ 32 }
+        requires no_error { is_error (item_of item) ≡ false }
         ensures ok { OnOk result (self.new ≡ record { items = self.old.items ++ item_of item ∷ []; recorded = self.old.recorded + 1 }) }
         ensures err { OnErr result (self.new ≡ self.old) }
     {
@@ -126,10 +157,14 @@ impl Draft {
     pub(crate) fn finish(self, alloc: Global) -> Result<Output, AllocError>
         ensures { IfOk result (λ o. o ≡ record { steps = plain self.items; recorded = self.recorded; turns = 0 }) }
     {
-        let Draft { items, recorded } = self;
+        let Draft {
+            items,
+            recorded,
+            errors: _,
+        } = self;
         let mut output = OutputBuilder::with_capacity(alloc, items.len(), recorded)?;
-        for item in &items {
-            match *item {
+        for item in items {
+            match item {
                 DraftItem::Hole { id: _ } => {}
                 DraftItem::Open { id: _, kind } => output.enter_node(kind)?,
                 DraftItem::Close => output.leave_node()?,
@@ -137,6 +172,7 @@ impl Draft {
                     kind,
                     n_input_tokens,
                 } => output.token(kind, n_input_tokens)?,
+                DraftItem::Error { msg } => output.error(msg)?,
             }
         }
         Ok(output.finish())
@@ -148,6 +184,6 @@ fn fill(items: &mut Vec<DraftItem>, id: u32, kind: SyntaxKind)
     ensures { map item_of items.new.items ≡ filled (map item_of items.old.items) id kind }
 {
     for item in items.iter_mut() {
-        *item = item.filled(id, kind);
+        item.fill(id, kind);
     }
 }

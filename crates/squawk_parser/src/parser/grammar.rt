@@ -1,10 +1,12 @@
 //! Grammars, and the parse of an input by one.
-ghost use Rattle.std.specs.Prelude.{◌≡◌, IfOk, IfErr};
+ghost use Rattle.std.specs.Prelude.{◌≡◌, ◌≤◌, IfOk, IfErr};
+ghost use Rattle.squawk_table.specs.Steps.{errors_in};
 ghost use Rattle.squawk_parser.specs.Draft.{Draft, HasNoHole, plain};
 ghost use Rattle.squawk_parser.specs.State.{State, IsFresh};
 ghost use Rattle.squawk_parser.specs.Parse.{IsParse, IsRefused};
 
 use crate::parser::Parser;
+use crate::parser::limits::Limits;
 use crate::parser::parse_error::ParseError;
 use crate::parser::words::Words;
 use squawk_table::{Input, Output};
@@ -59,14 +61,18 @@ pub trait Grammar {
         ensures leaves { OnOk result (Goes p.new → leaves self.now EntryPoint.Plpgsql p.old.input p.new.draft) };
 }
 
-/// How many events a parse may record.
-const MAX_EVENTS: u32 = 4294967295;
+/// The limits of a parse that is given none.
+const LIMITS: Limits = Limits {
+    events: 4294967295,
+    errors: 2147483648,
+};
 
 impl EntryPoint {
     /// The parse of an input by a grammar, from this entry point.
     ///
     /// It is refused for the first reason for which the parser failed; if it did not fail, by want
-    /// of memory, where the grammar answers that or the output finds none.
+    /// of memory, where the grammar answers that or the output finds none. It may record 4294967295
+    /// events, and 2147483648 errors among them.
     pub fn parse<G: Grammar>(
         &self,
         alloc: Global,
@@ -74,9 +80,28 @@ impl EntryPoint {
         grammar: &G,
     ) -> Result<Output, ParseError>
         ensures output { IfOk result (λ o. IsParse (G.leaves grammar.now self.now input.now) input.now o) }
-        ensures refused { IfErr result (λ e. IsRefused input.now MAX_EVENTS e) }
+        ensures refused { IfErr result (λ e. IsRefused input.now 4294967295 2147483648 e) }
     {
-        let mut p = Parser::new(alloc, input, grammar.words(), MAX_EVENTS);
+        self.parse_within(alloc, input, grammar, LIMITS)
+    }
+
+    /// The same, under limits of how many events and how many errors it may record.
+    ///
+    /// What is to be recorded is refused where the events have reached their limit; an error also
+    /// where the errors have reached theirs.
+    pub fn parse_within<G: Grammar>(
+        &self,
+        alloc: Global,
+        input: &Input,
+        grammar: &G,
+        limits: Limits,
+    ) -> Result<Output, ParseError>
+        requires { limits.errors ≤ 2147483648 }
+        ensures output { IfOk result (λ o. IsParse (G.leaves grammar.now self.now input.now) input.now o) }
+        ensures within { IfOk result (λ o. (o.recorded ≤ limits.events) × (errors_in o.steps ≤ limits.errors)) }
+        ensures refused { IfErr result (λ e. IsRefused input.now limits.events limits.errors e) }
+    {
+        let mut p = Parser::new(alloc, input, grammar.words(), limits);
         let run = match self {
             EntryPoint::SourceFile => grammar.entry_point(&mut p),
             EntryPoint::Plpgsql => grammar.plpgsql_entry_point(&mut p),

@@ -104,7 +104,7 @@ impl Parser<'_> {
     }
 
     /// The tokens from `n` places ahead on.
-    fn view(&self, n: usize) -> View<'_>
+    pub(super) fn view(&self, n: usize) -> View<'_>
         ensures { result ≡ ahead self.now n }
     {
         View::new(self.input, self.position.saturating_add(n), self.limit)

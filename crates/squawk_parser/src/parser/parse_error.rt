@@ -11,6 +11,8 @@ pub enum ParseError {
     OutOfMemory,
     /// One more event was to be recorded than may be.
     TooManyEvents,
+    /// One more error was to be recorded than may be.
+    TooManyErrors,
 }
 
 impl From<AllocError> for ParseError {

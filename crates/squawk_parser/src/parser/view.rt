@@ -3,7 +3,7 @@ ghost use Rattle.std.specs.Prelude.{◌≡◌, ◌≤◌, length, drop};
 ghost use Rattle.squawk_parser.specs.LookAhead.{seen_from, touches_next};
 ghost use Rattle.squawk_table.specs.ParserInput.{kind_in};
 
-mod composites;
+pub(super) mod composites;
 mod operators;
 
 use squawk_kinds::SyntaxKind;

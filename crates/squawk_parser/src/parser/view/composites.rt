@@ -69,7 +69,7 @@ impl View<'_> {
 }
 
 /// Whether the kind is that of a normal form of Unicode.
-fn is_normal_form(kind: SyntaxKind) -> bool
+pub(in crate::parser) fn is_normal_form(kind: SyntaxKind) -> bool
     ensures { result ≡ list_any (λ form. kind == form) normal_forms }
 {
     matches!(

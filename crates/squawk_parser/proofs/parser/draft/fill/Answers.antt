@@ -39,8 +39,8 @@ loop-item-preserved c =
     let i = c.loop-item.item-index in
     let lt : i < length now = omega arith in
     let at = c.item-item.is in
-    let Fills : DraftItem → Type 0 = λ y. item_of c.filled.result ∷ [] ≡ filled (item_of y ∷ []) c.args.id c.args.kind in
+    let Fills : DraftItem → Type 0 = λ y. item_of c.fill.new.self ∷ [] ≡ filled (item_of y ∷ []) c.args.id c.args.kind in
     record {
-      done = done_more old now i c.item-item.result c.filled.result lt at c.loop-item.invariant.rest c.args.id c.args.kind (subst Fills (sym at) c.filled.ensures) c.loop-item.invariant.done;
-      rest = rest_more old now i c.item-item.result c.filled.result lt at c.loop-item.invariant.rest;
+      done = done_more old now i c.item-item.result c.fill.new.self lt at c.loop-item.invariant.rest c.args.id c.args.kind (subst Fills (sym at) c.fill.ensures) c.loop-item.invariant.done;
+      rest = rest_more old now i c.item-item.result c.fill.new.self lt at c.loop-item.invariant.rest;
     }

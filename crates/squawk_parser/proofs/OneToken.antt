@@ -1,0 +1,30 @@
+-- Tokens that are one token where a parser sees them are one token of its input.
+use Rattle.std.proofs.Common.{◌≡◌, ◌∙◌, ℕ, zero, suc, ◌+◌, ◌<◌, ◌≤◌, List, [], ◌∷◌, drop, take, arith, sym, refl}
+use Rattle.std.proofs.lemmas.List.{length-drop, length-take}
+use Rattle.squawk_table.specs.ParserInput.{Entry, touches_in}
+use Rattle.squawk_table.specs.Shape.{AreOneToken}
+use Rattle.squawk_parser.specs.LookAhead.{seen_from}
+
+touches_in-take : (limit i : ℕ) (input : List Entry) → i < limit → touches_in (take limit input) i ≡ touches_in input i
+touches_in-take zero i input lt = absurd (omega arith)
+touches_in-take (suc limit) i [] lt = refl
+touches_in-take (suc limit) zero (e ∷ input) lt = refl
+touches_in-take (suc limit) (suc i) (e ∷ input) lt = touches_in-take limit i input (omega arith)
+
+AreOneToken-take : (n limit : ℕ) (input : List Entry) → AreOneToken n (take limit input) → AreOneToken n input
+AreOneToken-take n limit input one = record {
+  some = one.some;
+  there = omega (arith, one.there, length-take limit input);
+  touch = λ i lt. sym (touches_in-take limit i input (omega (arith, one.there, length-take limit input))) ∙ one.touch i lt;
+}
+
+pub AreOneToken-seen : (n limit place : ℕ) (input : List Entry) → AreOneToken n (seen_from input limit place) → AreOneToken n (drop place input)
+AreOneToken-seen n limit zero input one = AreOneToken-take n limit input one
+AreOneToken-seen n zero (suc place) input one = absurd (omega (arith, one.some, one.there))
+AreOneToken-seen n (suc limit) (suc place) [] one = absurd (omega (arith, one.some, one.there))
+AreOneToken-seen n (suc limit) (suc place) (e ∷ input) one = AreOneToken-seen n limit place input one
+
+-- they stand before the limit
+pub AreOneToken-within : (n limit place : ℕ) (input : List Entry) → AreOneToken n (seen_from input limit place) → place + n ≤ limit
+AreOneToken-within n limit place input one =
+    omega (arith, one.some, one.there, length-drop place (take limit input), length-take limit input)

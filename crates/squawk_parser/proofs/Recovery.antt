@@ -1,0 +1,60 @@
+-- An error, and the current token with it in a node.
+use Rattle.std.proofs.Common.{◌≡◌, ◌≢◌, ◌∙◌, ℕ, ◌+◌, ◌==◌, Bool, true, false, List, [], ◌∷◌, if◌then◌else◌, arith, ap, sym, refl, subst}
+use Rattle.std.proofs.lemmas.Bool.{eqb-true}
+use Rattle.squawk_kinds.specs.Kinds.{EOF, ERROR}
+use Rattle.squawk_table.specs.ParserInput.{Entry, kind_in}
+use Rattle.squawk_table.specs.Steps.{Error}
+use Rattle.squawk_parser.specs.Draft.{IsAboveIds}
+use Rattle.squawk_parser.specs.Eaten.{current_as, node, recovery_steps}
+use Rattle.squawk_parser.specs.Edits.{completed, started, with_token}
+use Rattle.squawk_parser.specs.Recorded.{Puts}
+use Rattle.squawk_parser.specs.State.{State, Goes, Keeps, Records, ahead, kind_at}
+use Rattle.squawk_parser.proofs.RecordedSteps.{Keeps-then, node_puts, puts-none, puts-then}
+use Rattle.squawk_parser.proofs.SeenSteps.{ahead-moved, ahead-still, bump_puts, if-false, if-true, kind_at-first}
+
+-- an error eats no token
+pub ahead-error : {a b : State} {text : List ℕ} → Keeps a b → Puts (Error text ∷ []) a b → ahead b 0 ≡ ahead a 0
+ahead-error keeps puts = ahead-moved 0 keeps puts.position
+
+-- the current token is eaten, if there is one
+pub current_puts : {a b : State} → Keeps a b → (kind_at a 0 ≡ EOF → b ≡ a)
+    → (kind_at a 0 ≢ EOF → b.position ≡ a.position + 1) → (kind_at a 0 ≢ EOF → Records a b (with_token a.draft (kind_at a 0) 1))
+    → Puts (current_as (kind_in (ahead a 0) 0) (ahead a 0)) a b
+current_puts {a} {b} keeps ends position records = cases (kind_in (ahead a 0) 0 == EOF) refl
+  where
+    kind : ℕ
+    kind = kind_in (ahead a 0) 0
+
+    cases : (t : Bool) → (kind == EOF) ≡ t → Puts (current_as kind (ahead a 0)) a b
+    cases true e =
+        let end : kind ≡ EOF = eqb-true kind EOF e in
+        let same : b ≡ a = ends (kind_at-first a ∙ end) in
+        subst (λ steps. Puts steps a b) (sym (if-true _ _ _ e)) (subst (λ s. Puts [] a s) (sym same) (puts-none a))
+    cases false e =
+        let some : kind ≢ EOF = λ end. absurd (grind (arith, e, end)) in
+        subst (λ steps. Puts steps a b) (sym (if-false _ _ _ e)) (bump_puts kind refl some keeps position records)
+
+-- an error alone, where the token is one to go on from
+pub recovery-there : (text : List ℕ) (recovers : ℕ → Bool) (s : State) → recovers (kind_at s 0) ≡ true → recovery_steps text recovers (ahead s 0) ≡ Error text ∷ []
+recovery-there text recovers s test = if-true _ _ _ (ap recovers (sym (kind_at-first s)) ∙ test)
+
+-- a token that isn't one to go on from stands with the error in a node
+pub recovery_puts : {a b c d e : State} (text : List ℕ) (recovers : ℕ → Bool) (id : ℕ) → recovers (kind_at a 0) ≡ false
+    → Keeps a b → Records a b (started a.draft id) → (Goes b → IsAboveIds id a.draft.items) → b.position ≡ a.position
+    → Keeps b c → Puts (Error text ∷ []) b c
+    → Keeps c d → (kind_at c 0 ≡ EOF → d ≡ c) → (kind_at c 0 ≢ EOF → d.position ≡ c.position + 1) → (kind_at c 0 ≢ EOF → Records c d (with_token c.draft (kind_at c 0) 1))
+    → Keeps d e → Records d e (completed d.draft id ERROR) → e.position ≡ d.position
+    → Puts (recovery_steps text recovers (ahead a 0)) a e
+recovery_puts {a} {b} {c} {d} {e} text recovers id test k begins fresh here l error m ends position records n completes there =
+    let seen : ahead c 0 ≡ ahead a 0 = ahead-error l error ∙ ahead-still k here in
+    let token : Puts (current_as (kind_in (ahead a 0) 0) (ahead a 0)) c d =
+    subst (λ seen. Puts (current_as (kind_in seen 0) seen) c d) seen (current_puts m ends position records) in
+    let both = puts-then l m error token in
+    let steps = if-false _ _ _ (ap recovers (sym (kind_at-first a)) ∙ test) in
+    subst (λ steps. Puts steps a e) (sym steps) (node_puts id ERROR k (Keeps-then l m) n begins fresh here both completes there)
+
+-- where no kind is one to go on from
+pub recovery-same : (text : List ℕ) (recovers others : ℕ → Bool) (seen : List Entry) → ((kind : ℕ) → recovers kind ≡ others kind)
+    → recovery_steps text recovers seen ≡ recovery_steps text others seen
+recovery-same text recovers others seen same =
+    ap (λ b. if b then Error text ∷ [] else node ERROR (Error text ∷ current_as (kind_in seen 0) seen)) (same (kind_in seen 0))

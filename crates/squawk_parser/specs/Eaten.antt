@@ -1,0 +1,137 @@
+-- What acts eat, and what they record for it.
+use Rattle.std.specs.Prelude.{◌≡◌, ℕ, ◌==◌, ◌++◌, Bool, false, Option, Some, None, List, [], ◌∷◌, length, map, take, drop, option_map, unwrap_or, codes, if◌then◌else◌}
+use Rattle.std.specs.Fmt.{decimal}
+use Rattle.std.specs.List.{find, list_any}
+use Rattle.std.specs.Str.{chars}
+use Rattle.squawk_kinds.specs.Kinds.{EOF, ERROR}
+use Rattle.squawk_kinds.specs.TokenSets.{has}
+use Rattle.squawk_table.specs.ParserInput.{Entry, kind_in}
+use Rattle.squawk_table.specs.Steps.{Step, Token, Enter, Exit, Error}
+use Rattle.squawk_parser.specs.Composites.{Element, One, AtMostOne, Tail, NoTail, Open, ClosedBy, Form, Glued, Touching, Sequence, Operator, Composite, composites, stands_at}
+use Rattle.squawk_parser.specs.Draft.{IsAboveIds, holes_of}
+use Rattle.squawk_parser.specs.Edits.{started, completed}
+use Rattle.squawk_parser.specs.Operators.{operator_length}
+use Rattle.squawk_parser.specs.State.{State, Goes, Keeps, Records, ahead}
+use Rattle.squawk_parser.specs.Recorded.{Puts}
+use Rattle.squawk_parser.specs.Words.{Words}
+
+-- a token of one input token
+abbrev pub one : ℕ → Step
+one kind = Token kind 1
+
+-- a node with these steps in it
+abbrev pub node : ℕ → List Step → List Step
+node kind steps = Enter kind ∷ steps ++ Exit ∷ []
+
+-- the current token as a token of this kind; at the end there is none
+abbrev pub current_as : ℕ → List Entry → List Step
+current_as kind seen = if kind_in seen 0 == EOF then [] else one kind ∷ []
+
+-- the tokens under the elements of a sequence that stands at the front
+abbrev pub element_steps : List Element → List Entry → List Step
+element_steps [] seen = []
+element_steps (One kind ∷ elements) seen = one kind ∷ element_steps elements (drop 1 seen)
+element_steps (AtMostOne kind kinds ∷ elements) seen =
+    if list_any (λ kind. kind_in seen 0 == kind) kinds
+    then node kind (one (kind_in seen 0) ∷ []) ++ element_steps elements (drop 1 seen)
+    else element_steps elements seen
+
+-- what a composite kind makes of the tokens at the front
+abbrev pub form_steps : (ℕ → Bool) → ℕ → Form → List Entry → List Step
+form_steps operator_kind kind (Glued parts) seen = Token kind (length parts) ∷ []
+form_steps operator_kind kind (Touching parts) seen = node kind (map one parts)
+form_steps operator_kind kind (Sequence elements tail) seen = node kind (element_steps elements seen)
+form_steps operator_kind kind Operator seen = node kind (map (λ e. one e.kind) (take (operator_length operator_kind seen) seen))
+
+-- the row of a composite kind
+abbrev pub row_of : ℕ → Option Composite
+row_of kind = find (λ composite. composite.kind == kind) composites
+
+-- what a kind that stands at the front makes of the tokens there
+abbrev pub eaten_as : (ℕ → Bool) → ℕ → Option Composite → List Entry → List Step
+eaten_as operator_kind kind None seen = one kind ∷ []
+eaten_as operator_kind kind (Some composite) seen = form_steps operator_kind kind composite.form seen
+
+-- what eating a kind puts at the end of a draft
+abbrev pub eat_steps : Words → ℕ → List Entry → List Step
+eat_steps words kind seen = eaten_as (has words.operator_first) kind (row_of kind) seen
+
+-- ---- tails
+
+abbrev pub tail_in : Form → Tail
+tail_in (Glued parts) = NoTail
+tail_in (Touching parts) = NoTail
+tail_in (Sequence elements tail) = tail
+tail_in Operator = NoTail
+
+-- what follows the tokens of a kind, inside its node
+abbrev pub tail_of_kind : ℕ → Tail
+tail_of_kind kind = unwrap_or (option_map (λ composite. tail_in composite.form) (row_of kind)) NoTail
+
+-- the elements of a kind's sequence
+abbrev pub elements_in : Form → List Element
+elements_in (Glued parts) = []
+elements_in (Touching parts) = []
+elements_in (Sequence elements tail) = elements
+elements_in Operator = []
+
+abbrev pub elements_of_kind : ℕ → List Element
+elements_of_kind kind = unwrap_or (option_map (λ composite. elements_in composite.form) (row_of kind)) []
+
+-- ---- expected kinds
+
+-- the name of a kind: that of its first pair, else its number
+abbrev pub name_in : List (ℕ × List ℕ) → ℕ → List ℕ
+name_in names kind = unwrap_or (option_map (λ pair. pair.1) (find (λ pair. pair.0 == kind) names)) (decimal kind)
+
+-- the text of the error where a kind is expected and doesn't stand
+abbrev pub expected_text : Words → ℕ → List ℕ
+expected_text words kind = chars (codes "expected " ++ name_in words.names kind)
+
+-- what expecting a kind puts at the end of a draft
+abbrev pub expect_steps : Words → ℕ → List Entry → List Step
+expect_steps words kind seen =
+    if stands_at (has words.operator_first) kind seen then eat_steps words kind seen else Error (expected_text words kind) ∷ []
+
+-- what follows the tail of a kind
+abbrev pub closing_steps : Words → Tail → List Entry → List Step
+closing_steps words NoTail seen = []
+closing_steps words Open seen = []
+closing_steps words (ClosedBy kind) seen = expect_steps words kind seen
+
+-- ---- recovery
+
+-- an error, and the current token with it in a node, unless that token is one to go on from
+abbrev pub recovery_steps : List ℕ → (ℕ → Bool) → List Entry → List Step
+recovery_steps text recovers seen =
+    let kind = kind_in seen 0 in
+    if recovers kind then Error text ∷ [] else node ERROR (Error text ∷ current_as kind seen)
+
+-- no kind is one to go on from
+abbrev pub no_recovery : ℕ → Bool
+no_recovery kind = false
+
+-- ---- a kind with a tail
+
+-- A node is begun, the tokens of the kind's sequence are eaten, the tail runs once, what closes it is expected, and the node is
+-- completed.
+pub record EatsWith (does : State → State → Type 0) (kind : ℕ) (old new : State) : Type 0 where
+  pub id : ℕ
+  pub begun : State
+  pub eaten : State
+  pub ran : State
+  pub closed : State
+  pub begins : Records old begun (started old.draft id)
+  pub begins_here : begun.position ≡ old.position
+  pub begins_keeps : Keeps old begun
+  pub fresh : Goes begun → IsAboveIds id old.draft.items
+  pub eats : Puts (element_steps (elements_of_kind kind) (ahead old 0)) begun eaten
+  pub eats_keeps : Keeps begun eaten
+  pub does_tail : does eaten ran
+  pub tail_keeps : Keeps eaten ran
+  pub tail_holes : Goes ran → holes_of ran.draft.items ≡ holes_of eaten.draft.items
+  pub closes : Puts (closing_steps old.words (tail_of_kind kind) (ahead ran 0)) ran closed
+  pub closes_keeps : Keeps ran closed
+  pub completes : Records closed new (completed closed.draft id kind)
+  pub completes_here : new.position ≡ closed.position
+  pub completes_keeps : Keeps closed new

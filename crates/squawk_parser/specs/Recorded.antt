@@ -1,0 +1,43 @@
+-- What acts record that put whole steps at the end of a draft.
+use Rattle.std.specs.Prelude.{◌≡◌, ℕ, ◌+◌, ◌<◌, true, Some, List, ◌∷◌, ◌++◌, length, All, IsSome}
+use Rattle.squawk_table.specs.Steps.{Step, is_error, errors_in, eaten}
+use Rattle.squawk_parser.specs.Draft.{Draft, Item, HasNoHole, IsAboveIds, errors_of, ids, plain}
+use Rattle.squawk_parser.specs.State.{State, Goes}
+use Rattle.squawk_parser.specs.declared.parser.parse_error.ParseError.{ParseError}
+use Rattle.squawk_parser.specs.declared.parser.parse_error.ParseError.TheVariants.{OutOfMemory, TooManyEvents, TooManyErrors}
+
+-- Items for these steps were put at the end: no hole among them, and no id that isn't above those before. Each step is one recorded
+-- event.
+pub record IsPut (steps : List Step) (old new : Draft) : Type 0 where
+  pub made : List Item
+  pub items : new.items ≡ old.items ++ made
+  pub steps_made : plain made ≡ steps
+  pub closed : HasNoHole made
+  pub above : All (λ id. IsAboveIds id old.items) (ids made)
+  pub recorded : new.recorded ≡ old.recorded + length steps
+
+-- Why a parser that has recorded so many events and errors is refused a step, under its limits of both. The limit of events is
+-- tested first, then that of errors, and memory last.
+abbrev pub IsReason : ℕ → ℕ → ℕ → ℕ → Step → ParseError → Type 0
+IsReason max_events max_errors events errors step TooManyEvents = events ≡ max_events
+IsReason max_events max_errors events errors step TooManyErrors = (is_error step ≡ true) × (errors ≡ max_errors) × (events < max_events)
+IsReason max_events max_errors events errors step OutOfMemory = (events < max_events) × (is_error step ≡ true → errors < max_errors)
+
+-- One of the steps was refused, after those before it were recorded.
+pub record IsRefusedStep (old : State) (steps : List Step) (reason : ParseError) : Type 0 where
+  pub front : List Step
+  pub next : Step
+  pub rest : List Step
+  pub is : steps ≡ front ++ next ∷ rest
+  pub why : IsReason old.max_events old.max_errors (old.draft.recorded + length front) (errors_of old.draft.items + errors_in front) next reason
+
+-- Steps are recorded, one after another, and their tokens are eaten: these also by a parser that has failed.
+pub record Puts (steps : List Step) (old new : State) : Type 0 where
+  pub position : new.position ≡ old.position + eaten steps
+  -- unless the parser has failed afterwards, it hadn't failed before, and the draft has the steps
+  pub went : Goes new → Goes old
+  pub draft : Goes new → IsPut steps old.draft new.draft
+  -- a parser that had failed records nothing
+  pub stays : IsSome old.first → new.draft ≡ old.draft
+  -- one that fails is refused one of the steps
+  pub refused : Goes old → (reason : ParseError) → new.first ≡ Some reason → IsRefusedStep old steps reason

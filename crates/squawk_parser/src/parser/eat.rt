@@ -1,0 +1,200 @@
+//! Acts that eat a kind where it stands, a composite one as its row says.
+ghost use Rattle.std.specs.Prelude.{ℕ, ◌≡◌, ◌≢◌, ◌∷◌, ◌++◌, [], codes, string_bytes, map, IfOk, IsTrue, IsSome, not};
+ghost use Rattle.squawk_kinds.specs.Kinds.{EOF, R_PAREN, TOMBSTONE};
+ghost use Rattle.squawk_kinds.specs.TokenSets.{has};
+ghost use Rattle.squawk_parser.specs.CompositeRows.{element_of, tail_of};
+ghost use Rattle.squawk_parser.specs.Composites.{ClosedBy, HasNoEndKind, NoTail, Operator, do_touch, normal_form, sequence_length, stands_at};
+ghost use Rattle.squawk_parser.specs.Eaten.{EatsWith, closing_steps, eat_steps, element_steps, expect_steps, form_steps, name_in, node, one, tail_of_kind};
+ghost use Rattle.squawk_parser.specs.Recorded.{Puts};
+ghost use Rattle.squawk_parser.specs.State.{Keeps, ahead};
+
+use crate::parser::Parser;
+use crate::parser::composite::{Form, Parts, Tail, composite};
+use crate::parser::part::Part;
+use crate::parser::view::composites::is_normal_form;
+use squawk_kinds::SyntaxKind;
+use std::alloc::{AllocError, Global};
+
+impl Parser<'_> {
+    /// Eats the kind, which may be a composite one, if it stands at the position, and tells whether
+    /// it does. Where it doesn't, nothing happens.
+    ///
+    /// The kind isn't [`SyntaxKind::EOF`], and it has no tail: [`Parser::eat_with`] eats those.
+    pub fn eat(&mut self, kind: SyntaxKind) -> bool
+        requires end { kind ≢ EOF }
+        requires tail { tail_of_kind kind ≡ NoTail }
+        ensures at { result ≡ stands_at (has self.old.words.operator_first) kind (ahead self.old 0) }
+        ensures keeps { Keeps self.old self.new }
+        ensures puts { IsTrue result → Puts (eat_steps self.old.words kind (ahead self.old 0)) self.old self.new }
+        ensures none { IsTrue (not result) → self.new ≡ self.old }
+    {
+        if !self.at(kind) {
+            return false;
+        }
+        match composite(kind) {
+            None => self.do_bump(kind, 1),
+            Some(Form::Glued(parts)) => self.do_bump(kind, parts.as_slice().len() as u8),
+            Some(Form::Touching(parts)) => self.eat_touching(kind, &parts),
+            Some(Form::Sequence { parts, tail: _ }) => {
+                let node = self.start();
+                self.eat_elements(&parts);
+                node.complete(self, kind);
+            }
+            Some(Form::Operator) => self.eat_operator(kind),
+        }
+        true
+    }
+
+    /// Eats a kind with a tail, if it stands at the position, and tells whether it does. Its node has
+    /// its tokens and what the tail records; behind that, the closing parenthesis of
+    /// [`SyntaxKind::OPERATOR_CALL`] is expected. Where the kind doesn't stand, nothing happens, and
+    /// the tail isn't run.
+    pub fn eat_with<F: Part<Answer = ()> + Drop>(&mut self, kind: SyntaxKind, tail: F) -> bool
+        requires { tail_of_kind kind ≢ NoTail }
+        ensures at { result ≡ stands_at (has self.old.words.operator_first) kind (ahead self.old 0) }
+        ensures keeps { Keeps self.old self.new }
+        ensures eats { IsTrue result → EatsWith (λ before after. F.does tail before after tt) kind self.old self.new }
+        ensures none { IsTrue (not result) → self.new ≡ self.old }
+    {
+        if !self.at(kind) {
+            return false;
+        }
+        let Some(
+            Form::Sequence {
+                parts,
+                tail: closing,
+            },
+        ) = composite(kind)
+        else {
+            unreachable!();
+        };
+        let node = self.start();
+        self.eat_elements(&parts);
+        tail.run(self);
+        self.close(closing);
+        node.complete(self, kind);
+        true
+    }
+
+    /// Eats the kind, which stands at the position.
+    ///
+    /// The kind isn't [`SyntaxKind::EOF`], and it has no tail.
+    pub fn bump(&mut self, kind: SyntaxKind)
+        requires end { kind ≢ EOF }
+        requires tail { tail_of_kind kind ≡ NoTail }
+        requires at { IsTrue (stands_at (has self.old.words.operator_first) kind (ahead self.old 0)) }
+        ensures keeps { Keeps self.old self.new }
+        ensures puts { Puts (eat_steps self.old.words kind (ahead self.old 0)) self.old self.new }
+    {
+        self.eat(kind);
+    }
+
+    /// Eats the kind if it stands at the position, else records the error that it is expected. Tells
+    /// whether it stands.
+    ///
+    /// The kind isn't [`SyntaxKind::EOF`], and it has no tail.
+    pub fn expect(&mut self, kind: SyntaxKind) -> bool
+        requires end { kind ≢ EOF }
+        requires tail { tail_of_kind kind ≡ NoTail }
+        ensures at { result ≡ stands_at (has self.old.words.operator_first) kind (ahead self.old 0) }
+        ensures keeps { Keeps self.old self.new }
+        ensures puts { Puts (expect_steps self.old.words kind (ahead self.old 0)) self.old self.new }
+    {
+        if self.eat(kind) {
+            return true;
+        }
+        if self.has_room_for_error() {
+            let text = expected(self.alloc, self.names, kind);
+            self.put_error(text);
+        }
+        false
+    }
+
+    /// Expects what closes a tail, if something does.
+    fn close(&mut self, tail: Tail)
+        requires { (kind : ℕ) → tail_of tail ≡ ClosedBy kind → kind ≡ R_PAREN }
+        ensures keeps { Keeps self.old self.new }
+        ensures puts { Puts (closing_steps self.old.words (tail_of tail) (ahead self.old 0)) self.old self.new }
+    {
+        match tail {
+            Tail::Nothing | Tail::Open => {}
+            Tail::ClosedBy(kind) => {
+                self.expect(kind);
+            }
+        }
+    }
+
+    /// Eats parts that touch, in a node of this kind.
+    fn eat_touching(&mut self, kind: SyntaxKind, parts: &Parts)
+        requires kind { kind ≢ TOMBSTONE }
+        requires no_end { HasNoEndKind parts.now }
+        requires touch { IsTrue (do_touch parts.now (ahead self.old 0)) }
+        ensures keeps { Keeps self.old self.new }
+        ensures puts { Puts (node kind (map one parts.now)) self.old self.new }
+    {
+        let node = self.start();
+        for part in parts.as_slice() {
+            self.do_bump(*part, 1);
+        }
+        node.complete(self, kind);
+    }
+
+    /// Eats the operator at the position, in a node of this kind.
+    fn eat_operator(&mut self, kind: SyntaxKind)
+        requires { kind ≢ TOMBSTONE }
+        ensures keeps { Keeps self.old self.new }
+        ensures puts { Puts (form_steps (has self.old.words.operator_first) kind Operator (ahead self.old 0)) self.old self.new }
+    {
+        let len = self.view(0).operator_len(&self.operator_first);
+        let node = self.start();
+        for _ in 0..len {
+            self.bump_any();
+        }
+        node.complete(self, kind);
+    }
+
+    /// Eats the elements of a sequence that stands at the position.
+    fn eat_elements(&mut self, parts: &Parts)
+        requires no_end { HasNoEndKind parts.now }
+        requires stands { IsSome (sequence_length (map element_of parts.now) (ahead self.old 0)) }
+        ensures keeps { Keeps self.old self.new }
+        ensures puts { Puts (element_steps (map element_of parts.now) (ahead self.old 0)) self.old self.new }
+    {
+        for part in parts.as_slice() {
+            if *part == SyntaxKind::UNICODE_NORMAL_FORM {
+                self.eat_normal_form();
+            } else {
+                self.do_bump(*part, 1);
+            }
+        }
+    }
+
+    /// Eats a normal form of Unicode, if its keyword stands at the position.
+    fn eat_normal_form(&mut self)
+        ensures keeps { Keeps self.old self.new }
+        ensures puts { Puts (element_steps (normal_form ∷ []) (ahead self.old 0)) self.old self.new }
+    {
+        if is_normal_form(self.current()) {
+            let node = self.start();
+            self.bump_any();
+            node.complete(self, SyntaxKind::UNICODE_NORMAL_FORM);
+        }
+    }
+}
+
+/// The text of the error where a kind is expected.
+fn expected(
+    alloc: Global,
+    names: &[(SyntaxKind, &str)],
+    kind: SyntaxKind,
+) -> Result<String, AllocError>
+    ensures { IfOk result (λ s. string_bytes s ≡ codes "expected " ++ name_in (map (λ pair. (pair.0, pair.1.now)) names.now) kind) }
+{
+    for (named, name) in names {
+        if *named == kind {
+            return format!(in alloc; "expected {name}");
+        }
+    }
+    let number = u16::from(kind);
+    format!(in alloc; "expected {number}")
+}

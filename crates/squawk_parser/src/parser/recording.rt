@@ -1,0 +1,87 @@
+//! One event at a time: the limits are tested first, and memory is asked for last.
+ghost use Rattle.std.specs.Prelude.{◌≡◌, ◌+◌, ◌<◌, ◌∷◌, [], string_bytes, IsTrue, IsSome, Some, IfOk, List, ℕ, not};
+ghost use Rattle.std.specs.Str.{chars};
+ghost use Rattle.squawk_table.specs.Shape.{AreOneToken};
+ghost use Rattle.squawk_table.specs.Steps.{Error};
+ghost use Rattle.squawk_parser.specs.Draft.{errors_of};
+ghost use Rattle.squawk_parser.specs.Edits.{with_token};
+ghost use Rattle.squawk_parser.specs.Recorded.{Puts};
+ghost use Rattle.squawk_parser.specs.State.{Goes, Keeps, Records, ahead};
+ghost use Rattle.squawk_parser.specs.declared.parser.parse_error.ParseError.TheVariants.{TooManyEvents};
+
+use crate::parser::Parser;
+use crate::parser::parse_error::ParseError;
+use squawk_kinds::SyntaxKind;
+use squawk_table::Text;
+use std::alloc::AllocError;
+
+impl Parser<'_> {
+    /// Eats the next `n` tokens of the input, which touch one another, as one token of this kind.
+    pub(super) fn do_bump(&mut self, kind: SyntaxKind, n_input_tokens: u8)
+        requires { AreOneToken n_input_tokens (ahead self.old 0) }
+        ensures keeps { Keeps self.old self.new }
+        ensures position { self.new.position ≡ self.old.position + n_input_tokens }
+        ensures records { Records self.old self.new (with_token self.old.draft kind n_input_tokens) }
+    {
+        if self.has_room() {
+            match self.draft.token(kind, n_input_tokens) {
+                Ok(()) => {}
+                Err(_) => self.first = Some(ParseError::OutOfMemory),
+            }
+        }
+        self.position += n_input_tokens as usize;
+    }
+
+    /// Records an error, if memory was found for its text.
+    pub(super) fn put_error(&mut self, text: Result<String, AllocError>)
+        requires goes { Goes self.old }
+        requires room { self.old.draft.recorded < self.old.max_events }
+        requires errors { errors_of self.old.draft.items < self.old.max_errors }
+        ensures keeps { Keeps self.old self.new }
+        ensures puts { (msg : List ℕ) → IfOk text (λ s. chars (string_bytes s) ≡ msg) → Puts (Error msg ∷ []) self.old self.new }
+    {
+        let Ok(text) = text else {
+            self.first = Some(ParseError::OutOfMemory);
+            return;
+        };
+        match self.draft.error(Text::new(text)) {
+            Ok(()) => {}
+            Err(_) => self.first = Some(ParseError::OutOfMemory),
+        }
+    }
+
+    /// Whether one more event may be recorded. Where the limit is reached, the parser fails.
+    pub(super) fn has_room(&mut self) -> bool
+        ensures keeps { Keeps self.old self.new }
+        ensures position { self.new.position ≡ self.old.position }
+        ensures draft { self.new.draft ≡ self.old.draft }
+        ensures room { IsTrue result → (self.new ≡ self.old) × Goes self.old × (self.old.draft.recorded < self.old.max_events) }
+        ensures full { IsTrue (not result) → Records self.old self.new self.old.draft × IsSome self.new.first }
+        ensures refused { IsTrue (not result) → Goes self.old → (self.old.draft.recorded ≡ self.old.max_events) × (self.new.first ≡ Some TooManyEvents) }
+    {
+        if self.first.is_some() {
+            return false;
+        }
+        if self.draft.recorded() == self.limits.events {
+            self.first = Some(ParseError::TooManyEvents);
+            return false;
+        }
+        true
+    }
+
+    /// Whether one more error may be recorded. Where a limit is reached, the parser fails.
+    pub(super) fn has_room_for_error(&mut self) -> bool
+        ensures keeps { Keeps self.old self.new }
+        ensures room { IsTrue result → (self.new ≡ self.old) × Goes self.old × (self.old.draft.recorded < self.old.max_events) × (errors_of self.old.draft.items < self.old.max_errors) }
+        ensures full { IsTrue (not result) → (msg : List ℕ) → Puts (Error msg ∷ []) self.old self.new }
+    {
+        if !self.has_room() {
+            return false;
+        }
+        if self.draft.errors() == self.limits.errors {
+            self.first = Some(ParseError::TooManyErrors);
+            return false;
+        }
+        true
+    }
+}
