@@ -1,13 +1,17 @@
 -- The open markers of a draft, over the calls of a grammar.
-use Rattle.std.proofs.Common.{◌≡◌, ◌≢◌, ◌∙◌, ℕ, ◌<◌, ◌==◌, Bool, true, false, not, List, [], ◌∷◌, ◌++◌, ap, sym, refl, subst}
-use Rattle.std.specs.Prelude.{All, Contains, IsSome, filter}
-use Rattle.std.proofs.lemmas.Bool.{eqb-true, eqb-false, eq-eqb}
+use Rattle.std.proofs.Common.{◌≡◌, ◌≢◌, ◌∙◌, ℕ, ◌<◌, ◌==◌, Bool, true, false, not, Option, Some, None, List, [], ◌∷◌, ◌++◌, arith, ap, sym, refl, subst}
+use Rattle.std.specs.Prelude.{All, Contains, IsSome, IsTrue, filter}
+use Rattle.std.proofs.lemmas.Bool.{eqb-true, eqb-false, eq-eqb, ne_eqb}
 use Rattle.std.proofs.lemmas.List.{append-nil}
-use Rattle.std.proofs.lemmas.List.Elements.{All-nil, All-cons, All-head, All-tail, All-filter, All-contains, All-contains_itself, filter-append}
+use Rattle.std.proofs.lemmas.List.Elements.{All-nil, All-cons, All-head, All-tail, All-filter, All-contains, All-contains_itself, Contains-push, filter-append}
 use Rattle.squawk_kinds.specs.Kinds.{EOF}
-use Rattle.squawk_parser.specs.Draft.{Item, Hole, Open, Close, Token, Made, ByStart, is_hole, ids, holes_of, HasNoHole, IsAboveIds}
+use Rattle.squawk_parser.specs.Draft.{Item, Hole, Open, Close, Token, Error, Made, ByStart, is_hole, ids, holes_of, HasNoHole, IsAboveIds}
 use Rattle.squawk_parser.specs.Edits.{started, completed, filled, with_token, is_hole_of}
+use Rattle.squawk_parser.specs.Eaten.{EatsWith}
+use Rattle.squawk_parser.specs.Recorded.{IsPut, Puts}
 use Rattle.squawk_parser.specs.State.{State, Goes, Keeps, Records, IsFresh, kind_at}
+use Rattle.squawk_parser.specs.declared.parser.parse_error.ParseError.{ParseError}
+use Rattle.squawk_table.specs.Steps.{Step}
 
 -- a list of them without one
 abbrev pub without : ℕ → List Item → List Item
@@ -25,6 +29,7 @@ none_open (Hole i made ∷ items) none = absurd (let h = All-head (λ item. is_h
 none_open (Open i kind free ∷ items) none = none_open items (All-tail (λ item. is_hole item ≡ false) (Open i kind free) items none)
 none_open (Close ∷ items) none = none_open items (All-tail (λ item. is_hole item ≡ false) Close items none)
 none_open (Token kind n ∷ items) none = none_open items (All-tail (λ item. is_hole item ≡ false) (Token kind n) items none)
+none_open (Error text ∷ items) none = none_open items (All-tail (λ item. is_hole item ≡ false) (Error text) items none)
 
 pub HasNoHole-none_open : (items : List Item) → holes_of items ≡ [] → HasNoHole items
 HasNoHole-none_open [] e = All-nil (λ item. is_hole item ≡ false)
@@ -32,6 +37,7 @@ HasNoHole-none_open (Hole i made ∷ items) e = absurd (cc)
 HasNoHole-none_open (Open i kind free ∷ items) e = All-cons (λ item. is_hole item ≡ false) (Open i kind free) items refl (HasNoHole-none_open items e)
 HasNoHole-none_open (Close ∷ items) e = All-cons (λ item. is_hole item ≡ false) Close items refl (HasNoHole-none_open items e)
 HasNoHole-none_open (Token kind n ∷ items) e = All-cons (λ item. is_hole item ≡ false) (Token kind n) items refl (HasNoHole-none_open items e)
+HasNoHole-none_open (Error text ∷ items) e = All-cons (λ item. is_hole item ≡ false) (Error text) items refl (HasNoHole-none_open items e)
 
 -- ---- one open marker among them
 
@@ -46,6 +52,7 @@ IsBelow id (Hole i made) = i < id
 IsBelow id (Open i kind free) = Unit {0}
 IsBelow id Close = Unit {0}
 IsBelow id (Token kind n) = Unit {0}
+IsBelow id (Error text) = Unit {0}
 
 all_below : (id : ℕ) (items : List Item) → IsAboveIds id items → All (IsBelow id) items
 all_below id [] above = All-nil (IsBelow id)
@@ -55,6 +62,7 @@ all_below id (Open i kind free ∷ items) above =
     All-cons (IsBelow id) (Open i kind free) items tt (all_below id items (All-tail (λ i. i < id) i (ids items) above))
 all_below id (Close ∷ items) above = All-cons (IsBelow id) Close items tt (all_below id items above)
 all_below id (Token kind n ∷ items) above = All-cons (IsBelow id) (Token kind n) items tt (all_below id items above)
+all_below id (Error text ∷ items) above = All-cons (IsBelow id) (Error text) items tt (all_below id items above)
 
 pub below-hole : (items open_ones : List Item) (id other : ℕ) → IsAboveIds id items → holes_of items ≡ open_ones → Contains open_ones (Hole other ByStart) → other < id
 below-hole items open_ones id other above e there =
@@ -104,6 +112,7 @@ holes-filled id kind (Hole i made ∷ items) = fill_cases id kind i made items (
 holes-filled id kind (Open i k free ∷ items) = holes-filled id kind items
 holes-filled id kind (Close ∷ items) = holes-filled id kind items
 holes-filled id kind (Token k n ∷ items) = holes-filled id kind items
+holes-filled id kind (Error text ∷ items) = holes-filled id kind items
 
 pub HasHoles-complete : (s t : State) (id kind : ℕ) (open_ones : List Item) → HasHoles s open_ones → Records s t (completed s.draft id kind)
     → HasHoles t (without id open_ones)
@@ -134,5 +143,82 @@ Keeps-twice s t u first second = record {
   words = second.words ∙ first.words;
   limit = second.limit ∙ first.limit;
   max_events = second.max_events ∙ first.max_events;
+  max_errors = second.max_errors ∙ first.max_errors;
   reason = λ failed. second.reason (subst (λ reason. IsSome reason) (sym (first.reason failed)) failed) ∙ first.reason failed;
 }
+
+-- ---- steps at the end, and a node around calls
+
+-- a parser that goes on after calls that keep its reason to fail went before them
+pub went-keeps : (s t : State) → Keeps s t → Goes t → Goes s
+went-keeps s t keeps goes = cases s.first refl
+  where
+    cases : (first : Option ParseError) → s.first ≡ first → s.first ≡ None
+    cases None e = e
+    cases (Some reason) e = let same : t.first ≡ s.first = keeps.reason (rw e refl) in absurd (let h = sym goes ∙ (same ∙ e) in cc)
+
+-- steps that are put at the end open no marker and close none
+pub holes-puts : (s t : State) (steps : List Step) → Puts steps s t → Goes t → holes_of t.draft.items ≡ holes_of s.draft.items
+holes-puts s t steps puts goes =
+    let put = puts.draft goes in
+    ap holes_of put.items
+    ∙ (filter-append is_hole s.draft.items put.made
+    ∙ (ap (λ hs. holes_of s.draft.items ++ hs) (none_open put.made put.closed) ∙ append-nil (holes_of s.draft.items)))
+
+without_cases : (id i : ℕ) (made : Made) (items : List Item) → i < id → without id (holes_of items) ≡ holes_of items
+    → without id (holes_of (Hole i made ∷ items)) ≡ holes_of (Hole i made ∷ items)
+without_cases id i made items lt rest = rw (ne_eqb i id (λ e. omega (arith, e))) (ap (λ hs. Hole i made ∷ hs) rest)
+
+-- a new marker is none of those before it
+without-below : (id : ℕ) (items : List Item) → All (IsBelow id) items → without id (holes_of items) ≡ holes_of items
+without-below id [] below = refl
+without-below id (Hole i made ∷ items) below =
+    without_cases id i made items (All-head (IsBelow id) (Hole i made) items below) (without-below id items (All-tail (IsBelow id) (Hole i made) items below))
+without-below id (Open i kind free ∷ items) below = without-below id items (All-tail (IsBelow id) (Open i kind free) items below)
+without-below id (Close ∷ items) below = without-below id items (All-tail (IsBelow id) Close items below)
+without-below id (Token kind n ∷ items) below = without-below id items (All-tail (IsBelow id) (Token kind n) items below)
+without-below id (Error text ∷ items) below = without-below id items (All-tail (IsBelow id) (Error text) items below)
+
+without-last : (id : ℕ) (items : List Item) → IsAboveIds id items → without id (holes_of items ++ Hole id ByStart ∷ []) ≡ holes_of items
+without-last id items above =
+    filter-append (λ item. not (is_hole_of id item)) (holes_of items) (Hole id ByStart ∷ [])
+    ∙ (ap (λ hs. without id (holes_of items) ++ hs) (without-one id)
+    ∙ (append-nil (without id (holes_of items)) ∙ without-below id items (all_below id items above)))
+
+module _ (s t u : State) (id : ℕ) (begins : Records s t (started s.draft id)) (keeps : Keeps t u) (same : Goes u → holes_of u.draft.items ≡ holes_of t.draft.items) where
+  -- the marker of a node is open behind what stands in it
+  pub open_inside : HasHoles u (holes_of s.draft.items ++ Hole id ByStart ∷ [])
+  open_inside goes = same goes ∙ HasHoles-start s t id (holes_of s.draft.items) (λ _. refl) begins (went-keeps t u keeps goes)
+
+  pub marker_inside : Goes u → Contains u.draft.items (Hole id ByStart)
+  marker_inside goes = Contains-hole u.draft.items _ (Hole id ByStart) (open_inside goes) (Contains-push (holes_of s.draft.items) (Hole id ByStart))
+
+  -- and the node leaves the markers as they were
+  pub holes-around : (v : State) (kind : ℕ) → (Goes t → IsAboveIds id s.draft.items) → Records u v (completed u.draft id kind) → Goes v
+      → holes_of v.draft.items ≡ holes_of s.draft.items
+  holes-around v kind above ends goes =
+      HasHoles-complete u v id kind _ open_inside ends goes
+      ∙ without-last id s.draft.items (above (went-keeps t u keeps (ends.went goes)))
+
+-- ---- a kind, where it stands and where it doesn't
+
+pub holes-eat : (s t : State) (b : Bool) (steps : List Step) → (IsTrue b → Puts steps s t) → (IsTrue (not b) → t ≡ s) → Goes t
+    → holes_of t.draft.items ≡ holes_of s.draft.items
+holes-eat s t true steps puts none goes = holes-puts s t steps (puts refl) goes
+holes-eat s t false steps puts none goes = ap (λ u. holes_of u.draft.items) (none refl)
+
+holes-with : (does : State → State → Type 0) (kind : ℕ) (s t : State) → EatsWith does kind s t → Goes t → holes_of t.draft.items ≡ holes_of s.draft.items
+holes-with does kind s t eats goes =
+    let keeps = Keeps-twice eats.begun eats.eaten eats.closed eats.eats_keeps (Keeps-twice eats.eaten eats.ran eats.closed eats.tail_keeps eats.closes_keeps) in
+    let same : Goes eats.closed → holes_of eats.closed.draft.items ≡ holes_of eats.begun.draft.items =
+    λ goes_closed.
+    let goes_ran = eats.closes.went goes_closed in
+    let goes_eaten = went-keeps eats.eaten eats.ran eats.tail_keeps goes_ran in
+    holes-puts eats.ran eats.closed _ eats.closes goes_closed
+    ∙ (eats.tail_holes goes_ran ∙ holes-puts eats.begun eats.eaten _ eats.eats goes_eaten) in
+    holes-around s eats.begun eats.closed eats.id eats.begins keeps same t kind eats.fresh eats.completes goes
+
+pub holes-eat_with : (does : State → State → Type 0) (kind : ℕ) (s t : State) (b : Bool) → (IsTrue b → EatsWith does kind s t) → (IsTrue (not b) → t ≡ s) → Goes t
+    → holes_of t.draft.items ≡ holes_of s.draft.items
+holes-eat_with does kind s t true eats none goes = holes-with does kind s t (eats refl) goes
+holes-eat_with does kind s t false eats none goes = ap (λ u. holes_of u.draft.items) (none refl)

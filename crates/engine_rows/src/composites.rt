@@ -6,41 +6,10 @@ use crate::fixture::notes::{NO, YES};
 use crate::fixture::signs::{
     AT, BANG, COLON, COMMA, EQ, GT, LT, MINUS, PLUS, STAR, assert_signs, digit,
 };
-use crate::fixture::{Keywords, NO_KEYWORDS, space, table, word};
+use crate::fixture::{KEYWORDS, NO_KEYWORDS, space, table, word};
 use squawk_parser::{Input, LexedStr, SyntaxKind, Token, TokenKind, TokenSet};
 use std::process::Abort;
 use std::test::Fail;
-
-/// The keywords of composite kinds, with the numbers of their kinds.
-const KEYWORDS: Keywords<'static> = Keywords {
-    keywords: &[
-        ("similar", 64),
-        ("to", 65),
-        ("at", 66),
-        ("time", 67),
-        ("zone", 68),
-        ("local", 69),
-        ("is", 70),
-        ("not", 71),
-        ("nfc", 72),
-        ("nfd", 73),
-        ("nfkc", 74),
-        ("nfkd", 75),
-        ("normalized", 76),
-        ("json", 77),
-        ("object", 78),
-        ("array", 79),
-        ("value", 80),
-        ("scalar", 81),
-        ("distinct", 82),
-        ("from", 83),
-        ("operator", 84),
-        ("like", 85),
-        ("ilike", 86),
-        ("in", 87),
-    ],
-    contextual_keywords: &[],
-};
 
 /// The input of a text with these raw tokens, with the keywords.
 fn input(rt: &(impl Abort + AllocGlobal), text: &str, tokens: &[Token]) -> Result<Input, Fail> {

@@ -6,16 +6,18 @@ pub mod keywords;
 pub mod looks;
 pub mod notes;
 pub mod output;
+pub mod parts;
+pub mod rows;
 pub mod signs;
 pub mod steps;
 pub mod words;
 
 pub use calls::{Calls, FixedGrammar};
-pub use keywords::{Keywords, NO_KEYWORDS};
+pub use keywords::{KEYWORDS, Keywords, NO_KEYWORDS};
 use squawk_parser::{EntryPoint, LexedStr, Output, Token, TokenKind};
 use std::alloc::Global;
 use std::test::Fail;
-pub use steps::{EXIT, assert_steps, enter, space_step, word_step};
+pub use steps::{EXIT, assert_steps, enter, error_step, space_step, token_step, word_step};
 
 /// The raw token of a word of so many bytes.
 pub fn word(len: u32) -> Token {

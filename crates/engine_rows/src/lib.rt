@@ -6,6 +6,10 @@
 #[cfg(test)]
 mod composites;
 #[cfg(test)]
+mod eaten;
+#[cfg(test)]
+mod error_steps;
+#[cfg(test)]
 mod fitting;
 #[cfg(test)]
 mod fixture;
@@ -17,6 +21,8 @@ mod kinds;
 mod lexical_errors;
 #[cfg(test)]
 mod limits;
+#[cfg(test)]
+mod limits_of_parses;
 #[cfg(test)]
 mod looks;
 #[cfg(test)]
@@ -31,6 +37,8 @@ mod raw_tokens;
 mod sets;
 #[cfg(test)]
 mod sinks;
+#[cfg(test)]
+mod statement;
 #[cfg(test)]
 mod string_errors;
 #[cfg(test)]

@@ -68,6 +68,7 @@ impl Looks {
             None => 740,
             Some(ParseError::OutOfMemory) => 741,
             Some(ParseError::TooManyEvents) => 742,
+            Some(ParseError::TooManyErrors) => 743,
         };
         note_three(p, position, current, failed);
     }

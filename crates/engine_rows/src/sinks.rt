@@ -47,6 +47,7 @@ impl StepSink for RefusingList {
             StrStep::Token { kind, text } => self.list.step(StrStep::Token { kind, text })?,
             StrStep::Enter { kind } => self.list.step(StrStep::Enter { kind })?,
             StrStep::Exit => self.list.step(StrStep::Exit)?,
+            StrStep::Error { msg, pos } => self.list.step(StrStep::Error { msg, pos })?,
         }
         self.before_refusal = self.before_refusal.map(|left| left.saturating_sub(1));
         Ok(())

@@ -1,12 +1,11 @@
 -- The fixed tokens are accepted, and the fixed steps fit their table.
-use Rattle.std.proofs.Common.{◌≡◌, ℕ, zero, suc, ◌<◌, List, [], ◌∷◌, take, arith, ap, ◌∙◌, refl}
+use Rattle.std.proofs.Common.{◌≡◌, ℕ, zero, suc, ◌<◌, List, take, arith, ap, ◌∙◌, refl}
 use Rattle.std.specs.Prelude.{codes}
-use Rattle.std.proofs.lemmas.List.Elements.{All-nil, All-cons}
 use Rattle.squawk_tokens.specs.declared.check.TableError.{TableError}
 use Rattle.squawk_tokens.specs.declared.check.TableError.TheVariants.{TextTooLong, BadToken, TextLeft, OutOfMemory}
 use Rattle.squawk_tokens.specs.AcceptedTokens.{IsGoodAt, Refuses}
-use Rattle.squawk_table.specs.Steps.{Walk, Token, Enter, Exit, openings, closings}
-use Rattle.squawk_table.specs.Shape.{Fits, EatsOne}
+use Rattle.squawk_table.specs.Steps.{Walk, openings, closings}
+use Rattle.squawk_table.specs.Shape.{Fits}
 use Rattle.squawk_table.specs.ParserInput.{Entry, kind_in, input_of}
 use Rattle.squawk_parser.specs.Parse.{IsParse}
 use Rattle.squawk_steps.specs.Fixed.{node_steps, IsTwoTokenNode}
@@ -35,12 +34,10 @@ inside (suc (suc (suc (suc k)))) above below = absurd (omega arith)
 pub Fits-fixed : Fits fixed_table (node_steps 3 3)
 Fits-fixed = record {
   root = record { begins = tt; inside = inside; closed = refl };
-  over = record {
-    each = All-cons EatsOne (Enter 700) (Token 3 1 ∷ Token 3 1 ∷ Exit ∷ []) tt
-        (All-cons EatsOne (Token 3 1) (Token 3 1 ∷ Exit ∷ []) refl
-        (All-cons EatsOne (Token 3 1) (Exit ∷ []) refl (All-cons EatsOne Exit [] tt (All-nil EatsOne))));
-    within = omega arith;
-  };
+  over = (
+    record { some = omega arith; there = omega arith; touch = λ i more. absurd (omega arith) },
+    (record { some = omega arith; there = omega arith; touch = λ i more. absurd (omega arith) }, tt),
+  );
 }
 
 -- the fixed input has two identifiers, so that the parse of it has the fixed steps

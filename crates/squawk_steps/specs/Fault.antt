@@ -6,7 +6,7 @@ use Rattle.squawk_tokens.specs.declared.check.TableError.TheVariants as table
 use Rattle.squawk_parser.specs.declared.parser.parse_error.ParseError.{ParseError}
 use Rattle.squawk_parser.specs.declared.parser.parse_error.ParseError.TheVariants as parse
 use Rattle.squawk_steps.specs.declared.fault.Fault.{Fault}
-use Rattle.squawk_steps.specs.declared.fault.Fault.TheVariants.{TextTooLong, BadToken, TextLeft, TooManyEvents, DoesNotFit, Memory, Io}
+use Rattle.squawk_steps.specs.declared.fault.Fault.TheVariants.{TextTooLong, BadToken, TextLeft, TooManyEvents, TooManyErrors, DoesNotFit, Memory, Io}
 
 -- the status that the program ends with
 abbrev pub status_of : Fault → ℕ
@@ -14,6 +14,7 @@ status_of TextTooLong = 3
 status_of (BadToken index) = 3
 status_of (TextLeft at) = 3
 status_of TooManyEvents = 5
+status_of TooManyErrors = 5
 status_of DoesNotFit = 6
 status_of Memory = 7
 status_of Io = 8
@@ -24,6 +25,7 @@ line_of TextTooLong = codes "text too long"
 line_of (BadToken index) = codes "bad token " ++ decimal index
 line_of (TextLeft at) = codes "text left at " ++ decimal at
 line_of TooManyEvents = codes "too many events"
+line_of TooManyErrors = codes "too many errors"
 line_of DoesNotFit = codes "does not fit"
 line_of Memory = codes "memory"
 line_of Io = codes "io"
@@ -39,3 +41,4 @@ fault_of_table table.OutOfMemory = Memory
 abbrev pub fault_of_parse : ParseError → Fault
 fault_of_parse parse.OutOfMemory = Memory
 fault_of_parse parse.TooManyEvents = TooManyEvents
+fault_of_parse parse.TooManyErrors = TooManyErrors

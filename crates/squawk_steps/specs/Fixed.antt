@@ -4,7 +4,7 @@ use Rattle.squawk_kinds.specs.Kinds.{EOF}
 use Rattle.squawk_table.specs.ParserInput.{Entry, kind_in}
 use Rattle.squawk_parser.specs.Draft.{Draft, plain}
 use Rattle.squawk_steps.specs.declared.fault.Fault.{Fault}
-use Rattle.squawk_steps.specs.declared.fault.Fault.TheVariants.{TextTooLong, BadToken, TextLeft, TooManyEvents, DoesNotFit, Memory, Io}
+use Rattle.squawk_steps.specs.declared.fault.Fault.TheVariants.{TextTooLong, BadToken, TextLeft, TooManyEvents, TooManyErrors, DoesNotFit, Memory, Io}
 use Rattle.squawk_table.specs.Steps.{Step, Token, Enter, Exit}
 
 -- one node with two tokens
@@ -26,6 +26,7 @@ CanCome TextTooLong = ⊥
 CanCome (BadToken index) = ⊥
 CanCome (TextLeft at) = ⊥
 CanCome TooManyEvents = Unit {0}
+CanCome TooManyErrors = Unit {0}
 CanCome DoesNotFit = ⊥
 CanCome Memory = Unit {0}
 CanCome Io = Unit {0}

@@ -5,7 +5,7 @@ use Rattle.std.specs.Fmt.{decimal}
 use Rattle.serde_json.specs.Data.{string}
 use Rattle.serde_json.specs.Written.{compact_text}
 use Rattle.squawk_table.specs.declared.shortcuts.str_step.OwnedStep.{OwnedStep}
-use Rattle.squawk_table.specs.declared.shortcuts.str_step.OwnedStep.TheVariants.{Token, Enter, Exit}
+use Rattle.squawk_table.specs.declared.shortcuts.str_step.OwnedStep.TheVariants.{Token, Enter, Exit, Error}
 
 -- a text as a JSON string
 abbrev pub json_of : List ℕ → List ℕ
@@ -16,6 +16,7 @@ abbrev pub step_line : OwnedStep → List ℕ
 step_line (Token kind text) = codes "token " ++ decimal kind ++ codes " " ++ json_of text ++ codes "\n"
 step_line (Enter kind) = codes "enter " ++ decimal kind ++ codes "\n"
 step_line Exit = codes "exit\n"
+step_line (Error text pos) = codes "error " ++ decimal pos ++ codes " " ++ json_of text ++ codes "\n"
 
 -- the lines of steps
 abbrev pub step_lines : List OwnedStep → List ℕ

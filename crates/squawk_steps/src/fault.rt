@@ -18,6 +18,8 @@ pub enum Fault {
     TextLeft { at: usize },
     /// The parse records more events than it may.
     TooManyEvents,
+    /// The parse records more errors than it may.
+    TooManyErrors,
     /// The output isn't one node over the text.
     DoesNotFit,
     /// Memory was refused.
@@ -33,7 +35,7 @@ impl Fault {
     {
         match *self {
             Fault::TextTooLong | Fault::BadToken { .. } | Fault::TextLeft { .. } => 3,
-            Fault::TooManyEvents => 5,
+            Fault::TooManyEvents | Fault::TooManyErrors => 5,
             Fault::DoesNotFit => 6,
             Fault::Memory => 7,
             Fault::Io => 8,
@@ -53,6 +55,7 @@ impl fmt::Display for Fault {
             Fault::BadToken { index } => write!(f, "bad token {index}"),
             Fault::TextLeft { at } => write!(f, "text left at {at}"),
             Fault::TooManyEvents => write!(f, "too many events"),
+            Fault::TooManyErrors => write!(f, "too many errors"),
             Fault::DoesNotFit => write!(f, "does not fit"),
             Fault::Memory => write!(f, "memory"),
             Fault::Io => write!(f, "io"),
@@ -84,6 +87,7 @@ impl From<ParseError> for Fault {
         match error {
             ParseError::OutOfMemory => Fault::Memory,
             ParseError::TooManyEvents => Fault::TooManyEvents,
+            ParseError::TooManyErrors => Fault::TooManyErrors,
         }
     }
 }
@@ -112,6 +116,7 @@ mod tests {
             (Fault::BadToken { index: 12 }, "bad token 12", 3),
             (Fault::TextLeft { at: 0 }, "text left at 0", 3),
             (Fault::TooManyEvents, "too many events", 5),
+            (Fault::TooManyErrors, "too many errors", 5),
             (Fault::DoesNotFit, "does not fit", 6),
             (Fault::Memory, "memory", 7),
             (Fault::Io, "io", 8),

@@ -1,7 +1,7 @@
 //! Steps as lines.
 ghost use Rattle.std.specs.Prelude.{◌≡◌, [], ◌++◌, string_bytes, IfOk, OnOk, OnErr};
 ghost use Rattle.std.specs.Str.{chars};
-ghost use Rattle.squawk_table.specs.declared.shortcuts.str_step.OwnedStep.TheVariants.{Token, Enter};
+ghost use Rattle.squawk_table.specs.declared.shortcuts.str_step.OwnedStep.TheVariants.{Token, Enter, Error};
 ghost use Rattle.squawk_steps.specs.Lines.{step_line, json_of, last_line};
 
 use serde_json::Value;
@@ -51,6 +51,7 @@ impl StepSink for Lines {
             StrStep::Token { kind, text } => token_line(self.alloc, kind, text)?,
             StrStep::Enter { kind } => enter_line(self.alloc, kind)?,
             StrStep::Exit => String::from_str(self.alloc, "exit\n")?,
+            StrStep::Error { msg, pos } => error_line(self.alloc, msg, pos)?,
         };
         self.text.push_str(line.as_str())
     }
@@ -73,10 +74,41 @@ fn enter_line(alloc: Global, kind: SyntaxKind) -> Result<String, AllocError>
     format!(in alloc; "enter {kind}\n")
 }
 
+/// The line of an error.
+fn error_line(alloc: Global, msg: &str, pos: usize) -> Result<String, AllocError>
+    ensures { IfOk result (λ s. string_bytes s ≡ step_line (Error (chars msg.now) pos)) }
+{
+    let quoted = json_text(alloc, msg)?;
+    format!(in alloc; "error {pos} {quoted}\n")
+}
+
 /// The text as a JSON string.
 fn json_text(alloc: Global, text: &str) -> Result<String, AllocError>
     ensures { IfOk result (λ s. string_bytes s ≡ json_of (chars text.now)) }
 {
     let value = Value::from(String::from_str(alloc, text)?);
     value.to_string(alloc)
+}
+
+#[cfg(test)]
+mod tests {
+    use super::*;
+    use std::test::Fail;
+
+    #[test]
+    fn each_step_is_a_line(rt: HostRuntime) -> Result<(), Fail> {
+        let mut lines = Lines::new(rt.alloc());
+        let kind = SyntaxKind::IDENT;
+        lines.step(StrStep::Enter { kind })?;
+        lines.step(StrStep::Token { kind, text: "a\"" })?;
+        lines.step(StrStep::Error {
+            msg: "expected \n",
+            pos: 12,
+        })?;
+        lines.step(StrStep::Exit)?;
+        let text = lines.finish(false)?;
+        let wanted = "enter 3\ntoken 3 \"a\\\"\"\nerror 12 \"expected \\n\"\nexit\nrest\n";
+        assert_eq!(rt; text.as_str(), wanted);
+        Ok(())
+    }
 }
