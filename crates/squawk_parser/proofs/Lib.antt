@@ -8,6 +8,11 @@ pub mod TailHoles
 pub mod Balance
 pub mod Filled
 pub mod Soundness
+pub mod Splits
+pub mod SoundMoves
+pub mod SoundExtended
+pub mod Markers
+pub mod OtherMarkers
 pub mod ParserViews
 pub mod Examples
 pub mod LookAheadExamples
@@ -23,3 +28,8 @@ pub mod SeenTokens
 pub mod SeenSteps
 pub mod TouchingRun
 pub mod EatenExamples
+pub mod DraftPlaces
+pub mod DraftIds
+pub mod DraftEdits
+pub mod DraftMoves
+pub mod EditedErrors

@@ -1,11 +1,12 @@
 -- The fields of a parser, as contracts see them.
-use Rattle.std.proofs.Common.{◌≡◌, ◌<◌, ℕ, sym, subst}
+use Rattle.std.proofs.Common.{◌≡◌, ◌∙◌, ◌<◌, ℕ, Option, Some, None, false, ap, refl, sym, subst}
+use Rattle.std.specs.Prelude.{IsSome, is_some}
 use Rattle.squawk_table.specs.Shape.{AreOneToken}
 use Rattle.squawk_parser.specs.declared.parser.Parser.TheInside.{Inside}
-use Rattle.squawk_parser.specs.Draft.{IsAboveIds, errors_of}
+use Rattle.squawk_parser.specs.Draft.{Draft, IsAboveIds, errors_of}
 use Rattle.squawk_parser.specs.Words.{words_of}
-use Rattle.squawk_parser.specs.State.{State, Goes, Keeps, IsSound, ahead}
-use Rattle.squawk_parser.proofs.Soundness.{IsKept}
+use Rattle.squawk_parser.specs.State.{State, Goes, Keeps, Changes, IsSound, ahead}
+use Rattle.squawk_parser.proofs.Soundness.{IsKept, not_failed}
 
 abbrev pub seen : Inside → State
 seen p = record { input = p.input.now; words = words_of (record { operator_first = p.operator_first; names = p.names }); position = p.position; limit = p.limit; draft = p.draft; max_events = p.limits.events; max_errors = p.limits.errors; first = p.first }
@@ -32,3 +33,25 @@ sees_same s t u n e keeps place one = subst (AreOneToken n) (sym same) one
   where
     same : ahead s 0 ≡ ahead u 0
     same = let input = keeps.input in let limit = keeps.limit in cc
+
+-- what a test of the reason to fail tells
+pub goes_on : (s : State) → is_some s.first ≡ false → Goes s
+goes_on s e = cases s.first e
+  where
+    cases : {X : Type 0} (f : Option X) → is_some f ≡ false → f ≡ None
+    cases None e = refl
+    cases (Some reason) e = absurd (let h = e in cc)
+
+-- an edit that isn't recorded, of a parser that goes on
+pub Changes-edited : (old s new : State) (edited : Draft) → s ≡ old → Goes s → new ≡ record s { draft = edited } → Changes old new edited
+Changes-edited old s new edited same goes is = let edit : State → State = λ t. record t { draft = edited } in record {
+  goes = λ go. is ∙ ap edit same;
+  stays = λ failed. absurd (not_failed s goes (subst (λ t. IsSome t.first) (sym same) failed));
+}
+
+-- a parser that has failed stays as it is
+pub Changes-failed : (old s new : State) (edited : Draft) → s ≡ old → IsSome s.first → new ≡ old → Changes old new edited
+Changes-failed old s new edited same failed is = record {
+  goes = λ goes. absurd (not_failed old goes (subst (λ t. IsSome t.first) same failed));
+  stays = λ fails. is;
+}

@@ -41,12 +41,12 @@ unused_cases id i is true e lt rest = absurd (omega (arith, eqb-true i id e))
 unused_cases id i is false e lt rest =
     let count = count_by-cons (λ i. i == id) i is ∙ ap (λ b. cond b 1 0 + count_by (λ i. i == id) is) e in omega (arith, count, rest)
 
-unused : (id : ℕ) (is : List ℕ) → All (λ i. i < id) is → count_by (λ i. i == id) is ≡ 0
+pub unused : (id : ℕ) (is : List ℕ) → All (λ i. i < id) is → count_by (λ i. i == id) is ≡ 0
 unused id [] all = refl
 unused id (i ∷ is) all = unused_cases id i is (i == id) refl (All-head (λ i. i < id) i is all) (unused id is (All-tail (λ i. i < id) i is all))
 
 -- one more id, above the others
-HasNoIdTwice-push : (items : List Item) (id : ℕ) → HasNoIdTwice items → IsAboveIds id items → (other : ℕ) → count_by (λ i. i == other) (ids items ++ id ∷ []) ≤ 1
+pub HasNoIdTwice-push : (items : List Item) (id : ℕ) → HasNoIdTwice items → IsAboveIds id items → (other : ℕ) → count_by (λ i. i == other) (ids items ++ id ∷ []) ≤ 1
 HasNoIdTwice-push items id once above other = cases (id == other) refl
   where
     total : count_by (λ i. i == other) (ids items ++ id ∷ []) ≡ count_by (λ i. i == other) (ids items) + cond (id == other) 1 0
@@ -60,11 +60,11 @@ HasNoIdTwice-push items id once above other = cases (id == other) refl
     cases false e =
         let sum = total ∙ ap (λ b. count_by (λ i. i == other) (ids items) + cond b 1 0) e in omega (arith, sum, once other)
 
-more : (n : ℕ) (is : List ℕ) → All (λ i. i < n) is → All (λ i. i < n + 1) is
+pub more : (n : ℕ) (is : List ℕ) → All (λ i. i < n) is → All (λ i. i < n + 1) is
 more n is all = All-weaker (λ i. i < n) (λ i. i < n + 1) (λ i lt. omega arith) is all
 
 -- a parser that goes on isn't refused anything
-not_refused : (s : State) (reason : ParseError) → Goes s → s.first ≡ Some reason → ⊥
+pub not_refused : (s : State) (reason : ParseError) → Goes s → s.first ≡ Some reason → ⊥
 not_refused s reason goes refused = cc
 
 pub not_failed : (s : State) → Goes s → IsSome s.first → ⊥

@@ -1,7 +1,8 @@
--- What the acts of a parser make of its draft. Each edit is one recorded event, and changes nothing else.
+-- What the acts of a parser make of its draft. Each edit is one recorded event, but for those of a marker that is abandoned or that a
+-- node is extended to, and changes nothing else.
 use Rattle.std.specs.Prelude.{ℕ, ◌==◌, ◌+◌, Bool, true, false, List, [], ◌∷◌, ◌++◌, if◌then◌else◌}
 use Rattle.std.specs.List.{flat_map}
-use Rattle.squawk_parser.specs.Draft.{Draft, Item, Hole, Open, Close, Token, Error, ByStart}
+use Rattle.squawk_parser.specs.Draft.{Draft, Item, Hole, Open, Close, Token, Error, Node, ByStart, ByPrecede}
 
 -- the hole of a marker
 abbrev pub is_hole_of : ℕ → Item → Bool
@@ -10,6 +11,14 @@ is_hole_of id (Open i kind free) = false
 is_hole_of id Close = false
 is_hole_of id (Token kind n) = false
 is_hole_of id (Error text) = false
+
+-- the opening of a node
+abbrev pub is_opening_of : ℕ → Item → Bool
+is_opening_of id (Hole i made) = false
+is_opening_of id (Open i kind free) = i == id
+is_opening_of id Close = false
+is_opening_of id (Token kind n) = false
+is_opening_of id (Error text) = false
 
 -- the items that pass a test give place to these
 abbrev pub replaced : (Item → Bool) → (Item → List Item) → List Item → List Item
@@ -34,3 +43,44 @@ with_token d kind n = record { items = d.items ++ Token kind n ∷ []; recorded 
 -- an error at the end
 abbrev pub with_error : Draft → List ℕ → Draft
 with_error d text = record { items = d.items ++ Error text ∷ []; recorded = d.recorded + 1 }
+
+-- an opening that can't be preceded again
+abbrev pub preceded_item : Item → Item
+preceded_item (Hole i made) = Hole i made
+preceded_item (Open i kind free) = Open i kind false
+preceded_item Close = Close
+preceded_item (Token kind n) = Token kind n
+preceded_item (Error text) = Error text
+
+-- a hole directly before the opening of a node, which can't be preceded again
+abbrev pub preceded : Draft → ℕ → ℕ → Draft
+preceded d node id = record {
+  items = replaced (is_opening_of node) (λ item. Hole id ByPrecede ∷ preceded_item item ∷ []) d.items;
+  recorded = d.recorded + 1;
+}
+
+-- the hole of a marker goes
+abbrev pub without_hole : ℕ → List Item → List Item
+without_hole id items = replaced (is_hole_of id) (λ item. []) items
+
+-- that takes no recorded event away
+abbrev pub abandoned : Draft → ℕ → Draft
+abandoned d id = record { items = without_hole id d.items; recorded = d.recorded }
+
+-- whether an item that passes the first test stands before all that pass the second
+abbrev pub stands_before : (Item → Bool) → (Item → Bool) → List Item → Bool
+stands_before p q [] = false
+stands_before p q (item ∷ items) = if p item then true else if q item then false else stands_before p q items
+
+-- the opening of a node goes to the hole's place
+abbrev pub moved : Node → ℕ → List Item → List Item
+moved node id items =
+    replaced (is_hole_of id) (λ item. Open node.id node.kind true ∷ []) (replaced (is_opening_of node.id) (λ item. []) items)
+
+-- the opening moves to the hole's place if that stands before it, and the hole goes
+abbrev pub extended_items : Node → ℕ → List Item → List Item
+extended_items node id items =
+    if stands_before (is_hole_of id) (is_opening_of node.id) items then moved node id items else without_hole id items
+
+abbrev pub extended : Draft → Node → ℕ → Draft
+extended d node id = record { items = extended_items node id d.items; recorded = d.recorded }

@@ -1,10 +1,10 @@
 -- What contracts see of a parser.
-use Rattle.std.specs.Prelude.{◌≡◌, ℕ, ◌+◌, ◌<◌, ◌≤◌, min, Option, Some, None, List, length, nat_lt, if◌then◌else◌, IsSome, Contains}
+use Rattle.std.specs.Prelude.{◌≡◌, ℕ, true, ◌+◌, ◌<◌, ◌≤◌, min, Option, Some, None, List, length, nat_lt, if◌then◌else◌, IsSome, Contains}
 use Rattle.squawk_kinds.specs.Kinds.{EOF}
 use Rattle.squawk_table.specs.ParserInput.{Entry, kind_in, contextual_kind_in}
 use Rattle.squawk_parser.specs.LookAhead.{seen_from}
 use Rattle.squawk_parser.specs.Words.{Words, HasNoEnd}
-use Rattle.squawk_parser.specs.Draft.{Draft, nothing, Hole, Mark, HasNoIdTwice, errors_of, plain}
+use Rattle.squawk_parser.specs.Draft.{Draft, nothing, Hole, Open, Mark, Node, HasNoIdTwice, errors_of, plain}
 use Rattle.squawk_table.specs.Steps.{eaten}
 use Rattle.squawk_table.specs.Shape.{IsBalanced, IsOver}
 use Rattle.squawk_parser.specs.declared.parser.parse_error.ParseError.{ParseError}
@@ -84,6 +84,15 @@ pub record Records (old new : State) (edited : Draft) : Type 0 where
 -- the marker's hole is in the draft, or the parser has failed
 abbrev pub HasHole : State → Mark → Type 0
 HasHole s m = Goes s → Contains s.draft.items (Hole m.id m.made)
+
+-- the opening of a completed marker is in the draft and hasn't been preceded, or the parser has failed
+abbrev pub HasNode : State → Node → Type 0
+HasNode s node = Goes s → Contains s.draft.items (Open node.id node.kind true)
+
+-- The draft is edited without a recorded event, and nothing else changes. A parser that has failed stays as it is.
+pub record Changes (old new : State) (edited : Draft) : Type 0 where
+  pub goes : Goes old → new ≡ record old { draft = edited }
+  pub stays : IsSome old.first → new ≡ old
 
 -- what every parser keeps, failed or not
 pub record IsSound (s : State) : Type 0 where

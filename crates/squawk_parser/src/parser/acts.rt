@@ -11,6 +11,7 @@ ghost use Rattle.squawk_parser.specs.Recorded.{Puts};
 ghost use Rattle.squawk_parser.specs.State.{Goes, Keeps, Records, ahead, kind_at};
 
 use crate::parser::Parser;
+use crate::parser::draft::Made;
 use crate::parser::marker::Marker;
 use crate::parser::parse_error::ParseError;
 use squawk_kinds::{SyntaxKind, TokenSet};
@@ -31,7 +32,8 @@ impl Parser<'_> {
                 Err(_) => self.first = Some(ParseError::OutOfMemory),
             }
         }
-        Marker { id }
+        let made = Made::ByStart;
+        Marker { id, made }
     }
 
     /// Eats the current token. At the end nothing happens.

@@ -1,7 +1,7 @@
 //! The record of a parse: a plain list of items that is edited in place.
-ghost use Rattle.std.specs.Prelude.{◌≡◌, ◌+◌, ◌^◌, ◌<◌, false, [], ◌∷◌, ◌++◌, map, IfOk, OnOk, OnErr};
-ghost use Rattle.squawk_parser.specs.Draft.{errors_of, is_error, plain};
-ghost use Rattle.squawk_parser.specs.Edits.{started, filled, completed, with_token, with_error};
+ghost use Rattle.std.specs.Prelude.{◌≡◌, ◌+◌, ◌^◌, ◌<◌, true, false, [], ◌∷◌, ◌++◌, map, Contains, IfOk, OnOk, OnErr};
+ghost use Rattle.squawk_parser.specs.Draft.{HasNoIdTwice, Open, errors_of, is_error, plain};
+ghost use Rattle.squawk_parser.specs.Edits.{started, completed, with_token, with_error, preceded, abandoned, extended};
 ghost use Rattle.squawk_parser.specs.DraftView.{item_of};
 ghost use Rattle.squawk_table.specs.Steps.{Walk};
 
@@ -10,17 +10,29 @@ use squawk_table::{Output, OutputBuilder, Text};
 use std::alloc::{AllocError, Global};
 use std::marker::Model;
 
+mod edits;
+
+/// How a hole was made.
+#[derive(Clone, Copy, Debug)]
+pub(super) enum Made {
+    ByStart,
+    /// In front of a completed node.
+    ByPrecede,
+}
+
 /// An item of the record. The ids of holes and openings are numbers that no other one has.
 #[derive(Debug, Drop)]
 enum DraftItem {
     /// An open marker.
     Hole {
         id: u32,
+        made: Made,
     },
-    /// The beginning of a node.
+    /// The beginning of a node, and whether the node can still be preceded.
     Open {
         id: u32,
         kind: SyntaxKind,
+        is_free: bool,
     },
     /// The end of a node.
     Close,
@@ -33,18 +45,6 @@ enum DraftItem {
     Error {
         msg: Text,
     },
-}
-
-impl DraftItem {
-    /// The hole with this id becomes the beginning of a node; any other item stays as it is.
-    fn fill(&mut self, id: u32, kind: SyntaxKind)
-        ensures { item_of self.new ∷ [] ≡ filled (item_of self.old ∷ []) id kind }
-    {
-        match self {
-            DraftItem::Hole { id: own } if *own == id => *self = DraftItem::Open { id, kind },
-            _ => {}
-        }
-    }
 }
 
 /// What a parser has recorded.
@@ -102,7 +102,10 @@ impl Draft {
         ensures ok { OnOk result (self.new ≡ started self.old id) }
         ensures err { OnErr result (self.new ≡ self.old) }
     {
-        self.push(DraftItem::Hole { id })
+        self.push(DraftItem::Hole {
+            id,
+            made: Made::ByStart,
+        })
     }
 
     /// The hole becomes an opening in its place, and a closing stands at the end.
@@ -112,7 +115,7 @@ impl Draft {
         ensures err { OnErr result (self.new ≡ self.old) }
     {
         self.push(DraftItem::Close)?;
-        fill(&mut self.items, id, kind);
+        edits::fill(&mut self.items, id, kind);
         Ok(())
     }
 
@@ -141,6 +144,35 @@ impl Draft {
         Ok(())
     }
 
+    /// A hole directly before the opening of a node, which can't be preceded again.
+    pub(crate) fn precede(&mut self, node: u32, id: u32) -> Result<(), AllocError>
+        requires room { self.old.recorded + 1 < 2 ^ 32 }
+        requires once { HasNoIdTwice self.old.items }
+        ensures ok { OnOk result (self.new ≡ preceded self.old node id) }
+        ensures err { OnErr result (self.new ≡ self.old) }
+    {
+        edits::put_before(&mut self.items, node, id)?;
+        self.recorded += 1;
+        Ok(())
+    }
+
+    /// The hole goes.
+    pub(crate) fn abandon(&mut self, id: u32)
+        requires { HasNoIdTwice self.old.items }
+        ensures { self.new ≡ abandoned self.old id }
+    {
+        edits::take_out(&mut self.items, id);
+    }
+
+    /// The opening of a node moves to the hole's place, if that stands before it, and the hole goes.
+    pub(crate) fn extend(&mut self, node: u32, kind: SyntaxKind, id: u32)
+        requires once { HasNoIdTwice self.old.items }
+        requires node { Contains self.old.items (Open node kind true) }
+        ensures { self.new ≡ extended self.old (record { id = node; kind = kind }) id }
+    {
+        edits::extend(&mut self.items, node, kind, id);
+    }
+
     /// One more event that is no error: an item at the end.
     fn push(&mut self, item: DraftItem) -> Result<(), AllocError>
         requires room { self.old.recorded + 1 < 2 ^ 32 }
@@ -165,8 +197,8 @@ impl Draft {
         let mut output = OutputBuilder::with_capacity(alloc, items.len(), recorded)?;
         for item in items {
             match item {
-                DraftItem::Hole { id: _ } => {}
-                DraftItem::Open { id: _, kind } => output.enter_node(kind)?,
+                DraftItem::Hole { .. } => {}
+                DraftItem::Open { kind, .. } => output.enter_node(kind)?,
                 DraftItem::Close => output.leave_node()?,
                 DraftItem::Token {
                     kind,
@@ -176,14 +208,5 @@ impl Draft {
             }
         }
         Ok(output.finish())
-    }
-}
-
-/// The hole becomes an opening in its place.
-fn fill(items: &mut Vec<DraftItem>, id: u32, kind: SyntaxKind)
-    ensures { map item_of items.new.items ≡ filled (map item_of items.old.items) id kind }
-{
-    for item in items.iter_mut() {
-        item.fill(id, kind);
     }
 }

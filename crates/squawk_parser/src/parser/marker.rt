@@ -1,10 +1,12 @@
 //! Markers: nodes that are begun, and nodes that are complete.
-ghost use Rattle.std.specs.Prelude.{◌≡◌, ◌≢◌};
-ghost use Rattle.squawk_parser.specs.Edits.{completed};
+ghost use Rattle.std.specs.Prelude.{◌≡◌, ◌≢◌, ◌<◌, ◌↔◌, IsTrue};
+ghost use Rattle.squawk_parser.specs.Edits.{abandoned, completed, extended, preceded};
 ghost use Rattle.squawk_kinds.specs.Kinds.{TOMBSTONE};
-ghost use Rattle.squawk_parser.specs.State.{Keeps, Records, HasHole};
+ghost use Rattle.squawk_parser.specs.State.{Changes, Goes, HasHole, HasNode, Keeps, Records};
+ghost use Rattle.squawk_parser.specs.Draft.{ByPrecede, IsAboveIds};
 
 use crate::parser::Parser;
+use crate::parser::draft::Made;
 use crate::parser::parse_error::ParseError;
 use squawk_kinds::SyntaxKind;
 use std::marker::Model;
@@ -14,14 +16,16 @@ use std::marker::Model;
 /// A marker must be spent: it can't be dropped.
 pub struct Marker {
     pub(super) id: u32,
+    pub(super) made: Made,
 }
 
 impl Model for Marker {
-    ghost use Rattle.squawk_parser.specs.Draft.{Mark, ByStart};
+    ghost use Rattle.squawk_parser.specs.Draft.{Mark};
+    ghost use Rattle.squawk_parser.specs.DraftView.{made_of};
 
     ghost Value = { Mark };
 
-    ghost view = { λ m. record { id = m.id; made = ByStart } };
+    ghost view = { λ m. record { id = m.id; made = made_of m.made } };
 }
 
 /// A node that has its kind and its end.
@@ -53,7 +57,7 @@ impl Marker {
         ensures position { p.new.position ≡ p.old.position }
         ensures records { Records p.old p.new (completed p.old.draft self.id kind) }
     {
-        let Marker { id } = self;
+        let Marker { id, made: _ } = self;
         if p.has_room() {
             match p.draft.complete(id, kind) {
                 Ok(()) => {}
@@ -62,9 +66,75 @@ impl Marker {
         }
         CompletedMarker { id, kind }
     }
+
+    /// Gives the node up: what was recorded since the marker was started stays where it is.
+    ///
+    /// It takes no memory, and never makes a parser fail. The marker's hole is in the parser's draft,
+    /// or the parser has failed.
+    pub fn abandon(self, p: &mut Parser<'_>)
+        requires { HasHole p.old self }
+        ensures { Changes p.old p.new (abandoned p.old.draft self.id) }
+    {
+        let Marker { id, made: _ } = self;
+        if p.first.is_none() {
+            p.draft.abandon(id);
+        }
+    }
+
+    /// Whether the marker was started before the node's. Of markers that a failed parser gave nothing
+    /// is promised.
+    pub fn started_before(&self, node: &CompletedMarker) -> bool
+        ensures { IsTrue result ↔ (self.now.id < node.now.id) }
+    {
+        self.id < node.id
+    }
 }
 
 impl CompletedMarker {
+    /// Begins a node in front of this one, which will stand in it when the marker is completed.
+    ///
+    /// A node can be preceded once. Its opening is in the parser's draft and hasn't been preceded, or
+    /// the parser has failed.
+    pub fn precede(self, p: &mut Parser<'_>) -> Marker
+        requires { HasNode p.old self }
+        ensures made { result.made ≡ ByPrecede }
+        ensures fresh { Goes p.new → IsAboveIds result.id p.old.draft.items }
+        ensures keeps { Keeps p.old p.new }
+        ensures position { p.new.position ≡ p.old.position }
+        ensures records { Records p.old p.new (preceded p.old.draft self.id result.id) }
+    {
+        let CompletedMarker { id: node, kind: _ } = self;
+        let id = p.draft.recorded();
+        if p.has_room() {
+            match p.draft.precede(node, id) {
+                Ok(()) => {}
+                Err(_) => p.first = Some(ParseError::OutOfMemory),
+            }
+        }
+        let made = Made::ByPrecede;
+        Marker { id, made }
+    }
+
+    /// The node begins where the marker was started, if that is before the node, and the marker goes.
+    ///
+    /// It takes no memory, and never makes a parser fail. The node's opening is in the parser's draft
+    /// and hasn't been preceded, the marker's hole is there, and the marker was started before the
+    /// node's; or the parser has failed.
+    pub fn extend_to(self, p: &mut Parser<'_>, m: Marker) -> CompletedMarker
+        requires node { HasNode p.old self }
+        requires hole { HasHole p.old m }
+        requires older { Goes p.old → m.id < self.id }
+        ensures node { result ≡ self }
+        ensures changes { Changes p.old p.new (extended p.old.draft self m.id) }
+    {
+        let CompletedMarker { id: node, kind } = self;
+        let Marker { id, made: _ } = m;
+        if p.first.is_none() {
+            p.draft.extend(node, kind, id);
+        }
+        CompletedMarker { id: node, kind }
+    }
+
     /// The kind of the node.
     pub fn kind(&self) -> SyntaxKind
         ensures { result ≡ self.now.kind }

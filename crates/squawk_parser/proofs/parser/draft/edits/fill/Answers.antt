@@ -6,7 +6,7 @@ use Rattle.squawk_parser.specs.declared.parser.draft.DraftItem.{DraftItem}
 use Rattle.squawk_parser.specs.DraftView.{item_of}
 use Rattle.squawk_parser.specs.Draft.{Item}
 use Rattle.squawk_parser.specs.Edits.{filled}
-use Rattle.squawk_parser.proofs.parser.draft.fill.Goals as goal
+use Rattle.squawk_parser.proofs.parser.draft.edits.fill.Goals as goal
 
 filled-append : (xs ys : List Item) (id kind : ℕ) → filled (xs ++ ys) id kind ≡ filled xs id kind ++ filled ys id kind
 filled-append xs ys id kind = flat_map-append _ xs ys

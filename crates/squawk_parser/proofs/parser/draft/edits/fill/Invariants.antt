@@ -1,7 +1,7 @@
 use Rattle.std.proofs.Common.{◌≡◌, map, take, drop}
 use Rattle.squawk_parser.specs.DraftView.{item_of}
 use Rattle.squawk_parser.specs.Edits.{filled}
-use Rattle.squawk_parser.proofs.parser.draft.fill.Given as goal
+use Rattle.squawk_parser.proofs.parser.draft.edits.fill.Given as goal
 
 abbrev pub invariant-loop-item : goal.invariant-loop-item
 invariant-loop-item l = record {

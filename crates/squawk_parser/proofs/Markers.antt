@@ -1,0 +1,189 @@
+-- What grammars may rely on: where markers' holes and nodes' openings are after an act.
+use Rattle.std.proofs.Common.{◌≡◌, ◌∙◌, ℕ, ◌==◌, Bool, true, false, Option, Some, None, List, [], ◌∷◌, ◌++◌, cond, ap, sym, refl, subst}
+use Rattle.std.specs.Prelude.{Contains, filter, not}
+use Rattle.std.proofs.lemmas.List.Elements.{Contains-append_left, filter-append}
+use Rattle.squawk_table.specs.Steps.{Step}
+use Rattle.squawk_parser.specs.Draft.{Draft, Item, Made, Hole, Open, Close, Token, Error, Mark, Node, ByStart, ByPrecede, HasNoIdTwice, holes_of, is_hole}
+use Rattle.squawk_parser.specs.Edits.{abandoned, completed, extended, extended_items, filled, is_hole_of, is_opening_of, moved, preceded, replaced, stands_before, started, without_hole}
+use Rattle.squawk_parser.specs.Recorded.{Puts}
+use Rattle.squawk_parser.specs.State.{State, Changes, Goes, HasHole, HasNode, Records}
+use Rattle.squawk_parser.specs.declared.parser.parse_error.ParseError.{ParseError}
+use Rattle.squawk_parser.proofs.SoundMoves.{preceded-split}
+use Rattle.squawk_parser.proofs.Splits.{split, Contains-behind, here, replaced-append, itself}
+
+-- ---- items
+
+-- an item that gives place to another
+Contains-replaced : (p : Item → Bool) (old new : Item) (items : List Item) → p old ≡ true → Contains items old → Contains (replaced p (λ item. new ∷ []) items) new
+Contains-replaced p old new items passes there =
+    let f = λ (item : Item). new ∷ [] in
+    let at = split old items there in
+    let is : replaced p f items ≡ replaced p f at.front ++ new ∷ replaced p f at.back =
+    ap (replaced p f) at.is ∙ (replaced-append p f at.front (old ∷ at.back) ∙ ap (λ items. replaced p f at.front ++ items) (here p f old at.back passes)) in
+    subst (λ items. Contains items new) (sym is) (Contains-behind new (replaced p f at.front) (replaced p f at.back))
+
+-- an item that doesn't stays
+pub Contains-others : (p : Item → Bool) (f : Item → List Item) (item : Item) (items : List Item) → p item ≡ false → Contains items item → Contains (replaced p f items) item
+Contains-others p f item items fails there =
+    let at = split item items there in
+    let kept : replaced p f (item ∷ at.back) ≡ item ∷ replaced p f at.back = rw fails refl in
+    let is : replaced p f items ≡ replaced p f at.front ++ item ∷ replaced p f at.back =
+    ap (replaced p f) at.is ∙ (replaced-append p f at.front (item ∷ at.back) ∙ ap (λ items. replaced p f at.front ++ items) kept) in
+    subst (λ items. Contains items item) (sym is) (Contains-behind item (replaced p f at.front) (replaced p f at.back))
+
+-- ---- after acts at the end
+
+-- the new marker's hole is in the draft
+pub hole-started : {s t : State} (id : ℕ) → Records s t (started s.draft id) → HasHole t (record { id = id; made = ByStart })
+hole-started {s} {t} id records goes =
+    subst (λ draft. Contains draft.items (Hole id ByStart)) (sym (records.draft goes)) (Contains-behind (Hole id ByStart) s.draft.items [])
+
+-- a completed marker's opening is in the draft
+pub node-completed : {s t : State} (m : Mark) (kind : ℕ) → HasHole s m → Records s t (completed s.draft m.id kind) → HasNode t (record { id = m.id; kind = kind })
+node-completed {s} {t} m kind there records goes =
+    let opening = Open m.id kind true in
+    let inner : Contains (filled s.draft.items m.id kind) opening =
+    Contains-replaced (is_hole_of m.id) (Hole m.id m.made) opening s.draft.items (itself m.id) (there (records.went goes)) in
+    subst (λ draft. Contains draft.items opening) (sym (records.draft goes)) (Contains-append_left (filled s.draft.items m.id kind) (Close ∷ []) opening inner)
+
+-- steps that are put at the end leave a marker's hole
+pub hole-put : {s t : State} {steps : List Step} (m : Mark) → HasHole s m → Puts steps s t → HasHole t m
+hole-put {s} {t} {steps} m there puts goes =
+    let hole = Hole m.id m.made in
+    let put = puts.draft goes in
+    subst (λ items. Contains items hole) (sym put.items) (Contains-append_left s.draft.items put.made hole (there (puts.went goes)))
+
+-- and a node's opening
+pub node-put : {s t : State} {steps : List Step} (node : Node) → HasNode s node → Puts steps s t → HasNode t node
+node-put {s} {t} {steps} node there puts goes =
+    let opening = Open node.id node.kind true in
+    let put = puts.draft goes in
+    subst (λ items. Contains items opening) (sym put.items) (Contains-append_left s.draft.items put.made opening (there (puts.went goes)))
+
+-- ---- a node that is preceded
+
+-- the marker's hole is in the draft
+pub hole-preceded : {s t : State} (node : Node) (id : ℕ) → HasNoIdTwice s.draft.items → HasNode s node → Records s t (preceded s.draft node.id id)
+    → HasHole t (record { id = id; made = ByPrecede })
+hole-preceded {s} {t} node id once there records goes =
+    let hole = Hole id ByPrecede in
+    let at = preceded-split node.id node.kind id s.draft.items once (there (records.went goes)) in
+    subst (λ draft. Contains draft.items hole) (sym (records.draft goes))
+    (subst (λ items. Contains items hole) (sym at.1) (Contains-behind hole at.0.front (Open node.id node.kind false ∷ at.0.back)))
+
+-- a list with one element more
+pub record HasOneMore {X : Type 0} (x : X) (old new : List X) : Type 0 where
+  pub front : List X
+  pub back : List X
+  pub was : old ≡ front ++ back
+  pub is : new ≡ front ++ x ∷ back
+
+-- and the other holes stay as they were
+pub holes-preceded : {s t : State} (node : Node) (id : ℕ) → HasNoIdTwice s.draft.items → HasNode s node → Records s t (preceded s.draft node.id id) → Goes t
+    → HasOneMore (Hole id ByPrecede) (holes_of s.draft.items) (holes_of t.draft.items)
+holes-preceded {s} {t} node id once there records goes =
+    let at = preceded-split node.id node.kind id s.draft.items once (there (records.went goes)) in
+    let xs = at.0.front in
+    let ys = at.0.back in
+    record {
+      front = holes_of xs;
+      back = holes_of ys;
+      was = ap holes_of at.0.is ∙ filter-append is_hole xs (Open node.id node.kind true ∷ ys);
+      is = ap (λ draft. holes_of draft.items) (records.draft goes) ∙ (ap holes_of at.1 ∙ filter-append is_hole xs (Hole id ByPrecede ∷ Open node.id node.kind false ∷ ys));
+    }
+
+-- where there was no hole, it is the only one
+pub HasOneMore-none : {X : Type 0} {x : X} {old new : List X} → HasOneMore x old new → old ≡ [] → new ≡ x ∷ []
+HasOneMore-none {X} {x} {old} {new} more none = more.is ∙ cases more.front more.back (sym more.was ∙ none)
+  where
+    cases : (front back : List X) → front ++ back ≡ [] → front ++ x ∷ back ≡ x ∷ []
+    cases [] [] e = refl
+    cases [] (y ∷ ys) e = absurd (cc)
+    cases (y ∷ ys) back e = absurd (cc)
+
+-- ---- a marker that is abandoned, or that a node is extended to
+
+-- the holes of other markers
+abbrev pub others : ℕ → List Item → List Item
+others id items = filter (λ item. not (is_hole_of id item)) items
+
+-- a parser that goes on after a change went on before
+pub went-changed : {s t : State} {draft : Draft} → Changes s t draft → Goes t → Goes s
+went-changed {s} {t} {draft} changes goes = cases s.first refl
+  where
+    cases : (f : Option ParseError) → s.first ≡ f → s.first ≡ None
+    cases None e = e
+    cases (Some reason) e =
+        let same : t.first ≡ s.first = ap (λ u. u.first) (changes.stays (rw e refl)) in absurd (let p = sym goes ∙ (same ∙ e) in cc)
+
+pub changed : {s t : State} {draft : Draft} → Changes s t draft → Goes t → t.draft ≡ draft
+changed changes goes = ap (λ u. u.draft) (changes.goes (went-changed changes goes))
+
+module _ (id : ℕ) (f : Item → List Item) (closed : (item : Item) → holes_of (f item) ≡ []) where
+  holes_cases : (i : ℕ) (made : Made) (rest left : List Item) (b : Bool) → holes_of rest ≡ left
+      → holes_of (cond b (f (Hole i made)) (Hole i made ∷ []) ++ rest) ≡ cond (not b) (Hole i made ∷ left) left
+  holes_cases i made rest left true e =
+      filter-append is_hole (f (Hole i made)) rest ∙ (ap (λ items. items ++ holes_of rest) (closed (Hole i made)) ∙ e)
+  holes_cases i made rest left false e = ap (λ items. Hole i made ∷ items) e
+
+  holes-replaced : (items : List Item) → holes_of (replaced (is_hole_of id) f items) ≡ others id (holes_of items)
+  holes-replaced [] = refl
+  holes-replaced (Hole i made ∷ items) =
+      holes_cases i made (replaced (is_hole_of id) f items) (others id (holes_of items)) (i == id) (holes-replaced items)
+  holes-replaced (Open i kind free ∷ items) = holes-replaced items
+  holes-replaced (Close ∷ items) = holes-replaced items
+  holes-replaced (Token kind n ∷ items) = holes-replaced items
+  holes-replaced (Error text ∷ items) = holes-replaced items
+
+no_opening_cases : (i kind : ℕ) (free : Bool) (rest : List Item) (b : Bool) → holes_of (cond b [] (Open i kind free ∷ []) ++ rest) ≡ holes_of rest
+no_opening_cases i kind free rest true = refl
+no_opening_cases i kind free rest false = refl
+
+holes-without_opening : (id : ℕ) (items : List Item) → holes_of (replaced (is_opening_of id) (λ item. []) items) ≡ holes_of items
+holes-without_opening id [] = refl
+holes-without_opening id (Hole i made ∷ items) = ap (λ items. Hole i made ∷ items) (holes-without_opening id items)
+holes-without_opening id (Open i kind free ∷ items) =
+    no_opening_cases i kind free (replaced (is_opening_of id) (λ item. []) items) (i == id) ∙ holes-without_opening id items
+holes-without_opening id (Close ∷ items) = holes-without_opening id items
+holes-without_opening id (Token kind n ∷ items) = holes-without_opening id items
+holes-without_opening id (Error text ∷ items) = holes-without_opening id items
+
+holes-extended_items : (node : Node) (id : ℕ) (items : List Item) → holes_of (extended_items node id items) ≡ others id (holes_of items)
+holes-extended_items node id items = cases (stands_before (is_hole_of id) (is_opening_of node.id) items)
+  where
+    cases : (b : Bool) → holes_of (cond b (moved node id items) (without_hole id items)) ≡ others id (holes_of items)
+    cases true =
+        holes-replaced id (λ item. Open node.id node.kind true ∷ []) (λ item. refl) (replaced (is_opening_of node.id) (λ item. []) items)
+        ∙ ap (others id) (holes-without_opening node.id items)
+    cases false = holes-replaced id (λ item. []) (λ item. refl) items
+
+-- an abandoned marker's hole is gone, and the other holes stay as they were
+pub holes-abandoned : {s t : State} (id : ℕ) → Changes s t (abandoned s.draft id) → Goes t → holes_of t.draft.items ≡ others id (holes_of s.draft.items)
+holes-abandoned {s} {t} id changes goes =
+    ap (λ draft. holes_of draft.items) (changed changes goes) ∙ holes-replaced id (λ item. []) (λ item. refl) s.draft.items
+
+-- so it is with the marker that a node is extended to
+pub holes-extended : {s t : State} (node : Node) (id : ℕ) → Changes s t (extended s.draft node id) → Goes t
+    → holes_of t.draft.items ≡ others id (holes_of s.draft.items)
+holes-extended {s} {t} node id changes goes =
+    ap (λ draft. holes_of draft.items) (changed changes goes) ∙ holes-extended_items node id s.draft.items
+
+-- the node's opening is in the draft still, so that it can be extended again or preceded
+pub node-extended : {s t : State} (node : Node) (m : Mark) → HasNode s node → HasHole s m → Changes s t (extended s.draft node m.id) → HasNode t node
+node-extended {s} {t} node m there hole changes goes =
+    subst (λ draft. Contains draft.items opening) (sym (changed changes goes)) (cases (stands_before (is_hole_of m.id) (is_opening_of node.id) items))
+  where
+    items : List Item
+    items = s.draft.items
+
+    opening : Item
+    opening = Open node.id node.kind true
+
+    before : Goes s
+    before = went-changed changes goes
+
+    cases : (b : Bool) → Contains (cond b (moved node m.id items) (without_hole m.id items)) opening
+    cases true =
+        Contains-replaced (is_hole_of m.id) (Hole m.id m.made) opening (replaced (is_opening_of node.id) (λ item. []) items) (itself m.id)
+        (Contains-others (is_opening_of node.id) (λ item. []) (Hole m.id m.made) items refl (hole before))
+    cases false = Contains-others (is_hole_of m.id) (λ item. []) opening items refl (there before)

@@ -1,0 +1,133 @@
+-- Lists split at an element, and items that give place to others there.
+use Rattle.std.proofs.Common.{◌≡◌, ◌∙◌, ℕ, zero, suc, ◌+◌, ◌≤◌, ◌==◌, Bool, true, false, List, [], ◌∷◌, ◌++◌, cond, arith, ap, refl}
+use Rattle.std.specs.Prelude.{All, Contains, count_by}
+use Rattle.std.proofs.lemmas.Bool.{eqb-true, eq-eqb}
+use Rattle.std.proofs.lemmas.List.Sums.{sum_by-append}
+use Rattle.std.proofs.lemmas.List.Elements.{All-tail}
+use Rattle.std.proofs.lemmas.Grind.{flat_map-append}
+use Rattle.squawk_parser.specs.Draft.{Made, Item, Hole, Open, Close, Token, Error, ids, ids_of, HasNoIdTwice}
+use Rattle.squawk_parser.specs.Edits.{is_hole_of, is_opening_of, replaced, stands_before}
+use Rattle.squawk_parser.proofs.Sums.{count_by-cons}
+
+-- an element of a list, and what stands before and behind it
+pub record Split {X : Type 0} (x : X) (xs : List X) : Type 0 where
+  pub front : List X
+  pub back : List X
+  pub is : xs ≡ front ++ x ∷ back
+
+module _ {X : Type 0} where
+  pub split : (x : X) (xs : List X) → Contains xs x → Split x xs
+  split x [] (k, lt, at) = absurd (omega arith)
+  split x (y ∷ ys) (zero, lt, at) = record { front = []; back = ys; is = ap (λ z. z ∷ ys) at }
+  split x (y ∷ ys) (suc k, lt, at) = let r = split x ys (k, omega arith, at) in record { front = y ∷ r.front; back = r.back; is = ap (λ zs. y ∷ zs) r.is }
+
+  pub Contains-behind : (x : X) (xs ys : List X) → Contains (xs ++ x ∷ ys) x
+  Contains-behind x [] ys = (0, omega arith, refl)
+  Contains-behind x (y ∷ xs) ys = let r : Contains (xs ++ x ∷ ys) x = Contains-behind x xs ys in (suc r.0, omega (arith, r.1), r.2)
+
+  -- what holds of all elements holds of those behind some
+  pub All-back : (P : X → Type 0) (xs ys : List X) → All P (xs ++ ys) → All P ys
+  All-back P [] ys all = all
+  All-back P (x ∷ xs) ys all = All-back P xs ys (All-tail P x (xs ++ ys) all)
+
+  pub count_by-append : (p : X → Bool) (xs ys : List X) → count_by p (xs ++ ys) ≡ count_by p xs + count_by p ys
+  count_by-append p xs ys = sum_by-append (λ x. cond (p x) 1 0) xs ys
+
+  -- an element that passes the test is one more
+  pub count_by-passes : (p : X → Bool) (x : X) (xs : List X) → p x ≡ true → count_by p (x ∷ xs) ≡ 1 + count_by p xs
+  count_by-passes p x xs e = count_by-cons p x xs ∙ ap (λ b. cond b 1 0 + count_by p xs) e
+
+  pub count_by-fails : (p : X → Bool) (x : X) (xs : List X) → p x ≡ false → count_by p (x ∷ xs) ≡ count_by p xs
+  count_by-fails p x xs e = count_by-cons p x xs ∙ (ap (λ b. cond b 1 0 + count_by p xs) e ∙ omega arith)
+
+  -- an element that passes the test doesn't stand where none does
+  pub Contains-passed : (p : X → Bool) (x : X) (xs ys : List X) → p x ≡ true → count_by p xs ≡ 0 → Contains (xs ++ ys) x → Contains ys x
+  Contains-passed p x [] ys passes none there = there
+  Contains-passed p x (y ∷ xs) ys passes none (zero, lt, at) = absurd (omega (arith, none, count_by-passes p y xs (ap p at ∙ passes)))
+  Contains-passed p x (y ∷ xs) ys passes none (suc k, lt, at) =
+      Contains-passed p x xs ys passes (omega (arith, none, count_by-cons p y xs)) (k, omega arith, at)
+
+module _ (p : Item → Bool) (f : Item → List Item) where
+  pub replaced-append : (xs ys : List Item) → replaced p f (xs ++ ys) ≡ replaced p f xs ++ replaced p f ys
+  replaced-append xs ys = flat_map-append _ xs ys
+
+  pub replaced-none : (xs : List Item) → count_by p xs ≡ 0 → replaced p f xs ≡ xs
+  replaced-none [] none = refl
+  replaced-none (x ∷ xs) none = cases (p x) refl (replaced-none xs (omega (arith, none, count_by-cons p x xs)))
+    where
+      cases : (b : Bool) → p x ≡ b → replaced p f xs ≡ xs → replaced p f (x ∷ xs) ≡ x ∷ xs
+      cases true e rest = absurd (omega (arith, none, count_by-passes p x xs e))
+      cases false e rest = rw e (ap (λ zs. x ∷ zs) rest)
+
+  pub here : (x : Item) (ys : List Item) → p x ≡ true → replaced p f (x ∷ ys) ≡ f x ++ replaced p f ys
+  here x ys passes = rw passes refl
+
+  -- where one item passes the test, the others stay
+  pub replaced-at : (xs ys : List Item) (x : Item) → p x ≡ true → count_by p xs ≡ 0 → count_by p ys ≡ 0 → replaced p f (xs ++ x ∷ ys) ≡ xs ++ (f x ++ ys)
+  replaced-at xs ys x passes front back =
+      replaced-append xs (x ∷ ys)
+      ∙ (ap (λ zs. zs ++ replaced p f (x ∷ ys)) (replaced-none xs front) ∙ ap (λ zs. xs ++ zs) (here x ys passes ∙ ap (λ zs. f x ++ zs) (replaced-none ys back)))
+
+-- an item that passes the first test, and before it none that passes the second
+pub record First (p q : Item → Bool) (items : List Item) : Type 0 where
+  pub front : List Item
+  pub item : Item
+  pub back : List Item
+  pub is : items ≡ front ++ item ∷ back
+  pub passes : p item ≡ true
+  pub none : count_by q front ≡ 0
+
+module _ (p q : Item → Bool) where
+  further : (item : Item) (items : List Item) → q item ≡ false → First p q items → First p q (item ∷ items)
+  further item items e r = record { front = item ∷ r.front; item = r.item; back = r.back; is = ap (λ zs. item ∷ zs) r.is; passes = r.passes; none = count_by-fails q item r.front e ∙ r.none }
+
+  pub first : (items : List Item) → stands_before p q items ≡ true → First p q items
+  first [] before = absurd (cc)
+  first (item ∷ items) before = cases (p item) (q item) refl refl before (λ h. first items h)
+    where
+      cases : (b c : Bool) → p item ≡ b → q item ≡ c → cond b true (cond c false (stands_before p q items)) ≡ true
+          → (stands_before p q items ≡ true → First p q items) → First p q (item ∷ items)
+      cases true c e g before rest = record { front = []; item = item; back = items; is = refl; passes = e; none = refl }
+      cases false true e g before rest = absurd (cc)
+      cases false false e g before rest = further item items g (rest before)
+
+-- ---- ids
+
+pub itself : (id : ℕ) → (id == id) ≡ true
+itself id = eq-eqb id id refl
+
+-- what passes the test of a hole is one
+pub a_hole : (id : ℕ) (item : Item) → is_hole_of id item ≡ true → (made : Made) × (item ≡ Hole id made)
+a_hole id (Hole i made) passes = (made, ap (λ n. Hole n made) (eqb-true i id passes))
+a_hole id (Open i kind free) passes = absurd (cc)
+a_hole id Close passes = absurd (cc)
+a_hole id (Token kind n) passes = absurd (cc)
+a_hole id (Error text) passes = absurd (cc)
+
+-- items that pass a test by their ids are no more than the id occurs
+pub count-le_ids : (p : Item → Bool) (id : ℕ) → ((item : Item) → cond (p item) 1 0 ≤ count_by (λ i. i == id) (ids_of item)) → (items : List Item)
+    → count_by p items ≤ count_by (λ i. i == id) (ids items)
+count-le_ids p id each [] = omega arith
+count-le_ids p id each (item ∷ items) =
+    omega (arith, each item, count-le_ids p id each items, count_by-cons p item items, count_by-append (λ i. i == id) (ids_of item) (ids items))
+
+hole_each : (id : ℕ) (item : Item) → cond (is_hole_of id item) 1 0 ≤ count_by (λ i. i == id) (ids_of item)
+hole_each id (Hole i made) = omega (arith, count_by-cons (λ i. i == id) i [])
+hole_each id (Open i kind free) = omega arith
+hole_each id Close = omega arith
+hole_each id (Token kind n) = omega arith
+hole_each id (Error text) = omega arith
+
+opening_each : (id : ℕ) (item : Item) → cond (is_opening_of id item) 1 0 ≤ count_by (λ i. i == id) (ids_of item)
+opening_each id (Hole i made) = omega arith
+opening_each id (Open i kind free) = omega (arith, count_by-cons (λ i. i == id) i [])
+opening_each id Close = omega arith
+opening_each id (Token kind n) = omega arith
+opening_each id (Error text) = omega arith
+
+-- an id that occurs once has one hole at most, and one opening
+pub holes-once : (id : ℕ) (items : List Item) → HasNoIdTwice items → count_by (is_hole_of id) items ≤ 1
+holes-once id items once = omega (arith, once id, count-le_ids (is_hole_of id) id (hole_each id) items)
+
+pub openings-once : (id : ℕ) (items : List Item) → HasNoIdTwice items → count_by (is_opening_of id) items ≤ 1
+openings-once id items once = omega (arith, once id, count-le_ids (is_opening_of id) id (opening_each id) items)

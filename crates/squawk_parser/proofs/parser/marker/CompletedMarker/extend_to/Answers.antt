@@ -1,0 +1,40 @@
+use Rattle.std.proofs.Common.{◌≡◌, ◌∙◌, ap, sym, subst}
+use Rattle.std.specs.Prelude.{true, Contains}
+use Rattle.squawk_parser.specs.Draft.{Hole, Open, Mark, Node}
+use Rattle.squawk_parser.specs.DraftView.{made_of}
+use Rattle.squawk_parser.specs.Edits.{extended}
+use Rattle.squawk_parser.specs.State.{State, Goes}
+use Rattle.squawk_parser.proofs.SoundExtended.{IsKept-extended}
+use Rattle.squawk_parser.proofs.ParserViews.{seen, kept, goes_on, Changes-edited, Changes-failed}
+use Rattle.squawk_parser.proofs.parser.marker.CompletedMarker.extend_to.Goals as goal
+use Rattle.squawk_parser.proofs.parser.marker.CompletedMarker.extend_to.Goals.{then-is_none, else-is_none}
+
+pub invariant_of-p : goal.invariant_of-p
+invariant_of-p c =
+    let s = seen c.p.inside in
+    let goes : Goes s = goes_on s (c.if-is_none.ensures) in
+    let went : Goes c.args.p.now = subst Goes c.p.view_is goes in
+    let node : Node = record { id = c.self.inside.id; kind = c.self.inside.kind } in
+    let m : Mark = record { id = c.m.inside.id; made = made_of c.m.inside.made } in
+    let HasNode : State → Node → Type 0 = λ t m. Contains t.draft.items (Open m.id m.kind true) in
+    let HasHole : State → Mark → Type 0 = λ t m. Contains t.draft.items (Hole m.id m.made) in
+    let there = subst (λ t. HasNode t node) (sym c.p.view_is)
+    (subst (HasNode c.args.p.now) (sym c.self.view_is) (c.requires.node went)) in
+    let hole = subst (λ t. HasHole t m) (sym c.p.view_is)
+    (subst (HasHole c.args.p.now) (sym c.m.view_is) (c.requires.hole went)) in
+    let after = IsKept-extended s node m.id m.made (kept c.p.inside c.p.invariant) goes hole there in
+    rw c.extend.ensures (after.sound, after.above)
+
+pub returns-clause-changes : goal.returns-clause-changes
+returns-clause-changes c =
+    let s = seen c.p.inside in
+    let edited = extended c.args.p.now.draft c.args.self c.args.m.id in
+    let same : extended s.draft (record { id = c.self.inside.id; kind = c.self.inside.kind }) c.m.inside.id ≡ edited =
+    ap (λ t. extended t.draft (record { id = c.self.inside.id; kind = c.self.inside.kind }) c.m.inside.id) c.p.view_is
+    ∙ (ap (λ node. extended c.args.p.now.draft node c.m.inside.id) c.self.view_is ∙ ap (λ m. extended c.args.p.now.draft c.args.self m.id) c.m.view_is) in
+    elim c.if-is_none.branch [
+      | then-is_none w ↦
+          Changes-edited c.args.p.now s c.if-is_none.p edited c.p.view_is (goes_on s (w.if-is_none.ensures))
+          (cc)
+      | else-is_none w ↦ Changes-failed c.args.p.now s c.if-is_none.p edited c.p.view_is (w.if-is_none.ensures) w.p-is
+    ]
