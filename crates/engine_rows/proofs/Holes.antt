@@ -8,7 +8,7 @@ use Rattle.squawk_kinds.specs.Kinds.{EOF}
 use Rattle.squawk_parser.specs.Draft.{Item, Hole, Open, Close, Token, Error, Made, ByStart, is_hole, ids, holes_of, HasNoHole, IsAboveIds}
 use Rattle.squawk_parser.specs.Edits.{started, completed, filled, with_token, is_hole_of}
 use Rattle.squawk_parser.specs.Eaten.{EatsWith}
-use Rattle.squawk_parser.specs.Recorded.{IsPut, Puts}
+use Rattle.squawk_parser.specs.Recorded.{Puts}
 use Rattle.squawk_parser.specs.State.{State, Goes, Keeps, Records, IsFresh, kind_at}
 use Rattle.squawk_parser.specs.declared.parser.parse_error.ParseError.{ParseError}
 use Rattle.squawk_table.specs.Steps.{Step}
@@ -47,14 +47,14 @@ Contains-hole items open_ones hole e there =
     All-contains (Contains items) (holes_of items) hole (All-filter is_hole (Contains items) items (All-contains_itself items)) (subst P (sym e) there)
 
 -- a new id is above those of the open markers
-abbrev IsBelow : ℕ → Item → Type 0
+abbrev pub IsBelow : ℕ → Item → Type 0
 IsBelow id (Hole i made) = i < id
 IsBelow id (Open i kind free) = Unit {0}
 IsBelow id Close = Unit {0}
 IsBelow id (Token kind n) = Unit {0}
 IsBelow id (Error text) = Unit {0}
 
-all_below : (id : ℕ) (items : List Item) → IsAboveIds id items → All (IsBelow id) items
+pub all_below : (id : ℕ) (items : List Item) → IsAboveIds id items → All (IsBelow id) items
 all_below id [] above = All-nil (IsBelow id)
 all_below id (Hole i made ∷ items) above =
     All-cons (IsBelow id) (Hole i made) items (All-head (λ i. i < id) i (ids items) above) (all_below id items (All-tail (λ i. i < id) i (ids items) above))
@@ -179,7 +179,7 @@ without-below id (Close ∷ items) below = without-below id items (All-tail (IsB
 without-below id (Token kind n ∷ items) below = without-below id items (All-tail (IsBelow id) (Token kind n) items below)
 without-below id (Error text ∷ items) below = without-below id items (All-tail (IsBelow id) (Error text) items below)
 
-without-last : (id : ℕ) (items : List Item) → IsAboveIds id items → without id (holes_of items ++ Hole id ByStart ∷ []) ≡ holes_of items
+pub without-last : (id : ℕ) (items : List Item) → IsAboveIds id items → without id (holes_of items ++ Hole id ByStart ∷ []) ≡ holes_of items
 without-last id items above =
     filter-append (λ item. not (is_hole_of id item)) (holes_of items) (Hole id ByStart ∷ [])
     ∙ (ap (λ hs. without id (holes_of items) ++ hs) (without-one id)

@@ -4,6 +4,7 @@ pub mod calls;
 pub mod errors;
 pub mod keywords;
 pub mod looks;
+pub mod moves;
 pub mod notes;
 pub mod output;
 pub mod parts;

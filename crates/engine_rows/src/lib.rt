@@ -26,6 +26,8 @@ mod limits_of_parses;
 #[cfg(test)]
 mod looks;
 #[cfg(test)]
+mod markers;
+#[cfg(test)]
 mod memory;
 #[cfg(test)]
 mod operators;
@@ -33,6 +35,8 @@ mod operators;
 mod parser;
 #[cfg(test)]
 mod raw_tokens;
+#[cfg(test)]
+mod sequences;
 #[cfg(test)]
 mod sets;
 #[cfg(test)]
