@@ -1,5 +1,5 @@
 -- The open markers of a draft, over the calls of a grammar.
-use Rattle.std.proofs.Common.{◌≡◌, ◌≢◌, ◌∙◌, ℕ, ◌<◌, ◌==◌, Bool, true, false, not, Option, Some, None, List, [], ◌∷◌, ◌++◌, arith, ap, sym, refl, subst}
+use Rattle.std.proofs.Common.{◌≡◌, ◌≢◌, ◌∙◌, ℕ, ◌<◌, ◌==◌, Bool, true, false, not, List, [], ◌∷◌, ◌++◌, arith, ap, sym, refl, subst}
 use Rattle.std.specs.Prelude.{All, Contains, IsSome, IsTrue, filter}
 use Rattle.std.proofs.lemmas.Bool.{eqb-true, eqb-false, eq-eqb, ne_eqb}
 use Rattle.std.proofs.lemmas.List.{append-nil}
@@ -10,8 +10,8 @@ use Rattle.squawk_parser.specs.Edits.{started, completed, filled, with_token, is
 use Rattle.squawk_parser.specs.Eaten.{EatsWith}
 use Rattle.squawk_parser.specs.Recorded.{Puts}
 use Rattle.squawk_parser.specs.State.{State, Goes, Keeps, Records, IsFresh, kind_at}
-use Rattle.squawk_parser.specs.declared.parser.parse_error.ParseError.{ParseError}
 use Rattle.squawk_table.specs.Steps.{Step}
+use Rattle.squawk_parser.proofs.TailHoles.{went-kept}
 
 -- a list of them without one
 abbrev pub without : ℕ → List Item → List Item
@@ -149,14 +149,6 @@ Keeps-twice s t u first second = record {
 
 -- ---- steps at the end, and a node around calls
 
--- a parser that goes on after calls that keep its reason to fail went before them
-pub went-keeps : (s t : State) → Keeps s t → Goes t → Goes s
-went-keeps s t keeps goes = cases s.first refl
-  where
-    cases : (first : Option ParseError) → s.first ≡ first → s.first ≡ None
-    cases None e = e
-    cases (Some reason) e = let same : t.first ≡ s.first = keeps.reason (rw e refl) in absurd (let h = sym goes ∙ (same ∙ e) in cc)
-
 -- steps that are put at the end open no marker and close none
 pub holes-puts : (s t : State) (steps : List Step) → Puts steps s t → Goes t → holes_of t.draft.items ≡ holes_of s.draft.items
 holes-puts s t steps puts goes =
@@ -188,7 +180,7 @@ without-last id items above =
 module _ (s t u : State) (id : ℕ) (begins : Records s t (started s.draft id)) (keeps : Keeps t u) (same : Goes u → holes_of u.draft.items ≡ holes_of t.draft.items) where
   -- the marker of a node is open behind what stands in it
   pub open_inside : HasHoles u (holes_of s.draft.items ++ Hole id ByStart ∷ [])
-  open_inside goes = same goes ∙ HasHoles-start s t id (holes_of s.draft.items) (λ _. refl) begins (went-keeps t u keeps goes)
+  open_inside goes = same goes ∙ HasHoles-start s t id (holes_of s.draft.items) (λ _. refl) begins (went-kept keeps goes)
 
   pub marker_inside : Goes u → Contains u.draft.items (Hole id ByStart)
   marker_inside goes = Contains-hole u.draft.items _ (Hole id ByStart) (open_inside goes) (Contains-push (holes_of s.draft.items) (Hole id ByStart))
@@ -198,7 +190,7 @@ module _ (s t u : State) (id : ℕ) (begins : Records s t (started s.draft id)) 
       → holes_of v.draft.items ≡ holes_of s.draft.items
   holes-around v kind above ends goes =
       HasHoles-complete u v id kind _ open_inside ends goes
-      ∙ without-last id s.draft.items (above (went-keeps t u keeps (ends.went goes)))
+      ∙ without-last id s.draft.items (above (went-kept keeps (ends.went goes)))
 
 -- ---- a kind, where it stands and where it doesn't
 
@@ -213,7 +205,7 @@ holes-with does kind s t eats goes =
     let same : Goes eats.closed → holes_of eats.closed.draft.items ≡ holes_of eats.begun.draft.items =
     λ goes_closed.
     let goes_ran = eats.closes.went goes_closed in
-    let goes_eaten = went-keeps eats.eaten eats.ran eats.tail_keeps goes_ran in
+    let goes_eaten = went-kept eats.tail_keeps goes_ran in
     holes-puts eats.ran eats.closed _ eats.closes goes_closed
     ∙ (eats.tail_holes goes_ran ∙ holes-puts eats.begun eats.eaten _ eats.eats goes_eaten) in
     holes-around s eats.begun eats.closed eats.id eats.begins keeps same t kind eats.fresh eats.completes goes

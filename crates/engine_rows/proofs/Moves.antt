@@ -7,7 +7,8 @@ use Rattle.squawk_parser.specs.Draft.{Item, Hole, Open, Close, Token, Error, Mad
 use Rattle.squawk_parser.specs.Edits.{completed, preceded, abandoned, extended, replaced, is_opening_of, preceded_item, started}
 use Rattle.squawk_parser.specs.State.{State, Goes, Keeps, Records, Changes}
 use Rattle.squawk_parser.proofs.Markers.{holes-abandoned, holes-extended, node-completed, went-changed}
-use Rattle.engine_rows.proofs.Holes.{without, IsBelow, all_below, HasHoles, HasHoles-complete, Contains-hole, below-hole, without-last, went-keeps, open_inside, holes-around}
+use Rattle.squawk_parser.proofs.TailHoles.{went-kept}
+use Rattle.engine_rows.proofs.Holes.{without, IsBelow, all_below, HasHoles, HasHoles-complete, Contains-hole, below-hole, without-last, open_inside, holes-around}
 
 -- ---- a marker in front of a node
 
@@ -84,7 +85,7 @@ module _ (s t : State) (node kind id : ℕ) (there : Goes s → Contains s.draft
   -- also behind calls that leave open what they found
   pub marker_kept : (u : State) → Keeps t u → (Goes u → holes_of u.draft.items ≡ holes_of t.draft.items) → Goes u → Contains u.draft.items (Hole id ByPrecede)
   marker_kept u keeps same goes =
-      let goes_t = went-keeps t u keeps goes in
+      let goes_t = went-kept keeps goes in
       Contains-hole u.draft.items _ (Hole id ByPrecede) (same goes ∙ open_before goes_t) (marker_before node id s.draft.items kind (there (records.went goes_t)))
 
   pub marker_now : Goes t → Contains t.draft.items (Hole id ByPrecede)
@@ -95,8 +96,8 @@ module _ (s t : State) (node kind id : ℕ) (there : Goes s → Contains s.draft
     pub holes-outer : (u v : State) (outer : ℕ) → Keeps t u → (Goes u → holes_of u.draft.items ≡ holes_of t.draft.items) → Records u v (completed u.draft id outer) → Goes v
         → holes_of v.draft.items ≡ holes_of s.draft.items
     holes-outer u v outer keeps same ends goes =
-        HasHoles-complete u v id outer _ (λ goes_u. same goes_u ∙ open_before (went-keeps t u keeps goes_u)) ends goes
-        ∙ holes-preceded node id s.draft.items (above (went-keeps t u keeps (ends.went goes)))
+        HasHoles-complete u v id outer _ (λ goes_u. same goes_u ∙ open_before (went-kept keeps goes_u)) ends goes
+        ∙ holes-preceded node id s.draft.items (above (went-kept keeps (ends.went goes)))
 
     -- and so does giving it up
     pub holes-in_vain : (u : State) → Changes t u (abandoned t.draft id) → Goes u → holes_of u.draft.items ≡ holes_of s.draft.items
@@ -108,7 +109,7 @@ pub holes-given_up : (s t u v : State) (id : ℕ) → Records s t (started s.dra
     → (Goes t → IsAboveIds id s.draft.items) → Changes u v (abandoned u.draft id) → Goes v → holes_of v.draft.items ≡ holes_of s.draft.items
 holes-given_up s t u v id begins keeps same above changes goes =
     HasHoles-abandon u v id _ (open_inside s t u id begins keeps same) changes goes
-    ∙ without-last id s.draft.items (above (went-keeps t u keeps (went-changed changes goes)))
+    ∙ without-last id s.draft.items (above (went-kept keeps (went-changed changes goes)))
 
 -- A marker, calls behind it, and a node behind them that is extended to the marker.
 module _ (s t u v w x : State) (id node kind : ℕ)
@@ -117,7 +118,7 @@ module _ (s t u v w x : State) (id node kind : ℕ)
     (node_keeps : Keeps v w) (node_same : Goes w → holes_of w.draft.items ≡ holes_of v.draft.items) (ends : Records w x (completed w.draft node kind)) where
   open_still : HasHoles x (holes_of s.draft.items ++ Hole id ByStart ∷ [])
   open_still goes =
-      let goes_v = went-keeps v w node_keeps (ends.went goes) in
+      let goes_v = went-kept node_keeps (ends.went goes) in
       holes-around u v w node node_begins node_keeps node_same x kind node_above ends goes
       ∙ open_inside s t u id begins keeps same (node_begins.went goes_v)
 
@@ -126,12 +127,12 @@ module _ (s t u v w x : State) (id node kind : ℕ)
 
   pub is_older : Goes x → id < node
   is_older goes =
-      let goes_v = went-keeps v w node_keeps (ends.went goes) in
+      let goes_v = went-kept node_keeps (ends.went goes) in
       below-hole u.draft.items _ node id (node_above goes_v) (open_inside s t u id begins keeps same (node_begins.went goes_v)) (Contains-push (holes_of s.draft.items) (Hole id ByStart))
 
   pub holes-moved : (y : State) → Changes x y (extended x.draft (record { id = node; kind = kind }) id) → Goes y → holes_of y.draft.items ≡ holes_of s.draft.items
   holes-moved y changes goes =
       let goes_x = went-changed changes goes in
-      let goes_v = went-keeps v w node_keeps (ends.went goes_x) in
+      let goes_v = went-kept node_keeps (ends.went goes_x) in
       HasHoles-extend x y _ id _ open_still changes goes
-      ∙ without-last id s.draft.items (above (went-keeps t u keeps (node_begins.went goes_v)))
+      ∙ without-last id s.draft.items (above (went-kept keeps (node_begins.went goes_v)))

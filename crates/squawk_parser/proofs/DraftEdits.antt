@@ -14,7 +14,7 @@ use Rattle.squawk_parser.specs.declared.parser.draft.DraftItem.{DraftItem}
 use Rattle.squawk_parser.specs.declared.parser.draft.DraftItem.TheVariants.{Hole, Open, Close, Token, Error}
 use Rattle.squawk_parser.specs.declared.parser.draft.Made.TheVariants.{ByPrecede}
 use Rattle.squawk_parser.proofs.DraftPlaces.{count_at_None, edited_none, edited_at, natural, count_by-map}
-use Rattle.squawk_parser.proofs.DraftIds.{holes-le-one, openings-le-one}
+use Rattle.squawk_parser.proofs.Splits.{holes-once, openings-once}
 
 -- the tests, seen from the code's items
 abbrev pub hole_here : ℕ → DraftItem → Bool
@@ -25,10 +25,10 @@ opening_here node item = is_opening_of node (item_of item)
 
 module _ (xs : List DraftItem) (once : HasNoIdTwice (map item_of xs)) (id : ℕ) where
   pub one_hole_here : count_by (hole_here id) xs ≤ 1
-  one_hole_here = omega (arith, count_by-map item_of (is_hole_of id) xs, holes-le-one id (map item_of xs) once)
+  one_hole_here = omega (arith, count_by-map item_of (is_hole_of id) xs, holes-once id (map item_of xs) once)
 
   pub one_opening_here : count_by (opening_here id) xs ≤ 1
-  one_opening_here = omega (arith, count_by-map item_of (is_opening_of id) xs, openings-le-one id (map item_of xs) once)
+  one_opening_here = omega (arith, count_by-map item_of (is_opening_of id) xs, openings-once id (map item_of xs) once)
 
 module _ (id : ℕ) (xs : List DraftItem) where
   pub out_at : (n : ℕ) (ys : List DraftItem) → HasNoIdTwice (map item_of xs) → Some n ≡ position (hole_here id) xs → ys ≡ remove xs n

@@ -1,11 +1,8 @@
 -- The errors of a draft stay where holes and openings are edited.
-use Rattle.std.proofs.Common.{◌≡◌, ℕ, ◌+◌, ◌==◌, Bool, true, false, List, [], ◌∷◌, ◌++◌, if◌then◌else◌, cond, refl, sym, ap, ◌∙◌}
-use Rattle.std.proofs.lemmas.List.Sums.{sum_by-append}
-use Rattle.squawk_parser.specs.Draft.{Item, Hole, Open, Close, Token, Error, is_error, errors_of, ByPrecede, Node}
+use Rattle.std.proofs.Common.{◌≡◌, ℕ, ◌+◌, ◌==◌, Bool, true, false, List, [], ◌∷◌, if◌then◌else◌, refl, sym, ap, ◌∙◌}
+use Rattle.squawk_parser.specs.Draft.{Item, Hole, Open, Close, Token, Error, errors_of, ByPrecede, Node}
 use Rattle.squawk_parser.specs.Edits.{is_hole_of, is_opening_of, replaced, preceded_item, without_hole, stands_before, moved, extended_items}
-
-errors-append : (xs ys : List Item) → errors_of (xs ++ ys) ≡ errors_of xs + errors_of ys
-errors-append xs ys = sum_by-append (λ item. cond (is_error item) 1 0) xs ys
+use Rattle.squawk_parser.proofs.RecordedItems.{errors-append}
 
 module _ (p : Item → Bool) (f : Item → List Item) (same : (item : Item) → errors_of (if p item then f item else item ∷ []) ≡ errors_of (item ∷ [])) where
   errors-replaced : (items : List Item) → errors_of (replaced p f items) ≡ errors_of items

@@ -10,6 +10,7 @@ use Rattle.squawk_table.specs.ParserInput.{Entry}
 use Rattle.squawk_table.specs.Shape.{IsOver}
 use Rattle.std.proofs.lemmas.List.Sums.{sum_by-cons}
 use Rattle.squawk_parser.proofs.Sums.{count_by-cons}
+use Rattle.squawk_parser.proofs.Splits.{holes-once}
 use Rattle.squawk_parser.proofs.Balance.{depth_after, depth_after-suc}
 
 module _ (id kind : ℕ) where
@@ -125,20 +126,6 @@ module _ (id kind : ℕ) where
   depth_after-filled (Error text ∷ items) d e h =
       depth_after-filled items d e h ∙ ap (λ n. Some (e + n)) (sym (holes-cons (Error text) items ∙ omega arith))
 
-  -- no more than there are items with the id
-  abbrev uses : List ℕ → ℕ
-  uses is = count_by (λ i. i == id) is
-
-  holes-le-uses : (items : List Item) → holes items ≤ uses (ids items)
-  holes-le-uses [] = omega arith
-  holes-le-uses (Hole i made ∷ items) =
-      omega (arith, holes-le-uses items, holes-cons (Hole i made) items, count_by-cons (λ i. i == id) i (ids items))
-  holes-le-uses (Open i k free ∷ items) =
-      omega (arith, holes-le-uses items, holes-cons (Open i k free) items, count_by-cons (λ i. i == id) i (ids items))
-  holes-le-uses (Close ∷ items) = omega (arith, holes-le-uses items, holes-cons Close items)
-  holes-le-uses (Token k n ∷ items) = omega (arith, holes-le-uses items, holes-cons (Token k n) items)
-  holes-le-uses (Error text ∷ items) = omega (arith, holes-le-uses items, holes-cons (Error text) items)
-
   here_cases : (item : Item) (made : Made) (items : List Item) → item ≡ Hole id made → 1 ≤ holes (item ∷ items)
   here_cases item made items e =
       let test : is_hole_of id item ≡ true = ap (is_hole_of id) e ∙ eq-eqb id id refl in
@@ -152,4 +139,4 @@ module _ (id kind : ℕ) where
 
   -- a marker's hole stands once
   pub one_hole : (items : List Item) (made : Made) → HasNoIdTwice items → Contains items (Hole id made) → holes items ≡ 1
-  one_hole items made once there = omega (arith, some_hole items made there, holes-le-uses items, once id)
+  one_hole items made once there = omega (arith, some_hole items made there, holes-once id items once)

@@ -18,7 +18,6 @@ pub mod Examples
 pub mod LookAheadExamples
 pub mod OperatorLength
 pub mod OneToken
-pub mod PlainErrors
 pub mod PlainKinds
 pub mod RefusedError
 pub mod EatenParts
@@ -29,7 +28,6 @@ pub mod SeenSteps
 pub mod TouchingRun
 pub mod EatenExamples
 pub mod DraftPlaces
-pub mod DraftIds
 pub mod DraftEdits
 pub mod DraftMoves
 pub mod EditedErrors

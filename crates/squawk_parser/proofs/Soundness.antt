@@ -5,10 +5,9 @@ use Rattle.std.proofs.lemmas.Bool.{eqb-true}
 use Rattle.std.proofs.lemmas.List.{append-nil}
 use Rattle.std.proofs.lemmas.List.Sums.{sum_by-append}
 use Rattle.std.proofs.lemmas.List.Elements.{All-head, All-tail, All-push, All-weaker}
-use Rattle.std.proofs.lemmas.Grind.{flat_map-append}
 use Rattle.squawk_table.specs.Steps as steps
 use Rattle.squawk_table.specs.Steps.{Step, eaten, count_of}
-use Rattle.squawk_parser.specs.Draft.{Made, Item, Hole, Close, Token, Error, ByStart, is_error, errors_of, ids, ids_of, steps_of, plain, HasNoIdTwice, IsAboveIds}
+use Rattle.squawk_parser.specs.Draft.{Made, Item, Hole, Close, Token, Error, ByStart, is_error, errors_of, ids, plain, HasNoIdTwice, IsAboveIds}
 use Rattle.squawk_parser.specs.Edits.{started, completed, filled, with_token, with_error}
 use Rattle.squawk_table.specs.Shape.{AreOneToken}
 use Rattle.squawk_table.proofs.Over.{IsOver-token_last, IsOver-exit_last, IsOver-error_last}
@@ -16,15 +15,10 @@ use Rattle.squawk_parser.specs.State.{State, IsSound, Goes, ahead}
 use Rattle.squawk_parser.specs.declared.parser.parse_error.ParseError.{ParseError}
 use Rattle.squawk_parser.specs.declared.parser.parse_error.ParseError.TheVariants.{OutOfMemory, TooManyEvents, TooManyErrors}
 use Rattle.squawk_parser.proofs.Sums.{count_by-cons}
+use Rattle.squawk_parser.proofs.RecordedItems.{plain-append, ids-append}
 use Rattle.squawk_parser.proofs.Balance.{depth_after, depth_after-append, depth_after-balanced, IsBalanced-depth_after}
 use Rattle.squawk_parser.proofs.Filled.{ids-filled, eaten-filled, errors-filled, IsOver-filled, depth_after-filled, one_hole, holes}
 use Rattle.squawk_parser.proofs.OneToken.{AreOneToken-seen, AreOneToken-within}
-
-plain-append : (xs ys : List Item) → plain (xs ++ ys) ≡ plain xs ++ plain ys
-plain-append xs ys = flat_map-append steps_of xs ys
-
-ids-append : (xs ys : List Item) → ids (xs ++ ys) ≡ ids xs ++ ids ys
-ids-append xs ys = flat_map-append ids_of xs ys
 
 -- one more item has one error more, or none
 errors_of-push : (items : List Item) (item : Item) → errors_of (items ++ item ∷ []) ≡ errors_of items + cond (is_error item) 1 0

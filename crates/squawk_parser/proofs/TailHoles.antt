@@ -37,8 +37,9 @@ module _ {X : Type 0} (p : X → Bool) (x : X) where
       back true behind (suc k, lt, at) = Contains-tail x y ys (behind (k, omega arith, at))
       back false behind there = Contains-tail x y ys (behind there)
 
-went : {a b : State} → Keeps a b → Goes b → Goes a
-went {a} {b} keeps goes = cases a.first refl
+-- a parser that goes on after an act that keeps its reason to fail went on before
+pub went-kept : {a b : State} → Keeps a b → Goes b → Goes a
+went-kept {a} {b} keeps goes = cases a.first refl
   where
     cases : (f : Option ParseError) → a.first ≡ f → a.first ≡ None
     cases None e = e
@@ -52,6 +53,6 @@ pub hole-behind_tail : {a b c : State} {xs : List Step} (m : Mark) → HasHole a
 hole-behind_tail {a} {b} {c} {xs} m there keeps holes puts goes =
     let ran : Goes b = puts.went goes in
     let hole : Item = Hole m.id m.made in
-    let before : Contains (holes_of a.draft.items) hole = Contains-filter is_hole hole a.draft.items refl (there (went keeps ran)) in
+    let before : Contains (holes_of a.draft.items) hole = Contains-filter is_hole hole a.draft.items refl (there (went-kept keeps ran)) in
     let after : Contains b.draft.items hole = Contains-unfiltered is_hole hole b.draft.items (subst (λ xs. Contains xs hole) (sym (holes ran)) before) in
     subst (λ xs. Contains xs hole) (sym (puts.draft goes).items) (Contains-append_left b.draft.items (puts.draft goes).made hole after)

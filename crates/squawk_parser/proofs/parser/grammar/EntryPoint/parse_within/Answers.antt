@@ -3,7 +3,7 @@ use Rattle.std.proofs.lemmas.Result.{IfOk-weaker}
 use Rattle.squawk_table.specs.Steps.{Walk, errors_in}
 use Rattle.squawk_parser.specs.Draft.{plain}
 use Rattle.squawk_parser.specs.State.{State, Keeps, IsSound}
-use Rattle.squawk_parser.proofs.PlainErrors.{errors_in-plain}
+use Rattle.squawk_parser.proofs.RecordedItems.{errors-plain}
 use Rattle.squawk_parser.proofs.parser.grammar.EntryPoint.parse_within.Goals as goal
 use Rattle.squawk_parser.proofs.parser.grammar.EntryPoint.parse_within.Goals.{in-SourceFile, in-Plpgsql}
 
@@ -13,7 +13,7 @@ output_of s = record { steps = plain s.draft.items; recorded = s.draft.recorded;
 -- what a sound parser leaves is within its limits
 within : (s : State) (o : Walk) → IsSound s → o ≡ output_of s → (o.recorded ≤ s.max_events) × (errors_in o.steps ≤ s.max_errors)
 unfolding output_of
-within s o sound is = rw is (sound.recorded, omega (arith, sound.errors, errors_in-plain s.draft.items))
+within s o sound is = rw is (sound.recorded, omega (arith, sound.errors, errors-plain s.draft.items))
 
 pub returns-clause-within : goal.returns-clause-within
 unfolding output_of
