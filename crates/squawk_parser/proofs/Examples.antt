@@ -1,8 +1,8 @@
 -- The definitions of drafts on small ones: what they give is worked out by hand.
-use Rattle.std.proofs.Common.{◌≡◌, true, [], ◌∷◌, refl}
+use Rattle.std.proofs.Common.{◌≡◌, true, false, [], ◌∷◌, refl}
 use Rattle.squawk_parser.specs.Draft as items
 use Rattle.squawk_parser.specs.Draft.{Draft, nothing, errors_of, plain}
-use Rattle.squawk_parser.specs.Edits.{started, completed, with_token, with_error}
+use Rattle.squawk_parser.specs.Edits.{abandoned, completed, extended, preceded, started, with_token, with_error}
 use Rattle.squawk_table.specs.Steps as steps
 use Rattle.squawk_table.proofs.Examples.{crossing_steps}
 
@@ -38,3 +38,50 @@ plain_of_crossing = refl
 
 recorded_of_crossing : crossing.recorded ≡ 9
 recorded_of_crossing = refl
+
+-- ---- markers that move
+
+-- a node that is preceded twice, each time in front of the outermost one
+abbrev node_in_front : Draft
+node_in_front = completed (preceded (completed (preceded (completed (token (started nothing 0)) 0 701) 0 1) 1 702) 1 2) 2 707
+
+one_node_in_front_of_the_other : node_in_front ≡ record {
+  items = items.Open 2 707 true ∷ items.Open 1 702 false ∷ items.Open 0 701 false ∷ items.Token 3 1 ∷ items.Close ∷ items.Close ∷ items.Close ∷ [];
+  recorded = 7;
+}
+one_node_in_front_of_the_other = refl
+
+-- a marker in front of a node is given up: the node can't be preceded again
+preceded_in_vain : abandoned (preceded (completed (token (started nothing 0)) 0 701) 0 1) 1 ≡ record {
+  items = items.Open 0 701 false ∷ items.Token 3 1 ∷ items.Close ∷ [];
+  recorded = 4;
+}
+preceded_in_vain = refl
+
+-- three markers, each with a token, and a node behind them
+abbrev three_markers : Draft
+three_markers = completed (token (started (token (started (token (started (started nothing 0) 1)) 2)) 3)) 3 705
+
+abbrev last_node : items.Node
+last_node = record { id = 3; kind = 705 }
+
+-- the node goes to the nearer marker, and then to the farther one
+extended_twice : extended (extended three_markers last_node 2) last_node 1 ≡ record {
+  items = items.Hole 0 items.ByStart ∷ items.Open 3 705 true ∷ items.Token 3 1 ∷ items.Token 3 1 ∷ items.Token 3 1 ∷ items.Close ∷ [];
+  recorded = 8;
+}
+extended_twice = refl
+
+-- or to the farther one at once, so that the nearer one's hole stands behind it, and it stays
+extended_past_a_marker : extended (extended three_markers last_node 1) last_node 2 ≡ extended (extended three_markers last_node 2) last_node 1
+extended_past_a_marker = refl
+
+-- a node that is preceded stays before the place of a marker that was older than the new one
+abbrev preceded_past_a_marker : Draft
+preceded_past_a_marker = completed (preceded (completed (token (started (started (started nothing 0) 1) 2)) 1 705) 1 3) 3 701
+
+extended_in_vain : extended preceded_past_a_marker (record { id = 3; kind = 701 }) 2 ≡ record {
+  items = items.Hole 0 items.ByStart ∷ items.Open 3 701 true ∷ items.Open 1 705 false ∷ items.Token 3 1 ∷ items.Close ∷ items.Close ∷ [];
+  recorded = 7;
+}
+extended_in_vain = refl

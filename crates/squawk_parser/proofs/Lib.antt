@@ -1,5 +1,6 @@
 pub mod CompositeFacts
 pub mod CompositeLemmas
+pub mod Pairs
 pub mod RecordedItems
 pub mod RecordedSteps
 pub mod Recovery

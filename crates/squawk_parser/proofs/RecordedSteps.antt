@@ -2,7 +2,8 @@
 use Rattle.std.proofs.Common.{◌≡◌, ◌∙◌, ℕ, ◌+◌, ◌<◌, true, false, Option, Some, None, List, [], ◌∷◌, ◌++◌, length, arith, ap, sym, refl, append_assoc, length-append, inl, inr, ◌⊎◌}
 use Rattle.std.specs.Prelude.{All, IsSome}
 use Rattle.std.proofs.lemmas.List.{append-nil}
-use Rattle.std.proofs.lemmas.List.Elements.{All-nil, All-cons, All-append, All-weaker, Contains-append_left, Contains-push}
+use Rattle.std.proofs.lemmas.List.Elements.{All-nil, All-cons, All-head, All-append, All-weaker, Contains-append_left, Contains-push}
+use Rattle.std.proofs.lemmas.List.Kept.{AllPairs-cons}
 use Rattle.squawk_table.specs.Steps as steps
 use Rattle.squawk_table.specs.Steps.{Step, Enter, Exit, is_error, errors_in}
 use Rattle.squawk_parser.specs.Draft.{Draft, Item, Mark, Hole, Open, Close, Token, ByStart, HasNoHole, IsAboveIds, errors_of, ids, is_hole, plain}
@@ -12,7 +13,9 @@ use Rattle.squawk_parser.specs.Recorded.{IsPut, IsReason, IsRefusedStep, Puts}
 use Rattle.squawk_parser.specs.State.{State, Goes, HasHole, Keeps, Records}
 use Rattle.squawk_parser.specs.declared.parser.parse_error.ParseError.{ParseError}
 use Rattle.squawk_parser.specs.declared.parser.parse_error.ParseError.TheVariants.{OutOfMemory, TooManyEvents}
+use Rattle.squawk_parser.proofs.Pairs.{AllPairs-nil, AllPairs-append}
 use Rattle.squawk_parser.proofs.RecordedItems.{plain-append, ids-append, filled-append, errors-append, steps_errors-append, eaten-append, errors-plain, All-front, filled-below, filled-closed, filled-here}
+use Rattle.squawk_parser.proofs.Splits.{All-back}
 
 -- ---- one step after another
 
@@ -93,14 +96,24 @@ put-then {xs} {ys} {a} {b} {c} p q = record {
   steps_made = plain-append p.made q.made ∙ (ap (λ zs. zs ++ plain q.made) p.steps_made ∙ ap (λ zs. xs ++ zs) q.steps_made);
   closed = All-append (λ item. is_hole item ≡ false) p.made q.made p.closed q.closed;
   above = rw (ids-append p.made q.made) (All-append (λ id. IsAboveIds id a.items) (ids p.made) (ids q.made) p.above (below q.above));
+  ascending = rw (ids-append p.made q.made) (AllPairs-append (λ i j. i < j) (ids p.made) (ids q.made) p.ascending q.ascending (behind q.above));
   recorded = omega (arith, p.recorded, q.recorded, length-append xs ys);
 }
   where
+    parts : (id : ℕ) → IsAboveIds id b.items → All (λ i. i < id) (ids a.items ++ ids p.made)
+    parts id above = rw (ap ids p.items ∙ ids-append a.items p.made) at above
+
     one_below : (id : ℕ) → IsAboveIds id b.items → IsAboveIds id a.items
-    one_below id above = All-front (λ i. i < id) (ids a.items) (ids p.made) (rw (ap ids p.items ∙ ids-append a.items p.made) at above)
+    one_below id above = All-front (λ i. i < id) (ids a.items) (ids p.made) (parts id above)
 
     below : All (λ id. IsAboveIds id b.items) (ids q.made) → All (λ id. IsAboveIds id a.items) (ids q.made)
     below above = All-weaker (λ id. IsAboveIds id b.items) (λ id. IsAboveIds id a.items) one_below (ids q.made) above
+
+    one_behind : (id : ℕ) → IsAboveIds id b.items → IsAboveIds id p.made
+    one_behind id above = All-back (λ i. i < id) (ids a.items) (ids p.made) (parts id above)
+
+    behind : All (λ id. IsAboveIds id b.items) (ids q.made) → All (λ id. IsAboveIds id p.made) (ids q.made)
+    behind above = All-weaker (λ id. IsAboveIds id b.items) (λ id. IsAboveIds id p.made) one_behind (ids q.made) above
 
 -- no steps
 pub puts-none : (a : State) → Puts [] a a
@@ -113,6 +126,7 @@ puts-none a = record {
     steps_made = refl;
     closed = All-nil (λ item. is_hole item ≡ false);
     above = All-nil (λ id. IsAboveIds id a.draft.items);
+    ascending = AllPairs-nil (λ i j. i < j);
     recorded = omega arith;
   };
   stays = λ failed. refl;
@@ -158,6 +172,7 @@ token_puts {a} {b} kind n k r position = record {
     steps_made = refl;
     closed = All-cons (λ item. is_hole item ≡ false) (Token kind n) [] refl (All-nil (λ item. is_hole item ≡ false));
     above = All-nil (λ id. IsAboveIds id a.draft.items);
+    ascending = AllPairs-nil (λ i j. i < j);
     recorded = ap (λ d. d.recorded) (r.draft goes);
   };
   stays = λ failed. r.stays (still k failed);
@@ -202,6 +217,7 @@ node-put {a} {b} {c} {xs} id kind above is put = record {
   closed = All-cons no_hole (Open id kind true) (put.made ++ Close ∷ []) refl
       (All-append no_hole put.made (Close ∷ []) put.closed (All-cons no_hole Close [] refl (All-nil no_hole)));
   above = All-cons (λ i. IsAboveIds i a.items) id (ids (put.made ++ Close ∷ [])) above (rw same_ids below);
+  ascending = AllPairs-cons (λ i j. i < j) id (ids (put.made ++ Close ∷ [])) (rw same_ids behind) (rw same_ids put.ascending);
   recorded = omega (arith, put.recorded, ap (λ d. d.recorded) is, length-append xs (Exit ∷ []));
 }
   where
@@ -214,11 +230,20 @@ node-put {a} {b} {c} {xs} id kind above is put = record {
     same_ids : ids (put.made ++ Close ∷ []) ≡ ids put.made
     same_ids = ids-append put.made (Close ∷ []) ∙ append-nil (ids put.made)
 
+    parts : (i : ℕ) → IsAboveIds i b.items → All (λ j. j < i) (ids a.items ++ id ∷ [])
+    parts i over = rw (ap (λ d. ids d.items) is ∙ ids-append a.items (Hole id ByStart ∷ [])) at over
+
     one_below : (i : ℕ) → IsAboveIds i b.items → IsAboveIds i a.items
-    one_below i over = All-front (λ j. j < i) (ids a.items) (id ∷ []) (rw (ap (λ d. ids d.items) is ∙ ids-append a.items (Hole id ByStart ∷ [])) at over)
+    one_below i over = All-front (λ j. j < i) (ids a.items) (id ∷ []) (parts i over)
 
     below : All (λ i. IsAboveIds i a.items) (ids put.made)
     below = All-weaker (λ i. IsAboveIds i b.items) (λ i. IsAboveIds i a.items) one_below (ids put.made) put.above
+
+    one_behind : (i : ℕ) → IsAboveIds i b.items → id < i
+    one_behind i over = All-head (λ j. j < i) id [] (All-back (λ j. j < i) (ids a.items) (id ∷ []) (parts i over))
+
+    behind : All (λ i. id < i) (ids put.made)
+    behind = All-weaker (λ i. IsAboveIds i b.items) (λ i. id < i) one_behind (ids put.made) put.above
 
 -- a node is begun, steps are recorded in it, and it is completed
 pub node_puts : {a b c d : State} {xs : List Step} (id kind : ℕ) → Keeps a b → Keeps b c → Keeps c d

@@ -9,30 +9,33 @@ use Rattle.squawk_parser.specs.Eaten.{current_as, node, recovery_steps}
 use Rattle.squawk_parser.specs.Edits.{completed, started, with_token}
 use Rattle.squawk_parser.specs.Recorded.{Puts}
 use Rattle.squawk_parser.specs.State.{State, Goes, Keeps, Records, ahead, kind_at}
-use Rattle.squawk_parser.proofs.RecordedSteps.{Keeps-then, node_puts, puts-none, puts-then}
-use Rattle.squawk_parser.proofs.SeenSteps.{ahead-moved, ahead-still, bump_puts, if-false, if-true, kind_at-first}
+use Rattle.squawk_parser.proofs.RecordedSteps.{Keeps-then, node_puts, puts-none, puts-then, token_puts}
+use Rattle.squawk_parser.proofs.SeenSteps.{ahead-moved, ahead-still, if-false, if-true, kind_at-first}
 
 -- an error eats no token
 pub ahead-error : {a b : State} {text : List ℕ} → Keeps a b → Puts (Error text ∷ []) a b → ahead b 0 ≡ ahead a 0
 ahead-error keeps puts = ahead-moved 0 keeps puts.position
 
+-- the current token is eaten as one of a kind, if there is one
+pub current_puts_as : {a b : State} (kind : ℕ) → Keeps a b → (kind_at a 0 ≡ EOF → b ≡ a)
+    → (kind_at a 0 ≢ EOF → b.position ≡ a.position + 1) → (kind_at a 0 ≢ EOF → Records a b (with_token a.draft kind 1))
+    → Puts (current_as kind (ahead a 0)) a b
+current_puts_as {a} {b} kind keeps ends position records = cases (kind_in (ahead a 0) 0 == EOF) refl
+  where
+    cases : (t : Bool) → (kind_in (ahead a 0) 0 == EOF) ≡ t → Puts (current_as kind (ahead a 0)) a b
+    cases true e =
+        let same : b ≡ a = ends (kind_at-first a ∙ eqb-true (kind_in (ahead a 0) 0) EOF e) in
+        subst (λ steps. Puts steps a b) (sym (if-true _ _ _ e)) (subst (λ s. Puts [] a s) (sym same) (puts-none a))
+    cases false e =
+        let some : kind_at a 0 ≢ EOF = λ end. let kind_end : kind_in (ahead a 0) 0 ≡ EOF = sym (kind_at-first a) ∙ end in absurd (grind (arith, e, kind_end)) in
+        subst (λ steps. Puts steps a b) (sym (if-false _ _ _ e)) (token_puts kind 1 keeps (records some) (position some))
+
 -- the current token is eaten, if there is one
 pub current_puts : {a b : State} → Keeps a b → (kind_at a 0 ≡ EOF → b ≡ a)
     → (kind_at a 0 ≢ EOF → b.position ≡ a.position + 1) → (kind_at a 0 ≢ EOF → Records a b (with_token a.draft (kind_at a 0) 1))
     → Puts (current_as (kind_in (ahead a 0) 0) (ahead a 0)) a b
-current_puts {a} {b} keeps ends position records = cases (kind_in (ahead a 0) 0 == EOF) refl
-  where
-    kind : ℕ
-    kind = kind_in (ahead a 0) 0
-
-    cases : (t : Bool) → (kind == EOF) ≡ t → Puts (current_as kind (ahead a 0)) a b
-    cases true e =
-        let end : kind ≡ EOF = eqb-true kind EOF e in
-        let same : b ≡ a = ends (kind_at-first a ∙ end) in
-        subst (λ steps. Puts steps a b) (sym (if-true _ _ _ e)) (subst (λ s. Puts [] a s) (sym same) (puts-none a))
-    cases false e =
-        let some : kind ≢ EOF = λ end. absurd (grind (arith, e, end)) in
-        subst (λ steps. Puts steps a b) (sym (if-false _ _ _ e)) (bump_puts kind refl some keeps position records)
+current_puts {a} {b} keeps ends position records =
+    subst (λ kind. Puts (current_as kind (ahead a 0)) a b) (kind_at-first a) (current_puts_as (kind_at a 0) keeps ends position records)
 
 -- an error alone, where the token is one to go on from
 pub recovery-there : (text : List ℕ) (recovers : ℕ → Bool) (s : State) → recovers (kind_at s 0) ≡ true → recovery_steps text recovers (ahead s 0) ≡ Error text ∷ []

@@ -1,19 +1,21 @@
 -- What acts record that put whole steps at the end of a draft.
-use Rattle.std.specs.Prelude.{◌≡◌, ℕ, ◌+◌, ◌<◌, true, Some, List, ◌∷◌, ◌++◌, length, All, IsSome}
+use Rattle.std.specs.Prelude.{◌≡◌, ℕ, ◌+◌, ◌<◌, true, Some, List, ◌∷◌, ◌++◌, length, All, AllPairs, IsSome}
 use Rattle.squawk_table.specs.Steps.{Step, is_error, errors_in, eaten}
 use Rattle.squawk_parser.specs.Draft.{Draft, Item, HasNoHole, IsAboveIds, errors_of, ids, plain}
 use Rattle.squawk_parser.specs.State.{State, Goes}
 use Rattle.squawk_parser.specs.declared.parser.parse_error.ParseError.{ParseError}
 use Rattle.squawk_parser.specs.declared.parser.parse_error.ParseError.TheVariants.{OutOfMemory, TooManyEvents, TooManyErrors}
 
--- Items for these steps were put at the end: no hole among them, and no id that isn't above those before. Each step is one recorded
--- event.
+-- Items for these steps were put at the end: no hole is among them, and each of their ids is above all ids before it, those of the
+-- old draft and those among these items. Each step is one recorded event.
 pub record IsPut (steps : List Step) (old new : Draft) : Type 0 where
   pub made : List Item
   pub items : new.items ≡ old.items ++ made
   pub steps_made : plain made ≡ steps
   pub closed : HasNoHole made
   pub above : All (λ id. IsAboveIds id old.items) (ids made)
+  -- and each is above those made before it
+  pub ascending : AllPairs (λ i j. i < j) (ids made)
   pub recorded : new.recorded ≡ old.recorded + length steps
 
 -- Why a parser that has recorded so many events and errors is refused a step, under its limits of both. The limit of events is
