@@ -10,3 +10,4 @@ pub mod State
 pub mod Recorded
 pub mod Eaten
 pub mod Parse
+pub mod ErrorLines

@@ -7,3 +7,4 @@ pub mod ErrorRanges
 pub mod Found
 pub mod Alphabets
 pub mod UnitCuts
+pub mod ErrorLines

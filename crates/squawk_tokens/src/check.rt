@@ -5,6 +5,8 @@ ghost use Rattle.squawk_tokens.specs.AcceptedTokens.{IsGood, IsAccepted, Answers
 use crate::rows::meets_kind;
 use crate::token::Token;
 use std::alloc::{AllocError, AllocFailed};
+use std::error::Error;
+use std::fmt;
 
 /// The longest text in bytes: places in it have 32 bits.
 const LONGEST_TEXT: usize = 4294967295;
@@ -22,6 +24,24 @@ pub enum TableError {
     /// Memory was refused. The list is accepted.
     OutOfMemory,
 }
+
+impl fmt::Display for TableError {
+    ghost use Rattle.std.specs.Prelude.{Some};
+    ghost use Rattle.squawk_tokens.specs.ErrorLines.{line_of};
+
+    ghost output = { λ error. Some (line_of error) };
+
+    fn fmt<W: fmt::Write>(&self, f: &mut fmt::Formatter<W>) -> fmt::Result {
+        match *self {
+            TableError::TextTooLong => write!(f, "text too long"),
+            TableError::BadToken { index } => write!(f, "bad token {index}"),
+            TableError::TextLeft { at } => write!(f, "text left at {at}"),
+            TableError::OutOfMemory => write!(f, "memory"),
+        }
+    }
+}
+
+impl Error for TableError {}
 
 impl From<AllocError> for TableError {
     ghost use Rattle.squawk_tokens.specs.declared.check.TableError.TheVariants.{OutOfMemory};

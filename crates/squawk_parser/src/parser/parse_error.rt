@@ -3,6 +3,8 @@ ghost use Rattle.std.specs.Prelude.{◌≡◌};
 ghost use Rattle.squawk_parser.specs.declared.parser.parse_error.ParseError.TheVariants.{OutOfMemory};
 
 use std::alloc::AllocError;
+use std::error::Error;
+use std::fmt;
 
 /// Why a parse was refused.
 #[derive(Clone, Copy, Debug, PartialEq, Eq)]
@@ -14,6 +16,23 @@ pub enum ParseError {
     /// One more error was to be recorded than may be.
     TooManyErrors,
 }
+
+impl fmt::Display for ParseError {
+    ghost use Rattle.std.specs.Prelude.{Some};
+    ghost use Rattle.squawk_parser.specs.ErrorLines.{line_of};
+
+    ghost output = { λ error. Some (line_of error) };
+
+    fn fmt<W: fmt::Write>(&self, f: &mut fmt::Formatter<W>) -> fmt::Result {
+        match *self {
+            ParseError::OutOfMemory => write!(f, "memory"),
+            ParseError::TooManyEvents => write!(f, "too many events"),
+            ParseError::TooManyErrors => write!(f, "too many errors"),
+        }
+    }
+}
+
+impl Error for ParseError {}
 
 impl From<AllocError> for ParseError {
     ghost from_gives = { λ _ error. error ≡ OutOfMemory };
