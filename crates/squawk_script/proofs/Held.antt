@@ -1,0 +1,201 @@
+-- The slots of a run are what the draft has, after each edit of it.
+use Rattle.std.proofs.Common.{◌≡◌, ◌≢◌, ℕ, Bool, true, false, inl, inr, List, [], ◌∷◌, ◌++◌, cond, arith, refl, subst}
+use Rattle.std.specs.Prelude.{Contains, slice_set}
+use Rattle.std.proofs.lemmas.Bool.{cases_eq}
+use Rattle.std.proofs.lemmas.List.Elements.{All-contains, Contains-append_left, Contains-append_cases, Contains-push, Contains-push_cases}
+use Rattle.squawk_parser.specs.Draft as draft
+use Rattle.squawk_parser.specs.Draft.{Draft, Item, Mark, Node, ByStart, ByPrecede, HasNoHole, IsAboveIds, is_hole}
+use Rattle.squawk_parser.specs.Edits.{extended_items, filled, is_hole_of, is_opening_of, moved, preceded, preceded_item, replaced, stands_before}
+use Rattle.squawk_parser.specs.Edits.{without_hole}
+use Rattle.squawk_parser.proofs.Markers.{Contains-others}
+use Rattle.squawk_parser.proofs.Splits.{itself}
+use Rattle.squawk_script.specs.Slots.{Holds, IsHeld, AreInOrder, slot_at}
+use Rattle.squawk_script.specs.declared.slot.Slot.{Slot}
+use Rattle.squawk_script.specs.declared.slot.Slot.TheVariants.{Open, Done, Spent}
+use Rattle.squawk_script.proofs.EditedItems.{Contains-made, Contains-only, edited-cases}
+use Rattle.squawk_script.proofs.OtherSlots.{before-new, before-spent, done-slot, held-append, held-holes, held-openings, hole-stayed, other-slot, others}
+use Rattle.squawk_script.proofs.OtherSlots.{same-mark}
+use Rattle.squawk_script.proofs.SlotLists.{Contains-set, each-push, each-set, pairs-push, pairs-set}
+
+-- ---- an open marker's slot is spent
+
+-- no hole is left of the marker at place k, and the other slots are what the new items have
+module _ (items new : List Item) (slots : List Slot) (k : ℕ) (m : Mark) (made : Slot) where
+  holds-edited : slot_at slots k ≡ Open m → Holds items slots → ((i : ℕ) → i ≢ k → IsHeld new (slot_at slots i)) → IsHeld new made
+      → ((slot : Slot) → AreInOrder slot (Open m) → AreInOrder slot made) → ((slot : Slot) → AreInOrder (Open m) slot → AreInOrder made slot)
+      → ((o : Mark) → Contains new (draft.Hole o.id o.made) → (o.id ≢ m.id) × Contains items (draft.Hole o.id o.made))
+      → Holds new (slice_set slots k made)
+  holds-edited at holds rest here before behind left = record {
+    each = each-set Spent (IsHeld new) slots k made rest here tt;
+    order = pairs-set Spent AreInOrder slots k made holds.order (λ slot. rw at (before slot)) (λ slot. rw at (behind slot));
+    covers = λ o there.
+        let stayed = left o there in
+        Contains-set Spent (Open o) slots k made (other-slot slots k m o at stayed.0) (holds.covers o stayed.1);
+  }
+
+-- a node's opening stands where a marker's hole stood
+opening-filled : (items : List Item) (m : Mark) (id kind : ℕ) → Contains items (draft.Hole m.id m.made)
+    → Contains (replaced (is_hole_of m.id) (λ item. draft.Open id kind true ∷ []) items) (draft.Open id kind true)
+opening-filled items m id kind there =
+    let opening = draft.Open id kind true in
+    Contains-made (is_hole_of m.id) (λ item. opening ∷ []) (draft.Hole m.id m.made) opening items (itself m.id) there (Contains-push [] opening)
+
+-- an opening is no hole
+no-hole : (o : Mark) (id kind : ℕ) → Contains (draft.Open id kind true ∷ []) (draft.Hole o.id o.made) → ⊥
+no-hole o id kind there = let same = Contains-only (draft.Hole o.id o.made) (draft.Open id kind true) there in cc
+
+-- nor is one that was preceded
+no-hole-preceded : (id : ℕ) (item : Item) (o : Mark) → is_opening_of id item ≡ true → preceded_item item ≡ draft.Hole o.id o.made → ⊥
+no-hole-preceded id (draft.Hole i made) o passes same = cc
+no-hole-preceded id (draft.Open i kind free) o passes same = cc
+no-hole-preceded id draft.Close o passes same = cc
+no-hole-preceded id (draft.Token kind n) o passes same = cc
+no-hole-preceded id (draft.Error text) o passes same = cc
+
+-- ---- the edits
+
+-- before the first call
+pub holds-begin : Holds [] []
+holds-begin = record { each = λ i. tt; order = λ i j lt. tt; covers = λ m there. absurd (omega (arith, there.1)) }
+
+-- items without a hole at the end
+pub holds-put : (items made : List Item) (slots : List Slot) → HasNoHole made → Holds items slots → Holds (items ++ made) slots
+holds-put items made slots closed holds = record {
+  each = λ i. held-append items made (slot_at slots i) (holds.each i);
+  order = holds.order;
+  covers = λ m there. elim (Contains-append_cases items made (draft.Hole m.id m.made) there) [
+    | inl before ↦ holds.covers m before
+    | inr behind ↦ absurd (let never : true ≡ false = All-contains (λ item. is_hole item ≡ false) made (draft.Hole m.id m.made) closed behind in cc)
+  ];
+}
+
+-- a marker is started
+pub holds-started : (items : List Item) (slots : List Slot) (m : Mark) → m.made ≡ ByStart → IsAboveIds m.id items → Holds items slots
+    → Holds (items ++ draft.Hole m.id ByStart ∷ []) (slots ++ Open m ∷ [])
+holds-started items slots m made above holds = record {
+  each =
+      each-push Spent (IsHeld (items ++ hole ∷ [])) slots (Open m) (λ i. held-append items (hole ∷ []) (slot_at slots i) (holds.each i))
+      (rw made (Contains-push items hole)) tt;
+  order = pairs-push Spent AreInOrder slots (Open m) holds.order (λ i. before-new items m (slot_at slots i) above (holds.each i)) before-spent;
+  covers = λ o there. elim (Contains-push_cases items hole (draft.Hole o.id o.made) there) [
+    | inl before ↦ Contains-append_left slots (Open m ∷ []) (Open o) (holds.covers o before)
+    | inr same ↦ subst (Contains (slots ++ Open m ∷ [])) (same-mark m o (cc) (cc)) (Contains-push slots (Open m))
+  ];
+}
+  where
+    hole : Item
+    hole = draft.Hole m.id ByStart
+
+-- completed
+pub holds-completed : (items : List Item) (slots : List Slot) (k kind : ℕ) (m : Mark) → slot_at slots k ≡ Open m → Holds items slots
+    → Holds (filled items m.id kind ++ draft.Close ∷ []) (slice_set slots k (Done (record { id = m.id; kind = kind })))
+holds-completed items slots k kind m at holds =
+    holds-edited items (filled items m.id kind ++ draft.Close ∷ []) slots k m node at holds
+    (λ i other. held-append (filled items m.id kind) (draft.Close ∷ []) (slot_at slots i)
+    (held-holes m.id f items (slot_at slots i) (others slots k m.id (rw at refl) holds.order i other) (holds.each i)))
+    (held-append (filled items m.id kind) (draft.Close ∷ []) node (opening-filled items m m.id kind (subst (IsHeld items) at (holds.each k))))
+    before-done (λ slot lt. lt)
+    (λ o there. elim (Contains-push_cases (filled items m.id kind) draft.Close (draft.Hole o.id o.made) there) [
+      | inl before ↦ hole-stayed m.id f items o (λ item. no-hole o m.id kind) before
+      | inr same ↦ absurd (cc)
+    ])
+  where
+    node : Slot
+    node = Done (record { id = m.id; kind = kind })
+
+    f : Item → List Item
+    f item = draft.Open m.id kind true ∷ []
+
+    before-done : (slot : Slot) → AreInOrder slot (Open m) → AreInOrder slot node
+    before-done (Open o) lt = lt
+    before-done (Done n) lt = lt
+    before-done Spent lt = tt
+
+-- abandoned
+pub holds-abandoned : (items : List Item) (slots : List Slot) (k : ℕ) (m : Mark) → slot_at slots k ≡ Open m → Holds items slots
+    → Holds (without_hole m.id items) (slice_set slots k Spent)
+holds-abandoned items slots k m at holds =
+    holds-edited items (without_hole m.id items) slots k m Spent at holds
+    (λ i other. held-holes m.id (λ item. []) items (slot_at slots i) (others slots k m.id (rw at refl) holds.order i other) (holds.each i))
+    tt (λ slot lt. before-spent slot) (λ slot lt. tt)
+    (λ o there. hole-stayed m.id (λ item. []) items o (λ item has. absurd (omega (arith, has.1))) there)
+
+-- a node is preceded
+pub holds-preceded : (d : Draft) (slots : List Slot) (k : ℕ) (n : Node) (m : Mark) → slot_at slots k ≡ Done n → m.made ≡ ByPrecede
+    → IsAboveIds m.id d.items → Holds d.items slots → Holds (preceded d n.id m.id).items (slice_set slots k Spent ++ Open m ∷ [])
+holds-preceded d slots k n m at made above holds = record {
+  each =
+      each-push Spent (IsHeld new) (slice_set slots k Spent) (Open m)
+      (each-set Spent (IsHeld new) slots k Spent
+      (λ i other. held-openings n.id f d.items (slot_at slots i) (others slots k n.id (rw at refl) holds.order i other) (holds.each i)) tt tt)
+      (rw made (Contains-made (is_opening_of n.id) f (draft.Open n.id n.kind true) hole d.items (itself n.id) (subst (IsHeld d.items) at (holds.each k))
+      (0, omega arith, refl)))
+      tt;
+  order =
+      pairs-push Spent AreInOrder (slice_set slots k Spent) (Open m)
+      (pairs-set Spent AreInOrder slots k Spent holds.order (λ slot lt. before-spent slot) (λ slot lt. tt))
+      (each-set Spent (λ slot. AreInOrder slot (Open m)) slots k Spent (λ i other. before-new d.items m (slot_at slots i) above (holds.each i)) tt tt)
+      before-spent;
+  covers = λ o there. elim (edited-cases (is_opening_of n.id) f d.items (draft.Hole o.id o.made) there) [
+    | inl from ↦ elim (Contains-append_cases (hole ∷ []) (preceded_item from.old ∷ []) (draft.Hole o.id o.made) from.gives) [
+      | inl here ↦
+          let same = Contains-only (draft.Hole o.id o.made) hole here in
+          subst (Contains (slice_set slots k Spent ++ Open m ∷ [])) (same-mark m o (cc) (cc)) (Contains-push (slice_set slots k Spent) (Open m))
+      | inr opening ↦ absurd (no-hole-preceded n.id from.old o from.passes (Contains-only (draft.Hole o.id o.made) (preceded_item from.old) opening))
+    ]
+    | inr stayed ↦
+        Contains-append_left (slice_set slots k Spent) (Open m ∷ []) (Open o)
+        (Contains-set Spent (Open o) slots k Spent (done-slot slots k n o at) (holds.covers o stayed.1))
+  ];
+}
+  where
+    hole : Item
+    hole = draft.Hole m.id ByPrecede
+
+    f : Item → List Item
+    f item = hole ∷ preceded_item item ∷ []
+
+    new : List Item
+    new = replaced (is_opening_of n.id) f d.items
+
+-- the opening of a node moves to the place of a hole
+holds-moved : (items : List Item) (slots : List Slot) (j k : ℕ) (n : Node) (m : Mark) → slot_at slots j ≡ Done n → slot_at slots k ≡ Open m
+    → Holds items slots → Holds (moved n m.id items) (slice_set slots k Spent)
+holds-moved items slots j k n m at_node at holds =
+    holds-edited items (moved n m.id items) slots k m Spent at holds rest tt (λ slot lt. before-spent slot) (λ slot lt. tt) left
+  where
+    opening : Item
+    opening = draft.Open n.id n.kind true
+
+    without : List Item
+    without = replaced (is_opening_of n.id) (λ item. []) items
+
+    hole : Contains without (draft.Hole m.id m.made)
+    hole = Contains-others (is_opening_of n.id) (λ item. []) (draft.Hole m.id m.made) items refl (subst (IsHeld items) at (holds.each k))
+
+    rest : (i : ℕ) → i ≢ k → IsHeld (moved n m.id items) (slot_at slots i)
+    rest i other = elim (cases_eq i j) [
+      | inl same ↦ rw (same, at_node) (opening-filled without m n.id n.kind hole)
+      | inr differs ↦
+          held-holes m.id (λ item. opening ∷ []) without (slot_at slots i) (others slots k m.id (rw at refl) holds.order i other)
+          (held-openings n.id (λ item. []) items (slot_at slots i) (others slots j n.id (rw at_node refl) holds.order i differs) (holds.each i))
+    ]
+
+    left : (o : Mark) → Contains (moved n m.id items) (draft.Hole o.id o.made) → (o.id ≢ m.id) × Contains items (draft.Hole o.id o.made)
+    left o there =
+        let stayed = hole-stayed m.id (λ item. opening ∷ []) without o (λ item. no-hole o n.id n.kind) there in (
+          stayed.0,
+          elim (edited-cases (is_opening_of n.id) (λ item. []) items (draft.Hole o.id o.made) stayed.1) [
+            | inl from ↦ absurd (omega (arith, from.gives.1))
+            | inr before ↦ before.1
+          ],
+        )
+
+-- a node is extended to a marker
+pub holds-extended : (items : List Item) (slots : List Slot) (j k : ℕ) (n : Node) (m : Mark) → slot_at slots j ≡ Done n → slot_at slots k ≡ Open m
+    → Holds items slots → Holds (extended_items n m.id items) (slice_set slots k Spent)
+holds-extended items slots j k n m at_node at holds = cases (stands_before (is_hole_of m.id) (is_opening_of n.id) items)
+  where
+    cases : (b : Bool) → Holds (cond b (moved n m.id items) (without_hole m.id items)) (slice_set slots k Spent)
+    cases true = holds-moved items slots j k n m at_node at holds
+    cases false = holds-abandoned items slots k m at holds

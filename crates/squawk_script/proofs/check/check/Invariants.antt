@@ -1,0 +1,12 @@
+-- The table has the statuses of the markers after the calls so far, which are all good.
+use Rattle.std.proofs.Common.{◌≡◌, vec_capacity, take}
+use Rattle.squawk_script.specs.Accepted.{AreGoodBelow}
+use Rattle.squawk_script.proofs.Statuses.{AreStatusesOf}
+use Rattle.squawk_script.proofs.check.check.Given as goal
+
+abbrev pub invariant-loop-index : goal.invariant-loop-index
+invariant-loop-index l = record {
+  statuses : AreStatusesOf (take l.index l.calls) l.table.items;
+  capacity : vec_capacity l.table ≡ l.markers;
+  good : AreGoodBelow l.calls l.index;
+}

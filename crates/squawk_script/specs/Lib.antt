@@ -1,0 +1,4 @@
+pub mod Accepted
+pub mod Meaning
+pub mod Slots
+pub mod ErrorLines

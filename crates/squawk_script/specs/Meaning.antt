@@ -1,0 +1,101 @@
+-- What a list of calls means over an input.
+use Rattle.std.specs.Prelude.{◌≡◌, ℕ, ◌+◌, max, true, List, [], ◌∷◌, ◌++◌, fold, length, slice_index_or, slice_set, if◌then◌else◌}
+use Rattle.squawk_kinds.specs.TokenSets.{has}
+use Rattle.squawk_table.specs.ParserInput.{Entry, kind_in}
+use Rattle.squawk_table.specs.Steps as steps
+use Rattle.squawk_table.specs.Steps.{Step, eaten}
+use Rattle.squawk_parser.specs.Composites.{stands_at}
+use Rattle.squawk_parser.specs.Draft as draft
+use Rattle.squawk_parser.specs.Draft.{Draft, Item, Node, ids, nothing, plain}
+use Rattle.squawk_parser.specs.Eaten.{current_as, eat_steps, expect_steps, no_recovery, recovery_steps}
+use Rattle.squawk_parser.specs.Edits.{abandoned, completed, extended, preceded, started}
+use Rattle.squawk_parser.specs.LookAhead.{seen_from}
+use Rattle.squawk_parser.specs.Words.{Words}
+use Rattle.squawk_script.specs.declared.call.Call.{Call}
+use Rattle.squawk_script.specs.declared.call.Call.TheVariants.{Start, Complete, Abandon, Precede, ExtendTo, Eat, BumpAny, BumpRemap, Expect, Error, ErrRecover, ErrAndBump}
+
+-- what a script is: its calls, and its words
+pub record Meaning : Type 0 where
+  pub calls : List Call
+  pub words : Words
+
+-- the least number that is above all of these
+abbrev pub above_all : List ℕ → ℕ
+above_all [] = 0
+above_all (id ∷ ids) = max (id + 1) (above_all ids)
+
+-- the id of a new hole or opening
+abbrev pub new_id : Draft → ℕ
+new_id d = above_all (ids d.items)
+
+-- a step as an item; an opening has a new id
+abbrev pub item_for : ℕ → Step → Item
+item_for id (steps.Token kind n) = draft.Token kind n
+item_for id (steps.Enter kind) = draft.Open id kind true
+item_for id steps.Exit = draft.Close
+item_for id (steps.Error text) = draft.Error text
+
+-- a step at the end of a draft
+abbrev pub with_step : Draft → Step → Draft
+with_step d step = record { items = d.items ++ item_for (new_id d) step ∷ []; recorded = d.recorded + 1 }
+
+-- steps at the end, one after another
+abbrev pub with_steps : Draft → List Step → Draft
+with_steps d steps = fold with_step d steps
+
+-- where a run of calls is: what it recorded, how many input tokens it has eaten, and the markers that it made, each as the node that it
+-- begins: the id of its hole and of its opening, and its kind, which counts from its completion on
+pub record Run : Type 0 where
+  pub draft : Draft
+  pub position : ℕ
+  pub markers : List Node
+
+-- before the first call
+abbrev pub begin : Run
+begin = record { draft = nothing; position = 0; markers = [] }
+
+abbrev pub marker_at : Run → ℕ → Node
+marker_at run m = slice_index_or run.markers m (record { id = 0; kind = 0 })
+
+-- a marker that is made
+abbrev pub new_marker : Run → Node
+new_marker run = record { id = new_id run.draft; kind = 0 }
+
+-- the tokens from a run's position on
+abbrev pub seen : List Entry → Run → List Entry
+seen input run = seen_from input (length input) run.position
+
+-- what a call that names no marker puts at the end of the draft, where these tokens are seen
+abbrev pub call_steps : Words → List Entry → Call → List Step
+call_steps words seen (Eat kind) = if stands_at (has words.operator_first) kind seen then eat_steps words kind seen else []
+call_steps words seen BumpAny = current_as (kind_in seen 0) seen
+call_steps words seen (BumpRemap kind) = current_as kind seen
+call_steps words seen (Expect kind) = expect_steps words kind seen
+call_steps words seen (Error message) = steps.Error message ∷ []
+call_steps words seen (ErrRecover message recovery) = recovery_steps message (has recovery) seen
+call_steps words seen (ErrAndBump message) = recovery_steps message no_recovery seen
+call_steps words seen call = []
+
+-- a run whose call puts these steps at the end
+abbrev pub with_call : Run → List Step → Run
+with_call run steps = record run { draft = with_steps run.draft steps; position = run.position + eaten steps }
+
+-- where one call leads
+abbrev pub stepped : Words → List Entry → Run → Call → Run
+stepped words input run Start = record run { draft = started run.draft (new_id run.draft); markers = run.markers ++ new_marker run ∷ [] }
+stepped words input run (Complete m kind) =
+    let id = (marker_at run m).id in
+    record run { draft = completed run.draft id kind; markers = slice_set run.markers m (record { id = id; kind = kind }) }
+stepped words input run (Abandon m) = record run { draft = abandoned run.draft (marker_at run m).id }
+stepped words input run (Precede n) = record run { draft = preceded run.draft (marker_at run n).id (new_id run.draft); markers = run.markers ++ new_marker run ∷ [] }
+stepped words input run (ExtendTo n m) = record run { draft = extended run.draft (marker_at run n) (marker_at run m).id }
+stepped words input run call = with_call run (call_steps words (seen input run) call)
+
+-- where the calls lead, one after another
+abbrev pub run_of : Words → List Entry → List Call → Run
+run_of words input calls = fold (stepped words input) begin calls
+
+-- The draft has the plain list and the recorded events of the run. Its ids may be others.
+pub record IsRunOf (script : Meaning) (input : List Entry) (left : Draft) : Type 0 where
+  pub items : plain left.items ≡ plain (run_of script.words input script.calls).draft.items
+  pub recorded : left.recorded ≡ (run_of script.words input script.calls).draft.recorded

@@ -1,0 +1,131 @@
+-- Where the markers of a run stand.
+use Rattle.std.specs.Prelude.{◌≡◌, ℕ, ◌<◌, ◌==◌, ◌&&◌, Bool, true, false, not, List, [], ◌∷◌, ◌++◌, Contains, length, map, slice_index_or, slice_set, nat_lt, ⊤}
+use Rattle.squawk_kinds.specs.Kinds.{TOMBSTONE}
+use Rattle.squawk_parser.specs.Draft as draft
+use Rattle.squawk_parser.specs.Draft.{Item, Mark, Node, ids, is_hole}
+use Rattle.squawk_parser.specs.State.{State, Goes}
+use Rattle.squawk_script.specs.Accepted.{is_edible}
+use Rattle.squawk_script.specs.Meaning.{Run, stepped}
+use Rattle.squawk_script.specs.declared.call.Call.{Call}
+use Rattle.squawk_script.specs.declared.call.Call.TheVariants as calls
+use Rattle.squawk_script.specs.declared.status.Status.{Status}
+use Rattle.squawk_script.specs.declared.status.Status.TheVariants as status
+use Rattle.squawk_script.specs.declared.slot.Slot.{Slot}
+use Rattle.squawk_script.specs.declared.slot.Slot.TheVariants.{Open, Done, Spent}
+
+-- ---- statuses
+
+abbrev pub status_at : List Status → ℕ → Status
+status_at statuses m = slice_index_or statuses m status.Spent
+
+abbrev pub is_status_open : Status → Bool
+is_status_open status.Open = true
+is_status_open status.AtHand = false
+is_status_open status.Spent = false
+
+abbrev pub is_status_at_hand : Status → Bool
+is_status_at_hand status.Open = false
+is_status_at_hand status.AtHand = true
+is_status_at_hand status.Spent = false
+
+-- whether a call may be made where the markers stand so
+abbrev pub is_admitted : List Status → Call → Bool
+is_admitted statuses calls.Start = nat_lt (length statuses) 4294967296
+is_admitted statuses (calls.Complete marker kind) = is_status_open (status_at statuses marker) && not (kind == TOMBSTONE)
+is_admitted statuses (calls.Abandon marker) = is_status_open (status_at statuses marker)
+is_admitted statuses (calls.Precede node) = is_status_at_hand (status_at statuses node) && nat_lt (length statuses) 4294967296
+is_admitted statuses (calls.ExtendTo node marker) =
+    is_status_at_hand (status_at statuses node) && (is_status_open (status_at statuses marker) && nat_lt marker node)
+is_admitted statuses (calls.Eat kind) = is_edible kind
+is_admitted statuses (calls.Expect kind) = is_edible kind
+is_admitted statuses call = true
+
+-- where they stand after it
+abbrev pub noted : List Status → Call → List Status
+noted statuses calls.Start = statuses ++ status.Open ∷ []
+noted statuses (calls.Complete marker kind) = slice_set statuses marker status.AtHand
+noted statuses (calls.Abandon marker) = slice_set statuses marker status.Spent
+noted statuses (calls.Precede node) = slice_set statuses node status.Spent ++ status.Open ∷ []
+noted statuses (calls.ExtendTo node marker) = slice_set statuses marker status.Spent
+noted statuses call = statuses
+
+-- ---- slots
+
+abbrev pub slot_at : List Slot → ℕ → Slot
+slot_at slots m = slice_index_or slots m Spent
+
+abbrev pub status_of : Slot → Status
+status_of (Open m) = status.Open
+status_of (Done n) = status.AtHand
+status_of Spent = status.Spent
+
+abbrev pub statuses_of : List Slot → List Status
+statuses_of slots = map status_of slots
+
+-- the slot is what the draft has
+abbrev pub IsHeld : List Item → Slot → Type 0
+IsHeld items (Open m) = Contains items (draft.Hole m.id m.made)
+IsHeld items (Done n) = Contains items (draft.Open n.id n.kind true)
+IsHeld items Spent = ⊤
+
+-- the id that a slot has is above this one
+abbrev pub IsBelow : ℕ → Slot → Type 0
+IsBelow id (Open m) = id < m.id
+IsBelow id (Done n) = id < n.id
+IsBelow id Spent = ⊤
+
+-- the first slot's id is below the second's
+abbrev pub AreInOrder : Slot → Slot → Type 0
+AreInOrder (Open m) slot = IsBelow m.id slot
+AreInOrder (Done n) slot = IsBelow n.id slot
+AreInOrder Spent slot = ⊤
+
+-- The slots are what the draft has, in the order of their ids, and it has no other holes.
+pub record Holds (items : List Item) (slots : List Slot) : Type 0 where
+  pub each : (i : ℕ) → IsHeld items (slot_at slots i)
+  pub order : (i j : ℕ) → i < j → AreInOrder (slot_at slots i) (slot_at slots j)
+  pub covers : (m : Mark) → Contains items (draft.Hole m.id m.made) → Contains slots (Open m)
+
+-- the same, if the parser has not failed, which sees the whole input
+pub record IsTied (s : State) (slots : List Slot) : Type 0 where
+  pub holds : Goes s → Holds s.draft.items slots
+  pub limit : s.limit ≡ length s.input
+
+-- ---- a parser and a run
+
+-- an item under other ids, where it isn't asked whether a node can still be preceded
+abbrev pub renamed : (ℕ → ℕ) → Item → Item
+renamed f (draft.Hole i made) = draft.Hole (f i) made
+renamed f (draft.Open i kind free) = draft.Open (f i) kind false
+renamed f draft.Close = draft.Close
+renamed f (draft.Token kind n) = draft.Token kind n
+renamed f (draft.Error text) = draft.Error text
+
+abbrev pub same_id : ℕ → ℕ
+same_id i = i
+
+-- The second list is the first one under other ids, which are in the same order.
+pub record IsRenamed (f : ℕ → ℕ) (items others : List Item) : Type 0 where
+  pub same : map (renamed f) items ≡ map (renamed same_id) others
+  pub order : (i j : ℕ) → Contains (ids items) i → Contains (ids items) j → i < j → f i < f j
+
+-- the run's marker is that of the slot
+abbrev pub IsMarkerOf : (ℕ → ℕ) → Slot → Node → Type 0
+IsMarkerOf f (Open m) marker = marker.id ≡ f m.id
+IsMarkerOf f (Done n) marker = marker ≡ record { id = f n.id; kind = n.kind }
+IsMarkerOf f Spent marker = ⊤
+
+-- a parser and its slots are where a run is, up to a change of ids that keeps their order
+pub record IsAt (s : State) (slots : List Slot) (run : Run) : Type 0 where
+  pub f : ℕ → ℕ
+  pub items : IsRenamed f s.draft.items run.draft.items
+  pub recorded : run.draft.recorded ≡ s.draft.recorded
+  pub position : run.position ≡ s.position
+  pub count : length run.markers ≡ length slots
+  pub markers : (i : ℕ) → IsMarkerOf f (slot_at slots i) (slice_index_or run.markers i (record { id = 0; kind = 0 }))
+
+-- a call was made
+pub record Performs (old new : State) (slots slots' : List Slot) (call : Call) : Type 0 where
+  pub tied : IsTied new slots'
+  pub statuses : statuses_of slots' ≡ noted (statuses_of slots) call
+  pub step : Goes new → (run : Run) → IsAt old slots run → IsAt new slots' (stepped old.words old.input run call)
