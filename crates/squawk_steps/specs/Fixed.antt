@@ -1,20 +1,13 @@
--- What the fixed run leaves and prints.
-use Rattle.std.specs.Prelude.{◌≡◌, ◌≢◌, ℕ, List, [], ◌∷◌, codes}
-use Rattle.squawk_kinds.specs.Kinds.{EOF}
-use Rattle.squawk_table.specs.ParserInput.{Entry, kind_in}
-use Rattle.squawk_parser.specs.Draft.{Draft, plain}
+-- What the fixed run calls and prints.
+use Rattle.std.specs.Prelude.{ℕ, List, [], ◌∷◌, codes}
+use Rattle.squawk_script.specs.declared.call.Call.{Call}
+use Rattle.squawk_script.specs.declared.call.Call.TheVariants.{Start, Complete, BumpAny}
 use Rattle.squawk_steps.specs.declared.fault.Fault.{Fault}
-use Rattle.squawk_steps.specs.declared.fault.Fault.TheVariants.{TextTooLong, BadToken, TextLeft, TooManyEvents, TooManyErrors, DoesNotFit, Memory, Io}
-use Rattle.squawk_table.specs.Steps.{Step, Token, Enter, Exit}
+use Rattle.squawk_steps.specs.declared.fault.Fault.TheVariants.{TextTooLong, BadToken, TextLeft, BadCall, Unspent, TooManyEvents, TooManyErrors, DoesNotFit, Memory, Io}
 
--- one node with two tokens
-abbrev pub node_steps : ℕ → ℕ → List Step
-node_steps first second = Enter 700 ∷ Token first 1 ∷ Token second 1 ∷ Exit ∷ []
-
--- where the input has two tokens, the draft is one node with these, made by four events
-pub record IsTwoTokenNode (input : List Entry) (draft : Draft) : Type 0 where
-  pub steps : kind_in input 0 ≢ EOF → kind_in input 1 ≢ EOF → plain draft.items ≡ node_steps (kind_in input 0) (kind_in input 1)
-  pub recorded : kind_in input 0 ≢ EOF → kind_in input 1 ≢ EOF → draft.recorded ≡ 4
+-- the calls of its grammar
+abbrev pub two_token_calls : List Call
+two_token_calls = Start ∷ BumpAny ∷ BumpAny ∷ Complete 0 700 ∷ []
 
 -- what is printed
 abbrev pub six_lines : List ℕ
@@ -25,6 +18,8 @@ abbrev pub CanCome : Fault → Type 0
 CanCome TextTooLong = ⊥
 CanCome (BadToken index) = ⊥
 CanCome (TextLeft at) = ⊥
+CanCome (BadCall index) = ⊥
+CanCome (Unspent marker) = ⊥
 CanCome TooManyEvents = Unit {0}
 CanCome TooManyErrors = Unit {0}
 CanCome DoesNotFit = ⊥

@@ -3,6 +3,7 @@ ghost use Rattle.std.specs.Prelude.{◌≡◌};
 ghost use Rattle.squawk_steps.specs.Fault.{status_of};
 
 use squawk_parser::{ParseError, TableError};
+use squawk_script::ScriptError;
 use std::alloc::AllocError;
 use std::error::Error;
 use std::fmt;
@@ -16,6 +17,10 @@ pub enum Fault {
     BadToken { index: usize },
     /// The raw tokens end at this byte, before the text does.
     TextLeft { at: usize },
+    /// The call at this place can't be made after those before it.
+    BadCall { index: usize },
+    /// This marker is left open.
+    Unspent { marker: u32 },
     /// The parse records more events than it may.
     TooManyEvents,
     /// The parse records more errors than it may.
@@ -35,6 +40,7 @@ impl Fault {
     {
         match *self {
             Fault::TextTooLong | Fault::BadToken { .. } | Fault::TextLeft { .. } => 3,
+            Fault::BadCall { .. } | Fault::Unspent { .. } => 4,
             Fault::TooManyEvents | Fault::TooManyErrors => 5,
             Fault::DoesNotFit => 6,
             Fault::Memory => 7,
@@ -54,6 +60,8 @@ impl fmt::Display for Fault {
             Fault::TextTooLong => write!(f, "text too long"),
             Fault::BadToken { index } => write!(f, "bad token {index}"),
             Fault::TextLeft { at } => write!(f, "text left at {at}"),
+            Fault::BadCall { index } => write!(f, "bad call {index}"),
+            Fault::Unspent { marker } => write!(f, "unspent {marker}"),
             Fault::TooManyEvents => write!(f, "too many events"),
             Fault::TooManyErrors => write!(f, "too many errors"),
             Fault::DoesNotFit => write!(f, "does not fit"),
@@ -74,6 +82,20 @@ impl From<TableError> for Fault {
             TableError::BadToken { index } => Fault::BadToken { index },
             TableError::TextLeft { at } => Fault::TextLeft { at },
             TableError::OutOfMemory => Fault::Memory,
+        }
+    }
+}
+
+impl From<ScriptError> for Fault {
+    ghost use Rattle.squawk_steps.specs.Fault.{fault_of_script};
+
+    ghost from_gives = { λ error fault. fault ≡ fault_of_script error };
+
+    fn from(error: ScriptError) -> Fault {
+        match error {
+            ScriptError::BadCall { index } => Fault::BadCall { index },
+            ScriptError::Unspent { marker } => Fault::Unspent { marker },
+            ScriptError::OutOfMemory => Fault::Memory,
         }
     }
 }
@@ -115,6 +137,8 @@ mod tests {
             (Fault::TextTooLong, "text too long", 3),
             (Fault::BadToken { index: 12 }, "bad token 12", 3),
             (Fault::TextLeft { at: 0 }, "text left at 0", 3),
+            (Fault::BadCall { index: 3 }, "bad call 3", 4),
+            (Fault::Unspent { marker: 10 }, "unspent 10", 4),
             (Fault::TooManyEvents, "too many events", 5),
             (Fault::TooManyErrors, "too many errors", 5),
             (Fault::DoesNotFit, "does not fit", 6),

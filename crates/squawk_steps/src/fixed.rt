@@ -1,13 +1,10 @@
 //! The fixed run: a text, its raw tokens, and the calls of its grammar.
-ghost use Rattle.std.specs.Prelude.{◌≡◌};
-ghost use Rattle.squawk_parser.specs.Draft.{HasNoHole};
-ghost use Rattle.squawk_parser.specs.State.{IsFresh, Keeps, Goes};
-ghost use Rattle.squawk_steps.specs.Fixed.{IsTwoTokenNode};
+ghost use Rattle.std.specs.Prelude.{◌≡◌, IfOk};
+ghost use Rattle.squawk_steps.specs.Fixed.{two_token_calls};
 
-use squawk_parser::{
-    EntryPoint, Grammar, Parser, SyntaxKind, Token, TokenKind, TokenSet, Vocabulary, Words,
-};
-use std::alloc::AllocError;
+use squawk_parser::{SyntaxKind, Token, TokenKind, TokenSet, Vocabulary};
+use squawk_script::Call;
+use std::alloc::{AllocError, Global};
 
 /// The text.
 pub const TEXT: &str = "a b";
@@ -95,46 +92,17 @@ impl Vocabulary for NoKeywords {
     }
 }
 
-/// A grammar that puts the first two tokens into one node.
-#[derive(Clone, Copy)]
-pub struct TwoTokens;
-
-impl Grammar for TwoTokens {
-    ghost use Rattle.squawk_steps.specs.Fixed.{IsTwoTokenNode};
-    ghost use Rattle.squawk_parser.specs.Words.{no_words};
-
-    ghost leaves = { λ _ _ input draft. IsTwoTokenNode input draft };
-
-    ghost meaning = { λ _. no_words };
-
-    #[tactic(auto, using(squawk_parser::specs::Words::no_words_has_no_end))]
-    fn words(&self) -> Words<'_> {
-        Words {
-            operator_first: TokenSet::EMPTY,
-            names: &[],
-        }
-    }
-
-    fn entry_point(&self, p: &mut Parser<'_>) -> Result<(), AllocError> {
-        two_tokens(p);
-        Ok(())
-    }
-
-    fn plpgsql_entry_point(&self, p: &mut Parser<'_>) -> Result<(), AllocError> {
-        two_tokens(p);
-        Ok(())
-    }
-}
-
-/// A node with the first two tokens of the input.
-fn two_tokens(p: &mut Parser<'_>)
-    requires { IsFresh p.old }
-    ensures keeps { Keeps p.old p.new }
-    ensures closed { Goes p.new → HasNoHole p.new.draft.items }
-    ensures node { Goes p.new → IsTwoTokenNode p.old.input p.new.draft }
+/// The calls of its grammar: a node with the first two tokens.
+pub fn calls(alloc: Global) -> Result<Vec<Call>, AllocError>
+    ensures { IfOk result (λ calls. calls.items ≡ two_token_calls) }
 {
-    let node = p.start();
-    p.bump_any();
-    p.bump_any();
-    node.complete(p, SyntaxKind::from(700));
+    let mut calls = Vec::with_capacity(alloc, 4)?;
+    calls.push_reserved(Call::Start);
+    calls.push_reserved(Call::BumpAny);
+    calls.push_reserved(Call::BumpAny);
+    calls.push_reserved(Call::Complete {
+        marker: 0,
+        kind: SyntaxKind::from(700),
+    });
+    Ok(calls)
 }

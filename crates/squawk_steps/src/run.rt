@@ -4,9 +4,10 @@ ghost use Rattle.std.specs.Io.KnownBytes.{Appends};
 ghost use Rattle.squawk_steps.specs.Fixed.{six_lines, CanCome};
 
 use crate::fault::Fault;
-use crate::fixed::{NoKeywords, TEXT, TOKENS, TwoTokens};
+use crate::fixed::{NoKeywords, TEXT, TOKENS, calls};
 use crate::lines::Lines;
-use squawk_parser::{EntryPoint, LexedStr};
+use squawk_parser::{EntryPoint, LexedStr, TokenSet, Words};
+use squawk_script::Script;
 use std::alloc::Global;
 use std::io::Write;
 
@@ -26,14 +27,20 @@ pub fn run_fixed<W: Write>(alloc: Global, writer: &mut W) -> Result<(), Fault>
 }
 
 /// The lines of the fixed run.
+#[tactic(auto, using(squawk_parser::specs::Words::no_words_has_no_end))]
 fn answer(alloc: Global) -> Result<String, Fault>
     ensures ok { IfOk result (λ s. string_bytes s ≡ six_lines) }
     ensures fault { IfErr result CanCome }
     ensures unwritten { IfErr result (λ fault. fault ≢ Fault.Io) }
 {
     let table = LexedStr::new(alloc, TEXT, &TOKENS, &NoKeywords)?;
+    let words = Words {
+        operator_first: TokenSet::EMPTY,
+        names: &[],
+    };
+    let script = Script::new(alloc, calls(alloc)?, words)?;
     let input = table.to_input(alloc, &NoKeywords)?;
-    let output = EntryPoint::SourceFile.parse(alloc, &input, &TwoTokens)?;
+    let output = EntryPoint::SourceFile.parse(alloc, &input, &script)?;
     if !table.fits(&output) {
         return Err(Fault::DoesNotFit);
     }
