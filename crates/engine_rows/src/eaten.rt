@@ -3,11 +3,14 @@
 use crate::fixture::output::{self, assert_output, glued};
 use crate::fixture::parts::{Act, node, then};
 use crate::fixture::rows::{Case, Kinds, assert_row, output_of};
+use crate::fixture::scripts::Line::{BumpAny, BumpRemap, Complete, Eat, Expect, Start};
+use crate::fixture::scripts::script_output_of;
 use crate::fixture::signs::{AT, BANG, COLON, EQ, GT, LT, MINUS, digit};
 use crate::fixture::{
     EXIT, enter, error_step, space, space_step, table, token_step, word, word_step,
 };
-use squawk_parser::Step;
+use squawk_parser::{Output, Step, Token};
+use std::process::Abort;
 use std::test::Fail;
 
 #[test]
@@ -17,6 +20,7 @@ fn two_signs_are_one_token(rt: HostRuntime) -> Result<(), Fail> {
         &rt,
         Kinds::Plain,
         part,
+        &[Start, BumpAny, Eat(45), BumpAny, Complete(0, 700)],
         Case {
             text: "a:=b",
             tokens: &[word(1), COLON, EQ, word(1)],
@@ -40,6 +44,7 @@ fn two_signs_that_are_apart_are_none(rt: HostRuntime) -> Result<(), Fail> {
         &rt,
         Kinds::Plain,
         part,
+        &[Start, BumpAny, Eat(45), BumpAny, Complete(0, 700)],
         Case {
             text: "a: =b",
             tokens: &[word(1), COLON, space(1), EQ, word(1)],
@@ -56,6 +61,26 @@ fn two_signs_that_are_apart_are_none(rt: HostRuntime) -> Result<(), Fail> {
     )
 }
 
+/// Ends the test unless a node in which the kind is eaten is these steps over the text, each of them
+/// one recorded event.
+fn assert_eaten(
+    rt: &(impl Abort + AllocGlobal),
+    text: &str,
+    tokens: &[Token],
+    kind: u16,
+    steps: &[Step<'_>],
+) -> Result<(), Fail> {
+    let part = node(700, Act::Eat(kind));
+    let lines = [Start, Eat(kind), Complete(0, 700)];
+    let by_part = output_of(rt.alloc(), text, tokens, Kinds::Plain, part)?;
+    let by_script = script_output_of(rt.alloc(), text, tokens, Kinds::Plain, &lines)?;
+    for output in [&by_part, &by_script] {
+        assert_output(rt, output, steps);
+        assert_eq!(rt; output.recorded() as usize, steps.len());
+    }
+    Ok(())
+}
+
 #[test]
 fn each_pair_is_glued_where_it_touches(rt: HostRuntime) -> Result<(), Fail> {
     for (kind, touching, apart, first, second) in [
@@ -68,15 +93,10 @@ fn each_pair_is_glued_where_it_touches(rt: HostRuntime) -> Result<(), Fail> {
         (51, ">>", "> >", GT, GT),
         (52, ">=", "> =", GT, EQ),
     ] {
-        let part = node(700, Act::Eat(kind));
-        let output = output_of(rt.alloc(), touching, &[first, second], Kinds::Plain, part)?;
-        assert_output(&rt, &output, &[output::enter(700), glued(kind), Step::Exit]);
-        assert_eq!(rt; output.recorded(), 3);
-
-        let tokens = [first, space(1), second];
-        let output = output_of(rt.alloc(), apart, &tokens, Kinds::Plain, part)?;
-        assert_output(&rt, &output, &[output::enter(700), Step::Exit]);
-        assert_eq!(rt; output.recorded(), 2);
+        let one_token = [output::enter(700), glued(kind), Step::Exit];
+        assert_eaten(&rt, touching, &[first, second], kind, &one_token)?;
+        let none = [output::enter(700), Step::Exit];
+        assert_eaten(&rt, apart, &[first, space(1), second], kind, &none)?;
     }
     Ok(())
 }
@@ -87,6 +107,7 @@ fn two_colons_are_a_node(rt: HostRuntime) -> Result<(), Fail> {
         &rt,
         Kinds::Plain,
         node(700, Act::Eat(645)),
+        &[Start, Eat(645), Complete(0, 700)],
         Case {
             text: "::",
             tokens: &[COLON, COLON],
@@ -111,6 +132,7 @@ fn operator_is_a_node_of_its_signs(rt: HostRuntime) -> Result<(), Fail> {
         &rt,
         Kinds::Operators,
         node(700, then(Act::Eat(664), Act::BumpAny)),
+        &[Start, Eat(664), BumpAny, Complete(0, 700)],
         Case {
             text: "<@-1",
             tokens: &tokens,
@@ -138,6 +160,7 @@ fn expected_kind_is_named(rt: HostRuntime) -> Result<(), Fail> {
         &rt,
         Kinds::Named,
         part,
+        &[Start, BumpAny, Expect(5), Complete(0, 700)],
         Case {
             text: "a",
             tokens: &tokens,
@@ -160,6 +183,7 @@ fn expected_kind_without_a_name_has_its_number(rt: HostRuntime) -> Result<(), Fa
         &rt,
         Kinds::Plain,
         part,
+        &[Start, BumpAny, Expect(5), Complete(0, 700)],
         Case {
             text: "a",
             tokens: &[word(1)],
@@ -182,6 +206,7 @@ fn expected_pair_must_touch(rt: HostRuntime) -> Result<(), Fail> {
         &rt,
         Kinds::Plain,
         part,
+        &[Start, Expect(45), Complete(0, 700)],
         Case {
             text: ": =",
             tokens: &[COLON, space(1), EQ],
@@ -199,6 +224,7 @@ fn expected_pair_that_touches_is_eaten(rt: HostRuntime) -> Result<(), Fail> {
         &rt,
         Kinds::Plain,
         part,
+        &[Start, Expect(45), Complete(0, 700)],
         Case {
             text: ":=",
             tokens: &[COLON, EQ],
@@ -216,6 +242,7 @@ fn token_gets_another_kind(rt: HostRuntime) -> Result<(), Fail> {
         &rt,
         Kinds::Plain,
         node(700, two),
+        &[Start, BumpRemap(201), BumpRemap(202), Complete(0, 700)],
         Case {
             text: "a",
             tokens: &[word(1)],
@@ -226,21 +253,24 @@ fn token_gets_another_kind(rt: HostRuntime) -> Result<(), Fail> {
     )
 }
 
+/// Ends the test unless the output, whose second token is a pair, fits where that pair touches.
+fn assert_fits_touching(rt: &(impl Abort + AllocGlobal), output: &Output) -> Result<(), Fail> {
+    let other = [word(1), word(1), word(1), word(1)];
+    assert!(rt; table(rt.alloc(), "abcd", &other)?.fits(output));
+    let apart = [word(1), COLON, space(1), EQ, word(1)];
+    assert!(rt; !table(rt.alloc(), "a: =b", &apart)?.fits(output));
+    let short = [word(1), COLON];
+    assert!(rt; !table(rt.alloc(), "a:", &short)?.fits(output));
+    Ok(())
+}
+
 #[test]
 fn glued_token_fits_where_its_tokens_touch(rt: HostRuntime) -> Result<(), Fail> {
+    let tokens = [word(1), COLON, EQ, word(1)];
     let part = node(700, then(Act::BumpAny, then(Act::Eat(45), Act::BumpAny)));
-    let output = output_of(
-        rt.alloc(),
-        "a:=b",
-        &[word(1), COLON, EQ, word(1)],
-        Kinds::Plain,
-        part,
-    )?;
-    let other = [word(1), word(1), word(1), word(1)];
-    assert!(rt; table(rt.alloc(), "abcd", &other)?.fits(&output));
-    let apart = [word(1), COLON, space(1), EQ, word(1)];
-    assert!(rt; !table(rt.alloc(), "a: =b", &apart)?.fits(&output));
-    let short = [word(1), COLON];
-    assert!(rt; !table(rt.alloc(), "a:", &short)?.fits(&output));
-    Ok(())
+    let lines = [Start, BumpAny, Eat(45), BumpAny, Complete(0, 700)];
+    let by_part = output_of(rt.alloc(), "a:=b", &tokens, Kinds::Plain, part)?;
+    assert_fits_touching(&rt, &by_part)?;
+    let by_script = script_output_of(rt.alloc(), "a:=b", &tokens, Kinds::Plain, &lines)?;
+    assert_fits_touching(&rt, &by_script)
 }

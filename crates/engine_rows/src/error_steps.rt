@@ -2,6 +2,7 @@
 
 use crate::fixture::parts::{Act, Message, node, then};
 use crate::fixture::rows::{Case, Kinds, assert_row};
+use crate::fixture::scripts::Line::{BumpAny, Complete, ErrAndBump, ErrRecover, Error, Start};
 use crate::fixture::signs::COMMA;
 use crate::fixture::{EXIT, enter, error_step, space, space_step, token_step, word, word_step};
 use squawk_parser::{Token, TokenKind};
@@ -19,6 +20,14 @@ fn error_behind_a_node_goes_into_it(rt: HostRuntime) -> Result<(), Fail> {
         &rt,
         Kinds::Plain,
         part,
+        &[
+            Start,
+            Start,
+            BumpAny,
+            Complete(1, 701),
+            Error("e"),
+            Complete(0, 700),
+        ],
         Case {
             text: "x ",
             tokens: &[word(1), space(1)],
@@ -44,6 +53,15 @@ fn errors_stand_before_and_behind_the_root(rt: HostRuntime) -> Result<(), Fail> 
         &rt,
         Kinds::Plain,
         then(Act::Error(Message::E), then(root, Act::Error(Message::F))),
+        &[
+            Error("e"),
+            Start,
+            Start,
+            BumpAny,
+            Complete(1, 701),
+            Complete(0, 700),
+            Error("f"),
+        ],
         Case {
             text: "a ",
             tokens: &[word(1), space(1)],
@@ -71,6 +89,18 @@ fn two_errors_behind_two_closings_go_before_the_last_of_them(rt: HostRuntime) ->
         &rt,
         Kinds::Plain,
         node(700, then(inner, then(errors, Act::BumpAny))),
+        &[
+            Start,
+            Start,
+            Start,
+            BumpAny,
+            Complete(2, 702),
+            Complete(1, 701),
+            Error("e"),
+            Error("f"),
+            BumpAny,
+            Complete(0, 700),
+        ],
         Case {
             text: "a b",
             tokens: &[word(1), space(1), word(1)],
@@ -107,6 +137,7 @@ fn error_stands_before_the_trivia_behind_it(rt: HostRuntime) -> Result<(), Fail>
             700,
             then(Act::BumpAny, then(Act::Error(Message::M), Act::BumpAny)),
         ),
+        &[Start, BumpAny, Error("m"), BumpAny, Complete(0, 700)],
         Case {
             text: "a /*x*/ b",
             tokens: &tokens,
@@ -142,6 +173,15 @@ fn position_of_an_error_counts_bytes(rt: HostRuntime) -> Result<(), Fail> {
                 then(node(701, Act::Error(Message::E)), Act::BumpAny),
             ),
         ),
+        &[
+            Start,
+            BumpAny,
+            Start,
+            Error("e"),
+            Complete(1, 701),
+            BumpAny,
+            Complete(0, 700),
+        ],
         Case {
             text: "é a",
             tokens: &[mark, space(1), word(1)],
@@ -167,6 +207,7 @@ fn skipped_token_stands_in_a_node_with_its_error(rt: HostRuntime) -> Result<(), 
         &rt,
         Kinds::Plain,
         node(700, Act::ErrAndBump(Message::M)),
+        &[Start, ErrAndBump("m"), Complete(0, 700)],
         Case {
             text: " ,",
             tokens: &[space(1), COMMA],
@@ -187,11 +228,15 @@ fn skipped_token_stands_in_a_node_with_its_error(rt: HostRuntime) -> Result<(), 
 
 #[test]
 fn nothing_is_skipped_at_the_end(rt: HostRuntime) -> Result<(), Fail> {
-    for act in [Act::ErrAndBump(Message::M), Act::ErrRecover(Message::M, 5)] {
+    for (act, line) in [
+        (Act::ErrAndBump(Message::M), ErrAndBump("m")),
+        (Act::ErrRecover(Message::M, 5), ErrRecover("m", 5)),
+    ] {
         assert_row(
             &rt,
             Kinds::Plain,
             node(700, act),
+            &[Start, line, Complete(0, 700)],
             Case {
                 text: "",
                 tokens: &[],
@@ -210,6 +255,7 @@ fn token_to_go_on_from_is_not_skipped(rt: HostRuntime) -> Result<(), Fail> {
         &rt,
         Kinds::Plain,
         node(700, Act::ErrRecover(Message::M, 5)),
+        &[Start, ErrRecover("m", 5), Complete(0, 700)],
         Case {
             text: ";",
             tokens: &[SEMI],
@@ -226,6 +272,7 @@ fn other_token_is_skipped(rt: HostRuntime) -> Result<(), Fail> {
         &rt,
         Kinds::Plain,
         node(700, Act::ErrRecover(Message::M, 5)),
+        &[Start, ErrRecover("m", 5), Complete(0, 700)],
         Case {
             text: ",;",
             tokens: &[COMMA, SEMI],

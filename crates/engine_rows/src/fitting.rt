@@ -1,7 +1,8 @@
 //! Which outputs can be sent over a table.
 
-use crate::fixture::{Calls, parse, space, table, word};
+use crate::fixture::{Calls, parse, parse_script, space, table, word};
 use squawk_parser::Output;
+use std::process::Abort;
 use std::test::Fail;
 
 #[test]
@@ -9,7 +10,8 @@ fn output_without_steps_fits_no_table(rt: HostRuntime) -> Result<(), Fail> {
     let empty = table(rt.alloc(), "", &[])?;
     let words = table(rt.alloc(), "a b", &[word(1), space(1), word(1)])?;
     let no_calls = parse(rt.alloc(), &words, Calls::Nothing)?;
-    for output in [&Output::empty(rt.alloc()), &no_calls] {
+    let no_lines = parse_script(rt.alloc(), &words, Calls::Nothing.lines())?;
+    for output in [&Output::empty(rt.alloc()), &no_calls, &no_lines] {
         assert!(rt; !empty.fits(output));
         assert!(rt; !words.fits(output));
     }
@@ -21,27 +23,45 @@ fn output_with_more_than_one_node_at_the_top_does_not_fit(rt: HostRuntime) -> Re
     let words = table(rt.alloc(), "a b", &[word(1), space(1), word(1)])?;
     for calls in [Calls::TwoNodes, Calls::NodeBeforeToken] {
         assert!(rt; !words.fits(&parse(rt.alloc(), &words, calls)?));
+        assert!(rt; !words.fits(&parse_script(rt.alloc(), &words, calls.lines())?));
     }
+    Ok(())
+}
+
+/// Ends the test unless these outputs, of nodes that have so many tokens, fit where there are enough.
+fn assert_fit(
+    rt: &(impl Abort + AllocGlobal),
+    one_token: &Output,
+    two_tokens: &Output,
+) -> Result<(), Fail> {
+    let empty = table(rt.alloc(), "", &[])?;
+    assert!(rt; !empty.fits(one_token));
+    assert!(rt; !empty.fits(two_tokens));
+
+    // White space counts for nothing.
+    let word_and_spaces = table(rt.alloc(), " x ", &[space(1), word(1), space(1)])?;
+    assert!(rt; word_and_spaces.fits(one_token));
+    assert!(rt; !word_and_spaces.fits(two_tokens));
+
+    let other_words = table(rt.alloc(), "x y", &[word(1), space(1), word(1)])?;
+    assert!(rt; other_words.fits(one_token));
+    assert!(rt; other_words.fits(two_tokens));
     Ok(())
 }
 
 #[test]
 fn output_fits_a_table_with_enough_tokens(rt: HostRuntime) -> Result<(), Fail> {
     let words = table(rt.alloc(), "a b", &[word(1), space(1), word(1)])?;
-    let one_token = parse(rt.alloc(), &words, Calls::NodeAroundToken)?;
-    let two_tokens = parse(rt.alloc(), &words, Calls::NodeAroundTwoTokens)?;
-
-    let empty = table(rt.alloc(), "", &[])?;
-    assert!(rt; !empty.fits(&one_token));
-    assert!(rt; !empty.fits(&two_tokens));
-
-    // White space counts for nothing.
-    let word_and_spaces = table(rt.alloc(), " x ", &[space(1), word(1), space(1)])?;
-    assert!(rt; word_and_spaces.fits(&one_token));
-    assert!(rt; !word_and_spaces.fits(&two_tokens));
-
-    let other_words = table(rt.alloc(), "x y", &[word(1), space(1), word(1)])?;
-    assert!(rt; other_words.fits(&one_token));
-    assert!(rt; other_words.fits(&two_tokens));
-    Ok(())
+    let one = Calls::NodeAroundToken;
+    let two = Calls::NodeAroundTwoTokens;
+    assert_fit(
+        &rt,
+        &parse(rt.alloc(), &words, one)?,
+        &parse(rt.alloc(), &words, two)?,
+    )?;
+    assert_fit(
+        &rt,
+        &parse_script(rt.alloc(), &words, one.lines())?,
+        &parse_script(rt.alloc(), &words, two.lines())?,
+    )
 }

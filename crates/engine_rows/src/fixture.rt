@@ -4,17 +4,20 @@ pub mod calls;
 pub mod errors;
 pub mod keywords;
 pub mod looks;
+pub mod memory;
 pub mod moves;
 pub mod notes;
 pub mod output;
 pub mod parts;
 pub mod rows;
+pub mod scripts;
 pub mod signs;
 pub mod steps;
 pub mod words;
 
 pub use calls::{Calls, FixedGrammar};
 pub use keywords::{KEYWORDS, Keywords, NO_KEYWORDS};
+use scripts::{Line, script_of};
 use squawk_parser::{EntryPoint, LexedStr, Output, Token, TokenKind};
 use std::alloc::Global;
 use std::test::Fail;
@@ -49,4 +52,11 @@ pub fn parse(alloc: Global, table: &LexedStr<'_>, calls: Calls) -> Result<Output
         plpgsql: calls,
     };
     Ok(EntryPoint::SourceFile.parse(alloc, &input, &grammar)?)
+}
+
+/// The output of a script of the lines over a table.
+pub fn parse_script(alloc: Global, table: &LexedStr<'_>, lines: &[Line]) -> Result<Output, Fail> {
+    let input = table.to_input(alloc, &NO_KEYWORDS)?;
+    let script = script_of(alloc, lines)?;
+    Ok(EntryPoint::SourceFile.parse(alloc, &input, &script)?)
 }

@@ -8,7 +8,11 @@ mod composites;
 #[cfg(test)]
 mod eaten;
 #[cfg(test)]
+mod error_lines;
+#[cfg(test)]
 mod error_steps;
+#[cfg(test)]
+mod extended_nodes;
 #[cfg(test)]
 mod fitting;
 #[cfg(test)]
@@ -34,7 +38,15 @@ mod operators;
 #[cfg(test)]
 mod parser;
 #[cfg(test)]
+mod preceded_nodes;
+#[cfg(test)]
 mod raw_tokens;
+#[cfg(test)]
+mod script_errors;
+#[cfg(test)]
+mod script_memory;
+#[cfg(test)]
+mod scripts;
 #[cfg(test)]
 mod sequences;
 #[cfg(test)]

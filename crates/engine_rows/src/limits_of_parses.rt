@@ -2,34 +2,31 @@
 
 use crate::fixture::parts::{Act, Message, Nothing, node, then};
 use crate::fixture::rows::{Kinds, answer_within};
+use crate::fixture::scripts::Line::{self, BumpAny, Complete, Eat, ErrAndBump, Error, Start};
+use crate::fixture::scripts::script_answer_within;
 use crate::fixture::signs::COLON;
 use crate::fixture::word;
 use squawk_parser::{Limits, ParseError, Part, Token};
 use std::process::Abort;
 use std::test::Fail;
 
-/// Ends the test unless the part over the text, under limits of so many events and errors, is answered
-/// so: with the recorded events, or a refusal.
+/// Ends the test unless the part over the text, and the script of the same calls, are answered so
+/// under the limits: with the recorded events, or a refusal.
 fn assert_within<F: Part<Answer = ()> + Copy>(
     rt: &(impl Abort + AllocGlobal),
     text: &str,
     tokens: &[Token],
     part: F,
-    events: u32,
-    errors: u32,
+    lines: &[Line],
+    limits: Limits,
     wanted: Result<u32, ParseError>,
 ) -> Result<(), Fail> {
-    let limits = Limits { events, errors };
-    match answer_within(rt.alloc(), text, tokens, Kinds::Plain, part, limits)? {
-        Ok(output) => {
-            assert_eq!(rt;
-                Ok(output.recorded()),
-                wanted,
-                "{events} events, {errors} errors"
-            );
-        }
-        Err(error) => {
-            assert_eq!(rt; Err(error), wanted, "{events} events, {errors} errors");
+    let by_part = answer_within(rt.alloc(), text, tokens, Kinds::Plain, part, limits)?;
+    let by_script = script_answer_within(rt.alloc(), text, tokens, Kinds::Plain, lines, limits)?;
+    for answer in [by_part, by_script] {
+        match answer {
+            Ok(output) => assert_eq!(rt; Ok(output.recorded()), wanted, "{limits:?}"),
+            Err(error) => assert_eq!(rt; Err(error), wanted, "{limits:?}"),
         }
     }
     Ok(())
@@ -45,7 +42,9 @@ fn one_event_more_than_may_be_is_refused(rt: HostRuntime) -> Result<(), Fail> {
         (4, Ok(3)),
     ] {
         let part = node(700, Act::BumpAny);
-        assert_within(&rt, "a", &[word(1)], part, events, 0, wanted)?;
+        let lines = [Start, BumpAny, Complete(0, 700)];
+        let limits = Limits { events, errors: 0 };
+        assert_within(&rt, "a", &[word(1)], part, &lines, limits, wanted)?;
     }
     Ok(())
 }
@@ -60,7 +59,9 @@ fn one_error_more_than_may_be_is_refused(rt: HostRuntime) -> Result<(), Fail> {
         (2147483648, Ok(4)),
     ] {
         let two = then(Act::Error(Message::E), Act::Error(Message::F));
-        assert_within(&rt, "", &[], node(700, two), 9, errors, wanted)?;
+        let lines = [Start, Error("e"), Error("f"), Complete(0, 700)];
+        let limits = Limits { events: 9, errors };
+        assert_within(&rt, "", &[], node(700, two), &lines, limits, wanted)?;
     }
     Ok(())
 }
@@ -68,13 +69,23 @@ fn one_error_more_than_may_be_is_refused(rt: HostRuntime) -> Result<(), Fail> {
 #[test]
 fn limit_of_events_comes_first(rt: HostRuntime) -> Result<(), Fail> {
     let error = Act::Error(Message::E);
+    let line = [Error("e")];
+    let none = Limits {
+        events: 0,
+        errors: 0,
+    };
+    let one = Limits {
+        events: 1,
+        errors: 0,
+    };
     let events = Err(ParseError::TooManyEvents);
     let errors = Err(ParseError::TooManyErrors);
-    assert_within(&rt, "", &[], error, 0, 0, events)?;
-    assert_within(&rt, "", &[], error, 1, 0, errors)?;
+    assert_within(&rt, "", &[], error, &line, none, events)?;
+    assert_within(&rt, "", &[], error, &line, one, errors)?;
     // The first reason stays: the error is refused before the limit of events is reached.
-    assert_within(&rt, "", &[], then(error, node(700, Nothing)), 1, 0, errors)?;
-    Ok(())
+    let both = then(error, node(700, Nothing));
+    let lines = [Error("e"), Start, Complete(0, 700)];
+    assert_within(&rt, "", &[], both, &lines, one, errors)
 }
 
 #[test]
@@ -85,7 +96,9 @@ fn each_event_of_a_node_counts(rt: HostRuntime) -> Result<(), Fail> {
         (6, Ok(6)),
     ] {
         let part = node(700, Act::Eat(645));
-        assert_within(&rt, "::", &[COLON, COLON], part, events, 0, wanted)?;
+        let lines = [Start, Eat(645), Complete(0, 700)];
+        let limits = Limits { events, errors: 0 };
+        assert_within(&rt, "::", &[COLON, COLON], part, &lines, limits, wanted)?;
     }
     Ok(())
 }
@@ -102,7 +115,9 @@ fn error_of_a_skipped_token_counts_twice(rt: HostRuntime) -> Result<(), Fail> {
         (2, 0, Err(ParseError::TooManyErrors)),
     ] {
         let part = Act::ErrAndBump(Message::M);
-        assert_within(&rt, "a", &[word(1)], part, events, errors, wanted)?;
+        let lines = [ErrAndBump("m")];
+        let limits = Limits { events, errors };
+        assert_within(&rt, "a", &[word(1)], part, &lines, limits, wanted)?;
     }
     Ok(())
 }

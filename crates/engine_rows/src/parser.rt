@@ -5,7 +5,9 @@ ghost use Rattle.squawk_parser.specs.State.{Goes, Keeps};
 use crate::fixture::notes::note_three;
 use crate::fixture::output::{assert_output, enter, token};
 use crate::fixture::words::no_words;
-use crate::fixture::{Calls, FixedGrammar, Keywords, NO_KEYWORDS, parse, space, table, word};
+use crate::fixture::{
+    Calls, FixedGrammar, Keywords, NO_KEYWORDS, parse, parse_script, space, table, word,
+};
 use squawk_parser::{
     EntryPoint, Grammar, Input, LexedStr, ParseError, Parser, Step, SyntaxKind, Words,
 };
@@ -15,8 +17,12 @@ use std::test::Fail;
 #[test]
 fn output_has_the_tokens_without_trivia(rt: HostRuntime) -> Result<(), Fail> {
     let table = table(rt.alloc(), "a b", &[word(1), space(1), word(1)])?;
-    let output = parse(rt.alloc(), &table, Calls::NodeAroundTwoTokens)?;
-    assert_output(&rt, &output, &[enter(700), token(3), token(3), Step::Exit]);
+    let calls = Calls::NodeAroundTwoTokens;
+    let by_grammar = parse(rt.alloc(), &table, calls)?;
+    let by_script = parse_script(rt.alloc(), &table, calls.lines())?;
+    for output in [&by_grammar, &by_script] {
+        assert_output(&rt, output, &[enter(700), token(3), token(3), Step::Exit]);
+    }
     Ok(())
 }
 

@@ -3,10 +3,13 @@
 use crate::fixture::errors::len_of;
 use crate::fixture::output::{self, token};
 use crate::fixture::parts::{Act, node, then};
-use crate::fixture::rows::{Case, Kinds, assert_row, output_of};
+use crate::fixture::rows::{Case, Kinds, assert_part, assert_row, output_of};
+use crate::fixture::scripts::Line::{BumpAny, Complete, Eat, Start};
+use crate::fixture::scripts::script_output_of;
 use crate::fixture::signs::PLUS;
 use crate::fixture::{EXIT, enter, error_step, space, space_step, token_step, word, word_step};
-use squawk_parser::{Step, Token, TokenKind};
+use squawk_parser::{Output, Step, Token, TokenKind};
+use std::process::Abort;
 use std::test::Fail;
 
 const COMMENT: Token = Token {
@@ -41,6 +44,7 @@ fn trivia_stands_between_the_tokens_of_a_sequence(rt: HostRuntime) -> Result<(),
         &rt,
         Kinds::Keywords,
         node(700, Act::Eat(659)),
+        &[Start, Eat(659), Complete(0, 700)],
         Case {
             text: "is /*x*/ distinct from",
             tokens: &tokens,
@@ -63,6 +67,22 @@ fn trivia_stands_between_the_tokens_of_a_sequence(rt: HostRuntime) -> Result<(),
     )
 }
 
+/// Ends the test unless the output has a node of the kind in one of kind 700, and in it tokens of
+/// these kinds, of which 0 is none.
+fn assert_node(rt: &impl Abort, output: &Output, kind: u16, kinds: &[u16], text: &str) {
+    let mut steps = output.iter();
+    assert_eq!(rt; steps.next(), Some(output::enter(700)), "{text}");
+    assert_eq!(rt; steps.next(), Some(output::enter(kind)), "{text}");
+    for part in kinds {
+        if *part > 0 {
+            assert_eq!(rt; steps.next(), Some(token(*part)), "{text}");
+        }
+    }
+    assert_eq!(rt; steps.next(), Some(Step::Exit), "{text}");
+    assert_eq!(rt; steps.next(), Some(Step::Exit), "{text}");
+    assert_eq!(rt; steps.next(), None, "{text}");
+}
+
 #[test]
 fn each_sequence_is_a_node(rt: HostRuntime) -> Result<(), Fail> {
     for (kind, text, kinds) in [
@@ -79,24 +99,14 @@ fn each_sequence_is_a_node(rt: HostRuntime) -> Result<(), Fail> {
         (644, "is normalized", [70, 76, 0, 0]),
         (643, "is not normalized", [70, 71, 76, 0]),
     ] {
-        let output = output_of(
-            rt.alloc(),
-            text,
-            &words_of(&rt, text)?,
-            Kinds::Keywords,
-            node(700, Act::Eat(kind)),
-        )?;
-        let mut steps = output.iter();
-        assert_eq!(rt; steps.next(), Some(output::enter(700)));
-        assert_eq!(rt; steps.next(), Some(output::enter(kind)), "{text}");
-        for part in kinds {
-            if part > 0 {
-                assert_eq!(rt; steps.next(), Some(token(part)), "{text}");
-            }
+        let tokens = words_of(&rt, text)?;
+        let part = node(700, Act::Eat(kind));
+        let lines = [Start, Eat(kind), Complete(0, 700)];
+        let by_part = output_of(rt.alloc(), text, &tokens, Kinds::Keywords, part)?;
+        let by_script = script_output_of(rt.alloc(), text, &tokens, Kinds::Keywords, &lines)?;
+        for output in [&by_part, &by_script] {
+            assert_node(&rt, output, kind, &kinds, text);
         }
-        assert_eq!(rt; steps.next(), Some(Step::Exit), "{text}");
-        assert_eq!(rt; steps.next(), Some(Step::Exit), "{text}");
-        assert_eq!(rt; steps.next(), None, "{text}");
     }
     Ok(())
 }
@@ -108,6 +118,7 @@ fn normal_form_stands_in_a_node_of_its_own(rt: HostRuntime) -> Result<(), Fail> 
         &rt,
         Kinds::Keywords,
         node(700, then(Act::BumpAny, Act::Eat(644))),
+        &[Start, BumpAny, Eat(644), Complete(0, 700)],
         Case {
             text: "x is nfc normalized",
             tokens: &tokens,
@@ -135,7 +146,7 @@ fn normal_form_stands_in_a_node_of_its_own(rt: HostRuntime) -> Result<(), Fail> 
 #[test]
 fn tail_stands_in_the_node_of_its_kind(rt: HostRuntime) -> Result<(), Fail> {
     let tokens = words_of(&rt, "is json x")?;
-    assert_row(
+    assert_part(
         &rt,
         Kinds::Keywords,
         node(700, Act::EatWith(646)),
@@ -162,7 +173,7 @@ fn tail_stands_in_the_node_of_its_kind(rt: HostRuntime) -> Result<(), Fail> {
 #[test]
 fn kind_that_does_not_stand_runs_no_tail(rt: HostRuntime) -> Result<(), Fail> {
     let tokens = words_of(&rt, "is json x")?;
-    assert_row(
+    assert_part(
         &rt,
         Kinds::Keywords,
         node(700, Act::EatWith(652)),
@@ -179,36 +190,21 @@ fn kind_that_does_not_stand_runs_no_tail(rt: HostRuntime) -> Result<(), Fail> {
 #[test]
 fn each_kind_with_a_tail_runs_it_once(rt: HostRuntime) -> Result<(), Fail> {
     for (kind, text, kinds) in [
-        (646, "is json x y", [70, 77, 0, 0]),
-        (647, "is not json x y", [70, 71, 77, 0]),
-        (648, "is not json object x y", [70, 71, 77, 78]),
-        (649, "is not json array x y", [70, 71, 77, 79]),
-        (650, "is not json value x y", [70, 71, 77, 80]),
-        (651, "is not json scalar x y", [70, 71, 77, 81]),
-        (652, "is json object x y", [70, 77, 78, 0]),
-        (653, "is json array x y", [70, 77, 79, 0]),
-        (654, "is json value x y", [70, 77, 80, 0]),
-        (655, "is json scalar x y", [70, 77, 81, 0]),
+        (646, "is json x y", [70, 77, 3, 0, 0]),
+        (647, "is not json x y", [70, 71, 77, 3, 0]),
+        (648, "is not json object x y", [70, 71, 77, 78, 3]),
+        (649, "is not json array x y", [70, 71, 77, 79, 3]),
+        (650, "is not json value x y", [70, 71, 77, 80, 3]),
+        (651, "is not json scalar x y", [70, 71, 77, 81, 3]),
+        (652, "is json object x y", [70, 77, 78, 3, 0]),
+        (653, "is json array x y", [70, 77, 79, 3, 0]),
+        (654, "is json value x y", [70, 77, 80, 3, 0]),
+        (655, "is json scalar x y", [70, 77, 81, 3, 0]),
     ] {
-        let output = output_of(
-            rt.alloc(),
-            text,
-            &words_of(&rt, text)?,
-            Kinds::Keywords,
-            node(700, Act::EatWith(kind)),
-        )?;
-        let mut steps = output.iter();
-        assert_eq!(rt; steps.next(), Some(output::enter(700)));
-        assert_eq!(rt; steps.next(), Some(output::enter(kind)), "{text}");
-        for part in kinds {
-            if part > 0 {
-                assert_eq!(rt; steps.next(), Some(token(part)), "{text}");
-            }
-        }
-        assert_eq!(rt; steps.next(), Some(token(3)), "{text}");
-        assert_eq!(rt; steps.next(), Some(Step::Exit), "{text}");
-        assert_eq!(rt; steps.next(), Some(Step::Exit), "{text}");
-        assert_eq!(rt; steps.next(), None, "{text}");
+        let tokens = words_of(&rt, text)?;
+        let part = node(700, Act::EatWith(kind));
+        let output = output_of(rt.alloc(), text, &tokens, Kinds::Keywords, part)?;
+        assert_node(&rt, &output, kind, &kinds, text);
     }
     Ok(())
 }
@@ -222,7 +218,7 @@ fn call_of_an_operator_is_closed(rt: HostRuntime) -> Result<(), Fail> {
     let part = node(700, Act::EatWith(658));
 
     let tokens = [word(8), open, PLUS];
-    assert_row(
+    assert_part(
         &rt,
         Kinds::Keywords,
         part,
@@ -258,7 +254,7 @@ fn closed_call_of_an_operator_has_its_parenthesis(rt: HostRuntime) -> Result<(),
     let part = node(700, Act::EatWith(658));
 
     let tokens = [word(8), open, PLUS, close];
-    assert_row(
+    assert_part(
         &rt,
         Kinds::Keywords,
         part,

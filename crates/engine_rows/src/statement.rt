@@ -3,88 +3,36 @@
 //! These tests also pass where an allocation is refused.
 
 use crate::fixture::errors::{int, token};
+use crate::fixture::memory::{assert_script_sent, assert_sent, output_if_made, table_if_made};
 use crate::fixture::parts::{Act, Message, PartGrammar, node, then};
-use crate::fixture::rows::{Case, Kinds};
+use crate::fixture::rows::{Case, Kinds, names};
+use crate::fixture::scripts::Line::{self, BumpAny, Complete, ErrAndBump, Expect, Start};
 use crate::fixture::signs::COMMA;
-use crate::fixture::{
-    EXIT, assert_steps, enter, error_step, space, space_step, token_step, word, word_step,
-};
-use squawk_parser::{
-    Base, EntryPoint, Input, LexedStr, Output, ParseError, Part, StepList, SyntaxKind, TableError,
-    Token, TokenKind, TokenSet,
-};
+use crate::fixture::{EXIT, enter, error_step, space, space_step, token_step, word, word_step};
+use squawk_parser::{Base, Part, Token, TokenKind};
 use std::process::Abort;
 
-/// The table of a text, unless memory is wanting.
-fn table<'a>(
-    rt: &(impl Abort + AllocGlobal),
-    text: &'a str,
-    tokens: &[Token],
-    kinds: Kinds,
-) -> Option<LexedStr<'a>> {
-    match LexedStr::new(rt.alloc(), text, tokens, &kinds.keywords()) {
-        Ok(table) => Some(table),
-        Err(error) => {
-            assert_eq!(rt; error, TableError::OutOfMemory);
-            None
-        }
-    }
-}
-
-/// The output of a part over an input, unless memory is wanting. `;` may have a name.
-fn output<F: Part<Answer = ()> + Copy>(
-    rt: &(impl Abort + AllocGlobal),
-    input: &Input,
-    kinds: Kinds,
-    part: F,
-) -> Option<Output> {
-    let names = [(SyntaxKind::SEMICOLON, "SEMICOLON")];
-    let named = if kinds == Kinds::Named { 1 } else { 0 };
-    let grammar = PartGrammar {
-        operator_first: TokenSet::EMPTY,
-        names: &names[..named],
-        part,
-    };
-    match EntryPoint::SourceFile.parse(rt.alloc(), input, &grammar) {
-        Ok(output) => Some(output),
-        Err(error) => {
-            assert_eq!(rt; error, ParseError::OutOfMemory);
-            None
-        }
-    }
-}
-
-/// Ends the test unless the part over the text gives what is wanted, or memory is wanting. A list
-/// that refused a step has those before it.
+/// Ends the test unless the part over the text, and the script of the same calls, each give what is
+/// wanted, or memory is wanting.
 fn assert_whole<F: Part<Answer = ()> + Copy>(
     rt: &(impl Abort + AllocGlobal),
     kinds: Kinds,
     part: F,
+    lines: &[Line],
     case: Case<'_>,
 ) {
-    let Some(table) = table(rt, case.text, case.tokens, kinds) else {
+    let Some(table) = table_if_made(rt, case, kinds) else {
         return;
     };
     let Ok(input) = table.to_input(rt.alloc(), &kinds.keywords()) else {
         return;
     };
-    let Some(output) = output(rt, &input, kinds, part) else {
-        return;
-    };
-    assert_eq!(rt; output.recorded(), case.recorded);
-    assert!(rt; table.fits(&output));
-    let mut list = StepList::new(rt.alloc());
-    match table.intersperse_trivia(&output, &mut list) {
-        Ok(is_whole) => {
-            assert_eq!(rt; is_whole, case.is_whole);
-            assert_steps(rt, list.steps(), case.steps);
-        }
-        Err(_) => {
-            let taken = list.steps().len();
-            assert!(rt; taken < case.steps.len());
-            assert_steps(rt, list.steps(), &case.steps[..taken]);
-        }
+    let names = names();
+    let grammar = PartGrammar::new(kinds.words(&names), part);
+    if let Some(output) = output_if_made(rt, &input, &grammar) {
+        assert_sent(rt, &table, &output, case);
     }
+    assert_script_sent(rt, &table, &input, kinds, lines, case);
 }
 
 #[test]
@@ -99,6 +47,23 @@ fn statement_has_its_nodes(rt: HostRuntime) {
         &rt,
         Kinds::Select,
         node(710, node(711, then(clause, Act::BumpAny))),
+        &[
+            Start,
+            Start,
+            Start,
+            BumpAny,
+            Start,
+            Start,
+            Start,
+            BumpAny,
+            Complete(5, 715),
+            Complete(4, 714),
+            Complete(3, 713),
+            Complete(2, 712),
+            BumpAny,
+            Complete(1, 711),
+            Complete(0, 710),
+        ],
         Case {
             text: "\u{feff}select 1;",
             tokens: &[
@@ -139,6 +104,7 @@ fn skipped_token_is_whole(rt: HostRuntime) {
         &rt,
         Kinds::Plain,
         node(700, Act::ErrAndBump(Message::M)),
+        &[Start, ErrAndBump("m"), Complete(0, 700)],
         Case {
             text: " ,",
             tokens: &[space(1), COMMA],
@@ -168,6 +134,7 @@ fn expected_kind_is_whole(rt: HostRuntime) {
             &rt,
             kinds,
             part,
+            &[Start, BumpAny, Expect(5), Complete(0, 700)],
             Case {
                 text: "a",
                 tokens: &[word(1)],
