@@ -22,7 +22,10 @@ fn refused_table_prints_its_line(rt: HostRuntime) -> Result<(), Fail> {
 fn refused_calls_print_their_line(rt: HostRuntime) -> Result<(), Fail> {
     for (error, line) in [
         (ScriptError::BadCall { index: 3 }, "bad call 3"),
-        (ScriptError::Unspent { marker: 4294967295 }, "unspent 4294967295"),
+        (
+            ScriptError::Unspent { marker: 4294967295 },
+            "unspent 4294967295",
+        ),
         (ScriptError::OutOfMemory, "memory"),
     ] {
         let printed = format!(in rt.alloc(); "{error}")?;

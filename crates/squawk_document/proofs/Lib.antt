@@ -1,0 +1,4 @@
+mod ReadingLemmas
+mod RecoverySets
+mod Values
+mod WordPairLemmas

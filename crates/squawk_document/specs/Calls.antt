@@ -1,0 +1,90 @@
+-- What calls of a parser the JSON of a document spells.
+use Rattle.std.specs.Prelude.{ℕ, ◌/◌, ◌%◌, ◌^◌, ◌==◌, Bool, List, length, codes, Result, Ok, Err, bit_or, fold, slice_index, slice_set, if◌then◌else◌}
+use Rattle.std.specs.Str.{chars}
+use Rattle.serde_json.specs.Data.{Data}
+use Rattle.squawk_kinds.specs.Kinds.{WHITESPACE}
+use Rattle.squawk_kinds.specs.TokenSets.{no_kinds}
+use Rattle.squawk_kinds.specs.declared.token_set.TokenSet.{TokenSet}
+use Rattle.squawk_script.specs.declared.call.Call.{Call}
+use Rattle.squawk_script.specs.declared.call.Call.TheVariants.{Start, Complete, Abandon, Precede, ExtendTo, Eat, BumpAny, BumpRemap, Expect, Error, ErrRecover, ErrAndBump}
+use Rattle.squawk_document.specs.declared.document_error.DocumentError.{DocumentError}
+use Rattle.squawk_document.specs.declared.document_error.DocumentError.TheVariants.{Shape}
+use Rattle.squawk_document.specs.Values.{◌>>=◌, each, is_word, item_at, items_in, number_in, string_in, u32_in}
+
+-- ---- sets of token kinds
+
+-- a set and one token kind more: its bit is 1 in the word that holds it
+abbrev pub with_kind : TokenSet → ℕ → TokenSet
+with_kind set kind = slice_set set (kind / 64) (bit_or (slice_index set (kind / 64)) (2 ^ (kind % 64)))
+
+-- the set of these token kinds; it has these and no others (proofs/RecoverySets.antt)
+abbrev pub set_of : List ℕ → TokenSet
+set_of kinds = fold with_kind no_kinds kinds
+
+-- ---- the items of a call
+
+-- a list of as many items as this
+abbrev pub with_len : ℕ → List Data → Result (List Data) DocumentError
+with_len n ds = if length ds == n then Ok ds else Err Shape
+
+-- the number of a kind
+abbrev pub kind_in : Data → Result ℕ DocumentError
+kind_in = number_in 0 65535
+
+-- a message, as its characters
+abbrev pub message_in : Data → Result (List ℕ) DocumentError
+message_in d = string_in d >>= λ bytes. Ok (chars bytes)
+
+-- a list of token kinds, as the set that has exactly these
+abbrev pub set_in : Data → Result TokenSet DocumentError
+set_in d = items_in d >>= λ ds. each (number_in 0 WHITESPACE) ds >>= λ kinds. Ok (set_of kinds)
+
+-- the one item after a call's name
+abbrev pub argument : List Data → Result Data DocumentError
+argument ds = with_len 2 ds >>= λ ds. item_at ds 1
+
+-- ---- calls
+
+-- a call that needs nothing
+abbrev pub alone : List Data → Call → Result Call DocumentError
+alone ds call = with_len 1 ds >>= λ ds. Ok call
+
+-- a marker and the kind of its node
+abbrev pub complete_in : List Data → Result Call DocumentError
+complete_in ds =
+    with_len 3 ds >>= λ ds. item_at ds 1 >>= u32_in >>= λ marker. item_at ds 2 >>= kind_in >>= λ kind. Ok (Complete marker kind)
+
+-- a node, and the marker that it begins at from then on
+abbrev pub extend_to_in : List Data → Result Call DocumentError
+extend_to_in ds =
+    with_len 3 ds >>= λ ds. item_at ds 1 >>= u32_in >>= λ node. item_at ds 2 >>= u32_in >>= λ marker. Ok (ExtendTo node marker)
+
+-- a message, and the token kinds at which no token is eaten
+abbrev pub err_recover_in : List Data → Result Call DocumentError
+err_recover_in ds =
+    with_len 3 ds >>= λ ds. item_at ds 1 >>= message_in >>= λ message. item_at ds 2 >>= set_in >>= λ recovery. Ok (ErrRecover message recovery)
+
+-- the call of this name, where the items are the name and what follows it
+abbrev pub call_named : List ℕ → List Data → Result Call DocumentError
+call_named name ds =
+    if is_word name (codes "start") then alone ds Start else
+    if is_word name (codes "complete") then complete_in ds else
+    if is_word name (codes "abandon") then argument ds >>= u32_in >>= (λ marker. Ok (Abandon marker)) else
+    if is_word name (codes "precede") then argument ds >>= u32_in >>= (λ node. Ok (Precede node)) else
+    if is_word name (codes "extend_to") then extend_to_in ds else
+    if is_word name (codes "eat") then argument ds >>= kind_in >>= (λ kind. Ok (Eat kind)) else
+    if is_word name (codes "bump_any") then alone ds BumpAny else
+    if is_word name (codes "bump_remap") then argument ds >>= kind_in >>= (λ kind. Ok (BumpRemap kind)) else
+    if is_word name (codes "expect") then argument ds >>= kind_in >>= (λ kind. Ok (Expect kind)) else
+    if is_word name (codes "error") then argument ds >>= message_in >>= (λ message. Ok (Error message)) else
+    if is_word name (codes "err_recover") then err_recover_in ds else
+    if is_word name (codes "err_and_bump") then argument ds >>= message_in >>= (λ message. Ok (ErrAndBump message)) else
+    Err Shape
+
+-- one call: a list of its name, and what it needs
+abbrev pub call_in : Data → Result Call DocumentError
+call_in d = items_in d >>= λ ds. item_at ds 0 >>= string_in >>= λ name. call_named name ds
+
+-- the calls of a document
+abbrev pub calls_in : Data → Result (List Call) DocumentError
+calls_in d = items_in d >>= each call_in

@@ -1,0 +1,152 @@
+//! The calls of a document.
+ghost use Rattle.std.specs.Prelude.{◌≡◌, map};
+ghost use Rattle.serde_json.specs.View.{view};
+ghost use Rattle.squawk_document.specs.Calls.{alone, argument, call_in, call_named, calls_in, complete_in, err_recover_in, extend_to_in, kind_in, message_in, set_in, with_len};
+ghost use Rattle.squawk_document.specs.Values.{Gives};
+
+use crate::document_error::DocumentError;
+use crate::value;
+use serde_json::Value;
+use squawk_parser::{SyntaxKind, Text, TokenSet};
+use squawk_script::Call;
+use std::alloc::Global;
+
+/// The calls that a list spells.
+pub fn calls(alloc: Global, value: &Value) -> Result<Vec<Call>, DocumentError>
+    ensures { Gives (λ v. v.items) result (calls_in (view value.now)) }
+{
+    let items = value::items(value)?;
+    let mut calls = Vec::with_capacity(alloc, items.len())?;
+    for item in items {
+        calls.push_reserved(call(alloc, item)?);
+    }
+    Ok(calls)
+}
+
+/// The call that a list spells: its name, and what it needs.
+fn call(alloc: Global, value: &Value) -> Result<Call, DocumentError>
+    ensures { Gives (λ c. c) result (call_in (view value.now)) }
+{
+    let items = value::items(value)?;
+    let name = value::string(value::item(items, 0)?)?;
+    call_named(alloc, name, items)
+}
+
+/// The call of this name. The items are the name, and what the call needs.
+fn call_named(alloc: Global, name: &str, items: &[Value]) -> Result<Call, DocumentError>
+    ensures { Gives (λ c. c) result (call_named name.now (map view items.now)) }
+{
+    match name {
+        "start" => alone(items, Call::Start),
+        "complete" => complete(items),
+        "abandon" => Ok(Call::Abandon {
+            marker: value::u32_of(argument(items)?)?,
+        }),
+        "precede" => Ok(Call::Precede {
+            node: value::u32_of(argument(items)?)?,
+        }),
+        "extend_to" => extend_to(items),
+        "eat" => Ok(Call::Eat {
+            kind: kind(argument(items)?)?,
+        }),
+        "bump_any" => alone(items, Call::BumpAny),
+        "bump_remap" => Ok(Call::BumpRemap {
+            kind: kind(argument(items)?)?,
+        }),
+        "expect" => Ok(Call::Expect {
+            kind: kind(argument(items)?)?,
+        }),
+        "error" => Ok(Call::Error {
+            message: message(alloc, argument(items)?)?,
+        }),
+        "err_recover" => err_recover(alloc, items),
+        "err_and_bump" => Ok(Call::ErrAndBump {
+            message: message(alloc, argument(items)?)?,
+        }),
+        _ => Err(DocumentError::Shape),
+    }
+}
+
+/// A call that needs nothing.
+fn alone(items: &[Value], call: Call) -> Result<Call, DocumentError>
+    ensures { Gives (λ c. c) result (alone (map view items.now) call) }
+{
+    with_len(items, 1)?;
+    Ok(call)
+}
+
+fn complete(items: &[Value]) -> Result<Call, DocumentError>
+    ensures { Gives (λ c. c) result (complete_in (map view items.now)) }
+{
+    let items = with_len(items, 3)?;
+    let marker = value::u32_of(value::item(items, 1)?)?;
+    let kind = kind(value::item(items, 2)?)?;
+    Ok(Call::Complete { marker, kind })
+}
+
+fn extend_to(items: &[Value]) -> Result<Call, DocumentError>
+    ensures { Gives (λ c. c) result (extend_to_in (map view items.now)) }
+{
+    let items = with_len(items, 3)?;
+    let node = value::u32_of(value::item(items, 1)?)?;
+    let marker = value::u32_of(value::item(items, 2)?)?;
+    Ok(Call::ExtendTo { node, marker })
+}
+
+fn err_recover(alloc: Global, items: &[Value]) -> Result<Call, DocumentError>
+    ensures { Gives (λ c. c) result (err_recover_in (map view items.now)) }
+{
+    let items = with_len(items, 3)?;
+    let message = message(alloc, value::item(items, 1)?)?;
+    let recovery = token_set(value::item(items, 2)?)?;
+    Ok(Call::ErrRecover { message, recovery })
+}
+
+/// A list of as many items as this.
+fn with_len(items: &[Value], n: usize) -> Result<&[Value], DocumentError>
+    ensures { Gives (λ vs. map view vs.now) result (with_len n (map view items.now)) }
+{
+    if items.len() != n {
+        return Err(DocumentError::Shape);
+    }
+    Ok(items)
+}
+
+/// The one item after a call's name.
+fn argument(items: &[Value]) -> Result<&Value, DocumentError>
+    ensures { Gives (λ v. view v.now) result (argument (map view items.now)) }
+{
+    value::item(with_len(items, 2)?, 1)
+}
+
+fn kind(value: &Value) -> Result<SyntaxKind, DocumentError>
+    ensures { Gives (λ kind. kind) result (kind_in (view value.now)) }
+{
+    let number = value::number(value, 0, u64::from(u16::MAX))?;
+    Ok(SyntaxKind::from(number as u16))
+}
+
+fn message(alloc: Global, value: &Value) -> Result<Text, DocumentError>
+    ensures { Gives (λ text. text) result (message_in (view value.now)) }
+{
+    let text = value::string(value)?;
+    Ok(Text::new(String::from_str(alloc, text)?))
+}
+
+/// The set of the token kinds that a list has.
+fn token_set(value: &Value) -> Result<TokenSet, DocumentError>
+    ensures { Gives (λ set. set) result (set_in (view value.now)) }
+{
+    let items = value::items(value)?;
+    let mut words = [0; 10];
+    for item in items {
+        let kind = value::number(item, 0, 639)? as usize;
+        words[kind / 64] |= 1 << (kind % 64);
+    }
+    Ok(TokenSet::from_words(words))
+}
+
+#[cfg(test)]
+mod refused_tests;
+#[cfg(test)]
+mod tests;

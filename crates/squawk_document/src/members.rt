@@ -1,0 +1,62 @@
+//! The members of a document, and where its grammar begins.
+ghost use Rattle.serde_json.specs.View.{view};
+ghost use Rattle.squawk_document.specs.DocumentParts.{entry_in, member_data, members_in};
+ghost use Rattle.squawk_document.specs.Values.{Gives, string_in};
+
+#[cfg(test)]
+mod tests;
+
+use crate::document_error::DocumentError;
+use crate::value;
+use serde_json::Value;
+use squawk_parser::EntryPoint;
+
+/// The members of a document.
+#[derive(Clone, Copy)]
+pub struct DocumentMembers<'v> {
+    pub text: &'v Value,
+    pub tokens: &'v Value,
+    pub words: &'v Value,
+    pub vocabulary: &'v Value,
+    pub entry: &'v Value,
+    pub calls: &'v Value,
+}
+
+/// The members of a document: an object with these six and no other.
+pub fn members(document: &Value) -> Result<DocumentMembers<'_>, DocumentError>
+    ensures { Gives member_data result (members_in (view document.now)) }
+{
+    let object = value::with_members(document, 6)?;
+    let text = value::member(object, "text")?;
+    let tokens = value::member(object, "tokens")?;
+    let words = value::member(object, "words")?;
+    let vocabulary = value::member(object, "vocabulary")?;
+    let entry = value::member(object, "entry")?;
+    let calls = value::member(object, "calls")?;
+    Ok(DocumentMembers {
+        text,
+        tokens,
+        words,
+        vocabulary,
+        entry,
+        calls,
+    })
+}
+
+/// The text of a document.
+pub fn text(value: &Value) -> Result<&str, DocumentError>
+    ensures { Gives (λ s. s.now) result (string_in (view value.now)) }
+{
+    value::string(value)
+}
+
+/// Where the grammar of a document begins.
+pub fn entry(value: &Value) -> Result<EntryPoint, DocumentError>
+    ensures { Gives (λ e. e) result (entry_in (view value.now)) }
+{
+    match value::string(value)? {
+        "sql" => Ok(EntryPoint::SourceFile),
+        "plpgsql" => Ok(EntryPoint::Plpgsql),
+        _ => Err(DocumentError::Shape),
+    }
+}
