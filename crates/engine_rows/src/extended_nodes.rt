@@ -7,8 +7,8 @@ use crate::fixture::{EXIT, enter, error_step, space, space_step, word, word_step
 use std::process::Abort;
 use std::test::Fail;
 
-/// Ends the test unless the node around the third word, to which a marker stands before each of the
-/// words, begins before the first one when these calls are made of it.
+/// Ends the test unless a node around the third of three words begins before the first of them, once
+/// these calls have extended it to markers before the first and the second.
 fn assert_extended(rt: &(impl Abort + AllocGlobal), first: Line, second: Line) -> Result<(), Fail> {
     assert_script(
         rt,

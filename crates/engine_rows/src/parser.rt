@@ -4,6 +4,7 @@ ghost use Rattle.squawk_parser.specs.State.{Goes, Keeps};
 
 use crate::fixture::notes::note_three;
 use crate::fixture::output::{assert_output, enter, token};
+use crate::fixture::scripts::script_of;
 use crate::fixture::words::no_words;
 use crate::fixture::{
     Calls, FixedGrammar, Keywords, NO_KEYWORDS, parse, parse_script, space, table, word,
@@ -36,16 +37,24 @@ fn each_entry_point_is_its_own(rt: HostRuntime) -> Result<(), Fail> {
     };
 
     let source_file = EntryPoint::SourceFile.parse(rt.alloc(), &input, &grammar)?;
-    assert_output(&rt, &source_file, &[enter(700), token(3), Step::Exit]);
-    assert_eq!(rt; source_file.recorded(), 3);
+    let script = script_of(rt.alloc(), grammar.source_file.lines())?;
+    let by_script = EntryPoint::SourceFile.parse(rt.alloc(), &input, &script)?;
+    for output in [&source_file, &by_script] {
+        assert_output(&rt, output, &[enter(700), token(3), Step::Exit]);
+        assert_eq!(rt; output.recorded(), 3);
+    }
 
     let plpgsql = EntryPoint::Plpgsql.parse(rt.alloc(), &input, &grammar)?;
-    assert_output(
-        &rt,
-        &plpgsql,
-        &[enter(700), Step::Exit, enter(700), Step::Exit],
-    );
-    assert_eq!(rt; plpgsql.recorded(), 4);
+    let script = script_of(rt.alloc(), grammar.plpgsql.lines())?;
+    let by_script = EntryPoint::Plpgsql.parse(rt.alloc(), &input, &script)?;
+    for output in [&plpgsql, &by_script] {
+        assert_output(
+            &rt,
+            output,
+            &[enter(700), Step::Exit, enter(700), Step::Exit],
+        );
+        assert_eq!(rt; output.recorded(), 4);
+    }
     Ok(())
 }
 
