@@ -1,9 +1,8 @@
 -- Calls that make markers or spend them.
-use Rattle.std.proofs.Common.{◌≡◌, ◌∙◌, ℕ, zero, suc, ◌+◌, ◌<◌, true, Option, Some, None, List, [], ◌∷◌, ◌++◌, length, get_or, set, map, arith, ap, sym, refl, subst, length-append}
+use Rattle.std.proofs.Common.{◌≡◌, ◌∙◌, ℕ, zero, suc, ◌+◌, ◌<◌, true, Option, Some, None, List, [], ◌∷◌, ◌++◌, length, get_or, set, map, ap, sym, refl, subst, length-append}
 use Rattle.std.specs.Prelude.{Bool, Contains, IsTrue, ◌&&◌, false, nat_lt}
 use Rattle.std.proofs.lemmas.Bool.{ltb-true}
 use Rattle.std.proofs.lemmas.List.{length-set, map-append, map-set, set-get_or}
-use Rattle.std.proofs.lemmas.List.Elements.{Contains-append_left, Contains-append_right}
 use Rattle.squawk_parser.specs.Draft as draft
 use Rattle.squawk_parser.specs.Draft.{Draft, Item, Mark, Node, ByStart, ByPrecede, IsAboveIds, ids, ids_of}
 use Rattle.squawk_parser.specs.Edits.{abandoned, completed, extended, preceded, started}
@@ -16,6 +15,7 @@ use Rattle.squawk_script.specs.declared.call.Call.TheVariants as calls
 use Rattle.squawk_script.specs.declared.slot.Slot.{Slot}
 use Rattle.squawk_script.specs.declared.slot.Slot.TheVariants.{Open, Done, Spent}
 use Rattle.squawk_script.proofs.Held.{holds-abandoned, holds-completed, holds-extended, holds-preceded, holds-started}
+use Rattle.squawk_script.proofs.RenamedIds.{IsIdOf-hole, IsIdOf-opening}
 use Rattle.squawk_script.proofs.Renaming.{renamed-abandoned, renamed-completed, renamed-extended, renamed-preceded, renamed-started, with_id, with_id-before, with_id-here}
 use Rattle.squawk_script.proofs.Sides.{set-twice, sides-pushed, sides-set, sides-set_both}
 
@@ -23,26 +23,11 @@ use Rattle.squawk_script.proofs.Sides.{set-twice, sides-pushed, sides-set, sides
 abbrev pub no_node : Node
 no_node = record { id = 0; kind = 0 }
 
--- the id of an item is one of the ids
-pub Contains-ids : (items : List Item) (item : Item) (i : ℕ) → Contains (ids_of item) i → Contains items item → Contains (ids items) i
-Contains-ids [] item i one (k, lt, at) = absurd (omega arith)
-Contains-ids (x ∷ items) item i one (zero, lt, at) = Contains-append_left (ids_of x) (ids items) i (subst (λ y. Contains (ids_of y) i) (sym at) one)
-Contains-ids (x ∷ items) item i one (suc k, lt, at) = Contains-append_right (ids_of x) (ids items) i (Contains-ids items item i one (k, omega arith, at))
-
-itself : (i : ℕ) → Contains (i ∷ []) i
-itself i = (0, omega arith, refl)
-
-pub id-hole : (items : List Item) (m : Mark) → Contains items (draft.Hole m.id m.made) → Contains (ids items) m.id
-id-hole items m there = Contains-ids items (draft.Hole m.id m.made) m.id (itself m.id) there
-
-pub id-node : (items : List Item) (n : Node) → Contains items (draft.Open n.id n.kind true) → Contains (ids items) n.id
-id-node items n there = Contains-ids items (draft.Open n.id n.kind true) n.id (itself n.id) there
-
 -- a slot's marker under ids that are the same for the draft's
 pub marker-agrees : (f g : ℕ → ℕ) (items : List Item) (slot : Slot) (marker : Node) → ((i : ℕ) → Contains (ids items) i → g i ≡ f i) → IsHeld items slot
     → IsMarkerOf f slot marker → IsMarkerOf g slot marker
-marker-agrees f g items (Open m) marker agrees held is = is ∙ sym (agrees m.id (id-hole items m held))
-marker-agrees f g items (Done n) marker agrees held is = is ∙ ap (λ i. record { id = i; kind = n.kind }) (sym (agrees n.id (id-node items n held)))
+marker-agrees f g items (Open m) marker agrees held is = is ∙ sym (agrees m.id (IsIdOf-hole items m.id m.made held))
+marker-agrees f g items (Done n) marker agrees held is = is ∙ ap (λ i. record { id = i; kind = n.kind }) (sym (agrees n.id (IsIdOf-opening items n.id n.kind true held)))
 marker-agrees f g items Spent marker agrees held is = tt
 
 -- all of them
