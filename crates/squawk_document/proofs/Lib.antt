@@ -1,4 +1,4 @@
+mod KindSets
 mod ReadingLemmas
-mod RecoverySets
 mod Values
 mod WordPairLemmas

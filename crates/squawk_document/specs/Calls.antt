@@ -1,31 +1,15 @@
 -- What calls of a parser the JSON of a document spells.
-use Rattle.std.specs.Prelude.{ℕ, ◌/◌, ◌%◌, ◌^◌, ◌==◌, Bool, List, length, codes, Result, Ok, Err, bit_or, fold, slice_index, slice_set, if◌then◌else◌}
+use Rattle.std.specs.Prelude.{ℕ, List, codes, Result, Ok, Err, if◌then◌else◌}
 use Rattle.std.specs.Str.{chars}
 use Rattle.serde_json.specs.Data.{Data}
-use Rattle.squawk_kinds.specs.Kinds.{WHITESPACE}
-use Rattle.squawk_kinds.specs.TokenSets.{no_kinds}
-use Rattle.squawk_kinds.specs.declared.token_set.TokenSet.{TokenSet}
 use Rattle.squawk_script.specs.declared.call.Call.{Call}
 use Rattle.squawk_script.specs.declared.call.Call.TheVariants.{Start, Complete, Abandon, Precede, ExtendTo, Eat, BumpAny, BumpRemap, Expect, Error, ErrRecover, ErrAndBump}
 use Rattle.squawk_document.specs.declared.document_error.DocumentError.{DocumentError}
 use Rattle.squawk_document.specs.declared.document_error.DocumentError.TheVariants.{Shape}
-use Rattle.squawk_document.specs.Values.{◌>>=◌, each, is_word, item_at, items_in, number_in, string_in, u32_in}
-
--- ---- sets of token kinds
-
--- a set and one token kind more: its bit is 1 in the word that holds it
-abbrev pub with_kind : TokenSet → ℕ → TokenSet
-with_kind set kind = slice_set set (kind / 64) (bit_or (slice_index set (kind / 64)) (2 ^ (kind % 64)))
-
--- the set of these token kinds; it has these and no others (proofs/RecoverySets.antt)
-abbrev pub set_of : List ℕ → TokenSet
-set_of kinds = fold with_kind no_kinds kinds
+use Rattle.squawk_document.specs.KindSets.{set_in}
+use Rattle.squawk_document.specs.Values.{◌>>=◌, each, is_word, item_at, items_in, number_in, string_in, u32_in, with_len}
 
 -- ---- the items of a call
-
--- a list of as many items as this
-abbrev pub with_len : ℕ → List Data → Result (List Data) DocumentError
-with_len n ds = if length ds == n then Ok ds else Err Shape
 
 -- the number of a kind
 abbrev pub kind_in : Data → Result ℕ DocumentError
@@ -34,10 +18,6 @@ kind_in = number_in 0 65535
 -- a message, as its characters
 abbrev pub message_in : Data → Result (List ℕ) DocumentError
 message_in d = string_in d >>= λ bytes. Ok (chars bytes)
-
--- a list of token kinds, as the set that has exactly these
-abbrev pub set_in : Data → Result TokenSet DocumentError
-set_in d = items_in d >>= λ ds. each (number_in 0 WHITESPACE) ds >>= λ kinds. Ok (set_of kinds)
 
 -- the one item after a call's name
 abbrev pub argument : List Data → Result Data DocumentError
@@ -62,7 +42,7 @@ extend_to_in ds =
 -- a message, and the token kinds at which no token is eaten
 abbrev pub err_recover_in : List Data → Result Call DocumentError
 err_recover_in ds =
-    with_len 3 ds >>= λ ds. item_at ds 1 >>= message_in >>= λ message. item_at ds 2 >>= set_in >>= λ recovery. Ok (ErrRecover message recovery)
+    with_len 3 ds >>= λ ds. item_at ds 1 >>= message_in >>= λ message. item_at ds 2 >>= set_in 0 >>= λ recovery. Ok (ErrRecover message recovery)
 
 -- the call of this name, where the items are the name and what follows it
 abbrev pub call_named : List ℕ → List Data → Result Call DocumentError

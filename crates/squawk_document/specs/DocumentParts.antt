@@ -1,6 +1,5 @@
 -- The members of a document, and where its grammar begins.
-use Rattle.std.specs.Prelude.{ℕ, Bool, List, Result, Ok, Err, codes, if◌then◌else◌, nat_eq}
-use Rattle.std.specs.Cmp.Lexicographic.{pointwise}
+use Rattle.std.specs.Prelude.{ℕ, List, Result, Ok, Err, codes, if◌then◌else◌}
 use Rattle.serde_json.specs.Data.{Data}
 use Rattle.serde_json.specs.View.{view}
 use Rattle.squawk_parser.specs.declared.parser.grammar.EntryPoint.{EntryPoint}
@@ -8,7 +7,7 @@ use Rattle.squawk_parser.specs.declared.parser.grammar.EntryPoint.TheVariants.{S
 use Rattle.squawk_document.specs.declared.document_error.DocumentError.{DocumentError}
 use Rattle.squawk_document.specs.declared.document_error.DocumentError.TheVariants.{Shape}
 use Rattle.squawk_document.specs.declared.members.DocumentMembers.{DocumentMembers}
-use Rattle.squawk_document.specs.Values.{◌>>=◌, has_members, member_in, string_in}
+use Rattle.squawk_document.specs.Values.{◌>>=◌, has_members, is_word, member_in, string_in}
 
 pub record MemberData : Type 0 where
   pub text : Data
@@ -38,9 +37,6 @@ members_in d = has_members 6 d
     >>= λ vocabulary. member_in (codes "entry") object
     >>= λ entry. member_in (codes "calls") object
     >>= λ calls. Ok (record { text = text; tokens = tokens; words = words; vocabulary = vocabulary; entry = entry; calls = calls })
-
-abbrev pub is_word : List ℕ → List ℕ → Bool
-is_word = pointwise nat_eq
 
 abbrev pub entry_spelled : List ℕ → Result EntryPoint DocumentError
 entry_spelled word =

@@ -1,6 +1,5 @@
 -- What a document tells about the kinds of its grammar.
-use Rattle.std.specs.Prelude.{ℕ, ◌==◌, Bool, List, Result, Ok, codes}
-use Rattle.std.specs.List.{list_any}
+use Rattle.std.specs.Prelude.{ℕ, List, Result, Ok, codes}
 use Rattle.serde_json.specs.Data.{Data}
 use Rattle.serde_json.specs.View.{view}
 use Rattle.squawk_document.specs.declared.document_error.DocumentError.{DocumentError}
@@ -21,18 +20,6 @@ word_members_in d = has_members 2 d
     >>= λ object. member_in (codes "operator_first") object
     >>= λ operator_first. member_in (codes "names") object
     >>= λ names. Ok (record { operator_first = operator_first; names = names })
-
--- a kind that an operator may begin with
-abbrev pub operator_kind_in : Data → Result ℕ DocumentError
-operator_kind_in = number_in 1 639
-
--- which kinds are in a list
-abbrev pub set_of : List ℕ → ℕ → Bool
-set_of kinds kind = list_any (λ one. one == kind) kinds
-
--- the kinds that an operator may begin with, as a set
-abbrev pub operator_first_in : Data → Result (ℕ → Bool) DocumentError
-operator_first_in d = items_in d >>= λ items. each operator_kind_in items >>= λ kinds. Ok (set_of kinds)
 
 -- a kind and its name
 abbrev pub name_in : Data → Result (ℕ × List ℕ) DocumentError

@@ -2,6 +2,9 @@ pub mod Values
 pub mod DocumentParts
 pub mod TokenShapes
 pub mod Pairs
+pub mod KindSets
 pub mod GrammarWords
 pub mod WordPairs
 pub mod Calls
+pub mod WordAnswers
+pub mod Documents

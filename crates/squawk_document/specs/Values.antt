@@ -1,5 +1,5 @@
 -- What is read of a JSON value, or why it can't be.
-use Rattle.std.specs.Prelude.{◌≡◌, ℕ, ◌+◌, ◌==◌, Bool, List, [], ◌∷◌, Result, Ok, Err, option_and_then, slice_get, nat_eq, nat_lt, if◌then◌else◌}
+use Rattle.std.specs.Prelude.{◌≡◌, ℕ, ◌+◌, ◌==◌, Bool, List, [], ◌∷◌, length, Result, Ok, Err, option_and_then, slice_get, nat_eq, nat_lt, if◌then◌else◌}
 use Rattle.std.specs.Cmp.Lexicographic.{pointwise}
 use Rattle.std.specs.Option.{ok_or}
 use Rattle.std.specs.Str.{is_utf8}
@@ -72,6 +72,10 @@ bool_in d = ok_or (as_bool d) Shape
 -- whether a text is this one
 abbrev pub is_word : List ℕ → List ℕ → Bool
 is_word = pointwise nat_eq
+
+-- a list of as many items as this
+abbrev pub with_len : ℕ → List Data → Result (List Data) DocumentError
+with_len n ds = if length ds == n then Ok ds else Err Shape
 
 -- item i of a list
 abbrev pub item_at : List Data → ℕ → Result Data DocumentError

@@ -1,13 +1,14 @@
 //! The calls of a document.
 ghost use Rattle.std.specs.Prelude.{◌≡◌, map};
 ghost use Rattle.serde_json.specs.View.{view};
-ghost use Rattle.squawk_document.specs.Calls.{alone, argument, call_in, call_named, calls_in, complete_in, err_recover_in, extend_to_in, kind_in, message_in, set_in, with_len};
+ghost use Rattle.squawk_document.specs.Calls.{alone, argument, call_in, call_named, calls_in, complete_in, err_recover_in, extend_to_in, kind_in, message_in};
 ghost use Rattle.squawk_document.specs.Values.{Gives};
 
 use crate::document_error::DocumentError;
+use crate::kind_set::kind_set;
 use crate::value;
 use serde_json::Value;
-use squawk_parser::{SyntaxKind, Text, TokenSet};
+use squawk_parser::{SyntaxKind, Text};
 use squawk_script::Call;
 use std::alloc::Global;
 
@@ -71,14 +72,14 @@ fn call_named(alloc: Global, name: &str, items: &[Value]) -> Result<Call, Docume
 fn alone(items: &[Value], call: Call) -> Result<Call, DocumentError>
     ensures { Gives (λ c. c) result (alone (map view items.now) call) }
 {
-    with_len(items, 1)?;
+    value::with_len(items, 1)?;
     Ok(call)
 }
 
 fn complete(items: &[Value]) -> Result<Call, DocumentError>
     ensures { Gives (λ c. c) result (complete_in (map view items.now)) }
 {
-    let items = with_len(items, 3)?;
+    let items = value::with_len(items, 3)?;
     let marker = value::u32_of(value::item(items, 1)?)?;
     let kind = kind(value::item(items, 2)?)?;
     Ok(Call::Complete { marker, kind })
@@ -87,7 +88,7 @@ fn complete(items: &[Value]) -> Result<Call, DocumentError>
 fn extend_to(items: &[Value]) -> Result<Call, DocumentError>
     ensures { Gives (λ c. c) result (extend_to_in (map view items.now)) }
 {
-    let items = with_len(items, 3)?;
+    let items = value::with_len(items, 3)?;
     let node = value::u32_of(value::item(items, 1)?)?;
     let marker = value::u32_of(value::item(items, 2)?)?;
     Ok(Call::ExtendTo { node, marker })
@@ -96,27 +97,17 @@ fn extend_to(items: &[Value]) -> Result<Call, DocumentError>
 fn err_recover(alloc: Global, items: &[Value]) -> Result<Call, DocumentError>
     ensures { Gives (λ c. c) result (err_recover_in (map view items.now)) }
 {
-    let items = with_len(items, 3)?;
+    let items = value::with_len(items, 3)?;
     let message = message(alloc, value::item(items, 1)?)?;
-    let recovery = token_set(value::item(items, 2)?)?;
+    let recovery = kind_set(value::item(items, 2)?, 0)?;
     Ok(Call::ErrRecover { message, recovery })
-}
-
-/// A list of as many items as this.
-fn with_len(items: &[Value], n: usize) -> Result<&[Value], DocumentError>
-    ensures { Gives (λ vs. map view vs.now) result (with_len n (map view items.now)) }
-{
-    if items.len() != n {
-        return Err(DocumentError::Shape);
-    }
-    Ok(items)
 }
 
 /// The one item after a call's name.
 fn argument(items: &[Value]) -> Result<&Value, DocumentError>
     ensures { Gives (λ v. view v.now) result (argument (map view items.now)) }
 {
-    value::item(with_len(items, 2)?, 1)
+    value::item(value::with_len(items, 2)?, 1)
 }
 
 fn kind(value: &Value) -> Result<SyntaxKind, DocumentError>
@@ -131,19 +122,6 @@ fn message(alloc: Global, value: &Value) -> Result<Text, DocumentError>
 {
     let text = value::string(value)?;
     Ok(Text::new(String::from_str(alloc, text)?))
-}
-
-/// The set of the token kinds that a list has.
-fn token_set(value: &Value) -> Result<TokenSet, DocumentError>
-    ensures { Gives (λ set. set) result (set_in (view value.now)) }
-{
-    let items = value::items(value)?;
-    let mut words = [0; 10];
-    for item in items {
-        let kind = value::number(item, 0, 639)? as usize;
-        words[kind / 64] |= 1 << (kind % 64);
-    }
-    Ok(TokenSet::from_words(words))
 }
 
 #[cfg(test)]

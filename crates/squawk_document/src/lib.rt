@@ -2,7 +2,9 @@
 #![tactic(auto)]
 
 pub mod calls;
+pub mod document;
 mod document_error;
+mod kind_set;
 pub mod members;
 mod pair;
 pub mod token;
@@ -11,4 +13,5 @@ mod word_list;
 pub mod word_lists;
 pub mod words;
 
+pub use document::Document;
 pub use document_error::DocumentError;

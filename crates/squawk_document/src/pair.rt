@@ -11,10 +11,7 @@ use serde_json::Value;
 pub fn pair(value: &Value) -> Result<(&Value, &Value), DocumentError>
     ensures { Gives (λ p. (view p.0.now, view p.1.now)) result (pair_in (view value.now)) }
 {
-    let items = value::items(value)?;
-    if items.len() != 2 {
-        return Err(DocumentError::Shape);
-    }
+    let items = value::with_len(value::items(value)?, 2)?;
     let first = value::item(items, 0)?;
     let second = value::item(items, 1)?;
     Ok((first, second))

@@ -1,7 +1,7 @@
 //! What is read of a JSON value.
 ghost use Rattle.std.specs.Prelude.{◌≡◌, ℕ, map};
 ghost use Rattle.serde_json.specs.View.{view};
-ghost use Rattle.squawk_document.specs.Values.{Gives, bool_in, has_members, item_at, items_in, member_in, number_in, string_in, u32_in, value_of};
+ghost use Rattle.squawk_document.specs.Values.{Gives, bool_in, has_members, item_at, items_in, member_in, number_in, string_in, u32_in, value_of, with_len};
 
 use crate::document_error::DocumentError;
 use serde_json::Value;
@@ -54,6 +54,16 @@ pub fn items(value: &Value) -> Result<&[Value], DocumentError>
         Some(items) => Ok(items.as_slice()),
         None => Err(DocumentError::Shape),
     }
+}
+
+/// A list of as many items as this.
+pub fn with_len(items: &[Value], n: usize) -> Result<&[Value], DocumentError>
+    ensures { Gives (λ vs. map view vs.now) result (with_len n (map view items.now)) }
+{
+    if items.len() != n {
+        return Err(DocumentError::Shape);
+    }
+    Ok(items)
 }
 
 /// Item i of a list.

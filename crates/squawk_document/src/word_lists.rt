@@ -1,9 +1,8 @@
 //! The vocabulary of a document.
-ghost use Rattle.std.specs.HashMap.{get_by_text};
 ghost use Rattle.serde_json.specs.View.{view};
-ghost use Rattle.squawk_kinds.specs.TokenSets.{has};
 ghost use Rattle.squawk_document.specs.Values.{Gives};
-ghost use Rattle.squawk_document.specs.WordPairs.{Answers, ListAnswers, answered, vocabulary_in};
+ghost use Rattle.squawk_document.specs.WordAnswers.{answers};
+ghost use Rattle.squawk_document.specs.WordPairs.{answered, vocabulary_in};
 
 #[cfg(test)]
 mod tests;
@@ -25,10 +24,7 @@ pub struct WordLists {
 
 /// The vocabulary of a document: an object with these two members and no other.
 pub fn vocabulary(alloc: Global, value: &Value) -> Result<WordLists, DocumentError>
-    ensures { Gives (λ lists. record {
-      keywords = record { kind_of = get_by_text lists.keywords.kinds; kinds = has lists.keywords.set };
-      contextual = record { kind_of = get_by_text lists.contextual.kinds; kinds = has lists.contextual.set };
-    }) result (answered (vocabulary_in (view value.now))) }
+    ensures { Gives answers result (answered (vocabulary_in (view value.now))) }
 {
     let object = value::with_members(value, 2)?;
     let keywords = value::member(object, "keywords")?;

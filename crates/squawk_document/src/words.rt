@@ -1,15 +1,17 @@
 //! What a document tells about the kinds of its grammar.
-ghost use Rattle.std.specs.Prelude.{◌≡◌, ℕ, ◌≢◌, false, map, IfOk};
+ghost use Rattle.std.specs.Prelude.{◌≡◌, false, map, IfOk};
 ghost use Rattle.serde_json.specs.View.{view};
-ghost use Rattle.squawk_kinds.specs.Kinds.{EOF, IsTokenKind};
+ghost use Rattle.squawk_kinds.specs.Kinds.{EOF};
 ghost use Rattle.squawk_kinds.specs.TokenSets.{has};
-ghost use Rattle.squawk_document.specs.GrammarWords.{word_data, word_members_in, operator_kind_in, operator_first_in, name_in, names_in};
+ghost use Rattle.squawk_document.specs.GrammarWords.{word_data, word_members_in, name_in, names_in};
+ghost use Rattle.squawk_document.specs.KindSets.{set_in};
 ghost use Rattle.squawk_document.specs.Values.{Gives};
 
 #[cfg(test)]
 mod tests;
 
 use crate::document_error::DocumentError;
+use crate::kind_set::kind_set;
 use crate::pair::pair;
 use crate::value;
 use serde_json::Value;
@@ -36,27 +38,12 @@ pub fn members(words: &Value) -> Result<WordMembers<'_>, DocumentError>
     })
 }
 
-/// A kind that an operator may begin with: a token kind other than the end.
-fn operator_kind(value: &Value) -> Result<SyntaxKind, DocumentError>
-    ensures kind { Gives (λ kind. kind) result (operator_kind_in (view value.now)) }
-    ensures token { IfOk result IsTokenKind }
-    ensures not_end { IfOk result (λ kind. kind ≢ EOF) }
-{
-    let number = value::number(value, 1, 639)?;
-    Ok(SyntaxKind::from(number as u16))
-}
-
-/// The set of the kinds that an operator may begin with.
+/// The set of the kinds that an operator is made of: token kinds other than the end.
 pub fn operator_first(value: &Value) -> Result<TokenSet, DocumentError>
-    ensures set { Gives (λ set. λ kind. has set kind) result (operator_first_in (view value.now)) }
+    ensures set { Gives (λ set. set) result (set_in 1 (view value.now)) }
     ensures no_end { IfOk result (λ set. has set EOF ≡ false) }
 {
-    let mut set = TokenSet::EMPTY;
-    for item in value::items(value)? {
-        let kind = operator_kind(item)?;
-        set = set.union(TokenSet::new(&[kind]));
-    }
-    Ok(set)
+    kind_set(value, 1)
 }
 
 /// A kind and its name.

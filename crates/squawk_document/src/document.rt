@@ -1,0 +1,58 @@
+//! Documents, read whole.
+ghost use Rattle.std.specs.Prelude.{◌≡◌, false, IfOk};
+ghost use Rattle.serde_json.specs.View.{view};
+ghost use Rattle.squawk_kinds.specs.Kinds.{EOF};
+ghost use Rattle.squawk_kinds.specs.TokenSets.{has};
+ghost use Rattle.squawk_document.specs.Documents.{document_in, told};
+ghost use Rattle.squawk_document.specs.Values.{Gives};
+
+use crate::calls::calls;
+use crate::document_error::DocumentError;
+use crate::token::tokens;
+use crate::word_lists::{WordLists, vocabulary};
+use crate::{members, words};
+use serde_json::Value;
+use squawk_parser::{EntryPoint, SyntaxKind, Token, TokenSet};
+use squawk_script::Call;
+use std::alloc::Global;
+
+/// A document: a text with its raw tokens, and a grammar that is a list of calls.
+#[derive(Drop)]
+pub struct Document<'v> {
+    pub text: &'v str,
+    pub tokens: Vec<Token>,
+    /// The kinds that an operator is made of.
+    pub operator_first: TokenSet,
+    /// Kinds with their names.
+    pub names: Vec<(SyntaxKind, &'v str)>,
+    pub vocabulary: WordLists,
+    pub entry: EntryPoint,
+    pub calls: Vec<Call>,
+}
+
+impl<'v> Document<'v> {
+    /// The document that a value is.
+    pub fn from_value(alloc: Global, value: &'v Value) -> Result<Document<'v>, DocumentError>
+        ensures document { Gives told result (document_in (view value.now)) }
+        ensures no_end { IfOk result (λ d. has d.operator_first EOF ≡ false) }
+    {
+        let members = members::members(value)?;
+        let text = members::text(members.text)?;
+        let tokens = tokens(alloc, members.tokens)?;
+        let words = words::members(members.words)?;
+        let operator_first = words::operator_first(words.operator_first)?;
+        let names = words::names(alloc, words.names)?;
+        let vocabulary = vocabulary(alloc, members.vocabulary)?;
+        let entry = members::entry(members.entry)?;
+        let calls = calls(alloc, members.calls)?;
+        Ok(Document {
+            text,
+            tokens,
+            operator_first,
+            names,
+            vocabulary,
+            entry,
+            calls,
+        })
+    }
+}
