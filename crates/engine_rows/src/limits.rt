@@ -73,6 +73,8 @@ impl Grammar for Limiting {
 
     ghost leaves = { λ _ _ _ _. Unit {0} };
 
+    ghost fails = { λ _ _ _ _ _. Unit {0} };
+
     ghost meaning = { λ _. no_words };
 
     fn words(&self) -> Words<'_> {

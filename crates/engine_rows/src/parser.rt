@@ -94,6 +94,8 @@ impl Grammar for Looks {
 
     ghost leaves = { λ _ _ _ _. Unit {0} };
 
+    ghost fails = { λ _ _ _ _ _. Unit {0} };
+
     ghost meaning = { λ _. no_words };
 
     fn words(&self) -> Words<'_> {
@@ -166,6 +168,8 @@ impl Grammar for WantsMemory {
     ghost use Rattle.squawk_parser.specs.Words.{no_words};
 
     ghost leaves = { λ _ _ _ _. Unit {0} };
+
+    ghost fails = { λ _ _ _ _ _. Unit {0} };
 
     ghost meaning = { λ _. no_words };
 

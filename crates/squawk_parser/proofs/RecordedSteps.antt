@@ -159,7 +159,7 @@ refuses-one {a} {b} {edited} step plain_step r goes reason fails = record { fron
         rw same (omega arith, λ error. absurd (let p = sym error ∙ plain_step in cc))
     why (inr full) =
         let same : reason ≡ TooManyEvents = let p = sym fails ∙ r.full goes full in cc in
-        rw same (omega (arith, full))
+        rw same (omega (arith, full), omega (arith, r.within_errors))
 
 -- a token
 pub token_puts : {a b : State} (kind n : ℕ) → Keeps a b → Records a b (with_token a.draft kind n) → b.position ≡ a.position + n → Puts (steps.Token kind n ∷ []) a b

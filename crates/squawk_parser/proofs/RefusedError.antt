@@ -1,5 +1,5 @@
 -- Errors that are refused.
-use Rattle.std.proofs.Common.{◌≡◌, ◌∙◌, ℕ, Option, Some, List, [], ◌∷◌, arith, add-zero, refl, subst}
+use Rattle.std.proofs.Common.{◌≡◌, ◌∙◌, ◌≤◌, ℕ, Option, Some, List, [], ◌∷◌, arith, add-zero, refl, subst}
 use Rattle.std.specs.Prelude.{IsSome}
 use Rattle.squawk_table.specs.Steps.{Error}
 use Rattle.squawk_parser.specs.Draft.{errors_of}
@@ -34,7 +34,7 @@ Puts-refused s old msg is e why =
     not_put old (record s { first = Some is }) msg refl (cc) (cc) (λ _ reason refused. same_reason old msg (Some is) is reason refl refused why)
 
 -- one that had no room for an event
-pub Puts-full : (old new : State) (msg : List ℕ) → IsSome new.first → new.position ≡ old.position → new.draft ≡ old.draft
+pub Puts-full : (old new : State) (msg : List ℕ) → errors_of old.draft.items ≤ old.max_errors → IsSome new.first → new.position ≡ old.position → new.draft ≡ old.draft
     → (Goes old → (old.draft.recorded ≡ old.max_events) × (new.first ≡ Some TooManyEvents)) → Puts (Error msg ∷ []) old new
-Puts-full old new msg failed place same full =
-    not_put old new msg failed place same (λ goes reason refused. same_reason old msg new.first TooManyEvents reason (full goes).1 refused (full goes).0)
+Puts-full old new msg errors failed place same full =
+    not_put old new msg failed place same (λ goes reason refused. same_reason old msg new.first TooManyEvents reason (full goes).1 refused ((full goes).0, errors))

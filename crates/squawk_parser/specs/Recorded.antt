@@ -1,5 +1,5 @@
 -- What acts record that put whole steps at the end of a draft.
-use Rattle.std.specs.Prelude.{◌≡◌, ℕ, ◌+◌, ◌<◌, true, Some, List, ◌∷◌, ◌++◌, length, All, AllPairs, IsSome}
+use Rattle.std.specs.Prelude.{◌≡◌, ℕ, ◌+◌, ◌<◌, ◌≤◌, true, Some, List, ◌∷◌, ◌++◌, length, All, AllPairs, IsSome}
 use Rattle.squawk_table.specs.Steps.{Step, is_error, errors_in, eaten}
 use Rattle.squawk_parser.specs.Draft.{Draft, Item, HasNoHole, IsAboveIds, errors_of, ids, plain}
 use Rattle.squawk_parser.specs.State.{State, Goes}
@@ -18,10 +18,10 @@ pub record IsPut (steps : List Step) (old new : Draft) : Type 0 where
   pub ascending : AllPairs (λ i j. i < j) (ids made)
   pub recorded : new.recorded ≡ old.recorded + length steps
 
--- Why a parser that has recorded so many events and errors is refused a step, under its limits of both. The limit of events is
--- tested first, then that of errors, and memory last.
+-- Why a parser that has recorded so many events and errors, both within its limits, is refused a step. The limit of events is tested
+-- first, then that of errors, and memory last.
 abbrev pub IsReason : ℕ → ℕ → ℕ → ℕ → Step → ParseError → Type 0
-IsReason max_events max_errors events errors step TooManyEvents = events ≡ max_events
+IsReason max_events max_errors events errors step TooManyEvents = (events ≡ max_events) × (errors ≤ max_errors)
 IsReason max_events max_errors events errors step TooManyErrors = (is_error step ≡ true) × (errors ≡ max_errors) × (events < max_events)
 IsReason max_events max_errors events errors step OutOfMemory = (events < max_events) × (is_error step ≡ true → errors < max_errors)
 

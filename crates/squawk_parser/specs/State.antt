@@ -7,6 +7,7 @@ use Rattle.squawk_parser.specs.Words.{Words, HasNoEnd}
 use Rattle.squawk_parser.specs.Draft.{Draft, nothing, Hole, Open, Mark, Node, HasNoIdTwice, errors_of, plain}
 use Rattle.squawk_table.specs.Steps.{eaten}
 use Rattle.squawk_table.specs.Shape.{IsBalanced, IsOver}
+use Rattle.squawk_parser.specs.declared.parser.limits.Limits.{Limits}
 use Rattle.squawk_parser.specs.declared.parser.parse_error.ParseError.{ParseError}
 use Rattle.squawk_parser.specs.declared.parser.parse_error.ParseError.TheVariants.{OutOfMemory, TooManyEvents, TooManyErrors}
 
@@ -27,6 +28,10 @@ pub record State : Type 0 where
   pub max_errors : ℕ
   -- why the parser failed, if it did
   pub first : Option ParseError
+
+-- the limits of how many events and how many errors it may record
+abbrev pub limits_of : State → Limits
+limits_of s = record { events = s.max_events; errors = s.max_errors }
 
 -- the parser has not failed
 abbrev pub Goes : State → Type 0
@@ -75,8 +80,9 @@ pub record Records (old new : State) (edited : Draft) : Type 0 where
   pub draft : Goes new → new.draft ≡ edited
   -- nothing is recorded by a parser that has failed
   pub stays : IsSome new.first → new.draft ≡ old.draft
-  -- no more events were recorded than may be
+  -- no more events were recorded than may be, and no more errors
   pub within : old.draft.recorded ≤ old.max_events
+  pub within_errors : errors_of old.draft.items ≤ old.max_errors
   -- it fails exactly where the limit is reached, and else only by want of memory
   pub full : Goes old → old.draft.recorded ≡ old.max_events → new.first ≡ Some TooManyEvents
   pub room : Goes old → old.draft.recorded < old.max_events → IsSome new.first → new.first ≡ Some OutOfMemory

@@ -66,6 +66,8 @@ impl Grammar for Script<'_> {
 
     ghost leaves = { λ script _ input draft. IsRunOf script input draft };
 
+    ghost fails = { λ _ _ _ _ _. Unit {0} };
+
     ghost meaning = { λ script. script.words };
 
     fn words(&self) -> Words<'_> {
