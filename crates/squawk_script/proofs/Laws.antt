@@ -1,10 +1,18 @@
--- What a script may leave is one plain list, and one number of events.
-use Rattle.std.proofs.Common.{◌≡◌, ◌∙◌, List, sym}
+-- What a script may leave is one plain list, and one number of events. It may fail for one reason, and only where its events or its
+-- errors are too many.
+use Rattle.std.proofs.Common.{◌≡◌, ◌∙◌, ℕ, zero, suc, ◌<◌, ◌≤◌, Bool, true, false, Some, None, List, [], ◌∷◌, length, arith, sym}
 use Rattle.squawk_table.specs.ParserInput.{Entry}
+use Rattle.squawk_table.specs.Steps.{errors_in}
 use Rattle.squawk_parser.specs.Draft.{Draft, plain}
 use Rattle.squawk_parser.specs.declared.parser.grammar.EntryPoint.{EntryPoint}
+use Rattle.squawk_parser.specs.declared.parser.limits.Limits.{Limits}
+use Rattle.squawk_parser.specs.declared.parser.parse_error.ParseError.{ParseError}
+use Rattle.squawk_parser.specs.declared.parser.parse_error.ParseError.TheVariants.{OutOfMemory, TooManyEvents, TooManyErrors}
+use Rattle.squawk_script.specs.Events.{errors_among, events_of, refusal}
 use Rattle.squawk_script.specs.Meaning.{Meaning}
 use Rattle.squawk_script.specs.contracts.script.ScriptGrammar.TheImpl as grammar
+use Rattle.squawk_script.proofs.Events.{errors_among-cons}
+use Rattle.squawk_script.proofs.Refusals.{Fits}
 
 module _ (script : Meaning) (entry other : EntryPoint) (input : List Entry) (d e : Draft) where
   -- two drafts that a script may leave over an input, from the same entry point or from both
@@ -16,3 +24,59 @@ module _ (script : Meaning) (entry other : EntryPoint) (input : List Entry) (d e
 
   pub one-number : May entry d → May other e → d.recorded ≡ e.recorded
   one-number first second = first.recorded ∙ sym second.recorded
+
+-- ---- refusals
+
+-- where none is refused, there is room for the events and for the errors among them
+pub room-for-all : (events errors : ℕ) (es : List Bool) → refusal events errors es ≡ None → Fits events errors es
+room-for-all events errors [] is = (omega arith, omega arith)
+room-for-all zero errors (e ∷ es) is = absurd (cc)
+room-for-all (suc events) errors (false ∷ es) is =
+    let fits = room-for-all events errors es is in (omega (arith, fits.0), omega (arith, fits.1, errors_among-cons false es))
+room-for-all (suc events) zero (true ∷ es) is = absurd (cc)
+room-for-all (suc events) (suc errors) (true ∷ es) is =
+    let fits = room-for-all events errors es is in (omega (arith, fits.0), omega (arith, fits.1, errors_among-cons true es))
+
+-- too many events are refused only where there are more than there is room for
+pub more-events : (events errors : ℕ) (es : List Bool) → refusal events errors es ≡ Some TooManyEvents → events < length es
+more-events events errors [] is = absurd (cc)
+more-events zero errors (e ∷ es) is = omega arith
+more-events (suc events) errors (false ∷ es) is = omega (arith, more-events events errors es is)
+more-events (suc events) zero (true ∷ es) is = absurd (cc)
+more-events (suc events) (suc errors) (true ∷ es) is = omega (arith, more-events events errors es is)
+
+-- and too many errors only where there are more errors than there is room for
+pub more-errors : (events errors : ℕ) (es : List Bool) → refusal events errors es ≡ Some TooManyErrors → errors < errors_among es
+more-errors events errors [] is = absurd (cc)
+more-errors zero errors (e ∷ es) is = absurd (cc)
+more-errors (suc events) errors (false ∷ es) is = omega (arith, more-errors events errors es is, errors_among-cons false es)
+more-errors (suc events) zero (true ∷ es) is = omega (arith, errors_among-cons true es)
+more-errors (suc events) (suc errors) (true ∷ es) is = omega (arith, more-errors events errors es is, errors_among-cons true es)
+
+-- no event is refused for want of memory
+never-memory : (events errors : ℕ) (es : List Bool) → refusal events errors es ≡ Some OutOfMemory → ⊥
+never-memory events errors [] is = absurd (cc)
+never-memory zero errors (e ∷ es) is = absurd (cc)
+never-memory (suc events) errors (false ∷ es) is = never-memory events errors es is
+never-memory (suc events) zero (true ∷ es) is = absurd (cc)
+never-memory (suc events) (suc errors) (true ∷ es) is = never-memory events errors es is
+
+-- ---- why a script may fail
+
+module _ (script : Meaning) (entry other : EntryPoint) (input : List Entry) (limits : Limits) where
+  -- from an entry point
+  abbrev Fails : EntryPoint → ParseError → Type 0
+  Fails from reason = grammar.fails-value.it script from input limits reason
+
+  -- for one reason, which is the same from both
+  pub one-reason : (first second : ParseError) → Fails entry first → Fails other second → first ≡ second
+  one-reason first second is are = let p = sym is ∙ are in cc
+
+  pub no-memory : Fails entry OutOfMemory → ⊥
+  no-memory = never-memory limits.events limits.errors (events_of script.words input script.calls)
+
+  -- a draft within the limits is one of a run that may not fail under them
+  pub none-fails : (d : Draft) → grammar.leaves-value.it script entry input d → d.recorded ≤ limits.events → errors_in (plain d.items) ≤ limits.errors
+      → (reason : ParseError) → Fails other reason → ⊥
+  none-fails d left events errors reason is =
+      absurd (let p = sym (left.unrefused limits.events limits.errors events errors) ∙ is in cc)

@@ -1,4 +1,7 @@
 mod SlotLists
+mod Events
+mod RenamedSteps
+mod Refusals
 mod EditedItems
 mod OtherSlots
 mod Held

@@ -15,6 +15,7 @@ use Rattle.squawk_script.specs.declared.call.Call.TheVariants as calls
 use Rattle.squawk_script.specs.declared.slot.Slot.{Slot}
 use Rattle.squawk_script.specs.declared.slot.Slot.TheVariants.{Open, Done, Spent}
 use Rattle.squawk_script.proofs.Held.{holds-abandoned, holds-completed, holds-extended, holds-preceded, holds-started}
+use Rattle.squawk_script.proofs.Refusals.{changes-fails, records-fails}
 use Rattle.squawk_script.proofs.RenamedIds.{IsIdOf-hole, IsIdOf-opening}
 use Rattle.squawk_script.proofs.Renaming.{renamed-abandoned, renamed-completed, renamed-extended, renamed-preceded, renamed-started, with_id, with_id-before, with_id-here}
 use Rattle.squawk_script.proofs.Sides.{set-twice, sides-pushed, sides-set, sides-set_both}
@@ -103,6 +104,7 @@ module _ (old new : State) (slots slots' : List Slot) (tied : IsTied old slots) 
               (markers-agree at.f g items slots run.markers (with_id-before m.id (new_id run.draft) at.f items (above goes)) (tied.holds (records.went goes)) at.markers)
               (sym (with_id-here m.id (new_id run.draft) at.f)) tt);
         };
+    fails = λ goes run at. records-fails old new (started old.draft m.id) records goes;
   }
 
   -- ---- a marker that is completed
@@ -131,6 +133,7 @@ module _ (old new : State) (slots slots' : List Slot) (tied : IsTied old slots) 
           markers = rw now (sides-set_both (IsMarkerOf at.f) Spent no_node slots run.markers k (Done (record { id = m.id; kind = kind }))
               (record { id = (marker_at run k).id; kind = kind }) at.count at.markers (ap (λ i. record { id = i; kind = kind }) id) tt);
         };
+    fails = λ goes run at. records-fails old new (completed old.draft m.id kind) records goes;
   }
 
   -- ---- a marker that is abandoned
@@ -157,6 +160,7 @@ module _ (old new : State) (slots slots' : List Slot) (tied : IsTied old slots) 
           count = at.count ∙ (sym (length-set slots k _) ∙ ap length (sym now));
           markers = rw now (sides-set (IsMarkerOf at.f) Spent no_node slots run.markers k Spent at.markers tt);
         };
+    fails = λ goes run at. changes-fails old new (abandoned old.draft m.id) changes goes;
   }
 
   -- ---- a node that is preceded
@@ -191,6 +195,7 @@ module _ (old new : State) (slots slots' : List Slot) (tied : IsTied old slots) 
               tt)
               (sym (with_id-here m.id (new_id run.draft) at.f)) tt);
         };
+    fails = λ goes run at. records-fails old new (preceded old.draft n.id m.id) records goes;
   }
 
   -- ---- a node that is extended to a marker
@@ -221,6 +226,7 @@ module _ (old new : State) (slots slots' : List Slot) (tied : IsTied old slots) 
           count = at.count ∙ (sym (length-set slots k _) ∙ ap length (sym now));
           markers = rw now (sides-set (IsMarkerOf at.f) Spent no_node slots run.markers k Spent at.markers tt);
         };
+    fails = λ goes run at. changes-fails old new (extended old.draft n m.id) changes goes;
   }
 
   module _ (taken : List Slot) (j k : ℕ) (n : Node) (m : Mark) (is_open : slot_at slots k ≡ Open m) (left : taken ≡ set slots k Spent) (is_done : slot_at taken j ≡ Done n) where

@@ -1,32 +1,49 @@
 -- Where a run of calls stands, before the call at a place.
-use Rattle.std.proofs.Common.{◌≡◌, ◌∙◌, ℕ, ◌+◌, ◌<◌, ◌≤◌, true, false, List, [], ◌∷◌, length, get_or, map, take, arith, ap, sym, refl, subst}
-use Rattle.std.specs.Prelude.{Contains, IsTrue}
+use Rattle.std.proofs.Common.{◌≡◌, ◌∙◌, ℕ, ◌+◌, ◌<◌, ◌≤◌, Bool, true, false, Option, Some, None, List, [], ◌∷◌, ◌++◌, length, get_or, take, arith, ap, sym, refl, subst}
+use Rattle.std.specs.Prelude.{◌≢◌, Contains, IsTrue}
 use Rattle.std.proofs.Math.ListN.{get_or-map}
 use Rattle.std.proofs.lemmas.List.{get_or_default, length-map, take_all}
 use Rattle.std.proofs.lemmas.List.Elements.{All-cons, All-nil, Contains-append_right}
 use Rattle.std.proofs.lemmas.List.Sums.{fold-append}
-use Rattle.squawk_table.specs.Steps.{Enter, Exit, Token, Error}
+use Rattle.squawk_table.specs.ParserInput.{Entry}
+use Rattle.squawk_table.specs.Steps.{errors_in}
 use Rattle.squawk_parser.specs.Draft as draft
-use Rattle.squawk_parser.specs.Draft.{HasNoHole, Item, Mark, is_hole, plain}
+use Rattle.squawk_parser.specs.Draft.{HasNoHole, Item, Mark, errors_of, is_hole, plain}
 use Rattle.squawk_parser.specs.State.{State, Goes, IsFresh, Keeps}
+use Rattle.squawk_parser.specs.Words.{Words}
+use Rattle.squawk_parser.specs.declared.parser.parse_error.ParseError.{ParseError}
+use Rattle.squawk_parser.specs.declared.parser.parse_error.ParseError.TheVariants.{OutOfMemory}
+use Rattle.squawk_parser.proofs.RecordedItems.{errors-plain}
 use Rattle.squawk_parser.proofs.RecordedSteps.{Keeps-none, Keeps-then}
 use Rattle.squawk_parser.proofs.TailHoles.{went-kept}
 use Rattle.squawk_script.specs.Accepted.{IsAccepted, makes_marker, markers_of}
-use Rattle.squawk_script.specs.Meaning.{IsRunOf, Run, begin, run_of, stepped}
-use Rattle.squawk_script.specs.Slots.{Holds, IsAt, IsRenamed, IsTied, Performs, is_admitted, is_status_open, renamed, same_id, slot_at, status_of, statuses_of}
+use Rattle.squawk_script.specs.Events.{IsRunOf, errors_among, events_made, events_of, refusal}
+use Rattle.squawk_script.specs.Meaning.{Run, begin, run_of, seen, stepped}
+use Rattle.squawk_script.specs.Slots.{Holds, IsAt, IsRenamed, IsTied, Performs, is_admitted, is_status_open, same_id, slot_at, status_of, statuses_of}
 use Rattle.squawk_script.specs.declared.call.Call.{Call}
 use Rattle.squawk_script.specs.declared.slot.Slot.{Slot}
 use Rattle.squawk_script.specs.declared.slot.Slot.TheVariants.{Open, Spent}
-use Rattle.squawk_script.proofs.Held.{holds-begin}
-use Rattle.squawk_script.proofs.Renaming.{renamed-begin}
+use Rattle.squawk_script.proofs.Events.{errors-events, events-more, recorded-events}
 use Rattle.squawk_script.proofs.GoodCalls.{admitted-at, next, opened-last, room, statuses-more}
+use Rattle.squawk_script.proofs.Held.{holds-begin}
+use Rattle.squawk_script.proofs.Refusals.{none-refused, refusal-append}
+use Rattle.squawk_script.proofs.RenamedSteps.{same-errors, same-plain}
+use Rattle.squawk_script.proofs.Renaming.{renamed-begin}
 use Rattle.squawk_script.proofs.Statuses.{AreStatusesOf, statuses-begin}
+
+-- A parser that has failed behind these calls, and not by want of memory, has failed for the reason for which its limits refuse one of
+-- their events.
+abbrev FailsBy : State → List Call → State → Type 0
+FailsBy start calls s =
+    (reason : ParseError) → s.first ≡ Some reason → reason ≢ OutOfMemory
+    → refusal start.max_events start.max_errors (events_of start.words start.input calls) ≡ Some reason
 
 pub record Stands (start : State) (calls : List Call) (s : State) (slots : List Slot) (i : ℕ) : Type 0 where
   pub tied : IsTied s slots
   pub keeps : Keeps start s
   pub statuses : AreStatusesOf (take i calls) (statuses_of slots)
   pub at : Goes s → IsAt s slots (run_of start.words start.input (take i calls))
+  pub fails : FailsBy start (take i calls) s
 
 -- before the first call
 pub stands-begin : (start : State) (calls : List Call) → IsFresh start → Stands start calls start [] 0
@@ -45,6 +62,7 @@ stands-begin start calls fresh = record {
     count = refl;
     markers = λ i. tt;
   };
+  fails = λ reason failed told. absurd (let p = sym failed ∙ ap (λ s. s.first) fresh in cc);
 }
 
 module _ (start : State) (calls : List Call) (s : State) (slots : List Slot) (i : ℕ) (call : Call) (lt : i < length calls) (is : call ≡ get_or calls i call)
@@ -67,7 +85,37 @@ module _ (start : State) (calls : List Call) (s : State) (slots : List Slot) (i 
         (subst (λ words. IsAt t slots' (stepped words start.input run call)) stands.keeps.words
         (subst (λ input. IsAt t slots' (stepped s.words input run call)) stands.keeps.input
         (performs.step goes run (stands.at (went-kept keeps goes)))));
+    fails = λ reason failed told.
+        let more : events_of start.words start.input (take (i + 1) calls) ≡ before ++ made start.words start.input =
+        ap (events_of start.words start.input) (next calls (statuses_of slots) i call lt is stands.statuses) ∙ events-more start.words start.input (take i calls) call in
+        ap (refusal start.max_events start.max_errors) more ∙ refused s.first refl reason failed told;
   }
+    where
+      run : Run
+      run = run_of start.words start.input (take i calls)
+
+      before : List Bool
+      before = events_of start.words start.input (take i calls)
+
+      made : Words → List Entry → List Bool
+      made words input = events_made words (seen input run) call
+
+      -- what is refused before the call stays so, and else it is the call that is refused
+      refused : (first : Option ParseError) → s.first ≡ first → (reason : ParseError) → t.first ≡ Some reason → reason ≢ OutOfMemory
+          → refusal start.max_events start.max_errors (before ++ made start.words start.input) ≡ Some reason
+      refused None goes reason failed told =
+          let at : IsAt s slots run = stands.at goes in
+          let count : length before ≡ s.draft.recorded = recorded-events start.words start.input (take i calls) ∙ at.recorded in
+          let errors : errors_among before ≡ errors_of s.draft.items =
+          errors-events start.words start.input (take i calls) ∙ sym (same-errors at.f s.draft.items run.draft.items at.items.same) in
+          let Told : ℕ → ℕ → List Bool → Type 0 = λ events errors made. refusal events errors (before ++ made) ≡ Some reason in
+          subst (λ words. Told start.max_events start.max_errors (made words start.input)) stands.keeps.words
+          (subst (λ input. Told start.max_events start.max_errors (made s.words input)) stands.keeps.input
+          (subst (λ n. Told n start.max_errors (made s.words s.input)) stands.keeps.max_events
+          (subst (λ n. Told s.max_events n (made s.words s.input)) stands.keeps.max_errors (performs.fails goes run at before count errors reason failed told))))
+      refused (Some r) failing reason failed told =
+          let same : s.first ≡ Some reason = sym (keeps.reason (rw failing refl)) ∙ failed in
+          refusal-append start.max_events start.max_errors before (made start.words start.input) reason (stands.fails reason same told)
 
   -- a slot for each marker of the calls so far, and room for that of the call
   pub stands-room : IsTrue (makes_marker call) → length slots < markers_of calls
@@ -98,18 +146,6 @@ open-slot slots m closed (k, lt, at) =
     let is : slot_at slots k ≡ Open m = get_or_default slots k Spent (Open m) lt ∙ at in
     let p : true ≡ false = sym (ap (λ slot. is_status_open (status_of slot)) is) ∙ closed k in cc
 
--- ids are no part of the plain list
-plain-renamed : (f : ℕ → ℕ) (items : List Item) → plain (map (renamed f) items) ≡ plain items
-plain-renamed f [] = refl
-plain-renamed f (draft.Hole i made ∷ items) = plain-renamed f items
-plain-renamed f (draft.Open i kind free ∷ items) = ap (λ steps. Enter kind ∷ steps) (plain-renamed f items)
-plain-renamed f (draft.Close ∷ items) = ap (λ steps. Exit ∷ steps) (plain-renamed f items)
-plain-renamed f (draft.Token kind n ∷ items) = ap (λ steps. Token kind n ∷ steps) (plain-renamed f items)
-plain-renamed f (draft.Error text ∷ items) = ap (λ steps. Error text ∷ steps) (plain-renamed f items)
-
-same-plain : (f : ℕ → ℕ) (items others : List Item) → map (renamed f) items ≡ map (renamed same_id) others → plain items ≡ plain others
-same-plain f items others same = sym (plain-renamed f items) ∙ (ap plain same ∙ plain-renamed same_id others)
-
 module _ (start : State) (calls : List Call) (s : State) (slots : List Slot) (i : ℕ) (end : length calls ≤ i) (stands : Stands start calls s slots i) (accepted : IsAccepted calls) where
   pub ends-spent : (m : ℕ) → is_status_open (status_of (slot_at slots m)) ≡ false
   ends-spent m =
@@ -122,4 +158,16 @@ module _ (start : State) (calls : List Call) (s : State) (slots : List Slot) (i 
   pub ends-at : Goes s → IsRunOf (record { calls = calls; words = start.words }) start.input s.draft
   ends-at goes =
       let at : IsAt s slots (run_of start.words start.input calls) = subst (λ before. IsAt s slots (run_of start.words start.input before)) (take_all i calls end) (stands.at goes) in
-      record { items = same-plain at.f s.draft.items (run_of start.words start.input calls).draft.items at.items.same; recorded = sym at.recorded }
+      let run : Run = run_of start.words start.input calls in
+      let same : plain s.draft.items ≡ plain run.draft.items = same-plain at.f s.draft.items run.draft.items at.items.same in
+      record {
+        items = same;
+        recorded = sym at.recorded;
+        unrefused = λ events errors within few.
+            let all = recorded-events start.words start.input calls ∙ at.recorded in
+            let wrong = errors-events start.words start.input calls ∙ (errors-plain run.draft.items ∙ ap errors_in (sym same)) in
+            none-refused events errors (events_of start.words start.input calls) (omega (arith, all, within), omega (arith, wrong, few));
+      }
+
+  pub ends-fails : FailsBy start calls s
+  ends-fails = subst (λ before. FailsBy start before s) (take_all i calls end) stands.fails

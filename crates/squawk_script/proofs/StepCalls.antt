@@ -1,8 +1,9 @@
 -- Calls that put steps at the end of a draft.
 use Rattle.std.proofs.Common.{◌≡◌, ◌∙◌, ℕ, ◌+◌, Bool, true, false, List, [], ◌++◌, if◌then◌else◌, arith, ap, sym, refl, subst}
-use Rattle.std.specs.Prelude.{IsTrue, length, not}
+use Rattle.std.specs.Prelude.{IsTrue, length, map, not}
 use Rattle.squawk_kinds.specs.TokenSets.{has}
-use Rattle.squawk_table.specs.Steps.{Step, eaten}
+use Rattle.squawk_table.specs.ParserInput.{Entry}
+use Rattle.squawk_table.specs.Steps.{Step, eaten, is_error}
 use Rattle.squawk_parser.specs.Composites.{stands_at}
 use Rattle.squawk_parser.specs.Draft.{Item, plain}
 use Rattle.squawk_parser.specs.Eaten.{eat_steps}
@@ -10,13 +11,15 @@ use Rattle.squawk_parser.specs.LookAhead.{seen_from}
 use Rattle.squawk_parser.specs.Recorded.{Puts}
 use Rattle.squawk_parser.specs.State.{State, Goes, Keeps, ahead}
 use Rattle.squawk_parser.proofs.RecordedSteps.{puts-none}
+use Rattle.squawk_script.specs.Events.{events_made}
 use Rattle.squawk_script.specs.Meaning.{Run, call_steps, seen, stepped, with_call, with_steps}
-use Rattle.squawk_script.specs.Slots.{IsAt, IsRenamed, IsTied, Performs, noted, statuses_of}
+use Rattle.squawk_script.specs.Slots.{FailsAt, IsAt, IsRenamed, IsTied, Performs, noted, statuses_of}
 use Rattle.squawk_script.specs.declared.call.Call.{Call}
 use Rattle.squawk_script.specs.declared.call.Call.TheVariants as calls
 use Rattle.squawk_script.specs.declared.slot.Slot.{Slot}
 use Rattle.squawk_script.proofs.Held.{holds-put}
 use Rattle.squawk_script.proofs.MarkerCalls.{limit-kept, markers-agree}
+use Rattle.squawk_script.proofs.Refusals.{puts-fails}
 use Rattle.squawk_script.proofs.Renaming.{ArePut, renamed-put}
 
 module _ (old new : State) (slots : List Slot) (tied : IsTied old slots) (keeps : Keeps old new) (steps : List Step) (puts : Puts steps old new) where
@@ -54,8 +57,9 @@ seen-same s slots run limit position =
 -- a call whose steps are put at the end
 pub puts-performs : (old new : State) (slots : List Slot) (call : Call) → IsTied old slots → Keeps old new → Puts (call_steps old.words (ahead old 0) call) old new
     → noted (statuses_of slots) call ≡ statuses_of slots
-    → ((run : Run) → stepped old.words old.input run call ≡ with_call run (call_steps old.words (seen old.input run) call)) → Performs old new slots slots call
-puts-performs old new slots call tied keeps puts stays leads = record {
+    → ((run : Run) → stepped old.words old.input run call ≡ with_call run (call_steps old.words (seen old.input run) call))
+    → ((tokens : List Entry) → events_made old.words tokens call ≡ map is_error (call_steps old.words tokens call)) → Performs old new slots slots call
+puts-performs old new slots call tied keeps puts stays leads makes = record {
   tied = put-tied old new slots tied keeps (call_steps old.words (ahead old 0) call) puts;
   statuses = sym stays;
   step = λ goes run at.
@@ -63,6 +67,9 @@ puts-performs old new slots call tied keeps puts stays leads = record {
       ap (λ tokens. call_steps old.words tokens call) (seen-same old slots run tied.limit at.position) in
       subst (IsAt new slots) (sym (leads run))
       (subst (λ xs. IsAt new slots (with_call run xs)) steps (put-at old new slots tied keeps (call_steps old.words (ahead old 0) call) puts goes run at));
+  fails = λ goes run at.
+      subst (λ tokens. FailsAt old new (events_made old.words tokens call)) (seen-same old slots run tied.limit at.position)
+      (subst (FailsAt old new) (sym (makes (ahead old 0))) (puts-fails old new (call_steps old.words (ahead old 0) call) puts goes));
 }
 
 -- eating a kind puts its steps at the end where it stands, and nothing where it doesn't

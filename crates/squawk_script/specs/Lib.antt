@@ -1,4 +1,5 @@
 pub mod Accepted
 pub mod Meaning
+pub mod Events
 pub mod Slots
 pub mod ErrorLines

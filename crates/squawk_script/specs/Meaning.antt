@@ -1,12 +1,12 @@
 -- What a list of calls means over an input.
-use Rattle.std.specs.Prelude.{◌≡◌, ℕ, ◌+◌, max, true, List, [], ◌∷◌, ◌++◌, fold, length, slice_index_or, slice_set, if◌then◌else◌}
+use Rattle.std.specs.Prelude.{ℕ, ◌+◌, max, true, List, [], ◌∷◌, ◌++◌, fold, length, slice_index_or, slice_set, if◌then◌else◌}
 use Rattle.squawk_kinds.specs.TokenSets.{has}
 use Rattle.squawk_table.specs.ParserInput.{Entry, kind_in}
 use Rattle.squawk_table.specs.Steps as steps
 use Rattle.squawk_table.specs.Steps.{Step, eaten}
 use Rattle.squawk_parser.specs.Composites.{stands_at}
 use Rattle.squawk_parser.specs.Draft as draft
-use Rattle.squawk_parser.specs.Draft.{Draft, Item, Node, ids, nothing, plain}
+use Rattle.squawk_parser.specs.Draft.{Draft, Item, Node, ids, nothing}
 use Rattle.squawk_parser.specs.Eaten.{current_as, eat_steps, expect_steps, no_recovery, recovery_steps}
 use Rattle.squawk_parser.specs.Edits.{abandoned, completed, extended, preceded, started}
 use Rattle.squawk_parser.specs.LookAhead.{seen_from}
@@ -94,8 +94,3 @@ stepped words input run call = with_call run (call_steps words (seen input run) 
 -- where the calls lead, one after another
 abbrev pub run_of : Words → List Entry → List Call → Run
 run_of words input calls = fold (stepped words input) begin calls
-
--- The draft has the plain list and the recorded events of the run. Its ids may be others.
-pub record IsRunOf (script : Meaning) (input : List Entry) (left : Draft) : Type 0 where
-  pub items : plain left.items ≡ plain (run_of script.words input script.calls).draft.items
-  pub recorded : left.recorded ≡ (run_of script.words input script.calls).draft.recorded

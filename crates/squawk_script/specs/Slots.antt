@@ -1,11 +1,14 @@
 -- Where the markers of a run stand.
-use Rattle.std.specs.Prelude.{◌≡◌, ℕ, ◌<◌, ◌==◌, ◌&&◌, Bool, true, false, not, List, [], ◌∷◌, ◌++◌, Contains, length, map, slice_index_or, slice_set, nat_lt, ⊤}
+use Rattle.std.specs.Prelude.{◌≡◌, ◌≢◌, ℕ, ◌<◌, ◌==◌, ◌&&◌, Bool, true, false, not, Some, List, [], ◌∷◌, ◌++◌, Contains, length, map, slice_index_or, slice_set, nat_lt, ⊤}
 use Rattle.squawk_kinds.specs.Kinds.{TOMBSTONE}
 use Rattle.squawk_parser.specs.Draft as draft
-use Rattle.squawk_parser.specs.Draft.{Item, Mark, Node, ids, is_hole}
+use Rattle.squawk_parser.specs.Draft.{Item, Mark, Node, errors_of, ids, is_hole}
 use Rattle.squawk_parser.specs.State.{State, Goes}
+use Rattle.squawk_parser.specs.declared.parser.parse_error.ParseError.{ParseError}
+use Rattle.squawk_parser.specs.declared.parser.parse_error.ParseError.TheVariants.{OutOfMemory}
 use Rattle.squawk_script.specs.Accepted.{is_edible}
-use Rattle.squawk_script.specs.Meaning.{Run, stepped}
+use Rattle.squawk_script.specs.Events.{errors_among, events_made, refusal}
+use Rattle.squawk_script.specs.Meaning.{Run, seen, stepped}
 use Rattle.squawk_script.specs.declared.call.Call.{Call}
 use Rattle.squawk_script.specs.declared.call.Call.TheVariants as calls
 use Rattle.squawk_script.specs.declared.status.Status.{Status}
@@ -124,8 +127,16 @@ pub record IsAt (s : State) (slots : List Slot) (run : Run) : Type 0 where
   pub count : length run.markers ≡ length slots
   pub markers : (i : ℕ) → IsMarkerOf f (slot_at slots i) (slice_index_or run.markers i (record { id = 0; kind = 0 }))
 
+-- Where a parser fails as it is to record these events, and not by want of memory: behind the events that it has recorded, its limits
+-- refuse one of these for that reason.
+abbrev pub FailsAt : State → State → List Bool → Type 0
+FailsAt old new made =
+    (before : List Bool) → length before ≡ old.draft.recorded → errors_among before ≡ errors_of old.draft.items
+    → (reason : ParseError) → new.first ≡ Some reason → reason ≢ OutOfMemory → refusal old.max_events old.max_errors (before ++ made) ≡ Some reason
+
 -- a call was made
 pub record Performs (old new : State) (slots slots' : List Slot) (call : Call) : Type 0 where
   pub tied : IsTied new slots'
   pub statuses : statuses_of slots' ≡ noted (statuses_of slots) call
   pub step : Goes new → (run : Run) → IsAt old slots run → IsAt new slots' (stepped old.words old.input run call)
+  pub fails : Goes old → (run : Run) → IsAt old slots run → FailsAt old new (events_made old.words (seen old.input run) call)

@@ -62,11 +62,12 @@ impl<'t> Script<'t> {
 }
 
 impl Grammar for Script<'_> {
-    ghost use Rattle.squawk_script.specs.Meaning.{IsRunOf};
+    ghost use Rattle.std.specs.Prelude.{◌≡◌, Some};
+    ghost use Rattle.squawk_script.specs.Events.{IsRunOf, events_of, refusal};
 
     ghost leaves = { λ script _ input draft. IsRunOf script input draft };
 
-    ghost fails = { λ _ _ _ _ _. Unit {0} };
+    ghost fails = { λ script _ input limits reason. refusal limits.events limits.errors (events_of script.words input script.calls) ≡ Some reason };
 
     ghost meaning = { λ script. script.words };
 

@@ -1,5 +1,5 @@
 use Rattle.std.proofs.Common.{◌∙◌, sym, subst}
-use Rattle.squawk_script.proofs.Runs.{Stands, ends-at, ends-closed, ends-spent, stands-begin, stands-next}
+use Rattle.squawk_script.proofs.Runs.{Stands, ends-at, ends-closed, ends-fails, ends-spent, stands-begin, stands-next}
 use Rattle.squawk_script.proofs.run.run_calls.Goals as goal
 
 pub loop-call-init : goal.loop-call-init
@@ -21,3 +21,6 @@ returns-clause-closed c = ends-closed _ _ _ _ _ c.loop-call-test.false c.loop-ca
 
 pub returns-clause-runs : goal.returns-clause-runs
 returns-clause-runs c = ends-at _ _ _ _ _ c.loop-call-test.false c.loop-call.invariant.0 c.requires.accepted
+
+pub returns-clause-fails : goal.returns-clause-fails
+returns-clause-fails c = ends-fails _ _ _ _ _ c.loop-call-test.false c.loop-call.invariant.0 c.requires.accepted

@@ -1,0 +1,49 @@
+-- The events that the calls of a run record, and which of them is refused where there is room for so many.
+use Rattle.std.specs.Prelude.{◌≡◌, ℕ, zero, suc, ◌≤◌, Bool, true, false, Option, Some, None, List, [], ◌∷◌, ◌++◌, count_by, map}
+use Rattle.squawk_table.specs.ParserInput.{Entry}
+use Rattle.squawk_table.specs.Steps.{errors_in, is_error}
+use Rattle.squawk_parser.specs.Draft.{Draft, plain}
+use Rattle.squawk_parser.specs.Words.{Words}
+use Rattle.squawk_parser.specs.declared.parser.parse_error.ParseError.{ParseError}
+use Rattle.squawk_parser.specs.declared.parser.parse_error.ParseError.TheVariants.{TooManyEvents, TooManyErrors}
+use Rattle.squawk_script.specs.Meaning.{Meaning, Run, begin, call_steps, run_of, seen, stepped}
+use Rattle.squawk_script.specs.declared.call.Call.{Call}
+use Rattle.squawk_script.specs.declared.call.Call.TheVariants.{Start, Complete, Precede}
+
+-- the events that a call records where these tokens are seen, each as whether it is an error: one for a marker that is started, completed
+-- or made in front of a node, none for one that is given up or that a node is extended to, and one for each step that is put at the end
+abbrev pub events_made : Words → List Entry → Call → List Bool
+events_made words seen Start = false ∷ []
+events_made words seen (Complete marker kind) = false ∷ []
+events_made words seen (Precede node) = false ∷ []
+events_made words seen call = map is_error (call_steps words seen call)
+
+-- those that the calls record from a run on, in their order
+abbrev pub events_from : Words → List Entry → Run → List Call → List Bool
+events_from words input run [] = []
+events_from words input run (call ∷ calls) = events_made words (seen input run) call ++ events_from words input (stepped words input run call) calls
+
+-- and from the beginning on
+abbrev pub events_of : Words → List Entry → List Call → List Bool
+events_of words input calls = events_from words input begin calls
+
+-- how many of the events are errors
+abbrev pub errors_among : List Bool → ℕ
+errors_among events = count_by (λ event. event) events
+
+-- Where there is room for so many events, and for so many errors among them: why the first event that finds no room is refused. The room
+-- for events is looked at first.
+abbrev pub refusal : ℕ → ℕ → List Bool → Option ParseError
+refusal events errors [] = None
+refusal zero errors (e ∷ es) = Some TooManyEvents
+refusal (suc events) errors (false ∷ es) = refusal events errors es
+refusal (suc events) zero (true ∷ es) = Some TooManyErrors
+refusal (suc events) (suc errors) (true ∷ es) = refusal events errors es
+
+-- The draft has the plain list and the recorded events of the run. Its ids may be others. Under limits that it is within, none of the
+-- run's events is refused.
+pub record IsRunOf (script : Meaning) (input : List Entry) (left : Draft) : Type 0 where
+  pub items : plain left.items ≡ plain (run_of script.words input script.calls).draft.items
+  pub recorded : left.recorded ≡ (run_of script.words input script.calls).draft.recorded
+  pub unrefused : (events errors : ℕ) → left.recorded ≤ events → errors_in (plain left.items) ≤ errors
+      → refusal events errors (events_of script.words input script.calls) ≡ None
