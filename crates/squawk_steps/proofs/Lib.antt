@@ -1,2 +1,2 @@
-pub mod FixedLines
-pub mod FixedTable
+mod Answered
+mod Laws

@@ -1,3 +1,5 @@
 pub mod Fault
+pub mod Watched
+pub mod Reads
 pub mod Lines
-pub mod Fixed
+pub mod Answers

@@ -1,15 +1,33 @@
--- The lines that are printed for steps.
-use Rattle.std.specs.Prelude.{ℕ, Bool, true, false, List, ◌++◌, codes, encode_utf8_all}
+-- The lines of an answer.
+use Rattle.std.specs.Prelude.{ℕ, Bool, true, false, Option, Some, None, List, [], ◌++◌, codes, encode_utf8_all}
 use Rattle.std.specs.List.{flat_map}
 use Rattle.std.specs.Fmt.{decimal}
 use Rattle.serde_json.specs.Data.{string}
 use Rattle.serde_json.specs.Written.{compact_text}
+use Rattle.squawk_tokens.specs.LexicalErrors.{Fault as LexicalError}
 use Rattle.squawk_table.specs.declared.shortcuts.str_step.OwnedStep.{OwnedStep}
 use Rattle.squawk_table.specs.declared.shortcuts.str_step.OwnedStep.TheVariants.{Token, Enter, Exit, Error}
 
--- a text as a JSON string
+-- the bytes of a text, as a JSON string
+abbrev pub quoted : List ℕ → List ℕ
+quoted bytes = compact_text (string bytes)
+
+-- the characters of a text, as a JSON string
 abbrev pub json_of : List ℕ → List ℕ
-json_of text = compact_text (string (encode_utf8_all text))
+json_of text = quoted (encode_utf8_all text)
+
+-- what is wanted, where an error says so
+abbrev pub hint_part : Option (List ℕ) → List ℕ
+hint_part None = []
+hint_part (Some hint) = codes " " ++ quoted hint
+
+-- the line of a lexical error
+abbrev pub lex_line : LexicalError → List ℕ
+lex_line e = codes "lex " ++ decimal e.start ++ codes ".." ++ decimal e.end ++ codes " " ++ quoted e.message ++ hint_part e.hint ++ codes "\n"
+
+-- the lines of lexical errors
+abbrev pub lex_lines : List LexicalError → List ℕ
+lex_lines errors = flat_map lex_line errors
 
 -- the line of a step
 abbrev pub step_line : OwnedStep → List ℕ

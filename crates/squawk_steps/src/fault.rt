@@ -2,15 +2,20 @@
 ghost use Rattle.std.specs.Prelude.{◌≡◌};
 ghost use Rattle.squawk_steps.specs.Fault.{status_of};
 
+use squawk_document::DocumentError;
 use squawk_parser::{ParseError, TableError};
 use squawk_script::ScriptError;
-use std::alloc::AllocError;
+use std::alloc::{AllocError, AllocFailed};
 use std::error::Error;
 use std::fmt;
 
 /// A reason to end without an answer. Of several reasons the first of this list is told.
 #[derive(Clone, Copy, Debug, PartialEq, Eq)]
 pub enum Fault {
+    /// What was read is no JSON, or no UTF-8.
+    Json,
+    /// It isn't the shape of a document.
+    Shape,
     /// The text has more bytes than places in it can tell.
     TextTooLong,
     /// The raw token at this place isn't one of the text.
@@ -29,7 +34,7 @@ pub enum Fault {
     DoesNotFit,
     /// Memory was refused.
     Memory,
-    /// Writing failed.
+    /// Reading or writing failed, or the reader doesn't end.
     Io,
 }
 
@@ -39,6 +44,7 @@ impl Fault {
         ensures { result ≡ status_of self.now }
     {
         match *self {
+            Fault::Json | Fault::Shape => 2,
             Fault::TextTooLong | Fault::BadToken { .. } | Fault::TextLeft { .. } => 3,
             Fault::BadCall { .. } | Fault::Unspent { .. } => 4,
             Fault::TooManyEvents | Fault::TooManyErrors => 5,
@@ -57,6 +63,8 @@ impl fmt::Display for Fault {
 
     fn fmt<W: fmt::Write>(&self, f: &mut fmt::Formatter<W>) -> fmt::Result {
         match *self {
+            Fault::Json => write!(f, "json"),
+            Fault::Shape => write!(f, "shape"),
             Fault::TextTooLong => write!(f, "text too long"),
             Fault::BadToken { index } => write!(f, "bad token {index}"),
             Fault::TextLeft { at } => write!(f, "text left at {at}"),
@@ -67,6 +75,20 @@ impl fmt::Display for Fault {
             Fault::DoesNotFit => write!(f, "does not fit"),
             Fault::Memory => write!(f, "memory"),
             Fault::Io => write!(f, "io"),
+        }
+    }
+}
+
+impl From<DocumentError> for Fault {
+    ghost use Rattle.squawk_steps.specs.Fault.{fault_of_document};
+
+    ghost from_gives = { λ error fault. fault ≡ fault_of_document error };
+
+    fn from(error: DocumentError) -> Fault {
+        match error {
+            DocumentError::Json => Fault::Json,
+            DocumentError::Shape => Fault::Shape,
+            DocumentError::OutOfMemory => Fault::Memory,
         }
     }
 }
@@ -124,6 +146,16 @@ impl From<AllocError> for Fault {
     }
 }
 
+impl<T: Drop> From<AllocFailed<T>> for Fault {
+    ghost use Rattle.squawk_steps.specs.declared.fault.Fault.TheVariants.{Memory};
+
+    ghost from_gives = { λ _ fault. fault ≡ Memory };
+
+    fn from(_error: AllocFailed<T>) -> Fault {
+        Fault::Memory
+    }
+}
+
 impl Error for Fault {}
 
 #[cfg(test)]
@@ -134,6 +166,8 @@ mod tests {
     #[test]
     fn prints_its_line(rt: HostRuntime) -> Result<(), Fail> {
         for (fault, line, status) in [
+            (Fault::Json, "json", 2),
+            (Fault::Shape, "shape", 2),
             (Fault::TextTooLong, "text too long", 3),
             (Fault::BadToken { index: 12 }, "bad token 12", 3),
             (Fault::TextLeft { at: 0 }, "text left at 0", 3),

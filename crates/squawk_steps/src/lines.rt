@@ -1,11 +1,11 @@
-//! Steps as lines.
-ghost use Rattle.std.specs.Prelude.{◌≡◌, [], ◌++◌, string_bytes, IfOk, OnOk, OnErr};
+//! The lines of an answer.
+ghost use Rattle.std.specs.Prelude.{◌≡◌, [], ◌++◌, option_map, string_bytes, IfOk, OnOk, OnErr};
 ghost use Rattle.std.specs.Str.{chars};
 ghost use Rattle.squawk_table.specs.declared.shortcuts.str_step.OwnedStep.TheVariants.{Token, Enter, Error};
-ghost use Rattle.squawk_steps.specs.Lines.{step_line, json_of, last_line};
+ghost use Rattle.squawk_steps.specs.Lines.{hint_part, json_of, last_line, lex_line, lex_lines, quoted, step_line};
 
 use serde_json::Value;
-use squawk_parser::{StepSink, StrStep, SyntaxKind};
+use squawk_parser::{LexError, LexErrors, StepSink, StrStep, SyntaxKind};
 use std::alloc::{AllocError, Global};
 use std::fmt::Write;
 
@@ -82,9 +82,46 @@ fn error_line(alloc: Global, msg: &str, pos: usize) -> Result<String, AllocError
     format!(in alloc; "error {pos} {quoted}\n")
 }
 
+/// The lines of lexical errors.
+pub fn error_lines(alloc: Global, mut errors: LexErrors<'_>) -> Result<String, AllocError>
+    ensures { IfOk result (λ s. string_bytes s ≡ lex_lines errors.entry) }
+{
+    let mut text = String::new(alloc);
+    while let Some(error) = errors.next() {
+        text.push_str(lex_line(alloc, error)?.as_str())?;
+    }
+    Ok(text)
+}
+
+/// The line of a lexical error.
+fn lex_line(alloc: Global, error: &LexError) -> Result<String, AllocError>
+    ensures { IfOk result (λ s. string_bytes s ≡ lex_line error.now) }
+{
+    let range = error.range();
+    let start = range.start;
+    let end = range.end;
+    let message = json_text(alloc, error.message())?;
+    let hint = hint_part(alloc, error.hint())?;
+    format!(in alloc; "lex {start}..{end} {message}{hint}\n")
+}
+
+/// What stands behind a message: the hint, if there is one.
+fn hint_part(alloc: Global, hint: Option<&str>) -> Result<String, AllocError>
+    ensures { IfOk result (λ s. string_bytes s ≡ hint_part (option_map (λ hint. hint.now) hint.entry)) }
+{
+    match hint {
+        Some(hint) => {
+            let quoted = json_text(alloc, hint)?;
+            format!(in alloc; " {quoted}")
+        }
+        None => Ok(String::new(alloc)),
+    }
+}
+
 /// The text as a JSON string.
 fn json_text(alloc: Global, text: &str) -> Result<String, AllocError>
-    ensures { IfOk result (λ s. string_bytes s ≡ json_of (chars text.now)) }
+    ensures bytes { IfOk result (λ s. string_bytes s ≡ quoted text.now) }
+    ensures chars { IfOk result (λ s. string_bytes s ≡ json_of (chars text.now)) }
 {
     let value = Value::from(String::from_str(alloc, text)?);
     value.to_string(alloc)

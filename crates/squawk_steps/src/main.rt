@@ -1,17 +1,19 @@
-//! Prints the steps of a fixed text, `a b`, as lines.
+//! Prints the steps of a document, which it reads as JSON, as lines.
 #![tactic(auto)]
 
+mod answer;
 mod fault;
-mod fixed;
 mod lines;
+mod read;
 mod run;
+mod watch;
 
-use run::run_fixed;
+use run::run;
 use std::io;
 use std::process::ExitCode;
 
 fn main(rt: HostRuntime) -> ExitCode {
-    match run_fixed(rt.alloc(), &mut io::writer(&rt)) {
+    match run(rt.alloc(), &mut rt.reader(), &mut io::writer(&rt)) {
         Ok(()) => ExitCode::SUCCESS,
         Err(fault) => {
             let _ = eprintln!(rt; "{fault}");

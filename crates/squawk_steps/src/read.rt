@@ -1,0 +1,36 @@
+//! Reading to the end.
+ghost use Rattle.std.specs.Prelude.{◌≡◌, ◌≤◌, true, IfOk, IfErr, OnOk, IfSome, ◌⊎◌};
+ghost use Rattle.std.specs.Io.KnownBytes.{IsAtEnd};
+
+use crate::fault::Fault;
+use crate::watch::{Turn, Watch};
+use std::alloc::Global;
+use std::io::Read;
+
+/// The most bytes of one read.
+const LONGEST_READ: usize = 8192;
+
+/// The most reads of a run, interrupted ones too.
+pub const MOST_READS: u64 = 4294967296;
+
+/// All that a reader gives, in at most [`MOST_READS`] reads.
+pub fn read_all<R: Read>(alloc: Global, watch: &mut Watch, reader: &mut R) -> Result<Vec<u8>, Fault>
+    requires { watch.old.reads ≡ 0 }
+    ensures bytes { IfOk result (λ v. IfSome (R.remaining reader.old) (λ input. v.items ≡ input)) }
+    ensures end { OnOk result (IsAtEnd (R.remaining reader.new)) }
+    ensures reads { watch.new.reads ≤ MOST_READS }
+    ensures fault { IfErr result (λ e. (e ≡ Fault.Memory)
+        ⊎ ((e ≡ Fault.Io) × ((watch.new.failed ≡ true) ⊎ (watch.new.reads ≡ MOST_READS)))) }
+{
+    let mut bytes = Vec::new(alloc);
+    let mut buffer = [0u8; LONGEST_READ];
+    for _ in 0..MOST_READS {
+        match watch.read(reader, &mut buffer) {
+            Turn::Bytes(0) => return Ok(bytes),
+            Turn::Bytes(n) => bytes.extend_from_slice(&buffer[..n])?,
+            Turn::Interrupted => {}
+            Turn::Failed => return Err(Fault::Io),
+        }
+    }
+    Err(Fault::Io)
+}
