@@ -51,3 +51,32 @@ pub fn run_watched<R: Read, W: Write>(
     }
     Ok(())
 }
+
+#[cfg(test)]
+mod answer_tests;
+#[cfg(test)]
+mod asserts;
+#[cfg(test)]
+mod documents;
+#[cfg(test)]
+mod fault_tests;
+#[cfg(test)]
+mod json_tests;
+#[cfg(test)]
+mod line_tests;
+#[cfg(test)]
+mod member_tests;
+#[cfg(test)]
+mod memory_tests;
+#[cfg(test)]
+mod number_tests;
+#[cfg(test)]
+mod order_tests;
+#[cfg(test)]
+mod reader_tests;
+#[cfg(test)]
+mod shape_tests;
+#[cfg(test)]
+mod streams;
+#[cfg(test)]
+mod writer_tests;
