@@ -59,6 +59,8 @@ mod asserts;
 #[cfg(test)]
 mod documents;
 #[cfg(test)]
+mod example_tests;
+#[cfg(test)]
 mod fault_tests;
 #[cfg(test)]
 mod json_tests;
