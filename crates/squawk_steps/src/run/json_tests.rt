@@ -1,4 +1,4 @@
-//! Bytes that are no JSON, and documents that are just within it.
+//! Bytes that are no JSON, and documents that only just are.
 
 use super::asserts::{assert_answer, assert_no_json, assert_other_shape};
 use super::documents::{Members, NAME, PLAIN, PLAIN_LINES};
