@@ -3,3 +3,4 @@ pub mod Watched
 pub mod Reads
 pub mod Lines
 pub mod Answers
+pub mod AnswerLines

@@ -1,8 +1,9 @@
 //! From a document to the lines of its answer.
-ghost use Rattle.std.specs.Prelude.{◌≡◌, ◌≢◌, ◌++◌, Ok, Err, false, string_bytes, IfErr, MatchResult};
+ghost use Rattle.std.specs.Prelude.{◌≡◌, ◌≢◌, Ok, Err, false, IfErr, MatchResult};
 ghost use Rattle.squawk_document.specs.Documents.{told};
 ghost use Rattle.squawk_kinds.specs.Kinds.{EOF};
 ghost use Rattle.squawk_kinds.specs.TokenSets.{has};
+ghost use Rattle.squawk_steps.specs.AnswerLines.{lines_of};
 ghost use Rattle.squawk_steps.specs.Answers.{IsAnswer, Tells};
 
 use crate::fault::Fault;
@@ -23,7 +24,7 @@ impl Answer {
     /// The answer to what was read.
     pub fn new(alloc: Global, input: &[u8]) -> Result<Answer, Fault>
         ensures answer { MatchResult result
-            (λ a. IsAnswer input.now (Ok (string_bytes a.errors ++ string_bytes a.steps)))
+            (λ a. IsAnswer input.now (Ok (lines_of a)))
             (λ fault. IsAnswer input.now (Err fault)) }
         ensures unwritten { IfErr result (λ fault. fault ≢ Fault.Io) }
     {
@@ -35,7 +36,7 @@ impl Answer {
     fn to_document(alloc: Global, document: Document<'_>) -> Result<Answer, Fault>
         requires { has document.operator_first EOF ≡ false }
         ensures answer { MatchResult result
-            (λ a. Tells (told document.entry) (Ok (string_bytes a.errors ++ string_bytes a.steps)))
+            (λ a. Tells (told document.entry) (Ok (lines_of a)))
             (λ fault. Tells (told document.entry) (Err fault)) }
         ensures unwritten { IfErr result (λ fault. fault ≢ Fault.Io) }
     {

@@ -1,6 +1,7 @@
 //! From a reader to a writer.
 ghost use Rattle.std.specs.Prelude.{◌≡◌, ◌≢◌, ◌≤◌, List, ℕ, true, false, Ok, Err, IfErr, IfSome, OnOk, OnErr, ◌⊎◌};
 ghost use Rattle.std.specs.Io.KnownBytes.{Appends, IsAtEnd};
+ghost use Rattle.squawk_steps.specs.AnswerLines.{lines_of};
 ghost use Rattle.squawk_steps.specs.Answers.{IsAnswer};
 
 use crate::answer::Answer;
@@ -42,11 +43,21 @@ pub fn run_watched<R: Read, W: Write>(
     ensures io { result ≡ Err Fault.Io → (watch.new.failed ≡ true) ⊎ (watch.new.reads ≡ MOST_READS) }
 {
     let input = read_all(alloc, watch, reader)?;
-    let Answer { errors, steps } = Answer::new(alloc, &input)?;
-    if !watch.write_all(writer, errors.as_bytes()) {
+    let answer = Answer::new(alloc, &input)?;
+    write(&answer, watch, writer)
+}
+
+/// Writes an answer.
+fn write<W: Write>(answer: &Answer, watch: &mut Watch, writer: &mut W) -> Result<(), Fault>
+    ensures ok { OnOk result (Appends (W.contents writer.old) (W.contents writer.new) (lines_of answer.now)) }
+    ensures fault { IfErr result (λ fault. fault ≡ Fault.Io) }
+    ensures reads { watch.new.reads ≡ watch.old.reads }
+    ensures failed { OnErr result (watch.new.failed ≡ true) }
+{
+    if !watch.write_all(writer, answer.errors.as_bytes()) {
         return Err(Fault::Io);
     }
-    if !watch.write_all(writer, steps.as_bytes()) {
+    if !watch.write_all(writer, answer.steps.as_bytes()) {
         return Err(Fault::Io);
     }
     Ok(())
