@@ -64,32 +64,4 @@ fn write<W: Write>(answer: &Answer, watch: &mut Watch, writer: &mut W) -> Result
 }
 
 #[cfg(test)]
-mod answer_tests;
-#[cfg(test)]
-mod asserts;
-#[cfg(test)]
-mod documents;
-#[cfg(test)]
-mod example_tests;
-#[cfg(test)]
-mod fault_tests;
-#[cfg(test)]
-mod json_tests;
-#[cfg(test)]
-mod line_tests;
-#[cfg(test)]
-mod member_tests;
-#[cfg(test)]
-mod memory_tests;
-#[cfg(test)]
-mod number_tests;
-#[cfg(test)]
-mod order_tests;
-#[cfg(test)]
-mod reader_tests;
-#[cfg(test)]
-mod shape_tests;
-#[cfg(test)]
-mod streams;
-#[cfg(test)]
-mod writer_tests;
+mod tests;

@@ -1,7 +1,7 @@
 //! The documents in the repository's `examples/`, and their answers there.
 
-use super::run;
 use crate::fault::Fault;
+use crate::run::run;
 use std::process::Abort;
 use std::test::Fail;
 

@@ -1,7 +1,7 @@
 //! What a run of a document ends in.
 
-use super::run;
 use crate::fault::Fault;
+use crate::run::run;
 use std::alloc::AllocError;
 use std::process::Abort;
 

@@ -2,9 +2,9 @@
 //! each of them refused in turn.
 
 use super::documents::{ESCAPE, ESCAPE_LINES, NAME, NAME_LINES};
-use super::run;
 use super::streams::Wants;
 use crate::fault::Fault;
+use crate::run::run;
 use std::alloc::Global;
 use std::process::Abort;
 

@@ -1,9 +1,9 @@
 //! Readers in pieces, readers that are interrupted, and readers that fail.
 
 use super::documents::{NAME, NAME_LINES};
-use super::run;
 use super::streams::{Interrupted, Pieces};
 use crate::fault::Fault;
+use crate::run::run;
 use std::io::ErrorKind;
 use std::test::Fail;
 

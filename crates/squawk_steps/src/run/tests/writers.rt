@@ -1,9 +1,9 @@
 //! Writers that take a little at a time, writers that are interrupted, and writers that fail.
 
 use super::documents::{ESCAPE, ESCAPE_LINES, NAME, NAME_LINES};
-use super::run;
 use super::streams::{Interrupted, Takes};
 use crate::fault::Fault;
+use crate::run::run;
 use std::alloc::Global;
 use std::io::ErrorKind;
 use std::test::Fail;
