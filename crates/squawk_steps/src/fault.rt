@@ -5,7 +5,7 @@ ghost use Rattle.squawk_steps.specs.Fault.{status_of};
 use squawk_document::DocumentError;
 use squawk_parser::{ParseError, TableError};
 use squawk_script::ScriptError;
-use std::alloc::{AllocError, AllocFailed};
+use std::alloc::AllocError;
 use std::error::Error;
 use std::fmt;
 
@@ -142,16 +142,6 @@ impl From<AllocError> for Fault {
     ghost from_gives = { λ _ fault. fault ≡ Memory };
 
     fn from(_error: AllocError) -> Fault {
-        Fault::Memory
-    }
-}
-
-impl<T: Drop> From<AllocFailed<T>> for Fault {
-    ghost use Rattle.squawk_steps.specs.declared.fault.Fault.TheVariants.{Memory};
-
-    ghost from_gives = { λ _ fault. fault ≡ Memory };
-
-    fn from(_error: AllocFailed<T>) -> Fault {
         Fault::Memory
     }
 }
