@@ -25,7 +25,7 @@ pub fn calls(alloc: Global, value: &Value) -> Result<Vec<Call>, DocumentError>
 }
 
 /// The call that a list spells: its name, and what it needs.
-fn call(alloc: Global, value: &Value) -> Result<Call, DocumentError>
+pub fn call(alloc: Global, value: &Value) -> Result<Call, DocumentError>
     ensures { Gives (λ c. c) result (call_in (view value.now)) }
 {
     let items = value::items(value)?;
@@ -123,8 +123,3 @@ fn message(alloc: Global, value: &Value) -> Result<Text, DocumentError>
     let text = value::string(value)?;
     Ok(Text::new(String::from_str(alloc, text)?))
 }
-
-#[cfg(test)]
-mod refused_tests;
-#[cfg(test)]
-mod tests;

@@ -3,9 +3,6 @@ ghost use Rattle.serde_json.specs.View.{view};
 ghost use Rattle.squawk_document.specs.DocumentParts.{entry_in, member_data, members_in};
 ghost use Rattle.squawk_document.specs.Values.{Gives, string_in};
 
-#[cfg(test)]
-mod tests;
-
 use crate::document_error::DocumentError;
 use crate::value;
 use serde_json::Value;

@@ -6,10 +6,6 @@ ghost use Rattle.squawk_document.specs.TokenShapes.{spelled_token, token_in, tok
 
 mod field;
 mod kind;
-#[cfg(test)]
-mod refused_tests;
-#[cfg(test)]
-mod tests;
 
 use crate::document_error::DocumentError;
 use crate::token::kind::kind;
@@ -31,7 +27,7 @@ pub fn tokens(alloc: Global, value: &Value) -> Result<Vec<Token>, DocumentError>
 }
 
 /// The token that a list spells.
-fn token(value: &Value) -> Result<Token, DocumentError>
+pub fn token(value: &Value) -> Result<Token, DocumentError>
     ensures { Gives (λ t. t) result (token_in (view value.now)) }
 {
     spelled_token(items(value)?)

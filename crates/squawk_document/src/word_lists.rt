@@ -4,9 +4,6 @@ ghost use Rattle.squawk_document.specs.Values.{Gives};
 ghost use Rattle.squawk_document.specs.WordAnswers.{answers};
 ghost use Rattle.squawk_document.specs.WordPairs.{answered, vocabulary_in};
 
-#[cfg(test)]
-mod tests;
-
 use crate::document_error::DocumentError;
 use crate::value;
 use crate::word_list::{WordList, word_list};

@@ -7,9 +7,6 @@ ghost use Rattle.squawk_document.specs.GrammarWords.{word_data, word_members_in,
 ghost use Rattle.squawk_document.specs.KindSets.{set_in};
 ghost use Rattle.squawk_document.specs.Values.{Gives};
 
-#[cfg(test)]
-mod tests;
-
 use crate::document_error::DocumentError;
 use crate::kind_set::kind_set;
 use crate::pair::pair;

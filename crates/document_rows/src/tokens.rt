@@ -1,9 +1,9 @@
 //! Lists that spell raw tokens, and lists that don't.
 
-use super::refused_tests::assert_refused;
-use super::{token, tokens};
-use crate::document_error::DocumentError;
-use crate::value::parse;
+use crate::refused_tokens::assert_refused;
+use squawk_document::DocumentError;
+use squawk_document::token::{token, tokens};
+use squawk_document::value::parse;
 use squawk_parser::{Base, LiteralKind, Token, TokenKind};
 use std::process::Abort;
 use std::test::Fail;

@@ -1,8 +1,7 @@
 //! Tests of the vocabulary of a document.
 
-use super::vocabulary;
-use crate::document_error::DocumentError;
-use crate::value;
+use squawk_document::word_lists::vocabulary;
+use squawk_document::{DocumentError, value};
 use squawk_parser::{SyntaxKind, TokenSet, Vocabulary};
 use std::process::Abort;
 use std::test::Fail;

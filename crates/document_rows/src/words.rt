@@ -1,8 +1,7 @@
 //! Tests of the words of a document.
 
-use super::{members, names, operator_first};
-use crate::document_error::DocumentError;
-use crate::value;
+use squawk_document::words::{members, names, operator_first};
+use squawk_document::{DocumentError, value};
 use squawk_parser::SyntaxKind;
 use std::test::Fail;
 

@@ -1,7 +1,7 @@
 //! Tests of what is no token.
 
-use super::tests::read;
-use crate::document_error::DocumentError;
+use crate::tokens::read;
+use squawk_document::DocumentError;
 use std::process::Abort;
 use std::test::Fail;
 

@@ -1,8 +1,7 @@
 //! Tests of the calls of a document.
 
-use super::{call, calls};
-use crate::document_error::DocumentError;
-use crate::value;
+use squawk_document::calls::{call, calls};
+use squawk_document::value;
 use squawk_parser::SyntaxKind;
 use squawk_script::Call;
 use std::alloc::Global;
