@@ -1,14 +1,7 @@
 //! Prints the steps of a document, which it reads as JSON, as lines.
 #![tactic(auto)]
 
-mod answer;
-mod fault;
-mod lines;
-mod read;
-mod run;
-mod watch;
-
-use run::run;
+use squawk_answer::run::run;
 use std::io;
 use std::process::ExitCode;
 

@@ -1,0 +1,123 @@
+//! The documents in the repository's `examples/`, and their answers there.
+
+use squawk_answer::Fault;
+use squawk_answer::run::run;
+use std::process::Abort;
+use std::test::Fail;
+
+const EMPTY: &str = r#"{"text": "",
+ "tokens": [],
+ "words": {"operator_first": [], "names": []},
+ "vocabulary": {"keywords": [], "contextual": []},
+ "entry": "sql",
+ "calls": [["start"], ["complete", 0, 710]]}
+"#;
+
+const EMPTY_LINES: &str = r#"enter 710
+exit
+all
+"#;
+
+const SELECT: &str = r#"{"text": "select 1;",
+ "tokens": [["ident", 6], ["whitespace", 1], ["int", 1, false, 10, 1], ["semi", 1]],
+ "words": {"operator_first": [], "names": []},
+ "vocabulary": {"keywords": [["select", 200]], "contextual": []},
+ "entry": "sql",
+ "calls": [
+  ["start"], ["start"], ["start"], ["bump_any"],
+  ["start"], ["start"], ["start"], ["bump_any"], ["complete", 5, 715], ["complete", 4, 714], ["complete", 3, 713],
+  ["complete", 2, 712], ["bump_any"], ["complete", 1, 711], ["complete", 0, 710]]}
+"#;
+
+const SELECT_LINES: &str = r#"enter 710
+enter 711
+enter 712
+token 200 "select"
+token 639 " "
+enter 713
+enter 714
+enter 715
+token 33 "1"
+exit
+exit
+exit
+exit
+token 5 ";"
+exit
+exit
+all
+"#;
+
+const LEXICAL_ERRORS: &str = r#"{"text": "B'01' '2' 0o78 E'\\u0'",
+ "tokens": [
+  ["bit_str", 5, true], ["whitespace", 1], ["str", 3, true], ["whitespace", 1],
+  ["int", 4, false, 8, 4], ["whitespace", 1], ["esc_str", 6, true]],
+ "words": {"operator_first": [], "names": []},
+ "vocabulary": {"keywords": [], "contextual": []},
+ "entry": "sql",
+ "calls": [["start"], ["bump_any"], ["bump_any"], ["bump_any"], ["bump_any"], ["complete", 0, 710]]}
+"#;
+
+const LEXICAL_ERRORS_LINES: &str = r#"lex 7..8 "\"2\" is not a valid binary digit"
+lex 13..14 "invalid digit for a base 8 literal"
+lex 17..20 "incomplete unicode escape" "expected 4 hex digits, like `\\uXXXX`"
+enter 710
+token 38 "B'01'"
+token 639 " "
+token 35 "'2'"
+token 639 " "
+token 33 "0o78"
+token 639 " "
+token 41 "E'\\u0'"
+exit
+all
+"#;
+
+const MOVED_NODES: &str = r#"{"text": "a b.c ",
+ "tokens": [["ident", 1], ["whitespace", 1], ["ident", 1], ["dot", 1], ["ident", 1], ["whitespace", 1]],
+ "words": {"operator_first": [], "names": []},
+ "vocabulary": {"keywords": [], "contextual": []},
+ "entry": "sql",
+ "calls": [
+  ["start"], ["start"], ["bump_any"],
+  ["start"], ["bump_any"], ["complete", 2, 716],
+  ["precede", 2], ["bump_any"], ["bump_any"], ["complete", 3, 717],
+  ["extend_to", 3, 1], ["error", "missing ;"], ["complete", 0, 710]]}
+"#;
+
+const MOVED_NODES_LINES: &str = r#"enter 710
+enter 717
+token 3 "a"
+token 639 " "
+enter 716
+token 3 "b"
+exit
+token 7 "."
+token 3 "c"
+error 5 "missing ;"
+exit
+token 639 " "
+exit
+all
+"#;
+
+/// The document has this answer, byte for byte.
+fn assert_answer(
+    rt: &(impl Abort + AllocGlobal),
+    document: &str,
+    lines: &str,
+) -> Result<(), Fault> {
+    let mut written = Vec::new(rt.alloc());
+    run(rt.alloc(), &mut document.as_bytes(), &mut written)?;
+    assert_eq!(rt; str::from_utf8(&written), Ok(lines), "{document}");
+    Ok(())
+}
+
+#[test]
+fn examples_have_their_answers(rt: HostRuntime) -> Result<(), Fail> {
+    assert_answer(&rt, EMPTY, EMPTY_LINES)?;
+    assert_answer(&rt, SELECT, SELECT_LINES)?;
+    assert_answer(&rt, LEXICAL_ERRORS, LEXICAL_ERRORS_LINES)?;
+    assert_answer(&rt, MOVED_NODES, MOVED_NODES_LINES)?;
+    Ok(())
+}

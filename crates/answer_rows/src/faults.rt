@@ -1,0 +1,242 @@
+//! Small documents without an answer.
+
+use crate::asserts::{assert_fault, assert_no_json};
+use crate::documents::{Members, PLAIN};
+use squawk_answer::Fault;
+use std::test::Fail;
+
+/// No text and no tokens.
+const EMPTY: Members<'static> = Members {
+    text: r#""""#,
+    tokens: "[]",
+    calls: r#"[["start"],["complete",0,700]]"#,
+    ..PLAIN
+};
+
+#[test]
+fn part_of_a_document_is_no_json(rt: HostRuntime) -> Result<(), Fail> {
+    assert_fault(&rt, "{", Fault::Json, 2, "json")?;
+    Ok(())
+}
+
+#[test]
+fn byte_that_is_no_text_is_no_json(rt: HostRuntime) {
+    assert_no_json(&rt, b"\xff");
+}
+
+#[test]
+fn kind_with_a_fraction_is_another_shape(rt: HostRuntime) -> Result<(), Fail> {
+    let document = r#"{"text":"","tokens":[],
+"words":{"operator_first":[],"names":[]},"vocabulary":{"keywords":[],"contextual":[]},"entry":"sql",
+"calls":[["start"],["complete",0,700.5]]}"#;
+    assert_fault(&rt, document, Fault::Shape, 2, "shape")?;
+    Ok(())
+}
+
+#[test]
+fn kind_with_a_sign_is_another_shape(rt: HostRuntime) -> Result<(), Fail> {
+    let document = r#"{"text":"","tokens":[],
+"words":{"operator_first":[],"names":[]},"vocabulary":{"keywords":[],"contextual":[]},"entry":"sql",
+"calls":[["start"],["complete",0,-1]]}"#;
+    assert_fault(&rt, document, Fault::Shape, 2, "shape")?;
+    Ok(())
+}
+
+#[test]
+fn unknown_entry_is_another_shape(rt: HostRuntime) -> Result<(), Fail> {
+    let document = r#"{"text":"","tokens":[],
+"words":{"operator_first":[],"names":[]},"vocabulary":{"keywords":[],"contextual":[]},"entry":"pg",
+"calls":[["start"],["complete",0,700]]}"#;
+    assert_fault(&rt, document, Fault::Shape, 2, "shape")?;
+    Ok(())
+}
+
+#[test]
+fn one_more_member_is_another_shape(rt: HostRuntime) -> Result<(), Fail> {
+    let document = r#"{"text":"","tokens":[],
+"words":{"operator_first":[],"names":[]},"vocabulary":{"keywords":[],"contextual":[]},"entry":"sql",
+"calls":[["start"],["complete",0,700]],"x":null}"#;
+    assert_fault(&rt, document, Fault::Shape, 2, "shape")?;
+    Ok(())
+}
+
+#[test]
+fn token_without_a_length_is_bad(rt: HostRuntime) -> Result<(), Fail> {
+    let document = r#"{"text":"","tokens":[["ident",0]],
+"words":{"operator_first":[],"names":[]},"vocabulary":{"keywords":[],"contextual":[]},"entry":"sql",
+"calls":[["start"],["complete",0,700]]}"#;
+    let fault = Fault::BadToken { index: 0 };
+    assert_fault(&rt, document, fault, 3, "bad token 0")?;
+    Ok(())
+}
+
+#[test]
+fn bad_token_is_told_before_an_open_marker(rt: HostRuntime) -> Result<(), Fail> {
+    let document = r#"{"text":"","tokens":[["ident",0]],
+"words":{"operator_first":[],"names":[]},"vocabulary":{"keywords":[],"contextual":[]},"entry":"sql",
+"calls":[["start"]]}"#;
+    let fault = Fault::BadToken { index: 0 };
+    assert_fault(&rt, document, fault, 3, "bad token 0")?;
+    Ok(())
+}
+
+#[test]
+fn open_marker_is_unspent(rt: HostRuntime) -> Result<(), Fail> {
+    let document = r#"{"text":"","tokens":[],
+"words":{"operator_first":[],"names":[]},"vocabulary":{"keywords":[],"contextual":[]},"entry":"sql",
+"calls":[["start"]]}"#;
+    let fault = Fault::Unspent { marker: 0 };
+    assert_fault(&rt, document, fault, 4, "unspent 0")?;
+    Ok(())
+}
+
+#[test]
+fn marker_that_is_not_there_is_a_bad_call(rt: HostRuntime) -> Result<(), Fail> {
+    let document = r#"{"text":"","tokens":[],
+"words":{"operator_first":[],"names":[]},"vocabulary":{"keywords":[],"contextual":[]},"entry":"sql",
+"calls":[["complete",0,700]]}"#;
+    let fault = Fault::BadCall { index: 0 };
+    assert_fault(&rt, document, fault, 4, "bad call 0")?;
+    Ok(())
+}
+
+#[test]
+fn two_nodes_do_not_fit(rt: HostRuntime) -> Result<(), Fail> {
+    let document = r#"{"text":"","tokens":[],
+"words":{"operator_first":[],"names":[]},"vocabulary":{"keywords":[],"contextual":[]},"entry":"sql",
+"calls":[["start"],["complete",0,700],["start"],["complete",1,700]]}"#;
+    assert_fault(&rt, document, Fault::DoesNotFit, 6, "does not fit")?;
+    Ok(())
+}
+
+#[test]
+fn no_calls_do_not_fit(rt: HostRuntime) -> Result<(), Fail> {
+    let document = r#"{"text":"","tokens":[],
+"words":{"operator_first":[],"names":[]},"vocabulary":{"keywords":[],"contextual":[]},"entry":"sql",
+"calls":[]}"#;
+    assert_fault(&rt, document, Fault::DoesNotFit, 6, "does not fit")?;
+    Ok(())
+}
+
+#[test]
+fn first_bad_token_is_told(rt: HostRuntime) -> Result<(), Fail> {
+    for (text, tokens, index, line) in [
+        (
+            r#""ab""#,
+            r#"[["ident",1],["ident",0],["ident",1]]"#,
+            1,
+            "bad token 1",
+        ),
+        (
+            r#""ab""#,
+            r#"[["ident",1],["ident",2],["ident",0]]"#,
+            1,
+            "bad token 1",
+        ),
+        (r#""é""#, r#"[["ident",1],["ident",1]]"#, 0, "bad token 0"),
+        (r#""a""#, r#"[["eof",1]]"#, 0, "bad token 0"),
+        (
+            r#""a'b""#,
+            r#"[["ident",1],["str",2,true]]"#,
+            1,
+            "bad token 1",
+        ),
+    ] {
+        let document = Members {
+            text,
+            tokens,
+            ..EMPTY
+        };
+        let fault = Fault::BadToken { index };
+        assert_fault(&rt, document.document(rt.alloc())?.as_str(), fault, 3, line)?;
+    }
+    Ok(())
+}
+
+#[test]
+fn text_behind_the_tokens_is_left(rt: HostRuntime) -> Result<(), Fail> {
+    for (text, tokens, at, line) in [
+        (r#""abc""#, r#"[["ident",2]]"#, 2, "text left at 2"),
+        (r#""abc""#, "[]", 0, "text left at 0"),
+        (r#""éé""#, r#"[["ident",2]]"#, 2, "text left at 2"),
+    ] {
+        let document = Members {
+            text,
+            tokens,
+            ..EMPTY
+        };
+        let fault = Fault::TextLeft { at };
+        assert_fault(&rt, document.document(rt.alloc())?.as_str(), fault, 3, line)?;
+    }
+    Ok(())
+}
+
+#[test]
+fn first_bad_call_is_told(rt: HostRuntime) -> Result<(), Fail> {
+    for (calls, index, line) in [
+        (r#"[["start"],["complete",0,1]]"#, 1, "bad call 1"),
+        (
+            r#"[["start"],["abandon",0],["abandon",0],["abandon",0]]"#,
+            2,
+            "bad call 2",
+        ),
+        (
+            r#"[["start"],["complete",0,700],["precede",0],["precede",0]]"#,
+            3,
+            "bad call 3",
+        ),
+        (
+            r#"[["start"],["complete",0,700],["start"],["extend_to",0,1]]"#,
+            3,
+            "bad call 3",
+        ),
+        (r#"[["eat",0]]"#, 0, "bad call 0"),
+        (r#"[["start"],["expect",658]]"#, 1, "bad call 1"),
+    ] {
+        let document = Members { calls, ..EMPTY };
+        let fault = Fault::BadCall { index };
+        assert_fault(&rt, document.document(rt.alloc())?.as_str(), fault, 4, line)?;
+    }
+    Ok(())
+}
+
+#[test]
+fn least_open_marker_is_told(rt: HostRuntime) -> Result<(), Fail> {
+    for (calls, marker, line) in [
+        (
+            r#"[["start"],["start"],["complete",1,700]]"#,
+            0,
+            "unspent 0",
+        ),
+        (
+            r#"[["start"],["complete",0,700],["start"],["start"]]"#,
+            1,
+            "unspent 1",
+        ),
+        (
+            r#"[["start"],["complete",0,700],["precede",0]]"#,
+            1,
+            "unspent 1",
+        ),
+    ] {
+        let document = Members { calls, ..EMPTY };
+        let fault = Fault::Unspent { marker };
+        assert_fault(&rt, document.document(rt.alloc())?.as_str(), fault, 4, line)?;
+    }
+    Ok(())
+}
+
+#[test]
+fn tokens_outside_the_node_do_not_fit(rt: HostRuntime) -> Result<(), Fail> {
+    for calls in [
+        r#"[["bump_any"]]"#,
+        r#"[["error","e"]]"#,
+        r#"[["bump_any"],["start"],["complete",0,700]]"#,
+        r#"[["start"],["complete",0,700],["bump_any"]]"#,
+    ] {
+        let document = Members { calls, ..PLAIN };
+        let document = document.document(rt.alloc())?;
+        assert_fault(&rt, document.as_str(), Fault::DoesNotFit, 6, "does not fit")?;
+    }
+    Ok(())
+}

@@ -1,0 +1,114 @@
+//! Small documents and their lines.
+
+use crate::asserts::assert_answer;
+use crate::documents::{Members, PLAIN, PLAIN_LINES};
+use std::test::Fail;
+
+#[test]
+fn empty_text_is_a_node_alone(rt: HostRuntime) -> Result<(), Fail> {
+    let document = r#"{"text":"","tokens":[],
+"words":{"operator_first":[],"names":[]},"vocabulary":{"keywords":[],"contextual":[]},"entry":"sql",
+"calls":[["start"],["complete",0,700]]}"#;
+    assert_answer(&rt, document, &["enter 700", "exit", "all"])?;
+    Ok(())
+}
+
+#[test]
+fn error_behind_a_node_stands_in_it_and_space_behind_it(rt: HostRuntime) -> Result<(), Fail> {
+    let document = r#"{"text":"x ","tokens":[["ident",1],["whitespace",1]],
+"words":{"operator_first":[],"names":[]},"vocabulary":{"keywords":[],"contextual":[]},"entry":"sql",
+"calls":[["start"],["start"],["bump_any"],["complete",1,701],["error","e"],["complete",0,700]]}"#;
+    let lines = [
+        "enter 700",
+        "enter 701",
+        r#"token 3 "x""#,
+        r#"error 1 "e""#,
+        "exit",
+        r#"token 639 " ""#,
+        "exit",
+        "all",
+    ];
+    assert_answer(&rt, document, &lines)?;
+    Ok(())
+}
+
+#[test]
+fn tokens_that_are_not_eaten_are_a_rest(rt: HostRuntime) -> Result<(), Fail> {
+    let document = r#"{"text":"a b","tokens":[["ident",1],["whitespace",1],["ident",1]],
+"words":{"operator_first":[],"names":[]},"vocabulary":{"keywords":[],"contextual":[]},"entry":"sql",
+"calls":[["start"],["bump_any"],["complete",0,700]]}"#;
+    let lines = [
+        "enter 700",
+        r#"token 3 "a""#,
+        r#"token 639 " ""#,
+        "exit",
+        "rest",
+    ];
+    assert_answer(&rt, document, &lines)?;
+    Ok(())
+}
+
+#[test]
+fn short_escape_is_a_lexical_error_with_a_hint(rt: HostRuntime) -> Result<(), Fail> {
+    let document = r#"{"text":"E'\\u0'","tokens":[["esc_str",6,true]],
+"words":{"operator_first":[],"names":[]},"vocabulary":{"keywords":[],"contextual":[]},"entry":"sql",
+"calls":[["start"],["bump_any"],["complete",0,700]]}"#;
+    let lines = [
+        r#"lex 2..5 "incomplete unicode escape" "expected 4 hex digits, like `\\uXXXX`""#,
+        "enter 700",
+        r#"token 41 "E'\\u0'""#,
+        "exit",
+        "all",
+    ];
+    assert_answer(&rt, document, &lines)?;
+    Ok(())
+}
+
+#[test]
+fn string_without_an_end_is_a_lexical_error(rt: HostRuntime) -> Result<(), Fail> {
+    let document = r#"{"text":"'a","tokens":[["str",2,false]],
+"words":{"operator_first":[],"names":[]},"vocabulary":{"keywords":[],"contextual":[]},"entry":"sql",
+"calls":[["start"],["bump_any"],["complete",0,700]]}"#;
+    let lines = [
+        "lex 0..2 \"missing trailing `'` symbol to terminate the string literal\"",
+        "enter 700",
+        r#"token 35 "'a""#,
+        "exit",
+        "all",
+    ];
+    assert_answer(&rt, document, &lines)?;
+    Ok(())
+}
+
+#[test]
+fn members_may_stand_in_any_order_and_with_spaces(rt: HostRuntime) -> Result<(), Fail> {
+    let document = r#" { "calls" : [ ["start"], ["bump_any"], ["complete", 0, 700] ],
+        "entry": "sql", "vocabulary": {"contextual": [], "keywords": []},
+        "words": {"names": [], "operator_first": []}, "tokens": [["ident", 1]], "text": "x" }
+"#;
+    assert_answer(&rt, document, &PLAIN_LINES)?;
+    Ok(())
+}
+
+#[test]
+fn texts_are_printed_as_json_strings(rt: HostRuntime) -> Result<(), Fail> {
+    let text = r#""\ufeff\t\u0001\"\\\/é\u007f\ud83d\ude00""#;
+    let tokens = r#"[["whitespace",5],["unknown",10]]"#;
+    let calls = r#"[["start"],["bump_any"],["error","\n\u001F"],["complete",0,700]]"#;
+    let document = Members {
+        text,
+        tokens,
+        calls,
+        ..PLAIN
+    };
+    let lines = [
+        "enter 700",
+        "token 639 \"\u{feff}\\t\\u0001\"",
+        "token 2 \"\\\"\\\\/é\u{7f}😀\"",
+        "error 15 \"\\n\\u001f\"",
+        "exit",
+        "all",
+    ];
+    assert_answer(&rt, document.document(rt.alloc())?.as_str(), &lines)?;
+    Ok(())
+}

@@ -1,0 +1,79 @@
+-- What a parse by the calls of a document answers.
+use Rattle.std.proofs.Common.{Bor, map, ◌≡◌, ◌∙◌, ℕ, ◌≤◌, Bool, true, false, List, ◌++◌, Some, None, Ok, Err, inl, inr, ap, arith, sym, refl, subst}
+use Rattle.std.specs.Prelude.{Result, IsErrAnd, MatchResult, ◌==◌, ◌↔◌, ◌≢◌, IsTrue, length}
+use Rattle.std.proofs.lemmas.Bool.Decides.{eqb_tells}
+use Rattle.squawk_document.specs.Documents.{Told}
+use Rattle.squawk_table.specs.ParserInput.{Entry, input_of}
+use Rattle.squawk_table.specs.RawTable.{Table}
+use Rattle.squawk_table.specs.Sent.{sent_list}
+use Rattle.squawk_table.specs.Shape.{no_keywords}
+use Rattle.squawk_table.specs.Steps.{Step, Walk, eaten, errors_in}
+use Rattle.squawk_parser.specs.Draft.{plain}
+use Rattle.squawk_parser.specs.Parse.{IsParse}
+use Rattle.squawk_parser.specs.declared.parser.parse_error.ParseError.{ParseError}
+use Rattle.squawk_parser.specs.declared.parser.parse_error.ParseError.TheVariants as parse
+use Rattle.squawk_script.specs.Meaning.{Meaning, run_of}
+use Rattle.squawk_answer.specs.Answers.{HasScript, Tells, lines, parse_refusal, parser_input, steps, table_for}
+use Rattle.squawk_script.specs.Events.{IsRunOf, events_of, refusal}
+use Rattle.squawk_answer.specs.declared.fault.Fault.{Fault}
+use Rattle.squawk_answer.specs.Fault.{fault_of_parse}
+use Rattle.squawk_answer.specs.Lines.{last_line, lex_lines, step_lines}
+
+-- the calls of a document, as a script
+abbrev pub script_of : Told → Meaning
+script_of d = record { calls = d.calls; words = d.words }
+
+-- and with names as they are borrowed
+abbrev pub named : Told → List (ℕ × Bor (List ℕ)) → Meaning
+named d names = record { calls = d.calls; words = record { operator_first = d.words.operator_first; names = map (λ pair. (pair.0, pair.1.now)) names } }
+
+-- a parse that is refused
+pub refusal-told : (d : Told) (reason : ParseError) → HasScript d → (reason ≢ parse.OutOfMemory → parse_refusal d ≡ Some reason) → Tells d (Err (fault_of_parse reason))
+refusal-told d parse.OutOfMemory script fails = tt
+refusal-told d parse.TooManyEvents script fails = (script, fails (λ same. let p = same in cc))
+refusal-told d parse.TooManyErrors script fails = (script, fails (λ same. let p = same in cc))
+
+-- a fault that is answered
+pub fault-told : {X : Type 0} (result : Result X Fault) (Q : X → Type 0) (P : Fault → Type 0) (fault : Fault) → IsErrAnd result (λ f. f ≡ fault) → P fault → MatchResult result Q P
+fault-told (Ok x) Q P fault is told = absurd is
+fault-told (Err f) Q P fault is told = subst P (sym is) told
+
+-- the run of the calls, as the parse sees it
+pub refusal-same : (d : Told) (script : Meaning) (input : List Entry) → script ≡ script_of d → input ≡ parser_input d
+    → refusal 4294967295 2147483648 (events_of script.words input script.calls) ≡ parse_refusal d
+refusal-same d script input same_script same_input =
+    ap (λ s. refusal 4294967295 2147483648 (events_of s.words input s.calls)) same_script
+    ∙ ap (λ entries. refusal 4294967295 2147483648 (events_of d.words entries d.calls)) same_input
+
+-- a parse that is not
+module _ (d : Told) (script : Meaning) (input : List Entry) (output : Walk) (same_script : script ≡ script_of d) (same_input : input ≡ parser_input d)
+    (parse : IsParse (IsRunOf script input) input output) where
+  pub steps-told : output.steps ≡ steps d
+  steps-told =
+      parse.steps
+      ∙ (parse.left.items
+      ∙ (ap (λ s. plain (run_of s.words input s.calls).draft.items) same_script ∙ ap (λ entries. plain (run_of d.words entries d.calls).draft.items) same_input))
+
+  pub none-refused : (output.recorded ≤ 4294967295) × (errors_in output.steps ≤ 2147483648) → parse_refusal d ≡ None
+  none-refused within =
+      let events : parse.draft.recorded ≤ 4294967295 = omega (arith, parse.recorded, within.0) in
+      let errors : errors_in (plain parse.draft.items) ≤ 2147483648 = subst (λ steps. errors_in steps ≤ 2147483648) parse.steps within.1 in
+      sym (refusal-same d script input same_script same_input) ∙ parse.left.unrefused 4294967295 2147483648 events errors
+
+-- a test that tells whether two numbers are equal
+test-told : (all : Bool) (a b : ℕ) → IsTrue all ↔ (a ≡ b) → all ≡ (a == b)
+test-told all a b is = elim (eqb_tells a b) [ inl p ↦ is.1 p.1 ∙ sym p.0 | inr p ↦ none (λ yes. p.1 (is.0 yes)) all refl ∙ sym p.0 ]
+  where
+    none : (IsTrue all → ⊥) → (b : Bool) → all ≡ b → all ≡ false
+    none never true e = absurd (never e)
+    none never false e = e
+
+-- the lines of a table and of the steps that are sent over it
+pub lines-told : (d : Told) (table : Table) (sent : List Step) (all : Bool) → table ≡ table_for d → sent ≡ steps d
+    → IsTrue all ↔ (eaten sent ≡ length (input_of no_keywords table)) → lex_lines table.errors ++ (step_lines (sent_list table sent) ++ last_line all) ≡ lines d
+lines-told d table sent all same_table same_steps is =
+    ap (λ b. lex_lines table.errors ++ (step_lines (sent_list table sent) ++ last_line b)) (test-told all (eaten sent) (length (input_of no_keywords table)) is)
+    ∙ (ap (λ t. Lines t sent) same_table ∙ ap (Lines (table_for d)) same_steps)
+  where
+    Lines : Table → List Step → List ℕ
+    Lines t s = lex_lines t.errors ++ (step_lines (sent_list t s) ++ last_line (eaten s == length (input_of no_keywords t)))

@@ -1,0 +1,69 @@
+//! From a document to the lines of its answer.
+ghost use Rattle.std.specs.Prelude.{◌≡◌, ◌≢◌, Ok, Err, false, IfErr, MatchResult};
+ghost use Rattle.squawk_document.specs.Documents.{told};
+ghost use Rattle.squawk_kinds.specs.Kinds.{EOF};
+ghost use Rattle.squawk_kinds.specs.TokenSets.{has};
+ghost use Rattle.squawk_answer.specs.AnswerLines.{lines_of};
+ghost use Rattle.squawk_answer.specs.Answers.{IsAnswer, Tells};
+
+use crate::fault::Fault;
+use crate::lines::{Lines, error_lines};
+use squawk_document::{Document, value};
+use squawk_parser::{LexedStr, Words};
+use squawk_script::Script;
+use std::alloc::Global;
+
+/// The lines of an answer: those of the lexical errors, and then those of the steps.
+#[derive(Drop)]
+pub struct Answer {
+    pub errors: String,
+    pub steps: String,
+}
+
+impl Answer {
+    /// The answer to what was read.
+    pub fn new(alloc: Global, input: &[u8]) -> Result<Answer, Fault>
+        ensures answer { MatchResult result
+            (λ a. IsAnswer input.now (Ok (lines_of a)))
+            (λ fault. IsAnswer input.now (Err fault)) }
+        ensures unwritten { IfErr result (λ fault. fault ≢ Fault.Io) }
+    {
+        let value = value::parse(alloc, input)?;
+        Answer::to_document(alloc, Document::from_value(alloc, &value)?)
+    }
+
+    /// The answer to a document.
+    fn to_document(alloc: Global, document: Document<'_>) -> Result<Answer, Fault>
+        requires { has document.operator_first EOF ≡ false }
+        ensures answer { MatchResult result
+            (λ a. Tells (told document.entry) (Ok (lines_of a)))
+            (λ fault. Tells (told document.entry) (Err fault)) }
+        ensures unwritten { IfErr result (λ fault. fault ≢ Fault.Io) }
+    {
+        let Document {
+            text,
+            tokens,
+            operator_first,
+            names,
+            vocabulary,
+            entry,
+            calls,
+        } = document;
+        let table = LexedStr::new(alloc, text, &tokens, &vocabulary)?;
+        let words = Words {
+            operator_first,
+            names: &names,
+        };
+        let script = Script::new(alloc, calls, words)?;
+        let input = table.to_input(alloc, &vocabulary)?;
+        let output = entry.parse(alloc, &input, &script)?;
+        if !table.fits(&output) {
+            return Err(Fault::DoesNotFit);
+        }
+        let errors = error_lines(alloc, table.errors())?;
+        let mut lines = Lines::new(alloc);
+        let all = table.intersperse_trivia(&output, &mut lines)?;
+        let steps = lines.finish(all)?;
+        Ok(Answer { errors, steps })
+    }
+}
