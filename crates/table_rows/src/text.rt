@@ -1,6 +1,6 @@
 //! The texts of steps.
 
-use squawk_parser::Text;
+use squawk_table::Text;
 use std::test::Fail;
 
 #[test]

@@ -1,6 +1,6 @@
 //! The numbers of syntax kinds.
 
-use squawk_parser::SyntaxKind;
+use squawk_kinds::SyntaxKind;
 use std::process::Abort;
 
 #[test]
