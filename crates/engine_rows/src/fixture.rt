@@ -1,6 +1,8 @@
 //! What the tests share: a vocabulary, grammars, and steps to compare with.
 
 pub mod calls;
+pub mod errors;
+pub mod keywords;
 pub mod looks;
 pub mod memory;
 pub mod moves;
@@ -14,13 +16,33 @@ pub mod steps;
 pub mod words;
 
 pub use calls::{Calls, FixedGrammar};
+pub use keywords::{KEYWORDS, Keywords, NO_KEYWORDS};
 use scripts::{Line, script_of};
-use squawk_parser::{EntryPoint, LexedStr, Output};
+use squawk_parser::{EntryPoint, LexedStr, Output, Token, TokenKind};
 use std::alloc::Global;
 use std::test::Fail;
 pub use steps::{EXIT, assert_steps, enter, error_step, space_step, token_step, word_step};
-pub use table_rows::keywords::{KEYWORDS, Keywords, NO_KEYWORDS};
-pub use table_rows::{errors, space, table, word};
+
+/// The raw token of a word of so many bytes.
+pub fn word(len: u32) -> Token {
+    Token {
+        kind: TokenKind::Ident,
+        len,
+    }
+}
+
+/// The raw token of white space of so many bytes.
+pub fn space(len: u32) -> Token {
+    Token {
+        kind: TokenKind::Whitespace,
+        len,
+    }
+}
+
+/// The table of a text without keywords.
+pub fn table<'a>(alloc: Global, text: &'a str, tokens: &[Token]) -> Result<LexedStr<'a>, Fail> {
+    Ok(LexedStr::new(alloc, text, tokens, &NO_KEYWORDS)?)
+}
 
 /// The output of the calls over a table.
 pub fn parse(alloc: Global, table: &LexedStr<'_>, calls: Calls) -> Result<Output, Fail> {

@@ -18,6 +18,12 @@ mod fitting;
 #[cfg(test)]
 mod fixture;
 #[cfg(test)]
+mod input;
+#[cfg(test)]
+mod kinds;
+#[cfg(test)]
+mod lexical_errors;
+#[cfg(test)]
 mod limits;
 #[cfg(test)]
 mod limits_of_parses;
@@ -34,6 +40,8 @@ mod parser;
 #[cfg(test)]
 mod preceded_nodes;
 #[cfg(test)]
+mod raw_tokens;
+#[cfg(test)]
 mod script_errors;
 #[cfg(test)]
 mod script_memory;
@@ -42,8 +50,16 @@ mod scripts;
 #[cfg(test)]
 mod sequences;
 #[cfg(test)]
+mod sets;
+#[cfg(test)]
 mod sinks;
 #[cfg(test)]
 mod statement;
+#[cfg(test)]
+mod string_errors;
+#[cfg(test)]
+mod text;
+#[cfg(test)]
+mod token_kinds;
 #[cfg(test)]
 mod trivia;

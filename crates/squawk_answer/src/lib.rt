@@ -12,4 +12,4 @@ pub use answer::Answer;
 pub use fault::Fault;
 pub use lines::Lines;
 pub use read::MOST_READS;
-pub use watch::Watch;
+pub use watch::{Turn, Watch};

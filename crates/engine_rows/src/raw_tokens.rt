@@ -1,9 +1,7 @@
 //! Lists of raw tokens, and the tables of those that are accepted.
 
-use crate::keywords::{Keywords, NO_KEYWORDS};
-use crate::{space, word};
-use squawk_kinds::SyntaxKind;
-use squawk_table::{LexedStr, TableError, Token, check_tokens};
+use crate::fixture::{Keywords, NO_KEYWORDS, space, word};
+use squawk_parser::{LexedStr, SyntaxKind, TableError, Token, check_tokens};
 use std::process::Abort;
 use std::test::Fail;
 

@@ -1,12 +1,12 @@
 //! The lexical errors of strings, alone and where one continues another.
 
-use crate::errors::{
+use crate::fixture::errors::{
     BAD_STRINGS, EIGHT_DIGITS, FOUR_DIGITS, G_IS_NO_HEX_DIGIT, OPEN_COMMENT, SEMI, TWO_IS_NO_BIT,
     assert_errors, assert_token, at, bad_strings, bits, bytes, errors_of_bad_strings, escapes,
     incomplete, int, len_of, literal, national, numeric, string, token,
 };
-use crate::{space, table, word};
-use squawk_table::{Base, LiteralKind, TokenKind};
+use crate::fixture::{space, table, word};
+use squawk_parser::{Base, LiteralKind, TokenKind};
 use std::test::Fail;
 
 const OPEN_STRING: &str = "missing trailing `'` symbol to terminate the string literal";

@@ -1,7 +1,7 @@
 //! Sets of token kinds, and the classes of kinds.
 ghost use Rattle.std.specs.Prelude.{◌≤◌};
 
-use squawk_kinds::{
+use squawk_parser::{
     SyntaxKind, TokenSet, Vocabulary, is_col_name_keyword, is_reserved_keyword,
     is_type_func_name_keyword,
 };

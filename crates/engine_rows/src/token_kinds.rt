@@ -1,8 +1,9 @@
 //! What the kinds of raw tokens say of their texts, and the syntax kinds that they give.
 
-use crate::keywords::NO_KEYWORDS;
-use squawk_kinds::SyntaxKind;
-use squawk_table::{Base, LexedStr, LiteralKind, TableError, Token, TokenKind, check_tokens};
+use crate::fixture::NO_KEYWORDS;
+use squawk_parser::{
+    Base, LexedStr, LiteralKind, SyntaxKind, TableError, Token, TokenKind, check_tokens,
+};
 use std::test::Fail;
 
 const fn literal(kind: LiteralKind) -> TokenKind {

@@ -1,9 +1,7 @@
 //! The tokens that a parser sees.
 
-use crate::keywords::{Keywords, NO_KEYWORDS};
-use crate::{space, word};
-use squawk_kinds::SyntaxKind;
-use squawk_table::{Input, LexedStr, Token};
+use crate::fixture::{Keywords, NO_KEYWORDS, space, word};
+use squawk_parser::{Input, LexedStr, SyntaxKind, Token};
 use std::alloc::Global;
 use std::process::Abort;
 use std::test::Fail;

@@ -1,6 +1,6 @@
 //! The texts of steps.
 
-use squawk_table::Text;
+use squawk_parser::Text;
 use std::test::Fail;
 
 #[test]

@@ -1,6 +1,6 @@
 //! The numbers of syntax kinds.
 
-use squawk_kinds::SyntaxKind;
+use squawk_parser::SyntaxKind;
 use std::process::Abort;
 
 #[test]

@@ -1,10 +1,10 @@
 //! The lexical errors of comments, quoted identifiers, parameters and numbers.
 
-use crate::errors::{
+use crate::fixture::errors::{
     OPEN_COMMENT, SEMI, assert_errors, assert_token, at, int, len_of, literal, numeric, token,
 };
-use crate::{space, word};
-use squawk_table::{Base, LiteralKind, TokenKind};
+use crate::fixture::{space, word};
+use squawk_parser::{Base, LiteralKind, TokenKind};
 use std::test::Fail;
 
 const OPEN_IDENT: &str = "missing trailing \" to terminate the quoted identifier";
