@@ -17,7 +17,7 @@ use Rattle.squawk_answer.specs.Answers.{HasScript, Tells, lines, parse_refusal, 
 use Rattle.squawk_script.specs.Events.{IsRunOf, events_of, refusal}
 use Rattle.squawk_answer.specs.declared.fault.Fault.{Fault}
 use Rattle.squawk_answer.specs.Fault.{fault_of_parse}
-use Rattle.squawk_answer.specs.Lines.{last_line, lex_lines, step_lines}
+use Rattle.squawk_lines.specs.Lines.{last_line, lex_lines, step_lines}
 
 -- the calls of a document, as a script
 abbrev pub script_of : Told → Meaning

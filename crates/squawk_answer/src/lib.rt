@@ -13,13 +13,11 @@
 
 mod answer;
 mod fault;
-mod lines;
 mod read;
 pub mod run;
-mod watch;
 
 pub use answer::Answer;
 pub use fault::Fault;
-pub use lines::Lines;
 pub use read::MOST_READS;
-pub use watch::{Turn, Watch};
+pub use squawk_lines::Lines;
+pub use squawk_watch::{Turn, Watch};

@@ -3,7 +3,7 @@ ghost use Rattle.std.specs.Prelude.{◌≡◌, ◌≤◌, true, IfOk, IfErr, OnO
 ghost use Rattle.std.specs.Io.KnownBytes.{IsAtEnd};
 
 use crate::fault::Fault;
-use crate::watch::{Turn, Watch};
+use squawk_watch::{Turn, Watch};
 use std::alloc::Global;
 use std::io::Read;
 

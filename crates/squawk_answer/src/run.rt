@@ -7,7 +7,7 @@ ghost use Rattle.squawk_answer.specs.Answers.{IsAnswer};
 use crate::answer::Answer;
 use crate::fault::Fault;
 use crate::read::{MOST_READS, read_all};
-use crate::watch::Watch;
+use squawk_watch::Watch;
 use std::alloc::Global;
 use std::io::{Read, Write};
 

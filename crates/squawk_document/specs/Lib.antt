@@ -1,10 +1,3 @@
-pub mod Values
 pub mod DocumentParts
-pub mod TokenShapes
-pub mod Pairs
-pub mod KindSets
-pub mod GrammarWords
-pub mod WordPairs
 pub mod Calls
-pub mod WordAnswers
 pub mod Documents

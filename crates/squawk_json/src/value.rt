@@ -1,0 +1,132 @@
+//! What is read of a JSON value.
+ghost use Rattle.std.specs.Prelude.{◌≡◌, ℕ, map};
+ghost use Rattle.serde_json.specs.View.{view};
+ghost use Rattle.squawk_json.specs.Values.{Gives, bool_in, has_members, item_at, items_in, member_in, number_in, pair_in, string_in, u32_in, value_of, with_len};
+
+use crate::document_error::DocumentError;
+use serde_json::Value;
+use std::alloc::Global;
+
+/// The value that the bytes are.
+pub fn parse(alloc: Global, input: &[u8]) -> Result<Value, DocumentError>
+    ensures { Gives (λ v. view v) result (value_of input.now) }
+{
+    match Value::from_slice(alloc, input) {
+        Ok(value) => Ok(value),
+        Err(e) => {
+            if e.is_memory() {
+                Err(DocumentError::OutOfMemory)
+            } else {
+                Err(DocumentError::Json)
+            }
+        }
+    }
+}
+
+/// An object with as many members as this.
+pub fn with_members(value: &Value, n: usize) -> Result<&Value, DocumentError>
+    ensures { Gives (λ v. view v.now) result (has_members n (view value.now)) }
+{
+    let Some(members) = value.as_object() else {
+        return Err(DocumentError::Shape);
+    };
+    if members.len() != n {
+        return Err(DocumentError::Shape);
+    }
+    Ok(value)
+}
+
+/// The member of an object at a key.
+pub fn member<'v>(value: &'v Value, key: &str) -> Result<&'v Value, DocumentError>
+    ensures { Gives (λ v. view v.now) result (member_in key.now (view value.now)) }
+{
+    match value.get(key) {
+        Some(member) => Ok(member),
+        None => Err(DocumentError::Shape),
+    }
+}
+
+/// The items of an array.
+pub fn items(value: &Value) -> Result<&[Value], DocumentError>
+    ensures { Gives (λ vs. map view vs.now) result (items_in (view value.now)) }
+{
+    match value.as_array() {
+        Some(items) => Ok(items.as_slice()),
+        None => Err(DocumentError::Shape),
+    }
+}
+
+/// A list of as many items as this.
+pub fn with_len(items: &[Value], n: usize) -> Result<&[Value], DocumentError>
+    ensures { Gives (λ vs. map view vs.now) result (with_len n (map view items.now)) }
+{
+    if items.len() != n {
+        return Err(DocumentError::Shape);
+    }
+    Ok(items)
+}
+
+/// Item i of a list.
+pub fn item(items: &[Value], i: usize) -> Result<&Value, DocumentError>
+    ensures { Gives (λ v. view v.now) result (item_at (map view items.now) i) }
+{
+    match items.get(i) {
+        Some(item) => Ok(item),
+        None => Err(DocumentError::Shape),
+    }
+}
+
+/// The items of a list of two.
+pub fn pair(value: &Value) -> Result<(&Value, &Value), DocumentError>
+    ensures { Gives (λ p. (view p.0.now, view p.1.now)) result (pair_in (view value.now)) }
+{
+    let items = with_len(items(value)?, 2)?;
+    let first = item(items, 0)?;
+    let second = item(items, 1)?;
+    Ok((first, second))
+}
+
+/// A whole number from `low` to `high`.
+pub fn number(value: &Value, low: u64, high: u64) -> Result<u64, DocumentError>
+    ensures { Gives (λ n. n) result (number_in low high (view value.now)) }
+{
+    match value.as_u64() {
+        Some(n) => {
+            if n < low {
+                return Err(DocumentError::Shape);
+            }
+            if high < n {
+                return Err(DocumentError::Shape);
+            }
+            Ok(n)
+        }
+        None => Err(DocumentError::Shape),
+    }
+}
+
+/// A number of 32 bits.
+pub fn u32_of(value: &Value) -> Result<u32, DocumentError>
+    ensures { Gives (λ n. n) result (u32_in (view value.now)) }
+{
+    let n = number(value, 0, u64::from(u32::MAX))?;
+    Ok(n as u32)
+}
+
+/// A string.
+pub fn string(value: &Value) -> Result<&str, DocumentError>
+    ensures { Gives (λ s. s.now) result (string_in (view value.now)) }
+{
+    match value.as_str() {
+        Some(text) => Ok(text),
+        None => Err(DocumentError::Shape),
+    }
+}
+
+pub fn boolean(value: &Value) -> Result<bool, DocumentError>
+    ensures { Gives (λ b. b) result (bool_in (view value.now)) }
+{
+    match value.as_bool() {
+        Some(b) => Ok(b),
+        None => Err(DocumentError::Shape),
+    }
+}
