@@ -1,7 +1,7 @@
 //! Bytes that are no JSON, and documents that only just are.
 
 use crate::asserts::{assert_answer, assert_no_json, assert_other_shape};
-use crate::documents::{Members, NAME, PLAIN, PLAIN_LINES};
+use crate::documents::{Members, PLAIN, PLAIN_LINES};
 use std::alloc::{AllocError, Global};
 use std::test::Fail;
 
@@ -15,26 +15,6 @@ fn nested(alloc: Global, lists: usize) -> Result<String, AllocError> {
         text.push(']')?;
     }
     Ok(text)
-}
-
-#[test]
-fn each_beginning_of_a_document_is_no_json(rt: HostRuntime) {
-    let document = NAME.as_bytes();
-    for n in 0..document.len() {
-        assert_no_json(&rt, &document[..n]);
-    }
-}
-
-#[test]
-fn byte_that_is_no_text_is_no_json_at_any_place(rt: HostRuntime) -> Result<(), Fail> {
-    let document = NAME.as_bytes();
-    for n in 0..document.len() {
-        let mut bytes = document.to_vec(rt.alloc())?;
-        assert!(rt; n < bytes.len());
-        bytes[n] = 0xff;
-        assert_no_json(&rt, &bytes);
-    }
-    Ok(())
 }
 
 #[test]

@@ -1,4 +1,4 @@
-//! Tests of the answers to documents, through runs from a reader to a writer.
+//! Tests of the answers to documents.
 //!
 //! The values that they want were worked out by hand.
 #![tactic(auto)]
@@ -22,18 +22,10 @@ mod lines;
 #[cfg(test)]
 mod members;
 #[cfg(test)]
-mod memory;
-#[cfg(test)]
 mod numbers;
 #[cfg(test)]
 mod order;
 #[cfg(test)]
-mod readers;
-#[cfg(test)]
 mod shapes;
 #[cfg(test)]
 mod step_lines;
-#[cfg(test)]
-mod streams;
-#[cfg(test)]
-mod writers;
