@@ -122,6 +122,7 @@ pub fn string(value: &Value) -> Result<&str, DocumentError>
     }
 }
 
+/// True or false.
 pub fn boolean(value: &Value) -> Result<bool, DocumentError>
     ensures { Gives (λ b. b) result (bool_in (view value.now)) }
 {

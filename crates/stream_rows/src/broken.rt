@@ -6,7 +6,7 @@ use squawk_answer::run::run;
 use std::process::Abort;
 use std::test::Fail;
 
-/// The bytes are no JSON, and nothing is written. They are those of [`NAME`] but for the byte at a
+/// The bytes are no JSON, and nothing is written. They are those of [`NAME`], cut or changed at a
 /// place.
 fn assert_broken(rt: &(impl Abort + AllocGlobal), input: &[u8], place: usize) {
     let mut reader = input;
