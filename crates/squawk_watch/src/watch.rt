@@ -69,6 +69,7 @@ impl Watch {
         ensures bytes { result ≡ true → Appends (W.contents writer.old) (W.contents writer.new) bytes.now }
         ensures reads { self.new.reads ≡ self.old.reads }
         ensures failed { result ≡ false → self.new.failed ≡ true }
+        ensures same { result ≡ true → self.new.failed ≡ self.old.failed }
     {
         if writer.write_all(bytes).is_err() {
             self.failed = true;
