@@ -1,5 +1,5 @@
 //! How an output is made.
-ghost use Rattle.std.specs.Prelude.{◌≡◌, [], ◌∷◌, ◌++◌, IfOk};
+ghost use Rattle.std.specs.Prelude.{◌≡◌, [], ◌∷◌, ◌++◌, ◌+◌, ◌<◌, ◌^◌, IfOk};
 ghost use Rattle.squawk_table.specs.Steps.{Token, Enter, Exit, Error};
 
 use crate::output::Output;
@@ -17,6 +17,7 @@ use std::marker::Model;
 pub struct OutputBuilder {
     steps: Vec<StoredStep>,
     recorded: u32,
+    turns: u64,
 }
 
 impl Model for OutputBuilder {
@@ -27,7 +28,7 @@ impl Model for OutputBuilder {
     ghost use Rattle.std.specs.Prelude.{map};
     ghost use Rattle.squawk_table.specs.StepViews.{stored_of};
 
-    ghost view = { λ b. record { steps = map stored_of b.steps.items; recorded = b.recorded; turns = 0 } };
+    ghost view = { λ b. record { steps = map stored_of b.steps.items; recorded = b.recorded; turns = b.turns } };
 }
 
 impl OutputBuilder {
@@ -43,7 +44,16 @@ impl OutputBuilder {
         Ok(OutputBuilder {
             steps: Vec::with_capacity(alloc, steps)?,
             recorded,
+            turns: 0,
         })
+    }
+
+    /// Counts a turn of the pass that makes the output.
+    pub fn turn(&mut self)
+        requires { self.old.turns + 1 < 2 ^ 64 }
+        ensures { self.new ≡ record self.old { turns = self.old.turns + 1 } }
+    {
+        self.turns += 1;
     }
 
     /// Puts a token at the end.
@@ -85,11 +95,15 @@ impl OutputBuilder {
     pub fn finish(self) -> Output
         ensures { result ≡ self }
     {
-        let OutputBuilder { steps, recorded } = self;
+        let OutputBuilder {
+            steps,
+            recorded,
+            turns,
+        } = self;
         Output {
             steps,
             recorded,
-            turns: 0,
+            turns,
         }
     }
 }

@@ -1,0 +1,39 @@
+-- What the loops of the pass keep.
+use Rattle.std.specs.Prelude.{◌≡◌, ℕ, ◌+◌, Option, List, [], ◌++◌, length, drop}
+use Rattle.squawk_table.specs.Steps.{Walk}
+use Rattle.squawk_event.specs.EventLog.{Log, LinksLead, list_of, turns_of}
+use Rattle.squawk_event.specs.Chain.{LandsAt, chain, entered_back, erased}
+
+-- A chain is followed from a place: what is left of it, and what it has found so far, are what it finds in all.
+pub record Follows (log : Log) (kinds : List ℕ) (output : Walk) (from : Option ℕ) (log' : Log) (kinds' : List ℕ) (output' : Walk) (next : Option ℕ) : Type 0 where
+  pub same_length : length log' ≡ length log
+  pub links : LinksLead log'
+  pub lands : LandsAt log' next
+  pub leaves : erased next log' ≡ erased from log
+  pub finds : kinds' ++ chain next log' ≡ kinds ++ chain from log
+  pub turns : output'.turns + length (chain next log') ≡ output.turns + length (chain from log)
+  pub steps : output'.steps ≡ output.steps
+  pub recorded : output'.recorded ≡ output.recorded
+
+-- Kinds are entered from the last to the first: those that are left are still to be entered.
+pub record Enters (kinds : List ℕ) (output : Walk) (kinds' : List ℕ) (output' : Walk) : Type 0 where
+  pub turns : output'.turns + length kinds' ≡ output.turns + length kinds
+  pub steps : output'.steps ++ entered_back kinds' ≡ output.steps ++ entered_back kinds
+  pub recorded : output'.recorded ≡ output.recorded
+
+-- An event is visited: what is left behind it is a log, whose list and turns are still to come.
+pub record Visits (log : Log) (output : Walk) (log' : Log) (output' : Walk) (place : ℕ) : Type 0 where
+  pub same_length : length log' ≡ length log
+  pub links : LinksLead log'
+  pub steps : output'.steps ++ list_of (drop (place + 1) log') ≡ output.steps ++ list_of (drop place log)
+  pub turns : output'.turns + turns_of (drop (place + 1) log') ≡ output.turns + turns_of (drop place log)
+  pub recorded : output'.recorded ≡ output.recorded
+
+-- The events before a place were visited.
+pub record Passes (log : Log) (events : ℕ) (log' : Log) (output : Walk) (kinds : List ℕ) (place : ℕ) : Type 0 where
+  pub same_length : length log' ≡ length log
+  pub links : LinksLead log'
+  pub steps : output.steps ++ list_of (drop place log') ≡ list_of log
+  pub turns : output.turns + turns_of (drop place log') ≡ turns_of log
+  pub recorded : output.recorded ≡ events
+  pub none : kinds ≡ []
