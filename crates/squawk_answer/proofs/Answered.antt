@@ -8,7 +8,7 @@ use Rattle.squawk_table.specs.RawTable.{Table}
 use Rattle.squawk_table.specs.Sent.{sent_list}
 use Rattle.squawk_table.specs.Shape.{no_keywords}
 use Rattle.squawk_table.specs.Steps.{Step, Walk, eaten, errors_in}
-use Rattle.squawk_parser.specs.Draft.{plain}
+use Rattle.squawk_event.specs.Draft.{plain}
 use Rattle.squawk_parser.specs.Parse.{IsParse}
 use Rattle.squawk_parser.specs.declared.parser.parse_error.ParseError.{ParseError}
 use Rattle.squawk_parser.specs.declared.parser.parse_error.ParseError.TheVariants as parse

@@ -11,7 +11,7 @@ use Rattle.squawk_table.specs.RawTable.{Table, table_of}
 use Rattle.squawk_table.specs.Sent.{sent_list}
 use Rattle.squawk_table.specs.Shape.{Fits, no_keywords}
 use Rattle.squawk_table.specs.Steps.{Step, eaten}
-use Rattle.squawk_parser.specs.Draft.{plain}
+use Rattle.squawk_event.specs.Draft.{plain}
 use Rattle.squawk_parser.specs.declared.parser.parse_error.ParseError.{ParseError}
 use Rattle.squawk_parser.specs.declared.parser.parse_error.ParseError.TheVariants as parse
 use Rattle.squawk_script.specs.Accepted as script

@@ -1,8 +1,8 @@
 -- The definitions of drafts on small ones: what they give is worked out by hand.
 use Rattle.std.proofs.Common.{◌≡◌, true, false, [], ◌∷◌, refl}
-use Rattle.squawk_parser.specs.Draft as items
-use Rattle.squawk_parser.specs.Draft.{Draft, nothing, errors_of, plain}
-use Rattle.squawk_parser.specs.Edits.{abandoned, completed, extended, preceded, started, with_token, with_error}
+use Rattle.squawk_event.specs.Draft as items
+use Rattle.squawk_event.specs.Draft.{Draft, nothing, errors_of, plain}
+use Rattle.squawk_event.specs.Edits.{abandoned, completed, extended, preceded, started, with_token, with_error}
 use Rattle.squawk_table.specs.Steps as steps
 use Rattle.squawk_table.proofs.Examples.{crossing_steps}
 
@@ -13,6 +13,8 @@ token d = with_token d 3 1
 one_node : completed (token (token (started nothing 0))) 0 700 ≡ record {
   items = items.Open 0 700 true ∷ items.Token 3 1 ∷ items.Token 3 1 ∷ items.Close ∷ [];
   recorded = 4;
+  entries = 4;
+  turns_due = 5;
 }
 one_node = refl
 
@@ -48,6 +50,8 @@ node_in_front = completed (preceded (completed (preceded (completed (token (star
 one_node_in_front_of_the_other : node_in_front ≡ record {
   items = items.Open 2 707 true ∷ items.Open 1 702 false ∷ items.Open 0 701 false ∷ items.Token 3 1 ∷ items.Close ∷ items.Close ∷ items.Close ∷ [];
   recorded = 7;
+  entries = 7;
+  turns_due = 14;
 }
 one_node_in_front_of_the_other = refl
 
@@ -55,6 +59,8 @@ one_node_in_front_of_the_other = refl
 preceded_in_vain : abandoned (preceded (completed (token (started nothing 0)) 0 701) 0 1) 1 ≡ record {
   items = items.Open 0 701 false ∷ items.Token 3 1 ∷ items.Close ∷ [];
   recorded = 4;
+  entries = 4;
+  turns_due = 8;
 }
 preceded_in_vain = refl
 
@@ -67,8 +73,10 @@ last_node = record { id = 3; kind = 705 }
 
 -- the node goes to the nearer marker, and then to the farther one
 extended_twice : extended (extended three_markers last_node 2) last_node 1 ≡ record {
-  items = items.Hole 0 items.ByStart ∷ items.Open 3 705 true ∷ items.Token 3 1 ∷ items.Token 3 1 ∷ items.Token 3 1 ∷ items.Close ∷ [];
+  items = items.Hole 0 (items.ByStart 0) ∷ items.Open 3 705 true ∷ items.Token 3 1 ∷ items.Token 3 1 ∷ items.Token 3 1 ∷ items.Close ∷ [];
   recorded = 8;
+  entries = 8;
+  turns_due = 16;
 }
 extended_twice = refl
 
@@ -81,7 +89,29 @@ abbrev preceded_past_a_marker : Draft
 preceded_past_a_marker = completed (preceded (completed (token (started (started (started nothing 0) 1) 2)) 1 705) 1 3) 3 701
 
 extended_in_vain : extended preceded_past_a_marker (record { id = 3; kind = 701 }) 2 ≡ record {
-  items = items.Hole 0 items.ByStart ∷ items.Open 3 701 true ∷ items.Open 1 705 false ∷ items.Token 3 1 ∷ items.Close ∷ items.Close ∷ [];
+  items = items.Hole 0 (items.ByStart 0) ∷ items.Open 3 701 true ∷ items.Open 1 705 false ∷ items.Token 3 1 ∷ items.Close ∷ items.Close ∷ [];
   recorded = 7;
+  entries = 7;
+  turns_due = 15;
 }
 extended_in_vain = refl
+
+-- ---- entries that go
+
+-- a marker that is abandoned at once leaves no entry
+given_up_at_once : completed (token (abandoned (started (started nothing 0) 1) 1)) 0 700 ≡ record {
+  items = items.Open 0 700 true ∷ items.Token 3 1 ∷ items.Close ∷ [];
+  recorded = 4;
+  entries = 3;
+  turns_due = 4;
+}
+given_up_at_once = refl
+
+-- and one behind which something was recorded leaves its own
+given_up_later : completed (abandoned (token (started (started nothing 0) 1)) 1) 0 700 ≡ record {
+  items = items.Open 0 700 true ∷ items.Token 3 1 ∷ items.Close ∷ [];
+  recorded = 4;
+  entries = 4;
+  turns_due = 6;
+}
+given_up_later = refl

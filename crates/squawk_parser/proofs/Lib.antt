@@ -28,7 +28,3 @@ pub mod SeenTokens
 pub mod SeenSteps
 pub mod TouchingRun
 pub mod EatenExamples
-pub mod DraftPlaces
-pub mod DraftEdits
-pub mod DraftMoves
-pub mod EditedErrors

@@ -3,8 +3,8 @@ use Rattle.std.proofs.Common.{◌≡◌, ◌∙◌, ℕ, ◌==◌, Bool, true, f
 use Rattle.std.specs.Prelude.{Contains, filter, not}
 use Rattle.std.proofs.lemmas.List.Elements.{Contains-append_left, filter-append}
 use Rattle.squawk_table.specs.Steps.{Step}
-use Rattle.squawk_parser.specs.Draft.{Draft, Item, Made, Hole, Open, Close, Token, Error, Mark, Node, ByStart, ByPrecede, HasNoIdTwice, holes_of, is_hole}
-use Rattle.squawk_parser.specs.Edits.{abandoned, completed, extended, extended_items, filled, is_hole_of, is_opening_of, moved, preceded, replaced, stands_before, started, without_hole}
+use Rattle.squawk_event.specs.Draft.{Draft, Item, Made, Hole, Open, Close, Token, Error, Mark, Node, ByStart, ByPrecede, HasNoIdTwice, holes_of, is_hole}
+use Rattle.squawk_event.specs.Edits.{abandoned, completed, extended, extended_items, filled, is_hole_of, is_opening_of, moved, preceded, replaced, stands_before, started, without_hole}
 use Rattle.squawk_parser.specs.Recorded.{Puts}
 use Rattle.squawk_parser.specs.State.{State, Changes, Goes, HasHole, HasNode, Records}
 use Rattle.squawk_parser.specs.declared.parser.parse_error.ParseError.{ParseError}
@@ -34,9 +34,9 @@ Contains-others p f item items fails there =
 -- ---- after acts at the end
 
 -- the new marker's hole is in the draft
-pub hole-started : {s t : State} (id : ℕ) → Records s t (started s.draft id) → HasHole t (record { id = id; made = ByStart })
+pub hole-started : {s t : State} (id : ℕ) → Records s t (started s.draft id) → HasHole t (record { id = id; made = ByStart s.draft.entries })
 hole-started {s} {t} id records goes =
-    subst (λ draft. Contains draft.items (Hole id ByStart)) (sym (records.draft goes)) (Contains-behind (Hole id ByStart) s.draft.items [])
+    subst (λ draft. Contains draft.items (Hole id (ByStart s.draft.entries))) (sym (records.draft goes)) (Contains-behind (Hole id (ByStart s.draft.entries)) s.draft.items [])
 
 -- a completed marker's opening is in the draft
 pub node-completed : {s t : State} (m : Mark) (kind : ℕ) → HasHole s m → Records s t (completed s.draft m.id kind) → HasNode t (record { id = m.id; kind = kind })
@@ -64,10 +64,10 @@ node-put {s} {t} {steps} node there puts goes =
 
 -- the marker's hole is in the draft
 pub hole-preceded : {s t : State} (node : Node) (id : ℕ) → HasNoIdTwice s.draft.items → HasNode s node → Records s t (preceded s.draft node.id id)
-    → HasHole t (record { id = id; made = ByPrecede })
+    → HasHole t (record { id = id; made = ByPrecede s.draft.entries })
 hole-preceded {s} {t} node id once there records goes =
-    let hole = Hole id ByPrecede in
-    let at = preceded-split node.id node.kind id s.draft.items once (there (records.went goes)) in
+    let hole = Hole id (ByPrecede s.draft.entries) in
+    let at = preceded-split node.id node.kind id (ByPrecede s.draft.entries) s.draft.items once (there (records.went goes)) in
     subst (λ draft. Contains draft.items hole) (sym (records.draft goes))
     (subst (λ items. Contains items hole) (sym at.1) (Contains-behind hole at.0.front (Open node.id node.kind false ∷ at.0.back)))
 
@@ -80,16 +80,16 @@ pub record HasOneMore {X : Type 0} (x : X) (old new : List X) : Type 0 where
 
 -- and the other holes stay as they were
 pub holes-preceded : {s t : State} (node : Node) (id : ℕ) → HasNoIdTwice s.draft.items → HasNode s node → Records s t (preceded s.draft node.id id) → Goes t
-    → HasOneMore (Hole id ByPrecede) (holes_of s.draft.items) (holes_of t.draft.items)
+    → HasOneMore (Hole id (ByPrecede s.draft.entries)) (holes_of s.draft.items) (holes_of t.draft.items)
 holes-preceded {s} {t} node id once there records goes =
-    let at = preceded-split node.id node.kind id s.draft.items once (there (records.went goes)) in
+    let at = preceded-split node.id node.kind id (ByPrecede s.draft.entries) s.draft.items once (there (records.went goes)) in
     let xs = at.0.front in
     let ys = at.0.back in
     record {
       front = holes_of xs;
       back = holes_of ys;
       was = ap holes_of at.0.is ∙ filter-append is_hole xs (Open node.id node.kind true ∷ ys);
-      is = ap (λ draft. holes_of draft.items) (records.draft goes) ∙ (ap holes_of at.1 ∙ filter-append is_hole xs (Hole id ByPrecede ∷ Open node.id node.kind false ∷ ys));
+      is = ap (λ draft. holes_of draft.items) (records.draft goes) ∙ (ap holes_of at.1 ∙ filter-append is_hole xs (Hole id (ByPrecede s.draft.entries) ∷ Open node.id node.kind false ∷ ys));
     }
 
 -- where there was no hole, it is the only one

@@ -3,17 +3,17 @@ use Rattle.std.proofs.Common.{◌≡◌, ◌∙◌, ◌<◌, ℕ, Option, Some, 
 use Rattle.std.specs.Prelude.{IsSome, is_some}
 use Rattle.squawk_table.specs.Shape.{AreOneToken}
 use Rattle.squawk_parser.specs.declared.parser.Parser.TheInside.{Inside}
-use Rattle.squawk_parser.specs.Draft.{Draft, IsAboveIds, errors_of}
+use Rattle.squawk_event.specs.Draft.{Draft, errors_of}
 use Rattle.squawk_parser.specs.Words.{words_of}
 use Rattle.squawk_parser.specs.State.{State, Goes, Keeps, Changes, IsSound, ahead}
 use Rattle.squawk_parser.proofs.Soundness.{IsKept, not_failed}
 
 abbrev pub seen : Inside → State
-seen p = record { input = p.input.now; words = words_of (record { operator_first = p.operator_first; names = p.names }); position = p.position; limit = p.limit; draft = p.draft; max_events = p.limits.events; max_errors = p.limits.errors; first = p.first }
+seen p = record { input = p.input.now; words = words_of (record { operator_first = p.operator_first; names = p.names }); position = p.position; limit = p.limit; draft = p.log; max_events = p.limits.events; max_errors = p.limits.errors; first = p.first }
 
 -- the invariant of a parser, as one record
-pub kept : (p : Inside) → IsSound (seen p) × IsAboveIds p.draft.recorded p.draft.items → IsKept (seen p)
-kept p invariant = record { sound = invariant.0; above = invariant.1 }
+pub kept : (p : Inside) → IsSound (seen p) → IsKept (seen p)
+kept p invariant = record { sound = invariant }
 
 -- a parser that goes on and has room, seen as it was before
 pub record HasRoom (s : State) : Type 0 where

@@ -6,9 +6,9 @@ use Rattle.std.proofs.lemmas.List.Elements.{All-nil, All-cons, All-head, All-tai
 use Rattle.std.proofs.lemmas.Grind.{flat_map-append}
 use Rattle.squawk_table.specs.Steps as steps
 use Rattle.squawk_table.specs.Steps.{Step, Enter, Exit, is_error, errors_in, eaten, count_of}
-use Rattle.squawk_parser.specs.Draft as draft
-use Rattle.squawk_parser.specs.Draft.{Item, Made, Hole, Open, Close, Token, Error, HasNoHole, IsAboveIds, errors_of, ids, ids_of, is_hole, plain, steps_of}
-use Rattle.squawk_parser.specs.Edits.{filled}
+use Rattle.squawk_event.specs.Draft as draft
+use Rattle.squawk_event.specs.Draft.{Item, Made, Hole, Open, Close, Token, Error, HasNoHole, IsAboveIds, errors_of, ids, ids_of, is_hole, plain, steps_of}
+use Rattle.squawk_event.specs.Edits.{filled}
 use Rattle.squawk_parser.proofs.Sums.{count_by-cons}
 
 pub plain-append : (xs ys : List Item) → plain (xs ++ ys) ≡ plain xs ++ plain ys

@@ -4,18 +4,27 @@ use Rattle.std.specs.Prelude.{All, IsSome}
 use Rattle.std.proofs.lemmas.List.{append-nil}
 use Rattle.std.proofs.lemmas.List.Elements.{All-nil, All-cons, All-head, All-append, All-weaker, Contains-append_left, Contains-push}
 use Rattle.std.proofs.lemmas.List.Kept.{AllPairs-cons}
+use Rattle.std.proofs.lemmas.List.Sums.{sum_by-append, sum_by-cons}
 use Rattle.squawk_table.specs.Steps as steps
 use Rattle.squawk_table.specs.Steps.{Step, Enter, Exit, is_error, errors_in}
-use Rattle.squawk_parser.specs.Draft.{Draft, Item, Mark, Hole, Open, Close, Token, ByStart, HasNoHole, IsAboveIds, errors_of, ids, is_hole, plain}
+use Rattle.squawk_event.specs.Draft.{Draft, Item, Made, Mark, Hole, Open, Close, Token, ByStart, HasNoHole, IsAboveIds, errors_of, ids, is_hole, plain}
 use Rattle.squawk_parser.specs.Eaten.{node}
-use Rattle.squawk_parser.specs.Edits.{completed, filled, started, with_token}
-use Rattle.squawk_parser.specs.Recorded.{IsPut, IsReason, IsRefusedStep, Puts}
+use Rattle.squawk_event.specs.Edits.{completed, filled, started, with_token}
+use Rattle.squawk_parser.specs.Recorded.{IsPut, IsReason, IsRefusedStep, Puts, turns_due_of, turns_of_step}
 use Rattle.squawk_parser.specs.State.{State, Goes, HasHole, Keeps, Records}
 use Rattle.squawk_parser.specs.declared.parser.parse_error.ParseError.{ParseError}
 use Rattle.squawk_parser.specs.declared.parser.parse_error.ParseError.TheVariants.{OutOfMemory, TooManyEvents}
 use Rattle.squawk_parser.proofs.Pairs.{AllPairs-nil, AllPairs-append}
 use Rattle.squawk_parser.proofs.RecordedItems.{plain-append, ids-append, filled-append, errors-append, steps_errors-append, eaten-append, errors-plain, All-front, filled-below, filled-closed, filled-here}
 use Rattle.squawk_parser.proofs.Splits.{All-back}
+
+-- ---- the turns of steps
+
+pub turns_due_of-append : (xs ys : List Step) → turns_due_of (xs ++ ys) ≡ turns_due_of xs + turns_due_of ys
+turns_due_of-append xs ys = sum_by-append turns_of_step xs ys
+
+turns_due_of-cons : (step : Step) (xs : List Step) → turns_due_of (step ∷ xs) ≡ turns_of_step step + turns_due_of xs
+turns_due_of-cons step xs = sum_by-cons turns_of_step step xs
 
 -- ---- one step after another
 
@@ -98,6 +107,8 @@ put-then {xs} {ys} {a} {b} {c} p q = record {
   above = rw (ids-append p.made q.made) (All-append (λ id. IsAboveIds id a.items) (ids p.made) (ids q.made) p.above (below q.above));
   ascending = rw (ids-append p.made q.made) (AllPairs-append (λ i j. i < j) (ids p.made) (ids q.made) p.ascending q.ascending (behind q.above));
   recorded = omega (arith, p.recorded, q.recorded, length-append xs ys);
+  entries = omega (arith, p.entries, q.entries, length-append xs ys);
+  turns_due = omega (arith, p.turns_due, q.turns_due, turns_due_of-append xs ys);
 }
   where
     parts : (id : ℕ) → IsAboveIds id b.items → All (λ i. i < id) (ids a.items ++ ids p.made)
@@ -128,6 +139,8 @@ puts-none a = record {
     above = All-nil (λ id. IsAboveIds id a.draft.items);
     ascending = AllPairs-nil (λ i j. i < j);
     recorded = omega arith;
+    entries = omega arith;
+    turns_due = omega arith;
   };
   stays = λ failed. refl;
   refused = λ goes reason fails. absurd (let p = sym goes ∙ fails in cc);
@@ -174,6 +187,8 @@ token_puts {a} {b} kind n k r position = record {
     above = All-nil (λ id. IsAboveIds id a.draft.items);
     ascending = AllPairs-nil (λ i j. i < j);
     recorded = ap (λ d. d.recorded) (r.draft goes);
+    entries = ap (λ d. d.entries) (r.draft goes);
+    turns_due = ap (λ d. d.turns_due) (r.draft goes);
   };
   stays = λ failed. r.stays (still k failed);
   refused = refuses-one (steps.Token kind n) refl r;
@@ -182,7 +197,7 @@ token_puts {a} {b} kind n k r position = record {
 -- ---- a node
 
 -- a started marker's hole stays in the draft
-pub hole_stays : {a b c : State} {xs : List Step} (m : Mark) → m.made ≡ ByStart → Records a b (started a.draft m.id) → Puts xs b c → HasHole c m
+pub hole_stays : {a b c : State} {xs : List Step} (m : Mark) → m.made ≡ ByStart a.draft.entries → Records a b (started a.draft m.id) → Puts xs b c → HasHole c m
 hole_stays {a} {b} {c} {xs} m made r p goes =
     let put = p.draft goes in
     let hole : Item = Hole m.id m.made in
@@ -194,44 +209,46 @@ hole_stays {a} {b} {c} {xs} m made r p goes =
 node-counted : {a b : State} (kind id : ℕ) → b.draft ≡ started a.draft id → Counts (Enter kind ∷ []) a b
 node-counted {a} {b} kind id is = record {
   recorded = ap (λ d. d.recorded) is;
-  errors = ap (λ d. errors_of d.items) is ∙ errors-append a.draft.items (Hole id ByStart ∷ []);
+  errors = ap (λ d. errors_of d.items) is ∙ errors-append a.draft.items (Hole id (ByStart a.draft.entries) ∷ []);
 }
 
 -- the items that a node is made of
-node-items : (id kind : ℕ) (old made : List Item) → IsAboveIds id old → HasNoHole made
-    → filled ((old ++ Hole id ByStart ∷ []) ++ made) id kind ++ Close ∷ [] ≡ old ++ Open id kind true ∷ (made ++ Close ∷ [])
-node-items id kind old made above closed =
-    let front : filled (old ++ Hole id ByStart ∷ []) id kind ≡ old ++ Open id kind true ∷ [] =
-    filled-append id kind old (Hole id ByStart ∷ [])
-    ∙ (ap (λ zs. zs ++ filled (Hole id ByStart ∷ []) id kind) (filled-below id kind old above) ∙ ap (λ zs. old ++ zs) (filled-here id kind ByStart)) in
-    let all : filled ((old ++ Hole id ByStart ∷ []) ++ made) id kind ≡ (old ++ Open id kind true ∷ []) ++ made =
-    filled-append id kind (old ++ Hole id ByStart ∷ []) made
+node-items : (id kind : ℕ) (how : Made) (old made : List Item) → IsAboveIds id old → HasNoHole made
+    → filled ((old ++ Hole id how ∷ []) ++ made) id kind ++ Close ∷ [] ≡ old ++ Open id kind true ∷ (made ++ Close ∷ [])
+node-items id kind how old made above closed =
+    let front : filled (old ++ Hole id how ∷ []) id kind ≡ old ++ Open id kind true ∷ [] =
+    filled-append id kind old (Hole id how ∷ [])
+    ∙ (ap (λ zs. zs ++ filled (Hole id how ∷ []) id kind) (filled-below id kind old above) ∙ ap (λ zs. old ++ zs) (filled-here id kind how)) in
+    let all : filled ((old ++ Hole id how ∷ []) ++ made) id kind ≡ (old ++ Open id kind true ∷ []) ++ made =
+    filled-append id kind (old ++ Hole id how ∷ []) made
     ∙ (ap (λ zs. zs ++ filled made id kind) front ∙ ap (λ zs. (old ++ Open id kind true ∷ []) ++ zs) (filled-closed id kind made closed)) in
     ap (λ zs. zs ++ Close ∷ []) all ∙ (append_assoc (old ++ Open id kind true ∷ []) made (Close ∷ []) ∙ append_assoc old (Open id kind true ∷ []) (made ++ Close ∷ []))
 
 node-put : {a b c : Draft} {xs : List Step} (id kind : ℕ) → IsAboveIds id a.items → b ≡ started a id → IsPut xs b c → IsPut (node kind xs) a (completed c id kind)
 node-put {a} {b} {c} {xs} id kind above is put = record {
   made = Open id kind true ∷ (put.made ++ Close ∷ []);
-  items = ap (λ zs. filled zs id kind ++ Close ∷ []) whole ∙ node-items id kind a.items put.made above put.closed;
+  items = ap (λ zs. filled zs id kind ++ Close ∷ []) whole ∙ node-items id kind (ByStart a.entries) a.items put.made above put.closed;
   steps_made = ap (λ zs. Enter kind ∷ zs) (plain-append put.made (Close ∷ []) ∙ ap (λ zs. zs ++ Exit ∷ []) put.steps_made);
   closed = All-cons no_hole (Open id kind true) (put.made ++ Close ∷ []) refl
       (All-append no_hole put.made (Close ∷ []) put.closed (All-cons no_hole Close [] refl (All-nil no_hole)));
   above = All-cons (λ i. IsAboveIds i a.items) id (ids (put.made ++ Close ∷ [])) above (rw same_ids below);
   ascending = AllPairs-cons (λ i j. i < j) id (ids (put.made ++ Close ∷ [])) (rw same_ids behind) (rw same_ids put.ascending);
   recorded = omega (arith, put.recorded, ap (λ d. d.recorded) is, length-append xs (Exit ∷ []));
+  entries = omega (arith, put.entries, ap (λ d. d.entries) is, length-append xs (Exit ∷ []));
+  turns_due = omega (arith, put.turns_due, ap (λ d. d.turns_due) is, turns_due_of-append xs (Exit ∷ []), turns_due_of-cons (Enter kind) (xs ++ Exit ∷ []));
 }
   where
     no_hole : Item → Type 0
     no_hole item = is_hole item ≡ false
 
-    whole : c.items ≡ (a.items ++ Hole id ByStart ∷ []) ++ put.made
+    whole : c.items ≡ (a.items ++ Hole id (ByStart a.entries) ∷ []) ++ put.made
     whole = put.items ∙ ap (λ d. d.items ++ put.made) is
 
     same_ids : ids (put.made ++ Close ∷ []) ≡ ids put.made
     same_ids = ids-append put.made (Close ∷ []) ∙ append-nil (ids put.made)
 
     parts : (i : ℕ) → IsAboveIds i b.items → All (λ j. j < i) (ids a.items ++ id ∷ [])
-    parts i over = rw (ap (λ d. ids d.items) is ∙ ids-append a.items (Hole id ByStart ∷ [])) at over
+    parts i over = rw (ap (λ d. ids d.items) is ∙ ids-append a.items (Hole id (ByStart a.entries) ∷ [])) at over
 
     one_below : (i : ℕ) → IsAboveIds i b.items → IsAboveIds i a.items
     one_below i over = All-front (λ j. j < i) (ids a.items) (id ∷ []) (parts i over)

@@ -4,9 +4,9 @@ use Rattle.std.proofs.lemmas.Bool.{eqb-true}
 use Rattle.squawk_kinds.specs.Kinds.{EOF, ERROR}
 use Rattle.squawk_table.specs.ParserInput.{Entry, kind_in}
 use Rattle.squawk_table.specs.Steps.{Error}
-use Rattle.squawk_parser.specs.Draft.{IsAboveIds}
+use Rattle.squawk_event.specs.Draft.{IsAboveIds}
 use Rattle.squawk_parser.specs.Eaten.{current_as, node, recovery_steps}
-use Rattle.squawk_parser.specs.Edits.{completed, started, with_token}
+use Rattle.squawk_event.specs.Edits.{completed, started, with_token}
 use Rattle.squawk_parser.specs.Recorded.{Puts}
 use Rattle.squawk_parser.specs.State.{State, Goes, Keeps, Records, ahead, kind_at}
 use Rattle.squawk_parser.proofs.RecordedSteps.{Keeps-then, node_puts, puts-none, puts-then, token_puts}

@@ -2,7 +2,7 @@
 use Rattle.std.proofs.Common.{◌≡◌, ◌∙◌, ◌≤◌, ℕ, Option, Some, List, [], ◌∷◌, arith, add-zero, refl, subst}
 use Rattle.std.specs.Prelude.{IsSome}
 use Rattle.squawk_table.specs.Steps.{Error}
-use Rattle.squawk_parser.specs.Draft.{errors_of}
+use Rattle.squawk_event.specs.Draft.{errors_of}
 use Rattle.squawk_parser.specs.Recorded.{IsReason, Puts}
 use Rattle.squawk_parser.specs.State.{State, Goes}
 use Rattle.squawk_parser.specs.declared.parser.parse_error.ParseError.{ParseError}

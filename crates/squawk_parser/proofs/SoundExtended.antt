@@ -3,8 +3,8 @@ use Rattle.std.proofs.Common.{◌≡◌, ◌∙◌, ℕ, ◌+◌, ◌<◌, ◌�
 use Rattle.std.specs.Prelude.{All, Contains, count_by}
 use Rattle.std.proofs.lemmas.List.{append_assoc}
 use Rattle.std.proofs.lemmas.List.Elements.{All-append, All-cons, All-head, All-tail}
-use Rattle.squawk_parser.specs.Draft.{Made, Item, Hole, Open, Node, ids, plain, HasNoIdTwice, IsAboveIds}
-use Rattle.squawk_parser.specs.Edits.{is_hole_of, is_opening_of, replaced, abandoned, without_hole, stands_before, moved, extended, extended_items}
+use Rattle.squawk_event.specs.Draft.{Draft, Made, Item, Hole, Open, Node, ids, plain, HasNoIdTwice, IsAboveIds}
+use Rattle.squawk_event.specs.Edits.{is_hole_of, is_opening_of, replaced, abandoned, without_hole, stands_before, moved, extended, extended_items}
 use Rattle.squawk_parser.specs.State.{State, Goes}
 use Rattle.squawk_parser.proofs.Sums.{count_by-cons}
 use Rattle.squawk_parser.proofs.RecordedItems.{plain-append, ids-append, All-front}
@@ -16,7 +16,6 @@ use Rattle.squawk_parser.proofs.Splits.{split, All-back, count_by-append, count_
 pub record IsTaken (old new : List Item) : Type 0 where
   pub move : IsMoved (plain old) (plain new)
   pub once : HasNoIdTwice new
-  pub above : (n : ℕ) → IsAboveIds n old → IsAboveIds n new
 
 IsTaken-from : (old other new : List Item) → old ≡ other → IsTaken other new → IsTaken old new
 IsTaken-from old other new same taken = subst (λ items. IsTaken items new) (sym same) taken
@@ -50,18 +49,10 @@ module _ (id : ℕ) (made : Made) (xs ys : List Item) where
         count_by-cons p id (ids ys),
       )
 
-  taken-above : (n : ℕ) → IsAboveIds n with_hole → IsAboveIds n (xs ++ ys)
-  taken-above n above =
-      let P = λ (i : ℕ). i < n in
-      let old : All P (ids xs ++ id ∷ ids ys) = subst (All P) (ids-append xs (Hole id made ∷ ys)) above in
-      subst (All P) (sym (ids-append xs ys))
-      (All-append P (ids xs) (ids ys) (All-front P (ids xs) (id ∷ ids ys) old) (All-tail P id (ids ys) (All-back P (ids xs) (id ∷ ids ys) old)))
-
   taken : HasNoIdTwice with_hole → IsTaken with_hole (xs ++ ys)
   taken once = record {
     move = IsMoved-same (plain with_hole) (plain (xs ++ ys)) taken-plain;
     once = taken-once once;
-    above = taken-above;
   }
 
 IsTaken-without_hole : (id : ℕ) (made : Made) (items : List Item) → HasNoIdTwice items → Contains items (Hole id made) → IsTaken items (without_hole id items)
@@ -147,19 +138,6 @@ module _ (node : Node) (id : ℕ) (made : Made) (xs ys zs : List Item) where
         count_by-append p (ids ys) (ids zs),
       )
 
-  moved-above : (n : ℕ) → IsAboveIds n later → IsAboveIds n earlier
-  moved-above n above =
-      let P = λ (i : ℕ). i < n in
-      let old : All P (ids xs ++ id ∷ (ids ys ++ node.id ∷ ids zs)) = subst (All P) ids-later above in
-      let behind : All P (ids ys ++ node.id ∷ ids zs) =
-      All-tail P id (ids ys ++ node.id ∷ ids zs) (All-back P (ids xs) (id ∷ (ids ys ++ node.id ∷ ids zs)) old) in
-      let last : All P (node.id ∷ ids zs) = All-back P (ids ys) (node.id ∷ ids zs) behind in
-      let rest : All P (ids ys ++ ids zs) =
-      All-append P (ids ys) (ids zs) (All-front P (ids ys) (node.id ∷ ids zs) behind) (All-tail P node.id (ids zs) last) in
-      subst (All P) (sym ids-earlier)
-      (All-append P (ids xs) (node.id ∷ (ids ys ++ ids zs)) (All-front P (ids xs) (id ∷ (ids ys ++ node.id ∷ ids zs)) old)
-      (All-cons P node.id (ids ys ++ ids zs) (All-head P node.id (ids zs) last) rest))
-
   plain-later : plain later ≡ plain xs ++ (plain ys ++ plain (opening ∷ zs))
   plain-later = plain-append xs (Hole id made ∷ (ys ++ opening ∷ zs)) ∙ ap (λ is. plain xs ++ is) (plain-append ys (opening ∷ zs))
 
@@ -170,7 +148,7 @@ module _ (node : Node) (id : ℕ) (made : Made) (xs ys zs : List Item) where
   moved-plain = rw (plain-later, plain-earlier) (IsMoved-earlier node.kind (plain xs) (plain ys) (plain zs))
 
   moved-taken : HasNoIdTwice later → IsTaken later earlier
-  moved-taken once = record { move = moved-plain; once = moved-once once; above = moved-above }
+  moved-taken once = record { move = moved-plain; once = moved-once once }
 
 -- the hole stands before the opening
 IsTaken-moved : (node : Node) (id : ℕ) (items : List Item) → HasNoIdTwice items → Contains items (Open node.id node.kind true)
@@ -203,17 +181,15 @@ IsTaken-extended node id made items once hole there = cases (stands_before (is_h
 
 -- ---- parsers
 
-IsKept-taken : (s : State) (items : List Item) → IsKept s → Goes s → IsTaken s.draft.items items
-    → IsKept (record s { draft = record { items = items; recorded = s.draft.recorded } })
-IsKept-taken s items kept goes taken =
-    IsKept-moved s items s.draft.recorded kept goes kept.sound.recorded taken.move taken.once (taken.above s.draft.recorded kept.above)
+IsKept-taken : (s : State) (d : Draft) → IsKept s → Goes s → d.recorded ≡ s.draft.recorded → IsTaken s.draft.items d.items → IsKept (record s { draft = d })
+IsKept-taken s d kept goes same taken = IsKept-moved s d kept goes (omega (arith, same, kept.sound.recorded)) taken.move taken.once
 
 pub IsKept-abandoned : (s : State) (id : ℕ) (made : Made) → IsKept s → Goes s → Contains s.draft.items (Hole id made)
     → IsKept (record s { draft = abandoned s.draft id })
 IsKept-abandoned s id made kept goes there =
-    IsKept-taken s (without_hole id s.draft.items) kept goes (IsTaken-without_hole id made s.draft.items kept.sound.ids there)
+    IsKept-taken s (abandoned s.draft id) kept goes refl (IsTaken-without_hole id made s.draft.items kept.sound.ids there)
 
 pub IsKept-extended : (s : State) (node : Node) (id : ℕ) (made : Made) → IsKept s → Goes s → Contains s.draft.items (Hole id made)
     → Contains s.draft.items (Open node.id node.kind true) → IsKept (record s { draft = extended s.draft node id })
 IsKept-extended s node id made kept goes hole there =
-    IsKept-taken s (extended_items node id s.draft.items) kept goes (IsTaken-extended node id made s.draft.items kept.sound.ids hole there)
+    IsKept-taken s (extended s.draft node id) kept goes refl (IsTaken-extended node id made s.draft.items kept.sound.ids hole there)

@@ -7,14 +7,14 @@ use Rattle.squawk_table.specs.Steps.{Step, Enter, eaten, errors_in}
 use Rattle.squawk_table.specs.ParserInput.{Entry}
 use Rattle.squawk_table.specs.Shape.{IsOver}
 use Rattle.squawk_table.proofs.Over.{IsOver-append, IsOver-front, IsOver-back, eaten-other}
-use Rattle.squawk_parser.specs.Draft.{Item, Hole, Open, ByPrecede, ids, plain, HasNoIdTwice, IsAboveIds}
-use Rattle.squawk_parser.specs.Edits.{is_opening_of, replaced, preceded, preceded_item}
+use Rattle.squawk_event.specs.Draft.{Draft, Item, Made, Hole, Open, ByPrecede, ids, plain, HasNoIdTwice, IsAboveIds}
+use Rattle.squawk_event.specs.Edits.{is_opening_of, replaced, preceded, preceded_item}
 use Rattle.squawk_parser.specs.State.{State, Goes}
 use Rattle.squawk_parser.specs.declared.parser.parse_error.ParseError.TheVariants.{TooManyEvents, TooManyErrors}
 use Rattle.squawk_parser.proofs.Sums.{count_by-cons}
 use Rattle.squawk_parser.proofs.Balance.{depth_after, depth_after-append, depth_after-suc, depth_after-balanced, IsBalanced-depth_after}
 use Rattle.squawk_parser.proofs.RecordedItems.{plain-append, ids-append, eaten-append, steps_errors-append, errors-plain, All-front}
-use Rattle.squawk_parser.proofs.Soundness.{IsKept, HasNoIdTwice-push, more, not_refused}
+use Rattle.squawk_parser.proofs.Soundness.{IsKept, HasNoIdTwice-push, not_refused}
 use Rattle.squawk_parser.proofs.Splits.{Split, split, All-back, count_by-append, count_by-passes, count_by-fails, replaced-at, itself, openings-once}
 
 -- ---- the plain list
@@ -83,41 +83,40 @@ module _ (kind : ℕ) (xs ys zs : List Step) where
   }
 
 -- a parser that goes on, with other items
-pub IsKept-moved : (s : State) (items : List Item) (recorded : ℕ) → IsKept s → Goes s → recorded ≤ s.max_events → IsMoved (plain s.draft.items) (plain items)
-    → HasNoIdTwice items → IsAboveIds recorded items → IsKept (record s { draft = record { items = items; recorded = recorded } })
-IsKept-moved s items recorded kept goes room move once above = record {
+pub IsKept-moved : (s : State) (d : Draft) → IsKept s → Goes s → d.recorded ≤ s.max_events → IsMoved (plain s.draft.items) (plain d.items) → HasNoIdTwice d.items
+    → IsKept (record s { draft = d })
+IsKept-moved s d kept goes room move once = record {
   sound = record {
     position = kept.sound.position;
     limit = kept.sound.limit;
     words = kept.sound.words;
     recorded = room;
-    errors = omega (arith, kept.sound.errors, move.errors, errors-plain items, errors-plain s.draft.items);
+    errors = omega (arith, kept.sound.errors, move.errors, errors-plain d.items, errors-plain s.draft.items);
     refused = λ full. absurd (not_refused s TooManyEvents goes full);
     refused_error = λ full. absurd (not_refused s TooManyErrors goes full);
     ids = once;
-    balanced = IsBalanced-depth_after (plain items) (move.flat (depth_after-balanced (plain s.draft.items) kept.sound.balanced));
+    balanced = IsBalanced-depth_after (plain d.items) (move.flat (depth_after-balanced (plain s.draft.items) kept.sound.balanced));
     over = move.over s.input kept.sound.over;
     behind = rw move.eats kept.sound.behind;
     exact = λ goes. move.eats ∙ kept.sound.exact goes;
   };
-  above = above;
 }
 
 -- ---- a node that is preceded
 
-module _ (node kind id : ℕ) (xs ys : List Item) where
+module _ (node kind id : ℕ) (made : Made) (xs ys : List Item) where
   abbrev whole : List Item
   whole = xs ++ Open node kind true ∷ ys
 
   abbrev pub behind_hole : List Item
-  behind_hole = xs ++ Hole id ByPrecede ∷ Open node kind false ∷ ys
+  behind_hole = xs ++ Hole id made ∷ Open node kind false ∷ ys
 
-  preceded-there : HasNoIdTwice whole → replaced (is_opening_of node) (λ item. Hole id ByPrecede ∷ preceded_item item ∷ []) whole ≡ behind_hole
+  preceded-there : HasNoIdTwice whole → replaced (is_opening_of node) (λ item. Hole id made ∷ preceded_item item ∷ []) whole ≡ behind_hole
   preceded-there once =
       let p = is_opening_of node in
       let total : count_by p xs + (1 + count_by p ys) ≤ 1 =
       omega (arith, openings-once node whole once, count_by-append p xs (Open node kind true ∷ ys), count_by-passes p (Open node kind true) ys (itself node)) in
-      replaced-at p (λ item. Hole id ByPrecede ∷ preceded_item item ∷ []) xs ys (Open node kind true) (itself node) (omega arith) (omega arith)
+      replaced-at p (λ item. Hole id made ∷ preceded_item item ∷ []) xs ys (Open node kind true) (itself node) (omega arith) (omega arith)
 
   preceded-once : HasNoIdTwice whole → IsAboveIds id whole → HasNoIdTwice behind_hole
   preceded-once once above other =
@@ -129,43 +128,37 @@ module _ (node kind id : ℕ) (xs ys : List Item) where
         count_by-append p (ids whole) (id ∷ []),
         count_by-cons p id [],
         ap (count_by p) (ids-append xs (Open node kind true ∷ ys)),
-        ap (count_by p) (ids-append xs (Hole id ByPrecede ∷ Open node kind false ∷ ys)),
+        ap (count_by p) (ids-append xs (Hole id made ∷ Open node kind false ∷ ys)),
         count_by-append p (ids xs) (node ∷ ids ys),
         count_by-append p (ids xs) (id ∷ node ∷ ids ys),
         count_by-cons p id (node ∷ ids ys),
       )
 
-  preceded-above : IsAboveIds id whole → IsAboveIds (id + 1) behind_hole
-  preceded-above above =
-      let P = λ (i : ℕ). i < id + 1 in
-      let old : All P (ids xs ++ node ∷ ids ys) = subst (All P) (ids-append xs (Open node kind true ∷ ys)) (more id (ids whole) above) in
-      subst (All P) (sym (ids-append xs (Hole id ByPrecede ∷ Open node kind false ∷ ys)))
-      (All-append P (ids xs) (id ∷ node ∷ ids ys) (All-front P (ids xs) (node ∷ ids ys) old)
-      (All-cons P id (node ∷ ids ys) (omega arith) (All-back P (ids xs) (node ∷ ids ys) old)))
-
   preceded-plain : plain behind_hole ≡ plain whole
-  preceded-plain = plain-append xs (Hole id ByPrecede ∷ Open node kind false ∷ ys) ∙ sym (plain-append xs (Open node kind true ∷ ys))
+  preceded-plain = plain-append xs (Hole id made ∷ Open node kind false ∷ ys) ∙ sym (plain-append xs (Open node kind true ∷ ys))
 
 -- an opening in the draft, and what the items are when it is preceded
-pub preceded-split : (node kind id : ℕ) (items : List Item) → HasNoIdTwice items → Contains items (Open node kind true)
-    → (at : Split (Open node kind true) items) × (replaced (is_opening_of node) (λ item. Hole id ByPrecede ∷ preceded_item item ∷ []) items ≡ behind_hole node kind id at.front at.back)
-preceded-split node kind id items once there =
+pub preceded-split : (node kind id : ℕ) (made : Made) (items : List Item) → HasNoIdTwice items → Contains items (Open node kind true)
+    → (at : Split (Open node kind true) items)
+    × (replaced (is_opening_of node) (λ item. Hole id made ∷ preceded_item item ∷ []) items ≡ behind_hole node kind id made at.front at.back)
+preceded-split node kind id made items once there =
     let at = split (Open node kind true) items there in
-    let once_there : HasNoIdTwice (whole node kind id at.front at.back) = subst HasNoIdTwice at.is once in
-    let edit = λ (items : List Item). replaced (is_opening_of node) (λ item. Hole id ByPrecede ∷ preceded_item item ∷ []) items in
-    (at, ap edit at.is ∙ preceded-there node kind id at.front at.back once_there)
+    let once_there : HasNoIdTwice (whole node kind id made at.front at.back) = subst HasNoIdTwice at.is once in
+    let edit = λ (items : List Item). replaced (is_opening_of node) (λ item. Hole id made ∷ preceded_item item ∷ []) items in
+    (at, ap edit at.is ∙ preceded-there node kind id made at.front at.back once_there)
 
-pub IsKept-preceded : (s : State) (node kind : ℕ) → IsKept s → Goes s → s.draft.recorded < s.max_events → Contains s.draft.items (Open node kind true)
-    → IsKept (record s { draft = preceded s.draft node s.draft.recorded })
-IsKept-preceded s node kind kept goes room there =
-    let id = s.draft.recorded in
-    let new = preceded-split node kind id s.draft.items kept.sound.ids there in
+pub IsKept-preceded : (s : State) (node kind id : ℕ) → IsKept s → Goes s → s.draft.recorded < s.max_events → Contains s.draft.items (Open node kind true)
+    → IsAboveIds id s.draft.items → IsKept (record s { draft = preceded s.draft node id })
+IsKept-preceded s node kind id kept goes room there above =
+    let made = ByPrecede s.draft.entries in
+    let new = preceded-split node kind id made s.draft.items kept.sound.ids there in
     let at = new.0 in
     let xs = at.front in
     let ys = at.back in
-    let once : HasNoIdTwice (whole node kind id xs ys) = subst HasNoIdTwice at.is kept.sound.ids in
-    let above : IsAboveIds id (whole node kind id xs ys) = subst (IsAboveIds id) at.is kept.above in
-    rw new.1
-    (IsKept-moved s (behind_hole node kind id xs ys) (id + 1) kept goes (omega arith)
-    (IsMoved-same (plain s.draft.items) (plain (behind_hole node kind id xs ys)) (preceded-plain node kind id xs ys ∙ ap plain (sym at.is)))
-    (preceded-once node kind id xs ys once above) (preceded-above node kind id xs ys above))
+    let once : HasNoIdTwice (whole node kind id made xs ys) = subst HasNoIdTwice at.is kept.sound.ids in
+    let above_there : IsAboveIds id (whole node kind id made xs ys) = subst (IsAboveIds id) at.is above in
+    let items : (preceded s.draft node id).items ≡ behind_hole node kind id made xs ys = new.1 in
+    IsKept-moved s (preceded s.draft node id) kept goes (omega arith)
+    (rw items
+    (IsMoved-same (plain s.draft.items) (plain (behind_hole node kind id made xs ys)) (preceded-plain node kind id made xs ys ∙ ap plain (sym at.is))))
+    (rw items (preceded-once node kind id made xs ys once above_there))

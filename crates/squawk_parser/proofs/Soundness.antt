@@ -7,8 +7,8 @@ use Rattle.std.proofs.lemmas.List.Sums.{sum_by-append}
 use Rattle.std.proofs.lemmas.List.Elements.{All-head, All-tail, All-push, All-weaker}
 use Rattle.squawk_table.specs.Steps as steps
 use Rattle.squawk_table.specs.Steps.{Step, eaten, count_of}
-use Rattle.squawk_parser.specs.Draft.{Made, Item, Hole, Close, Token, Error, ByStart, is_error, errors_of, ids, plain, HasNoIdTwice, IsAboveIds}
-use Rattle.squawk_parser.specs.Edits.{started, completed, filled, with_token, with_error}
+use Rattle.squawk_event.specs.Draft.{Made, Item, Hole, Close, Token, Error, ByStart, is_error, errors_of, ids, plain, HasNoIdTwice, IsAboveIds}
+use Rattle.squawk_event.specs.Edits.{started, completed, filled, with_token, with_error}
 use Rattle.squawk_table.specs.Shape.{AreOneToken}
 use Rattle.squawk_table.proofs.Over.{IsOver-token_last, IsOver-exit_last, IsOver-error_last}
 use Rattle.squawk_parser.specs.State.{State, IsSound, Goes, ahead}
@@ -24,10 +24,9 @@ use Rattle.squawk_parser.proofs.OneToken.{AreOneToken-seen, AreOneToken-within}
 errors_of-push : (items : List Item) (item : Item) → errors_of (items ++ item ∷ []) ≡ errors_of items + cond (is_error item) 1 0
 errors_of-push items item = omega (arith, sum_by-append (λ i. cond (is_error i) 1 0) items (item ∷ []))
 
--- what a parser keeps, with its draft's ids below the next one
+-- what a parser keeps
 pub record IsKept (s : State) : Type 0 where
   pub sound : IsSound s
-  pub above : IsAboveIds s.draft.recorded s.draft.items
 
 -- an id that is above all others isn't among them
 unused_cases : (id i : ℕ) (is : List ℕ) (b : Bool) → (i == id) ≡ b → i < id → count_by (λ i. i == id) is ≡ 0 → count_by (λ i. i == id) (i ∷ is) ≡ 0
@@ -54,9 +53,6 @@ HasNoIdTwice-push items id once above other = cases (id == other) refl
     cases false e =
         let sum = total ∙ ap (λ b. count_by (λ i. i == other) (ids items) + cond b 1 0) e in omega (arith, sum, once other)
 
-pub more : (n : ℕ) (is : List ℕ) → All (λ i. i < n) is → All (λ i. i < n + 1) is
-more n is all = All-weaker (λ i. i < n) (λ i. i < n + 1) (λ i lt. omega arith) is all
-
 -- a parser that goes on isn't refused anything
 pub not_refused : (s : State) (reason : ParseError) → Goes s → s.first ≡ Some reason → ⊥
 not_refused s reason goes refused = cc
@@ -65,11 +61,11 @@ pub not_failed : (s : State) → Goes s → IsSome s.first → ⊥
 not_failed s goes failed = cc
 
 -- a hole at the end
-pub IsKept-started : (s : State) → IsKept s → Goes s → s.draft.recorded < s.max_events → IsKept (record s { draft = started s.draft s.draft.recorded })
-IsKept-started s kept goes room =
+pub IsKept-started : (s : State) (id : ℕ) → IsKept s → Goes s → s.draft.recorded < s.max_events → IsAboveIds id s.draft.items
+    → IsKept (record s { draft = started s.draft id })
+IsKept-started s id kept goes room above =
     let items = s.draft.items in
-    let id = s.draft.recorded in
-    let hole : List Item = Hole id ByStart ∷ [] in
+    let hole : List Item = Hole id (ByStart s.draft.entries) ∷ [] in
     let same : plain (items ++ hole) ≡ plain items = plain-append items hole ∙ append-nil (plain items) in
     let numbers : ids (items ++ hole) ≡ ids items ++ id ∷ [] = ids-append items hole in
     record {
@@ -78,16 +74,15 @@ IsKept-started s kept goes room =
         limit = kept.sound.limit;
         words = kept.sound.words;
         recorded = omega arith;
-        errors = omega (arith, kept.sound.errors, errors_of-push items (Hole id ByStart));
+        errors = omega (arith, kept.sound.errors, errors_of-push items (Hole id (ByStart s.draft.entries)));
         refused = λ full. absurd (not_refused s TooManyEvents goes full);
         refused_error = λ full. absurd (not_refused s TooManyErrors goes full);
-        ids = λ other. rw numbers (HasNoIdTwice-push items id kept.sound.ids kept.above other);
+        ids = λ other. rw numbers (HasNoIdTwice-push items id kept.sound.ids above other);
         balanced = rw same kept.sound.balanced;
         over = rw same kept.sound.over;
         behind = rw same kept.sound.behind;
         exact = λ goes. rw same (kept.sound.exact goes);
       };
-      above = rw numbers (All-push (λ i. i < id + 1) (ids items) id (more id (ids items) kept.above) (omega arith));
     }
 
 -- a hole that became an opening, and a closing at the end
@@ -120,7 +115,6 @@ IsKept-completed s id kind made kept goes room there =
         behind = rw (reads, eats) kept.sound.behind;
         exact = λ goes. rw (reads, eats) (kept.sound.exact goes);
       };
-      above = rw numbers (more s.draft.recorded (ids items) kept.above);
     }
 
 -- the tokens of a parser that goes on end at its position
@@ -158,7 +152,6 @@ IsKept-with_token s kind n kept goes room one =
         behind = rw (reads, eats) (omega (arith, kept.sound.behind));
         exact = λ goes. rw (reads, eats) (ap (λ k. k + n) (kept.sound.exact goes));
       };
-      above = rw numbers (more s.draft.recorded (ids items) kept.above);
     }
 
 -- an error at the end
@@ -188,7 +181,6 @@ IsKept-with_error s text kept goes room errors =
         behind = rw (reads, eats) kept.sound.behind;
         exact = λ goes. rw (reads, eats) (kept.sound.exact goes);
       };
-      above = rw numbers (more s.draft.recorded (ids items) kept.above);
     }
 
 -- a parser that fails for want of memory
@@ -208,7 +200,6 @@ IsKept-failed s kept = record {
     behind = kept.sound.behind;
     exact = λ goes. absurd (let other = goes in cc);
   };
-  above = kept.above;
 }
 
 -- a parser that has failed goes past n tokens
@@ -228,5 +219,4 @@ IsKept-past s n kept failed one = record {
     behind = omega (arith, kept.sound.behind);
     exact = λ goes. absurd (not_failed s goes failed);
   };
-  above = kept.above;
 }

@@ -3,9 +3,6 @@ pub mod Operators
 pub mod Composites
 pub mod CompositeRows
 pub mod Words
-pub mod Draft
-pub mod Edits
-pub mod DraftView
 pub mod State
 pub mod Recorded
 pub mod Eaten

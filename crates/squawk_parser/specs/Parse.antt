@@ -1,7 +1,7 @@
 -- What a parse answers.
-use Rattle.std.specs.Prelude.{◌≡◌, ℕ, Some, None, List, ◌⊎◌}
+use Rattle.std.specs.Prelude.{◌≡◌, ℕ, ◌≤◌, ◌*◌, Some, None, List, ◌⊎◌}
 use Rattle.squawk_table.specs.ParserInput.{Entry}
-use Rattle.squawk_parser.specs.Draft.{Draft, HasNoHole, plain}
+use Rattle.squawk_event.specs.Draft.{Draft, HasNoHole, plain}
 use Rattle.squawk_table.specs.Steps.{Walk}
 use Rattle.squawk_table.specs.Shape.{IsBalanced, IsOver}
 use Rattle.squawk_parser.specs.State.{State, IsSound}
@@ -15,7 +15,8 @@ pub record IsParse (leaves : Draft → Type 0) (input : List Entry) (output : Wa
   pub closed : HasNoHole draft.items
   pub steps : output.steps ≡ plain draft.items
   pub recorded : output.recorded ≡ draft.recorded
-  pub turns : output.turns ≡ 0
+  pub turns : output.turns ≡ draft.turns_due
+  pub bound : output.turns ≤ 4 * output.recorded
   pub balanced : IsBalanced output.steps
   pub over : IsOver output.steps input
 

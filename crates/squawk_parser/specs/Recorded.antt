@@ -1,10 +1,17 @@
 -- What acts record that put whole steps at the end of a draft.
-use Rattle.std.specs.Prelude.{◌≡◌, ℕ, ◌+◌, ◌<◌, ◌≤◌, true, Some, List, ◌∷◌, ◌++◌, length, All, AllPairs, IsSome}
-use Rattle.squawk_table.specs.Steps.{Step, is_error, errors_in, eaten}
-use Rattle.squawk_parser.specs.Draft.{Draft, Item, HasNoHole, IsAboveIds, errors_of, ids, plain}
+use Rattle.std.specs.Prelude.{◌≡◌, ℕ, ◌+◌, ◌<◌, ◌≤◌, true, Some, List, ◌∷◌, ◌++◌, length, sum_by, All, AllPairs, IsSome, if◌then◌else◌}
+use Rattle.squawk_table.specs.Steps.{Step, is_enter, is_error, errors_in, eaten}
+use Rattle.squawk_event.specs.Draft.{Draft, Item, HasNoHole, IsAboveIds, errors_of, ids, plain}
 use Rattle.squawk_parser.specs.State.{State, Goes}
 use Rattle.squawk_parser.specs.declared.parser.parse_error.ParseError.{ParseError}
 use Rattle.squawk_parser.specs.declared.parser.parse_error.ParseError.TheVariants.{OutOfMemory, TooManyEvents, TooManyErrors}
+
+-- how many turns a step is due in a pass over its events: one, and two where a node is entered
+abbrev pub turns_of_step : Step → ℕ
+turns_of_step step = if is_enter step then 2 else 1
+
+abbrev pub turns_due_of : List Step → ℕ
+turns_due_of steps = sum_by turns_of_step steps
 
 -- Items for these steps were put at the end: no hole is among them, and each of their ids is above all ids before it, those of the
 -- old draft and those among these items. Each step is one recorded event.
@@ -17,6 +24,8 @@ pub record IsPut (steps : List Step) (old new : Draft) : Type 0 where
   -- and each is above those made before it
   pub ascending : AllPairs (λ i j. i < j) (ids made)
   pub recorded : new.recorded ≡ old.recorded + length steps
+  pub entries : new.entries ≡ old.entries + length steps
+  pub turns_due : new.turns_due ≡ old.turns_due + turns_due_of steps
 
 -- Why a parser that has recorded so many events and errors, both within its limits, is refused a step. The limit of events is tested
 -- first, then that of errors, and memory last.

@@ -1,13 +1,12 @@
 //! The parser that a grammar works with.
-ghost use Rattle.std.specs.Prelude.{◌≡◌, IsOk, IfOk, IfErr};
-ghost use Rattle.squawk_parser.specs.Draft.{plain};
+ghost use Rattle.std.specs.Prelude.{◌≡◌, ◌≤◌, ◌*◌, IsOk, IfOk, IfErr};
+ghost use Rattle.squawk_event.specs.Draft.{plain};
 ghost use Rattle.squawk_parser.specs.Parse.{IsRefusalOf};
 ghost use Rattle.squawk_parser.specs.State.{Goes, IsSound, fresh};
 ghost use Rattle.squawk_parser.specs.Words.{HasNoEnd, words_of};
 
 mod acts;
 mod composite;
-mod draft;
 mod eat;
 pub mod grammar;
 pub mod limits;
@@ -20,12 +19,12 @@ pub mod tails;
 mod view;
 pub mod words;
 
-use crate::parser::draft::Draft;
 pub use grammar::{EntryPoint, Grammar};
 pub use limits::Limits;
 pub use marker::{CompletedMarker, Marker};
 pub use parse_error::ParseError;
 pub use part::Part;
+use squawk_event::EventLog;
 use squawk_kinds::{SyntaxKind, TokenSet};
 use squawk_table::{Input, Output};
 use std::alloc::{AllocError, Global};
@@ -33,7 +32,8 @@ use std::marker::Model;
 pub use tails::has_tail;
 pub use words::Words;
 
-/// A parse that is going on: an input, a position in it, and a draft of what was recorded.
+/// A parse that is going on: an input, a position in it, and a log of what was recorded, which
+/// contracts see as a draft.
 ///
 /// An act that records something can be refused, by want of memory or where a limit of events or
 /// of errors is reached. It doesn't say so. From then on the parser has failed: it keeps its first reason,
@@ -46,22 +46,20 @@ pub struct Parser<'t> {
     alloc: Global,
     position: usize,
     limit: usize,
-    draft: Draft,
+    log: EventLog,
     limits: Limits,
     first: Option<ParseError>,
 }
 
 impl<'t> Model for Parser<'t> {
     ghost use Rattle.squawk_parser.specs.State.{State, IsSound};
-    ghost use Rattle.squawk_parser.specs.Draft.{IsAboveIds};
     ghost use Rattle.squawk_parser.specs.Words.{words_of};
 
     ghost Value = { State };
 
-    ghost view = { λ p. record { input = p.input.now; words = words_of (record { operator_first = p.operator_first; names = p.names }); position = p.position; limit = p.limit; draft = p.draft; max_events = p.limits.events; max_errors = p.limits.errors; first = p.first } };
+    ghost view = { λ p. record { input = p.input.now; words = words_of (record { operator_first = p.operator_first; names = p.names }); position = p.position; limit = p.limit; draft = p.log; max_events = p.limits.events; max_errors = p.limits.errors; first = p.first } };
 
-    ghost invariant = { λ p. IsSound (record { input = p.input.now; words = words_of (record { operator_first = p.operator_first; names = p.names }); position = p.position; limit = p.limit; draft = p.draft; max_events = p.limits.events; max_errors = p.limits.errors; first = p.first })
-        × IsAboveIds p.draft.recorded p.draft.items };
+    ghost invariant = { λ p. IsSound (record { input = p.input.now; words = words_of (record { operator_first = p.operator_first; names = p.names }); position = p.position; limit = p.limit; draft = p.log; max_events = p.limits.events; max_errors = p.limits.errors; first = p.first }) };
 }
 
 impl<'t> Parser<'t> {
@@ -81,7 +79,7 @@ impl<'t> Parser<'t> {
             alloc,
             position: 0,
             limit: input.len(),
-            draft: Draft::new(alloc),
+            log: EventLog::new(alloc),
             limits,
             first: None,
         }
@@ -110,7 +108,8 @@ impl<'t> Parser<'t> {
     fn finish(self, run: Result<(), AllocError>) -> Result<Output, ParseError>
         ensures sound { IsSound self.entry }
         ensures went { IsOk result → Goes self.entry × IsOk run }
-        ensures output { IfOk result (λ o. o ≡ record { steps = plain self.entry.draft.items; recorded = self.entry.draft.recorded; turns = 0 }) }
+        ensures output { IfOk result (λ o. o ≡ record { steps = plain self.entry.draft.items; recorded = self.entry.draft.recorded; turns = self.entry.draft.turns_due }) }
+        ensures bound { IfOk result (λ o. o.turns ≤ 4 * o.recorded) }
         ensures refused { IfErr result (IsRefusalOf self.entry) }
     {
         let Parser {
@@ -120,7 +119,7 @@ impl<'t> Parser<'t> {
             alloc,
             position: _,
             limit: _,
-            draft,
+            log,
             limits: _,
             first,
         } = self;
@@ -128,6 +127,6 @@ impl<'t> Parser<'t> {
             return Err(reason);
         }
         run?;
-        Ok(draft.finish(alloc)?)
+        Ok(log.finish(alloc)?)
     }
 }

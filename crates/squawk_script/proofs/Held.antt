@@ -3,10 +3,10 @@ use Rattle.std.proofs.Common.{◌≡◌, ◌≢◌, ℕ, Bool, true, false, inl,
 use Rattle.std.specs.Prelude.{Contains, slice_set}
 use Rattle.std.proofs.lemmas.Bool.{cases_eq}
 use Rattle.std.proofs.lemmas.List.Elements.{All-contains, Contains-append_left, Contains-append_cases, Contains-push, Contains-push_cases}
-use Rattle.squawk_parser.specs.Draft as draft
-use Rattle.squawk_parser.specs.Draft.{Draft, Item, Mark, Node, ByStart, ByPrecede, HasNoHole, IsAboveIds, is_hole}
-use Rattle.squawk_parser.specs.Edits.{extended_items, filled, is_hole_of, is_opening_of, moved, preceded, preceded_item, replaced, stands_before}
-use Rattle.squawk_parser.specs.Edits.{without_hole}
+use Rattle.squawk_event.specs.Draft as draft
+use Rattle.squawk_event.specs.Draft.{Draft, Item, Mark, Node, ByStart, ByPrecede, HasNoHole, IsAboveIds, is_hole}
+use Rattle.squawk_event.specs.Edits.{extended_items, filled, is_hole_of, is_opening_of, moved, preceded, preceded_item, replaced, stands_before}
+use Rattle.squawk_event.specs.Edits.{without_hole}
 use Rattle.squawk_parser.proofs.Markers.{Contains-others}
 use Rattle.squawk_parser.proofs.Splits.{itself}
 use Rattle.squawk_script.specs.Slots.{Holds, IsHeld, AreInOrder, slot_at}

@@ -3,7 +3,7 @@ use Rattle.std.proofs.Common.{◌≡◌, ◌∙◌, ℕ, zero, suc, ◌+◌, ◌
 use Rattle.std.specs.Prelude.{◌≢◌}
 use Rattle.std.proofs.lemmas.List.{length-map, map-append}
 use Rattle.squawk_table.specs.Steps.{Step, errors_in, is_error}
-use Rattle.squawk_parser.specs.Draft.{Draft}
+use Rattle.squawk_event.specs.Draft.{Draft}
 use Rattle.squawk_parser.specs.Recorded.{IsReason, Puts}
 use Rattle.squawk_parser.specs.State.{State, Changes, Goes, Records}
 use Rattle.squawk_parser.specs.declared.parser.parse_error.ParseError.{ParseError}

@@ -3,8 +3,8 @@ use Rattle.std.proofs.Common.{◌≡◌, ◌∙◌, ℕ, ◌==◌, Bool, true, f
 use Rattle.std.specs.Prelude.{All}
 use Rattle.std.proofs.lemmas.List.{map-append}
 use Rattle.std.proofs.lemmas.List.Elements.{All-head}
-use Rattle.squawk_parser.specs.Draft.{Item, Node, Hole, Open, Close, Token, Error, ByPrecede, ids, ids_of}
-use Rattle.squawk_parser.specs.Edits.{extended_items, filled, is_hole_of, is_opening_of, moved, preceded_item, replaced, stands_before, without_hole}
+use Rattle.squawk_event.specs.Draft.{Item, Node, Hole, Open, Close, Token, Error, ByPrecede, ids, ids_of}
+use Rattle.squawk_event.specs.Edits.{extended_items, filled, is_hole_of, is_opening_of, moved, preceded_item, replaced, stands_before, without_hole}
 use Rattle.squawk_parser.proofs.RecordedItems.{All-front}
 use Rattle.squawk_parser.proofs.Splits.{All-back}
 use Rattle.squawk_script.specs.Slots.{renamed, same_id}

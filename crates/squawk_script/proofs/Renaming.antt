@@ -6,8 +6,8 @@ use Rattle.std.proofs.lemmas.Bool.{ne_eqb}
 use Rattle.std.proofs.lemmas.List.Elements.{All-nil, All-head, All-tail, All-contains, Contains-append_left}
 use Rattle.squawk_table.specs.Steps as steps
 use Rattle.squawk_table.specs.Steps.{Step}
-use Rattle.squawk_parser.specs.Draft.{Draft, Item, Made, Node, Hole, Open, Close, Token, Error, HasNoHole, IsAboveIds, ids, ids_of, is_hole, plain, steps_of}
-use Rattle.squawk_parser.specs.Edits.{extended_items, filled, preceded, without_hole}
+use Rattle.squawk_event.specs.Draft.{Draft, Item, Made, Node, Hole, Open, Close, Token, Error, HasNoHole, IsAboveIds, ids, ids_of, is_hole, plain, steps_of}
+use Rattle.squawk_event.specs.Edits.{extended_items, filled, preceded, without_hole}
 use Rattle.squawk_parser.proofs.RecordedItems.{ids-append}
 use Rattle.squawk_parser.proofs.Splits.{itself}
 use Rattle.squawk_script.specs.Meaning.{new_id, with_step, with_steps}

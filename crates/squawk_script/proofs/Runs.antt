@@ -7,8 +7,8 @@ use Rattle.std.proofs.lemmas.List.Elements.{All-cons, All-nil, Contains-append_r
 use Rattle.std.proofs.lemmas.List.Sums.{fold-append}
 use Rattle.squawk_table.specs.ParserInput.{Entry}
 use Rattle.squawk_table.specs.Steps.{errors_in}
-use Rattle.squawk_parser.specs.Draft as draft
-use Rattle.squawk_parser.specs.Draft.{HasNoHole, Item, Mark, errors_of, is_hole, plain}
+use Rattle.squawk_event.specs.Draft as draft
+use Rattle.squawk_event.specs.Draft.{HasNoHole, Item, Mark, errors_of, is_hole, plain}
 use Rattle.squawk_parser.specs.State.{State, Goes, IsFresh, Keeps}
 use Rattle.squawk_parser.specs.Words.{Words}
 use Rattle.squawk_parser.specs.declared.parser.parse_error.ParseError.{ParseError}

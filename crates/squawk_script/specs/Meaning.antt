@@ -5,10 +5,10 @@ use Rattle.squawk_table.specs.ParserInput.{Entry, kind_in}
 use Rattle.squawk_table.specs.Steps as steps
 use Rattle.squawk_table.specs.Steps.{Step, eaten}
 use Rattle.squawk_parser.specs.Composites.{stands_at}
-use Rattle.squawk_parser.specs.Draft as draft
-use Rattle.squawk_parser.specs.Draft.{Draft, Item, Node, ids, nothing}
+use Rattle.squawk_event.specs.Draft as draft
+use Rattle.squawk_event.specs.Draft.{Draft, Item, Node, ids, nothing}
 use Rattle.squawk_parser.specs.Eaten.{current_as, eat_steps, expect_steps, no_recovery, recovery_steps}
-use Rattle.squawk_parser.specs.Edits.{abandoned, completed, extended, preceded, started}
+use Rattle.squawk_event.specs.Edits.{abandoned, completed, extended, preceded, started}
 use Rattle.squawk_parser.specs.LookAhead.{seen_from}
 use Rattle.squawk_parser.specs.Words.{Words}
 use Rattle.squawk_script.specs.declared.call.Call.{Call}

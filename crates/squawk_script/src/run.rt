@@ -1,6 +1,6 @@
 //! A run of calls.
 ghost use Rattle.std.specs.Prelude.{◌≡◌, ◌≢◌, ◌<◌, IsTrue, OnOk, Some, vec_len, vec_capacity};
-ghost use Rattle.squawk_parser.specs.Draft.{HasNoHole};
+ghost use Rattle.squawk_event.specs.Draft.{HasNoHole};
 ghost use Rattle.squawk_parser.specs.State.{Goes, IsFresh, Keeps};
 ghost use Rattle.squawk_parser.specs.declared.parser.parse_error.ParseError.{ParseError};
 ghost use Rattle.squawk_script.specs.Accepted.{IsAccepted, makes_marker, markers_of};

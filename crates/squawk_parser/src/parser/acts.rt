@@ -4,30 +4,30 @@ ghost use Rattle.std.specs.Str.{chars};
 ghost use Rattle.squawk_kinds.specs.Kinds.{EOF};
 ghost use Rattle.squawk_kinds.specs.TokenSets.{has};
 ghost use Rattle.squawk_table.specs.Steps.{Error};
-ghost use Rattle.squawk_parser.specs.Draft.{ByStart, IsAboveIds};
+ghost use Rattle.squawk_event.specs.Draft.{ByStart, IsAboveIds};
 ghost use Rattle.squawk_parser.specs.Eaten.{recovery_steps, no_recovery};
-ghost use Rattle.squawk_parser.specs.Edits.{started, with_token};
+ghost use Rattle.squawk_event.specs.Edits.{started, with_token};
 ghost use Rattle.squawk_parser.specs.Recorded.{Puts};
 ghost use Rattle.squawk_parser.specs.State.{Goes, Keeps, Records, ahead, kind_at};
 
 use crate::parser::Parser;
-use crate::parser::draft::Made;
 use crate::parser::marker::Marker;
 use crate::parser::parse_error::ParseError;
+use squawk_event::Made;
 use squawk_kinds::{SyntaxKind, TokenSet};
 
 impl Parser<'_> {
     /// Begins a node: all that is recorded until its marker is completed will stand in it.
     pub fn start(&mut self) -> Marker
-        ensures made { result.made ≡ ByStart }
+        ensures made { result.made ≡ ByStart self.old.draft.entries }
         ensures fresh { Goes self.new → IsAboveIds result.id self.old.draft.items }
         ensures keeps { Keeps self.old self.new }
         ensures position { self.new.position ≡ self.old.position }
         ensures records { Records self.old self.new (started self.old.draft result.id) }
     {
-        let id = self.draft.recorded();
+        let id = self.log.next_id();
         if self.has_room() {
-            match self.draft.start(id) {
+            match self.log.start() {
                 Ok(()) => {}
                 Err(_) => self.first = Some(ParseError::OutOfMemory),
             }

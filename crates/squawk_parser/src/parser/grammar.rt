@@ -1,7 +1,7 @@
 //! Grammars, and the parse of an input by one.
 ghost use Rattle.std.specs.Prelude.{◌≡◌, ◌≢◌, ◌≤◌, IfOk, IfErr};
 ghost use Rattle.squawk_table.specs.Steps.{errors_in};
-ghost use Rattle.squawk_parser.specs.Draft.{Draft, HasNoHole, plain};
+ghost use Rattle.squawk_event.specs.Draft.{Draft, HasNoHole, plain};
 ghost use Rattle.squawk_parser.specs.State.{State, IsFresh};
 ghost use Rattle.squawk_parser.specs.Parse.{IsParse, IsRefused};
 ghost use Rattle.squawk_parser.specs.declared.parser.parse_error.ParseError.{ParseError};
@@ -29,7 +29,7 @@ pub enum EntryPoint {
 pub trait Grammar {
     ghost use Rattle.std.specs.Prelude.{List, ◌≡◌, ◌≢◌, OnOk, Some};
     ghost use Rattle.squawk_table.specs.ParserInput.{Entry};
-    ghost use Rattle.squawk_parser.specs.Draft.{Draft, HasNoHole};
+    ghost use Rattle.squawk_event.specs.Draft.{Draft, HasNoHole};
     ghost use Rattle.squawk_parser.specs.State.{Goes, Keeps, IsFresh, limits_of};
     ghost use Rattle.squawk_parser.specs.Words as spec;
     ghost use Rattle.squawk_parser.specs.declared.parser.grammar.EntryPoint.{EntryPoint};

@@ -1,13 +1,13 @@
 //! Markers: nodes that are begun, and nodes that are complete.
 ghost use Rattle.std.specs.Prelude.{◌≡◌, ◌≢◌, ◌<◌, ◌↔◌, IsTrue};
-ghost use Rattle.squawk_parser.specs.Edits.{abandoned, completed, extended, preceded};
+ghost use Rattle.squawk_event.specs.Edits.{abandoned, completed, extended, preceded};
 ghost use Rattle.squawk_kinds.specs.Kinds.{TOMBSTONE};
 ghost use Rattle.squawk_parser.specs.State.{Changes, Goes, HasHole, HasNode, Keeps, Records};
-ghost use Rattle.squawk_parser.specs.Draft.{ByPrecede, IsAboveIds};
+ghost use Rattle.squawk_event.specs.Draft.{ByPrecede, IsAboveIds};
 
 use crate::parser::Parser;
-use crate::parser::draft::Made;
 use crate::parser::parse_error::ParseError;
+use squawk_event::Made;
 use squawk_kinds::SyntaxKind;
 use std::marker::Model;
 
@@ -20,12 +20,12 @@ pub struct Marker {
 }
 
 impl Model for Marker {
-    ghost use Rattle.squawk_parser.specs.Draft.{Mark};
-    ghost use Rattle.squawk_parser.specs.DraftView.{made_of};
+    ghost use Rattle.squawk_event.specs.Draft.{Mark};
+    ghost use Rattle.squawk_event.specs.LogDraft.{made_of};
 
     ghost Value = { Mark };
 
-    ghost view = { λ m. record { id = m.id; made = made_of m.made } };
+    ghost view = { λ m. record { id = m.id; made = made_of m.made m.id } };
 }
 
 /// A node that has its kind and its end.
@@ -36,7 +36,7 @@ pub struct CompletedMarker {
 }
 
 impl Model for CompletedMarker {
-    ghost use Rattle.squawk_parser.specs.Draft.{Node};
+    ghost use Rattle.squawk_event.specs.Draft.{Node};
 
     ghost Value = { Node };
 
@@ -59,7 +59,7 @@ impl Marker {
     {
         let Marker { id, made: _ } = self;
         if p.has_room() {
-            match p.draft.complete(id, kind) {
+            match p.log.complete(id, kind) {
                 Ok(()) => {}
                 Err(_) => p.first = Some(ParseError::OutOfMemory),
             }
@@ -75,9 +75,9 @@ impl Marker {
         requires { HasHole p.old self }
         ensures { Changes p.old p.new (abandoned p.old.draft self.id) }
     {
-        let Marker { id, made: _ } = self;
+        let Marker { id, made } = self;
         if p.first.is_none() {
-            p.draft.abandon(id);
+            p.log.abandon(id, made);
         }
     }
 
@@ -97,16 +97,16 @@ impl CompletedMarker {
     /// the parser has failed.
     pub fn precede(self, p: &mut Parser<'_>) -> Marker
         requires { HasNode p.old self }
-        ensures made { result.made ≡ ByPrecede }
+        ensures made { result.made ≡ ByPrecede p.old.draft.entries }
         ensures fresh { Goes p.new → IsAboveIds result.id p.old.draft.items }
         ensures keeps { Keeps p.old p.new }
         ensures position { p.new.position ≡ p.old.position }
         ensures records { Records p.old p.new (preceded p.old.draft self.id result.id) }
     {
-        let CompletedMarker { id: node, kind: _ } = self;
-        let id = p.draft.recorded();
+        let CompletedMarker { id: node, kind } = self;
+        let id = p.log.next_id();
         if p.has_room() {
-            match p.draft.precede(node, id) {
+            match p.log.precede(node, kind) {
                 Ok(()) => {}
                 Err(_) => p.first = Some(ParseError::OutOfMemory),
             }
@@ -130,7 +130,7 @@ impl CompletedMarker {
         let CompletedMarker { id: node, kind } = self;
         let Marker { id, made: _ } = m;
         if p.first.is_none() {
-            p.draft.extend(node, kind, id);
+            p.log.extend(node, kind, id);
         }
         CompletedMarker { id: node, kind }
     }

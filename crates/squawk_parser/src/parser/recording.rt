@@ -3,8 +3,8 @@ ghost use Rattle.std.specs.Prelude.{◌≡◌, ◌+◌, ◌<◌, ◌∷◌, [], 
 ghost use Rattle.std.specs.Str.{chars};
 ghost use Rattle.squawk_table.specs.Shape.{AreOneToken};
 ghost use Rattle.squawk_table.specs.Steps.{Error};
-ghost use Rattle.squawk_parser.specs.Draft.{errors_of};
-ghost use Rattle.squawk_parser.specs.Edits.{with_token};
+ghost use Rattle.squawk_event.specs.Draft.{errors_of};
+ghost use Rattle.squawk_event.specs.Edits.{with_token};
 ghost use Rattle.squawk_parser.specs.Recorded.{Puts};
 ghost use Rattle.squawk_parser.specs.State.{Goes, Keeps, Records, ahead};
 ghost use Rattle.squawk_parser.specs.declared.parser.parse_error.ParseError.TheVariants.{TooManyEvents};
@@ -24,7 +24,7 @@ impl Parser<'_> {
         ensures records { Records self.old self.new (with_token self.old.draft kind n_input_tokens) }
     {
         if self.has_room() {
-            match self.draft.token(kind, n_input_tokens) {
+            match self.log.token(kind, n_input_tokens) {
                 Ok(()) => {}
                 Err(_) => self.first = Some(ParseError::OutOfMemory),
             }
@@ -44,7 +44,7 @@ impl Parser<'_> {
             self.first = Some(ParseError::OutOfMemory);
             return;
         };
-        match self.draft.error(Text::new(text)) {
+        match self.log.error(Text::new(text)) {
             Ok(()) => {}
             Err(_) => self.first = Some(ParseError::OutOfMemory),
         }
@@ -62,7 +62,7 @@ impl Parser<'_> {
         if self.first.is_some() {
             return false;
         }
-        if self.draft.recorded() == self.limits.events {
+        if self.log.recorded() == self.limits.events {
             self.first = Some(ParseError::TooManyEvents);
             return false;
         }
@@ -78,7 +78,7 @@ impl Parser<'_> {
         if !self.has_room() {
             return false;
         }
-        if self.draft.errors() == self.limits.errors {
+        if self.log.errors() == self.limits.errors {
             self.first = Some(ParseError::TooManyErrors);
             return false;
         }

@@ -16,7 +16,7 @@ loop-preserved c =
     let seen = c.view.ensures ∙ sym (ahead-still c.start-node.ensures.keeps c.start-node.ensures.position) in
     let len : c.operator_len-len.result ≡ operator_length operator_kind (ahead c.start-node.new.self 0) =
     c.operator_len-len.ensures ∙ ap (operator_length operator_kind) seen in
-    are_eaten-next operator_kind l.counter c.start-node.new.self l.self c.bump_any.new.self c.self.invariant.0.words (omega (arith, len, c.loop-test.true)) l.invariant
+    are_eaten-next operator_kind l.counter c.start-node.new.self l.self c.bump_any.new.self c.self.invariant.words (omega (arith, len, c.loop-test.true)) l.invariant
     bump.keeps bump.position bump.records
 
 pub complete-requires-clause-hole : goal.complete-requires-clause-hole

@@ -15,12 +15,12 @@ invariant_of-self-in-Ok-error c =
     let can = has_room s old c.self.view_is (c.requires.goes, c.requires.room) in
     let errors = errors_room s old c.self.view_is c.requires.errors in
     let after = IsKept-with_error s c.new.result (kept c.self.inside c.self.invariant) can.goes can.room errors in
-    rw c.in-Ok-error.ensures.ok (after.sound, after.above)
+    rw c.in-Ok-error.ensures.ok after.sound
 
 pub invariant_of-self-in-Err : goal.invariant_of-self-in-Err
 invariant_of-self-in-Err c =
     let after = IsKept-failed (seen c.self.inside) (kept c.self.inside c.self.invariant) in
-    rw c.in-Err.ensures.err (after.sound, after.above)
+    rw c.in-Err.ensures.err after.sound
 
 pub returns-in-Err-clause-puts : goal.returns-in-Err-clause-puts
 returns-in-Err-clause-puts c =

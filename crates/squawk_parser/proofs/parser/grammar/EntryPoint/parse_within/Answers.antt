@@ -1,14 +1,14 @@
 use Rattle.std.proofs.Common.{◌≡◌, ◌∙◌, ◌≤◌, ap, sym, subst, arith}
 use Rattle.std.proofs.lemmas.Result.{IfOk-weaker}
 use Rattle.squawk_table.specs.Steps.{Walk, errors_in}
-use Rattle.squawk_parser.specs.Draft.{plain}
+use Rattle.squawk_event.specs.Draft.{plain}
 use Rattle.squawk_parser.specs.State.{State, Keeps, IsSound}
 use Rattle.squawk_parser.proofs.RecordedItems.{errors-plain}
 use Rattle.squawk_parser.proofs.parser.grammar.EntryPoint.parse_within.Goals as goal
 use Rattle.squawk_parser.proofs.parser.grammar.EntryPoint.parse_within.Goals.{in-SourceFile, in-Plpgsql}
 
 output_of : State → Walk
-output_of s = record { steps = plain s.draft.items; recorded = s.draft.recorded; turns = 0 }
+output_of s = record { steps = plain s.draft.items; recorded = s.draft.recorded; turns = s.draft.turns_due }
 
 -- what a sound parser leaves is within its limits
 within : (s : State) (o : Walk) → IsSound s → o ≡ output_of s → (o.recorded ≤ s.max_events) × (errors_in o.steps ≤ s.max_errors)

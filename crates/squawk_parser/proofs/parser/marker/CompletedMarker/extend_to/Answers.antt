@@ -1,8 +1,8 @@
 use Rattle.std.proofs.Common.{◌≡◌, ◌∙◌, ap, sym, subst}
 use Rattle.std.specs.Prelude.{true, Contains}
-use Rattle.squawk_parser.specs.Draft.{Hole, Open, Mark, Node}
-use Rattle.squawk_parser.specs.DraftView.{made_of}
-use Rattle.squawk_parser.specs.Edits.{extended}
+use Rattle.squawk_event.specs.Draft.{Hole, Open, Mark, Node}
+use Rattle.squawk_event.specs.LogDraft.{made_of}
+use Rattle.squawk_event.specs.Edits.{extended}
 use Rattle.squawk_parser.specs.State.{State, Goes}
 use Rattle.squawk_parser.proofs.SoundExtended.{IsKept-extended}
 use Rattle.squawk_parser.proofs.ParserViews.{seen, kept, goes_on, Changes-edited, Changes-failed}
@@ -15,7 +15,7 @@ invariant_of-p c =
     let goes : Goes s = goes_on s (c.if-is_none.ensures) in
     let went : Goes c.args.p.now = subst Goes c.p.view_is goes in
     let node : Node = record { id = c.self.inside.id; kind = c.self.inside.kind } in
-    let m : Mark = record { id = c.m.inside.id; made = made_of c.m.inside.made } in
+    let m : Mark = record { id = c.m.inside.id; made = made_of c.m.inside.made c.m.inside.id } in
     let HasNode : State → Node → Type 0 = λ t m. Contains t.draft.items (Open m.id m.kind true) in
     let HasHole : State → Mark → Type 0 = λ t m. Contains t.draft.items (Hole m.id m.made) in
     let there = subst (λ t. HasNode t node) (sym c.p.view_is)
@@ -23,7 +23,7 @@ invariant_of-p c =
     let hole = subst (λ t. HasHole t m) (sym c.p.view_is)
     (subst (HasHole c.args.p.now) (sym c.m.view_is) (c.requires.hole went)) in
     let after = IsKept-extended s node m.id m.made (kept c.p.inside c.p.invariant) goes hole there in
-    rw c.extend.ensures (after.sound, after.above)
+    rw c.extend.ensures after.sound
 
 pub returns-clause-changes : goal.returns-clause-changes
 returns-clause-changes c =

@@ -1,7 +1,7 @@
 use Rattle.std.proofs.Common.{◌≡◌, ◌∙◌, ℕ, sym, refl, subst}
 use Rattle.std.specs.Prelude.{Contains}
-use Rattle.squawk_parser.specs.Draft.{Hole, Made}
-use Rattle.squawk_parser.specs.DraftView.{made_of}
+use Rattle.squawk_event.specs.Draft.{Hole, Made}
+use Rattle.squawk_event.specs.LogDraft.{made_of}
 use Rattle.squawk_parser.specs.State.{State}
 use Rattle.squawk_parser.proofs.Soundness.{IsKept-completed, IsKept-failed}
 use Rattle.squawk_parser.proofs.ParserViews.{seen, kept, has_room}
@@ -14,14 +14,14 @@ invariant_of-p c =
     let same : s ≡ c.args.p.now = c.p.view_is ∙ room.0 in
     let can = has_room s c.args.p.now same (room.1, room.2) in
     let Has : State → ℕ → Made → Type 0 = λ t id made. Contains t.draft.items (Hole id made) in
-    let made = made_of c.self.inside.made in
+    let made = made_of c.self.inside.made c.self.inside.id in
     let there : Contains s.draft.items (Hole c.self.inside.id made) =
     subst (λ t. Has t c.self.inside.id made) (sym same)
     (subst (λ m. Has c.args.p.now m.id m.made) (sym c.self.view_is) (c.requires.hole room.1)) in
     let after = IsKept-completed s c.self.inside.id c.args.kind made (kept c.p.inside c.p.invariant) can.goes can.room there in
-    rw c.in-Ok.ensures.ok (after.sound, after.above)
+    rw c.in-Ok.ensures.ok after.sound
 
 pub invariant_of-p-in-Err : goal.invariant_of-p-in-Err
 invariant_of-p-in-Err c =
     let after = IsKept-failed (seen c.p.inside) (kept c.p.inside c.p.invariant) in
-    rw c.in-Err.ensures.err (after.sound, after.above)
+    rw c.in-Err.ensures.err after.sound
