@@ -23,7 +23,7 @@ use Rattle.squawk_parser.proofs.Splits.{All-back}
 pub turns_due_of-append : (xs ys : List Step) → turns_due_of (xs ++ ys) ≡ turns_due_of xs + turns_due_of ys
 turns_due_of-append xs ys = sum_by-append turns_of_step xs ys
 
-turns_due_of-cons : (step : Step) (xs : List Step) → turns_due_of (step ∷ xs) ≡ turns_of_step step + turns_due_of xs
+pub turns_due_of-cons : (step : Step) (xs : List Step) → turns_due_of (step ∷ xs) ≡ turns_of_step step + turns_due_of xs
 turns_due_of-cons step xs = sum_by-cons turns_of_step step xs
 
 -- ---- one step after another

@@ -7,7 +7,7 @@ use Rattle.squawk_table.specs.ParserInput.{Entry}
 use Rattle.squawk_table.specs.Steps as steps
 use Rattle.squawk_table.specs.Steps.{Step, errors_in, is_error}
 use Rattle.squawk_event.specs.Draft as draft
-use Rattle.squawk_event.specs.Draft.{ByStart, Draft, Item, errors_of}
+use Rattle.squawk_event.specs.Draft.{ByPrecede, ByStart, Draft, Item, errors_of}
 use Rattle.squawk_parser.specs.Words.{Words}
 use Rattle.squawk_event.proofs.EditedErrors.{errors-extended, errors-preceded, errors-without_hole}
 use Rattle.squawk_parser.proofs.Filled.{errors-filled}
@@ -15,7 +15,7 @@ use Rattle.squawk_parser.proofs.RecordedItems.{errors-append}
 use Rattle.squawk_parser.proofs.Sums.{count_by-cons}
 use Rattle.squawk_event.specs.Edits.{filled}
 use Rattle.squawk_script.specs.Events.{errors_among, events_from, events_made, events_of}
-use Rattle.squawk_script.specs.Meaning.{Run, begin, call_steps, item_for, marker_at, new_id, run_of, seen, stepped, with_steps}
+use Rattle.squawk_script.specs.Meaning.{Run, begin, call_steps, item_for, marker_at, new_id, run_of, seen, stepped, with_step, with_steps}
 use Rattle.squawk_script.specs.declared.call.Call.{Call}
 use Rattle.squawk_script.specs.declared.call.Call.TheVariants.{Start, Complete, Abandon, Precede, ExtendTo, Eat, BumpAny, BumpRemap, Expect, Error, ErrRecover, ErrAndBump}
 
@@ -54,13 +54,13 @@ errors-steps : (d : Draft) (xs : List Step) → errors_of (with_steps d xs).item
 errors-steps d [] = omega arith
 errors-steps d (x ∷ xs) =
     let item : Item = item_for (new_id d) x in
-    let next : Draft = record { items = d.items ++ item ∷ []; recorded = d.recorded + 1 } in
+    let next : Draft = with_step d x in
     omega (arith, errors-steps next xs, errors-append d.items (item ∷ []), errors-item (new_id d) x, count_by-cons is_error x xs, count_by-cons is_error x [])
 
 recorded-steps : (d : Draft) (xs : List Step) → (with_steps d xs).recorded ≡ d.recorded + length xs
 recorded-steps d [] = omega arith
 recorded-steps d (x ∷ xs) =
-    let next : Draft = record { items = d.items ++ item_for (new_id d) x ∷ []; recorded = d.recorded + 1 } in
+    let next : Draft = with_step d x in
     omega (arith, recorded-steps next xs)
 
 more-steps : (d : Draft) (xs : List Step) → HasMore d (with_steps d xs) (map is_error xs)
@@ -76,12 +76,12 @@ module _ (words : Words) (input : List Entry) (run : Run) where
   IsCounted call = HasMore run.draft (stepped words input run call).draft (events_made words (seen input run) call)
 
   more-call : (call : Call) → IsCounted call
-  more-call Start = record { recorded = refl; errors = errors-append run.draft.items (draft.Hole (new_id run.draft) ByStart ∷ []) }
+  more-call Start = record { recorded = refl; errors = errors-append run.draft.items (draft.Hole (new_id run.draft) (ByStart run.draft.entries) ∷ []) }
   more-call (Complete m kind) =
       let id = (marker_at run m).id in
       record { recorded = refl; errors = errors-append (filled run.draft.items id kind) (draft.Close ∷ []) ∙ ap (λ n. n + 0) (errors-filled id kind run.draft.items) }
   more-call (Abandon m) = record { recorded = omega arith; errors = omega (arith, errors-without_hole (marker_at run m).id run.draft.items) }
-  more-call (Precede n) = record { recorded = refl; errors = omega (arith, errors-preceded (marker_at run n).id (new_id run.draft) run.draft.items) }
+  more-call (Precede n) = record { recorded = refl; errors = omega (arith, errors-preceded (marker_at run n).id (new_id run.draft) (ByPrecede run.draft.entries) run.draft.items) }
   more-call (ExtendTo n m) = record { recorded = omega arith; errors = omega (arith, errors-extended (marker_at run n) (marker_at run m).id run.draft.items) }
   more-call (Eat kind) = more-steps run.draft (call_steps words (seen input run) (Eat kind))
   more-call BumpAny = more-steps run.draft (call_steps words (seen input run) BumpAny)

@@ -20,17 +20,18 @@ word = record { kind = IDENT; contextual_kind = IDENT; touches = false }
 abbrev left : List Entry → List Call → Run
 left input calls = run_of no_words input calls
 
-abbrev leaves : List Entry → List Call → List Step → ℕ → ℕ → Type 0
-leaves input calls steps recorded position =
-    (plain (left input calls).draft.items ≡ steps) × ((left input calls).draft.recorded ≡ recorded) × ((left input calls).position ≡ position)
+abbrev leaves : List Entry → List Call → List Step → ℕ → ℕ → ℕ → Type 0
+leaves input calls steps recorded turns position =
+    (plain (left input calls).draft.items ≡ steps) × ((left input calls).draft.recorded ≡ recorded) × ((left input calls).draft.turns_due ≡ turns)
+    × ((left input calls).position ≡ position)
 
 -- ---- markers that move
 
 -- the chain of two that precede
 preceded_twice : leaves (word ∷ [])
     (Start ∷ BumpAny ∷ Complete 0 701 ∷ Precede 0 ∷ Complete 1 702 ∷ Precede 1 ∷ Complete 2 707 ∷ [])
-    (Enter 707 ∷ Enter 702 ∷ Enter 701 ∷ Token 3 1 ∷ Exit ∷ Exit ∷ Exit ∷ []) 7 1
-preceded_twice = (refl, refl, refl)
+    (Enter 707 ∷ Enter 702 ∷ Enter 701 ∷ Token 3 1 ∷ Exit ∷ Exit ∷ Exit ∷ []) 7 14 1
+preceded_twice = (refl, refl, refl, refl)
 
 -- a node is extended past one marker to another
 abbrev three_markers : List Call → List Call
@@ -39,45 +40,45 @@ three_markers rest = Start ∷ Start ∷ BumpAny ∷ Start ∷ BumpAny ∷ Start
 abbrev extended_steps : List Step
 extended_steps = Enter 700 ∷ Enter 705 ∷ Token 3 1 ∷ Token 3 1 ∷ Token 3 1 ∷ Exit ∷ Exit ∷ []
 
-extended_to_the_nearer_first : leaves (word ∷ word ∷ word ∷ []) (three_markers (ExtendTo 3 2 ∷ ExtendTo 3 1 ∷ Complete 0 700 ∷ [])) extended_steps 9 3
-extended_to_the_nearer_first = (refl, refl, refl)
+extended_to_the_nearer_first : leaves (word ∷ word ∷ word ∷ []) (three_markers (ExtendTo 3 2 ∷ ExtendTo 3 1 ∷ Complete 0 700 ∷ [])) extended_steps 9 17 3
+extended_to_the_nearer_first = (refl, refl, refl, refl)
 
-extended_to_the_farther_first : leaves (word ∷ word ∷ word ∷ []) (three_markers (ExtendTo 3 1 ∷ ExtendTo 3 2 ∷ Complete 0 700 ∷ [])) extended_steps 9 3
-extended_to_the_farther_first = (refl, refl, refl)
+extended_to_the_farther_first : leaves (word ∷ word ∷ word ∷ []) (three_markers (ExtendTo 3 1 ∷ ExtendTo 3 2 ∷ Complete 0 700 ∷ [])) extended_steps 9 17 3
+extended_to_the_farther_first = (refl, refl, refl, refl)
 
 -- a marker in front of a node is given up
 given_up : leaves (word ∷ word ∷ [])
     (Start ∷ Start ∷ BumpAny ∷ Complete 1 701 ∷ Precede 1 ∷ Abandon 2 ∷ Start ∷ BumpAny ∷ Complete 3 702 ∷ Complete 0 700 ∷ [])
-    (Enter 700 ∷ Enter 701 ∷ Token 3 1 ∷ Exit ∷ Enter 702 ∷ Token 3 1 ∷ Exit ∷ Exit ∷ []) 9 2
-given_up = (refl, refl, refl)
+    (Enter 700 ∷ Enter 701 ∷ Token 3 1 ∷ Exit ∷ Enter 702 ∷ Token 3 1 ∷ Exit ∷ Exit ∷ []) 9 15 2
+given_up = (refl, refl, refl, refl)
 
 -- a preceding node begins before a marker that is older: it stays
 extended_in_vain : leaves (word ∷ [])
     (Start ∷ Start ∷ Start ∷ BumpAny ∷ Complete 1 705 ∷ Precede 1 ∷ Complete 3 701 ∷ ExtendTo 3 2 ∷ Complete 0 700 ∷ [])
-    (Enter 700 ∷ Enter 701 ∷ Enter 705 ∷ Token 3 1 ∷ Exit ∷ Exit ∷ Exit ∷ []) 8 1
-extended_in_vain = (refl, refl, refl)
+    (Enter 700 ∷ Enter 701 ∷ Enter 705 ∷ Token 3 1 ∷ Exit ∷ Exit ∷ Exit ∷ []) 8 16 1
+extended_in_vain = (refl, refl, refl, refl)
 
 -- an id is used again where the marker that had it is gone
-begun_again : leaves (word ∷ []) (Start ∷ Abandon 0 ∷ Start ∷ BumpAny ∷ Complete 1 700 ∷ []) (Enter 700 ∷ Token 3 1 ∷ Exit ∷ []) 4 1
-begun_again = (refl, refl, refl)
+begun_again : leaves (word ∷ []) (Start ∷ Abandon 0 ∷ Start ∷ BumpAny ∷ Complete 1 700 ∷ []) (Enter 700 ∷ Token 3 1 ∷ Exit ∷ []) 4 4 1
+begun_again = (refl, refl, refl, refl)
 
 -- ---- calls that name no marker
 
-nothing_is_eaten_at_the_end : leaves (word ∷ []) (BumpAny ∷ BumpAny ∷ BumpRemap 5 ∷ []) (Token 3 1 ∷ []) 1 1
-nothing_is_eaten_at_the_end = (refl, refl, refl)
+nothing_is_eaten_at_the_end : leaves (word ∷ []) (BumpAny ∷ BumpAny ∷ BumpRemap 5 ∷ []) (Token 3 1 ∷ []) 1 1 1
+nothing_is_eaten_at_the_end = (refl, refl, refl, refl)
 
 -- two signs that touch are one token, and where they don't stand nothing is eaten
 abbrev colon_eq : List Entry
 colon_eq = record { kind = COLON; contextual_kind = EOF; touches = true } ∷ record { kind = EQ; contextual_kind = EOF; touches = false } ∷ word ∷ []
 
-pair_is_eaten : leaves colon_eq (Eat COLON_EQ ∷ Eat COLON_EQ ∷ BumpAny ∷ []) (Token COLON_EQ 2 ∷ Token 3 1 ∷ []) 2 3
+pair_is_eaten : leaves colon_eq (Eat COLON_EQ ∷ Eat COLON_EQ ∷ BumpAny ∷ []) (Token COLON_EQ 2 ∷ Token 3 1 ∷ []) 2 2 3
 unfolding sets.has
-pair_is_eaten = (refl, refl, refl)
+pair_is_eaten = (refl, refl, refl, refl)
 
 skipped_token : leaves (word ∷ []) (ErrAndBump (101 ∷ []) ∷ ErrRecover (102 ∷ []) no_kinds ∷ Error (103 ∷ []) ∷ [])
-    (Enter ERROR ∷ steps.Error (101 ∷ []) ∷ Token 3 1 ∷ Exit ∷ Enter ERROR ∷ steps.Error (102 ∷ []) ∷ Exit ∷ steps.Error (103 ∷ []) ∷ []) 8 1
+    (Enter ERROR ∷ steps.Error (101 ∷ []) ∷ Token 3 1 ∷ Exit ∷ Enter ERROR ∷ steps.Error (102 ∷ []) ∷ Exit ∷ steps.Error (103 ∷ []) ∷ []) 8 10 1
 unfolding sets.has
-skipped_token = (refl, refl, refl)
+skipped_token = (refl, refl, refl, refl)
 
 -- ---- calls that may follow others
 

@@ -4,7 +4,7 @@ use Rattle.std.specs.Prelude.{Contains, slice_set}
 use Rattle.std.proofs.lemmas.Bool.{cases_eq}
 use Rattle.std.proofs.lemmas.List.Elements.{All-contains, Contains-append_left, Contains-append_cases, Contains-push, Contains-push_cases}
 use Rattle.squawk_event.specs.Draft as draft
-use Rattle.squawk_event.specs.Draft.{Draft, Item, Mark, Node, ByStart, ByPrecede, HasNoHole, IsAboveIds, is_hole}
+use Rattle.squawk_event.specs.Draft.{Draft, Item, Made, Mark, Node, ByPrecede, HasNoHole, IsAboveIds, is_hole}
 use Rattle.squawk_event.specs.Edits.{extended_items, filled, is_hole_of, is_opening_of, moved, preceded, preceded_item, replaced, stands_before}
 use Rattle.squawk_event.specs.Edits.{without_hole}
 use Rattle.squawk_parser.proofs.Markers.{Contains-others}
@@ -70,9 +70,9 @@ holds-put items made slots closed holds = record {
 }
 
 -- a marker is started
-pub holds-started : (items : List Item) (slots : List Slot) (m : Mark) → m.made ≡ ByStart → IsAboveIds m.id items → Holds items slots
-    → Holds (items ++ draft.Hole m.id ByStart ∷ []) (slots ++ Open m ∷ [])
-holds-started items slots m made above holds = record {
+pub holds-started : (items : List Item) (slots : List Slot) (m : Mark) (how : Made) → m.made ≡ how → IsAboveIds m.id items → Holds items slots
+    → Holds (items ++ draft.Hole m.id how ∷ []) (slots ++ Open m ∷ [])
+holds-started items slots m how made above holds = record {
   each =
       each-push Spent (IsHeld (items ++ hole ∷ [])) slots (Open m) (λ i. held-append items (hole ∷ []) (slot_at slots i) (holds.each i))
       (rw made (Contains-push items hole)) tt;
@@ -84,7 +84,7 @@ holds-started items slots m made above holds = record {
 }
   where
     hole : Item
-    hole = draft.Hole m.id ByStart
+    hole = draft.Hole m.id how
 
 -- completed
 pub holds-completed : (items : List Item) (slots : List Slot) (k kind : ℕ) (m : Mark) → slot_at slots k ≡ Open m → Holds items slots
@@ -121,7 +121,7 @@ holds-abandoned items slots k m at holds =
     (λ o there. hole-stayed m.id (λ item. []) items o (λ item has. absurd (omega (arith, has.1))) there)
 
 -- a node is preceded
-pub holds-preceded : (d : Draft) (slots : List Slot) (k : ℕ) (n : Node) (m : Mark) → slot_at slots k ≡ Done n → m.made ≡ ByPrecede
+pub holds-preceded : (d : Draft) (slots : List Slot) (k : ℕ) (n : Node) (m : Mark) → slot_at slots k ≡ Done n → m.made ≡ ByPrecede d.entries
     → IsAboveIds m.id d.items → Holds d.items slots → Holds (preceded d n.id m.id).items (slice_set slots k Spent ++ Open m ∷ [])
 holds-preceded d slots k n m at made above holds = record {
   each =
@@ -150,7 +150,7 @@ holds-preceded d slots k n m at made above holds = record {
 }
   where
     hole : Item
-    hole = draft.Hole m.id ByPrecede
+    hole = draft.Hole m.id (ByPrecede d.entries)
 
     f : Item → List Item
     f item = hole ∷ preceded_item item ∷ []

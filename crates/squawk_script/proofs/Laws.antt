@@ -1,4 +1,4 @@
--- What a script may leave is one plain list, and one number of events. It may fail for one reason, and only where its events or its
+-- What a script may leave is one plain list, one number of events, and one of turns. It may fail for one reason, and only where its events or its
 -- errors are too many.
 use Rattle.std.proofs.Common.{◌≡◌, ◌∙◌, ℕ, zero, suc, ◌<◌, ◌≤◌, Bool, true, false, Some, None, List, [], ◌∷◌, length, arith, sym}
 use Rattle.squawk_table.specs.ParserInput.{Entry}
@@ -24,6 +24,9 @@ module _ (script : Meaning) (entry other : EntryPoint) (input : List Entry) (d e
 
   pub one-number : May entry d → May other e → d.recorded ≡ e.recorded
   one-number first second = first.recorded ∙ sym second.recorded
+
+  pub one-turns_due : May entry d → May other e → d.turns_due ≡ e.turns_due
+  one-turns_due first second = first.turns_due ∙ sym second.turns_due
 
 -- ---- refusals
 

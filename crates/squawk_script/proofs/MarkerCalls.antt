@@ -1,11 +1,11 @@
 -- Calls that make markers or spend them.
-use Rattle.std.proofs.Common.{◌≡◌, ◌∙◌, ℕ, zero, suc, ◌+◌, ◌<◌, true, Option, Some, None, List, [], ◌∷◌, ◌++◌, length, get_or, set, map, ap, sym, refl, subst, length-append}
-use Rattle.std.specs.Prelude.{Bool, Contains, IsTrue, ◌&&◌, false, nat_lt}
+use Rattle.std.proofs.Common.{◌≡◌, ◌∙◌, ℕ, zero, suc, ◌+◌, ◌<◌, true, Option, Some, None, List, [], ◌∷◌, ◌++◌, length, get_or, set, map, arith, ap, sym, refl, subst, length-append}
+use Rattle.std.specs.Prelude.{Bool, Contains, IsTrue, ◌&&◌, count_by, false, nat_lt}
 use Rattle.std.proofs.lemmas.Bool.{ltb-true}
 use Rattle.std.proofs.lemmas.List.{length-set, map-append, map-set, set-get_or}
 use Rattle.squawk_event.specs.Draft as draft
 use Rattle.squawk_event.specs.Draft.{Draft, Item, Mark, Node, ByStart, ByPrecede, IsAboveIds, ids, ids_of}
-use Rattle.squawk_event.specs.Edits.{abandoned, completed, extended, preceded, started}
+use Rattle.squawk_event.specs.Edits.{abandoned, completed, entries_gone, extended, preceded, started}
 use Rattle.squawk_parser.specs.State.{State, Changes, Goes, Keeps, Records}
 use Rattle.squawk_parser.specs.declared.parser.parse_error.ParseError.{ParseError}
 use Rattle.squawk_parser.proofs.Markers.{changed, went-changed}
@@ -17,7 +17,8 @@ use Rattle.squawk_script.specs.declared.slot.Slot.TheVariants.{Open, Done, Spent
 use Rattle.squawk_script.proofs.Held.{holds-abandoned, holds-completed, holds-extended, holds-preceded, holds-started}
 use Rattle.squawk_script.proofs.Refusals.{changes-fails, records-fails}
 use Rattle.squawk_script.proofs.RenamedIds.{IsIdOf-hole, IsIdOf-opening}
-use Rattle.squawk_script.proofs.Renaming.{renamed-abandoned, renamed-completed, renamed-extended, renamed-preceded, renamed-started, with_id, with_id-before, with_id-here}
+use Rattle.squawk_script.proofs.RenamedItems.{goes as goes_with, preceded_items}
+use Rattle.squawk_script.proofs.Renaming.{entries_gone-same, renamed-abandoned, renamed-completed, renamed-extended, renamed-preceded, renamed-started, with_id, with_id-before, with_id-here}
 use Rattle.squawk_script.proofs.Sides.{set-twice, sides-pushed, sides-set, sides-set_both}
 
 -- a run's marker that no call has made
@@ -82,11 +83,11 @@ unmoved {old} {new} {edited} changes = cases old.first refl
 module _ (old new : State) (slots slots' : List Slot) (tied : IsTied old slots) where
   -- ---- a marker that is started
 
-  pub start-performs : (m : Mark) → m.made ≡ ByStart → (Goes new → IsAboveIds m.id old.draft.items) → Keeps old new → new.position ≡ old.position
+  pub start-performs : (m : Mark) → m.made ≡ ByStart old.draft.entries → (Goes new → IsAboveIds m.id old.draft.items) → Keeps old new → new.position ≡ old.position
       → Records old new (started old.draft m.id) → slots' ≡ slots ++ Open m ∷ [] → Performs old new slots slots' calls.Start
   start-performs m made above keeps position records now = record {
     tied = record {
-      holds = λ goes. rw (records.draft goes, now) (holds-started old.draft.items slots m made (above goes) (tied.holds (records.went goes)));
+      holds = λ goes. rw (records.draft goes, now) (holds-started old.draft.items slots m (ByStart old.draft.entries) made (above goes) (tied.holds (records.went goes)));
       limit = limit-kept keeps tied.limit;
     };
     statuses = rw now (map-append status_of slots (Open m ∷ []));
@@ -96,8 +97,11 @@ module _ (old new : State) (slots slots' : List Slot) (tied : IsTied old slots) 
         record {
           f = g;
           items = subst (λ d. IsRenamed g d.items (started run.draft (new_id run.draft)).items) (sym (records.draft goes))
-              (renamed-started at.f items run.draft at.items m.id ByStart (above goes));
+              (subst (λ n. IsRenamed g (started old.draft m.id).items (run.draft.items ++ draft.Hole (new_id run.draft) (ByStart n) ∷ [])) (sym at.entries)
+              (renamed-started at.f items run.draft at.items m.id (ByStart old.draft.entries) (above goes)));
           recorded = ap (λ n. n + 1) at.recorded ∙ sym (ap (λ d. d.recorded) (records.draft goes));
+          entries = ap (λ n. n + 1) at.entries ∙ sym (ap (λ d. d.entries) (records.draft goes));
+          turns_due = ap (λ n. n + 2) at.turns_due ∙ sym (ap (λ d. d.turns_due) (records.draft goes));
           position = at.position ∙ sym position;
           count = length-append run.markers (new_marker run ∷ []) ∙ (ap (λ n. n + 1) at.count ∙ (sym (length-append slots (Open m ∷ [])) ∙ ap length (sym now)));
           markers = rw now (sides-pushed (IsMarkerOf g) Spent no_node slots run.markers (Open m) (new_marker run) at.count
@@ -128,6 +132,8 @@ module _ (old new : State) (slots slots' : List Slot) (tied : IsTied old slots) 
               (subst (λ d. IsRenamed at.f d.items (completed run.draft (at.f m.id) kind).items) (sym (records.draft goes))
               (renamed-completed at.f items run.draft at.items m.id kind m.made there));
           recorded = ap (λ n. n + 1) at.recorded ∙ sym (ap (λ d. d.recorded) (records.draft goes));
+          entries = ap (λ n. n + 1) at.entries ∙ sym (ap (λ d. d.entries) (records.draft goes));
+          turns_due = ap (λ n. n + 1) at.turns_due ∙ sym (ap (λ d. d.turns_due) (records.draft goes));
           position = at.position ∙ sym position;
           count = length-set run.markers k _ ∙ (at.count ∙ (sym (length-set slots k _) ∙ ap length (sym now)));
           markers = rw now (sides-set_both (IsMarkerOf at.f) Spent no_node slots run.markers k (Done (record { id = m.id; kind = kind }))
@@ -150,12 +156,17 @@ module _ (old new : State) (slots slots' : List Slot) (tied : IsTied old slots) 
         let items : List Item = old.draft.items in
         let id : (marker_at run k).id ≡ at.f m.id = subst (λ s. IsMarkerOf at.f s (marker_at run k)) is_open (at.markers k) in
         let there : Contains items (draft.Hole m.id m.made) = subst (λ s. IsHeld items s) is_open ((tied.holds (went-changed changes goes)).each k) in
+        let gone : entries_gone run.draft (marker_at run k).id ≡ entries_gone old.draft m.id =
+        ap (λ i. entries_gone run.draft i) id
+        ∙ (ap (λ n. count_by (goes_with (at.f m.id) n) run.draft.items) at.entries ∙ sym (entries_gone-same at.f items run.draft at.items m.id old.draft.entries m.made there)) in
         record {
           f = at.f;
           items = subst (λ i. IsRenamed at.f new.draft.items (abandoned run.draft i).items) (sym id)
               (subst (λ d. IsRenamed at.f d.items (abandoned run.draft (at.f m.id)).items) (sym (changed changes goes))
               (renamed-abandoned at.f items run.draft at.items m.id m.made there));
           recorded = at.recorded ∙ sym (ap (λ d. d.recorded) (changed changes goes));
+          entries = omega (arith, gone, at.entries, ap (λ d. d.entries) (changed changes goes));
+          turns_due = omega (arith, gone, at.turns_due, ap (λ d. d.turns_due) (changed changes goes));
           position = at.position ∙ sym (unmoved changes).position;
           count = at.count ∙ (sym (length-set slots k _) ∙ ap length (sym now));
           markers = rw now (sides-set (IsMarkerOf at.f) Spent no_node slots run.markers k Spent at.markers tt);
@@ -165,7 +176,7 @@ module _ (old new : State) (slots slots' : List Slot) (tied : IsTied old slots) 
 
   -- ---- a node that is preceded
 
-  pub precede-performs : (k : ℕ) (n : Node) (m : Mark) → slot_at slots k ≡ Done n → m.made ≡ ByPrecede → (Goes new → IsAboveIds m.id old.draft.items) → Keeps old new
+  pub precede-performs : (k : ℕ) (n : Node) (m : Mark) → slot_at slots k ≡ Done n → m.made ≡ ByPrecede old.draft.entries → (Goes new → IsAboveIds m.id old.draft.items) → Keeps old new
       → new.position ≡ old.position → Records old new (preceded old.draft n.id m.id) → slots' ≡ set slots k Spent ++ Open m ∷ []
       → Performs old new slots slots' (calls.Precede k)
   precede-performs k n m is_done made above keeps position records now = record {
@@ -183,8 +194,11 @@ module _ (old new : State) (slots slots' : List Slot) (tied : IsTied old slots) 
           f = g;
           items = subst (λ i. IsRenamed g new.draft.items (preceded run.draft i (new_id run.draft)).items) (sym (ap (λ node. node.id) marker))
               (subst (λ d. IsRenamed g d.items (preceded run.draft (at.f n.id) (new_id run.draft)).items) (sym (records.draft goes))
-              (renamed-preceded at.f items run.draft at.items old.draft.recorded n m.id there (above goes)));
+              (subst (λ k. IsRenamed g (preceded old.draft n.id m.id).items (preceded_items (at.f n.id) (new_id run.draft) (ByPrecede k) run.draft.items)) (sym at.entries)
+              (renamed-preceded at.f items run.draft at.items n m.id (ByPrecede old.draft.entries) there (above goes))));
           recorded = ap (λ n. n + 1) at.recorded ∙ sym (ap (λ d. d.recorded) (records.draft goes));
+          entries = ap (λ n. n + 1) at.entries ∙ sym (ap (λ d. d.entries) (records.draft goes));
+          turns_due = ap (λ n. n + 4) at.turns_due ∙ sym (ap (λ d. d.turns_due) (records.draft goes));
           position = at.position ∙ sym position;
           count =
               length-append run.markers (new_marker run ∷ [])
@@ -222,6 +236,8 @@ module _ (old new : State) (slots slots' : List Slot) (tied : IsTied old slots) 
               (subst (λ d. IsRenamed at.f d.items (extended run.draft (record { id = at.f n.id; kind = n.kind }) (at.f m.id)).items) (sym (changed changes goes))
               (renamed-extended at.f items run.draft at.items n m.id m.made there hole)));
           recorded = at.recorded ∙ sym (ap (λ d. d.recorded) (changed changes goes));
+          entries = at.entries ∙ sym (ap (λ d. d.entries) (changed changes goes));
+          turns_due = ap (λ n. n + 2) at.turns_due ∙ sym (ap (λ d. d.turns_due) (changed changes goes));
           position = at.position ∙ sym (unmoved changes).position;
           count = at.count ∙ (sym (length-set slots k _) ∙ ap length (sym now));
           markers = rw now (sides-set (IsMarkerOf at.f) Spent no_node slots run.markers k Spent at.markers tt);

@@ -4,7 +4,7 @@ use Rattle.std.proofs.Common.{arith, ap, ap₂, sym, refl, subst}
 use Rattle.std.specs.Prelude.{All, Contains}
 use Rattle.std.proofs.lemmas.List.{map-id}
 use Rattle.std.proofs.lemmas.List.Elements.{All-nil, All-cons, All-head, All-tail, All-append, All-weaker, All-contains_itself}
-use Rattle.squawk_event.specs.Draft.{Item, Made, Node, Hole, Open, Close, Token, Error, ByPrecede, ids, ids_of}
+use Rattle.squawk_event.specs.Draft.{Item, Made, Node, Hole, Open, Close, Token, Error, ids, ids_of}
 use Rattle.squawk_event.specs.Edits.{extended_items, filled, is_hole_of, is_opening_of, moved, preceded_item, replaced, stands_before, without_hole}
 use Rattle.squawk_parser.proofs.RecordedItems.{ids-append, All-front}
 use Rattle.squawk_parser.proofs.Splits.{All-back}
@@ -65,14 +65,14 @@ module _ (P : ℕ → Type 0) where
   pub All-without_opening : (id : ℕ) (items : List Item) → All P (ids items) → All P (ids (replaced (is_opening_of id) (λ item. []) items))
   All-without_opening id items all = All-replaced (is_opening_of id) (λ item. []) (λ x each. All-nil P) items all
 
-  pub All-preceded : (node id : ℕ) (items : List Item) → P id → All P (ids items)
-      → All P (ids (replaced (is_opening_of node) (λ item. Hole id ByPrecede ∷ preceded_item item ∷ []) items))
-  All-preceded node id items here all =
-      All-replaced (is_opening_of node) (λ item. Hole id ByPrecede ∷ preceded_item item ∷ [])
+  pub All-preceded : (node id : ℕ) (made : Made) (items : List Item) → P id → All P (ids items)
+      → All P (ids (replaced (is_opening_of node) (λ item. Hole id made ∷ preceded_item item ∷ []) items))
+  All-preceded node id made items here all =
+      All-replaced (is_opening_of node) (λ item. Hole id made ∷ preceded_item item ∷ [])
       (λ x each. All-cons P id (ids (preceded_item x ∷ [])) here (kept x each)) items all
     where
       kept : (x : Item) → All P (ids_of x) → All P (ids (preceded_item x ∷ []))
-      kept (Hole i made) each = each
+      kept (Hole i how) each = each
       kept (Open i kind free) each = each
       kept Close each = each
       kept (Token kind n) each = each

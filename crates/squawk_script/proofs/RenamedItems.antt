@@ -1,12 +1,13 @@
 -- Edits of items under other ids.
-use Rattle.std.proofs.Common.{◌≡◌, ◌∙◌, ℕ, ◌==◌, Bool, true, false, List, [], ◌∷◌, ◌++◌, cond, map, ap, ap₂, sym, refl}
-use Rattle.std.specs.Prelude.{All}
+use Rattle.std.proofs.Common.{◌≡◌, ◌∙◌, ℕ, ◌+◌, ◌==◌, Bool, true, false, List, [], ◌∷◌, ◌++◌, cond, map, ap, ap₂, sym, refl}
+use Rattle.std.specs.Prelude.{All, ◌&&◌, count_by}
 use Rattle.std.proofs.lemmas.List.{map-append}
 use Rattle.std.proofs.lemmas.List.Elements.{All-head}
-use Rattle.squawk_event.specs.Draft.{Item, Node, Hole, Open, Close, Token, Error, ByPrecede, ids, ids_of}
-use Rattle.squawk_event.specs.Edits.{extended_items, filled, is_hole_of, is_opening_of, moved, preceded_item, replaced, stands_before, without_hole}
+use Rattle.squawk_event.specs.Draft.{Item, Made, Node, Hole, Open, Close, Token, Error, ByPrecede, ByStart, ids, ids_of}
+use Rattle.squawk_event.specs.Edits.{extended_items, filled, is_hole_of, is_last_start, is_opening_of, moved, preceded_item, replaced, stands_before, without_hole}
 use Rattle.squawk_parser.proofs.RecordedItems.{All-front}
 use Rattle.squawk_parser.proofs.Splits.{All-back}
+use Rattle.squawk_parser.proofs.Sums.{count_by-cons}
 use Rattle.squawk_script.specs.Slots.{renamed, same_id}
 use Rattle.squawk_script.proofs.RenamedIds.{All-without_opening}
 
@@ -66,11 +67,11 @@ module _ (h : ℕ → ℕ) (P Q : ℕ → Type 0) (p q p' q' : Item → Bool) (t
 abbrev filled_as : ℕ → ℕ → List Item → List Item
 filled_as id kind items = replaced (is_hole_of id) (λ item. Open id kind false ∷ []) items
 
-abbrev pub preceded_items : ℕ → ℕ → List Item → List Item
-preceded_items node id items = replaced (is_opening_of node) (λ item. Hole id ByPrecede ∷ preceded_item item ∷ []) items
+abbrev pub preceded_items : ℕ → ℕ → Made → List Item → List Item
+preceded_items node id made items = replaced (is_opening_of node) (λ item. Hole id made ∷ preceded_item item ∷ []) items
 
-abbrev preceded_as : ℕ → ℕ → List Item → List Item
-preceded_as node id items = replaced (is_opening_of node) (λ item. Hole id ByPrecede ∷ item ∷ []) items
+abbrev preceded_as : ℕ → ℕ → Made → List Item → List Item
+preceded_as node id made items = replaced (is_opening_of node) (λ item. Hole id made ∷ item ∷ []) items
 
 abbrev moved_as : ℕ → ℕ → ℕ → List Item → List Item
 moved_as node kind id items = replaced (is_hole_of id) (λ item. Open node kind false ∷ []) (replaced (is_opening_of node) (λ item. []) items)
@@ -89,14 +90,14 @@ module _ (h : ℕ → ℕ) (items : List Item) where
   renamed-without_hole id apart =
       renamed-replaced h (TellsApart h id) (is_hole_of id) (is_hole_of (h id)) (λ item. []) (λ item. []) (hole_test h id) (λ x. refl) items apart
 
-  renamed-preceded_items : (node id : ℕ) → All (TellsApart h node) (ids items)
-      → map (renamed h) (preceded_items node id items) ≡ preceded_as (h node) (h id) (map (renamed h) items)
-  renamed-preceded_items node id apart =
-      renamed-replaced h (TellsApart h node) (is_opening_of node) (is_opening_of (h node)) (λ item. Hole id ByPrecede ∷ preceded_item item ∷ [])
-      (λ item. Hole (h id) ByPrecede ∷ item ∷ []) (opening_test h node) (λ x. ap (λ y. Hole (h id) ByPrecede ∷ y ∷ []) (kept x)) items apart
+  renamed-preceded_items : (node id : ℕ) (made : Made) → All (TellsApart h node) (ids items)
+      → map (renamed h) (preceded_items node id made items) ≡ preceded_as (h node) (h id) made (map (renamed h) items)
+  renamed-preceded_items node id made apart =
+      renamed-replaced h (TellsApart h node) (is_opening_of node) (is_opening_of (h node)) (λ item. Hole id made ∷ preceded_item item ∷ [])
+      (λ item. Hole (h id) made ∷ item ∷ []) (opening_test h node) (λ x. ap (λ y. Hole (h id) made ∷ y ∷ []) (kept x)) items apart
     where
       kept : (x : Item) → renamed h (preceded_item x) ≡ renamed h x
-      kept (Hole i made) = refl
+      kept (Hole i how) = refl
       kept (Open i kind free) = refl
       kept Close = refl
       kept (Token kind n) = refl
@@ -124,6 +125,29 @@ module _ (h : ℕ → ℕ) (items : List Item) where
         cases true c e = rw e renamed-moved
         cases false c e = rw e (renamed-without_hole id holes)
 
+-- ---- the entries that go with a marker's hole
+
+abbrev pub goes : ℕ → ℕ → Item → Bool
+goes id n item = is_hole_of id item && is_last_start n item
+
+module _ (h : ℕ → ℕ) (id n : ℕ) where
+  last-renamed : (x : Item) → is_last_start n (renamed h x) ≡ is_last_start n x
+  last-renamed (Hole i (ByStart at)) = refl
+  last-renamed (Hole i (ByPrecede at)) = refl
+  last-renamed (Open i kind free) = refl
+  last-renamed Close = refl
+  last-renamed (Token kind k) = refl
+  last-renamed (Error text) = refl
+
+  renamed-entries_gone : (items : List Item) → All (TellsApart h id) (ids items) → count_by (goes id n) items ≡ count_by (goes (h id) n) (map (renamed h) items)
+  renamed-entries_gone [] apart = refl
+  renamed-entries_gone (x ∷ items) apart =
+      let test : goes (h id) n (renamed h x) ≡ goes id n x =
+      ap₂ (λ a b. a && b) (hole_test h id x (All-front (TellsApart h id) (ids_of x) (ids items) apart)) (last-renamed x) in
+      let rest = renamed-entries_gone items (All-back (TellsApart h id) (ids_of x) (ids items) apart) in
+      count_by-cons (goes id n) x items
+      ∙ (ap₂ (λ b k. cond b 1 0 + k) (sym test) rest ∙ sym (count_by-cons (goes (h id) n) (renamed h x) (map (renamed h) items)))
+
 -- ---- the same edit of lists that differ in their ids alone
 
 module _ (f : ℕ → ℕ) (items others : List Item) (same : map (renamed f) items ≡ map (renamed same_id) others) where
@@ -144,11 +168,18 @@ module _ (f : ℕ → ℕ) (items others : List Item) (same : map (renamed f) it
       renamed-without_hole f items id apart
       ∙ (ap (without_hole (f id)) same ∙ sym (renamed-without_hole same_id others (f id) (tells_apart-same_id (f id) (ids others))))
 
-  pub same-preceded : (node id : ℕ) → All (TellsApart f node) (ids items)
-      → map (renamed f) (preceded_items node id items) ≡ map (renamed same_id) (preceded_items (f node) (f id) others)
-  same-preceded node id apart =
-      renamed-preceded_items f items node id apart
-      ∙ (ap (preceded_as (f node) (f id)) same ∙ sym (renamed-preceded_items same_id others (f node) (f id) (tells_apart-same_id (f node) (ids others))))
+  pub same-preceded : (node id : ℕ) (made : Made) → All (TellsApart f node) (ids items)
+      → map (renamed f) (preceded_items node id made items) ≡ map (renamed same_id) (preceded_items (f node) (f id) made others)
+  same-preceded node id made apart =
+      renamed-preceded_items f items node id made apart
+      ∙ (ap (preceded_as (f node) (f id) made) same
+      ∙ sym (renamed-preceded_items same_id others (f node) (f id) made (tells_apart-same_id (f node) (ids others))))
+
+  -- the entries that go with a marker's hole
+  pub same-entries_gone : (id n : ℕ) → All (TellsApart f id) (ids items) → count_by (goes id n) items ≡ count_by (goes (f id) n) others
+  same-entries_gone id n apart =
+      renamed-entries_gone f id n items apart
+      ∙ (ap (count_by (goes (f id) n)) same ∙ sym (renamed-entries_gone same_id (f id) n others (tells_apart-same_id (f id) (ids others))))
 
   pub same-extended : (node : Node) (id : ℕ) → All (TellsApart f node.id) (ids items) → All (TellsApart f id) (ids items)
       → map (renamed f) (extended_items node id items) ≡ map (renamed same_id) (extended_items (record { id = f node.id; kind = node.kind }) (f id) others)

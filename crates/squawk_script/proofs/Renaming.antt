@@ -1,20 +1,22 @@
 -- Two drafts that differ in their ids alone, after the same edit of both.
 use Rattle.std.proofs.Common.{◌≡◌, ◌∙◌, inr, ℕ, suc, ◌+◌, ◌<◌, ◌==◌, true, false, List, [], ◌∷◌, ◌++◌, length, get_or, map, if◌then◌else◌}
 use Rattle.std.proofs.Common.{append_assoc, append-nil, arith, ap, ap₂, refl, subst, subst₂, sym}
-use Rattle.std.specs.Prelude.{All, AllPairs, Contains}
+use Rattle.std.specs.Prelude.{All, AllPairs, Contains, count_by}
 use Rattle.std.proofs.lemmas.Bool.{ne_eqb}
 use Rattle.std.proofs.lemmas.List.Elements.{All-nil, All-head, All-tail, All-contains, Contains-append_left}
 use Rattle.squawk_table.specs.Steps as steps
 use Rattle.squawk_table.specs.Steps.{Step}
 use Rattle.squawk_event.specs.Draft.{Draft, Item, Made, Node, Hole, Open, Close, Token, Error, HasNoHole, IsAboveIds, ids, ids_of, is_hole, plain, steps_of}
-use Rattle.squawk_event.specs.Edits.{extended_items, filled, preceded, without_hole}
+use Rattle.squawk_event.specs.Edits.{extended_items, filled, without_hole}
+use Rattle.squawk_parser.specs.Recorded.{turns_due_of}
+use Rattle.squawk_parser.proofs.RecordedSteps.{turns_due_of-cons}
 use Rattle.squawk_parser.proofs.RecordedItems.{ids-append}
 use Rattle.squawk_parser.proofs.Splits.{itself}
 use Rattle.squawk_script.specs.Meaning.{new_id, with_step, with_steps}
 use Rattle.squawk_script.specs.Slots.{IsRenamed, renamed, same_id}
 use Rattle.squawk_script.proofs.RenamedIds.{All-extended, All-filled, All-one, All-preceded, All-pushed, All-without_hole, above_all-above}
 use Rattle.squawk_script.proofs.RenamedIds.{IsIdOf, IsIdOf-all, IsIdOf-hole, IsIdOf-opening, IsIdOrNew, IsIdOrNew-all}
-use Rattle.squawk_script.proofs.RenamedItems.{preceded_items, same-extended, same-filled, same-preceded, same-pushed, same-without_hole}
+use Rattle.squawk_script.proofs.RenamedItems.{goes, preceded_items, same-entries_gone, same-extended, same-filled, same-preceded, same-pushed, same-without_hole}
 use Rattle.squawk_script.proofs.RenamedKept.{IsNewId, apart, kept, kept-before, kept-new}
 
 -- the same, but for one id
@@ -82,21 +84,25 @@ module _ (f : ℕ → ℕ) (items : List Item) (d : Draft) (same : IsRenamed f i
       (same-without_hole f items d.items same.same id (apart f items d.items same id (IsIdOf-hole items id made there)))
       (All-without_hole (IsIdOf items) id items (IsIdOf-all items))
 
+  -- and as many entries go with it
+  pub entries_gone-same : (id n : ℕ) (made : Made) → Contains items (Hole id made) → count_by (goes id n) items ≡ count_by (goes (f id) n) d.items
+  entries_gone-same id n made there =
+      same-entries_gone f items d.items same.same id n (apart f items d.items same id (IsIdOf-hole items id made there))
+
   -- a hole in front of an opening
-  pub renamed-preceded : (recorded : ℕ) (node : Node) (id : ℕ) → Contains items (Open node.id node.kind true) → IsAboveIds id items
-      → IsRenamed (with_id id (new_id d) f) (preceded (record { items = items; recorded = recorded }) node.id id).items
-      (preceded d (f node.id) (new_id d)).items
-  renamed-preceded recorded node id there above =
+  pub renamed-preceded : (node : Node) (id : ℕ) (made : Made) → Contains items (Open node.id node.kind true) → IsAboveIds id items
+      → IsRenamed (with_id id (new_id d) f) (preceded_items node.id id made items) (preceded_items (f node.id) (new_id d) made d.items)
+  renamed-preceded node id made there above =
       let h = with_id id (new_id d) f in
       let here : IsIdOf items node.id = IsIdOf-opening items node.id node.kind true there in
       let before : IsRenamed h items d.items = kept-before f items d.items same h id (new_id d) (is_new id above) in
-      let e : map (renamed h) (preceded_items node.id id items) ≡ map (renamed same_id) (preceded_items (h node.id) (h id) d.items) =
-      same-preceded h items d.items before.same node.id id (apart h items d.items before node.id here) in
-      let ids_are : preceded_items (h node.id) (h id) d.items ≡ preceded_items (f node.id) (new_id d) d.items =
-      ap₂ (λ i j. preceded_items i j d.items) (with_id-before id (new_id d) f items above node.id here) (with_id-here id (new_id d) f) in
-      kept-new f items d.items same h id (new_id d) (is_new id above) (preceded_items node.id id items) (preceded_items (f node.id) (new_id d) d.items)
+      let e : map (renamed h) (preceded_items node.id id made items) ≡ map (renamed same_id) (preceded_items (h node.id) (h id) made d.items) =
+      same-preceded h items d.items before.same node.id id made (apart h items d.items before node.id here) in
+      let ids_are : preceded_items (h node.id) (h id) made d.items ≡ preceded_items (f node.id) (new_id d) made d.items =
+      ap₂ (λ i j. preceded_items i j made d.items) (with_id-before id (new_id d) f items above node.id here) (with_id-here id (new_id d) f) in
+      kept-new f items d.items same h id (new_id d) (is_new id above) (preceded_items node.id id made items) (preceded_items (f node.id) (new_id d) made d.items)
       (e ∙ ap (map (renamed same_id)) ids_are)
-      (All-preceded (IsIdOrNew id items) node.id id items (inr refl) (IsIdOrNew-all id items))
+      (All-preceded (IsIdOrNew id items) node.id id made items (inr refl) (IsIdOrNew-all id items))
 
   -- an opening goes to a hole's place, or the hole goes
   pub renamed-extended : (node : Node) (id : ℕ) (made : Made) → Contains items (Open node.id node.kind true) → Contains items (Hole id made)
@@ -114,6 +120,8 @@ pub record ArePut (f : ℕ → ℕ) (items made : List Item) (d : Draft) : Type 
   pub renaming : IsRenamed g (items ++ made) (with_steps d (plain made)).items
   pub agrees : (i : ℕ) → Contains (ids items) i → g i ≡ f i
   pub recorded : (with_steps d (plain made)).recorded ≡ d.recorded + length (plain made)
+  pub entries : (with_steps d (plain made)).entries ≡ d.entries + length (plain made)
+  pub turns_due : (with_steps d (plain made)).turns_due ≡ d.turns_due + turns_due_of (plain made)
 
 -- ids that are above those of one more item too
 above-pushed : (items : List Item) (x : Item) (xs : List ℕ) → All (λ id. IsAboveIds id items) xs → All (λ id. All (λ i. i < id) (ids_of x)) xs
@@ -135,6 +143,10 @@ put-cons f g items made d x step is same put = record {
       put.agrees i (subst (λ xs. Contains xs i) (sym (ids-append items (x ∷ []))) (Contains-append_left (ids items) (ids (x ∷ [])) i there)) ∙ same i there;
   recorded =
       subst (λ xs. (with_steps d (xs ++ plain made)).recorded ≡ d.recorded + length (xs ++ plain made)) (sym is) (put.recorded ∙ omega arith);
+  entries = subst (λ xs. (with_steps d (xs ++ plain made)).entries ≡ d.entries + length (xs ++ plain made)) (sym is) (put.entries ∙ omega arith);
+  turns_due =
+      subst (λ xs. (with_steps d (xs ++ plain made)).turns_due ≡ d.turns_due + turns_due_of (xs ++ plain made)) (sym is)
+      (put.turns_due ∙ omega (arith, turns_due_of-cons step (plain made)));
 }
 
 pub renamed-put : (f : ℕ → ℕ) (items made : List Item) (d : Draft) → IsRenamed f items d.items → HasNoHole made → All (λ id. IsAboveIds id items) (ids made)
@@ -144,6 +156,8 @@ renamed-put f items [] d same closed above ascending = record {
   renaming = subst (λ xs. IsRenamed f xs d.items) (sym (append-nil items)) same;
   agrees = λ i there. refl;
   recorded = omega arith;
+  entries = omega arith;
+  turns_due = omega arith;
 }
 renamed-put f items (Hole i how ∷ made) d same closed above ascending =
     let never : true ≡ false = All-head (λ item. is_hole item ≡ false) (Hole i how) made closed in absurd (cc)

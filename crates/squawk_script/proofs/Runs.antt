@@ -58,6 +58,8 @@ stands-begin start calls fresh = record {
     f = same_id;
     items = subst (λ s. IsRenamed same_id s.draft.items []) (sym fresh) renamed-begin;
     recorded = sym (ap (λ s. s.draft.recorded) fresh);
+    entries = sym (ap (λ s. s.draft.entries) fresh);
+    turns_due = sym (ap (λ s. s.draft.turns_due) fresh);
     position = sym (ap (λ s. s.position) fresh);
     count = refl;
     markers = λ i. tt;
@@ -163,6 +165,8 @@ module _ (start : State) (calls : List Call) (s : State) (slots : List Slot) (i 
       record {
         items = same;
         recorded = sym at.recorded;
+        entries = sym at.entries;
+        turns_due = sym at.turns_due;
         unrefused = λ events errors within few.
             let all = recorded-events start.words start.input calls ∙ at.recorded in
             let wrong = errors-events start.words start.input calls ∙ (errors-plain run.draft.items ∙ ap errors_in (sym same)) in

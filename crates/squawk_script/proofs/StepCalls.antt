@@ -8,7 +8,7 @@ use Rattle.squawk_parser.specs.Composites.{stands_at}
 use Rattle.squawk_event.specs.Draft.{Item, plain}
 use Rattle.squawk_parser.specs.Eaten.{eat_steps}
 use Rattle.squawk_parser.specs.LookAhead.{seen_from}
-use Rattle.squawk_parser.specs.Recorded.{Puts}
+use Rattle.squawk_parser.specs.Recorded.{Puts, turns_due_of}
 use Rattle.squawk_parser.specs.State.{State, Goes, Keeps, ahead}
 use Rattle.squawk_parser.proofs.RecordedSteps.{puts-none}
 use Rattle.squawk_script.specs.Events.{events_made}
@@ -44,6 +44,10 @@ module _ (old new : State) (slots : List Slot) (tied : IsTied old slots) (keeps 
             (subst (λ d. IsRenamed more.g (items ++ put.made) d.items) same more.renaming);
         recorded = ap (λ d. d.recorded) (sym same)
             ∙ (more.recorded ∙ (ap (λ xs. run.draft.recorded + length xs) put.steps_made ∙ (ap (λ n. n + length steps) at.recorded ∙ sym put.recorded)));
+        entries = ap (λ d. d.entries) (sym same)
+            ∙ (more.entries ∙ (ap (λ xs. run.draft.entries + length xs) put.steps_made ∙ (ap (λ n. n + length steps) at.entries ∙ sym put.entries)));
+        turns_due = ap (λ d. d.turns_due) (sym same)
+            ∙ (more.turns_due ∙ (ap (λ xs. run.draft.turns_due + turns_due_of xs) put.steps_made ∙ (ap (λ n. n + turns_due_of steps) at.turns_due ∙ sym put.turns_due)));
         position = ap (λ n. n + eaten steps) at.position ∙ sym puts.position;
         count = at.count;
         markers = markers-agree at.f more.g items slots run.markers more.agrees (tied.holds (puts.went goes)) at.markers;

@@ -40,10 +40,12 @@ refusal (suc events) errors (false ∷ es) = refusal events errors es
 refusal (suc events) zero (true ∷ es) = Some TooManyErrors
 refusal (suc events) (suc errors) (true ∷ es) = refusal events errors es
 
--- The draft has the plain list and the recorded events of the run. Its ids may be others. Under limits that it is within, none of the
+-- The draft has the plain list and the counts of the run. Its ids may be others. Under limits that it is within, none of the
 -- run's events is refused.
 pub record IsRunOf (script : Meaning) (input : List Entry) (left : Draft) : Type 0 where
   pub items : plain left.items ≡ plain (run_of script.words input script.calls).draft.items
   pub recorded : left.recorded ≡ (run_of script.words input script.calls).draft.recorded
+  pub entries : left.entries ≡ (run_of script.words input script.calls).draft.entries
+  pub turns_due : left.turns_due ≡ (run_of script.words input script.calls).draft.turns_due
   pub unrefused : (events errors : ℕ) → left.recorded ≤ events → errors_in (plain left.items) ≤ errors
       → refusal events errors (events_of script.words input script.calls) ≡ None

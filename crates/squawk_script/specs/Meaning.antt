@@ -8,8 +8,9 @@ use Rattle.squawk_parser.specs.Composites.{stands_at}
 use Rattle.squawk_event.specs.Draft as draft
 use Rattle.squawk_event.specs.Draft.{Draft, Item, Node, ids, nothing}
 use Rattle.squawk_parser.specs.Eaten.{current_as, eat_steps, expect_steps, no_recovery, recovery_steps}
-use Rattle.squawk_event.specs.Edits.{abandoned, completed, extended, preceded, started}
+use Rattle.squawk_event.specs.Edits.{abandoned, completed, extended, preceded, pushed, started}
 use Rattle.squawk_parser.specs.LookAhead.{seen_from}
+use Rattle.squawk_parser.specs.Recorded.{turns_of_step}
 use Rattle.squawk_parser.specs.Words.{Words}
 use Rattle.squawk_script.specs.declared.call.Call.{Call}
 use Rattle.squawk_script.specs.declared.call.Call.TheVariants.{Start, Complete, Abandon, Precede, ExtendTo, Eat, BumpAny, BumpRemap, Expect, Error, ErrRecover, ErrAndBump}
@@ -37,7 +38,7 @@ item_for id (steps.Error text) = draft.Error text
 
 -- a step at the end of a draft
 abbrev pub with_step : Draft → Step → Draft
-with_step d step = record { items = d.items ++ item_for (new_id d) step ∷ []; recorded = d.recorded + 1 }
+with_step d step = pushed d (item_for (new_id d) step) (turns_of_step step)
 
 -- steps at the end, one after another
 abbrev pub with_steps : Draft → List Step → Draft

@@ -123,6 +123,8 @@ pub record IsAt (s : State) (slots : List Slot) (run : Run) : Type 0 where
   pub f : ℕ → ℕ
   pub items : IsRenamed f s.draft.items run.draft.items
   pub recorded : run.draft.recorded ≡ s.draft.recorded
+  pub entries : run.draft.entries ≡ s.draft.entries
+  pub turns_due : run.draft.turns_due ≡ s.draft.turns_due
   pub position : run.position ≡ s.position
   pub count : length run.markers ≡ length slots
   pub markers : (i : ℕ) → IsMarkerOf f (slot_at slots i) (slice_index_or run.markers i (record { id = 0; kind = 0 }))
