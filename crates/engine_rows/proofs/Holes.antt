@@ -64,9 +64,10 @@ all_below id (Close ∷ items) above = All-cons (IsBelow id) Close items tt (all
 all_below id (Token kind n ∷ items) above = All-cons (IsBelow id) (Token kind n) items tt (all_below id items above)
 all_below id (Error text ∷ items) above = All-cons (IsBelow id) (Error text) items tt (all_below id items above)
 
-pub below-hole : (items open_ones : List Item) (id other : ℕ) → IsAboveIds id items → holes_of items ≡ open_ones → Contains open_ones (Hole other ByStart) → other < id
-below-hole items open_ones id other above e there =
-    All-contains (IsBelow id) items (Hole other ByStart) (all_below id items above) (Contains-hole items open_ones (Hole other ByStart) e there)
+pub below-hole : (items open_ones : List Item) (id other : ℕ) (made : Made) → IsAboveIds id items → holes_of items ≡ open_ones
+    → Contains open_ones (Hole other made) → other < id
+below-hole items open_ones id other made above e there =
+    All-contains (IsBelow id) items (Hole other made) (all_below id items above) (Contains-hole items open_ones (Hole other made) e there)
 
 -- ---- the calls
 
@@ -74,11 +75,11 @@ pub HasHoles-fresh : (s : State) → IsFresh s → HasHoles s []
 HasHoles-fresh s fresh goes = ap (λ t. holes_of t.draft.items) fresh
 
 pub HasHoles-start : (s t : State) (id : ℕ) (open_ones : List Item) → HasHoles s open_ones → Records s t (started s.draft id)
-    → HasHoles t (open_ones ++ Hole id ByStart ∷ [])
+    → HasHoles t (open_ones ++ Hole id (ByStart s.draft.entries) ∷ [])
 HasHoles-start s t id open_ones has records goes =
     ap (λ d. holes_of d.items) (records.draft goes)
-    ∙ (filter-append is_hole s.draft.items (Hole id ByStart ∷ [])
-    ∙ ap (λ hs. hs ++ Hole id ByStart ∷ []) (has (records.went goes)))
+    ∙ (filter-append is_hole s.draft.items (Hole id (ByStart s.draft.entries) ∷ [])
+    ∙ ap (λ hs. hs ++ Hole id (ByStart s.draft.entries) ∷ []) (has (records.went goes)))
 
 went_cases : (s t : State) (b : Bool) → (kind_at s 0 == EOF) ≡ b → (kind_at s 0 ≡ EOF → t ≡ s)
     → (kind_at s 0 ≢ EOF → Records s t (with_token s.draft (kind_at s 0) 1)) → Goes t → Goes s
@@ -128,8 +129,8 @@ HasHoles-closed s t has went closed goes =
     none_open t.draft.items (closed (HasNoHole-none_open s.draft.items (has (went goes))) goes)
 
 -- the last open marker
-pub without-one : (id : ℕ) → without id (Hole id ByStart ∷ []) ≡ []
-without-one id = rw (eq-eqb id id refl) refl
+pub without-one : (id : ℕ) (made : Made) → without id (Hole id made ∷ []) ≡ []
+without-one id made = rw (eq-eqb id id refl) refl
 
 -- a part leaves open what it found open
 pub HasHoles-part : (s t : State) (open_ones : List Item) → HasHoles s open_ones → (Goes t → Goes s) → (Goes t → holes_of t.draft.items ≡ holes_of s.draft.items)
@@ -171,26 +172,26 @@ without-below id (Close ∷ items) below = without-below id items (All-tail (IsB
 without-below id (Token kind n ∷ items) below = without-below id items (All-tail (IsBelow id) (Token kind n) items below)
 without-below id (Error text ∷ items) below = without-below id items (All-tail (IsBelow id) (Error text) items below)
 
-pub without-last : (id : ℕ) (items : List Item) → IsAboveIds id items → without id (holes_of items ++ Hole id ByStart ∷ []) ≡ holes_of items
-without-last id items above =
-    filter-append (λ item. not (is_hole_of id item)) (holes_of items) (Hole id ByStart ∷ [])
-    ∙ (ap (λ hs. without id (holes_of items) ++ hs) (without-one id)
+pub without-last : (id : ℕ) (made : Made) (items : List Item) → IsAboveIds id items → without id (holes_of items ++ Hole id made ∷ []) ≡ holes_of items
+without-last id made items above =
+    filter-append (λ item. not (is_hole_of id item)) (holes_of items) (Hole id made ∷ [])
+    ∙ (ap (λ hs. without id (holes_of items) ++ hs) (without-one id made)
     ∙ (append-nil (without id (holes_of items)) ∙ without-below id items (all_below id items above)))
 
 module _ (s t u : State) (id : ℕ) (begins : Records s t (started s.draft id)) (keeps : Keeps t u) (same : Goes u → holes_of u.draft.items ≡ holes_of t.draft.items) where
   -- the marker of a node is open behind what stands in it
-  pub open_inside : HasHoles u (holes_of s.draft.items ++ Hole id ByStart ∷ [])
+  pub open_inside : HasHoles u (holes_of s.draft.items ++ Hole id (ByStart s.draft.entries) ∷ [])
   open_inside goes = same goes ∙ HasHoles-start s t id (holes_of s.draft.items) (λ _. refl) begins (went-kept keeps goes)
 
-  pub marker_inside : Goes u → Contains u.draft.items (Hole id ByStart)
-  marker_inside goes = Contains-hole u.draft.items _ (Hole id ByStart) (open_inside goes) (Contains-push (holes_of s.draft.items) (Hole id ByStart))
+  pub marker_inside : Goes u → Contains u.draft.items (Hole id (ByStart s.draft.entries))
+  marker_inside goes = Contains-hole u.draft.items _ (Hole id (ByStart s.draft.entries)) (open_inside goes) (Contains-push (holes_of s.draft.items) (Hole id (ByStart s.draft.entries)))
 
   -- and the node leaves the markers as they were
   pub holes-around : (v : State) (kind : ℕ) → (Goes t → IsAboveIds id s.draft.items) → Records u v (completed u.draft id kind) → Goes v
       → holes_of v.draft.items ≡ holes_of s.draft.items
   holes-around v kind above ends goes =
       HasHoles-complete u v id kind _ open_inside ends goes
-      ∙ without-last id s.draft.items (above (went-kept keeps (ends.went goes)))
+      ∙ without-last id (ByStart s.draft.entries) s.draft.items (above (went-kept keeps (ends.went goes)))
 
 -- ---- a kind, where it stands and where it doesn't
 

@@ -25,6 +25,7 @@ fn two_signs_are_one_token(rt: HostRuntime) -> Result<(), Fail> {
             text: "a:=b",
             tokens: &[word(1), COLON, EQ, word(1)],
             recorded: 5,
+            turns: 6,
             steps: &[
                 enter(700),
                 word_step("a"),
@@ -49,6 +50,7 @@ fn two_signs_that_are_apart_are_none(rt: HostRuntime) -> Result<(), Fail> {
             text: "a: =b",
             tokens: &[word(1), COLON, space(1), EQ, word(1)],
             recorded: 4,
+            turns: 5,
             steps: &[
                 enter(700),
                 word_step("a"),
@@ -112,6 +114,7 @@ fn two_colons_are_a_node(rt: HostRuntime) -> Result<(), Fail> {
             text: "::",
             tokens: &[COLON, COLON],
             recorded: 6,
+            turns: 8,
             steps: &[
                 enter(700),
                 enter(645),
@@ -137,6 +140,7 @@ fn operator_is_a_node_of_its_signs(rt: HostRuntime) -> Result<(), Fail> {
             text: "<@-1",
             tokens: &tokens,
             recorded: 8,
+            turns: 10,
             steps: &[
                 enter(700),
                 enter(664),
@@ -165,6 +169,7 @@ fn expected_kind_is_named(rt: HostRuntime) -> Result<(), Fail> {
             text: "a",
             tokens: &tokens,
             recorded: 4,
+            turns: 5,
             steps: &[
                 enter(700),
                 word_step("a"),
@@ -188,6 +193,7 @@ fn expected_kind_without_a_name_has_its_number(rt: HostRuntime) -> Result<(), Fa
             text: "a",
             tokens: &[word(1)],
             recorded: 4,
+            turns: 5,
             steps: &[
                 enter(700),
                 word_step("a"),
@@ -211,6 +217,7 @@ fn expected_pair_must_touch(rt: HostRuntime) -> Result<(), Fail> {
             text: ": =",
             tokens: &[COLON, space(1), EQ],
             recorded: 3,
+            turns: 4,
             steps: &[enter(700), error_step("expected 45", 0), EXIT],
             is_whole: false,
         },
@@ -229,6 +236,7 @@ fn expected_pair_that_touches_is_eaten(rt: HostRuntime) -> Result<(), Fail> {
             text: ":=",
             tokens: &[COLON, EQ],
             recorded: 3,
+            turns: 4,
             steps: &[enter(700), token_step(45, ":="), EXIT],
             is_whole: true,
         },
@@ -247,6 +255,7 @@ fn token_gets_another_kind(rt: HostRuntime) -> Result<(), Fail> {
             text: "a",
             tokens: &[word(1)],
             recorded: 3,
+            turns: 4,
             steps: &[enter(700), token_step(201, "a"), EXIT],
             is_whole: true,
         },

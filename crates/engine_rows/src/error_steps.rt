@@ -32,6 +32,7 @@ fn error_behind_a_node_goes_into_it(rt: HostRuntime) -> Result<(), Fail> {
             text: "x ",
             tokens: &[word(1), space(1)],
             recorded: 6,
+            turns: 8,
             steps: &[
                 enter(700),
                 enter(701),
@@ -66,6 +67,7 @@ fn errors_stand_before_and_behind_the_root(rt: HostRuntime) -> Result<(), Fail> 
             text: "a ",
             tokens: &[word(1), space(1)],
             recorded: 7,
+            turns: 9,
             steps: &[
                 error_step("e", 0),
                 enter(700),
@@ -105,6 +107,7 @@ fn two_errors_behind_two_closings_go_before_the_last_of_them(rt: HostRuntime) ->
             text: "a b",
             tokens: &[word(1), space(1), word(1)],
             recorded: 10,
+            turns: 13,
             steps: &[
                 enter(700),
                 enter(701),
@@ -142,6 +145,7 @@ fn error_stands_before_the_trivia_behind_it(rt: HostRuntime) -> Result<(), Fail>
             text: "a /*x*/ b",
             tokens: &tokens,
             recorded: 5,
+            turns: 6,
             steps: &[
                 enter(700),
                 word_step("a"),
@@ -186,6 +190,7 @@ fn position_of_an_error_counts_bytes(rt: HostRuntime) -> Result<(), Fail> {
             text: "é a",
             tokens: &[mark, space(1), word(1)],
             recorded: 7,
+            turns: 9,
             steps: &[
                 enter(700),
                 token_step(2, "é"),
@@ -212,6 +217,7 @@ fn skipped_token_stands_in_a_node_with_its_error(rt: HostRuntime) -> Result<(), 
             text: " ,",
             tokens: &[space(1), COMMA],
             recorded: 6,
+            turns: 8,
             steps: &[
                 enter(700),
                 space_step(" "),
@@ -241,6 +247,7 @@ fn nothing_is_skipped_at_the_end(rt: HostRuntime) -> Result<(), Fail> {
                 text: "",
                 tokens: &[],
                 recorded: 5,
+                turns: 7,
                 steps: &[enter(700), enter(2), error_step("m", 0), EXIT, EXIT],
                 is_whole: true,
             },
@@ -260,6 +267,7 @@ fn token_to_go_on_from_is_not_skipped(rt: HostRuntime) -> Result<(), Fail> {
             text: ";",
             tokens: &[SEMI],
             recorded: 3,
+            turns: 4,
             steps: &[enter(700), error_step("m", 0), EXIT],
             is_whole: false,
         },
@@ -277,6 +285,7 @@ fn other_token_is_skipped(rt: HostRuntime) -> Result<(), Fail> {
             text: ",;",
             tokens: &[COMMA, SEMI],
             recorded: 6,
+            turns: 8,
             steps: &[
                 enter(700),
                 enter(2),

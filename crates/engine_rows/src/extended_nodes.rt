@@ -30,6 +30,7 @@ fn assert_extended(rt: &(impl Abort + AllocGlobal), first: Line, second: Line) -
             text: "a b c",
             tokens: &[word(1), space(1), word(1), space(1), word(1)],
             recorded: 9,
+            turns: 17,
             steps: &[
                 enter(700),
                 enter(705),
@@ -76,6 +77,7 @@ fn extended_node_begins_before_the_nodes_in_between(rt: HostRuntime) -> Result<(
             text: "a b c",
             tokens: &[word(1), space(1), word(1), space(1), word(1)],
             recorded: 12,
+            turns: 19,
             steps: &[
                 enter(700),
                 enter(707),
@@ -117,6 +119,7 @@ fn node_stays_that_begins_before_an_older_marker(rt: HostRuntime) -> Result<(), 
             text: "a",
             tokens: &[word(1)],
             recorded: 8,
+            turns: 16,
             steps: &[
                 enter(700),
                 enter(701),
@@ -151,6 +154,7 @@ fn extended_node_stays_before_the_marker_behind_it(rt: HostRuntime) -> Result<()
             text: "a",
             tokens: &[word(1)],
             recorded: 7,
+            turns: 15,
             steps: &[enter(700), enter(701), word_step("a"), EXIT, EXIT],
             is_whole: true,
         },
@@ -177,6 +181,7 @@ fn error_between_crossing_nodes_stays_behind_its_token(rt: HostRuntime) -> Resul
             text: "a b",
             tokens: &[word(1), space(1), word(1)],
             recorded: 9,
+            turns: 12,
             steps: &[
                 enter(700),
                 enter(701),

@@ -12,6 +12,8 @@ mod error_lines;
 #[cfg(test)]
 mod error_steps;
 #[cfg(test)]
+mod events;
+#[cfg(test)]
 mod extended_nodes;
 #[cfg(test)]
 mod fitting;

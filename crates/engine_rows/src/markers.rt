@@ -31,6 +31,7 @@ fn node_is_preceded_by_one_that_has_it(rt: HostRuntime) -> Result<(), Fail> {
             text: "foo.bar",
             tokens: &[word(3), dot, word(3)],
             recorded: 7,
+            turns: 11,
             steps: &[
                 enter(702),
                 enter(701),
@@ -68,6 +69,7 @@ fn marker_in_front_of_a_node_may_be_given_up(rt: HostRuntime) -> Result<(), Fail
             text: "a b",
             tokens: &[word(1), space(1), word(1)],
             recorded: 9,
+            turns: 15,
             steps: &[
                 enter(700),
                 enter(701),
@@ -95,6 +97,7 @@ fn abandoned_node_leaves_what_stood_in_it(rt: HostRuntime) -> Result<(), Fail> {
             text: "a",
             tokens: &[word(1)],
             recorded: 4,
+            turns: 6,
             steps: &[enter(700), word_step("a"), EXIT],
             is_whole: true,
         },
@@ -112,6 +115,7 @@ fn marker_may_be_abandoned_at_once(rt: HostRuntime) -> Result<(), Fail> {
             text: "a",
             tokens: &[word(1)],
             recorded: 4,
+            turns: 4,
             steps: &[enter(700), word_step("a"), EXIT],
             is_whole: true,
         },
@@ -138,6 +142,7 @@ fn extended_node_begins_at_the_marker(rt: HostRuntime) -> Result<(), Fail> {
             text: "a b",
             tokens: &[word(1), space(1), word(1)],
             recorded: 7,
+            turns: 12,
             steps: &[
                 enter(700),
                 enter(701),

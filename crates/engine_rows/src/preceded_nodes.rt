@@ -29,6 +29,7 @@ fn path_is_in_front_of_a_path(rt: HostRuntime) -> Result<(), Fail> {
             text: "foo.bar",
             tokens: &[word(3), dot, word(3)],
             recorded: 7,
+            turns: 11,
             steps: &[
                 enter(706),
                 enter(706),
@@ -64,6 +65,7 @@ fn node_behind_one_that_was_given_up_stands_alone(rt: HostRuntime) -> Result<(),
             text: "a b",
             tokens: &[word(1), space(1), word(1)],
             recorded: 9,
+            turns: 15,
             steps: &[
                 enter(700),
                 enter(701),
@@ -99,6 +101,7 @@ fn token_behind_a_node_that_was_given_up_stands_outside(rt: HostRuntime) -> Resu
             text: "a b",
             tokens: &[word(1), space(1), word(1)],
             recorded: 7,
+            turns: 12,
             steps: &[
                 enter(700),
                 enter(701),
@@ -131,6 +134,7 @@ fn preceding_node_is_preceded(rt: HostRuntime) -> Result<(), Fail> {
             text: "a",
             tokens: &[word(1)],
             recorded: 7,
+            turns: 14,
             steps: &[
                 enter(707),
                 enter(702),
@@ -169,6 +173,7 @@ fn last_of_a_chain_is_outermost(rt: HostRuntime) -> Result<(), Fail> {
             text: "a",
             tokens: &[word(1)],
             recorded: 13,
+            turns: 29,
             steps: &[
                 enter(706),
                 enter(705),
@@ -206,6 +211,7 @@ fn error_behind_a_preceded_node_goes_into_it(rt: HostRuntime) -> Result<(), Fail
             text: "a",
             tokens: &[word(1)],
             recorded: 6,
+            turns: 10,
             steps: &[
                 enter(700),
                 enter(701),

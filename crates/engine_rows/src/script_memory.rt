@@ -40,6 +40,7 @@ fn node_that_is_extended_twice_is_whole(rt: HostRuntime) {
             text: "a b c",
             tokens: &[word(1), space(1), word(1), space(1), word(1)],
             recorded: 9,
+            turns: 17,
             steps: &[
                 enter(700),
                 enter(705),
@@ -75,6 +76,7 @@ fn extended_node_in_front_of_another_is_whole(rt: HostRuntime) {
             text: "a",
             tokens: &[word(1)],
             recorded: 8,
+            turns: 16,
             steps: &[
                 enter(700),
                 enter(701),

@@ -87,6 +87,7 @@ fn each_of_many_markers_has_its_node(rt: HostRuntime) -> Result<(), Fail> {
 
     let output = script_output_of(rt.alloc(), "", &[], Kinds::Plain, &lines)?;
     assert_eq!(rt; output.recorded(), 4000);
+    assert_eq!(rt; output.turns(), 6000);
     let mut steps = output.iter();
     assert_eq!(rt; steps.next(), Some(output::enter(700)));
     for marker in 1..2000 {

@@ -49,6 +49,7 @@ fn trivia_stands_between_the_tokens_of_a_sequence(rt: HostRuntime) -> Result<(),
             text: "is /*x*/ distinct from",
             tokens: &tokens,
             recorded: 7,
+            turns: 9,
             steps: &[
                 enter(700),
                 enter(659),
@@ -123,6 +124,7 @@ fn normal_form_stands_in_a_node_of_its_own(rt: HostRuntime) -> Result<(), Fail> 
             text: "x is nfc normalized",
             tokens: &tokens,
             recorded: 10,
+            turns: 13,
             steps: &[
                 enter(700),
                 word_step("x"),
@@ -154,6 +156,7 @@ fn tail_stands_in_the_node_of_its_kind(rt: HostRuntime) -> Result<(), Fail> {
             text: "is json x",
             tokens: &tokens,
             recorded: 7,
+            turns: 9,
             steps: &[
                 enter(700),
                 enter(646),
@@ -181,6 +184,7 @@ fn kind_that_does_not_stand_runs_no_tail(rt: HostRuntime) -> Result<(), Fail> {
             text: "is json x",
             tokens: &tokens,
             recorded: 2,
+            turns: 3,
             steps: &[enter(700), EXIT],
             is_whole: false,
         },
@@ -226,6 +230,7 @@ fn call_of_an_operator_is_closed(rt: HostRuntime) -> Result<(), Fail> {
             text: "operator(+",
             tokens: &tokens,
             recorded: 8,
+            turns: 10,
             steps: &[
                 enter(700),
                 enter(658),
@@ -262,6 +267,7 @@ fn closed_call_of_an_operator_has_its_parenthesis(rt: HostRuntime) -> Result<(),
             text: "operator(+)",
             tokens: &tokens,
             recorded: 8,
+            turns: 10,
             steps: &[
                 enter(700),
                 enter(658),

@@ -74,6 +74,7 @@ fn statement_has_its_nodes(rt: HostRuntime) {
                 semi,
             ],
             recorded: 15,
+            turns: 21,
             steps: &[
                 enter(710),
                 space_step("\u{feff}"),
@@ -109,6 +110,7 @@ fn skipped_token_is_whole(rt: HostRuntime) {
             text: " ,",
             tokens: &[space(1), COMMA],
             recorded: 6,
+            turns: 8,
             steps: &[
                 enter(700),
                 space_step(" "),
@@ -139,6 +141,7 @@ fn expected_kind_is_whole(rt: HostRuntime) {
                 text: "a",
                 tokens: &[word(1)],
                 recorded: 4,
+                turns: 5,
                 steps: &[enter(700), word_step("a"), error_step(msg, 1), EXIT],
                 is_whole: true,
             },

@@ -13,7 +13,6 @@ fn assert_sent(rt: &(impl Abort + AllocGlobal), calls: Calls, case: Case<'_>) ->
     let by_grammar = parse(rt.alloc(), &table, calls)?;
     let by_script = parse_script(rt.alloc(), &table, calls.lines())?;
     for output in [&by_grammar, &by_script] {
-        assert_eq!(rt; output.turns(), 0);
         assert_case(rt, output, case)?;
     }
     Ok(())
@@ -28,6 +27,7 @@ fn empty_text_has_a_node_alone(rt: HostRuntime) -> Result<(), Fail> {
             text: "",
             tokens: &[],
             recorded: 2,
+            turns: 3,
             steps: &[enter(700), EXIT],
             is_whole: true,
         },
@@ -43,6 +43,7 @@ fn nodes_that_cross_in_the_calls_nest_in_the_steps(rt: HostRuntime) -> Result<()
             text: "a b c",
             tokens: &[word(1), space(1), word(1), space(1), word(1)],
             recorded: 9,
+            turns: 12,
             steps: &[
                 enter(700),
                 enter(703),
@@ -70,6 +71,7 @@ fn token_that_was_not_eaten_is_left_out(rt: HostRuntime) -> Result<(), Fail> {
             text: "a b",
             tokens: &[word(1), space(1), word(1)],
             recorded: 3,
+            turns: 4,
             steps: &[enter(700), word_step("a"), space_step(" "), EXIT],
             is_whole: false,
         },
@@ -85,6 +87,7 @@ fn byte_order_mark_goes_into_the_node(rt: HostRuntime) -> Result<(), Fail> {
             text: "\u{feff}a",
             tokens: &[space(3), word(1)],
             recorded: 3,
+            turns: 4,
             steps: &[enter(700), space_step("\u{feff}"), word_step("a"), EXIT],
             is_whole: true,
         },
@@ -100,6 +103,7 @@ fn white_space_stands_between_two_words(rt: HostRuntime) -> Result<(), Fail> {
             text: "a b",
             tokens: &[word(1), space(1), word(1)],
             recorded: 4,
+            turns: 5,
             steps: &[
                 enter(700),
                 word_step("a"),

@@ -18,3 +18,4 @@ pub mod EditedLog
 pub mod AbandonedLog
 pub mod IdsBelow
 pub mod FoundHoles
+pub mod Examples

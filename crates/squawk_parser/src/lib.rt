@@ -6,6 +6,7 @@ pub mod parser;
 pub use parser::{
     CompletedMarker, EntryPoint, Grammar, Limits, Marker, ParseError, Parser, Part, Words, has_tail,
 };
+pub use squawk_event::{Event, event, process};
 pub use squawk_kinds::{
     SyntaxKind, TokenSet, Vocabulary, classes, is_col_name_keyword, is_reserved_keyword,
     is_type_func_name_keyword, syntax_kind, token_set, vocabulary,
