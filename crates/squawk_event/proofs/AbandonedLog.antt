@@ -6,7 +6,7 @@ use Rattle.std.proofs.lemmas.Bool.{eq-eqb, eqb-true, ne_eqb}
 use Rattle.std.proofs.lemmas.Bool.Decides.{eqb_tells}
 use Rattle.std.proofs.lemmas.Grind.{flat_map-append}
 use Rattle.std.proofs.lemmas.List.{append-nil, length-set, get_or-set_same, get_or-set_other}
-use Rattle.std.proofs.lemmas.List.Sums.{sum_by-append, sum_by-cons}
+use Rattle.std.proofs.lemmas.List.Sums.{sum_by-append}
 use Rattle.squawk_kinds.specs.Kinds.{TOMBSTONE}
 use Rattle.squawk_event.specs.declared.event.Event.{Event}
 use Rattle.squawk_event.specs.declared.event.Event.TheVariants.{Finish}
@@ -22,6 +22,7 @@ use Rattle.squawk_event.proofs.Groups.{flat_map-gathered, gathered-same, itself}
 use Rattle.squawk_event.proofs.LogEdits.{draft_items-filled, draft_items-push, length-push}
 use Rattle.squawk_event.proofs.LogItems.{IsHoleAt, IsHoleAt-found, hole-elsewhere}
 use Rattle.squawk_event.proofs.LogTurns.{one_if}
+use Rattle.squawk_event.proofs.Sums.{count_by-cons}
 use Rattle.squawk_event.proofs.Owners.{owner-below}
 
 -- ---- how many entries go
@@ -32,7 +33,7 @@ count-none p [] fails = refl
 count-none p (x ∷ xs) fails =
     let first = fails x (0, omega arith, refl) in
     let rest = count-none p xs (λ item there. fails item (suc there.0, omega (arith, there.1), there.2)) in
-    omega (arith, sum_by-cons (λ item. one_if (p item)) x xs, ap one_if first, rest)
+    omega (arith, count_by-cons p x xs, ap one_if first, rest)
 
 and-false : (b c : Bool) → c ≡ false → (b && c) ≡ false
 and-false true c e = e

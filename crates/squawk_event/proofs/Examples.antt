@@ -3,7 +3,6 @@ use Rattle.std.proofs.Common.{◌≡◌, true, false, Some, None, [], ◌∷◌,
 use Rattle.squawk_table.specs.Steps as steps
 use Rattle.squawk_table.specs.Steps.{Enter, Exit}
 use Rattle.squawk_event.specs.declared.event.Event.TheVariants.{Start, Finish, Token, Error}
-use Rattle.squawk_event.specs.Draft as draft
 use Rattle.squawk_event.specs.Draft.{ByPrecede, ByStart, Hole, Open, Close}
 use Rattle.squawk_event.specs.EventLog.{Log, list_of, turns_of}
 use Rattle.squawk_event.specs.LogDraft.{draft_items}

@@ -7,7 +7,7 @@ use Rattle.std.proofs.lemmas.Bool.{eqb-true}
 use Rattle.squawk_event.specs.declared.event.Event.{Event}
 use Rattle.squawk_event.specs.declared.event.Event.TheVariants.{Finish}
 use Rattle.squawk_event.specs.Chain.{tombstone}
-use Rattle.squawk_event.specs.Draft.{ByPrecede, ByStart, Draft, Hole, Made, Open}
+use Rattle.squawk_event.specs.Draft.{ByStart, Draft, Hole, Made, Open}
 use Rattle.squawk_event.specs.Edits.{abandoned, is_last_start}
 use Rattle.squawk_event.specs.EventLog.{Log}
 use Rattle.squawk_event.specs.LogDraft.{HasHoleOf, IsRecord, draft_of, made_at, made_of}

@@ -1,11 +1,11 @@
 -- The links and the turns of a log of which one event is put in, changed or taken out.
-use Rattle.std.proofs.Common.{◌≡◌, ◌≢◌, ℕ, zero, suc, ◌+◌, ◌-◌, ◌<◌, Bool, true, false, Some, None, Option, [], ◌∷◌, ◌++◌, length, length-append, get_or, set, refl, ap, arith}
+use Rattle.std.proofs.Common.{◌≡◌, ◌≢◌, ℕ, zero, suc, ◌+◌, ◌-◌, ◌<◌, true, false, Some, None, Option, [], ◌∷◌, ◌++◌, length, length-append, get_or, set, refl, ap, arith}
 use Rattle.squawk_event.specs.declared.event.Event.{Event}
 use Rattle.squawk_event.specs.declared.event.Event.TheVariants.{Start, Finish, Token, Error}
 use Rattle.squawk_event.specs.EventLog.{Lands, LinksLead, Log, ahead, is_start_at, leads, reaches, turns_of}
 use Rattle.squawk_event.proofs.Links.{Lands-still}
 use Rattle.squawk_event.proofs.LogTurns.{turns_at, turns_of-cons}
-use Rattle.squawk_event.proofs.Owners.{reaches-itself}
+use Rattle.squawk_event.proofs.Owners.{not_both, reaches-itself}
 
 -- ---- turns
 
@@ -64,9 +64,6 @@ start-front [] event zero ne h = absurd (ne refl)
 start-front [] event (suc n) ne h = absurd (cc)
 start-front (x ∷ xs) event zero ne h = h
 start-front (x ∷ xs) event (suc n) ne h = start-front xs event n (λ e. ne (ap suc e)) h
-
-not_both : (b : Bool) → b ≡ true → b ≡ false → ⊥
-not_both b e h = absurd (cc)
 
 Lands-front : (x : Event) (log : Log) (event : Event) → Lands x (log ++ event ∷ []) → leads (ahead x) (λ place. reaches (log ++ event ∷ []) place (length log)) ≡ false
     → Lands x log

@@ -1,3 +1,4 @@
+pub mod Sums
 pub mod Erased
 pub mod Peel
 pub mod EnteredBack

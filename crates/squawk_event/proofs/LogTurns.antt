@@ -1,10 +1,9 @@
 -- The turns of a log, event by event.
 use Rattle.std.proofs.Common.{◌≡◌, ℕ, ◌+◌, ◌*◌, ◌≤◌, Bool, Some, None, [], ◌∷◌, cond, length, arith}
-use Rattle.std.specs.Prelude.{count_by}
-use Rattle.std.proofs.lemmas.List.Sums.{sum_by-cons}
 use Rattle.squawk_event.specs.declared.event.Event.{Event}
 use Rattle.squawk_event.specs.declared.event.Event.TheVariants.{Start, Finish, Token, Error}
 use Rattle.squawk_event.specs.EventLog.{Log, has_link, is_start, turns_of}
+use Rattle.squawk_event.proofs.Sums.{count_by-cons}
 
 abbrev pub one_if : Bool → ℕ
 one_if b = cond b 1 0
@@ -12,9 +11,6 @@ one_if b = cond b 1 0
 -- the turns that one event brings
 abbrev pub turns_at : Event → ℕ
 turns_at event = 1 + one_if (is_start event) + 2 * one_if (has_link event)
-
-count_by-cons : (p : Event → Bool) (event : Event) (log : Log) → count_by p (event ∷ log) ≡ one_if (p event) + count_by p log
-count_by-cons p event log = sum_by-cons (λ x. one_if (p x)) event log
 
 pub turns_of-cons : (event : Event) (log : Log) → turns_of (event ∷ log) ≡ turns_at event + turns_of log
 turns_of-cons event log = omega (arith, count_by-cons is_start event log, count_by-cons has_link event log)

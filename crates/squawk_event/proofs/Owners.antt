@@ -8,7 +8,7 @@ use Rattle.squawk_event.specs.EventLog.{Lands, LinksLead, Log, ahead, leads, lea
 use Rattle.squawk_event.proofs.Links.{is_start_at-within}
 use Rattle.squawk_event.proofs.Peel.{least-same}
 
-not_both : (b : Bool) → b ≡ true → b ≡ false → ⊥
+pub not_both : (b : Bool) → b ≡ true → b ≡ false → ⊥
 not_both b e h = absurd (cc)
 
 -- ---- reaching

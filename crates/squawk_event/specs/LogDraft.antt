@@ -47,6 +47,10 @@ pub record IsRecord (log : Log) (marks : List Bool) (recorded wrong : ℕ) : Typ
   pub small : recorded < 2 ^ 32
   pub errors : wrong ≡ errors_of (draft_items log marks)
 
+-- a node that hasn't been preceded, with this id, is among the items
+abbrev pub HasNodeOf : List Item → ℕ → Type 0
+HasNodeOf items id = (kind : ℕ) × Contains items (draft.Open id kind true)
+
 -- a hole with this id is among the items
 abbrev pub HasHoleOf : List Item → ℕ → Type 0
 HasHoleOf items id = (made : Made) × Contains items (draft.Hole id made)

@@ -1,10 +1,10 @@
 //! The log of events in which a parser records.
-ghost use Rattle.std.specs.Prelude.{◌≡◌, ◌≢◌, ◌+◌, ◌<◌, ◌≤◌, ◌*◌, ◌^◌, ◌++◌, ◌∷◌, [], true, Contains, IfOk, OnOk, OnErr};
+ghost use Rattle.std.specs.Prelude.{ℕ, ◌≡◌, ◌≢◌, ◌+◌, ◌<◌, ◌≤◌, ◌*◌, ◌^◌, ◌++◌, ◌∷◌, [], true, Contains, IfOk, OnOk, OnErr};
 ghost use Rattle.squawk_kinds.specs.Kinds.{TOMBSTONE};
 ghost use Rattle.squawk_event.specs.Draft.{Hole, IsAboveIds, Open, errors_of, nothing, plain};
 ghost use Rattle.squawk_event.specs.Edits as spec;
 ghost use Rattle.squawk_event.specs.Edits.{abandoned, completed, extended, preceded, started, with_error, with_token};
-ghost use Rattle.squawk_event.specs.LogDraft.{HasHoleOf, made_of};
+ghost use Rattle.squawk_event.specs.LogDraft.{HasHoleOf, HasNodeOf, made_of};
 
 use crate::event::{Event, process};
 use squawk_kinds::SyntaxKind;
@@ -171,13 +171,12 @@ impl EventLog {
 
     /// The opening of a node moves to the hole's place, if that stands before it, and the hole goes.
     /// The marker was started before the node's.
-    pub fn extend(&mut self, node: u32, kind: SyntaxKind, id: u32)
-        requires node { Contains self.old.items (Open node kind true) }
+    pub fn extend(&mut self, node: u32, id: u32)
+        requires node { HasNodeOf self.old.items node }
         requires hole { HasHoleOf self.old.items id }
         requires older { id < node }
-        ensures { self.new ≡ extended self.old (record { id = node; kind = kind }) id }
+        ensures { (kind : ℕ) → Contains self.old.items (Open node kind true) → self.new ≡ extended self.old (record { id = node; kind = kind }) id }
     {
-        let _kind = kind;
         let place = id as usize;
         self.events[place] = Event::Start {
             kind: SyntaxKind::TOMBSTONE,

@@ -4,12 +4,12 @@ use Rattle.std.specs.Prelude.{Contains, count_by, drop}
 use Rattle.std.proofs.lemmas.Bool.{eqb-true, eq-eqb}
 use Rattle.squawk_table.specs.Steps as steps
 use Rattle.squawk_table.specs.Steps.{eaten, count_of}
-use Rattle.squawk_event.specs.Draft.{Made, Item, Hole, Open, Close, Token, Error, is_error, errors_of, ids, ids_of, plain, HasNoIdTwice}
+use Rattle.squawk_event.specs.Draft.{Made, Item, Hole, Open, Close, Token, Error, ids, ids_of, plain, HasNoIdTwice}
 use Rattle.squawk_event.specs.Edits.{filled, is_hole_of}
 use Rattle.squawk_table.specs.ParserInput.{Entry}
 use Rattle.squawk_table.specs.Shape.{IsOver}
 use Rattle.std.proofs.lemmas.List.Sums.{sum_by-cons}
-use Rattle.squawk_parser.proofs.Sums.{count_by-cons}
+use Rattle.squawk_event.proofs.Sums.{count_by-cons}
 use Rattle.squawk_parser.proofs.Splits.{holes-once}
 use Rattle.squawk_parser.proofs.Balance.{depth_after, depth_after-suc}
 
@@ -57,25 +57,6 @@ module _ (id kind : ℕ) where
       sum_by-cons count_of (steps.Token k n) (plain (filled items id kind)) ∙ (ap (λ m. n + m) (eaten-filled items) ∙ sym (sum_by-cons count_of (steps.Token k n) (plain items)))
   eaten-filled (Error text ∷ items) =
       sum_by-cons count_of (steps.Error text) (plain (filled items id kind)) ∙ (ap (λ n. 0 + n) (eaten-filled items) ∙ sym (sum_by-cons count_of (steps.Error text) (plain items)))
-
-  -- the errors stay
-  errors_cases : (i : ℕ) (made : Made) (rest : List Item) (b : Bool) → errors_of (hole_filled i made b ∷ rest) ≡ errors_of rest
-  errors_cases i made rest true = count_by-cons is_error (Open id kind true) rest ∙ omega arith
-  errors_cases i made rest false = count_by-cons is_error (Hole i made) rest ∙ omega arith
-
-  pub errors-filled : (items : List Item) → errors_of (filled items id kind) ≡ errors_of items
-  errors-filled [] = refl
-  errors-filled (Hole i made ∷ items) =
-      ap errors_of (filled-hole i made items)
-      ∙ (errors_cases i made (filled items id kind) (i == id) ∙ (errors-filled items ∙ sym (count_by-cons is_error (Hole i made) items ∙ omega arith)))
-  errors-filled (Open i k free ∷ items) =
-      omega (arith, errors-filled items, count_by-cons is_error (Open i k free) (filled items id kind), count_by-cons is_error (Open i k free) items)
-  errors-filled (Close ∷ items) =
-      omega (arith, errors-filled items, count_by-cons is_error Close (filled items id kind), count_by-cons is_error Close items)
-  errors-filled (Token k n ∷ items) =
-      omega (arith, errors-filled items, count_by-cons is_error (Token k n) (filled items id kind), count_by-cons is_error (Token k n) items)
-  errors-filled (Error text ∷ items) =
-      omega (arith, errors-filled items, count_by-cons is_error (Error text) (filled items id kind), count_by-cons is_error (Error text) items)
 
   -- and they are over the same input
   over_cases : (i : ℕ) (made : Made) (rest : List Item) (input : List Entry) (b : Bool) → IsOver (plain rest) input → IsOver (plain (hole_filled i made b ∷ rest)) input

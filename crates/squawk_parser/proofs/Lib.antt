@@ -4,7 +4,6 @@ pub mod Pairs
 pub mod RecordedItems
 pub mod RecordedSteps
 pub mod Recovery
-pub mod Sums
 pub mod TailHoles
 pub mod Balance
 pub mod Filled

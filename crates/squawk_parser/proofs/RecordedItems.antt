@@ -9,7 +9,7 @@ use Rattle.squawk_table.specs.Steps.{Step, Enter, Exit, is_error, errors_in, eat
 use Rattle.squawk_event.specs.Draft as draft
 use Rattle.squawk_event.specs.Draft.{Item, Made, Hole, Open, Close, Token, Error, HasNoHole, IsAboveIds, errors_of, ids, ids_of, is_hole, plain, steps_of}
 use Rattle.squawk_event.specs.Edits.{filled}
-use Rattle.squawk_parser.proofs.Sums.{count_by-cons}
+use Rattle.squawk_event.proofs.Sums.{count_by-cons}
 
 pub plain-append : (xs ys : List Item) → plain (xs ++ ys) ≡ plain xs ++ plain ys
 plain-append xs ys = flat_map-append steps_of xs ys
@@ -19,9 +19,6 @@ ids-append xs ys = flat_map-append ids_of xs ys
 
 pub filled-append : (id kind : ℕ) (xs ys : List Item) → filled (xs ++ ys) id kind ≡ filled xs id kind ++ filled ys id kind
 filled-append id kind xs ys = flat_map-append _ xs ys
-
-pub errors-append : (xs ys : List Item) → errors_of (xs ++ ys) ≡ errors_of xs + errors_of ys
-errors-append xs ys = sum_by-append (λ item. cond (draft.is_error item) 1 0) xs ys
 
 pub steps_errors-append : (xs ys : List Step) → errors_in (xs ++ ys) ≡ errors_in xs + errors_in ys
 steps_errors-append xs ys = sum_by-append (λ step. cond (is_error step) 1 0) xs ys

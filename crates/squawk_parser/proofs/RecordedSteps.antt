@@ -15,7 +15,8 @@ use Rattle.squawk_parser.specs.State.{State, Goes, HasHole, Keeps, Records}
 use Rattle.squawk_parser.specs.declared.parser.parse_error.ParseError.{ParseError}
 use Rattle.squawk_parser.specs.declared.parser.parse_error.ParseError.TheVariants.{OutOfMemory, TooManyEvents}
 use Rattle.squawk_parser.proofs.Pairs.{AllPairs-nil, AllPairs-append}
-use Rattle.squawk_parser.proofs.RecordedItems.{plain-append, ids-append, filled-append, errors-append, steps_errors-append, eaten-append, errors-plain, All-front, filled-below, filled-closed, filled-here}
+use Rattle.squawk_parser.proofs.RecordedItems.{plain-append, ids-append, filled-append, steps_errors-append, eaten-append, errors-plain, All-front, filled-below, filled-closed, filled-here}
+use Rattle.squawk_event.proofs.EditedErrors.{errors-append}
 use Rattle.squawk_parser.proofs.Splits.{All-back}
 
 -- ---- the turns of steps

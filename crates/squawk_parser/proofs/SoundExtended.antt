@@ -1,16 +1,15 @@
 -- A parser stays sound where a marker is abandoned, and where a node is extended to one.
-use Rattle.std.proofs.Common.{◌≡◌, ◌∙◌, ℕ, ◌+◌, ◌<◌, ◌≤◌, ◌==◌, Bool, true, false, List, [], ◌∷◌, ◌++◌, cond, arith, ap, sym, refl, subst}
-use Rattle.std.specs.Prelude.{All, Contains, count_by}
+use Rattle.std.proofs.Common.{◌≡◌, ◌∙◌, ℕ, ◌+◌, ◌≤◌, ◌==◌, Bool, true, false, List, [], ◌∷◌, ◌++◌, cond, arith, ap, sym, refl, subst}
+use Rattle.std.specs.Prelude.{Contains, count_by}
 use Rattle.std.proofs.lemmas.List.{append_assoc}
-use Rattle.std.proofs.lemmas.List.Elements.{All-append, All-cons, All-head, All-tail}
-use Rattle.squawk_event.specs.Draft.{Draft, Made, Item, Hole, Open, Node, ids, plain, HasNoIdTwice, IsAboveIds}
+use Rattle.squawk_event.specs.Draft.{Draft, Made, Item, Hole, Open, Node, ids, plain, HasNoIdTwice}
 use Rattle.squawk_event.specs.Edits.{is_hole_of, is_opening_of, replaced, abandoned, without_hole, stands_before, moved, extended, extended_items}
 use Rattle.squawk_parser.specs.State.{State, Goes}
-use Rattle.squawk_parser.proofs.Sums.{count_by-cons}
-use Rattle.squawk_parser.proofs.RecordedItems.{plain-append, ids-append, All-front}
+use Rattle.squawk_event.proofs.Sums.{count_by-cons}
+use Rattle.squawk_parser.proofs.RecordedItems.{plain-append, ids-append}
 use Rattle.squawk_parser.proofs.Soundness.{IsKept}
 use Rattle.squawk_parser.proofs.SoundMoves.{IsMoved, IsMoved-same, IsMoved-earlier, IsKept-moved}
-use Rattle.squawk_parser.proofs.Splits.{split, All-back, count_by-append, count_by-passes, count_by-fails, Contains-passed, replaced-at, first, a_hole, itself, holes-once, openings-once}
+use Rattle.squawk_parser.proofs.Splits.{split, count_by-append, count_by-passes, count_by-fails, Contains-passed, replaced-at, first, a_hole, itself, holes-once, openings-once}
 
 -- what stays of items from which a hole is taken
 pub record IsTaken (old new : List Item) : Type 0 where

@@ -1,7 +1,6 @@
 -- A parser stays sound where a node is preceded, a marker is abandoned, and a node is extended.
 use Rattle.std.proofs.Common.{◌≡◌, ◌∙◌, ℕ, zero, suc, ◌+◌, ◌<◌, ◌≤◌, ◌==◌, true, false, Some, List, [], ◌∷◌, ◌++◌, drop, arith, ap, sym, refl, subst}
-use Rattle.std.specs.Prelude.{All, Contains, count_by}
-use Rattle.std.proofs.lemmas.List.Elements.{All-append, All-cons}
+use Rattle.std.specs.Prelude.{Contains, count_by}
 use Rattle.squawk_table.specs.Steps as steps
 use Rattle.squawk_table.specs.Steps.{Step, Enter, eaten, errors_in}
 use Rattle.squawk_table.specs.ParserInput.{Entry}
@@ -11,11 +10,11 @@ use Rattle.squawk_event.specs.Draft.{Draft, Item, Made, Hole, Open, ByPrecede, i
 use Rattle.squawk_event.specs.Edits.{is_opening_of, replaced, preceded, preceded_item}
 use Rattle.squawk_parser.specs.State.{State, Goes}
 use Rattle.squawk_parser.specs.declared.parser.parse_error.ParseError.TheVariants.{TooManyEvents, TooManyErrors}
-use Rattle.squawk_parser.proofs.Sums.{count_by-cons}
+use Rattle.squawk_event.proofs.Sums.{count_by-cons}
 use Rattle.squawk_parser.proofs.Balance.{depth_after, depth_after-append, depth_after-suc, depth_after-balanced, IsBalanced-depth_after}
-use Rattle.squawk_parser.proofs.RecordedItems.{plain-append, ids-append, eaten-append, steps_errors-append, errors-plain, All-front}
+use Rattle.squawk_parser.proofs.RecordedItems.{plain-append, ids-append, eaten-append, steps_errors-append, errors-plain}
 use Rattle.squawk_parser.proofs.Soundness.{IsKept, HasNoIdTwice-push, not_refused}
-use Rattle.squawk_parser.proofs.Splits.{Split, split, All-back, count_by-append, count_by-passes, count_by-fails, replaced-at, itself, openings-once}
+use Rattle.squawk_parser.proofs.Splits.{Split, split, count_by-append, count_by-passes, count_by-fails, replaced-at, itself, openings-once}
 
 -- ---- the plain list
 

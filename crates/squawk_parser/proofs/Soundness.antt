@@ -4,7 +4,7 @@ use Rattle.std.specs.Prelude.{All, Contains, IsSome, count_by}
 use Rattle.std.proofs.lemmas.Bool.{eqb-true}
 use Rattle.std.proofs.lemmas.List.{append-nil}
 use Rattle.std.proofs.lemmas.List.Sums.{sum_by-append}
-use Rattle.std.proofs.lemmas.List.Elements.{All-head, All-tail, All-push, All-weaker}
+use Rattle.std.proofs.lemmas.List.Elements.{All-head, All-tail}
 use Rattle.squawk_table.specs.Steps as steps
 use Rattle.squawk_table.specs.Steps.{Step, eaten, count_of}
 use Rattle.squawk_event.specs.Draft.{Made, Item, Hole, Close, Token, Error, ByStart, is_error, errors_of, ids, plain, HasNoIdTwice, IsAboveIds}
@@ -14,10 +14,11 @@ use Rattle.squawk_table.proofs.Over.{IsOver-token_last, IsOver-exit_last, IsOver
 use Rattle.squawk_parser.specs.State.{State, IsSound, Goes, ahead}
 use Rattle.squawk_parser.specs.declared.parser.parse_error.ParseError.{ParseError}
 use Rattle.squawk_parser.specs.declared.parser.parse_error.ParseError.TheVariants.{OutOfMemory, TooManyEvents, TooManyErrors}
-use Rattle.squawk_parser.proofs.Sums.{count_by-cons}
+use Rattle.squawk_event.proofs.EditedErrors.{errors-filled}
+use Rattle.squawk_event.proofs.Sums.{count_by-cons}
 use Rattle.squawk_parser.proofs.RecordedItems.{plain-append, ids-append}
 use Rattle.squawk_parser.proofs.Balance.{depth_after, depth_after-append, depth_after-balanced, IsBalanced-depth_after}
-use Rattle.squawk_parser.proofs.Filled.{ids-filled, eaten-filled, errors-filled, IsOver-filled, depth_after-filled, one_hole, holes}
+use Rattle.squawk_parser.proofs.Filled.{ids-filled, eaten-filled, IsOver-filled, depth_after-filled, one_hole, holes}
 use Rattle.squawk_parser.proofs.OneToken.{AreOneToken-seen, AreOneToken-within}
 
 -- one more item has one error more, or none

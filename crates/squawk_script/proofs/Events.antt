@@ -9,10 +9,8 @@ use Rattle.squawk_table.specs.Steps.{Step, errors_in, is_error}
 use Rattle.squawk_event.specs.Draft as draft
 use Rattle.squawk_event.specs.Draft.{ByPrecede, ByStart, Draft, Item, errors_of}
 use Rattle.squawk_parser.specs.Words.{Words}
-use Rattle.squawk_event.proofs.EditedErrors.{errors-extended, errors-preceded, errors-without_hole}
-use Rattle.squawk_parser.proofs.Filled.{errors-filled}
-use Rattle.squawk_parser.proofs.RecordedItems.{errors-append}
-use Rattle.squawk_parser.proofs.Sums.{count_by-cons}
+use Rattle.squawk_event.proofs.EditedErrors.{errors-append, errors-extended, errors-filled, errors-preceded, errors-without_hole}
+use Rattle.squawk_event.proofs.Sums.{count_by-cons}
 use Rattle.squawk_event.specs.Edits.{filled}
 use Rattle.squawk_script.specs.Events.{errors_among, events_from, events_made, events_of}
 use Rattle.squawk_script.specs.Meaning.{Run, begin, call_steps, item_for, marker_at, new_id, run_of, seen, stepped, with_step, with_steps}

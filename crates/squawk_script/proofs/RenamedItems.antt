@@ -7,7 +7,7 @@ use Rattle.squawk_event.specs.Draft.{Item, Made, Node, Hole, Open, Close, Token,
 use Rattle.squawk_event.specs.Edits.{extended_items, filled, is_hole_of, is_last_start, is_opening_of, moved, preceded_item, replaced, stands_before, without_hole}
 use Rattle.squawk_parser.proofs.RecordedItems.{All-front}
 use Rattle.squawk_parser.proofs.Splits.{All-back}
-use Rattle.squawk_parser.proofs.Sums.{count_by-cons}
+use Rattle.squawk_event.proofs.Sums.{count_by-cons}
 use Rattle.squawk_script.specs.Slots.{renamed, same_id}
 use Rattle.squawk_script.proofs.RenamedIds.{All-without_opening}
 

@@ -63,16 +63,17 @@ impl Output {
         &self.steps
     }
 
-    /// How many events the parse recorded: one for each start, completion, token and
-    /// error.
+    /// How many events the parse recorded: one for each start, each node that was begun in front of
+    /// another, each completion, token and error, also where a marker was abandoned.
     pub fn recorded(&self) -> u32
         ensures { result ≡ self.now.recorded }
     {
         self.recorded
     }
 
-    /// How many turns the pass over the events took that made the steps: 0, since there is no
-    /// such pass.
+    /// How many turns the pass over the events took that made the steps: one for each event, one for
+    /// each beginning of a node, and two for each link. They are at most four times the recorded
+    /// events of a parse.
     pub fn turns(&self) -> u64
         ensures { result ≡ self.now.turns }
     {

@@ -130,7 +130,7 @@ impl CompletedMarker {
         let CompletedMarker { id: node, kind } = self;
         let Marker { id, made: _ } = m;
         if p.first.is_none() {
-            p.log.extend(node, kind, id);
+            p.log.extend(node, id);
         }
         CompletedMarker { id: node, kind }
     }

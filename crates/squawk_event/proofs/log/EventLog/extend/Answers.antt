@@ -17,12 +17,12 @@ index_mut-requires-2 c =
 pub invariant_of-self : goal.invariant_of-self
 invariant_of-self c =
     let hole = found-hole _ _ _ _ c.self.view_is c.args.id c.requires.hole in
-    let here = found-node _ _ _ _ c.self.view_is c.args.node c.args.kind c.requires.node in
-    IsRecord-extended _ _ _ _ c.self.invariant c.args.id c.args.node c.args.kind hole.1.within hole.1.marked here c.requires.older
+    let here = found-node _ _ _ _ c.self.view_is c.args.node c.requires.node.0 c.requires.node.1 in
+    IsRecord-extended _ _ _ _ c.self.invariant c.args.id c.args.node c.requires.node.0 hole.1.within hole.1.marked here c.requires.older
 
 pub returns : goal.returns
-returns c =
+returns c kind there =
     let hole = found-hole _ _ _ _ c.self.view_is c.args.id c.requires.hole in
-    let here = found-node _ _ _ _ c.self.view_is c.args.node c.args.kind c.requires.node in
-    draft_of-extended _ _ _ _ c.self.invariant c.args.id c.args.node c.args.kind hole.1.within hole.1.marked here c.requires.older
-    ∙ ap (λ d. extended d (record { id = c.args.node; kind = c.args.kind }) c.args.id) c.self.view_is
+    let here = found-node _ _ _ _ c.self.view_is c.args.node kind there in
+    draft_of-extended _ _ _ _ c.self.invariant c.args.id c.args.node kind hole.1.within hole.1.marked here c.requires.older
+    ∙ ap (λ d. extended d (record { id = c.args.node; kind = kind }) c.args.id) c.self.view_is

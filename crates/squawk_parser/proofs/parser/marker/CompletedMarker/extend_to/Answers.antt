@@ -1,6 +1,6 @@
 use Rattle.std.proofs.Common.{◌≡◌, ◌∙◌, ap, sym, subst}
 use Rattle.std.specs.Prelude.{true, Contains}
-use Rattle.squawk_event.specs.Draft.{Hole, Open, Mark, Node}
+use Rattle.squawk_event.specs.Draft.{Draft, Hole, Open, Mark, Node}
 use Rattle.squawk_event.specs.LogDraft.{made_of}
 use Rattle.squawk_event.specs.Edits.{extended}
 use Rattle.squawk_parser.specs.State.{State, Goes}
@@ -23,7 +23,7 @@ invariant_of-p c =
     let hole = subst (λ t. HasHole t m) (sym c.p.view_is)
     (subst (HasHole c.args.p.now) (sym c.m.view_is) (c.requires.hole went)) in
     let after = IsKept-extended s node m.id m.made (kept c.p.inside c.p.invariant) goes hole there in
-    rw c.extend.ensures after.sound
+    rw (c.extend.ensures node.kind there) after.sound
 
 pub returns-clause-changes : goal.returns-clause-changes
 returns-clause-changes c =
@@ -34,7 +34,11 @@ returns-clause-changes c =
     ∙ (ap (λ node. extended c.args.p.now.draft node c.m.inside.id) c.self.view_is ∙ ap (λ m. extended c.args.p.now.draft c.args.self m.id) c.m.view_is) in
     elim c.if-is_none.branch [
       | then-is_none w ↦
-          Changes-edited c.args.p.now s c.if-is_none.p edited c.p.view_is (goes_on s (w.if-is_none.ensures))
-          (cc)
+          let goes : Goes s = goes_on s (w.if-is_none.ensures) in
+          let Has : State → Node → Type 0 = λ t m. Contains t.draft.items (Open m.id m.kind true) in
+          let there = subst (λ t. Has t (record { id = c.self.inside.id; kind = c.self.inside.kind })) (sym c.p.view_is)
+          (subst (Has c.args.p.now) (sym c.self.view_is) (c.requires.node (subst Goes c.p.view_is goes))) in
+          Changes-edited c.args.p.now s c.if-is_none.p edited c.p.view_is goes
+          (w.p-is ∙ ap {A = Draft} (λ d. record s { draft = d }) (w.extend.ensures c.self.inside.kind there ∙ same))
       | else-is_none w ↦ Changes-failed c.args.p.now s c.if-is_none.p edited c.p.view_is (w.if-is_none.ensures) w.p-is
     ]
