@@ -49,7 +49,8 @@ set-same [] place d = refl
 set-same (x ∷ xs) zero d = refl
 set-same (x ∷ xs) (suc n) d = ap (λ ys. x ∷ ys) (set-same xs n d)
 
-module _ (log : Log) (marks : List Bool) (recorded errors : ℕ) (is : IsRecord log marks recorded errors) (id : ℕ) (made : Made) (here : IsHoleAt log marks id made) where
+module _ (log : Log) (marks : List Bool) (recorded errors : ℕ) (is : IsRecord log marks recorded errors) (id : ℕ) (made : Made)
+    (here : IsHoleAt log marks id made) where
   empty_here : get_or log id Finish ≡ tombstone
   empty_here = is.holes id here.within here.marked
 
@@ -108,7 +109,8 @@ owns_itself log id made = cases (owner log id == id) refl made
     cases true e h = eqb-true (owner log id) id e
     cases false e h = absurd (cc)
 
-module _ (log : Log) (marks : List Bool) (recorded errors : ℕ) (is : IsRecord (log ++ tombstone ∷ []) (marks ++ true ∷ []) recorded errors) (same : length marks ≡ length log)
+module _ (log : Log) (marks : List Bool) (recorded errors : ℕ) (is : IsRecord (log ++ tombstone ∷ []) (marks ++ true ∷ []) recorded errors)
+    (same : length marks ≡ length log)
     (made : made_at (log ++ tombstone ∷ []) (length log) ≡ ByStart (length log)) where
   abbrev whole : Log
   whole = log ++ tombstone ∷ []

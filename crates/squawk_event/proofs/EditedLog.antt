@@ -84,7 +84,8 @@ holes-unmarked log marks id event same lt holes place h marked =
           ∙ holes place (omega (arith, h, length-set log id event)) (sym (get_or-set_other marks id place false false e.1) ∙ marked)
     ]
 
-module _ (log : Log) (marks : List Bool) (recorded errors : ℕ) (is : IsRecord log marks recorded errors) (id : ℕ) (within : id < length log) (marked : get_or marks id false ≡ true) (kind : ℕ) (ne : kind ≢ TOMBSTONE) where
+module _ (log : Log) (marks : List Bool) (recorded errors : ℕ) (is : IsRecord log marks recorded errors) (id : ℕ) (within : id < length log)
+    (marked : get_or marks id false ≡ true) (kind : ℕ) (ne : kind ≢ TOMBSTONE) where
   abbrev opened : Event
   opened = Start kind None
 
@@ -113,7 +114,8 @@ module _ (log : Log) (marks : List Bool) (recorded errors : ℕ) (is : IsRecord 
       (omega (arith, turns_of-set log id opened Finish within, ap turns_at empty_here))
 
 -- a closing is put at the end, and the hole becomes an opening
-module _ (log : Log) (marks : List Bool) (recorded errors : ℕ) (is : IsRecord log marks recorded errors) (id : ℕ) (made : Made) (here : IsHoleAt log marks id made) (kind : ℕ) (ne : kind ≢ TOMBSTONE) (room : recorded + 1 < 2 ^ 32) where
+module _ (log : Log) (marks : List Bool) (recorded errors : ℕ) (is : IsRecord log marks recorded errors) (id : ℕ) (made : Made)
+    (here : IsHoleAt log marks id made) (kind : ℕ) (ne : kind ≢ TOMBSTONE) (room : recorded + 1 < 2 ^ 32) where
   abbrev ended : Log
   ended = log ++ Finish ∷ []
 

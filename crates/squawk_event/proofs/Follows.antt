@@ -87,7 +87,8 @@ module _ (log : Log) (kinds : List ℕ) (output : Walk) (from : Option ℕ) wher
         recorded = follows.recorded;
       }
 
-  module _ (left : Log) (found : List ℕ) (made : Walk) (at distance : ℕ) (next : Option ℕ) (some : next ≡ Some distance) (follows : Follows log kinds output from left found made (hop at next)) where
+  module _ (left : Log) (found : List ℕ) (made : Walk) (at distance : ℕ) (next : Option ℕ) (some : next ≡ Some distance)
+      (follows : Follows log kinds output from left found made (hop at next)) where
     pub turn_fits : made.turns + 1 ≤ output.turns + length log
     turn_fits =
         let follows_here = rw some at follows in

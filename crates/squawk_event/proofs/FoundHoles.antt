@@ -43,7 +43,8 @@ last_start : (entries id : ℕ) (how : Given) → is_last_start entries (Hole id
 last_start entries id given.ByStart e = (refl, eqb-true (id + 1) entries e)
 last_start entries id given.ByPrecede e = absurd (cc)
 
-module _ (log front : Log) (marks front_marks : List Bool) (event : Event) (mark : Bool) (recorded errors id : ℕ) (how : Given) (is : IsRecord log marks recorded errors)
+module _ (log front : Log) (marks front_marks : List Bool) (event : Event) (mark : Bool) (recorded errors id : ℕ) (how : Given)
+    (is : IsRecord log marks recorded errors)
     (here : IsHoleAt log marks id (made_of how id)) (last : is_last_start (length log) (Hole id (made_of how id)) ≡ true) (split : log ≡ front ++ event ∷ []) (split_marks : marks ≡ front_marks ++ mark ∷ []) where
   at_end : id ≡ length front
   at_end = omega (arith, (last_start (length log) id how last).1, ap length split, length-push front event)

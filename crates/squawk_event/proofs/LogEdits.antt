@@ -59,7 +59,8 @@ draft_items-filled log marks id kind event f lt same is marked alone gives =
     ∙ sym (flat_map-gathered (λ x. if is_hole_of id x then f x else x ∷ []) (owner log) (items_at log marks) (length log)))
 
 -- a new hole at the end, and a link to it from a node that has none: the hole stands directly before the node's opening
-module _ (log : Log) (marks : List Bool) (node kind d : ℕ) (links : LinksLead log) (same : length marks ≡ length log) (far : length log ≡ node + suc d) (is : IsNodeAt log marks node kind) where
+module _ (log : Log) (marks : List Bool) (node kind d : ℕ) (links : LinksLead log) (same : length marks ≡ length log) (far : length log ≡ node + suc d)
+    (is : IsNodeAt log marks node kind) where
   abbrev n : ℕ
   n = length log
 

@@ -194,7 +194,8 @@ owner-last log x links = cases (least-passes (λ i. reaches (log ++ x ∷ []) i 
     cases (inr h) = below (eq-or-lt_of_le (owner-most (log ++ x ∷ []) (length log))) h
 
 -- a new link from m to c, where neither had one
-module _ (log : Log) (m c d : ℕ) (y z w : Event) (far : c ≡ m + suc d) (none : ahead (get_or log m z) ≡ None) (ends : ahead (get_or log c w) ≡ None) (some : ahead y ≡ Some d) (within : c < length log) where
+module _ (log : Log) (m c d : ℕ) (y z w : Event) (far : c ≡ m + suc d) (none : ahead (get_or log m z) ≡ None) (ends : ahead (get_or log c w) ≡ None)
+    (some : ahead y ≡ Some d) (within : c < length log) where
   m_within : m < length log
   m_within = omega (arith, far, within)
 

@@ -156,7 +156,8 @@ drop-set (x ∷ xs) zero event = refl
 drop-set (x ∷ xs) (suc n) event = drop-set xs n event
 
 -- as the code has it
-module _ (log : Log) (output turned : Walk) (place : ℕ) (x d t : Event) (within : place < length log) (links : LinksLead log) (got : x ≡ get_or log place d) (gone : t ≡ tombstone)
+module _ (log : Log) (output turned : Walk) (place : ℕ) (x d t : Event) (within : place < length log) (links : LinksLead log) (got : x ≡ get_or log place d)
+    (gone : t ≡ tombstone)
     (turn : turned ≡ record output { turns = output.turns + 1 }) where
   -- any other event gives its step
   pub Visits-other : (made : Walk) (event : Event) → is_start event ≡ false → ahead event ≡ None → has_link event ≡ false → x ≡ event

@@ -20,8 +20,8 @@ pub data Item : Type 0 where
   -- an error with its text
   Error : List ℕ → Item
 
--- The items in their order; how many events were recorded; how many entries they have in a log of events, which an abandoned marker may
--- leave again; and how many turns a pass over those entries takes.
+-- The items in their order, and three counts: the recorded events; the entries that a log of them has, from which an abandoned marker's
+-- may be taken out again; and the turns that a pass over those entries takes.
 pub record Draft : Type 0 where
   pub items : List Item
   pub recorded : ℕ

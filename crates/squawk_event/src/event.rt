@@ -62,7 +62,8 @@ impl Event {
 ///
 /// Each event gives its step where it stands; a `Start` of `TOMBSTONE` gives none. Where a `Start`
 /// has a link, all nodes along the links begin there, the farthest first, and nothing begins where
-/// those stand. Every link leads to a later `Start`, and the log has at most 4294967295 events.
+/// those stand. If links lead to one `Start` from two places, it begins at the first of them. Every
+/// link leads to a later `Start`, and the log has at most 4294967295 events.
 ///
 /// A turn is an event visited, a link followed, or a kind entered of those that a visit has found.
 /// An event that was reached by a link is visited too.
