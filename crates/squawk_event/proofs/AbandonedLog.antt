@@ -1,22 +1,22 @@
 -- A marker is abandoned: its hole's mark is taken away, or its event, where that is the last one and was made by a start.
-use Rattle.std.proofs.Common.{◌≡◌, ◌∙◌, ℕ, zero, suc, ◌+◌, ◌==◌, ◌<◌, Bool, true, false, List, [], ◌∷◌, ◌++◌, length, get_or, set, refl, sym, ap, arith, if◌then◌else◌, inl, inr}
+use Rattle.std.proofs.Common.{◌≡◌, ◌∙◌, ℕ, zero, suc, ◌+◌, ◌==◌, ◌<◌, Bool, true, false, List, [], ◌∷◌, ◌++◌, length, get_or, set, refl, sym, ap, subst, arith, if◌then◌else◌, inl, inr}
 use Rattle.std.specs.Prelude.{Contains, count_by, ◌&&◌}
 use Rattle.std.proofs.Math.ListN.{get_or-append}
 use Rattle.std.proofs.lemmas.Bool.{eq-eqb, eqb-true, ne_eqb}
 use Rattle.std.proofs.lemmas.Bool.Decides.{eqb_tells}
 use Rattle.std.proofs.lemmas.Grind.{flat_map-append}
-use Rattle.std.proofs.lemmas.List.{append-nil, length-set, get_or-set_same, get_or-set_other}
+use Rattle.std.proofs.lemmas.List.{append-nil, length-set}
 use Rattle.std.proofs.lemmas.List.Sums.{sum_by-append}
 use Rattle.squawk_kinds.specs.Kinds.{TOMBSTONE}
 use Rattle.squawk_event.specs.declared.event.Event.{Event}
 use Rattle.squawk_event.specs.declared.event.Event.TheVariants.{Finish}
 use Rattle.squawk_event.specs.Chain.{tombstone}
 use Rattle.squawk_event.specs.Draft.{ByPrecede, ByStart, Close, Error, Hole, Item, Made, Open, Token, errors_of}
-use Rattle.squawk_event.specs.Edits.{abandoned, entries_gone, is_hole_of, is_last_start, without_hole}
+use Rattle.squawk_event.specs.Edits.{abandoned, entries_gone, takes_entry, is_hole_of, is_last_start, without_hole}
 use Rattle.squawk_event.specs.EventLog.{LinksLead, Log, owner, reaches, turns_of}
 use Rattle.squawk_event.specs.LogDraft.{IsRecord, draft_items, draft_of, items_at, made_at}
 use Rattle.squawk_event.proofs.EditedErrors.{errors-without_hole}
-use Rattle.squawk_event.proofs.EditedLog.{HaveHoles, draft_is}
+use Rattle.squawk_event.proofs.EditedLog.{HaveHoles, draft_is, holes-unmarked}
 use Rattle.squawk_event.proofs.GrownLog.{LinksLead-front, turns_of-push}
 use Rattle.squawk_event.proofs.Groups.{flat_map-gathered, gathered-same, itself}
 use Rattle.squawk_event.proofs.LogEdits.{draft_items-filled, draft_items-push, length-push}
@@ -39,9 +39,6 @@ and-false : (b c : Bool) → c ≡ false → (b && c) ≡ false
 and-false true c e = e
 and-false false c e = refl
 
-abbrev goes : ℕ → ℕ → Item → Bool
-goes id entries item = is_hole_of id item && is_last_start entries item
-
 -- ---- the mark is taken away
 
 set-same : (log : Log) (place : ℕ) (d : Event) → set log place (get_or log place d) ≡ log
@@ -60,14 +57,9 @@ module _ (log : Log) (marks : List Bool) (recorded errors : ℕ) (is : IsRecord 
       ∙ draft_items-filled log marks id TOMBSTONE tombstone (λ item. []) here.within is.same_length empty_here here.marked refl (λ how. refl)
 
   holes-cleared : HaveHoles log (set marks id false)
-  holes-cleared place lt marked =
-      elim (eqb_tells place id) [
-        | inl e ↦
-            let gone : get_or (set marks id false) place false ≡ false =
-            ap (λ i. get_or (set marks id false) i false) e.1 ∙ get_or-set_same marks id false false (omega (arith, here.within, is.same_length)) in
-            absurd (cc)
-        | inr e ↦ is.holes place lt (sym (get_or-set_other marks id place false false e.1) ∙ marked)
-      ]
+  holes-cleared =
+      subst (λ events. HaveHoles events (set marks id false)) (set-same log id Finish)
+      (holes-unmarked log marks id (get_or log id Finish) is.same_length here.within is.holes)
 
   pub IsRecord-cleared : IsRecord log (set marks id false) recorded errors
   IsRecord-cleared = record {
@@ -80,7 +72,7 @@ module _ (log : Log) (marks : List Bool) (recorded errors : ℕ) (is : IsRecord 
   }
 
   module _ (stays : is_last_start (length log) (Hole id made) ≡ false) where
-    none_goes : (item : Item) → Contains (draft_items log marks) item → goes id (length log) item ≡ false
+    none_goes : (item : Item) → Contains (draft_items log marks) item → takes_entry id (length log) item ≡ false
     none_goes (Hole i how) there =
         let found = IsHoleAt-found log marks i how there in
         elim (eqb_tells i id) [
@@ -96,7 +88,7 @@ module _ (log : Log) (marks : List Bool) (recorded errors : ℕ) (is : IsRecord 
 
     pub draft_of-cleared : draft_of log (set marks id false) recorded ≡ abandoned (draft_of log marks recorded) id
     draft_of-cleared =
-        let none : entries_gone (draft_of log marks recorded) id ≡ 0 = count-none (goes id (length log)) (draft_items log marks) none_goes in
+        let none : entries_gone (draft_of log marks recorded) id ≡ 0 = count-none (takes_entry id (length log)) (draft_items log marks) none_goes in
         draft_is (draft_items log (set marks id false)) recorded (length log) (turns_of log) (abandoned (draft_of log marks recorded) id) items-cleared refl
         (omega (arith, none)) (omega (arith, none))
 
@@ -141,7 +133,7 @@ module _ (log : Log) (marks : List Bool) (recorded errors : ℕ) (is : IsRecord 
       ∙ (flat_map-append _ (draft_items log marks) (Hole (length log) (ByStart (length log)) ∷ [])
       ∙ (ap (λ ys. without_hole (length log) (draft_items log marks) ++ ys) gone ∙ (append-nil (without_hole (length log) (draft_items log marks)) ∙ none_there))))
 
-  none_below : (item : Item) → Contains (draft_items log marks) item → goes (length log) (length whole) item ≡ false
+  none_below : (item : Item) → Contains (draft_items log marks) item → takes_entry (length log) (length whole) item ≡ false
   none_below (Hole i how) there =
       let found = IsHoleAt-found log marks i how there in rw (ne_eqb i (length log) (λ e. absurd (omega (arith, e, found.within)))) refl
   none_below (Open i kind free) there = refl
@@ -151,7 +143,7 @@ module _ (log : Log) (marks : List Bool) (recorded errors : ℕ) (is : IsRecord 
 
   one_goes : entries_gone (draft_of whole whole_marks recorded) (length log) ≡ 1
   one_goes =
-      let p = goes (length log) (length whole) in
+      let p = takes_entry (length log) (length whole) in
       let hole = Hole (length log) (ByStart (length log)) in
       let last : p hole ≡ true = rw (itself (length log)) (eq-eqb (length log + 1) (length whole) (omega (arith, length-push log tombstone))) in
       let below : count_by p (draft_items log marks) ≡ 0 = count-none p (draft_items log marks) none_below in

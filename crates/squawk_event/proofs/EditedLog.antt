@@ -16,7 +16,8 @@ use Rattle.squawk_event.specs.EventLog.{Lands, Log, is_start_at, turns_of}
 use Rattle.squawk_event.specs.LogDraft.{IsRecord, draft_items, draft_of, items_of}
 use Rattle.squawk_event.proofs.EditedErrors.{errors-append, errors-extended, errors-filled, errors-preceded}
 use Rattle.squawk_event.proofs.ExtendedLog.{draft_items-extended}
-use Rattle.squawk_event.proofs.GrownLog.{LinksLead-linked, LinksLead-push, LinksLead-unlinked, turns_of-push, turns_of-set}
+use Rattle.squawk_event.proofs.GrownLog.{LinksLead-linked, LinksLead-push, turns_of-push, turns_of-set}
+use Rattle.squawk_event.proofs.Links.{LinksLead-unlinked}
 use Rattle.squawk_event.proofs.LogEdits.{draft_items-filled, draft_items-preceded, draft_items-push, length-push}
 use Rattle.squawk_event.proofs.LogItems.{IsHoleAt, IsNodeAt}
 use Rattle.squawk_event.proofs.LogTurns.{turns_at}
@@ -71,7 +72,7 @@ module _ (log : Log) (marks : List Bool) (recorded errors : ℕ) (is : IsRecord 
 
 -- ---- a hole that becomes an opening
 
-holes-unmarked : (log : Log) (marks : List Bool) (id : ℕ) (event : Event) → length marks ≡ length log → id < length log → HaveHoles log marks
+pub holes-unmarked : (log : Log) (marks : List Bool) (id : ℕ) (event : Event) → length marks ≡ length log → id < length log → HaveHoles log marks
     → HaveHoles (set log id event) (set marks id false)
 holes-unmarked log marks id event same lt holes place h marked =
     elim (eqb_tells place id) [

@@ -1,9 +1,9 @@
 -- The links and the turns of a log of which one event is put in, changed or taken out.
-use Rattle.std.proofs.Common.{◌≡◌, ◌≢◌, ℕ, zero, suc, ◌+◌, ◌-◌, ◌<◌, true, false, Some, None, Option, [], ◌∷◌, ◌++◌, length, length-append, get_or, set, refl, ap, arith}
+use Rattle.std.proofs.Common.{◌≡◌, ◌≢◌, ℕ, zero, suc, ◌+◌, ◌-◌, ◌<◌, true, false, Some, None, [], ◌∷◌, ◌++◌, length, length-append, get_or, set, refl, ap, arith}
 use Rattle.squawk_event.specs.declared.event.Event.{Event}
 use Rattle.squawk_event.specs.declared.event.Event.TheVariants.{Start, Finish, Token, Error}
 use Rattle.squawk_event.specs.EventLog.{Lands, LinksLead, Log, ahead, is_start_at, leads, reaches, turns_of}
-use Rattle.squawk_event.proofs.Links.{Lands-still}
+use Rattle.squawk_event.proofs.Links.{Lands-still, start-set}
 use Rattle.squawk_event.proofs.LogTurns.{turns_at, turns_of-cons}
 use Rattle.squawk_event.proofs.Owners.{not_both, reaches-itself}
 
@@ -32,19 +32,6 @@ LinksLead-push [] event links lands = (lands, tt)
 LinksLead-push (x ∷ xs) event links lands = (Lands-still x xs (xs ++ event ∷ []) (start-push xs event) links.0, LinksLead-push xs event links.1 lands)
 
 -- ---- a Start in an event's place
-
-start-set : (log : Log) (place kind : ℕ) (link : Option ℕ) (j : ℕ) → is_start_at log j ≡ true → is_start_at (set log place (Start kind link)) j ≡ true
-start-set [] place kind link j h = absurd (cc)
-start-set (x ∷ xs) zero kind link zero h = refl
-start-set (x ∷ xs) zero kind link (suc j) h = h
-start-set (x ∷ xs) (suc n) kind link zero h = h
-start-set (x ∷ xs) (suc n) kind link (suc j) h = start-set xs n kind link j h
-
-pub LinksLead-unlinked : (log : Log) (place kind : ℕ) → LinksLead log → LinksLead (set log place (Start kind None))
-LinksLead-unlinked [] place kind links = links
-LinksLead-unlinked (x ∷ xs) zero kind links = (tt, links.1)
-LinksLead-unlinked (x ∷ xs) (suc n) kind links =
-    (Lands-still x xs (set xs n (Start kind None)) (start-set xs n kind None) links.0, LinksLead-unlinked xs n kind links.1)
 
 pub LinksLead-linked : (log : Log) (place to d kind : ℕ) → LinksLead log → to ≡ place + suc d → is_start_at log to ≡ true
     → LinksLead (set log place (Start kind (Some (suc d))))

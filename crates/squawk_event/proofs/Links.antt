@@ -1,5 +1,6 @@
 -- Logs whose links lead to later Starts.
 use Rattle.std.proofs.Common.{◌≡◌, ℕ, zero, suc, ◌-◌, ◌<◌, true, Some, None, Option, [], ◌∷◌, length, get_or, set, drop, refl, arith}
+use Rattle.squawk_kinds.specs.Kinds.{TOMBSTONE}
 use Rattle.squawk_event.specs.declared.event.Event.{Event}
 use Rattle.squawk_event.specs.declared.event.Event.TheVariants.{Start, Finish, Token, Error}
 use Rattle.squawk_event.specs.EventLog.{Lands, LinksLead, Log, ahead, is_start, is_start_at}
@@ -37,19 +38,24 @@ Lands-ahead Finish log h = tt
 Lands-ahead (Token kind n) log h = tt
 Lands-ahead (Error text) log h = tt
 
--- ---- one event taken out
+-- ---- a Start in an event's place
 
-still_start : (log : Log) (place j : ℕ) → is_start_at log j ≡ true → is_start_at (set log place tombstone) j ≡ true
-still_start [] place j h = absurd (cc)
-still_start (x ∷ xs) zero zero h = refl
-still_start (x ∷ xs) zero (suc j) h = h
-still_start (x ∷ xs) (suc n) zero h = h
-still_start (x ∷ xs) (suc n) (suc j) h = still_start xs n j h
+pub start-set : (log : Log) (place kind : ℕ) (link : Option ℕ) (j : ℕ) → is_start_at log j ≡ true → is_start_at (set log place (Start kind link)) j ≡ true
+start-set [] place kind link j h = absurd (cc)
+start-set (x ∷ xs) zero kind link zero h = refl
+start-set (x ∷ xs) zero kind link (suc j) h = h
+start-set (x ∷ xs) (suc n) kind link zero h = h
+start-set (x ∷ xs) (suc n) kind link (suc j) h = start-set xs n kind link j h
 
+pub LinksLead-unlinked : (log : Log) (place kind : ℕ) → LinksLead log → LinksLead (set log place (Start kind None))
+LinksLead-unlinked [] place kind links = links
+LinksLead-unlinked (x ∷ xs) zero kind links = (tt, links.1)
+LinksLead-unlinked (x ∷ xs) (suc n) kind links =
+    (Lands-still x xs (set xs n (Start kind None)) (start-set xs n kind None) links.0, LinksLead-unlinked xs n kind links.1)
+
+-- what is taken out leaves a Start, too
 pub LinksLead-without : (log : Log) (place : ℕ) → LinksLead log → LinksLead (set log place tombstone)
-LinksLead-without [] place h = h
-LinksLead-without (x ∷ xs) zero h = (tt, h.1)
-LinksLead-without (x ∷ xs) (suc n) h = (Lands-still x xs (set xs n tombstone) (still_start xs n) h.0, LinksLead-without xs n h.1)
+LinksLead-without log place links = LinksLead-unlinked log place TOMBSTONE links
 
 -- ---- a chain taken out
 

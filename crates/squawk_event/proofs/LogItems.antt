@@ -44,28 +44,28 @@ opening-elsewhere id place made (Error text) mark f ne = refl
 
 -- ---- what an item says of its event
 
-contains-none : {X : Type 0} (x : X) → Contains [] x → ⊥
-contains-none x (k, lt, is) = omega (arith, lt)
+Contains-none : {X : Type 0} (x : X) → Contains [] x → ⊥
+Contains-none x (k, lt, is) = omega (arith, lt)
 
-pub contains-one : {X : Type 0} (x y : X) → Contains (y ∷ []) x → y ≡ x
-contains-one x y (zero, lt, is) = is
-contains-one x y (suc k, lt, is) = absurd (omega (arith, lt))
+pub Contains-only : {X : Type 0} (x y : X) → Contains (y ∷ []) x → y ≡ x
+Contains-only x y (zero, lt, is) = is
+Contains-only x y (suc k, lt, is) = absurd (omega (arith, lt))
 
 module _ {X : Type 0} (x : X) where
-  contains-if : (b : Bool) (v : List X) → Contains (if b then v else []) x → Contains v x
-  contains-if true v h = h
-  contains-if false v h = absurd (contains-none x h)
+  Contains-if : (b : Bool) (v : List X) → Contains (if b then v else []) x → Contains v x
+  Contains-if true v h = h
+  Contains-if false v h = absurd (Contains-none x h)
 
   in_picked : (p : ℕ → Bool) (items : ℕ → List X) (n : ℕ) → Contains (picked p items n) x → (j : ℕ) × (j < n) × Contains (items j) x
-  in_picked p items zero h = absurd (contains-none x h)
+  in_picked p items zero h = absurd (Contains-none x h)
   in_picked p items (suc n) h =
       elim (Contains-append_cases (picked (λ j. p (suc j)) (λ j. items (suc j)) n) (if p 0 then items 0 else []) x h) [
         | inl k ↦ let r = in_picked (λ j. p (suc j)) (λ j. items (suc j)) n k in (suc r.0, omega (arith, r.1), r.2)
-        | inr k ↦ (0, omega arith, contains-if (p 0) (items 0) k)
+        | inr k ↦ (0, omega arith, Contains-if (p 0) (items 0) k)
       ]
 
   in_each : (items : ℕ → List X) (n : ℕ) → Contains (each items n) x → (i : ℕ) × (i < n) × Contains (items i) x
-  in_each items zero h = absurd (contains-none x h)
+  in_each items zero h = absurd (Contains-none x h)
   in_each items (suc n) h =
       elim (Contains-append_cases (items 0) (each (λ i. items (suc i)) n) x h) [
         | inl k ↦ (0, omega arith, k)
@@ -91,15 +91,15 @@ pub record IsNodeAt (log : Log) (marks : List Bool) (id kind : ℕ) : Type 0 whe
 
 hole-of : (place : ℕ) (how : Made) (event : Event) (mark : Bool) (id : ℕ) (made : Made) → Contains (items_of place how event mark) (Hole id made)
     → (place ≡ id) × (how ≡ made) × (mark ≡ true)
-hole-of place how (Start kind link) true id made h = let e = contains-one (Hole id made) (Hole place how) h in (cc, cc, refl)
+hole-of place how (Start kind link) true id made h = let e = Contains-only (Hole id made) (Hole place how) h in (cc, cc, refl)
 hole-of place how (Start kind link) false id made h = cases (kind == TOMBSTONE) (not (has_link (Start kind link))) h
   where
     cases : (whole free : Bool) → Contains (opening_if whole place kind free) (Hole id made) → (place ≡ id) × (how ≡ made) × (false ≡ true)
-    cases true free there = absurd (contains-none (Hole id made) there)
-    cases false free there = let e = contains-one (Hole id made) (Open place kind free) there in absurd (cc)
-hole-of place how Finish mark id made h = let e = contains-one (Hole id made) Close h in absurd (cc)
-hole-of place how (Token kind n) mark id made h = let e = contains-one (Hole id made) (draft.Token kind n) h in absurd (cc)
-hole-of place how (Error text) mark id made h = let e = contains-one (Hole id made) (draft.Error text) h in absurd (cc)
+    cases true free there = absurd (Contains-none (Hole id made) there)
+    cases false free there = let e = Contains-only (Hole id made) (Open place kind free) there in absurd (cc)
+hole-of place how Finish mark id made h = let e = Contains-only (Hole id made) Close h in absurd (cc)
+hole-of place how (Token kind n) mark id made h = let e = Contains-only (Hole id made) (draft.Token kind n) h in absurd (cc)
+hole-of place how (Error text) mark id made h = let e = Contains-only (Hole id made) (draft.Error text) h in absurd (cc)
 
 unlinked : (own kind : ℕ) (link : Option ℕ) → own ≡ kind → not (has_link (Start own link)) ≡ true → Start own link ≡ Start kind None
 unlinked own kind None e h = ap (λ k. Start k None) e
@@ -107,19 +107,19 @@ unlinked own kind (Some distance) e h = absurd (cc)
 
 node-of : (place : ℕ) (how : Made) (event : Event) (mark : Bool) (id kind : ℕ) → Contains (items_of place how event mark) (Open id kind true)
     → (place ≡ id) × (mark ≡ false) × (event ≡ Start kind None) × ((kind == TOMBSTONE) ≡ false)
-node-of place how (Start own link) true id kind h = let e = contains-one (Open id kind true) (Hole place how) h in absurd (cc)
+node-of place how (Start own link) true id kind h = let e = Contains-only (Open id kind true) (Hole place how) h in absurd (cc)
 node-of place how (Start own link) false id kind h = cases (own == TOMBSTONE) refl h
   where
     cases : (whole : Bool) → whole ≡ (own == TOMBSTONE) → Contains (opening_if whole place own (not (has_link (Start own link)))) (Open id kind true)
         → (place ≡ id) × (false ≡ false) × (Start own link ≡ Start kind None) × ((kind == TOMBSTONE) ≡ false)
-    cases true is there = absurd (contains-none (Open id kind true) there)
+    cases true is there = absurd (Contains-none (Open id kind true) there)
     cases false is there =
-        let e = contains-one (Open id kind true) (Open place own (not (has_link (Start own link)))) there in
+        let e = Contains-only (Open id kind true) (Open place own (not (has_link (Start own link)))) there in
         let same : own ≡ kind = cc in
         (cc, refl, unlinked own kind link same (cc), ap (λ k. k == TOMBSTONE) (sym same) ∙ sym is)
-node-of place how Finish mark id kind h = let e = contains-one (Open id kind true) Close h in absurd (cc)
-node-of place how (Token own n) mark id kind h = let e = contains-one (Open id kind true) (draft.Token own n) h in absurd (cc)
-node-of place how (Error text) mark id kind h = let e = contains-one (Open id kind true) (draft.Error text) h in absurd (cc)
+node-of place how Finish mark id kind h = let e = Contains-only (Open id kind true) Close h in absurd (cc)
+node-of place how (Token own n) mark id kind h = let e = Contains-only (Open id kind true) (draft.Token own n) h in absurd (cc)
+node-of place how (Error text) mark id kind h = let e = Contains-only (Open id kind true) (draft.Error text) h in absurd (cc)
 
 module _ (log : Log) (marks : List Bool) where
   pub IsHoleAt-found : (id : ℕ) (made : Made) → Contains (draft_items log marks) (Hole id made) → IsHoleAt log marks id made

@@ -78,9 +78,13 @@ is_last_start entries Close = false
 is_last_start entries (Token kind n) = false
 is_last_start entries (Error text) = false
 
--- how many entries go with a marker's hole: one where it is such a one, and else none
+-- whether an item is a marker's hole and such a one, so that its entry goes with it
+abbrev pub takes_entry : ℕ → ℕ → Item → Bool
+takes_entry id entries item = is_hole_of id item && is_last_start entries item
+
+-- how many entries go with a marker's hole: one or none
 abbrev pub entries_gone : Draft → ℕ → ℕ
-entries_gone d id = count_by (λ item. is_hole_of id item && is_last_start d.entries item) d.items
+entries_gone d id = count_by (takes_entry id d.entries) d.items
 
 -- That takes no recorded event away. An entry that goes takes its two turns away.
 abbrev pub abandoned : Draft → ℕ → Draft

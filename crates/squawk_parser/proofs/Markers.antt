@@ -9,7 +9,8 @@ use Rattle.squawk_parser.specs.Recorded.{Puts}
 use Rattle.squawk_parser.specs.State.{State, Changes, Goes, HasHole, HasNode, Records}
 use Rattle.squawk_parser.specs.declared.parser.parse_error.ParseError.{ParseError}
 use Rattle.squawk_parser.proofs.SoundMoves.{preceded-split}
-use Rattle.squawk_parser.proofs.Splits.{split, Contains-behind, here, replaced-append, itself}
+use Rattle.squawk_event.proofs.Groups.{itself}
+use Rattle.squawk_parser.proofs.Splits.{split, Contains-behind, here, replaced-append}
 
 -- ---- items
 

@@ -9,7 +9,8 @@ use Rattle.squawk_event.proofs.Sums.{count_by-cons}
 use Rattle.squawk_parser.proofs.RecordedItems.{plain-append, ids-append}
 use Rattle.squawk_parser.proofs.Soundness.{IsKept}
 use Rattle.squawk_parser.proofs.SoundMoves.{IsMoved, IsMoved-same, IsMoved-earlier, IsKept-moved}
-use Rattle.squawk_parser.proofs.Splits.{split, count_by-append, count_by-passes, count_by-fails, Contains-passed, replaced-at, first, a_hole, itself, holes-once, openings-once}
+use Rattle.squawk_event.proofs.Groups.{itself}
+use Rattle.squawk_parser.proofs.Splits.{split, count_by-append, count_by-passes, count_by-fails, Contains-passed, replaced-at, first, a_hole, holes-once, openings-once}
 
 -- what stays of items from which a hole is taken
 pub record IsTaken (old new : List Item) : Type 0 where

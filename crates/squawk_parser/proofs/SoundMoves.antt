@@ -14,7 +14,8 @@ use Rattle.squawk_event.proofs.Sums.{count_by-cons}
 use Rattle.squawk_parser.proofs.Balance.{depth_after, depth_after-append, depth_after-suc, depth_after-balanced, IsBalanced-depth_after}
 use Rattle.squawk_parser.proofs.RecordedItems.{plain-append, ids-append, eaten-append, steps_errors-append, errors-plain}
 use Rattle.squawk_parser.proofs.Soundness.{IsKept, HasNoIdTwice-push, not_refused}
-use Rattle.squawk_parser.proofs.Splits.{Split, split, count_by-append, count_by-passes, count_by-fails, replaced-at, itself, openings-once}
+use Rattle.squawk_event.proofs.Groups.{itself}
+use Rattle.squawk_parser.proofs.Splits.{Split, split, count_by-append, count_by-passes, count_by-fails, replaced-at, openings-once}
 
 -- ---- the plain list
 

@@ -1,7 +1,7 @@
 -- Lists split at an element, and items that give place to others there.
 use Rattle.std.proofs.Common.{◌≡◌, ◌∙◌, ℕ, zero, suc, ◌+◌, ◌≤◌, ◌==◌, Bool, true, false, List, [], ◌∷◌, ◌++◌, cond, arith, ap, refl}
 use Rattle.std.specs.Prelude.{All, Contains, count_by}
-use Rattle.std.proofs.lemmas.Bool.{eqb-true, eq-eqb}
+use Rattle.std.proofs.lemmas.Bool.{eqb-true}
 use Rattle.std.proofs.lemmas.List.Sums.{sum_by-append}
 use Rattle.std.proofs.lemmas.List.Elements.{All-tail}
 use Rattle.std.proofs.lemmas.Grind.{flat_map-append}
@@ -92,9 +92,6 @@ module _ (p q : Item → Bool) where
       cases false false e g before rest = further item items g (rest before)
 
 -- ---- ids
-
-pub itself : (id : ℕ) → (id == id) ≡ true
-itself id = eq-eqb id id refl
 
 -- what passes the test of a hole is one
 pub a_hole : (id : ℕ) (item : Item) → is_hole_of id item ≡ true → (made : Made) × (item ≡ Hole id made)

@@ -5,12 +5,9 @@ use Rattle.std.specs.List.{flat_map}
 use Rattle.std.proofs.lemmas.List.Elements.{All-contains, Contains-append_left, Contains-append_right, Contains-append_cases}
 use Rattle.squawk_event.specs.Draft.{Item, IsAboveIds, ids, ids_of}
 use Rattle.squawk_event.specs.Edits.{replaced}
+use Rattle.squawk_event.proofs.LogItems.{Contains-only}
 
 -- ---- lists of lists
-
-pub Contains-only : {X : Type 0} (x y : X) → Contains (y ∷ []) x → y ≡ x
-Contains-only x y (zero, lt, at) = at
-Contains-only x y (suc k, lt, at) = absurd (omega arith)
 
 -- an element whose list has this one
 pub record Origin {X Y : Type 0} (f : X → List Y) (xs : List X) (y : Y) : Type 0 where

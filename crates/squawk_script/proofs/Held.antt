@@ -8,11 +8,12 @@ use Rattle.squawk_event.specs.Draft.{Draft, Item, Made, Mark, Node, ByPrecede, H
 use Rattle.squawk_event.specs.Edits.{extended_items, filled, is_hole_of, is_opening_of, moved, preceded, preceded_item, replaced, stands_before}
 use Rattle.squawk_event.specs.Edits.{without_hole}
 use Rattle.squawk_parser.proofs.Markers.{Contains-others}
-use Rattle.squawk_parser.proofs.Splits.{itself}
+use Rattle.squawk_event.proofs.Groups.{itself}
 use Rattle.squawk_script.specs.Slots.{Holds, IsHeld, AreInOrder, slot_at}
 use Rattle.squawk_script.specs.declared.slot.Slot.{Slot}
 use Rattle.squawk_script.specs.declared.slot.Slot.TheVariants.{Open, Done, Spent}
-use Rattle.squawk_script.proofs.EditedItems.{Contains-made, Contains-only, edited-cases}
+use Rattle.squawk_event.proofs.LogItems.{Contains-only}
+use Rattle.squawk_script.proofs.EditedItems.{Contains-made, edited-cases}
 use Rattle.squawk_script.proofs.OtherSlots.{before-new, before-spent, done-slot, held-append, held-holes, held-openings, hole-stayed, other-slot, others}
 use Rattle.squawk_script.proofs.OtherSlots.{same-mark}
 use Rattle.squawk_script.proofs.SlotLists.{Contains-set, each-push, each-set, pairs-push, pairs-set}

@@ -5,7 +5,7 @@ use Rattle.std.proofs.lemmas.Bool.{ltb-true}
 use Rattle.std.proofs.lemmas.List.{length-set, map-append, map-set, set-get_or}
 use Rattle.squawk_event.specs.Draft as draft
 use Rattle.squawk_event.specs.Draft.{Draft, Item, Mark, Node, ByStart, ByPrecede, IsAboveIds, ids, ids_of}
-use Rattle.squawk_event.specs.Edits.{abandoned, completed, entries_gone, extended, preceded, started}
+use Rattle.squawk_event.specs.Edits.{abandoned, completed, entries_gone, extended, preceded, started, takes_entry}
 use Rattle.squawk_parser.specs.State.{State, Changes, Goes, Keeps, Records}
 use Rattle.squawk_parser.specs.declared.parser.parse_error.ParseError.{ParseError}
 use Rattle.squawk_parser.proofs.Markers.{changed, went-changed}
@@ -17,7 +17,7 @@ use Rattle.squawk_script.specs.declared.slot.Slot.TheVariants.{Open, Done, Spent
 use Rattle.squawk_script.proofs.Held.{holds-abandoned, holds-completed, holds-extended, holds-preceded, holds-started}
 use Rattle.squawk_script.proofs.Refusals.{changes-fails, records-fails}
 use Rattle.squawk_script.proofs.RenamedIds.{IsIdOf-hole, IsIdOf-opening}
-use Rattle.squawk_script.proofs.RenamedItems.{goes as goes_with, preceded_items}
+use Rattle.squawk_script.proofs.RenamedItems.{preceded_items}
 use Rattle.squawk_script.proofs.Renaming.{entries_gone-same, renamed-abandoned, renamed-completed, renamed-extended, renamed-preceded, renamed-started, with_id, with_id-before, with_id-here}
 use Rattle.squawk_script.proofs.Sides.{set-twice, sides-pushed, sides-set, sides-set_both}
 
@@ -158,7 +158,7 @@ module _ (old new : State) (slots slots' : List Slot) (tied : IsTied old slots) 
         let there : Contains items (draft.Hole m.id m.made) = subst (λ s. IsHeld items s) is_open ((tied.holds (went-changed changes goes)).each k) in
         let gone : entries_gone run.draft (marker_at run k).id ≡ entries_gone old.draft m.id =
         ap (λ i. entries_gone run.draft i) id
-        ∙ (ap (λ n. count_by (goes_with (at.f m.id) n) run.draft.items) at.entries ∙ sym (entries_gone-same at.f items run.draft at.items m.id old.draft.entries m.made there)) in
+        ∙ (ap (λ n. count_by (takes_entry (at.f m.id) n) run.draft.items) at.entries ∙ sym (entries_gone-same at.f items run.draft at.items m.id old.draft.entries m.made there)) in
         record {
           f = at.f;
           items = subst (λ i. IsRenamed at.f new.draft.items (abandoned run.draft i).items) (sym id)

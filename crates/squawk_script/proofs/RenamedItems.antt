@@ -4,7 +4,7 @@ use Rattle.std.specs.Prelude.{All, ◌&&◌, count_by}
 use Rattle.std.proofs.lemmas.List.{map-append}
 use Rattle.std.proofs.lemmas.List.Elements.{All-head}
 use Rattle.squawk_event.specs.Draft.{Item, Made, Node, Hole, Open, Close, Token, Error, ByPrecede, ByStart, ids, ids_of}
-use Rattle.squawk_event.specs.Edits.{extended_items, filled, is_hole_of, is_last_start, is_opening_of, moved, preceded_item, replaced, stands_before, without_hole}
+use Rattle.squawk_event.specs.Edits.{extended_items, filled, is_hole_of, is_last_start, is_opening_of, takes_entry, moved, preceded_item, replaced, stands_before, without_hole}
 use Rattle.squawk_parser.proofs.RecordedItems.{All-front}
 use Rattle.squawk_parser.proofs.Splits.{All-back}
 use Rattle.squawk_event.proofs.Sums.{count_by-cons}
@@ -127,9 +127,6 @@ module _ (h : ℕ → ℕ) (items : List Item) where
 
 -- ---- the entries that go with a marker's hole
 
-abbrev pub goes : ℕ → ℕ → Item → Bool
-goes id n item = is_hole_of id item && is_last_start n item
-
 module _ (h : ℕ → ℕ) (id n : ℕ) where
   last-renamed : (x : Item) → is_last_start n (renamed h x) ≡ is_last_start n x
   last-renamed (Hole i (ByStart at)) = refl
@@ -139,14 +136,14 @@ module _ (h : ℕ → ℕ) (id n : ℕ) where
   last-renamed (Token kind k) = refl
   last-renamed (Error text) = refl
 
-  renamed-entries_gone : (items : List Item) → All (TellsApart h id) (ids items) → count_by (goes id n) items ≡ count_by (goes (h id) n) (map (renamed h) items)
+  renamed-entries_gone : (items : List Item) → All (TellsApart h id) (ids items) → count_by (takes_entry id n) items ≡ count_by (takes_entry (h id) n) (map (renamed h) items)
   renamed-entries_gone [] apart = refl
   renamed-entries_gone (x ∷ items) apart =
-      let test : goes (h id) n (renamed h x) ≡ goes id n x =
+      let test : takes_entry (h id) n (renamed h x) ≡ takes_entry id n x =
       ap₂ (λ a b. a && b) (hole_test h id x (All-front (TellsApart h id) (ids_of x) (ids items) apart)) (last-renamed x) in
       let rest = renamed-entries_gone items (All-back (TellsApart h id) (ids_of x) (ids items) apart) in
-      count_by-cons (goes id n) x items
-      ∙ (ap₂ (λ b k. cond b 1 0 + k) (sym test) rest ∙ sym (count_by-cons (goes (h id) n) (renamed h x) (map (renamed h) items)))
+      count_by-cons (takes_entry id n) x items
+      ∙ (ap₂ (λ b k. cond b 1 0 + k) (sym test) rest ∙ sym (count_by-cons (takes_entry (h id) n) (renamed h x) (map (renamed h) items)))
 
 -- ---- the same edit of lists that differ in their ids alone
 
@@ -176,10 +173,10 @@ module _ (f : ℕ → ℕ) (items others : List Item) (same : map (renamed f) it
       ∙ sym (renamed-preceded_items same_id others (f node) (f id) made (tells_apart-same_id (f node) (ids others))))
 
   -- the entries that go with a marker's hole
-  pub same-entries_gone : (id n : ℕ) → All (TellsApart f id) (ids items) → count_by (goes id n) items ≡ count_by (goes (f id) n) others
+  pub same-entries_gone : (id n : ℕ) → All (TellsApart f id) (ids items) → count_by (takes_entry id n) items ≡ count_by (takes_entry (f id) n) others
   same-entries_gone id n apart =
       renamed-entries_gone f id n items apart
-      ∙ (ap (count_by (goes (f id) n)) same ∙ sym (renamed-entries_gone same_id (f id) n others (tells_apart-same_id (f id) (ids others))))
+      ∙ (ap (count_by (takes_entry (f id) n)) same ∙ sym (renamed-entries_gone same_id (f id) n others (tells_apart-same_id (f id) (ids others))))
 
   pub same-extended : (node : Node) (id : ℕ) → All (TellsApart f node.id) (ids items) → All (TellsApart f id) (ids items)
       → map (renamed f) (extended_items node id items) ≡ map (renamed same_id) (extended_items (record { id = f node.id; kind = node.kind }) (f id) others)

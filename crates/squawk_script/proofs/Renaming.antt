@@ -7,16 +7,16 @@ use Rattle.std.proofs.lemmas.List.Elements.{All-nil, All-head, All-tail, All-con
 use Rattle.squawk_table.specs.Steps as steps
 use Rattle.squawk_table.specs.Steps.{Step}
 use Rattle.squawk_event.specs.Draft.{Draft, Item, Made, Node, Hole, Open, Close, Token, Error, HasNoHole, IsAboveIds, ids, ids_of, is_hole, plain, steps_of}
-use Rattle.squawk_event.specs.Edits.{extended_items, filled, without_hole}
+use Rattle.squawk_event.specs.Edits.{extended_items, filled, takes_entry, without_hole}
 use Rattle.squawk_parser.specs.Recorded.{turns_due_of}
 use Rattle.squawk_parser.proofs.RecordedSteps.{turns_due_of-cons}
 use Rattle.squawk_parser.proofs.RecordedItems.{ids-append}
-use Rattle.squawk_parser.proofs.Splits.{itself}
+use Rattle.squawk_event.proofs.Groups.{itself}
 use Rattle.squawk_script.specs.Meaning.{new_id, with_step, with_steps}
 use Rattle.squawk_script.specs.Slots.{IsRenamed, renamed, same_id}
 use Rattle.squawk_script.proofs.RenamedIds.{All-extended, All-filled, All-one, All-preceded, All-pushed, All-without_hole, above_all-above}
 use Rattle.squawk_script.proofs.RenamedIds.{IsIdOf, IsIdOf-all, IsIdOf-hole, IsIdOf-opening, IsIdOrNew, IsIdOrNew-all}
-use Rattle.squawk_script.proofs.RenamedItems.{goes, preceded_items, same-entries_gone, same-extended, same-filled, same-preceded, same-pushed, same-without_hole}
+use Rattle.squawk_script.proofs.RenamedItems.{preceded_items, same-entries_gone, same-extended, same-filled, same-preceded, same-pushed, same-without_hole}
 use Rattle.squawk_script.proofs.RenamedKept.{IsNewId, apart, kept, kept-before, kept-new}
 
 -- the same, but for one id
@@ -85,7 +85,7 @@ module _ (f : ℕ → ℕ) (items : List Item) (d : Draft) (same : IsRenamed f i
       (All-without_hole (IsIdOf items) id items (IsIdOf-all items))
 
   -- and as many entries go with it
-  pub entries_gone-same : (id n : ℕ) (made : Made) → Contains items (Hole id made) → count_by (goes id n) items ≡ count_by (goes (f id) n) d.items
+  pub entries_gone-same : (id n : ℕ) (made : Made) → Contains items (Hole id made) → count_by (takes_entry id n) items ≡ count_by (takes_entry (f id) n) d.items
   entries_gone-same id n made there =
       same-entries_gone f items d.items same.same id n (apart f items d.items same id (IsIdOf-hole items id made there))
 
