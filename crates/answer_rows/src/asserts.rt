@@ -1,7 +1,6 @@
 //! What a run of a document ends in.
 
-use squawk_answer::Fault;
-use squawk_answer::run::run;
+use squawk_answer::{Fault, run};
 use std::alloc::AllocError;
 use std::process::Abort;
 

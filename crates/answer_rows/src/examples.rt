@@ -1,7 +1,6 @@
 //! The documents in the repository's `examples/`, and their answers there.
 
-use squawk_answer::Fault;
-use squawk_answer::run::run;
+use squawk_answer::{Fault, run};
 use std::process::Abort;
 use std::test::Fail;
 

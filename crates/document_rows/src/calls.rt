@@ -1,7 +1,7 @@
 //! Tests of the calls of a document.
 
 use squawk_document::calls::{call, calls};
-use squawk_json::value;
+use squawk_document::value;
 use squawk_parser::SyntaxKind;
 use squawk_script::Call;
 use std::alloc::Global;

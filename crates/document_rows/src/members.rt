@@ -1,8 +1,7 @@
 //! Tests of the members of a document.
 
-use squawk_document::DocumentError;
 use squawk_document::members::{entry, members, text};
-use squawk_json::value;
+use squawk_document::{DocumentError, value};
 use squawk_parser::EntryPoint;
 use std::alloc::Global;
 use std::process::Abort;

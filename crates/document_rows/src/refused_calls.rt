@@ -1,8 +1,7 @@
 //! Tests of what is no call.
 
-use squawk_document::DocumentError;
 use squawk_document::calls::{call, calls};
-use squawk_json::value;
+use squawk_document::{DocumentError, value};
 use std::alloc::Global;
 use std::process::Abort;
 use std::test::Fail;

@@ -2,8 +2,8 @@
 
 use crate::refused_tokens::assert_refused;
 use squawk_document::DocumentError;
-use squawk_json::token::{token, tokens};
-use squawk_json::value::parse;
+use squawk_document::token::{token, tokens};
+use squawk_document::value::parse;
 use squawk_parser::{Base, LiteralKind, Token, TokenKind};
 use std::process::Abort;
 use std::test::Fail;

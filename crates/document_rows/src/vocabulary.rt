@@ -1,8 +1,7 @@
 //! Tests of the vocabulary of a document.
 
-use squawk_document::DocumentError;
-use squawk_json::value;
-use squawk_json::word_lists::vocabulary;
+use squawk_document::keyword_lists::vocabulary;
+use squawk_document::{DocumentError, value};
 use squawk_parser::{SyntaxKind, TokenSet, Vocabulary};
 use std::process::Abort;
 use std::test::Fail;

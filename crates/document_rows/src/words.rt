@@ -1,8 +1,7 @@
 //! Tests of the words of a document.
 
-use squawk_document::DocumentError;
-use squawk_json::value;
-use squawk_json::words::{members, names, operator_first};
+use squawk_document::words::{members, names, operator_first};
+use squawk_document::{DocumentError, value};
 use squawk_parser::SyntaxKind;
 use std::test::Fail;
 

@@ -5,12 +5,12 @@ use Rattle.std.proofs.lemmas.Bool.{eqb-true, eqb-false, eq-eqb, ne_eqb}
 use Rattle.std.proofs.lemmas.List.{append-nil}
 use Rattle.std.proofs.lemmas.List.Elements.{All-nil, All-cons, All-head, All-tail, All-filter, All-contains, All-contains_itself, Contains-push, filter-append}
 use Rattle.squawk_kinds.specs.Kinds.{EOF}
-use Rattle.squawk_event.specs.Draft.{Item, Hole, Open, Close, Token, Error, Made, ByStart, is_hole, ids, holes_of, HasNoHole, IsAboveIds}
-use Rattle.squawk_event.specs.Edits.{started, completed, filled, with_token, is_hole_of}
+use Rattle.squawk_log.specs.Draft.{Item, Hole, Open, Close, Token, Error, Made, ByStart, is_hole, ids, holes_of, HasNoHole, IsAboveIds}
+use Rattle.squawk_log.specs.Edits.{started, completed, filled, with_token, is_hole_of}
 use Rattle.squawk_parser.specs.Eaten.{EatsWith}
 use Rattle.squawk_parser.specs.Recorded.{Puts}
-use Rattle.squawk_parser.specs.State.{State, Goes, Keeps, Records, IsFresh, kind_at}
-use Rattle.squawk_table.specs.Steps.{Step}
+use Rattle.squawk_parser.specs.State.{State, HasNotFailed, Keeps, Records, IsFresh, kind_at}
+use Rattle.squawk_output.specs.Steps.{Step}
 use Rattle.squawk_parser.proofs.TailHoles.{went-kept}
 
 -- a list of them without one
@@ -19,7 +19,7 @@ without id items = filter (λ item. not (is_hole_of id item)) items
 
 -- a parser that goes on has these open markers
 abbrev pub HasHoles : State → List Item → Type 0
-HasHoles s open_ones = Goes s → holes_of s.draft.items ≡ open_ones
+HasHoles s open_ones = HasNotFailed s → holes_of s.draft.items ≡ open_ones
 
 -- ---- no open marker
 
@@ -82,15 +82,15 @@ HasHoles-start s t id open_ones has records goes =
     ∙ ap (λ hs. hs ++ Hole id (ByStart s.draft.entries) ∷ []) (has (records.went goes)))
 
 went_cases : (s t : State) (b : Bool) → (kind_at s 0 == EOF) ≡ b → (kind_at s 0 ≡ EOF → t ≡ s)
-    → (kind_at s 0 ≢ EOF → Records s t (with_token s.draft (kind_at s 0) 1)) → Goes t → Goes s
-went_cases s t true e stays records goes = sym (ap (λ u. u.first) (stays (eqb-true (kind_at s 0) EOF e))) ∙ goes
+    → (kind_at s 0 ≢ EOF → Records s t (with_token s.draft (kind_at s 0) 1)) → HasNotFailed t → HasNotFailed s
+went_cases s t true e stays records goes = sym (ap (λ u. u.first_reason) (stays (eqb-true (kind_at s 0) EOF e))) ∙ goes
 went_cases s t false e stays records goes = (records (eqb-false (kind_at s 0) EOF e)).went goes
 
-pub went-bump : (s t : State) → (kind_at s 0 ≡ EOF → t ≡ s) → (kind_at s 0 ≢ EOF → Records s t (with_token s.draft (kind_at s 0) 1)) → Goes t → Goes s
+pub went-bump : (s t : State) → (kind_at s 0 ≡ EOF → t ≡ s) → (kind_at s 0 ≢ EOF → Records s t (with_token s.draft (kind_at s 0) 1)) → HasNotFailed t → HasNotFailed s
 went-bump s t stays records goes = went_cases s t (kind_at s 0 == EOF) refl stays records goes
 
 bump_cases : (s t : State) (b : Bool) → (kind_at s 0 == EOF) ≡ b → (kind_at s 0 ≡ EOF → t ≡ s)
-    → (kind_at s 0 ≢ EOF → Records s t (with_token s.draft (kind_at s 0) 1)) → Goes t → holes_of t.draft.items ≡ holes_of s.draft.items
+    → (kind_at s 0 ≢ EOF → Records s t (with_token s.draft (kind_at s 0) 1)) → HasNotFailed t → holes_of t.draft.items ≡ holes_of s.draft.items
 bump_cases s t true e stays records goes = ap (λ u. holes_of u.draft.items) (stays (eqb-true (kind_at s 0) EOF e))
 bump_cases s t false e stays records goes =
     ap (λ d. holes_of d.items) ((records (eqb-false (kind_at s 0) EOF e)).draft goes)
@@ -124,7 +124,7 @@ HasHoles-complete s t id kind open_ones has records goes =
     ∙ (holes-filled id kind s.draft.items ∙ ap (without id) (has (records.went goes)))))
 
 -- calls that close what they open
-pub HasHoles-closed : (s t : State) → HasHoles s [] → (Goes t → Goes s) → (HasNoHole s.draft.items → Goes t → HasNoHole t.draft.items) → HasHoles t []
+pub HasHoles-closed : (s t : State) → HasHoles s [] → (HasNotFailed t → HasNotFailed s) → (HasNoHole s.draft.items → HasNotFailed t → HasNoHole t.draft.items) → HasHoles t []
 HasHoles-closed s t has went closed goes =
     none_open t.draft.items (closed (HasNoHole-none_open s.draft.items (has (went goes))) goes)
 
@@ -133,7 +133,7 @@ pub without-one : (id : ℕ) (made : Made) → without id (Hole id made ∷ []) 
 without-one id made = rw (eq-eqb id id refl) refl
 
 -- a part leaves open what it found open
-pub HasHoles-part : (s t : State) (open_ones : List Item) → HasHoles s open_ones → (Goes t → Goes s) → (Goes t → holes_of t.draft.items ≡ holes_of s.draft.items)
+pub HasHoles-part : (s t : State) (open_ones : List Item) → HasHoles s open_ones → (HasNotFailed t → HasNotFailed s) → (HasNotFailed t → holes_of t.draft.items ≡ holes_of s.draft.items)
     → HasHoles t open_ones
 HasHoles-part s t open_ones has went same goes = same goes ∙ has (went goes)
 
@@ -151,7 +151,7 @@ Keeps-twice s t u first second = record {
 -- ---- steps at the end, and a node around calls
 
 -- steps that are put at the end open no marker and close none
-pub holes-puts : (s t : State) (steps : List Step) → Puts steps s t → Goes t → holes_of t.draft.items ≡ holes_of s.draft.items
+pub holes-puts : (s t : State) (steps : List Step) → Puts steps s t → HasNotFailed t → holes_of t.draft.items ≡ holes_of s.draft.items
 holes-puts s t steps puts goes =
     let put = puts.draft goes in
     ap holes_of put.items
@@ -178,16 +178,16 @@ without-last id made items above =
     ∙ (ap (λ hs. without id (holes_of items) ++ hs) (without-one id made)
     ∙ (append-nil (without id (holes_of items)) ∙ without-below id items (all_below id items above)))
 
-module _ (s t u : State) (id : ℕ) (begins : Records s t (started s.draft id)) (keeps : Keeps t u) (same : Goes u → holes_of u.draft.items ≡ holes_of t.draft.items) where
+module _ (s t u : State) (id : ℕ) (begins : Records s t (started s.draft id)) (keeps : Keeps t u) (same : HasNotFailed u → holes_of u.draft.items ≡ holes_of t.draft.items) where
   -- the marker of a node is open behind what stands in it
   pub open_inside : HasHoles u (holes_of s.draft.items ++ Hole id (ByStart s.draft.entries) ∷ [])
   open_inside goes = same goes ∙ HasHoles-start s t id (holes_of s.draft.items) (λ _. refl) begins (went-kept keeps goes)
 
-  pub marker_inside : Goes u → Contains u.draft.items (Hole id (ByStart s.draft.entries))
+  pub marker_inside : HasNotFailed u → Contains u.draft.items (Hole id (ByStart s.draft.entries))
   marker_inside goes = Contains-hole u.draft.items _ (Hole id (ByStart s.draft.entries)) (open_inside goes) (Contains-push (holes_of s.draft.items) (Hole id (ByStart s.draft.entries)))
 
   -- and the node leaves the markers as they were
-  pub holes-around : (v : State) (kind : ℕ) → (Goes t → IsAboveIds id s.draft.items) → Records u v (completed u.draft id kind) → Goes v
+  pub holes-around : (v : State) (kind : ℕ) → (HasNotFailed t → IsAboveIds id s.draft.items) → Records u v (completed u.draft id kind) → HasNotFailed v
       → holes_of v.draft.items ≡ holes_of s.draft.items
   holes-around v kind above ends goes =
       HasHoles-complete u v id kind _ open_inside ends goes
@@ -195,15 +195,15 @@ module _ (s t u : State) (id : ℕ) (begins : Records s t (started s.draft id)) 
 
 -- ---- a kind, where it stands and where it doesn't
 
-pub holes-eat : (s t : State) (b : Bool) (steps : List Step) → (IsTrue b → Puts steps s t) → (IsTrue (not b) → t ≡ s) → Goes t
+pub holes-eat : (s t : State) (b : Bool) (steps : List Step) → (IsTrue b → Puts steps s t) → (IsTrue (not b) → t ≡ s) → HasNotFailed t
     → holes_of t.draft.items ≡ holes_of s.draft.items
 holes-eat s t true steps puts none goes = holes-puts s t steps (puts refl) goes
 holes-eat s t false steps puts none goes = ap (λ u. holes_of u.draft.items) (none refl)
 
-holes-with : (does : State → State → Type 0) (kind : ℕ) (s t : State) → EatsWith does kind s t → Goes t → holes_of t.draft.items ≡ holes_of s.draft.items
+holes-with : (does : State → State → Type 0) (kind : ℕ) (s t : State) → EatsWith does kind s t → HasNotFailed t → holes_of t.draft.items ≡ holes_of s.draft.items
 holes-with does kind s t eats goes =
     let keeps = Keeps-twice eats.begun eats.eaten eats.closed eats.eats_keeps (Keeps-twice eats.eaten eats.ran eats.closed eats.tail_keeps eats.closes_keeps) in
-    let same : Goes eats.closed → holes_of eats.closed.draft.items ≡ holes_of eats.begun.draft.items =
+    let same : HasNotFailed eats.closed → holes_of eats.closed.draft.items ≡ holes_of eats.begun.draft.items =
     λ goes_closed.
     let goes_ran = eats.closes.went goes_closed in
     let goes_eaten = went-kept eats.tail_keeps goes_ran in
@@ -211,7 +211,7 @@ holes-with does kind s t eats goes =
     ∙ (eats.tail_holes goes_ran ∙ holes-puts eats.begun eats.eaten _ eats.eats goes_eaten) in
     holes-around s eats.begun eats.closed eats.id eats.begins keeps same t kind eats.fresh eats.completes goes
 
-pub holes-eat_with : (does : State → State → Type 0) (kind : ℕ) (s t : State) (b : Bool) → (IsTrue b → EatsWith does kind s t) → (IsTrue (not b) → t ≡ s) → Goes t
+pub holes-eat_with : (does : State → State → Type 0) (kind : ℕ) (s t : State) (b : Bool) → (IsTrue b → EatsWith does kind s t) → (IsTrue (not b) → t ≡ s) → HasNotFailed t
     → holes_of t.draft.items ≡ holes_of s.draft.items
 holes-eat_with does kind s t true eats none goes = holes-with does kind s t (eats refl) goes
 holes-eat_with does kind s t false eats none goes = ap (λ u. holes_of u.draft.items) (none refl)

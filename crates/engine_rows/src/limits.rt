@@ -1,5 +1,5 @@
 //! Parts of a grammar that see only so many tokens.
-ghost use Rattle.squawk_parser.specs.State.{Goes};
+ghost use Rattle.squawk_parser.specs.State.{HasNotFailed};
 
 use crate::fixture::looks::{Look, ask, ask_under, assert_answers, at_under, length};
 use crate::fixture::notes::{NO, YES, note, yes_or_no};
@@ -34,11 +34,11 @@ fn limit_hides_what_stands_behind_it(rt: HostRuntime) -> Result<(), Fail> {
 struct EatTwo;
 
 impl Part for EatTwo {
-    ghost use Rattle.squawk_parser.specs.State.{Goes};
+    ghost use Rattle.squawk_parser.specs.State.{HasNotFailed};
 
     type Answer = usize;
 
-    ghost does = { λ _ before after _. Goes after → Goes before };
+    ghost does = { λ _ before after _. HasNotFailed after → HasNotFailed before };
 
     fn run(self, p: &mut Parser<'_>) -> usize {
         let EatTwo = self;

@@ -1,6 +1,6 @@
 //! Parsers, the grammars that work with them, and the outputs that they leave.
-ghost use Rattle.squawk_event.specs.Draft.{HasNoHole};
-ghost use Rattle.squawk_parser.specs.State.{Goes, Keeps};
+ghost use Rattle.squawk_log.specs.Draft.{HasNoHole};
+ghost use Rattle.squawk_parser.specs.State.{HasNotFailed, Keeps};
 
 use crate::fixture::notes::note_three;
 use crate::fixture::output::{assert_output, enter, token};
@@ -66,8 +66,8 @@ impl Looks {
     /// Tells the position, the current kind, and whether the parser has failed.
     fn tell(p: &mut Parser<'_>)
         ensures keeps { Keeps p.old p.new }
-        ensures went { Goes p.new → Goes p.old }
-        ensures closed { HasNoHole p.old.draft.items → Goes p.new → HasNoHole p.new.draft.items }
+        ensures went { HasNotFailed p.new → HasNotFailed p.old }
+        ensures closed { HasNoHole p.old.draft.items → HasNotFailed p.new → HasNoHole p.new.draft.items }
     {
         let position = match p.position() {
             0 => 720,

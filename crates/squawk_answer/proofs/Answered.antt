@@ -1,14 +1,14 @@
 -- What a parse by the calls of a document answers.
-use Rattle.std.proofs.Common.{Bor, map, ◌≡◌, ◌∙◌, ℕ, ◌≤◌, Bool, true, false, List, ◌++◌, Some, None, Ok, Err, inl, inr, ap, arith, sym, refl, subst}
+use Rattle.std.proofs.Common.{Bor, map, ◌≡◌, ◌∙◌, ℕ, ◌≤◌, Bool, List, ◌++◌, Some, None, Ok, Err, ap, arith, sym, subst}
 use Rattle.std.specs.Prelude.{Result, IsErrAnd, MatchResult, ◌==◌, ◌↔◌, ◌≢◌, IsTrue, length}
-use Rattle.std.proofs.lemmas.Bool.Decides.{eqb_tells}
+use Rattle.std.proofs.lemmas.Bool.Decides.{Decides-eqb, same_from_decides}
 use Rattle.squawk_document.specs.Documents.{Told}
 use Rattle.squawk_table.specs.ParserInput.{Entry, input_of}
 use Rattle.squawk_table.specs.RawTable.{Table}
 use Rattle.squawk_table.specs.Sent.{sent_list}
 use Rattle.squawk_table.specs.Shape.{no_keywords}
-use Rattle.squawk_table.specs.Steps.{Step, Walk, eaten, errors_in}
-use Rattle.squawk_event.specs.Draft.{plain}
+use Rattle.squawk_output.specs.Steps.{Step, Walk, eaten, errors_in}
+use Rattle.squawk_log.specs.Draft.{plain}
 use Rattle.squawk_parser.specs.Parse.{IsParse}
 use Rattle.squawk_parser.specs.declared.parser.parse_error.ParseError.{ParseError}
 use Rattle.squawk_parser.specs.declared.parser.parse_error.ParseError.TheVariants as parse
@@ -17,7 +17,7 @@ use Rattle.squawk_answer.specs.Answers.{HasScript, Tells, lines, parse_refusal, 
 use Rattle.squawk_script.specs.Events.{IsRunOf, events_of, refusal}
 use Rattle.squawk_answer.specs.declared.fault.Fault.{Fault}
 use Rattle.squawk_answer.specs.Fault.{fault_of_parse}
-use Rattle.squawk_lines.specs.Lines.{last_line, lex_lines, step_lines}
+use Rattle.squawk_answer.specs.Lines.{last_line, lex_lines, step_lines}
 
 -- the calls of a document, as a script
 abbrev pub script_of : Told → Meaning
@@ -60,19 +60,11 @@ module _ (d : Told) (script : Meaning) (input : List Entry) (output : Walk) (sam
       let errors : errors_in (plain parse.draft.items) ≤ 2147483648 = subst (λ steps. errors_in steps ≤ 2147483648) parse.steps within.1 in
       sym (refusal-same d script input same_script same_input) ∙ parse.left.unrefused 4294967295 2147483648 events errors
 
--- a test that tells whether two numbers are equal
-test-told : (all : Bool) (a b : ℕ) → IsTrue all ↔ (a ≡ b) → all ≡ (a == b)
-test-told all a b is = elim (eqb_tells a b) [ inl p ↦ is.1 p.1 ∙ sym p.0 | inr p ↦ none (λ yes. p.1 (is.0 yes)) all refl ∙ sym p.0 ]
-  where
-    none : (IsTrue all → ⊥) → (b : Bool) → all ≡ b → all ≡ false
-    none never true e = absurd (never e)
-    none never false e = e
-
 -- the lines of a table and of the steps that are sent over it
 pub lines-told : (d : Told) (table : Table) (sent : List Step) (all : Bool) → table ≡ table_for d → sent ≡ steps d
     → IsTrue all ↔ (eaten sent ≡ length (input_of no_keywords table)) → lex_lines table.errors ++ (step_lines (sent_list table sent) ++ last_line all) ≡ lines d
 lines-told d table sent all same_table same_steps is =
-    ap (λ b. lex_lines table.errors ++ (step_lines (sent_list table sent) ++ last_line b)) (test-told all (eaten sent) (length (input_of no_keywords table)) is)
+    ap (λ b. lex_lines table.errors ++ (step_lines (sent_list table sent) ++ last_line b)) (same_from_decides all (eaten sent == length (input_of no_keywords table)) is (Decides-eqb (eaten sent) (length (input_of no_keywords table))))
     ∙ (ap (λ t. Lines t sent) same_table ∙ ap (Lines (table_for d)) same_steps)
   where
     Lines : Table → List Step → List ℕ

@@ -3,8 +3,8 @@ use Rattle.std.proofs.Common.{◌≡◌, ◌∙◌, ℕ, ◌<◌, List, ◌⊎�
 use Rattle.std.specs.Prelude.{Result, IsTrue}
 use Rattle.std.proofs.lemmas.Bool.{cases_order}
 use Rattle.squawk_document.specs.Documents.{Told}
-use Rattle.squawk_json.specs.declared.document_error.DocumentError.{DocumentError}
-use Rattle.squawk_json.specs.declared.document_error.DocumentError.TheVariants as document
+use Rattle.squawk_document.specs.declared.document_error.DocumentError.{DocumentError}
+use Rattle.squawk_document.specs.declared.document_error.DocumentError.TheVariants as document
 use Rattle.squawk_tokens.specs.AcceptedTokens as tokens
 use Rattle.squawk_tokens.specs.declared.token.Token.{Token}
 use Rattle.squawk_tokens.specs.declared.check.TableError.{TableError}

@@ -1,24 +1,24 @@
 -- What is answered.
 use Rattle.std.specs.Prelude.{◌≡◌, ℕ, ◌==◌, Bool, List, ◌++◌, length, Option, Some, None, Result, Ok, Err}
 use Rattle.squawk_document.specs.Documents.{Told, document_in}
-use Rattle.squawk_json.specs.Values.{◌>>=◌, value_of}
-use Rattle.squawk_json.specs.declared.document_error.DocumentError.{DocumentError}
-use Rattle.squawk_json.specs.declared.document_error.DocumentError.TheVariants as document
+use Rattle.squawk_document.specs.Values.{◌>>=◌, value_of}
+use Rattle.squawk_document.specs.declared.document_error.DocumentError.{DocumentError}
+use Rattle.squawk_document.specs.declared.document_error.DocumentError.TheVariants as document
 use Rattle.squawk_tokens.specs.AcceptedTokens as tokens
 use Rattle.squawk_tokens.specs.declared.check.TableError.TheVariants as table
 use Rattle.squawk_table.specs.ParserInput.{Entry, input_of}
 use Rattle.squawk_table.specs.RawTable.{Table, table_of}
 use Rattle.squawk_table.specs.Sent.{sent_list}
 use Rattle.squawk_table.specs.Shape.{Fits, no_keywords}
-use Rattle.squawk_table.specs.Steps.{Step, eaten}
-use Rattle.squawk_event.specs.Draft.{plain}
+use Rattle.squawk_output.specs.Steps.{Step, eaten}
+use Rattle.squawk_log.specs.Draft.{plain}
 use Rattle.squawk_parser.specs.declared.parser.parse_error.ParseError.{ParseError}
 use Rattle.squawk_parser.specs.declared.parser.parse_error.ParseError.TheVariants as parse
 use Rattle.squawk_script.specs.Accepted as script
 use Rattle.squawk_script.specs.Events.{events_of, refusal}
 use Rattle.squawk_script.specs.Meaning.{run_of}
 use Rattle.squawk_script.specs.declared.script_error.ScriptError.TheVariants as calls
-use Rattle.squawk_lines.specs.Lines.{last_line, lex_lines, step_lines}
+use Rattle.squawk_answer.specs.Lines.{last_line, lex_lines, step_lines}
 use Rattle.squawk_answer.specs.declared.fault.Fault.{Fault}
 use Rattle.squawk_answer.specs.declared.fault.Fault.TheVariants.{Json, Shape, TextTooLong, BadToken, TextLeft, BadCall, Unspent, TooManyEvents, TooManyErrors, DoesNotFit, Memory, Io}
 

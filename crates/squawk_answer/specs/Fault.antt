@@ -1,8 +1,8 @@
 -- The statuses and the lines of faults.
 use Rattle.std.specs.Prelude.{ℕ, List, ◌++◌, codes}
 use Rattle.std.specs.Fmt.{decimal}
-use Rattle.squawk_json.specs.declared.document_error.DocumentError.{DocumentError}
-use Rattle.squawk_json.specs.declared.document_error.DocumentError.TheVariants as document
+use Rattle.squawk_document.specs.declared.document_error.DocumentError.{DocumentError}
+use Rattle.squawk_document.specs.declared.document_error.DocumentError.TheVariants as document
 use Rattle.squawk_tokens.specs.declared.check.TableError.{TableError}
 use Rattle.squawk_tokens.specs.declared.check.TableError.TheVariants as table
 use Rattle.squawk_parser.specs.declared.parser.parse_error.ParseError.{ParseError}

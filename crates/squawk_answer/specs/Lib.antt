@@ -1,3 +1,6 @@
+pub mod Watched
+pub mod Reads
+pub mod Lines
 pub mod Fault
 pub mod Answers
 pub mod AnswerLines

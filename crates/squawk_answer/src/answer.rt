@@ -7,9 +7,8 @@ ghost use Rattle.squawk_answer.specs.AnswerLines.{lines_of};
 ghost use Rattle.squawk_answer.specs.Answers.{IsAnswer, Tells};
 
 use crate::fault::Fault;
-use squawk_document::Document;
-use squawk_json::value;
-use squawk_lines::{Lines, error_lines};
+use crate::lines::{Lines, error_lines};
+use squawk_document::{Document, value};
 use squawk_parser::{LexedStr, Words};
 use squawk_script::Script;
 use std::alloc::Global;

@@ -1,6 +1,7 @@
 //! The answer to a document: the lines of its lexical errors and of its steps, or why there are none.
 //!
-//! [`run::run`] goes from a reader to a writer. [`Answer`] has the lines without either:
+//! [`run`] goes from a reader to a writer, and [`program`] is what a process does with it. [`Answer`]
+//! has the lines without either:
 //!
 //! ```text
 //! let answer = Answer::new(alloc, document)?;
@@ -12,12 +13,17 @@
 #![tactic(auto)]
 
 mod answer;
+mod exit;
 mod fault;
+mod lines;
 mod read;
-pub mod run;
+mod running;
+mod watch;
 
 pub use answer::Answer;
+pub use exit::program;
 pub use fault::Fault;
+pub use lines::Lines;
 pub use read::MOST_READS;
-pub use squawk_lines::Lines;
-pub use squawk_watch::{Turn, Watch};
+pub use running::{run, run_watched};
+pub use watch::{ReadOutcome, Watch};

@@ -3,7 +3,7 @@ ghost use Rattle.std.specs.Prelude.{◌≡◌, ◌≤◌, true, IfOk, IfErr, OnO
 ghost use Rattle.std.specs.Io.KnownBytes.{IsAtEnd};
 
 use crate::fault::Fault;
-use squawk_watch::{Turn, Watch};
+use crate::watch::{ReadOutcome, Watch};
 use std::alloc::Global;
 use std::io::Read;
 
@@ -26,10 +26,10 @@ pub fn read_all<R: Read>(alloc: Global, watch: &mut Watch, reader: &mut R) -> Re
     let mut buffer = [0u8; LONGEST_READ];
     for _ in 0..MOST_READS {
         match watch.read(reader, &mut buffer) {
-            Turn::Bytes(0) => return Ok(bytes),
-            Turn::Bytes(n) => bytes.extend_from_slice(&buffer[..n])?,
-            Turn::Interrupted => {}
-            Turn::Failed => return Err(Fault::Io),
+            ReadOutcome::Bytes(0) => return Ok(bytes),
+            ReadOutcome::Bytes(n) => bytes.extend_from_slice(&buffer[..n])?,
+            ReadOutcome::Interrupted => {}
+            ReadOutcome::Failed => return Err(Fault::Io),
         }
     }
     Err(Fault::Io)

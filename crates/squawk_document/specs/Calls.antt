@@ -4,10 +4,10 @@ use Rattle.std.specs.Str.{chars}
 use Rattle.serde_json.specs.Data.{Data}
 use Rattle.squawk_script.specs.declared.call.Call.{Call}
 use Rattle.squawk_script.specs.declared.call.Call.TheVariants.{Start, Complete, Abandon, Precede, ExtendTo, Eat, BumpAny, BumpRemap, Expect, Error, ErrRecover, ErrAndBump}
-use Rattle.squawk_json.specs.declared.document_error.DocumentError.{DocumentError}
-use Rattle.squawk_json.specs.declared.document_error.DocumentError.TheVariants.{Shape}
-use Rattle.squawk_json.specs.KindSets.{set_in}
-use Rattle.squawk_json.specs.Values.{◌>>=◌, each, is_word, item_at, items_in, number_in, string_in, u32_in, with_len}
+use Rattle.squawk_document.specs.declared.document_error.DocumentError.{DocumentError}
+use Rattle.squawk_document.specs.declared.document_error.DocumentError.TheVariants.{Shape}
+use Rattle.squawk_document.specs.KindSets.{set_in}
+use Rattle.squawk_document.specs.Values.{◌>>=◌, each, is_word, item_at, items_in, number_in, string_in, u32_in, with_len}
 
 -- ---- the items of a call
 

@@ -4,10 +4,10 @@ use Rattle.serde_json.specs.Data.{Data}
 use Rattle.serde_json.specs.View.{view}
 use Rattle.squawk_parser.specs.declared.parser.grammar.EntryPoint.{EntryPoint}
 use Rattle.squawk_parser.specs.declared.parser.grammar.EntryPoint.TheVariants.{SourceFile, Plpgsql}
-use Rattle.squawk_json.specs.declared.document_error.DocumentError.{DocumentError}
-use Rattle.squawk_json.specs.declared.document_error.DocumentError.TheVariants.{Shape}
+use Rattle.squawk_document.specs.declared.document_error.DocumentError.{DocumentError}
+use Rattle.squawk_document.specs.declared.document_error.DocumentError.TheVariants.{Shape}
 use Rattle.squawk_document.specs.declared.members.DocumentMembers.{DocumentMembers}
-use Rattle.squawk_json.specs.Values.{◌>>=◌, has_members, is_word, member_in, string_in}
+use Rattle.squawk_document.specs.Values.{◌>>=◌, has_members, is_word, member_in, string_in}
 
 pub record MemberData : Type 0 where
   pub text : Data

@@ -6,22 +6,22 @@ use Rattle.squawk_parser.specs.declared.parser.grammar.EntryPoint.{EntryPoint}
 use Rattle.squawk_script.specs.declared.call.Call.{Call}
 use Rattle.squawk_tokens.specs.declared.token.Token.{Token}
 use Rattle.squawk_document.specs.declared.document.Document.{Document}
-use Rattle.squawk_json.specs.declared.document_error.DocumentError.{DocumentError}
+use Rattle.squawk_document.specs.declared.document_error.DocumentError.{DocumentError}
 use Rattle.squawk_document.specs.Calls.{calls_in}
 use Rattle.squawk_document.specs.DocumentParts.{entry_in, members_in}
-use Rattle.squawk_json.specs.GrammarWords.{names_in, word_members_in}
-use Rattle.squawk_json.specs.KindSets.{set_in}
-use Rattle.squawk_json.specs.TokenShapes.{tokens_in}
-use Rattle.squawk_json.specs.Values.{◌>>=◌, string_in}
-use Rattle.squawk_json.specs.WordPairs.{Answers, answered, vocabulary_in}
-use Rattle.squawk_json.specs.WordAnswers.{answers}
+use Rattle.squawk_document.specs.GrammarWords.{names_in, word_members_in}
+use Rattle.squawk_document.specs.KindSets.{set_in}
+use Rattle.squawk_document.specs.TokenShapes.{tokens_in}
+use Rattle.squawk_document.specs.Values.{◌>>=◌, string_in}
+use Rattle.squawk_document.specs.KeywordPairs.{VocabularyAnswers, answered, vocabulary_in}
+use Rattle.squawk_document.specs.KeywordAnswers.{answers}
 
 -- a text, its raw tokens, and the grammar: what it tells about kinds, what its vocabulary answers, where it begins and its calls
 pub record Told : Type 0 where
   pub text : List ℕ
   pub tokens : List Token
   pub words : Words
-  pub vocabulary : Answers
+  pub vocabulary : VocabularyAnswers
   pub entry : EntryPoint
   pub calls : List Call
 

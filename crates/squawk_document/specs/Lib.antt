@@ -1,3 +1,9 @@
+pub mod Values
+pub mod TokenShapes
+pub mod KindSets
+pub mod GrammarWords
+pub mod KeywordPairs
+pub mod KeywordAnswers
 pub mod DocumentParts
 pub mod Calls
 pub mod Documents

@@ -2,11 +2,12 @@
 ghost use Rattle.std.specs.Prelude.{◌≡◌, map};
 ghost use Rattle.serde_json.specs.View.{view};
 ghost use Rattle.squawk_document.specs.Calls.{alone, argument, call_in, call_named, calls_in, complete_in, err_recover_in, extend_to_in, kind_in, message_in};
-ghost use Rattle.squawk_json.specs.Values.{Gives};
+ghost use Rattle.squawk_document.specs.Values.{Gives};
 
+use crate::document_error::DocumentError;
+use crate::kind_set::kind_set;
+use crate::value;
 use serde_json::Value;
-use squawk_json::kind_set::kind_set;
-use squawk_json::{DocumentError, value};
 use squawk_parser::{SyntaxKind, Text};
 use squawk_script::Call;
 use std::alloc::Global;

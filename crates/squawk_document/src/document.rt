@@ -4,14 +4,14 @@ ghost use Rattle.serde_json.specs.View.{view};
 ghost use Rattle.squawk_kinds.specs.Kinds.{EOF};
 ghost use Rattle.squawk_kinds.specs.TokenSets.{has};
 ghost use Rattle.squawk_document.specs.Documents.{document_in, told};
-ghost use Rattle.squawk_json.specs.Values.{Gives};
+ghost use Rattle.squawk_document.specs.Values.{Gives};
 
 use crate::calls::calls;
-use crate::members;
+use crate::document_error::DocumentError;
+use crate::keyword_lists::{KeywordLists, vocabulary};
+use crate::token::tokens;
+use crate::{members, words};
 use serde_json::Value;
-use squawk_json::token::tokens;
-use squawk_json::word_lists::{WordLists, vocabulary};
-use squawk_json::{DocumentError, words};
 use squawk_parser::{EntryPoint, SyntaxKind, Token, TokenSet};
 use squawk_script::Call;
 use std::alloc::Global;
@@ -25,7 +25,7 @@ pub struct Document<'v> {
     pub operator_first: TokenSet,
     /// Kinds with their names.
     pub names: Vec<(SyntaxKind, &'v str)>,
-    pub vocabulary: WordLists,
+    pub vocabulary: KeywordLists,
     pub entry: EntryPoint,
     pub calls: Vec<Call>,
 }

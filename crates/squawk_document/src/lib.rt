@@ -1,9 +1,24 @@
 //! Documents: a text with its raw tokens, words, a vocabulary and calls, as JSON.
+//!
+//! Of JSON this reads documents and nothing else. Each reading gives what its part has to be, or
+//! refuses it with a [`DocumentError`]:
+//!
+//! ```text
+//! let value = value::parse(alloc, bytes)?;
+//! let document = Document::from_value(alloc, &value)?;
+//! ```
 #![tactic(auto)]
 
 pub mod calls;
-pub mod document;
+mod document;
+mod document_error;
+mod keyword_list;
+pub mod keyword_lists;
+pub mod kind_set;
 pub mod members;
+pub mod token;
+pub mod value;
+pub mod words;
 
 pub use document::Document;
-pub use squawk_json::DocumentError;
+pub use document_error::DocumentError;

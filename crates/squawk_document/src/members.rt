@@ -1,10 +1,11 @@
 //! The members of a document, and where its grammar begins.
 ghost use Rattle.serde_json.specs.View.{view};
 ghost use Rattle.squawk_document.specs.DocumentParts.{entry_in, member_data, members_in};
-ghost use Rattle.squawk_json.specs.Values.{Gives, string_in};
+ghost use Rattle.squawk_document.specs.Values.{Gives, string_in};
 
+use crate::document_error::DocumentError;
+use crate::value;
 use serde_json::Value;
-use squawk_json::{DocumentError, value};
 use squawk_parser::EntryPoint;
 
 /// The members of a document.

@@ -38,13 +38,37 @@ pub record IsKeyword (kind : ℕ) : Type 0 where
   pub not_comment : kind ≢ COMMENT
   pub not_whitespace : kind ≢ WHITESPACE
 
--- ---- signs, keywords and composite kinds
+-- ---- signs
+
+abbrev pub SEMICOLON : ℕ
+SEMICOLON = 5
+
+abbrev pub COMMA : ℕ
+COMMA = 6
+
+abbrev pub DOT : ℕ
+DOT = 7
+
+abbrev pub DOT_DOT : ℕ
+DOT_DOT = 8
 
 abbrev pub L_PAREN : ℕ
 L_PAREN = 9
 
 abbrev pub R_PAREN : ℕ
 R_PAREN = 10
+
+abbrev pub L_BRACK : ℕ
+L_BRACK = 11
+
+abbrev pub R_BRACK : ℕ
+R_BRACK = 12
+
+abbrev pub L_CURLY : ℕ
+L_CURLY = 13
+
+abbrev pub R_CURLY : ℕ
+R_CURLY = 14
 
 abbrev pub AT : ℕ
 AT = 15
@@ -100,6 +124,46 @@ PERCENT = 31
 abbrev pub BACKTICK : ℕ
 BACKTICK = 32
 
+-- ---- literals, parameters and commands
+
+abbrev pub INT_NUMBER : ℕ
+INT_NUMBER = 33
+
+abbrev pub NUMERIC_NUMBER : ℕ
+NUMERIC_NUMBER = 34
+
+abbrev pub STRING : ℕ
+STRING = 35
+
+abbrev pub NATIONAL_STRING : ℕ
+NATIONAL_STRING = 36
+
+abbrev pub BYTE_STRING : ℕ
+BYTE_STRING = 37
+
+abbrev pub BIT_STRING : ℕ
+BIT_STRING = 38
+
+abbrev pub DOLLAR_QUOTED_STRING : ℕ
+DOLLAR_QUOTED_STRING = 39
+
+abbrev pub UNICODE_ESC_STRING : ℕ
+UNICODE_ESC_STRING = 40
+
+abbrev pub ESC_STRING : ℕ
+ESC_STRING = 41
+
+abbrev pub POSITIONAL_PARAM : ℕ
+POSITIONAL_PARAM = 42
+
+abbrev pub PSQL_COMMAND_TEXT : ℕ
+PSQL_COMMAND_TEXT = 43
+
+abbrev pub PSQL_TERMINATOR_TEXT : ℕ
+PSQL_TERMINATOR_TEXT = 44
+
+-- ---- signs that are glued
+
 abbrev pub COLON_EQ : ℕ
 COLON_EQ = 45
 
@@ -123,6 +187,8 @@ GREATER_GREATER = 51
 
 abbrev pub GTEQ : ℕ
 GTEQ = 52
+
+-- ---- keywords of composite kinds
 
 abbrev pub SIMILAR_KW : ℕ
 SIMILAR_KW = 64
@@ -195,6 +261,8 @@ ILIKE_KW = 86
 
 abbrev pub IN_KW : ℕ
 IN_KW = 87
+
+-- ---- composite kinds that are nodes
 
 abbrev pub SIMILAR_TO : ℕ
 SIMILAR_TO = 640

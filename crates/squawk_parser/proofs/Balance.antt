@@ -1,8 +1,8 @@
 -- Balanced walks, by the depth that they reach.
 use Rattle.std.proofs.Common.{◌≡◌, ℕ, zero, suc, ◌+◌, ◌≤◌, Option, Some, None, List, [], ◌∷◌, ◌++◌, take, arith, ap, refl, ◌∙◌}
-use Rattle.squawk_table.specs.Steps.{Step, Token, Enter, Exit, Error, openings, closings, is_enter, is_exit}
+use Rattle.squawk_output.specs.Steps.{Step, Token, Enter, Exit, Error, openings, closings, is_enter, is_exit}
 use Rattle.squawk_table.specs.Shape.{IsBalanced}
-use Rattle.squawk_event.proofs.Sums.{count_by-cons}
+use Rattle.squawk_output.proofs.Sums.{count_by-cons}
 
 -- the depth after a walk from a depth, if it never leaves more than it has entered
 abbrev pub depth_after : ℕ → List Step → Option ℕ

@@ -4,7 +4,7 @@ use Rattle.std.specs.Prelude.{codes}
 use Rattle.std.specs.Fmt as fmt
 use Rattle.squawk_kinds.specs.Kinds.{EOF, IDENT, COLON, EQ, PLUS, MINUS, AT, COLON_EQ, COLON_COLON, IS_KW, NFC_KW, NORMALIZED_KW, IS_NORMALIZED, IS_JSON, OPERATOR_CALL, CUSTOM_OP, R_PAREN, UNICODE_NORMAL_FORM, ERROR}
 use Rattle.squawk_table.specs.ParserInput.{Entry}
-use Rattle.squawk_table.specs.Steps.{Token, Enter, Exit, Error}
+use Rattle.squawk_output.specs.Steps.{Token, Enter, Exit, Error}
 use Rattle.squawk_parser.specs.Composites.{NoTail, Open, ClosedBy}
 use Rattle.squawk_parser.specs.Eaten.{row_of, eaten_as, tail_of_kind, name_in, recovery_steps}
 

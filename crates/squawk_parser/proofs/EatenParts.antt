@@ -8,11 +8,11 @@ use Rattle.std.proofs.lemmas.List.{append-nil, drop_all, map-append, take_all}
 use Rattle.squawk_kinds.specs.Kinds.{EOF, UNICODE_NORMAL_FORM}
 use Rattle.squawk_table.specs.ParserInput.{Entry, kind_in}
 use Rattle.squawk_table.specs.Shape.{AreOneToken}
-use Rattle.squawk_table.specs.Steps.{Step, eaten}
+use Rattle.squawk_output.specs.Steps.{Step, eaten}
 use Rattle.squawk_parser.specs.CompositeRows.{element_of}
 use Rattle.squawk_parser.specs.Composites.{Element, One, HasNoEndKind, do_touch, normal_form, normal_forms, sequence_length}
 use Rattle.squawk_parser.specs.Eaten.{element_steps, one}
-use Rattle.squawk_event.specs.Edits.{with_token}
+use Rattle.squawk_log.specs.Edits.{with_token}
 use Rattle.squawk_parser.specs.LookAhead.{touches_next}
 use Rattle.squawk_parser.specs.Recorded.{Puts}
 use Rattle.squawk_parser.specs.State.{State, Keeps, Records, ahead}

@@ -1,6 +1,6 @@
 -- A kind with a tail that records steps: all of it stands in one node.
 use Rattle.std.proofs.Common.{ℕ, ◌++◌, List}
-use Rattle.squawk_table.specs.Steps.{Step}
+use Rattle.squawk_output.specs.Steps.{Step}
 use Rattle.squawk_parser.specs.Eaten.{EatsWith, closing_steps, element_steps, elements_of_kind, node, tail_of_kind}
 use Rattle.squawk_parser.specs.Recorded.{Puts}
 use Rattle.squawk_parser.specs.State.{State, ahead}

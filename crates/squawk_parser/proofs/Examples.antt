@@ -1,9 +1,9 @@
 -- The definitions of drafts on small ones: what they give is worked out by hand.
 use Rattle.std.proofs.Common.{◌≡◌, true, false, [], ◌∷◌, refl}
-use Rattle.squawk_event.specs.Draft as items
-use Rattle.squawk_event.specs.Draft.{Draft, nothing, errors_of, plain}
-use Rattle.squawk_event.specs.Edits.{abandoned, completed, extended, preceded, started, with_token, with_error}
-use Rattle.squawk_table.specs.Steps as steps
+use Rattle.squawk_log.specs.Draft as items
+use Rattle.squawk_log.specs.Draft.{Draft, nothing, errors_of, plain}
+use Rattle.squawk_log.specs.Edits.{abandoned, completed, extended, preceded, started, with_token, with_error}
+use Rattle.squawk_output.specs.Steps as steps
 use Rattle.squawk_table.proofs.Examples.{crossing_steps}
 
 abbrev token : Draft → Draft

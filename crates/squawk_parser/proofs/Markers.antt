@@ -2,14 +2,14 @@
 use Rattle.std.proofs.Common.{◌≡◌, ◌∙◌, ℕ, ◌==◌, Bool, true, false, Option, Some, None, List, [], ◌∷◌, ◌++◌, cond, ap, sym, refl, subst}
 use Rattle.std.specs.Prelude.{Contains, filter, not}
 use Rattle.std.proofs.lemmas.List.Elements.{Contains-append_left, filter-append}
-use Rattle.squawk_table.specs.Steps.{Step}
-use Rattle.squawk_event.specs.Draft.{Draft, Item, Made, Hole, Open, Close, Token, Error, Mark, Node, ByStart, ByPrecede, HasNoIdTwice, holes_of, is_hole}
-use Rattle.squawk_event.specs.Edits.{abandoned, completed, extended, extended_items, filled, is_hole_of, is_opening_of, moved, preceded, replaced, stands_before, started, without_hole}
+use Rattle.squawk_output.specs.Steps.{Step}
+use Rattle.squawk_log.specs.Draft.{Draft, Item, Made, Hole, Open, Close, Token, Error, Mark, Node, ByStart, ByPrecede, HasNoIdTwice, holes_of, is_hole}
+use Rattle.squawk_log.specs.Edits.{abandoned, completed, extended, extended_items, filled, is_hole_of, is_opening_of, moved, preceded, replaced, stands_before, started, without_hole}
 use Rattle.squawk_parser.specs.Recorded.{Puts}
-use Rattle.squawk_parser.specs.State.{State, Changes, Goes, HasHole, HasNode, Records}
+use Rattle.squawk_parser.specs.State.{State, Changes, HasNotFailed, HasHole, HasNode, Records}
 use Rattle.squawk_parser.specs.declared.parser.parse_error.ParseError.{ParseError}
 use Rattle.squawk_parser.proofs.SoundMoves.{preceded-split}
-use Rattle.squawk_event.proofs.Groups.{itself}
+use Rattle.squawk_log.proofs.Groups.{itself}
 use Rattle.squawk_parser.proofs.Splits.{split, Contains-behind, here, replaced-append}
 
 -- ---- items
@@ -80,7 +80,7 @@ pub record HasOneMore {X : Type 0} (x : X) (old new : List X) : Type 0 where
   pub is : new ≡ front ++ x ∷ back
 
 -- and the other holes stay as they were
-pub holes-preceded : {s t : State} (node : Node) (id : ℕ) → HasNoIdTwice s.draft.items → HasNode s node → Records s t (preceded s.draft node.id id) → Goes t
+pub holes-preceded : {s t : State} (node : Node) (id : ℕ) → HasNoIdTwice s.draft.items → HasNode s node → Records s t (preceded s.draft node.id id) → HasNotFailed t
     → HasOneMore (Hole id (ByPrecede s.draft.entries)) (holes_of s.draft.items) (holes_of t.draft.items)
 holes-preceded {s} {t} node id once there records goes =
     let at = preceded-split node.id node.kind id (ByPrecede s.draft.entries) s.draft.items once (there (records.went goes)) in
@@ -109,15 +109,15 @@ abbrev pub others : ℕ → List Item → List Item
 others id items = filter (λ item. not (is_hole_of id item)) items
 
 -- a parser that goes on after a change went on before
-pub went-changed : {s t : State} {draft : Draft} → Changes s t draft → Goes t → Goes s
-went-changed {s} {t} {draft} changes goes = cases s.first refl
+pub went-changed : {s t : State} {draft : Draft} → Changes s t draft → HasNotFailed t → HasNotFailed s
+went-changed {s} {t} {draft} changes goes = cases s.first_reason refl
   where
-    cases : (f : Option ParseError) → s.first ≡ f → s.first ≡ None
+    cases : (f : Option ParseError) → s.first_reason ≡ f → s.first_reason ≡ None
     cases None e = e
     cases (Some reason) e =
-        let same : t.first ≡ s.first = ap (λ u. u.first) (changes.stays (rw e refl)) in absurd (let p = sym goes ∙ (same ∙ e) in cc)
+        let same : t.first_reason ≡ s.first_reason = ap (λ u. u.first_reason) (changes.stays (rw e refl)) in absurd (let p = sym goes ∙ (same ∙ e) in cc)
 
-pub changed : {s t : State} {draft : Draft} → Changes s t draft → Goes t → t.draft ≡ draft
+pub changed : {s t : State} {draft : Draft} → Changes s t draft → HasNotFailed t → t.draft ≡ draft
 changed changes goes = ap (λ u. u.draft) (changes.goes (went-changed changes goes))
 
 module _ (id : ℕ) (f : Item → List Item) (closed : (item : Item) → holes_of (f item) ≡ []) where
@@ -159,12 +159,12 @@ holes-extended_items node id items = cases (stands_before (is_hole_of id) (is_op
     cases false = holes-replaced id (λ item. []) (λ item. refl) items
 
 -- an abandoned marker's hole is gone, and the other holes stay as they were
-pub holes-abandoned : {s t : State} (id : ℕ) → Changes s t (abandoned s.draft id) → Goes t → holes_of t.draft.items ≡ others id (holes_of s.draft.items)
+pub holes-abandoned : {s t : State} (id : ℕ) → Changes s t (abandoned s.draft id) → HasNotFailed t → holes_of t.draft.items ≡ others id (holes_of s.draft.items)
 holes-abandoned {s} {t} id changes goes =
     ap (λ draft. holes_of draft.items) (changed changes goes) ∙ holes-replaced id (λ item. []) (λ item. refl) s.draft.items
 
 -- so it is with the marker that a node is extended to
-pub holes-extended : {s t : State} (node : Node) (id : ℕ) → Changes s t (extended s.draft node id) → Goes t
+pub holes-extended : {s t : State} (node : Node) (id : ℕ) → Changes s t (extended s.draft node id) → HasNotFailed t
     → holes_of t.draft.items ≡ others id (holes_of s.draft.items)
 holes-extended {s} {t} node id changes goes =
     ap (λ draft. holes_of draft.items) (changed changes goes) ∙ holes-extended_items node id s.draft.items
@@ -180,7 +180,7 @@ node-extended {s} {t} node m there hole changes goes =
     opening : Item
     opening = Open node.id node.kind true
 
-    before : Goes s
+    before : HasNotFailed s
     before = went-changed changes goes
 
     cases : (b : Bool) → Contains (cond b (moved node m.id items) (without_hole m.id items)) opening

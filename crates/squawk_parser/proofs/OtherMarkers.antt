@@ -4,9 +4,9 @@ use Rattle.std.proofs.Common.{◌≡◌, ℕ, ◌==◌, Bool, true, false, [], �
 use Rattle.std.specs.Prelude.{Contains}
 use Rattle.std.proofs.lemmas.Bool.{eqb-true}
 use Rattle.std.proofs.lemmas.List.Elements.{Contains-append_left}
-use Rattle.squawk_event.specs.Draft.{Draft, Item, Hole, Open, Close, Mark, Node, ByStart, ByPrecede}
-use Rattle.squawk_event.specs.Edits.{abandoned, completed, filled, is_hole_of, is_opening_of, preceded, preceded_item, started}
-use Rattle.squawk_parser.specs.State.{State, Changes, Goes, HasHole, HasNode, Records}
+use Rattle.squawk_log.specs.Draft.{Draft, Item, Hole, Open, Close, Mark, Node, ByStart, ByPrecede}
+use Rattle.squawk_log.specs.Edits.{abandoned, completed, filled, is_hole_of, is_opening_of, preceded, preceded_item, started}
+use Rattle.squawk_parser.specs.State.{State, Changes, HasNotFailed, HasHole, HasNode, Records}
 use Rattle.squawk_parser.proofs.Markers.{Contains-others, went-changed, changed}
 
 -- two numbers
@@ -19,11 +19,11 @@ differ i j other = cases (i == j) refl
 
 -- an item that is in the edited draft too
 recorded : {s t : State} {edited : Draft} (item : Item) → Records s t edited → (Contains s.draft.items item → Contains edited.items item)
-    → (Goes s → Contains s.draft.items item) → Goes t → Contains t.draft.items item
+    → (HasNotFailed s → Contains s.draft.items item) → HasNotFailed t → Contains t.draft.items item
 recorded item records stays there goes = subst (λ draft. Contains draft.items item) (sym (records.draft goes)) (stays (there (records.went goes)))
 
 edited_only : {s t : State} {edited : Draft} (item : Item) → Changes s t edited → (Contains s.draft.items item → Contains edited.items item)
-    → (Goes s → Contains s.draft.items item) → Goes t → Contains t.draft.items item
+    → (HasNotFailed s → Contains s.draft.items item) → HasNotFailed t → Contains t.draft.items item
 edited_only item changes stays there goes =
     subst (λ draft. Contains draft.items item) (sym (changed changes goes)) (stays (there (went-changed changes goes)))
 

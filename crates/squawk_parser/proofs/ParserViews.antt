@@ -3,13 +3,13 @@ use Rattle.std.proofs.Common.{◌≡◌, ◌∙◌, ◌<◌, ℕ, Option, Some, 
 use Rattle.std.specs.Prelude.{IsSome, is_some}
 use Rattle.squawk_table.specs.Shape.{AreOneToken}
 use Rattle.squawk_parser.specs.declared.parser.Parser.TheInside.{Inside}
-use Rattle.squawk_event.specs.Draft.{Draft, errors_of}
+use Rattle.squawk_log.specs.Draft.{Draft, errors_of}
 use Rattle.squawk_parser.specs.Words.{words_of}
-use Rattle.squawk_parser.specs.State.{State, Goes, Keeps, Changes, IsSound, ahead}
+use Rattle.squawk_parser.specs.State.{State, HasNotFailed, Keeps, Changes, IsSound, ahead}
 use Rattle.squawk_parser.proofs.Soundness.{IsKept, not_failed}
 
 abbrev pub seen : Inside → State
-seen p = record { input = p.input.now; words = words_of (record { operator_first = p.operator_first; names = p.names }); position = p.position; limit = p.limit; draft = p.log; max_events = p.limits.events; max_errors = p.limits.errors; first = p.first }
+seen p = record { input = p.input.now; words = words_of (record { operator_first = p.operator_first; names = p.names }); position = p.position; limit = p.limit; draft = p.log; max_events = p.limits.events; max_errors = p.limits.errors; first_reason = p.first_reason }
 
 -- the invariant of a parser, as one record
 pub kept : (p : Inside) → IsSound (seen p) → IsKept (seen p)
@@ -17,10 +17,10 @@ kept p invariant = record { sound = invariant }
 
 -- a parser that goes on and has room, seen as it was before
 pub record HasRoom (s : State) : Type 0 where
-  pub goes : Goes s
+  pub goes : HasNotFailed s
   pub room : s.draft.recorded < s.max_events
 
-pub has_room : (s t : State) → s ≡ t → Goes t × (t.draft.recorded < t.max_events) → HasRoom s
+pub has_room : (s t : State) → s ≡ t → HasNotFailed t × (t.draft.recorded < t.max_events) → HasRoom s
 has_room s t e h = rw e (record { goes = h.0; room = h.1 })
 
 -- and room for an error
@@ -35,23 +35,23 @@ sees_same s t u n e keeps place one = subst (AreOneToken n) (sym same) one
     same = let input = keeps.input in let limit = keeps.limit in cc
 
 -- what a test of the reason to fail tells
-pub goes_on : (s : State) → is_some s.first ≡ false → Goes s
-goes_on s e = cases s.first e
+pub goes_on : (s : State) → is_some s.first_reason ≡ false → HasNotFailed s
+goes_on s e = cases s.first_reason e
   where
     cases : {X : Type 0} (f : Option X) → is_some f ≡ false → f ≡ None
     cases None e = refl
     cases (Some reason) e = absurd (let h = e in cc)
 
 -- an edit that isn't recorded, of a parser that goes on
-pub Changes-edited : (old s new : State) (edited : Draft) → s ≡ old → Goes s → new ≡ record s { draft = edited } → Changes old new edited
+pub Changes-edited : (old s new : State) (edited : Draft) → s ≡ old → HasNotFailed s → new ≡ record s { draft = edited } → Changes old new edited
 Changes-edited old s new edited same goes is = let edit : State → State = λ t. record t { draft = edited } in record {
   goes = λ go. is ∙ ap edit same;
-  stays = λ failed. absurd (not_failed s goes (subst (λ t. IsSome t.first) (sym same) failed));
+  stays = λ failed. absurd (not_failed s goes (subst (λ t. IsSome t.first_reason) (sym same) failed));
 }
 
 -- a parser that has failed stays as it is
-pub Changes-failed : (old s new : State) (edited : Draft) → s ≡ old → IsSome s.first → new ≡ old → Changes old new edited
+pub Changes-failed : (old s new : State) (edited : Draft) → s ≡ old → IsSome s.first_reason → new ≡ old → Changes old new edited
 Changes-failed old s new edited same failed is = record {
-  goes = λ goes. absurd (not_failed old goes (subst (λ t. IsSome t.first) same failed));
+  goes = λ goes. absurd (not_failed old goes (subst (λ t. IsSome t.first_reason) same failed));
   stays = λ fails. is;
 }

@@ -4,12 +4,12 @@ use Rattle.std.specs.Prelude.{All}
 use Rattle.std.proofs.lemmas.List.Sums.{sum_by-append}
 use Rattle.std.proofs.lemmas.List.Elements.{All-nil, All-cons, All-head, All-tail}
 use Rattle.std.proofs.lemmas.Grind.{flat_map-append}
-use Rattle.squawk_table.specs.Steps as steps
-use Rattle.squawk_table.specs.Steps.{Step, Enter, Exit, is_error, errors_in, eaten, count_of}
-use Rattle.squawk_event.specs.Draft as draft
-use Rattle.squawk_event.specs.Draft.{Item, Made, Hole, Open, Close, Token, Error, HasNoHole, IsAboveIds, errors_of, ids, ids_of, is_hole, plain, steps_of}
-use Rattle.squawk_event.specs.Edits.{filled}
-use Rattle.squawk_event.proofs.Sums.{count_by-cons}
+use Rattle.squawk_output.specs.Steps as steps
+use Rattle.squawk_output.specs.Steps.{Step, Enter, Exit, is_error, errors_in, eaten, count_of}
+use Rattle.squawk_log.specs.Draft as draft
+use Rattle.squawk_log.specs.Draft.{Item, Made, Hole, Open, Close, Token, Error, HasNoHole, IsAboveIds, errors_of, ids, ids_of, is_hole, plain, steps_of}
+use Rattle.squawk_log.specs.Edits.{filled}
+use Rattle.squawk_output.proofs.Sums.{count_by-cons}
 
 pub plain-append : (xs ys : List Item) → plain (xs ++ ys) ≡ plain xs ++ plain ys
 plain-append xs ys = flat_map-append steps_of xs ys

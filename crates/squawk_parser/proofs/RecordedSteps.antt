@@ -5,18 +5,18 @@ use Rattle.std.proofs.lemmas.List.{append-nil}
 use Rattle.std.proofs.lemmas.List.Elements.{All-nil, All-cons, All-head, All-append, All-weaker, Contains-append_left, Contains-push}
 use Rattle.std.proofs.lemmas.List.Kept.{AllPairs-cons}
 use Rattle.std.proofs.lemmas.List.Sums.{sum_by-append, sum_by-cons}
-use Rattle.squawk_table.specs.Steps as steps
-use Rattle.squawk_table.specs.Steps.{Step, Enter, Exit, is_error, errors_in}
-use Rattle.squawk_event.specs.Draft.{Draft, Item, Made, Mark, Hole, Open, Close, Token, ByStart, HasNoHole, IsAboveIds, errors_of, ids, is_hole, plain}
+use Rattle.squawk_output.specs.Steps as steps
+use Rattle.squawk_output.specs.Steps.{Step, Enter, Exit, is_error, errors_in}
+use Rattle.squawk_log.specs.Draft.{Draft, Item, Made, Mark, Hole, Open, Close, Token, ByStart, HasNoHole, IsAboveIds, errors_of, ids, is_hole, plain}
 use Rattle.squawk_parser.specs.Eaten.{node}
-use Rattle.squawk_event.specs.Edits.{completed, filled, started, with_token}
+use Rattle.squawk_log.specs.Edits.{completed, filled, started, with_token}
 use Rattle.squawk_parser.specs.Recorded.{IsPut, IsReason, IsRefusedStep, Puts, turns_due_of, turns_of_step}
-use Rattle.squawk_parser.specs.State.{State, Goes, HasHole, Keeps, Records}
+use Rattle.squawk_parser.specs.State.{State, HasNotFailed, HasHole, Keeps, Records}
 use Rattle.squawk_parser.specs.declared.parser.parse_error.ParseError.{ParseError}
 use Rattle.squawk_parser.specs.declared.parser.parse_error.ParseError.TheVariants.{OutOfMemory, TooManyEvents}
 use Rattle.squawk_parser.proofs.Pairs.{AllPairs-nil, AllPairs-append}
 use Rattle.squawk_parser.proofs.RecordedItems.{plain-append, ids-append, filled-append, steps_errors-append, eaten-append, errors-plain, All-front, filled-below, filled-closed, filled-here}
-use Rattle.squawk_event.proofs.EditedErrors.{errors-append}
+use Rattle.squawk_log.proofs.EditedErrors.{errors-append}
 use Rattle.squawk_parser.proofs.Splits.{All-back}
 
 -- ---- the turns of steps
@@ -33,7 +33,7 @@ pub Keeps-none : (a : State) → Keeps a a
 Keeps-none a = record { input = refl; words = refl; limit = refl; max_events = refl; max_errors = refl; reason = λ failed. refl }
 
 -- a parser that has failed has still failed afterwards
-still : {a b : State} → Keeps a b → IsSome a.first → IsSome b.first
+still : {a b : State} → Keeps a b → IsSome a.first_reason → IsSome b.first_reason
 still k failed = rw (k.reason failed) failed
 
 pub Keeps-then : {a b c : State} → Keeps a b → Keeps b c → Keeps a c
@@ -48,7 +48,7 @@ Keeps-then {a} {b} {c} k l = record {
 
 -- A parser that fails is refused one of the steps.
 abbrev Refuses : List Step → State → State → Type 0
-Refuses xs a b = Goes a → (reason : ParseError) → b.first ≡ Some reason → IsRefusedStep a xs reason
+Refuses xs a b = HasNotFailed a → (reason : ParseError) → b.first_reason ≡ Some reason → IsRefusedStep a xs reason
 
 -- A parser that goes on has recorded them.
 record Counts (xs : List Step) (a b : State) : Type 0 where
@@ -89,13 +89,13 @@ earlier xs ys a reason r = record {
   why = r.why;
 }
 
-refuses-then : {xs ys : List Step} {a b c : State} → Keeps a b → Keeps b c → (Goes b → Counts xs a b) → Refuses xs a b → Refuses ys b c → Refuses (xs ++ ys) a c
-refuses-then {xs} {ys} {a} {b} {c} k l counts first second goes reason fails = cases b.first refl
+refuses-then : {xs ys : List Step} {a b c : State} → Keeps a b → Keeps b c → (HasNotFailed b → Counts xs a b) → Refuses xs a b → Refuses ys b c → Refuses (xs ++ ys) a c
+refuses-then {xs} {ys} {a} {b} {c} k l counts first second goes reason fails = cases b.first_reason refl
   where
-    cases : (f : Option ParseError) → b.first ≡ f → IsRefusedStep a (xs ++ ys) reason
+    cases : (f : Option ParseError) → b.first_reason ≡ f → IsRefusedStep a (xs ++ ys) reason
     cases None e = later xs ys a b reason k (counts e) (second e reason fails)
     cases (Some r) e =
-        let stays : c.first ≡ b.first = l.reason (rw e refl) in
+        let stays : c.first_reason ≡ b.first_reason = l.reason (rw e refl) in
         let same : r ≡ reason = let p = sym e ∙ (sym stays ∙ fails) in cc in
         earlier xs ys a reason (first goes reason (e ∙ ap Some same))
 
@@ -265,7 +265,7 @@ node-put {a} {b} {c} {xs} id kind above is put = record {
 
 -- a node is begun, steps are recorded in it, and it is completed
 pub node_puts : {a b c d : State} {xs : List Step} (id kind : ℕ) → Keeps a b → Keeps b c → Keeps c d
-    → Records a b (started a.draft id) → (Goes b → IsAboveIds id a.draft.items) → b.position ≡ a.position
+    → Records a b (started a.draft id) → (HasNotFailed b → IsAboveIds id a.draft.items) → b.position ≡ a.position
     → Puts xs b c → Records c d (completed c.draft id kind) → d.position ≡ c.position
     → Puts (node kind xs) a d
 node_puts {a} {b} {c} {d} {xs} id kind k l m begins fresh here p completes there = record {

@@ -3,12 +3,12 @@ use Rattle.std.proofs.Common.{◌≡◌, ◌≢◌, ◌∙◌, ℕ, ◌+◌, ◌
 use Rattle.std.proofs.lemmas.Bool.{eqb-true}
 use Rattle.squawk_kinds.specs.Kinds.{EOF, ERROR}
 use Rattle.squawk_table.specs.ParserInput.{Entry, kind_in}
-use Rattle.squawk_table.specs.Steps.{Error}
-use Rattle.squawk_event.specs.Draft.{IsAboveIds}
+use Rattle.squawk_output.specs.Steps.{Error}
+use Rattle.squawk_log.specs.Draft.{IsAboveIds}
 use Rattle.squawk_parser.specs.Eaten.{current_as, node, recovery_steps}
-use Rattle.squawk_event.specs.Edits.{completed, started, with_token}
+use Rattle.squawk_log.specs.Edits.{completed, started, with_token}
 use Rattle.squawk_parser.specs.Recorded.{Puts}
-use Rattle.squawk_parser.specs.State.{State, Goes, Keeps, Records, ahead, kind_at}
+use Rattle.squawk_parser.specs.State.{State, HasNotFailed, Keeps, Records, ahead, kind_at}
 use Rattle.squawk_parser.proofs.RecordedSteps.{Keeps-then, node_puts, puts-none, puts-then, token_puts}
 use Rattle.squawk_parser.proofs.SeenSteps.{ahead-moved, ahead-still, if-false, if-true, kind_at-first}
 
@@ -43,7 +43,7 @@ recovery-there text recovers s test = if-true _ _ _ (ap recovers (sym (kind_at-f
 
 -- a token that isn't one to go on from stands with the error in a node
 pub recovery_puts : {a b c d e : State} (text : List ℕ) (recovers : ℕ → Bool) (id : ℕ) → recovers (kind_at a 0) ≡ false
-    → Keeps a b → Records a b (started a.draft id) → (Goes b → IsAboveIds id a.draft.items) → b.position ≡ a.position
+    → Keeps a b → Records a b (started a.draft id) → (HasNotFailed b → IsAboveIds id a.draft.items) → b.position ≡ a.position
     → Keeps b c → Puts (Error text ∷ []) b c
     → Keeps c d → (kind_at c 0 ≡ EOF → d ≡ c) → (kind_at c 0 ≢ EOF → d.position ≡ c.position + 1) → (kind_at c 0 ≢ EOF → Records c d (with_token c.draft (kind_at c 0) 1))
     → Keeps d e → Records d e (completed d.draft id ERROR) → e.position ≡ d.position

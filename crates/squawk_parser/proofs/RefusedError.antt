@@ -1,10 +1,10 @@
 -- Errors that are refused.
 use Rattle.std.proofs.Common.{◌≡◌, ◌∙◌, ◌≤◌, ℕ, Option, Some, List, [], ◌∷◌, arith, add-zero, refl, subst}
 use Rattle.std.specs.Prelude.{IsSome}
-use Rattle.squawk_table.specs.Steps.{Error}
-use Rattle.squawk_event.specs.Draft.{errors_of}
+use Rattle.squawk_output.specs.Steps.{Error}
+use Rattle.squawk_log.specs.Draft.{errors_of}
 use Rattle.squawk_parser.specs.Recorded.{IsReason, Puts}
-use Rattle.squawk_parser.specs.State.{State, Goes}
+use Rattle.squawk_parser.specs.State.{State, HasNotFailed}
 use Rattle.squawk_parser.specs.declared.parser.parse_error.ParseError.{ParseError}
 use Rattle.squawk_parser.specs.declared.parser.parse_error.ParseError.TheVariants.{TooManyEvents}
 use Rattle.squawk_parser.proofs.Soundness.{not_failed}
@@ -18,8 +18,8 @@ same_reason : (s : State) (msg : List ℕ) (first : Option ParseError) (is reaso
 same_reason s msg first is reason e h why = let same : is ≡ reason = cc in subst (IsReasonFor s msg) same why
 
 -- no error is put by a parser that fails
-not_put : (old new : State) (msg : List ℕ) → IsSome new.first → new.position ≡ old.position → new.draft ≡ old.draft
-    → (Goes old → (reason : ParseError) → new.first ≡ Some reason → IsReasonFor old msg reason) → Puts (Error msg ∷ []) old new
+not_put : (old new : State) (msg : List ℕ) → IsSome new.first_reason → new.position ≡ old.position → new.draft ≡ old.draft
+    → (HasNotFailed old → (reason : ParseError) → new.first_reason ≡ Some reason → IsReasonFor old msg reason) → Puts (Error msg ∷ []) old new
 not_put old new msg failed place same why = record {
   position = place ∙ omega arith;
   went = λ after. absurd (not_failed new after failed);
@@ -29,12 +29,12 @@ not_put old new msg failed place same why = record {
 }
 
 -- a parser that fails for a reason that it has
-pub Puts-refused : (s old : State) (msg : List ℕ) (is : ParseError) → s ≡ old → IsReasonFor old msg is → Puts (Error msg ∷ []) old (record s { first = Some is })
+pub Puts-refused : (s old : State) (msg : List ℕ) (is : ParseError) → s ≡ old → IsReasonFor old msg is → Puts (Error msg ∷ []) old (record s { first_reason = Some is })
 Puts-refused s old msg is e why =
-    not_put old (record s { first = Some is }) msg refl (cc) (cc) (λ _ reason refused. same_reason old msg (Some is) is reason refl refused why)
+    not_put old (record s { first_reason = Some is }) msg refl (cc) (cc) (λ _ reason refused. same_reason old msg (Some is) is reason refl refused why)
 
 -- one that had no room for an event
-pub Puts-full : (old new : State) (msg : List ℕ) → errors_of old.draft.items ≤ old.max_errors → IsSome new.first → new.position ≡ old.position → new.draft ≡ old.draft
-    → (Goes old → (old.draft.recorded ≡ old.max_events) × (new.first ≡ Some TooManyEvents)) → Puts (Error msg ∷ []) old new
+pub Puts-full : (old new : State) (msg : List ℕ) → errors_of old.draft.items ≤ old.max_errors → IsSome new.first_reason → new.position ≡ old.position → new.draft ≡ old.draft
+    → (HasNotFailed old → (old.draft.recorded ≡ old.max_events) × (new.first_reason ≡ Some TooManyEvents)) → Puts (Error msg ∷ []) old new
 Puts-full old new msg errors failed place same full =
-    not_put old new msg failed place same (λ goes reason refused. same_reason old msg new.first TooManyEvents reason (full goes).1 refused ((full goes).0, errors))
+    not_put old new msg failed place same (λ goes reason refused. same_reason old msg new.first_reason TooManyEvents reason (full goes).1 refused ((full goes).0, errors))

@@ -2,14 +2,14 @@
 use Rattle.std.proofs.Common.{◌≡◌, ◌∙◌, ℕ, ◌+◌, ◌≤◌, ◌==◌, Bool, true, false, List, [], ◌∷◌, ◌++◌, cond, arith, ap, sym, refl, subst}
 use Rattle.std.specs.Prelude.{Contains, count_by}
 use Rattle.std.proofs.lemmas.List.{append_assoc}
-use Rattle.squawk_event.specs.Draft.{Draft, Made, Item, Hole, Open, Node, ids, plain, HasNoIdTwice}
-use Rattle.squawk_event.specs.Edits.{is_hole_of, is_opening_of, replaced, abandoned, without_hole, stands_before, moved, extended, extended_items}
-use Rattle.squawk_parser.specs.State.{State, Goes}
-use Rattle.squawk_event.proofs.Sums.{count_by-cons}
+use Rattle.squawk_log.specs.Draft.{Draft, Made, Item, Hole, Open, Node, ids, plain, HasNoIdTwice}
+use Rattle.squawk_log.specs.Edits.{is_hole_of, is_opening_of, replaced, abandoned, without_hole, stands_before, moved, extended, extended_items}
+use Rattle.squawk_parser.specs.State.{State, HasNotFailed}
+use Rattle.squawk_output.proofs.Sums.{count_by-cons}
 use Rattle.squawk_parser.proofs.RecordedItems.{plain-append, ids-append}
 use Rattle.squawk_parser.proofs.Soundness.{IsKept}
 use Rattle.squawk_parser.proofs.SoundMoves.{IsMoved, IsMoved-same, IsMoved-earlier, IsKept-moved}
-use Rattle.squawk_event.proofs.Groups.{itself}
+use Rattle.squawk_log.proofs.Groups.{itself}
 use Rattle.squawk_parser.proofs.Splits.{split, count_by-append, count_by-passes, count_by-fails, Contains-passed, replaced-at, first, a_hole, holes-once, openings-once}
 
 -- what stays of items from which a hole is taken
@@ -181,15 +181,15 @@ IsTaken-extended node id made items once hole there = cases (stands_before (is_h
 
 -- ---- parsers
 
-IsKept-taken : (s : State) (d : Draft) → IsKept s → Goes s → d.recorded ≡ s.draft.recorded → IsTaken s.draft.items d.items → IsKept (record s { draft = d })
+IsKept-taken : (s : State) (d : Draft) → IsKept s → HasNotFailed s → d.recorded ≡ s.draft.recorded → IsTaken s.draft.items d.items → IsKept (record s { draft = d })
 IsKept-taken s d kept goes same taken = IsKept-moved s d kept goes (omega (arith, same, kept.sound.recorded)) taken.move taken.once
 
-pub IsKept-abandoned : (s : State) (id : ℕ) (made : Made) → IsKept s → Goes s → Contains s.draft.items (Hole id made)
+pub IsKept-abandoned : (s : State) (id : ℕ) (made : Made) → IsKept s → HasNotFailed s → Contains s.draft.items (Hole id made)
     → IsKept (record s { draft = abandoned s.draft id })
 IsKept-abandoned s id made kept goes there =
     IsKept-taken s (abandoned s.draft id) kept goes refl (IsTaken-without_hole id made s.draft.items kept.sound.ids there)
 
-pub IsKept-extended : (s : State) (node : Node) (id : ℕ) (made : Made) → IsKept s → Goes s → Contains s.draft.items (Hole id made)
+pub IsKept-extended : (s : State) (node : Node) (id : ℕ) (made : Made) → IsKept s → HasNotFailed s → Contains s.draft.items (Hole id made)
     → Contains s.draft.items (Open node.id node.kind true) → IsKept (record s { draft = extended s.draft node id })
 IsKept-extended s node id made kept goes hole there =
     IsKept-taken s (extended s.draft node id) kept goes refl (IsTaken-extended node id made s.draft.items kept.sound.ids hole there)

@@ -1,20 +1,20 @@
 -- A parser stays sound where a node is preceded, a marker is abandoned, and a node is extended.
 use Rattle.std.proofs.Common.{◌≡◌, ◌∙◌, ℕ, zero, suc, ◌+◌, ◌<◌, ◌≤◌, ◌==◌, true, false, Some, List, [], ◌∷◌, ◌++◌, drop, arith, ap, sym, refl, subst}
 use Rattle.std.specs.Prelude.{Contains, count_by}
-use Rattle.squawk_table.specs.Steps as steps
-use Rattle.squawk_table.specs.Steps.{Step, Enter, eaten, errors_in}
+use Rattle.squawk_output.specs.Steps as steps
+use Rattle.squawk_output.specs.Steps.{Step, Enter, eaten, errors_in}
 use Rattle.squawk_table.specs.ParserInput.{Entry}
 use Rattle.squawk_table.specs.Shape.{IsOver}
 use Rattle.squawk_table.proofs.Over.{IsOver-append, IsOver-front, IsOver-back, eaten-other}
-use Rattle.squawk_event.specs.Draft.{Draft, Item, Made, Hole, Open, ByPrecede, ids, plain, HasNoIdTwice, IsAboveIds}
-use Rattle.squawk_event.specs.Edits.{is_opening_of, replaced, preceded, preceded_item}
-use Rattle.squawk_parser.specs.State.{State, Goes}
+use Rattle.squawk_log.specs.Draft.{Draft, Item, Made, Hole, Open, ByPrecede, ids, plain, HasNoIdTwice, IsAboveIds}
+use Rattle.squawk_log.specs.Edits.{is_opening_of, replaced, preceded, preceded_item}
+use Rattle.squawk_parser.specs.State.{State, HasNotFailed}
 use Rattle.squawk_parser.specs.declared.parser.parse_error.ParseError.TheVariants.{TooManyEvents, TooManyErrors}
-use Rattle.squawk_event.proofs.Sums.{count_by-cons}
+use Rattle.squawk_output.proofs.Sums.{count_by-cons}
 use Rattle.squawk_parser.proofs.Balance.{depth_after, depth_after-append, depth_after-suc, depth_after-balanced, IsBalanced-depth_after}
 use Rattle.squawk_parser.proofs.RecordedItems.{plain-append, ids-append, eaten-append, steps_errors-append, errors-plain}
 use Rattle.squawk_parser.proofs.Soundness.{IsKept, HasNoIdTwice-push, not_refused}
-use Rattle.squawk_event.proofs.Groups.{itself}
+use Rattle.squawk_log.proofs.Groups.{itself}
 use Rattle.squawk_parser.proofs.Splits.{Split, split, count_by-append, count_by-passes, count_by-fails, replaced-at, openings-once}
 
 -- ---- the plain list
@@ -83,7 +83,7 @@ module _ (kind : ℕ) (xs ys zs : List Step) where
   }
 
 -- a parser that goes on, with other items
-pub IsKept-moved : (s : State) (d : Draft) → IsKept s → Goes s → d.recorded ≤ s.max_events → IsMoved (plain s.draft.items) (plain d.items) → HasNoIdTwice d.items
+pub IsKept-moved : (s : State) (d : Draft) → IsKept s → HasNotFailed s → d.recorded ≤ s.max_events → IsMoved (plain s.draft.items) (plain d.items) → HasNoIdTwice d.items
     → IsKept (record s { draft = d })
 IsKept-moved s d kept goes room move once = record {
   sound = record {
@@ -147,7 +147,7 @@ preceded-split node kind id made items once there =
     let edit = λ (items : List Item). replaced (is_opening_of node) (λ item. Hole id made ∷ preceded_item item ∷ []) items in
     (at, ap edit at.is ∙ preceded-there node kind id made at.front at.back once_there)
 
-pub IsKept-preceded : (s : State) (node kind id : ℕ) → IsKept s → Goes s → s.draft.recorded < s.max_events → Contains s.draft.items (Open node kind true)
+pub IsKept-preceded : (s : State) (node kind id : ℕ) → IsKept s → HasNotFailed s → s.draft.recorded < s.max_events → Contains s.draft.items (Open node kind true)
     → IsAboveIds id s.draft.items → IsKept (record s { draft = preceded s.draft node id })
 IsKept-preceded s node kind id kept goes room there above =
     let made = ByPrecede s.draft.entries in

@@ -5,17 +5,17 @@ use Rattle.std.proofs.lemmas.Bool.{eqb-true}
 use Rattle.std.proofs.lemmas.List.{append-nil}
 use Rattle.std.proofs.lemmas.List.Sums.{sum_by-append}
 use Rattle.std.proofs.lemmas.List.Elements.{All-head, All-tail}
-use Rattle.squawk_table.specs.Steps as steps
-use Rattle.squawk_table.specs.Steps.{Step, eaten, count_of}
-use Rattle.squawk_event.specs.Draft.{Made, Item, Hole, Close, Token, Error, ByStart, is_error, errors_of, ids, plain, HasNoIdTwice, IsAboveIds}
-use Rattle.squawk_event.specs.Edits.{started, completed, filled, with_token, with_error}
+use Rattle.squawk_output.specs.Steps as steps
+use Rattle.squawk_output.specs.Steps.{Step, eaten, count_of}
+use Rattle.squawk_log.specs.Draft.{Made, Item, Hole, Close, Token, Error, ByStart, is_error, errors_of, ids, plain, HasNoIdTwice, IsAboveIds}
+use Rattle.squawk_log.specs.Edits.{started, completed, filled, with_token, with_error}
 use Rattle.squawk_table.specs.Shape.{AreOneToken}
 use Rattle.squawk_table.proofs.Over.{IsOver-token_last, IsOver-exit_last, IsOver-error_last}
-use Rattle.squawk_parser.specs.State.{State, IsSound, Goes, ahead}
+use Rattle.squawk_parser.specs.State.{State, IsSound, HasNotFailed, ahead}
 use Rattle.squawk_parser.specs.declared.parser.parse_error.ParseError.{ParseError}
 use Rattle.squawk_parser.specs.declared.parser.parse_error.ParseError.TheVariants.{OutOfMemory, TooManyEvents, TooManyErrors}
-use Rattle.squawk_event.proofs.EditedErrors.{errors-filled}
-use Rattle.squawk_event.proofs.Sums.{count_by-cons}
+use Rattle.squawk_log.proofs.EditedErrors.{errors-filled}
+use Rattle.squawk_output.proofs.Sums.{count_by-cons}
 use Rattle.squawk_parser.proofs.RecordedItems.{plain-append, ids-append}
 use Rattle.squawk_parser.proofs.Balance.{depth_after, depth_after-append, depth_after-balanced, IsBalanced-depth_after}
 use Rattle.squawk_parser.proofs.Filled.{ids-filled, eaten-filled, IsOver-filled, depth_after-filled, one_hole, holes}
@@ -55,14 +55,14 @@ HasNoIdTwice-push items id once above other = cases (id == other) refl
         let sum = total ∙ ap (λ b. count_by (λ i. i == other) (ids items) + cond b 1 0) e in omega (arith, sum, once other)
 
 -- a parser that goes on isn't refused anything
-pub not_refused : (s : State) (reason : ParseError) → Goes s → s.first ≡ Some reason → ⊥
+pub not_refused : (s : State) (reason : ParseError) → HasNotFailed s → s.first_reason ≡ Some reason → ⊥
 not_refused s reason goes refused = cc
 
-pub not_failed : (s : State) → Goes s → IsSome s.first → ⊥
+pub not_failed : (s : State) → HasNotFailed s → IsSome s.first_reason → ⊥
 not_failed s goes failed = cc
 
 -- a hole at the end
-pub IsKept-started : (s : State) (id : ℕ) → IsKept s → Goes s → s.draft.recorded < s.max_events → IsAboveIds id s.draft.items
+pub IsKept-started : (s : State) (id : ℕ) → IsKept s → HasNotFailed s → s.draft.recorded < s.max_events → IsAboveIds id s.draft.items
     → IsKept (record s { draft = started s.draft id })
 IsKept-started s id kept goes room above =
     let items = s.draft.items in
@@ -87,7 +87,7 @@ IsKept-started s id kept goes room above =
     }
 
 -- a hole that became an opening, and a closing at the end
-pub IsKept-completed : (s : State) (id kind : ℕ) (made : Made) → IsKept s → Goes s → s.draft.recorded < s.max_events → Contains s.draft.items (Hole id made)
+pub IsKept-completed : (s : State) (id kind : ℕ) (made : Made) → IsKept s → HasNotFailed s → s.draft.recorded < s.max_events → Contains s.draft.items (Hole id made)
     → IsKept (record s { draft = completed s.draft id kind })
 IsKept-completed s id kind made kept goes room there =
     let items = s.draft.items in
@@ -119,7 +119,7 @@ IsKept-completed s id kind made kept goes room there =
     }
 
 -- the tokens of a parser that goes on end at its position
-at_position : (s : State) (n : ℕ) → IsKept s → Goes s → AreOneToken n (ahead s 0) → AreOneToken n (drop (eaten (plain s.draft.items)) s.input)
+at_position : (s : State) (n : ℕ) → IsKept s → HasNotFailed s → AreOneToken n (ahead s 0) → AreOneToken n (drop (eaten (plain s.draft.items)) s.input)
 at_position s n kept goes one = rw (kept.sound.exact goes) (AreOneToken-seen n s.limit s.position s.input (rw add-zero at one))
 
 -- and those that it sees there as one token stand before its limit
@@ -127,7 +127,7 @@ within : (s : State) (n : ℕ) → AreOneToken n (ahead s 0) → s.position + n 
 within s n one = AreOneToken-within n s.limit s.position s.input (rw add-zero at one)
 
 -- n tokens as one at the end, which the parser eats
-pub IsKept-with_token : (s : State) (kind n : ℕ) → IsKept s → Goes s → s.draft.recorded < s.max_events → AreOneToken n (ahead s 0)
+pub IsKept-with_token : (s : State) (kind n : ℕ) → IsKept s → HasNotFailed s → s.draft.recorded < s.max_events → AreOneToken n (ahead s 0)
     → IsKept (record s { position = s.position + n; draft = with_token s.draft kind n })
 IsKept-with_token s kind n kept goes room one =
     let items = s.draft.items in
@@ -156,7 +156,7 @@ IsKept-with_token s kind n kept goes room one =
     }
 
 -- an error at the end
-pub IsKept-with_error : (s : State) (text : List ℕ) → IsKept s → Goes s → s.draft.recorded < s.max_events → errors_of s.draft.items < s.max_errors
+pub IsKept-with_error : (s : State) (text : List ℕ) → IsKept s → HasNotFailed s → s.draft.recorded < s.max_events → errors_of s.draft.items < s.max_errors
     → IsKept (record s { draft = with_error s.draft text })
 IsKept-with_error s text kept goes room errors =
     let items = s.draft.items in
@@ -185,7 +185,7 @@ IsKept-with_error s text kept goes room errors =
     }
 
 -- a parser that fails for want of memory
-pub IsKept-failed : (s : State) → IsKept s → IsKept (record s { first = Some OutOfMemory })
+pub IsKept-failed : (s : State) → IsKept s → IsKept (record s { first_reason = Some OutOfMemory })
 IsKept-failed s kept = record {
   sound = record {
     position = kept.sound.position;
@@ -204,7 +204,7 @@ IsKept-failed s kept = record {
 }
 
 -- a parser that has failed goes past n tokens
-pub IsKept-past : (s : State) (n : ℕ) → IsKept s → IsSome s.first → AreOneToken n (ahead s 0) → IsKept (record s { position = s.position + n })
+pub IsKept-past : (s : State) (n : ℕ) → IsKept s → IsSome s.first_reason → AreOneToken n (ahead s 0) → IsKept (record s { position = s.position + n })
 IsKept-past s n kept failed one = record {
   sound = record {
     position = within s n one;

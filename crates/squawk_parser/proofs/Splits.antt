@@ -5,9 +5,9 @@ use Rattle.std.proofs.lemmas.Bool.{eqb-true}
 use Rattle.std.proofs.lemmas.List.Sums.{sum_by-append}
 use Rattle.std.proofs.lemmas.List.Elements.{All-tail}
 use Rattle.std.proofs.lemmas.Grind.{flat_map-append}
-use Rattle.squawk_event.specs.Draft.{Made, Item, Hole, Open, Close, Token, Error, ids, ids_of, HasNoIdTwice}
-use Rattle.squawk_event.specs.Edits.{is_hole_of, is_opening_of, replaced, stands_before}
-use Rattle.squawk_event.proofs.Sums.{count_by-cons}
+use Rattle.squawk_log.specs.Draft.{Made, Item, Hole, Open, Close, Token, Error, ids, ids_of, HasNoIdTwice}
+use Rattle.squawk_log.specs.Edits.{is_hole_of, is_opening_of, replaced, stands_before}
+use Rattle.squawk_output.proofs.Sums.{count_by-cons}
 
 -- an element of a list, and what stands before and behind it
 pub record Split {X : Type 0} (x : X) (xs : List X) : Type 0 where

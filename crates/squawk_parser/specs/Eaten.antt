@@ -6,12 +6,12 @@ use Rattle.std.specs.Str.{chars}
 use Rattle.squawk_kinds.specs.Kinds.{EOF, ERROR}
 use Rattle.squawk_kinds.specs.TokenSets.{has}
 use Rattle.squawk_table.specs.ParserInput.{Entry, kind_in}
-use Rattle.squawk_table.specs.Steps.{Step, Token, Enter, Exit, Error}
+use Rattle.squawk_output.specs.Steps.{Step, Token, Enter, Exit, Error}
 use Rattle.squawk_parser.specs.Composites.{Element, One, AtMostOne, Tail, NoTail, Open, ClosedBy, Form, Glued, Touching, Sequence, Operator, Composite, composites, stands_at}
-use Rattle.squawk_event.specs.Draft.{IsAboveIds, holes_of}
-use Rattle.squawk_event.specs.Edits.{started, completed}
+use Rattle.squawk_log.specs.Draft.{IsAboveIds, holes_of}
+use Rattle.squawk_log.specs.Edits.{started, completed}
 use Rattle.squawk_parser.specs.Operators.{operator_length}
-use Rattle.squawk_parser.specs.State.{State, Goes, Keeps, Records, ahead}
+use Rattle.squawk_parser.specs.State.{State, HasNotFailed, Keeps, Records, ahead}
 use Rattle.squawk_parser.specs.Recorded.{Puts}
 use Rattle.squawk_parser.specs.Words.{Words}
 
@@ -124,12 +124,12 @@ pub record EatsWith (does : State → State → Type 0) (kind : ℕ) (old new : 
   pub begins : Records old begun (started old.draft id)
   pub begins_here : begun.position ≡ old.position
   pub begins_keeps : Keeps old begun
-  pub fresh : Goes begun → IsAboveIds id old.draft.items
+  pub fresh : HasNotFailed begun → IsAboveIds id old.draft.items
   pub eats : Puts (element_steps (elements_of_kind kind) (ahead old 0)) begun eaten
   pub eats_keeps : Keeps begun eaten
   pub does_tail : does eaten ran
   pub tail_keeps : Keeps eaten ran
-  pub tail_holes : Goes ran → holes_of ran.draft.items ≡ holes_of eaten.draft.items
+  pub tail_holes : HasNotFailed ran → holes_of ran.draft.items ≡ holes_of eaten.draft.items
   pub closes : Puts (closing_steps old.words (tail_of_kind kind) (ahead ran 0)) ran closed
   pub closes_keeps : Keeps ran closed
   pub completes : Records closed new (completed closed.draft id kind)

@@ -1,8 +1,8 @@
 -- What a parse answers.
 use Rattle.std.specs.Prelude.{◌≡◌, ℕ, ◌≤◌, ◌*◌, Some, None, List, ◌⊎◌}
 use Rattle.squawk_table.specs.ParserInput.{Entry}
-use Rattle.squawk_event.specs.Draft.{Draft, HasNoHole, plain}
-use Rattle.squawk_table.specs.Steps.{Walk}
+use Rattle.squawk_log.specs.Draft.{Draft, HasNoHole, plain}
+use Rattle.squawk_output.specs.Steps.{Walk}
 use Rattle.squawk_table.specs.Shape.{IsBalanced, IsOver}
 use Rattle.squawk_parser.specs.State.{State, IsSound}
 use Rattle.squawk_parser.specs.declared.parser.parse_error.ParseError.{ParseError}
@@ -22,7 +22,7 @@ pub record IsParse (leaves : Draft → Type 0) (input : List Entry) (output : Wa
 
 -- why a parse that left this parser is refused: for its first reason, and if it has none, by want of memory
 abbrev pub IsRefusalOf : State → ParseError → Type 0
-IsRefusalOf s reason = (s.first ≡ Some reason) ⊎ ((s.first ≡ None) × (reason ≡ OutOfMemory))
+IsRefusalOf s reason = (s.first_reason ≡ Some reason) ⊎ ((s.first_reason ≡ None) × (reason ≡ OutOfMemory))
 
 -- a parser that worked over this input, under these limits, was left, and the parse is refused for that
 pub record IsRefused (input : List Entry) (max_events max_errors : ℕ) (reason : ParseError) : Type 0 where

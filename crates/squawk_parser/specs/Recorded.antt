@@ -1,8 +1,8 @@
 -- What acts record that put whole steps at the end of a draft.
 use Rattle.std.specs.Prelude.{◌≡◌, ℕ, ◌+◌, ◌<◌, ◌≤◌, true, Some, List, ◌∷◌, ◌++◌, length, sum_by, All, AllPairs, IsSome, if◌then◌else◌}
-use Rattle.squawk_table.specs.Steps.{Step, is_enter, is_error, errors_in, eaten}
-use Rattle.squawk_event.specs.Draft.{Draft, Item, HasNoHole, IsAboveIds, errors_of, ids, plain}
-use Rattle.squawk_parser.specs.State.{State, Goes}
+use Rattle.squawk_output.specs.Steps.{Step, is_enter, is_error, errors_in, eaten}
+use Rattle.squawk_log.specs.Draft.{Draft, Item, HasNoHole, IsAboveIds, errors_of, ids, plain}
+use Rattle.squawk_parser.specs.State.{State, HasNotFailed}
 use Rattle.squawk_parser.specs.declared.parser.parse_error.ParseError.{ParseError}
 use Rattle.squawk_parser.specs.declared.parser.parse_error.ParseError.TheVariants.{OutOfMemory, TooManyEvents, TooManyErrors}
 
@@ -46,9 +46,9 @@ pub record IsRefusedStep (old : State) (steps : List Step) (reason : ParseError)
 pub record Puts (steps : List Step) (old new : State) : Type 0 where
   pub position : new.position ≡ old.position + eaten steps
   -- unless the parser has failed afterwards, it hadn't failed before, and the draft has the steps
-  pub went : Goes new → Goes old
-  pub draft : Goes new → IsPut steps old.draft new.draft
+  pub went : HasNotFailed new → HasNotFailed old
+  pub draft : HasNotFailed new → IsPut steps old.draft new.draft
   -- a parser that had failed records nothing
-  pub stays : IsSome old.first → new.draft ≡ old.draft
+  pub stays : IsSome old.first_reason → new.draft ≡ old.draft
   -- one that fails is refused one of the steps
-  pub refused : Goes old → (reason : ParseError) → new.first ≡ Some reason → IsRefusedStep old steps reason
+  pub refused : HasNotFailed old → (reason : ParseError) → new.first_reason ≡ Some reason → IsRefusedStep old steps reason

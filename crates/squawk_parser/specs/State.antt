@@ -4,8 +4,8 @@ use Rattle.squawk_kinds.specs.Kinds.{EOF}
 use Rattle.squawk_table.specs.ParserInput.{Entry, kind_in, contextual_kind_in}
 use Rattle.squawk_parser.specs.LookAhead.{seen_from}
 use Rattle.squawk_parser.specs.Words.{Words, HasNoEnd}
-use Rattle.squawk_event.specs.Draft.{Draft, nothing, Hole, Open, Mark, Node, HasNoIdTwice, errors_of, plain}
-use Rattle.squawk_table.specs.Steps.{eaten}
+use Rattle.squawk_log.specs.Draft.{Draft, nothing, Hole, Open, Mark, Node, HasNoIdTwice, errors_of, plain}
+use Rattle.squawk_output.specs.Steps.{eaten}
 use Rattle.squawk_table.specs.Shape.{IsBalanced, IsOver}
 use Rattle.squawk_parser.specs.declared.parser.limits.Limits.{Limits}
 use Rattle.squawk_parser.specs.declared.parser.parse_error.ParseError.{ParseError}
@@ -27,19 +27,19 @@ pub record State : Type 0 where
   -- and how many errors
   pub max_errors : ℕ
   -- why the parser failed, if it did
-  pub first : Option ParseError
+  pub first_reason : Option ParseError
 
 -- the limits of how many events and how many errors it may record
 abbrev pub limits_of : State → Limits
 limits_of s = record { events = s.max_events; errors = s.max_errors }
 
 -- the parser has not failed
-abbrev pub Goes : State → Type 0
-Goes s = s.first ≡ None
+abbrev pub HasNotFailed : State → Type 0
+HasNotFailed s = s.first_reason ≡ None
 
 -- a parser at the beginning of an input
 abbrev pub fresh : List Entry → Words → ℕ → ℕ → State
-fresh input words max_events max_errors = record { input = input; words = words; position = 0; limit = length input; draft = nothing; max_events = max_events; max_errors = max_errors; first = None }
+fresh input words max_events max_errors = record { input = input; words = words; position = 0; limit = length input; draft = nothing; max_events = max_events; max_errors = max_errors; first_reason = None }
 
 -- the parser has done nothing yet
 abbrev pub IsFresh : State → Type 0
@@ -72,33 +72,33 @@ pub record Keeps (old new : State) : Type 0 where
   pub limit : new.limit ≡ old.limit
   pub max_events : new.max_events ≡ old.max_events
   pub max_errors : new.max_errors ≡ old.max_errors
-  pub reason : IsSome old.first → new.first ≡ old.first
+  pub reason : IsSome old.first_reason → new.first_reason ≡ old.first_reason
 
 -- An event that is no error is recorded. Unless the parser has failed afterwards, it hadn't failed before and the draft is this one.
 pub record Records (old new : State) (edited : Draft) : Type 0 where
-  pub went : Goes new → Goes old
-  pub draft : Goes new → new.draft ≡ edited
+  pub went : HasNotFailed new → HasNotFailed old
+  pub draft : HasNotFailed new → new.draft ≡ edited
   -- nothing is recorded by a parser that has failed
-  pub stays : IsSome new.first → new.draft ≡ old.draft
+  pub stays : IsSome new.first_reason → new.draft ≡ old.draft
   -- no more events were recorded than may be, and no more errors
   pub within : old.draft.recorded ≤ old.max_events
   pub within_errors : errors_of old.draft.items ≤ old.max_errors
   -- it fails exactly where the limit is reached, and else only by want of memory
-  pub full : Goes old → old.draft.recorded ≡ old.max_events → new.first ≡ Some TooManyEvents
-  pub room : Goes old → old.draft.recorded < old.max_events → IsSome new.first → new.first ≡ Some OutOfMemory
+  pub full : HasNotFailed old → old.draft.recorded ≡ old.max_events → new.first_reason ≡ Some TooManyEvents
+  pub room : HasNotFailed old → old.draft.recorded < old.max_events → IsSome new.first_reason → new.first_reason ≡ Some OutOfMemory
 
 -- the marker's hole is in the draft, or the parser has failed
 abbrev pub HasHole : State → Mark → Type 0
-HasHole s m = Goes s → Contains s.draft.items (Hole m.id m.made)
+HasHole s m = HasNotFailed s → Contains s.draft.items (Hole m.id m.made)
 
 -- the opening of a completed marker is in the draft and hasn't been preceded, or the parser has failed
 abbrev pub HasNode : State → Node → Type 0
-HasNode s node = Goes s → Contains s.draft.items (Open node.id node.kind true)
+HasNode s node = HasNotFailed s → Contains s.draft.items (Open node.id node.kind true)
 
 -- The draft is edited without a recorded event, and nothing else changes. A parser that has failed stays as it is.
 pub record Changes (old new : State) (edited : Draft) : Type 0 where
-  pub goes : Goes old → new ≡ record old { draft = edited }
-  pub stays : IsSome old.first → new ≡ old
+  pub goes : HasNotFailed old → new ≡ record old { draft = edited }
+  pub stays : IsSome old.first_reason → new ≡ old
 
 -- what every parser keeps, failed or not
 pub record IsSound (s : State) : Type 0 where
@@ -108,13 +108,13 @@ pub record IsSound (s : State) : Type 0 where
   pub recorded : s.draft.recorded ≤ s.max_events
   pub errors : errors_of s.draft.items ≤ s.max_errors
   -- a parser that was refused an event has recorded as many as it may
-  pub refused : s.first ≡ Some TooManyEvents → s.draft.recorded ≡ s.max_events
+  pub refused : s.first_reason ≡ Some TooManyEvents → s.draft.recorded ≡ s.max_events
   -- one that was refused an error has recorded as many errors as it may, and fewer events
-  pub refused_error : s.first ≡ Some TooManyErrors → (errors_of s.draft.items ≡ s.max_errors) × (s.draft.recorded < s.max_events)
+  pub refused_error : s.first_reason ≡ Some TooManyErrors → (errors_of s.draft.items ≡ s.max_errors) × (s.draft.recorded < s.max_events)
   pub ids : HasNoIdTwice s.draft.items
   -- holes aside
   pub balanced : IsBalanced (plain s.draft.items)
   pub over : IsOver (plain s.draft.items) s.input
   pub behind : eaten (plain s.draft.items) ≤ s.position
   -- the position is what the tokens of a parser that goes on have eaten
-  pub exact : Goes s → eaten (plain s.draft.items) ≡ s.position
+  pub exact : HasNotFailed s → eaten (plain s.draft.items) ≡ s.position

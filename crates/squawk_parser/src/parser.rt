@@ -1,8 +1,8 @@
 //! The parser that a grammar works with.
 ghost use Rattle.std.specs.Prelude.{◌≡◌, ◌≤◌, ◌*◌, IsOk, IfOk, IfErr};
-ghost use Rattle.squawk_event.specs.Draft.{plain};
+ghost use Rattle.squawk_log.specs.Draft.{plain};
 ghost use Rattle.squawk_parser.specs.Parse.{IsRefusalOf};
-ghost use Rattle.squawk_parser.specs.State.{Goes, IsSound, fresh};
+ghost use Rattle.squawk_parser.specs.State.{HasNotFailed, IsSound, fresh};
 ghost use Rattle.squawk_parser.specs.Words.{HasNoEnd, words_of};
 
 mod acts;
@@ -24,9 +24,10 @@ pub use limits::Limits;
 pub use marker::{CompletedMarker, Marker};
 pub use parse_error::ParseError;
 pub use part::Part;
-use squawk_event::EventLog;
 use squawk_kinds::{SyntaxKind, TokenSet};
-use squawk_table::{Input, Output};
+use squawk_log::EventLog;
+use squawk_output::Output;
+use squawk_table::Input;
 use std::alloc::{AllocError, Global};
 use std::marker::Model;
 pub use tails::has_tail;
@@ -48,7 +49,7 @@ pub struct Parser<'t> {
     limit: usize,
     log: EventLog,
     limits: Limits,
-    first: Option<ParseError>,
+    first_reason: Option<ParseError>,
 }
 
 impl<'t> Model for Parser<'t> {
@@ -57,9 +58,9 @@ impl<'t> Model for Parser<'t> {
 
     ghost Value = { State };
 
-    ghost view = { λ p. record { input = p.input.now; words = words_of (record { operator_first = p.operator_first; names = p.names }); position = p.position; limit = p.limit; draft = p.log; max_events = p.limits.events; max_errors = p.limits.errors; first = p.first } };
+    ghost view = { λ p. record { input = p.input.now; words = words_of (record { operator_first = p.operator_first; names = p.names }); position = p.position; limit = p.limit; draft = p.log; max_events = p.limits.events; max_errors = p.limits.errors; first_reason = p.first_reason } };
 
-    ghost invariant = { λ p. IsSound (record { input = p.input.now; words = words_of (record { operator_first = p.operator_first; names = p.names }); position = p.position; limit = p.limit; draft = p.log; max_events = p.limits.events; max_errors = p.limits.errors; first = p.first }) };
+    ghost invariant = { λ p. IsSound (record { input = p.input.now; words = words_of (record { operator_first = p.operator_first; names = p.names }); position = p.position; limit = p.limit; draft = p.log; max_events = p.limits.events; max_errors = p.limits.errors; first_reason = p.first_reason }) };
 }
 
 impl<'t> Parser<'t> {
@@ -81,7 +82,7 @@ impl<'t> Parser<'t> {
             limit: input.len(),
             log: EventLog::new(alloc),
             limits,
-            first: None,
+            first_reason: None,
         }
     }
 
@@ -96,9 +97,9 @@ impl<'t> Parser<'t> {
 
     /// Why the parser failed first, if it did.
     pub fn failed(&self) -> Option<ParseError>
-        ensures { result ≡ self.now.first }
+        ensures { result ≡ self.now.first_reason }
     {
-        self.first
+        self.first_reason
     }
 
     /// The output of a parse whose grammar answered `run`.
@@ -107,7 +108,7 @@ impl<'t> Parser<'t> {
     /// grammar answers it or the output finds none.
     fn finish(self, run: Result<(), AllocError>) -> Result<Output, ParseError>
         ensures sound { IsSound self.entry }
-        ensures went { IsOk result → Goes self.entry × IsOk run }
+        ensures went { IsOk result → HasNotFailed self.entry × IsOk run }
         ensures output { IfOk result (λ o. o ≡ record { steps = plain self.entry.draft.items; recorded = self.entry.draft.recorded; turns = self.entry.draft.turns_due }) }
         ensures bound { IfOk result (λ o. o.turns ≤ 4 * o.recorded) }
         ensures refused { IfErr result (IsRefusalOf self.entry) }
@@ -121,9 +122,9 @@ impl<'t> Parser<'t> {
             limit: _,
             log,
             limits: _,
-            first,
+            first_reason,
         } = self;
-        if let Some(reason) = first {
+        if let Some(reason) = first_reason {
             return Err(reason);
         }
         run?;

@@ -4,9 +4,9 @@ use Rattle.squawk_kinds.specs.Kinds.{COLON, COLON_EQ, EOF, EQ, ERROR, IDENT}
 use Rattle.squawk_kinds.specs.TokenSets as sets
 use Rattle.squawk_kinds.specs.TokenSets.{no_kinds}
 use Rattle.squawk_table.specs.ParserInput.{Entry}
-use Rattle.squawk_table.specs.Steps as steps
-use Rattle.squawk_table.specs.Steps.{Step, Enter, Exit, Token}
-use Rattle.squawk_event.specs.Draft.{plain}
+use Rattle.squawk_output.specs.Steps as steps
+use Rattle.squawk_output.specs.Steps.{Step, Enter, Exit, Token}
+use Rattle.squawk_log.specs.Draft.{plain}
 use Rattle.squawk_parser.specs.Words.{no_words}
 use Rattle.squawk_script.specs.Accepted.{is_at_hand, is_open, may_follow}
 use Rattle.squawk_script.specs.Meaning.{Run, run_of}

@@ -2,8 +2,8 @@
 -- errors are too many.
 use Rattle.std.proofs.Common.{◌≡◌, ◌∙◌, ℕ, zero, suc, ◌<◌, ◌≤◌, Bool, true, false, Some, None, List, [], ◌∷◌, length, arith, sym}
 use Rattle.squawk_table.specs.ParserInput.{Entry}
-use Rattle.squawk_table.specs.Steps.{errors_in}
-use Rattle.squawk_event.specs.Draft.{Draft, plain}
+use Rattle.squawk_output.specs.Steps.{errors_in}
+use Rattle.squawk_log.specs.Draft.{Draft, plain}
 use Rattle.squawk_parser.specs.declared.parser.grammar.EntryPoint.{EntryPoint}
 use Rattle.squawk_parser.specs.declared.parser.limits.Limits.{Limits}
 use Rattle.squawk_parser.specs.declared.parser.parse_error.ParseError.{ParseError}

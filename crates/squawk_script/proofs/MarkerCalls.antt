@@ -3,10 +3,10 @@ use Rattle.std.proofs.Common.{◌≡◌, ◌∙◌, ℕ, zero, suc, ◌+◌, ◌
 use Rattle.std.specs.Prelude.{Bool, Contains, IsTrue, ◌&&◌, count_by, false, nat_lt}
 use Rattle.std.proofs.lemmas.Bool.{ltb-true}
 use Rattle.std.proofs.lemmas.List.{length-set, map-append, map-set, set-get_or}
-use Rattle.squawk_event.specs.Draft as draft
-use Rattle.squawk_event.specs.Draft.{Draft, Item, Mark, Node, ByStart, ByPrecede, IsAboveIds, ids, ids_of}
-use Rattle.squawk_event.specs.Edits.{abandoned, completed, entries_gone, extended, preceded, started, takes_entry}
-use Rattle.squawk_parser.specs.State.{State, Changes, Goes, Keeps, Records}
+use Rattle.squawk_log.specs.Draft as draft
+use Rattle.squawk_log.specs.Draft.{Draft, Item, Mark, Node, ByStart, ByPrecede, IsAboveIds, ids, ids_of}
+use Rattle.squawk_log.specs.Edits.{abandoned, completed, entries_gone, extended, preceded, started, takes_entry}
+use Rattle.squawk_parser.specs.State.{State, Changes, HasNotFailed, Keeps, Records}
 use Rattle.squawk_parser.specs.declared.parser.parse_error.ParseError.{ParseError}
 use Rattle.squawk_parser.proofs.Markers.{changed, went-changed}
 use Rattle.squawk_script.specs.Meaning.{marker_at, new_id, new_marker}
@@ -74,16 +74,16 @@ record IsUnmoved (old new : State) : Type 0 where
   position : new.position ≡ old.position
 
 unmoved : {old new : State} {edited : Draft} → Changes old new edited → IsUnmoved old new
-unmoved {old} {new} {edited} changes = cases old.first refl
+unmoved {old} {new} {edited} changes = cases old.first_reason refl
   where
-    cases : (first : Option ParseError) → old.first ≡ first → IsUnmoved old new
+    cases : (first : Option ParseError) → old.first_reason ≡ first → IsUnmoved old new
     cases None e = rw (changes.goes e) (record { input = refl; limit = refl; position = refl })
     cases (Some reason) e = rw (changes.stays (rw e refl)) (record { input = refl; limit = refl; position = refl })
 
 module _ (old new : State) (slots slots' : List Slot) (tied : IsTied old slots) where
   -- ---- a marker that is started
 
-  pub start-performs : (m : Mark) → m.made ≡ ByStart old.draft.entries → (Goes new → IsAboveIds m.id old.draft.items) → Keeps old new → new.position ≡ old.position
+  pub start-performs : (m : Mark) → m.made ≡ ByStart old.draft.entries → (HasNotFailed new → IsAboveIds m.id old.draft.items) → Keeps old new → new.position ≡ old.position
       → Records old new (started old.draft m.id) → slots' ≡ slots ++ Open m ∷ [] → Performs old new slots slots' calls.Start
   start-performs m made above keeps position records now = record {
     tied = record {
@@ -176,7 +176,7 @@ module _ (old new : State) (slots slots' : List Slot) (tied : IsTied old slots) 
 
   -- ---- a node that is preceded
 
-  pub precede-performs : (k : ℕ) (n : Node) (m : Mark) → slot_at slots k ≡ Done n → m.made ≡ ByPrecede old.draft.entries → (Goes new → IsAboveIds m.id old.draft.items) → Keeps old new
+  pub precede-performs : (k : ℕ) (n : Node) (m : Mark) → slot_at slots k ≡ Done n → m.made ≡ ByPrecede old.draft.entries → (HasNotFailed new → IsAboveIds m.id old.draft.items) → Keeps old new
       → new.position ≡ old.position → Records old new (preceded old.draft n.id m.id) → slots' ≡ set slots k Spent ++ Open m ∷ []
       → Performs old new slots slots' (calls.Precede k)
   precede-performs k n m is_done made above keeps position records now = record {
@@ -246,7 +246,7 @@ module _ (old new : State) (slots slots' : List Slot) (tied : IsTied old slots) 
   }
 
   module _ (taken : List Slot) (j k : ℕ) (n : Node) (m : Mark) (is_open : slot_at slots k ≡ Open m) (left : taken ≡ set slots k Spent) (is_done : slot_at taken j ≡ Done n) where
-    pub taken-older : k < j → Goes old → m.id < n.id
+    pub taken-older : k < j → HasNotFailed old → m.id < n.id
     taken-older lt goes = older old.draft.items slots j k n m (tied.holds goes) (at_hand slots taken j k n left is_done) is_open lt
 
     pub taken-performs : (node : Node) → node ≡ n → Changes old new (extended old.draft n m.id) → slots' ≡ set (set taken j Spent) j (Done node)

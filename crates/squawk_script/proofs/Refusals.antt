@@ -2,10 +2,10 @@
 use Rattle.std.proofs.Common.{◌≡◌, ◌∙◌, ℕ, zero, suc, ◌+◌, ◌<◌, ◌≤◌, Bool, true, false, Some, None, List, [], ◌∷◌, ◌++◌, length, map, arith, ap, sym, refl, subst, append_assoc, length-append, ◌⊎◌, inl, inr}
 use Rattle.std.specs.Prelude.{◌≢◌}
 use Rattle.std.proofs.lemmas.List.{length-map, map-append}
-use Rattle.squawk_table.specs.Steps.{Step, errors_in, is_error}
-use Rattle.squawk_event.specs.Draft.{Draft}
+use Rattle.squawk_output.specs.Steps.{Step, errors_in, is_error}
+use Rattle.squawk_log.specs.Draft.{Draft}
 use Rattle.squawk_parser.specs.Recorded.{IsReason, Puts}
-use Rattle.squawk_parser.specs.State.{State, Changes, Goes, Records}
+use Rattle.squawk_parser.specs.State.{State, Changes, HasNotFailed, Records}
 use Rattle.squawk_parser.specs.declared.parser.parse_error.ParseError.{ParseError}
 use Rattle.squawk_parser.specs.declared.parser.parse_error.ParseError.TheVariants.{OutOfMemory, TooManyEvents, TooManyErrors}
 use Rattle.squawk_script.specs.Events.{errors_among, refusal}
@@ -71,7 +71,7 @@ module _ (events errors : ℕ) (before : List Bool) (front : List Step) (next : 
 
 module _ (old new : State) where
   -- steps that are put at the end
-  pub puts-fails : (steps : List Step) → Puts steps old new → Goes old → FailsAt old new (map is_error steps)
+  pub puts-fails : (steps : List Step) → Puts steps old new → HasNotFailed old → FailsAt old new (map is_error steps)
   puts-fails steps puts goes before count errors reason fails told =
       let r = puts.refused goes reason fails in
       let Why : ℕ → ℕ → Type 0 = λ n e. IsReason old.max_events old.max_errors (n + length r.front) (e + errors_in r.front) r.next reason in
@@ -80,7 +80,7 @@ module _ (old new : State) where
       ∙ refused-step old.max_events old.max_errors before r.front r.next r.rest reason told why
 
   -- one event that is no error
-  pub records-fails : (edited : Draft) → Records old new edited → Goes old → FailsAt old new (false ∷ [])
+  pub records-fails : (edited : Draft) → Records old new edited → HasNotFailed old → FailsAt old new (false ∷ [])
   records-fails edited records goes before count errors reason fails told = why lt_or_full
     where
       lt_or_full : (old.draft.recorded < old.max_events) ⊎ (old.draft.recorded ≡ old.max_events)
@@ -93,9 +93,9 @@ module _ (old new : State) where
           ∙ (sym (records.full goes full) ∙ fails)
 
   -- none
-  pub changes-fails : (edited : Draft) → Changes old new edited → Goes old → FailsAt old new []
+  pub changes-fails : (edited : Draft) → Changes old new edited → HasNotFailed old → FailsAt old new []
   changes-fails edited changes goes before count errors reason fails told =
-      let same : new.first ≡ old.first = ap (λ s. s.first) (changes.goes goes) in
+      let same : new.first_reason ≡ old.first_reason = ap (λ s. s.first_reason) (changes.goes goes) in
       absurd (let p = sym fails ∙ (same ∙ goes) in cc)
 
 -- there is room for the events and for the errors among them

@@ -1,8 +1,8 @@
 -- Ids are no part of the plain list.
 use Rattle.std.proofs.Common.{◌≡◌, ◌∙◌, ℕ, List, [], ◌∷◌, map, ap, sym, refl}
-use Rattle.squawk_table.specs.Steps.{Enter, Exit, Token, Error, errors_in}
-use Rattle.squawk_event.specs.Draft as draft
-use Rattle.squawk_event.specs.Draft.{Item, errors_of, plain}
+use Rattle.squawk_output.specs.Steps.{Enter, Exit, Token, Error, errors_in}
+use Rattle.squawk_log.specs.Draft as draft
+use Rattle.squawk_log.specs.Draft.{Item, errors_of, plain}
 use Rattle.squawk_parser.proofs.RecordedItems.{errors-plain}
 use Rattle.squawk_script.specs.Slots.{renamed, same_id}
 

@@ -4,14 +4,14 @@ use Rattle.std.proofs.Common.{append_assoc, append-nil, arith, ap, ap₂, refl, 
 use Rattle.std.specs.Prelude.{All, AllPairs, Contains, count_by}
 use Rattle.std.proofs.lemmas.Bool.{ne_eqb}
 use Rattle.std.proofs.lemmas.List.Elements.{All-nil, All-head, All-tail, All-contains, Contains-append_left}
-use Rattle.squawk_table.specs.Steps as steps
-use Rattle.squawk_table.specs.Steps.{Step}
-use Rattle.squawk_event.specs.Draft.{Draft, Item, Made, Node, Hole, Open, Close, Token, Error, HasNoHole, IsAboveIds, ids, ids_of, is_hole, plain, steps_of}
-use Rattle.squawk_event.specs.Edits.{extended_items, filled, takes_entry, without_hole}
+use Rattle.squawk_output.specs.Steps as steps
+use Rattle.squawk_output.specs.Steps.{Step}
+use Rattle.squawk_log.specs.Draft.{Draft, Item, Made, Node, Hole, Open, Close, Token, Error, HasNoHole, IsAboveIds, ids, ids_of, is_hole, plain, steps_of}
+use Rattle.squawk_log.specs.Edits.{extended_items, filled, takes_entry, without_hole}
 use Rattle.squawk_parser.specs.Recorded.{turns_due_of}
 use Rattle.squawk_parser.proofs.RecordedSteps.{turns_due_of-cons}
 use Rattle.squawk_parser.proofs.RecordedItems.{ids-append}
-use Rattle.squawk_event.proofs.Groups.{itself}
+use Rattle.squawk_log.proofs.Groups.{itself}
 use Rattle.squawk_script.specs.Meaning.{new_id, with_step, with_steps}
 use Rattle.squawk_script.specs.Slots.{IsRenamed, renamed, same_id}
 use Rattle.squawk_script.proofs.RenamedIds.{All-extended, All-filled, All-one, All-preceded, All-pushed, All-without_hole, above_all-above}

@@ -6,10 +6,10 @@ use Rattle.std.proofs.lemmas.List.{get_or_default, length-map, take_all}
 use Rattle.std.proofs.lemmas.List.Elements.{All-cons, All-nil, Contains-append_right}
 use Rattle.std.proofs.lemmas.List.Sums.{fold-append}
 use Rattle.squawk_table.specs.ParserInput.{Entry}
-use Rattle.squawk_table.specs.Steps.{errors_in}
-use Rattle.squawk_event.specs.Draft as draft
-use Rattle.squawk_event.specs.Draft.{HasNoHole, Item, Mark, errors_of, is_hole, plain}
-use Rattle.squawk_parser.specs.State.{State, Goes, IsFresh, Keeps}
+use Rattle.squawk_output.specs.Steps.{errors_in}
+use Rattle.squawk_log.specs.Draft as draft
+use Rattle.squawk_log.specs.Draft.{HasNoHole, Item, Mark, errors_of, is_hole, plain}
+use Rattle.squawk_parser.specs.State.{State, HasNotFailed, IsFresh, Keeps}
 use Rattle.squawk_parser.specs.Words.{Words}
 use Rattle.squawk_parser.specs.declared.parser.parse_error.ParseError.{ParseError}
 use Rattle.squawk_parser.specs.declared.parser.parse_error.ParseError.TheVariants.{OutOfMemory}
@@ -35,14 +35,14 @@ use Rattle.squawk_script.proofs.Statuses.{AreStatusesOf, statuses-begin}
 -- their events.
 abbrev FailsBy : State → List Call → State → Type 0
 FailsBy start calls s =
-    (reason : ParseError) → s.first ≡ Some reason → reason ≢ OutOfMemory
+    (reason : ParseError) → s.first_reason ≡ Some reason → reason ≢ OutOfMemory
     → refusal start.max_events start.max_errors (events_of start.words start.input calls) ≡ Some reason
 
 pub record Stands (start : State) (calls : List Call) (s : State) (slots : List Slot) (i : ℕ) : Type 0 where
   pub tied : IsTied s slots
   pub keeps : Keeps start s
   pub statuses : AreStatusesOf (take i calls) (statuses_of slots)
-  pub at : Goes s → IsAt s slots (run_of start.words start.input (take i calls))
+  pub at : HasNotFailed s → IsAt s slots (run_of start.words start.input (take i calls))
   pub fails : FailsBy start (take i calls) s
 
 -- before the first call
@@ -64,7 +64,7 @@ stands-begin start calls fresh = record {
     count = refl;
     markers = λ i. tt;
   };
-  fails = λ reason failed told. absurd (let p = sym failed ∙ ap (λ s. s.first) fresh in cc);
+  fails = λ reason failed told. absurd (let p = sym failed ∙ ap (λ s. s.first_reason) fresh in cc);
 }
 
 module _ (start : State) (calls : List Call) (s : State) (slots : List Slot) (i : ℕ) (call : Call) (lt : i < length calls) (is : call ≡ get_or calls i call)
@@ -90,7 +90,7 @@ module _ (start : State) (calls : List Call) (s : State) (slots : List Slot) (i 
     fails = λ reason failed told.
         let more : events_of start.words start.input (take (i + 1) calls) ≡ before ++ made start.words start.input =
         ap (events_of start.words start.input) (next calls (statuses_of slots) i call lt is stands.statuses) ∙ events-more start.words start.input (take i calls) call in
-        ap (refusal start.max_events start.max_errors) more ∙ refused s.first refl reason failed told;
+        ap (refusal start.max_events start.max_errors) more ∙ refused s.first_reason refl reason failed told;
   }
     where
       run : Run
@@ -103,7 +103,7 @@ module _ (start : State) (calls : List Call) (s : State) (slots : List Slot) (i 
       made words input = events_made words (seen input run) call
 
       -- what is refused before the call stays so, and else it is the call that is refused
-      refused : (first : Option ParseError) → s.first ≡ first → (reason : ParseError) → t.first ≡ Some reason → reason ≢ OutOfMemory
+      refused : (first : Option ParseError) → s.first_reason ≡ first → (reason : ParseError) → t.first_reason ≡ Some reason → reason ≢ OutOfMemory
           → refusal start.max_events start.max_errors (before ++ made start.words start.input) ≡ Some reason
       refused None goes reason failed told =
           let at : IsAt s slots run = stands.at goes in
@@ -116,7 +116,7 @@ module _ (start : State) (calls : List Call) (s : State) (slots : List Slot) (i 
           (subst (λ n. Told n start.max_errors (made s.words s.input)) stands.keeps.max_events
           (subst (λ n. Told s.max_events n (made s.words s.input)) stands.keeps.max_errors (performs.fails goes run at before count errors reason failed told))))
       refused (Some r) failing reason failed told =
-          let same : s.first ≡ Some reason = sym (keeps.reason (rw failing refl)) ∙ failed in
+          let same : s.first_reason ≡ Some reason = sym (keeps.reason (rw failing refl)) ∙ failed in
           refusal-append start.max_events start.max_errors before (made start.words start.input) reason (stands.fails reason same told)
 
   -- a slot for each marker of the calls so far, and room for that of the call
@@ -154,10 +154,10 @@ module _ (start : State) (calls : List Call) (s : State) (slots : List Slot) (i 
       sym (ap is_status_open (get_or-map status_of slots m Spent))
       ∙ (opened-last calls (statuses_of slots) i end stands.statuses m ∙ accepted.spent m)
 
-  pub ends-closed : Goes s → HasNoHole s.draft.items
+  pub ends-closed : HasNotFailed s → HasNoHole s.draft.items
   ends-closed goes = none s.draft.items (λ m there. absurd (open-slot slots m ends-spent ((stands.tied.holds goes).covers m there)))
 
-  pub ends-at : Goes s → IsRunOf (record { calls = calls; words = start.words }) start.input s.draft
+  pub ends-at : HasNotFailed s → IsRunOf (record { calls = calls; words = start.words }) start.input s.draft
   ends-at goes =
       let at : IsAt s slots (run_of start.words start.input calls) = subst (λ before. IsAt s slots (run_of start.words start.input before)) (take_all i calls end) (stands.at goes) in
       let run : Run = run_of start.words start.input calls in

@@ -3,13 +3,13 @@ use Rattle.std.proofs.Common.{◌≡◌, ◌∙◌, ℕ, ◌+◌, Bool, true, fa
 use Rattle.std.specs.Prelude.{IsTrue, length, map, not}
 use Rattle.squawk_kinds.specs.TokenSets.{has}
 use Rattle.squawk_table.specs.ParserInput.{Entry}
-use Rattle.squawk_table.specs.Steps.{Step, eaten, is_error}
+use Rattle.squawk_output.specs.Steps.{Step, eaten, is_error}
 use Rattle.squawk_parser.specs.Composites.{stands_at}
-use Rattle.squawk_event.specs.Draft.{Item, plain}
+use Rattle.squawk_log.specs.Draft.{Item, plain}
 use Rattle.squawk_parser.specs.Eaten.{eat_steps}
 use Rattle.squawk_parser.specs.LookAhead.{seen_from}
 use Rattle.squawk_parser.specs.Recorded.{Puts, turns_due_of}
-use Rattle.squawk_parser.specs.State.{State, Goes, Keeps, ahead}
+use Rattle.squawk_parser.specs.State.{State, HasNotFailed, Keeps, ahead}
 use Rattle.squawk_parser.proofs.RecordedSteps.{puts-none}
 use Rattle.squawk_script.specs.Events.{events_made}
 use Rattle.squawk_script.specs.Meaning.{Run, call_steps, seen, stepped, with_call, with_steps}
@@ -32,7 +32,7 @@ module _ (old new : State) (slots : List Slot) (tied : IsTied old slots) (keeps 
   }
 
   -- the run that has the same steps at its end
-  put-at : Goes new → (run : Run) → IsAt old slots run → IsAt new slots (with_call run steps)
+  put-at : HasNotFailed new → (run : Run) → IsAt old slots run → IsAt new slots (with_call run steps)
   put-at goes run at =
       let put = puts.draft goes in
       let items : List Item = old.draft.items in

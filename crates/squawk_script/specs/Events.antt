@@ -1,8 +1,8 @@
 -- The events that the calls of a run record, and which of them is refused where there is room for so many.
 use Rattle.std.specs.Prelude.{◌≡◌, ℕ, zero, suc, ◌≤◌, Bool, true, false, Option, Some, None, List, [], ◌∷◌, ◌++◌, count_by, map}
 use Rattle.squawk_table.specs.ParserInput.{Entry}
-use Rattle.squawk_table.specs.Steps.{errors_in, is_error}
-use Rattle.squawk_event.specs.Draft.{Draft, plain}
+use Rattle.squawk_output.specs.Steps.{errors_in, is_error}
+use Rattle.squawk_log.specs.Draft.{Draft, plain}
 use Rattle.squawk_parser.specs.Words.{Words}
 use Rattle.squawk_parser.specs.declared.parser.parse_error.ParseError.{ParseError}
 use Rattle.squawk_parser.specs.declared.parser.parse_error.ParseError.TheVariants.{TooManyEvents, TooManyErrors}

@@ -2,13 +2,13 @@
 use Rattle.std.specs.Prelude.{ℕ, ◌+◌, max, true, List, [], ◌∷◌, ◌++◌, fold, length, slice_index_or, slice_set, if◌then◌else◌}
 use Rattle.squawk_kinds.specs.TokenSets.{has}
 use Rattle.squawk_table.specs.ParserInput.{Entry, kind_in}
-use Rattle.squawk_table.specs.Steps as steps
-use Rattle.squawk_table.specs.Steps.{Step, eaten}
+use Rattle.squawk_output.specs.Steps as steps
+use Rattle.squawk_output.specs.Steps.{Step, eaten}
 use Rattle.squawk_parser.specs.Composites.{stands_at}
-use Rattle.squawk_event.specs.Draft as draft
-use Rattle.squawk_event.specs.Draft.{Draft, Item, Node, ids, nothing}
+use Rattle.squawk_log.specs.Draft as draft
+use Rattle.squawk_log.specs.Draft.{Draft, Item, Node, ids, nothing}
 use Rattle.squawk_parser.specs.Eaten.{current_as, eat_steps, expect_steps, no_recovery, recovery_steps}
-use Rattle.squawk_event.specs.Edits.{abandoned, completed, extended, preceded, pushed, started}
+use Rattle.squawk_log.specs.Edits.{abandoned, completed, extended, preceded, pushed, started}
 use Rattle.squawk_parser.specs.LookAhead.{seen_from}
 use Rattle.squawk_parser.specs.Recorded.{turns_of_step}
 use Rattle.squawk_parser.specs.Words.{Words}

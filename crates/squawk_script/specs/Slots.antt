@@ -1,9 +1,9 @@
 -- Where the markers of a run stand.
 use Rattle.std.specs.Prelude.{◌≡◌, ◌≢◌, ℕ, ◌<◌, ◌==◌, ◌&&◌, Bool, true, false, not, Some, List, [], ◌∷◌, ◌++◌, Contains, length, map, slice_index_or, slice_set, nat_lt, ⊤}
 use Rattle.squawk_kinds.specs.Kinds.{TOMBSTONE}
-use Rattle.squawk_event.specs.Draft as draft
-use Rattle.squawk_event.specs.Draft.{Item, Mark, Node, errors_of, ids, is_hole}
-use Rattle.squawk_parser.specs.State.{State, Goes}
+use Rattle.squawk_log.specs.Draft as draft
+use Rattle.squawk_log.specs.Draft.{Item, Mark, Node, errors_of, ids, is_hole}
+use Rattle.squawk_parser.specs.State.{State, HasNotFailed}
 use Rattle.squawk_parser.specs.declared.parser.parse_error.ParseError.{ParseError}
 use Rattle.squawk_parser.specs.declared.parser.parse_error.ParseError.TheVariants.{OutOfMemory}
 use Rattle.squawk_script.specs.Accepted.{is_edible}
@@ -91,7 +91,7 @@ pub record Holds (items : List Item) (slots : List Slot) : Type 0 where
 
 -- the same, if the parser has not failed, which sees the whole input
 pub record IsTied (s : State) (slots : List Slot) : Type 0 where
-  pub holds : Goes s → Holds s.draft.items slots
+  pub holds : HasNotFailed s → Holds s.draft.items slots
   pub limit : s.limit ≡ length s.input
 
 -- ---- a parser and a run
@@ -134,11 +134,11 @@ pub record IsAt (s : State) (slots : List Slot) (run : Run) : Type 0 where
 abbrev pub FailsAt : State → State → List Bool → Type 0
 FailsAt old new made =
     (before : List Bool) → length before ≡ old.draft.recorded → errors_among before ≡ errors_of old.draft.items
-    → (reason : ParseError) → new.first ≡ Some reason → reason ≢ OutOfMemory → refusal old.max_events old.max_errors (before ++ made) ≡ Some reason
+    → (reason : ParseError) → new.first_reason ≡ Some reason → reason ≢ OutOfMemory → refusal old.max_events old.max_errors (before ++ made) ≡ Some reason
 
 -- a call was made
 pub record Performs (old new : State) (slots slots' : List Slot) (call : Call) : Type 0 where
   pub tied : IsTied new slots'
   pub statuses : statuses_of slots' ≡ noted (statuses_of slots) call
-  pub step : Goes new → (run : Run) → IsAt old slots run → IsAt new slots' (stepped old.words old.input run call)
-  pub fails : Goes old → (run : Run) → IsAt old slots run → FailsAt old new (events_made old.words (seen old.input run) call)
+  pub step : HasNotFailed new → (run : Run) → IsAt old slots run → IsAt new slots' (stepped old.words old.input run call)
+  pub fails : HasNotFailed old → (run : Run) → IsAt old slots run → FailsAt old new (events_made old.words (seen old.input run) call)

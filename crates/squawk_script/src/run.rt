@@ -1,7 +1,7 @@
 //! A run of calls.
 ghost use Rattle.std.specs.Prelude.{◌≡◌, ◌≢◌, ◌<◌, IsTrue, OnOk, Some, vec_len, vec_capacity};
-ghost use Rattle.squawk_event.specs.Draft.{HasNoHole};
-ghost use Rattle.squawk_parser.specs.State.{Goes, IsFresh, Keeps};
+ghost use Rattle.squawk_log.specs.Draft.{HasNoHole};
+ghost use Rattle.squawk_parser.specs.State.{HasNotFailed, IsFresh, Keeps};
 ghost use Rattle.squawk_parser.specs.declared.parser.parse_error.ParseError.{ParseError};
 ghost use Rattle.squawk_script.specs.Accepted.{IsAccepted, makes_marker, markers_of};
 ghost use Rattle.squawk_script.specs.Events.{IsRunOf, events_of, refusal};
@@ -114,10 +114,10 @@ pub fn run_calls(
     requires accepted { IsAccepted calls.now }
     requires markers { markers ≡ markers_of calls.now }
     ensures keeps { Keeps p.old p.new }
-    ensures closed { OnOk result (Goes p.new → HasNoHole p.new.draft.items) }
-    ensures runs { OnOk result (Goes p.new → IsRunOf (record { calls = calls.now; words = p.old.words }) p.old.input p.new.draft) }
+    ensures closed { OnOk result (HasNotFailed p.new → HasNoHole p.new.draft.items) }
+    ensures runs { OnOk result (HasNotFailed p.new → IsRunOf (record { calls = calls.now; words = p.old.words }) p.old.input p.new.draft) }
     // Also where the answer is want of memory.
-    ensures fails { (reason : ParseError) → p.new.first ≡ Some reason → reason ≢ ParseError.OutOfMemory → refusal p.old.max_events p.old.max_errors (events_of p.old.words p.old.input calls.now) ≡ Some reason }
+    ensures fails { (reason : ParseError) → p.new.first_reason ≡ Some reason → reason ≢ ParseError.OutOfMemory → refusal p.old.max_events p.old.max_errors (events_of p.old.words p.old.input calls.now) ≡ Some reason }
 {
     let mut slots = Vec::with_capacity(alloc, markers)?;
     for call in calls {

@@ -1,16 +1,15 @@
 //! Prints the steps of a document, which it reads as JSON, as lines.
 #![tactic(auto)]
 
-use squawk_answer::run::run;
+use squawk_answer::program;
 use std::io;
 use std::process::ExitCode;
 
 fn main(rt: HostRuntime) -> ExitCode {
-    match run(rt.alloc(), &mut rt.reader(), &mut io::writer(&rt)) {
-        Ok(()) => ExitCode::SUCCESS,
-        Err(fault) => {
-            let _ = eprintln!(rt; "{fault}");
-            ExitCode::from(fault.status())
-        }
-    }
+    program(
+        rt.alloc(),
+        &mut rt.reader(),
+        &mut io::writer(&rt),
+        &mut rt.stderr(),
+    )
 }

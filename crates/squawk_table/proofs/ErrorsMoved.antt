@@ -3,7 +3,7 @@ use Rattle.std.proofs.Common.{◌≡◌, ◌∙◌, suc, List, [], ◌∷◌, �
 use Rattle.squawk_table.specs.ParserInput.{Entry}
 use Rattle.squawk_table.specs.Sent.{leading_errors, errors_moved}
 use Rattle.squawk_table.specs.Shape.{IsOver}
-use Rattle.squawk_table.specs.Steps.{Step, Token, Enter, Exit, Error, is_error, eaten, without_errors}
+use Rattle.squawk_output.specs.Steps.{Step, Token, Enter, Exit, Error, is_error, eaten, without_errors}
 use Rattle.squawk_table.proofs.WithoutErrors.{eaten-without_errors}
 
 -- the errors at the front stay there

@@ -13,8 +13,8 @@ use Rattle.squawk_table.specs.RawTable.{Table, table_of}
 use Rattle.squawk_kinds.specs.Keywords.{Keywords}
 use Rattle.squawk_table.specs.ParserInput.{Entry, input_of, touches_in}
 use Rattle.squawk_table.specs.Shape.{IsOver, no_keywords}
-use Rattle.squawk_table.specs.Steps as steps
-use Rattle.squawk_table.specs.Steps.{Step}
+use Rattle.squawk_output.specs.Steps as steps
+use Rattle.squawk_output.specs.Steps.{Step}
 use Rattle.squawk_table.specs.Sent.{errors_moved, sent_list, texts_of}
 
 -- ---- texts and their tokens

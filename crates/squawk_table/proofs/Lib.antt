@@ -1,5 +1,4 @@
 pub mod TableLemmas
-pub mod Texts
 pub mod RawTokens
 pub mod Examples
 pub mod AllSent

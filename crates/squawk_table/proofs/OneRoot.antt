@@ -2,7 +2,7 @@
 use Rattle.std.proofs.Common.{◌≡◌, ℕ, ◌+◌, ◌<◌, ◌≤◌, List, [], ◌∷◌, cond, length, take, get_or, arith, ap, sym, subst, ◌⊎◌, inl, inr}
 use Rattle.std.proofs.lemmas.List.{take_all}
 use Rattle.squawk_table.specs.Shape.{BeginsWithEnter, StandsInOneRoot}
-use Rattle.squawk_table.specs.Steps.{Step, Token, Enter, Exit, Error, is_enter, is_exit, openings, closings}
+use Rattle.squawk_output.specs.Steps.{Step, Token, Enter, Exit, Error, is_enter, is_exit, openings, closings}
 use Rattle.squawk_table.proofs.StepPlaces.{openings-take_more, closings-take_more}
 
 -- the first i steps stand in one root, as far as they tell, and so many nodes are open after them

@@ -4,7 +4,7 @@ use Rattle.std.proofs.lemmas.List.{drop-drop, length-drop}
 use Rattle.std.proofs.lemmas.List.Sums.{sum_by-cons}
 use Rattle.squawk_table.specs.ParserInput.{Entry}
 use Rattle.squawk_table.specs.Shape.{AreOneToken, IsOver}
-use Rattle.squawk_table.specs.Steps.{Step, Token, Enter, Exit, Error, count_of, eaten}
+use Rattle.squawk_output.specs.Steps.{Step, Token, Enter, Exit, Error, count_of, eaten}
 
 -- the tokens behind those that one token and then other steps eat
 drop-token : (kind n : ℕ) (steps : List Step) (input : List Entry) → drop (eaten steps) (drop n input) ≡ drop (eaten (Token kind n ∷ steps)) input

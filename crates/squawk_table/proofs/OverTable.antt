@@ -4,7 +4,7 @@ use Rattle.squawk_table.specs.ParserInput.{Entry, entries_of}
 use Rattle.squawk_table.specs.RawTable.{Table, raw_after}
 use Rattle.squawk_table.specs.Sent.{past_trivia, HasNoTrivia}
 use Rattle.squawk_table.specs.Shape.{IsOver, no_keywords}
-use Rattle.squawk_table.specs.Steps.{Step, Token, Enter, Exit, Error}
+use Rattle.squawk_output.specs.Steps.{Step, Token, Enter, Exit, Error}
 use Rattle.squawk_table.proofs.FrontTokens.{FrontTokens, FrontTokens-one, one-FrontTokens, drop-entries_of, entries_of-past_trivia, length-raw_after, raw_after-add}
 
 -- the entries of the raw tokens that are left from a place on

@@ -1,25 +1,37 @@
 -- Walks that stand in one root, errors aside, step by step.
-use Rattle.std.proofs.Common.{◌≡◌, ℕ, ◌+◌, ◌<◌, ◌≤◌, Bool, true, false, List, cond, length, get_or, arith, ap, sym, subst}
-use Rattle.std.proofs.lemmas.List.{take_all}
+use Rattle.std.proofs.Common.{◌≡◌, ℕ, ◌+◌, ◌<◌, ◌≤◌, Bool, true, false, List, [], ◌∷◌, cond, length, drop, get_or, arith, ap, sym, subst, ◌∙◌}
+use Rattle.std.proofs.lemmas.List.{length-drop, take_all}
 use Rattle.squawk_table.specs.Shape.{StandsInOneRoot}
-use Rattle.squawk_table.specs.Steps.{Step, is_enter, is_exit, is_error, without_errors}
+use Rattle.squawk_output.specs.Steps.{Step, is_enter, is_exit, is_error, without_errors}
 use Rattle.squawk_table.proofs.OneRoot.{RootBefore, MayBegin, RootBefore-more, StandsInOneRoot-all, open_inside, closed_after, first_step, length-root}
 use Rattle.squawk_table.proofs.WithoutErrors.{kept, kept-error, kept-more, kept-at, kept-lt}
+use Rattle.squawk_table.proofs.StepPlaces.{hand_at, hand_behind, hand_lt}
 
--- The first i steps stand in one root, as far as they tell, so many nodes are open after them, and it is known whether one was opened.
-pub record RootSoFar (steps : List Step) (i depth : ℕ) (has_root : Bool) : Type 0 where
+-- Some steps were read and others are left. Those that were read stand in one root, as far as they tell, so many nodes are open after them,
+-- and it is known whether one was opened.
+pub record RootSoFar (steps left : List Step) (depth : ℕ) (has_root : Bool) : Type 0 where
+  pub i : ℕ
+  pub rest : left ≡ drop i steps
   pub low : depth ≤ i
   pub before : RootBefore (without_errors steps) (kept steps i) depth
   pub rooted : has_root ≡ true → 0 < kept steps i
   pub rootless : has_root ≡ false → kept steps i ≡ 0
 
-module _ (steps : List Step) (i depth : ℕ) (has_root : Bool) (step : Step) (lt : i < length steps) (at : get_or steps i step ≡ step)
-    (so_far : RootSoFar steps i depth has_root) where
+module _ (steps left behind : List Step) (depth : ℕ) (has_root : Bool) (step : Step) (next : left ≡ step ∷ behind)
+    (so_far : RootSoFar steps left depth has_root) where
+  lt : so_far.i < length steps
+  lt = hand_lt steps left behind so_far.i step so_far.rest next
+
+  at : get_or steps so_far.i step ≡ step
+  at = hand_at steps left behind so_far.i step so_far.rest next
+
   -- an error changes nothing
-  pub RootSoFar-error : is_error step ≡ true → RootSoFar steps (i + 1) depth has_root
+  pub RootSoFar-error : is_error step ≡ true → RootSoFar steps behind depth has_root
   RootSoFar-error error =
-      let same = kept-error steps i step lt at error in
+      let same = kept-error steps so_far.i step lt at error in
       record {
+        i = so_far.i + 1;
+        rest = hand_behind steps left behind so_far.i step so_far.rest next;
         low = omega (arith, so_far.low);
         before = subst (λ k. RootBefore (without_errors steps) k depth) (sym same) so_far.before;
         rooted = λ e. omega (arith, so_far.rooted e);
@@ -28,39 +40,44 @@ module _ (steps : List Step) (i depth : ℕ) (has_root : Bool) (step : Step) (lt
 
   module _ (other : is_error step ≡ false) where
     -- one more step
-    pub RootSoFar-more : (after : ℕ) (root_after : Bool) → (0 < kept steps i → 0 < depth) → (kept steps i ≡ 0 → MayBegin step)
-        → after + cond (is_exit step) 1 0 ≡ depth + cond (is_enter step) 1 0 → after ≤ depth + 1 → (root_after ≡ false → ⊥) → RootSoFar steps (i + 1) after root_after
+    pub RootSoFar-more : (after : ℕ) (root_after : Bool) → (0 < kept steps so_far.i → 0 < depth) → (kept steps so_far.i ≡ 0 → MayBegin step)
+        → after + cond (is_exit step) 1 0 ≡ depth + cond (is_enter step) 1 0 → after ≤ depth + 1 → (root_after ≡ false → ⊥) → RootSoFar steps behind after root_after
     RootSoFar-more after root_after inner first counts low known =
-        let more = kept-more steps i step lt at other in
-        let next = RootBefore-more (without_errors steps) (kept steps i) depth after step (kept-lt steps i step lt at other) (kept-at steps i step lt at other)
+        let more = kept-more steps so_far.i step lt at other in
+        let now = RootBefore-more (without_errors steps) (kept steps so_far.i) depth after step (kept-lt steps so_far.i step lt at other) (kept-at steps so_far.i step lt at other)
         so_far.before inner first counts (omega (arith, so_far.before.below)) in
         record {
+          i = so_far.i + 1;
+          rest = hand_behind steps left behind so_far.i step so_far.rest next;
           low = omega (arith, so_far.low);
-          before = subst (λ k. RootBefore (without_errors steps) k after) (sym more) next;
+          before = subst (λ k. RootBefore (without_errors steps) k after) (sym more) now;
           rooted = λ _. omega arith;
           rootless = λ e. absurd (known e);
         }
 
     -- where no node is open only a first step may stand
-    pub refuted : depth ≤ 0 → (kept steps i ≡ 0 → MayBegin step → ⊥) → StandsInOneRoot (without_errors steps) → ⊥
+    pub refuted : depth ≤ 0 → (kept steps so_far.i ≡ 0 → MayBegin step → ⊥) → StandsInOneRoot (without_errors steps) → ⊥
     refuted none may root =
-        let inside = open_inside (without_errors steps) (kept steps i) depth root so_far.before in
-        let lower = kept-lt steps i step lt at other in
-        let first : kept steps i ≡ 0 = grind (arith, inside) in
-        may first (first_step (without_errors steps) step (subst (λ k. get_or (without_errors steps) k step ≡ step) first (kept-at steps i step lt at other)) root.begins)
+        let inside = open_inside (without_errors steps) (kept steps so_far.i) depth root so_far.before in
+        let lower = kept-lt steps so_far.i step lt at other in
+        let first : kept steps so_far.i ≡ 0 = grind (arith, inside) in
+        may first (first_step (without_errors steps) step (subst (λ k. get_or (without_errors steps) k step ≡ step) first (kept-at steps so_far.i step lt at other)) root.begins)
 
-module _ (steps : List Step) (i depth : ℕ) (has_root : Bool) (past : length steps ≤ i) (so_far : RootSoFar steps i depth has_root) where
-  all_kept : kept steps i ≡ length (without_errors steps)
-  all_kept = ap (λ xs. length (without_errors xs)) (take_all i steps past)
+module _ (steps left : List Step) (depth : ℕ) (has_root : Bool) (none : left ≡ []) (so_far : RootSoFar steps left depth has_root) where
+  past : length steps ≤ so_far.i
+  past = omega (arith, ap length (sym so_far.rest ∙ none), length-drop so_far.i steps)
+
+  all_kept : kept steps so_far.i ≡ length (without_errors steps)
+  all_kept = ap (λ xs. length (without_errors xs)) (take_all so_far.i steps past)
 
   pub StandsInOneRoot-so_far : has_root ≡ true → depth ≡ 0 → StandsInOneRoot (without_errors steps)
   StandsInOneRoot-so_far rooted closed =
       let some = so_far.rooted rooted in
-      StandsInOneRoot-all (without_errors steps) (kept steps i) (omega (arith, all_kept)) (omega (arith, all_kept)) (omega (arith, all_kept))
-      (subst (RootBefore (without_errors steps) (kept steps i)) closed so_far.before)
+      StandsInOneRoot-all (without_errors steps) (kept steps so_far.i) (omega (arith, all_kept)) (omega (arith, all_kept)) (omega (arith, all_kept))
+      (subst (RootBefore (without_errors steps) (kept steps so_far.i)) closed so_far.before)
 
   pub closed_at_end : StandsInOneRoot (without_errors steps) → depth ≡ 0
-  closed_at_end root = closed_after (without_errors steps) (kept steps i) depth root so_far.before (omega (arith, all_kept))
+  closed_at_end root = closed_after (without_errors steps) (kept steps so_far.i) depth root so_far.before (omega (arith, all_kept))
 
   pub rooted_at_end : StandsInOneRoot (without_errors steps) → has_root ≡ false → ⊥
-  rooted_at_end root none = omega (arith, so_far.rootless none, all_kept, length-root (without_errors steps) root.begins)
+  rooted_at_end root rootless = omega (arith, so_far.rootless rootless, all_kept, length-root (without_errors steps) root.begins)

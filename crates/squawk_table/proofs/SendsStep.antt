@@ -4,7 +4,7 @@ use Rattle.std.specs.Str.{chars}
 use Rattle.squawk_table.specs.RawTable.{Table, IsTable, raw_after, raw_tokens, text_of}
 use Rattle.squawk_table.specs.Sending.{sent_here, HasTokens, next_place}
 use Rattle.squawk_table.specs.Sent.{bytes_of, texts_of}
-use Rattle.squawk_table.specs.Steps.{Step, Token, Enter, Exit, Error, count_of}
+use Rattle.squawk_output.specs.Steps.{Step, Token, Enter, Exit, Error, count_of}
 use Rattle.squawk_table.specs.declared.shortcuts.str_step.OwnedStep.TheVariants as sent
 use Rattle.squawk_table.proofs.FrontTokens.{length-raw_after, raw_after-add}
 use Rattle.squawk_table.proofs.Received.{left_before, left_at, left_before-other}

@@ -4,7 +4,7 @@ use Rattle.std.proofs.lemmas.List.{append-nil}
 use Rattle.std.proofs.lemmas.Option.{slice_get-get_or}
 use Rattle.squawk_table.specs.RawTable.{RawToken}
 use Rattle.squawk_table.specs.Sent.{eaten_before, trivia_before, sent_raw, sent_step, sent_steps, sent_below}
-use Rattle.squawk_table.specs.Steps.{Step}
+use Rattle.squawk_output.specs.Steps.{Step}
 use Rattle.squawk_table.specs.declared.shortcuts.str_step.OwnedStep.{OwnedStep}
 
 -- what is sent before step i, with the trivia before it

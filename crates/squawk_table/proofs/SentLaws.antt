@@ -6,7 +6,7 @@ use Rattle.std.proofs.lemmas.List.{append-nil}
 use Rattle.std.proofs.lemmas.Option.{slice_get_within, get_or_from_slice_get}
 use Rattle.squawk_table.specs.RawTable.{Table, RawToken, raw_tokens}
 use Rattle.squawk_table.specs.Sent.{errors_moved, eaten_before, receives, is_receiver, is_received, trivia_run, trivia_before, sent_raw, sent_step, sent_steps, sent_below, sent_list, bytes_of}
-use Rattle.squawk_table.specs.Steps.{Step, Token, Enter, Exit, Error, is_error, openings, closings, eaten, without_errors}
+use Rattle.squawk_output.specs.Steps.{Step, Token, Enter, Exit, Error, is_error, openings, closings, eaten, without_errors}
 use Rattle.squawk_table.specs.declared.shortcuts.str_step.OwnedStep.{OwnedStep}
 use Rattle.squawk_table.specs.declared.shortcuts.str_step.OwnedStep.TheVariants as sent
 use Rattle.squawk_table.proofs.ErrorsMoved as moved

@@ -1,13 +1,14 @@
 -- A walk that is being sent.
 use Rattle.std.proofs.Common.{◌≡◌, ◌∙◌, ℕ, ◌+◌, ◌<◌, ◌≤◌, List, [], ◌∷◌, ◌++◌, length, take, drop, get_or, arith, ap, sym, subst, refl}
-use Rattle.std.proofs.lemmas.List.{append-nil, drop_more, length-drop, length-take-le}
+use Rattle.std.proofs.lemmas.List.{append-nil, length-drop, length-take-le}
 use Rattle.std.proofs.lemmas.List.Sums.{count_by-le-length}
 use Rattle.squawk_table.specs.RawTable.{Table, raw_after, raw_tokens}
 use Rattle.squawk_table.specs.Sent.{sent_below}
-use Rattle.squawk_table.specs.Steps.{Step, is_enter, openings, closings}
+use Rattle.squawk_output.specs.Steps.{Step, is_enter, openings, closings}
 use Rattle.squawk_table.specs.declared.shortcuts.str_step.OwnedStep.{OwnedStep}
 use Rattle.squawk_table.proofs.RawTokens.{raw_after-start}
 use Rattle.squawk_table.proofs.Received.{left_before}
+use Rattle.squawk_table.proofs.StepPlaces.{hand_at, hand_behind, hand_lt}
 
 -- Some steps of a walk are sent and others are left. The raw place and the number of open nodes are those between them, and a sink that
 -- stood in one way stands in another after what was sent.
@@ -35,20 +36,14 @@ SentSoFar-start t steps left first same = record {
 module _ (t : Table) (steps left : List Step) (place depth : ℕ) (first now : List OwnedStep → Type 0) (so_far : SentSoFar t steps left place depth first now) where
   -- the next step
   module _ (step : Step) (behind : List Step) (next : left ≡ step ∷ behind) where
-    all : drop so_far.i steps ≡ step ∷ behind
-    all = sym so_far.rest ∙ next
-
     pub here_lt : so_far.i < length steps
-    here_lt = omega (arith, ap length all, length-drop so_far.i steps)
-
-    split : get_or steps so_far.i step ∷ drop (so_far.i + 1) steps ≡ step ∷ behind
-    split = sym (drop_more steps so_far.i step here_lt) ∙ all
+    here_lt = hand_lt steps left behind so_far.i step so_far.rest next
 
     pub here_at : get_or steps so_far.i step ≡ step
-    here_at = let e = split in cc
+    here_at = hand_at steps left behind so_far.i step so_far.rest next
 
     pub rest_behind : behind ≡ drop (so_far.i + 1) steps
-    rest_behind = let e = split in cc
+    rest_behind = hand_behind steps left behind so_far.i step so_far.rest next
 
     -- no more nodes are open than steps were sent
     pub depth_low : depth + 1 ≤ length steps

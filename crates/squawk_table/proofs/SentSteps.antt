@@ -5,7 +5,7 @@ use Rattle.squawk_table.specs.ParserInput.{entries_of}
 use Rattle.squawk_table.specs.RawTable.{RawToken, text_of}
 use Rattle.squawk_table.specs.Sent.{past_trivia, after_input, input_tokens, eaten_before}
 use Rattle.squawk_table.specs.Shape.{AreOneToken, IsOver, no_keywords}
-use Rattle.squawk_table.specs.Steps.{Step, Token}
+use Rattle.squawk_output.specs.Steps.{Step, Token}
 use Rattle.squawk_table.proofs.FrontTokens.{FrontTokens, FrontTokens-one, take-input_tokens, after_input-front}
 use Rattle.squawk_table.proofs.InputTokens.{input_tokens-after_input, entries_of-after_input}
 use Rattle.squawk_table.proofs.Over.{IsOver-back}

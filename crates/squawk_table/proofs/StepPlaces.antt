@@ -1,18 +1,27 @@
 -- The steps before a place of a walk, and one more.
-use Rattle.std.proofs.Common.{◌≡◌, ◌∙◌, ℕ, ◌+◌, ◌<◌, List, cond, length, map, take, get_or, ap, sym}
-use Rattle.std.proofs.lemmas.List.{get_or-map}
+use Rattle.std.proofs.Common.{◌≡◌, ◌∙◌, ℕ, ◌+◌, ◌<◌, List, ◌∷◌, cond, length, take, drop, get_or, arith, ap, sym}
+use Rattle.std.proofs.lemmas.List.{drop_more, length-drop}
 use Rattle.std.proofs.lemmas.List.Sums.{sum_by_more}
-use Rattle.squawk_table.specs.StepViews.{stored_of}
-use Rattle.squawk_table.specs.Steps as plain
-use Rattle.squawk_table.specs.Steps.{is_enter, is_exit, count_of, openings, closings, eaten}
-use Rattle.squawk_table.specs.declared.output.stored.StoredStep.{StoredStep}
+use Rattle.squawk_output.specs.Steps.{Step, is_enter, is_exit, count_of, openings, closings, eaten}
 
--- what the code reads at a place is the step of the walk there
-pub step_at : (steps : List StoredStep) (i : ℕ) (x : StoredStep) (d : plain.Step) → i < length steps → x ≡ get_or steps i x
-    → get_or (map stored_of steps) i d ≡ stored_of x
-step_at steps i x d lt e = get_or-map stored_of steps i x d lt ∙ ap stored_of (sym e)
+-- i steps were read and these are left, of which one is at hand
+module _ (steps left behind : List Step) (i : ℕ) (step : Step) (rest : left ≡ drop i steps) (next : left ≡ step ∷ behind) where
+  all : drop i steps ≡ step ∷ behind
+  all = sym rest ∙ next
 
-module _ (steps : List plain.Step) (i : ℕ) (step : plain.Step) (lt : i < length steps) (at : get_or steps i step ≡ step) where
+  pub hand_lt : i < length steps
+  hand_lt = omega (arith, ap length all, length-drop i steps)
+
+  split : get_or steps i step ∷ drop (i + 1) steps ≡ step ∷ behind
+  split = sym (drop_more steps i step hand_lt) ∙ all
+
+  pub hand_at : get_or steps i step ≡ step
+  hand_at = let e = split in cc
+
+  pub hand_behind : behind ≡ drop (i + 1) steps
+  hand_behind = let e = split in cc
+
+module _ (steps : List Step) (i : ℕ) (step : Step) (lt : i < length steps) (at : get_or steps i step ≡ step) where
   pub eaten-take_more : eaten (take (i + 1) steps) ≡ eaten (take i steps) + count_of step
   eaten-take_more = sum_by_more count_of steps i step lt ∙ ap (λ s. eaten (take i steps) + count_of s) at
 

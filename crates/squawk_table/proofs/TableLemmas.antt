@@ -8,7 +8,7 @@ use Rattle.squawk_tokens.specs.declared.token.Token.{Token}
 use Rattle.squawk_tokens.specs.declared.token.TokenKind.TheVariants.{Ident}
 use Rattle.squawk_tokens.specs.AcceptedTokens.{start_of, IsAccepted}
 use Rattle.squawk_tokens.specs.ErrorRanges.{LiesIn, StandApart}
-use Rattle.squawk_tokens.specs.LexicalErrors.{Fault, lexical_errors}
+use Rattle.squawk_tokens.specs.LexicalErrors.{LexicalError, lexical_errors}
 use Rattle.squawk_table.specs.RawTable.{IsTable, Table, table_of, kinds_from, starts_from}
 use Rattle.squawk_kinds.specs.Keywords.{Keywords}
 
@@ -54,7 +54,7 @@ module _ (keyword : Keywords) (text : List ℕ) (tokens : List Token) (ok : IsAc
   at i le = starts_from_at 0 tokens i le ∙ zero-add (start_of tokens i)
 
   -- an error that lies in a token lies in the table's
-  in_table : (fault : Fault) → ((i : ℕ) × LiesIn (start_of tokens) (length tokens) fault i)
+  in_table : (fault : LexicalError) → ((i : ℕ) × LiesIn (start_of tokens) (length tokens) fault i)
       → (i : ℕ) × LiesIn (slice_index (starts_from 0 tokens)) (length (kinds_from keyword text 0 tokens)) fault i
   in_table fault (i, lies) =
       let kinds = length-kinds_from keyword text 0 tokens in
@@ -83,7 +83,7 @@ module _ (keyword : Keywords) (text : List ℕ) (tokens : List Token) (ok : IsAc
       }
 
 -- what was made token by token is the table
-pub is_table_of : (keyword : Keywords) (text : List ℕ) (tokens : List Token) (kinds before starts : List ℕ) (errors : List Fault) (at n : ℕ) → length tokens ≤ n
+pub is_table_of : (keyword : Keywords) (text : List ℕ) (tokens : List Token) (kinds before starts : List ℕ) (errors : List LexicalError) (at n : ℕ) → length tokens ≤ n
     → kinds ++ kinds_from keyword text at (drop n tokens) ≡ kinds_from keyword text 0 tokens
     → before ++ starts_from at (drop n tokens) ≡ starts_from 0 tokens → starts ≡ before ++ at ∷ [] → errors ≡ lexical_errors text tokens
     → table_of keyword text tokens ≡ record { text = text; kinds = kinds; starts = starts; errors = errors }

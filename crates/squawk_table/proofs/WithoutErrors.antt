@@ -6,7 +6,7 @@ use Rattle.std.proofs.lemmas.List.{take-append-drop, drop_more}
 use Rattle.std.proofs.lemmas.List.Elements.{filter-append}
 use Rattle.std.proofs.lemmas.List.Filters.{length-filter_more}
 use Rattle.std.proofs.lemmas.List.Sums.{sum_by-cons}
-use Rattle.squawk_table.specs.Steps.{Step, Token, Enter, Exit, Error, is_enter, is_exit, is_error, count_of, openings, closings, eaten, without_errors}
+use Rattle.squawk_output.specs.Steps.{Step, Token, Enter, Exit, Error, is_enter, is_exit, is_error, count_of, openings, closings, eaten, without_errors}
 
 -- a sum that gets nothing from errors
 pub sum_by-without_errors : (f : Step → ℕ) → ((text : List ℕ) → f (Error text) ≡ 0) → (steps : List Step) → sum_by f (without_errors steps) ≡ sum_by f steps

@@ -2,8 +2,7 @@ pub mod TokenKinds
 pub mod RawTable
 pub mod ParserInput
 pub mod InputView
-pub mod Steps
-pub mod StepViews
+pub mod SinkViews
 pub mod Shape
 pub mod Sent
 pub mod Sending

@@ -3,7 +3,7 @@ use Rattle.std.specs.Prelude.{◌≡◌, ℕ, zero, suc, ◌+◌, ◌-◌, ◌<�
 use Rattle.std.specs.List.{flat_map}
 use Rattle.squawk_tokens.specs.declared.token.Token.{Token}
 use Rattle.squawk_tokens.specs.ErrorRanges.{StandApart}
-use Rattle.squawk_tokens.specs.LexicalErrors.{Fault, lexical_errors}
+use Rattle.squawk_tokens.specs.LexicalErrors.{LexicalError, lexical_errors}
 use Rattle.squawk_kinds.specs.Keywords.{Keywords}
 use Rattle.squawk_table.specs.TokenKinds.{kind_of}
 
@@ -13,7 +13,7 @@ pub record Table : Type 0 where
   pub text : List ℕ
   pub kinds : List ℕ
   pub starts : List ℕ
-  pub errors : List Fault
+  pub errors : List LexicalError
 
 -- the kinds of tokens that stand one after another from `at` on
 abbrev pub kinds_from : Keywords → List ℕ → ℕ → List Token → List ℕ

@@ -3,7 +3,7 @@ use Rattle.std.specs.Prelude.{◌≡◌, ℕ, zero, suc, ◌+◌, ◌==◌, nat_
 use Rattle.std.specs.List.{flat_map}
 use Rattle.std.specs.Str.{chars}
 use Rattle.squawk_kinds.specs.Kinds.{is_trivia}
-use Rattle.squawk_table.specs.Steps.{Step, Token, Enter, Exit, Error, openings, closings, eaten}
+use Rattle.squawk_output.specs.Steps.{Step, Token, Enter, Exit, Error, openings, closings, eaten}
 use Rattle.squawk_table.specs.RawTable.{Table, RawToken, raw_tokens, text_of}
 use Rattle.squawk_table.specs.declared.shortcuts.str_step.OwnedStep.{OwnedStep}
 use Rattle.squawk_table.specs.declared.shortcuts.str_step.OwnedStep.TheVariants as sent
@@ -95,9 +95,7 @@ trivia_before raw steps i =
 -- the text of a token; other steps have none
 abbrev pub text_in : OwnedStep → List ℕ
 text_in (sent.Token kind text) = text
-text_in (sent.Enter kind) = []
-text_in sent.Exit = []
-text_in (sent.Error text pos) = []
+text_in step = []
 
 -- the texts of the tokens, joined
 abbrev pub texts_of : List OwnedStep → List ℕ

@@ -1,6 +1,6 @@
 -- The shape of a walk: balanced, in one root, over an input.
 use Rattle.std.specs.Prelude.{◌≡◌, ℕ, ◌+◌, ◌<◌, ◌≤◌, true, List, [], ◌∷◌, length, take, drop}
-use Rattle.squawk_table.specs.Steps.{Step, Token, Enter, Exit, Error, openings, closings, without_errors}
+use Rattle.squawk_output.specs.Steps.{Step, Token, Enter, Exit, Error, openings, closings, without_errors}
 use Rattle.squawk_table.specs.ParserInput.{Entry, input_of, touches_in}
 use Rattle.squawk_table.specs.RawTable.{Table}
 use Rattle.squawk_kinds.specs.Keywords.{Keywords}
@@ -13,11 +13,8 @@ pub record IsBalanced (steps : List Step) : Type 0 where
 
 -- the first step is an opening
 abbrev pub BeginsWithEnter : List Step → Type 0
-BeginsWithEnter [] = ⊥
-BeginsWithEnter (Token kind n ∷ steps) = ⊥
 BeginsWithEnter (Enter kind ∷ steps) = Unit {0}
-BeginsWithEnter (Exit ∷ steps) = ⊥
-BeginsWithEnter (Error text ∷ steps) = ⊥
+BeginsWithEnter steps = ⊥
 
 -- The walk begins with an opening. No beginning closes more nodes than it opens, and of those that aren't empty only the whole
 -- walk closes as many.

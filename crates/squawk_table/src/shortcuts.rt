@@ -6,8 +6,9 @@ ghost use Rattle.squawk_table.specs.RawTable.{raw_after};
 ghost use Rattle.squawk_table.specs.Sent.{sent_list, sent_raw, leading_trivia, past_trivia, texts_of, IsBeginning, StopsWithin};
 ghost use Rattle.squawk_table.specs.Sending.{sent_here, HasTokens, next_place, receives_at, depth_behind, SendsOne};
 ghost use Rattle.squawk_table.specs.Shape.{Fits, no_keywords};
-ghost use Rattle.squawk_table.specs.StepViews.{step_of, owned_step_of};
-ghost use Rattle.squawk_table.specs.Steps.{eaten};
+ghost use Rattle.squawk_output.specs.StepViews.{step_of};
+ghost use Rattle.squawk_table.specs.SinkViews.{owned_step_of};
+ghost use Rattle.squawk_output.specs.Steps.{eaten};
 ghost use Rattle.squawk_table.specs.declared.shortcuts.str_step.OwnedStep.{OwnedStep};
 
 mod fit;
@@ -16,8 +17,8 @@ pub mod step_list;
 pub mod str_step;
 
 use crate::lexed_str::LexedStr;
-use crate::output::{Output, Step};
 use moved::MovedErrors;
+use squawk_output::{Output, Step};
 pub use step_list::StepList;
 pub use str_step::{OwnedStep, StepSink, StrStep};
 
@@ -50,7 +51,7 @@ impl LexedStr<'_> {
             → StopsWithin (S.stands_after sink.new) S.refuses l (sent_list self.now output.now.steps) answer) }
     {
         let len = self.len();
-        let mut steps = MovedErrors::new(output.steps());
+        let mut steps = MovedErrors::new(output.iter());
         let mut place = 0;
         let mut depth = 0;
         while let Some(step) = steps.next() {

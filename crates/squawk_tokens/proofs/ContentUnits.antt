@@ -3,7 +3,7 @@ use Rattle.std.proofs.Common.{◌≡◌, ◌∙◌, ℕ, zero, suc, ◌+◌, ◌
 use Rattle.std.specs.Prelude.{codes, option_map}
 use Rattle.std.specs.Str.{chars}
 use Rattle.squawk_tokens.specs.EscapeUnits.{Unit, Escape, Other, first_unit, first_units, units, chars_of, bytes_of, wanted_digits, escape_at}
-use Rattle.squawk_tokens.specs.LexicalErrors.{Fault, only_if, short_escapes, hint_of}
+use Rattle.squawk_tokens.specs.LexicalErrors.{LexicalError, only_if, short_escapes, hint_of}
 use Rattle.squawk_tokens.specs.UnitCuts.{IsCutFrom, wanted_of}
 use Rattle.squawk_tokens.specs.declared.converter.escapes.UnitCut.{UnitCut}
 
@@ -48,14 +48,14 @@ units-cons c cs =
 
 -- ---- errors
 
-abbrev pub escape_fault : ℕ → ℕ → List ℕ → Fault
+abbrev pub escape_fault : ℕ → ℕ → List ℕ → LexicalError
 escape_fault start end hint = record { start = start; end = end; message = codes "incomplete unicode escape"; hint = Some hint }
 
-none_if : (b : Bool) (hint : List ℕ) (f : Fault) (rest : List Fault) → cond b (Some hint) None ≡ None → only_if b f ++ rest ≡ rest
+none_if : (b : Bool) (hint : List ℕ) (f : LexicalError) (rest : List LexicalError) → cond b (Some hint) None ≡ None → only_if b f ++ rest ≡ rest
 none_if true hint f rest e = absurd (let no : ⊥ = cc in no)
 none_if false hint f rest e = refl
 
-some_if : (b : Bool) (hint wanted : List ℕ) (start end : ℕ) (rest : List Fault) → cond b (Some hint) None ≡ Some wanted
+some_if : (b : Bool) (hint wanted : List ℕ) (start end : ℕ) (rest : List LexicalError) → cond b (Some hint) None ≡ Some wanted
     → only_if b (escape_fault start end hint) ++ rest ≡ escape_fault start end wanted ∷ rest
 some_if true hint wanted start end rest e = let same : hint ≡ wanted = cc in ap (λ h. escape_fault start end h ∷ rest) same
 some_if false hint wanted start end rest e = absurd (let no : ⊥ = cc in no)

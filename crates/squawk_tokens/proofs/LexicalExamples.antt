@@ -8,7 +8,7 @@ use Rattle.squawk_tokens.specs.declared.token.LiteralKind.TheVariants.{Int, Nume
 use Rattle.squawk_tokens.specs.declared.token.Token.{Token}
 use Rattle.squawk_tokens.specs.declared.token.TokenKind.{TokenKind}
 use Rattle.squawk_tokens.specs.declared.token.TokenKind.TheVariants.{BlockComment, Whitespace, Ident, QuotedIdent, PositionalParam, Semi, Literal}
-use Rattle.squawk_tokens.specs.LexicalErrors.{Fault, fault, lexical_errors}
+use Rattle.squawk_tokens.specs.LexicalErrors.{LexicalError, fault, lexical_errors}
 
 abbrev token : TokenKind → ℕ → Token
 token kind len = record { kind = kind; len = len }
@@ -34,10 +34,10 @@ param len junk = token (PositionalParam junk) len
 abbrev binary_digit : List ℕ → List ℕ
 binary_digit c = codes "\"" ++ (c ++ codes "\" is not a valid binary digit")
 
-abbrev short_escape : ℕ → ℕ → Fault
+abbrev short_escape : ℕ → ℕ → LexicalError
 short_escape start end = record { start = start; end = end; message = codes "incomplete unicode escape"; hint = Some (codes "expected 4 hex digits, like `\\uXXXX`") }
 
-abbrev short_long_escape : ℕ → ℕ → Fault
+abbrev short_long_escape : ℕ → ℕ → LexicalError
 short_long_escape start end = record { start = start; end = end; message = codes "incomplete unicode escape"; hint = Some (codes "expected 8 hex digits, like `\\UXXXXXXXX`") }
 
 -- one bad character in each kind of prefixed string

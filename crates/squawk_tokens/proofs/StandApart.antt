@@ -7,7 +7,7 @@ use Rattle.std.proofs.lemmas.List.Elements.{All-nil, All-append, All-weaker}
 use Rattle.squawk_tokens.specs.declared.token.Token.{Token}
 use Rattle.squawk_tokens.specs.AcceptedTokens.{start_of, IsAccepted, IsGood}
 use Rattle.squawk_tokens.specs.Continuation.{continued}
-use Rattle.squawk_tokens.specs.LexicalErrors.{Fault, shifted, token_faults, faults_from, lexical_errors}
+use Rattle.squawk_tokens.specs.LexicalErrors.{LexicalError, shifted, token_faults, faults_from, lexical_errors}
 use Rattle.squawk_tokens.specs.ErrorRanges.{LiesIn, StandApart}
 use Rattle.squawk_tokens.proofs.Ranges.{Within, IsBetween, Within-append, Within-from, Within-to, Within-shifted, Within-each, Within-Ascend}
 use Rattle.squawk_tokens.proofs.TokenFaults.{length-slice_range, Within-token_faults}
@@ -25,7 +25,7 @@ token_errors text at t before utf8 start good =
 
 module _ (text : List ℕ) (tokens : List Token) (utf8 : IsUtf8 text) (ok : IsAccepted text tokens) where
   -- an error lies in some token
-  abbrev InToken : Fault → Type 0
+  abbrev InToken : LexicalError → Type 0
   InToken f = (i : ℕ) × LiesIn (start_of tokens) (length tokens) f i
 
   -- what is known of the first of the tokens from place i on
@@ -49,7 +49,7 @@ module _ (text : List ℕ) (tokens : List Token) (utf8 : IsUtf8 text) (ok : IsAc
       }
 
   -- an error between the first token's ends lies in it
-  in_first : (t : Token) (ts : List Token) (i : ℕ) → Begins t ts i → (f : Fault) → IsBetween (start_of tokens i) (start_of tokens i + t.len) f → InToken f
+  in_first : (t : Token) (ts : List Token) (i : ℕ) → Begins t ts i → (f : LexicalError) → IsBetween (start_of tokens i) (start_of tokens i + t.len) f → InToken f
   in_first t ts i b f w =
       let next = b.next in
       (i, record { within = b.inside; begins = w.begins; nonempty = w.nonempty; ends = omega (arith, w.ends) })
@@ -64,7 +64,7 @@ module _ (text : List ℕ) (tokens : List Token) (utf8 : IsUtf8 text) (ok : IsAc
       let good : IsGood text at t = rw starts at b.good in
       let here = token_errors text at t before utf8 start good in
       let later = errors_from (i + 1) (at + t.len) (t ∷ before) ts b.rest (omega arith) good.boundary in
-      let in_it : (f : Fault) → IsBetween at (at + t.len) f → InToken f = rw starts at (in_first t ts i b) in (
+      let in_it : (f : LexicalError) → IsBetween at (at + t.len) f → InToken f = rw starts at (in_first t ts i b) in (
         Within-append at (at + t.len) (length text) _ _ here later.0,
         All-append InToken _ _ (All-weaker (IsBetween at (at + t.len)) InToken in_it _ (Within-each at (at + t.len) _ here)) later.1,
       )

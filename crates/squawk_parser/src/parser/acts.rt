@@ -3,24 +3,24 @@ ghost use Rattle.std.specs.Prelude.{◌≡◌, ◌≢◌, ◌+◌, ◌∷◌, []
 ghost use Rattle.std.specs.Str.{chars};
 ghost use Rattle.squawk_kinds.specs.Kinds.{EOF};
 ghost use Rattle.squawk_kinds.specs.TokenSets.{has};
-ghost use Rattle.squawk_table.specs.Steps.{Error};
-ghost use Rattle.squawk_event.specs.Draft.{ByStart, IsAboveIds};
+ghost use Rattle.squawk_output.specs.Steps.{Error};
+ghost use Rattle.squawk_log.specs.Draft.{ByStart, IsAboveIds};
 ghost use Rattle.squawk_parser.specs.Eaten.{recovery_steps, no_recovery};
-ghost use Rattle.squawk_event.specs.Edits.{started, with_token};
+ghost use Rattle.squawk_log.specs.Edits.{started, with_token};
 ghost use Rattle.squawk_parser.specs.Recorded.{Puts};
-ghost use Rattle.squawk_parser.specs.State.{Goes, Keeps, Records, ahead, kind_at};
+ghost use Rattle.squawk_parser.specs.State.{HasNotFailed, Keeps, Records, ahead, kind_at};
 
 use crate::parser::Parser;
 use crate::parser::marker::Marker;
 use crate::parser::parse_error::ParseError;
-use squawk_event::Made;
 use squawk_kinds::{SyntaxKind, TokenSet};
+use squawk_log::Made;
 
 impl Parser<'_> {
     /// Begins a node: all that is recorded until its marker is completed will stand in it.
     pub fn start(&mut self) -> Marker
         ensures made { result.made ≡ ByStart self.old.draft.entries }
-        ensures fresh { Goes self.new → IsAboveIds result.id self.old.draft.items }
+        ensures fresh { HasNotFailed self.new → IsAboveIds result.id self.old.draft.items }
         ensures keeps { Keeps self.old self.new }
         ensures position { self.new.position ≡ self.old.position }
         ensures records { Records self.old self.new (started self.old.draft result.id) }
@@ -29,7 +29,7 @@ impl Parser<'_> {
         if self.has_room() {
             match self.log.start() {
                 Ok(()) => {}
-                Err(_) => self.first = Some(ParseError::OutOfMemory),
+                Err(_) => self.first_reason = Some(ParseError::OutOfMemory),
             }
         }
         let made = Made::ByStart;

@@ -1,7 +1,7 @@
 //! Grammars, and the parse of an input by one.
 ghost use Rattle.std.specs.Prelude.{◌≡◌, ◌≢◌, ◌≤◌, IfOk, IfErr};
-ghost use Rattle.squawk_table.specs.Steps.{errors_in};
-ghost use Rattle.squawk_event.specs.Draft.{Draft, HasNoHole, plain};
+ghost use Rattle.squawk_output.specs.Steps.{errors_in};
+ghost use Rattle.squawk_log.specs.Draft.{Draft, HasNoHole, plain};
 ghost use Rattle.squawk_parser.specs.State.{State, IsFresh};
 ghost use Rattle.squawk_parser.specs.Parse.{IsParse, IsRefused};
 ghost use Rattle.squawk_parser.specs.declared.parser.parse_error.ParseError.{ParseError};
@@ -10,7 +10,8 @@ use crate::parser::Parser;
 use crate::parser::limits::Limits;
 use crate::parser::parse_error::ParseError;
 use crate::parser::words::Words;
-use squawk_table::{Input, Output};
+use squawk_output::Output;
+use squawk_table::Input;
 use std::alloc::{AllocError, Global};
 
 /// Where a grammar begins.
@@ -29,8 +30,8 @@ pub enum EntryPoint {
 pub trait Grammar {
     ghost use Rattle.std.specs.Prelude.{List, ◌≡◌, ◌≢◌, OnOk, Some};
     ghost use Rattle.squawk_table.specs.ParserInput.{Entry};
-    ghost use Rattle.squawk_event.specs.Draft.{Draft, HasNoHole};
-    ghost use Rattle.squawk_parser.specs.State.{Goes, Keeps, IsFresh, limits_of};
+    ghost use Rattle.squawk_log.specs.Draft.{Draft, HasNoHole};
+    ghost use Rattle.squawk_parser.specs.State.{HasNotFailed, Keeps, IsFresh, limits_of};
     ghost use Rattle.squawk_parser.specs.Words as spec;
     ghost use Rattle.squawk_parser.specs.declared.parser.grammar.EntryPoint.{EntryPoint};
     ghost use Rattle.squawk_parser.specs.declared.parser.limits.Limits.{Limits};
@@ -56,18 +57,18 @@ pub trait Grammar {
         requires fresh { IsFresh p.old }
         requires words { p.old.words ≡ meaning self.now }
         ensures keeps { Keeps p.old p.new }
-        ensures closed { OnOk result (Goes p.new → HasNoHole p.new.draft.items) }
-        ensures leaves { OnOk result (Goes p.new → leaves self.now EntryPoint.SourceFile p.old.input p.new.draft) }
-        ensures fails { (reason : ParseError) → p.new.first ≡ Some reason → reason ≢ ParseError.OutOfMemory → fails self.now EntryPoint.SourceFile p.old.input (limits_of p.old) reason };
+        ensures closed { OnOk result (HasNotFailed p.new → HasNoHole p.new.draft.items) }
+        ensures leaves { OnOk result (HasNotFailed p.new → leaves self.now EntryPoint.SourceFile p.old.input p.new.draft) }
+        ensures fails { (reason : ParseError) → p.new.first_reason ≡ Some reason → reason ≢ ParseError.OutOfMemory → fails self.now EntryPoint.SourceFile p.old.input (limits_of p.old) reason };
 
     /// Parses the input as the body of a PL/pgSQL function.
     fn plpgsql_entry_point(&self, p: &mut Parser<'_>) -> Result<(), AllocError>
         requires fresh { IsFresh p.old }
         requires words { p.old.words ≡ meaning self.now }
         ensures keeps { Keeps p.old p.new }
-        ensures closed { OnOk result (Goes p.new → HasNoHole p.new.draft.items) }
-        ensures leaves { OnOk result (Goes p.new → leaves self.now EntryPoint.Plpgsql p.old.input p.new.draft) }
-        ensures fails { (reason : ParseError) → p.new.first ≡ Some reason → reason ≢ ParseError.OutOfMemory → fails self.now EntryPoint.Plpgsql p.old.input (limits_of p.old) reason };
+        ensures closed { OnOk result (HasNotFailed p.new → HasNoHole p.new.draft.items) }
+        ensures leaves { OnOk result (HasNotFailed p.new → leaves self.now EntryPoint.Plpgsql p.old.input p.new.draft) }
+        ensures fails { (reason : ParseError) → p.new.first_reason ≡ Some reason → reason ≢ ParseError.OutOfMemory → fails self.now EntryPoint.Plpgsql p.old.input (limits_of p.old) reason };
 }
 
 /// The limits of a parse that is given none.

@@ -1,14 +1,14 @@
 //! Markers: nodes that are begun, and nodes that are complete.
 ghost use Rattle.std.specs.Prelude.{◌≡◌, ◌≢◌, ◌<◌, ◌↔◌, IsTrue};
-ghost use Rattle.squawk_event.specs.Edits.{abandoned, completed, extended, preceded};
+ghost use Rattle.squawk_log.specs.Edits.{abandoned, completed, extended, preceded};
 ghost use Rattle.squawk_kinds.specs.Kinds.{TOMBSTONE};
-ghost use Rattle.squawk_parser.specs.State.{Changes, Goes, HasHole, HasNode, Keeps, Records};
-ghost use Rattle.squawk_event.specs.Draft.{ByPrecede, IsAboveIds};
+ghost use Rattle.squawk_parser.specs.State.{Changes, HasNotFailed, HasHole, HasNode, Keeps, Records};
+ghost use Rattle.squawk_log.specs.Draft.{ByPrecede, IsAboveIds};
 
 use crate::parser::Parser;
 use crate::parser::parse_error::ParseError;
-use squawk_event::Made;
 use squawk_kinds::SyntaxKind;
+use squawk_log::Made;
 use std::marker::Model;
 
 /// A node that [`Parser::start`] began and that has no kind yet.
@@ -20,8 +20,8 @@ pub struct Marker {
 }
 
 impl Model for Marker {
-    ghost use Rattle.squawk_event.specs.Draft.{Mark};
-    ghost use Rattle.squawk_event.specs.LogDraft.{made_of};
+    ghost use Rattle.squawk_log.specs.Draft.{Mark};
+    ghost use Rattle.squawk_log.specs.LogDraft.{made_of};
 
     ghost Value = { Mark };
 
@@ -36,7 +36,7 @@ pub struct CompletedMarker {
 }
 
 impl Model for CompletedMarker {
-    ghost use Rattle.squawk_event.specs.Draft.{Node};
+    ghost use Rattle.squawk_log.specs.Draft.{Node};
 
     ghost Value = { Node };
 
@@ -61,7 +61,7 @@ impl Marker {
         if p.has_room() {
             match p.log.complete(id, kind) {
                 Ok(()) => {}
-                Err(_) => p.first = Some(ParseError::OutOfMemory),
+                Err(_) => p.first_reason = Some(ParseError::OutOfMemory),
             }
         }
         CompletedMarker { id, kind }
@@ -76,7 +76,7 @@ impl Marker {
         ensures { Changes p.old p.new (abandoned p.old.draft self.id) }
     {
         let Marker { id, made } = self;
-        if p.first.is_none() {
+        if p.first_reason.is_none() {
             p.log.abandon(id, made);
         }
     }
@@ -98,7 +98,7 @@ impl CompletedMarker {
     pub fn precede(self, p: &mut Parser<'_>) -> Marker
         requires { HasNode p.old self }
         ensures made { result.made ≡ ByPrecede p.old.draft.entries }
-        ensures fresh { Goes p.new → IsAboveIds result.id p.old.draft.items }
+        ensures fresh { HasNotFailed p.new → IsAboveIds result.id p.old.draft.items }
         ensures keeps { Keeps p.old p.new }
         ensures position { p.new.position ≡ p.old.position }
         ensures records { Records p.old p.new (preceded p.old.draft self.id result.id) }
@@ -108,7 +108,7 @@ impl CompletedMarker {
         if p.has_room() {
             match p.log.precede(node, kind) {
                 Ok(()) => {}
-                Err(_) => p.first = Some(ParseError::OutOfMemory),
+                Err(_) => p.first_reason = Some(ParseError::OutOfMemory),
             }
         }
         let made = Made::ByPrecede;
@@ -123,13 +123,13 @@ impl CompletedMarker {
     pub fn extend_to(self, p: &mut Parser<'_>, m: Marker) -> CompletedMarker
         requires node { HasNode p.old self }
         requires hole { HasHole p.old m }
-        requires older { Goes p.old → m.id < self.id }
+        requires older { HasNotFailed p.old → m.id < self.id }
         ensures node { result ≡ self }
         ensures changes { Changes p.old p.new (extended p.old.draft self m.id) }
     {
         let CompletedMarker { id: node, kind } = self;
         let Marker { id, made: _ } = m;
-        if p.first.is_none() {
+        if p.first_reason.is_none() {
             p.log.extend(node, id);
         }
         CompletedMarker { id: node, kind }

@@ -1,7 +1,7 @@
 //! Parts of a grammar that a parser is asked to run.
 ghost use Rattle.std.specs.Prelude.{◌≡◌};
-ghost use Rattle.squawk_event.specs.Draft.{holes_of};
-ghost use Rattle.squawk_parser.specs.State.{Goes, Keeps, limited, with_limit_of};
+ghost use Rattle.squawk_log.specs.Draft.{holes_of};
+ghost use Rattle.squawk_parser.specs.State.{HasNotFailed, Keeps, limited, with_limit_of};
 
 use crate::parser::Parser;
 
@@ -10,8 +10,8 @@ use crate::parser::Parser;
 /// It leaves open the markers that it found open, and no others.
 pub trait Part: Sized {
     ghost use Rattle.std.specs.Prelude.{◌≡◌};
-    ghost use Rattle.squawk_event.specs.Draft.{holes_of};
-    ghost use Rattle.squawk_parser.specs.State.{State, Goes, Keeps};
+    ghost use Rattle.squawk_log.specs.Draft.{holes_of};
+    ghost use Rattle.squawk_parser.specs.State.{State, HasNotFailed, Keeps};
 
     /// What a run answers.
     type Answer;
@@ -22,7 +22,7 @@ pub trait Part: Sized {
     /// Runs the part.
     fn run(self, p: &mut Parser<'_>) -> Self::Answer
         ensures keeps { Keeps p.old p.new }
-        ensures holes { Goes p.new → holes_of p.new.draft.items ≡ holes_of p.old.draft.items }
+        ensures holes { HasNotFailed p.new → holes_of p.new.draft.items ≡ holes_of p.old.draft.items }
         ensures does { does self p.old p.new result };
 }
 
@@ -31,7 +31,7 @@ impl Parser<'_> {
     /// stands already. Afterwards that limit stands again. Gives the part's answer.
     pub fn with_limit<F: Part>(&mut self, n: usize, f: F) -> F::Answer
         ensures keeps { Keeps self.old self.new }
-        ensures holes { Goes self.new → holes_of self.new.draft.items ≡ holes_of self.old.draft.items }
+        ensures holes { HasNotFailed self.new → holes_of self.new.draft.items ≡ holes_of self.old.draft.items }
         ensures does { F.does f (limited self.old n) (with_limit_of self.new (limited self.old n)) result }
     {
         let limit = self.limit;

@@ -2,17 +2,17 @@
 ghost use Rattle.std.specs.Prelude.{◌≡◌, ◌+◌, ◌<◌, ◌∷◌, [], string_bytes, IsTrue, IsSome, Some, IfOk, List, ℕ, not};
 ghost use Rattle.std.specs.Str.{chars};
 ghost use Rattle.squawk_table.specs.Shape.{AreOneToken};
-ghost use Rattle.squawk_table.specs.Steps.{Error};
-ghost use Rattle.squawk_event.specs.Draft.{errors_of};
-ghost use Rattle.squawk_event.specs.Edits.{with_token};
+ghost use Rattle.squawk_output.specs.Steps.{Error};
+ghost use Rattle.squawk_log.specs.Draft.{errors_of};
+ghost use Rattle.squawk_log.specs.Edits.{with_token};
 ghost use Rattle.squawk_parser.specs.Recorded.{Puts};
-ghost use Rattle.squawk_parser.specs.State.{Goes, Keeps, Records, ahead};
+ghost use Rattle.squawk_parser.specs.State.{HasNotFailed, Keeps, Records, ahead};
 ghost use Rattle.squawk_parser.specs.declared.parser.parse_error.ParseError.TheVariants.{TooManyEvents};
 
 use crate::parser::Parser;
 use crate::parser::parse_error::ParseError;
 use squawk_kinds::SyntaxKind;
-use squawk_table::Text;
+use squawk_output::Text;
 use std::alloc::AllocError;
 
 impl Parser<'_> {
@@ -26,7 +26,7 @@ impl Parser<'_> {
         if self.has_room() {
             match self.log.token(kind, n_input_tokens) {
                 Ok(()) => {}
-                Err(_) => self.first = Some(ParseError::OutOfMemory),
+                Err(_) => self.first_reason = Some(ParseError::OutOfMemory),
             }
         }
         self.position += n_input_tokens as usize;
@@ -34,19 +34,19 @@ impl Parser<'_> {
 
     /// Records an error, if memory was found for its text.
     pub(super) fn put_error(&mut self, text: Result<String, AllocError>)
-        requires goes { Goes self.old }
+        requires goes { HasNotFailed self.old }
         requires room { self.old.draft.recorded < self.old.max_events }
         requires errors { errors_of self.old.draft.items < self.old.max_errors }
         ensures keeps { Keeps self.old self.new }
         ensures puts { (msg : List ℕ) → IfOk text (λ s. chars (string_bytes s) ≡ msg) → Puts (Error msg ∷ []) self.old self.new }
     {
         let Ok(text) = text else {
-            self.first = Some(ParseError::OutOfMemory);
+            self.first_reason = Some(ParseError::OutOfMemory);
             return;
         };
         match self.log.error(Text::new(text)) {
             Ok(()) => {}
-            Err(_) => self.first = Some(ParseError::OutOfMemory),
+            Err(_) => self.first_reason = Some(ParseError::OutOfMemory),
         }
     }
 
@@ -55,15 +55,15 @@ impl Parser<'_> {
         ensures keeps { Keeps self.old self.new }
         ensures position { self.new.position ≡ self.old.position }
         ensures draft { self.new.draft ≡ self.old.draft }
-        ensures room { IsTrue result → (self.new ≡ self.old) × Goes self.old × (self.old.draft.recorded < self.old.max_events) }
-        ensures full { IsTrue (not result) → Records self.old self.new self.old.draft × IsSome self.new.first }
-        ensures refused { IsTrue (not result) → Goes self.old → (self.old.draft.recorded ≡ self.old.max_events) × (self.new.first ≡ Some TooManyEvents) }
+        ensures room { IsTrue result → (self.new ≡ self.old) × HasNotFailed self.old × (self.old.draft.recorded < self.old.max_events) }
+        ensures full { IsTrue (not result) → Records self.old self.new self.old.draft × IsSome self.new.first_reason }
+        ensures refused { IsTrue (not result) → HasNotFailed self.old → (self.old.draft.recorded ≡ self.old.max_events) × (self.new.first_reason ≡ Some TooManyEvents) }
     {
-        if self.first.is_some() {
+        if self.first_reason.is_some() {
             return false;
         }
         if self.log.recorded() == self.limits.events {
-            self.first = Some(ParseError::TooManyEvents);
+            self.first_reason = Some(ParseError::TooManyEvents);
             return false;
         }
         true
@@ -72,14 +72,14 @@ impl Parser<'_> {
     /// Whether one more error may be recorded. Where a limit is reached, the parser fails.
     pub(super) fn has_room_for_error(&mut self) -> bool
         ensures keeps { Keeps self.old self.new }
-        ensures room { IsTrue result → (self.new ≡ self.old) × Goes self.old × (self.old.draft.recorded < self.old.max_events) × (errors_of self.old.draft.items < self.old.max_errors) }
+        ensures room { IsTrue result → (self.new ≡ self.old) × HasNotFailed self.old × (self.old.draft.recorded < self.old.max_events) × (errors_of self.old.draft.items < self.old.max_errors) }
         ensures full { IsTrue (not result) → (msg : List ℕ) → Puts (Error msg ∷ []) self.old self.new }
     {
         if !self.has_room() {
             return false;
         }
         if self.log.errors() == self.limits.errors {
-            self.first = Some(ParseError::TooManyErrors);
+            self.first_reason = Some(ParseError::TooManyErrors);
             return false;
         }
         true

@@ -12,9 +12,9 @@ pub struct LexErrors<'a> {
 
 impl<'a> Model for LexErrors<'a> {
     ghost use Rattle.std.specs.Prelude.{List};
-    ghost use Rattle.squawk_tokens.specs.LexicalErrors.{Fault};
+    ghost use Rattle.squawk_tokens.specs.LexicalErrors.{LexicalError};
 
-    ghost Value = { List Fault };
+    ghost Value = { List LexicalError };
 
     ghost view = { λ e. e.errors.now };
 }

@@ -1,15 +1,13 @@
 //! The test whether an output can be sent over a table.
-ghost use Rattle.std.specs.Prelude.{◌≡◌, ◌+◌, ◌≤◌, ◌↔◌, IsTrue, SomeIff, length, map, take};
+ghost use Rattle.std.specs.Prelude.{◌≡◌, ◌+◌, ◌<◌, ◌≤◌, ◌^◌, ◌↔◌, IsTrue, SomeIff, length, take};
 ghost use Rattle.squawk_table.specs.ParserInput.{input_of};
 ghost use Rattle.squawk_table.specs.RawTable.{raw_after};
 ghost use Rattle.squawk_table.specs.Sent.{past_trivia, HasNoTrivia};
 ghost use Rattle.squawk_table.specs.Shape.{StandsInOneRoot, IsOver, Fits, no_keywords};
-ghost use Rattle.squawk_table.specs.StepViews.{stored_of};
-ghost use Rattle.squawk_table.specs.Steps.{without_errors};
+ghost use Rattle.squawk_output.specs.Steps.{without_errors};
 
 use crate::lexed_str::LexedStr;
-use crate::output::Output;
-use crate::output::stored::StoredStep;
+use squawk_output::{Output, Step, Steps};
 
 impl LexedStr<'_> {
     /// Whether the output can be sent over this table: errors aside, it is one node with all that
@@ -18,19 +16,18 @@ impl LexedStr<'_> {
     pub fn fits(&self, output: &Output) -> bool
         ensures { IsTrue result ↔ Fits self.now output.now.steps }
     {
-        let steps = output.steps();
-        stands_in_one_root(steps) && self.is_under(steps)
+        stands_in_one_root(output.iter()) && self.is_under(output.iter())
     }
 
     /// Whether each token of the steps has the next raw tokens that aren't trivia, at least one, and
     /// they touch one another.
-    fn is_under(&self, steps: &[StoredStep]) -> bool
-        ensures { IsTrue result ↔ IsOver (map stored_of steps.now) (input_of no_keywords self.now) }
+    fn is_under(&self, steps: Steps<'_>) -> bool
+        ensures { IsTrue result ↔ IsOver steps.entry (input_of no_keywords self.now) }
     {
         let mut place = 0;
         for step in steps {
-            if let StoredStep::Token { n_input_tokens, .. } = step {
-                match self.one_token(self.past_trivia(place), *n_input_tokens) {
+            if let Step::Token { n_input_tokens, .. } = step {
+                match self.one_token(self.past_trivia(place), n_input_tokens) {
                     Some(end) => place = end,
                     None => return false,
                 }
@@ -70,21 +67,22 @@ impl LexedStr<'_> {
 }
 
 /// Whether the steps, errors aside, are one node with all that it holds.
-fn stands_in_one_root(steps: &[StoredStep]) -> bool
-    ensures { IsTrue result ↔ StandsInOneRoot (without_errors (map stored_of steps.now)) }
+fn stands_in_one_root(steps: Steps<'_>) -> bool
+    requires { length steps < 2 ^ 64 }
+    ensures { IsTrue result ↔ StandsInOneRoot (without_errors steps.entry) }
 {
     let mut depth = 0usize;
     let mut has_root = false;
     for step in steps {
         match step {
-            StoredStep::Error { .. } => {}
-            StoredStep::Enter { .. } if depth > 0 => depth += 1,
-            StoredStep::Enter { .. } if !has_root => {
+            Step::Error { .. } => {}
+            Step::Enter { .. } if depth > 0 => depth += 1,
+            Step::Enter { .. } if !has_root => {
                 depth = 1;
                 has_root = true;
             }
-            StoredStep::Exit if depth > 0 => depth -= 1,
-            StoredStep::Token { .. } if depth > 0 => {}
+            Step::Exit if depth > 0 => depth -= 1,
+            Step::Token { .. } if depth > 0 => {}
             _ => return false,
         }
     }

@@ -1,8 +1,8 @@
 //! A list as a sink.
 ghost use Rattle.std.specs.Prelude.{◌≡◌, []};
 
-use crate::output::Text;
 use crate::shortcuts::str_step::{OwnedStep, StepSink, StrStep};
+use squawk_output::Text;
 use std::alloc::{AllocError, Global};
 use std::marker::Model;
 

@@ -1,8 +1,8 @@
 //! What is sent for an output over its text, and the trait of what it is sent to.
 ghost use Rattle.std.specs.Prelude.{List, [], ◌∷◌, ◌++◌, MatchResult};
 
-use crate::output::Text;
 use squawk_kinds::SyntaxKind;
+use squawk_output::Text;
 
 /// A step of a walk over a syntax tree, with the texts of its tokens.
 #[derive(Clone, Copy, Debug)]
@@ -31,7 +31,7 @@ pub enum OwnedStep {
 /// A sink may refuse a step. It then stands as before.
 pub trait StepSink {
     ghost use Rattle.squawk_table.specs.declared.shortcuts.str_step.OwnedStep.{OwnedStep};
-    ghost use Rattle.squawk_table.specs.StepViews.{owned_step_of};
+    ghost use Rattle.squawk_table.specs.SinkViews.{owned_step_of};
 
     /// Why a step was refused.
     type Refusal;

@@ -1,8 +1,9 @@
 use Rattle.std.proofs.Common.{◌≡◌, ◌≤◌, drop, length, vec_len, vec_capacity}
 use Rattle.std.specs.Prelude.{map}
 use Rattle.serde_json.specs.View.{view}
-use Rattle.squawk_json.specs.Values.{each, with_front}
+use Rattle.squawk_document.specs.Values.{each}
 use Rattle.squawk_document.specs.Calls.{call_in}
+use Rattle.squawk_document.proofs.ReadingLemmas.{with_front}
 use Rattle.squawk_document.proofs.calls.calls.Given as goal
 
 abbrev pub invariant-loop-item : goal.invariant-loop-item

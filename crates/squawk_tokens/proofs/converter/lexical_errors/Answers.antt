@@ -10,7 +10,7 @@ use Rattle.squawk_tokens.specs.AcceptedTokens.{start_of}
 use Rattle.squawk_tokens.specs.Continuation.{continued, continued_behind}
 use Rattle.squawk_tokens.specs.ErrorRanges.{StandApart}
 use Rattle.squawk_tokens.specs.Found.{Found, with_faults}
-use Rattle.squawk_tokens.specs.LexicalErrors.{Fault, shifted, token_faults, faults_from, lexical_errors}
+use Rattle.squawk_tokens.specs.LexicalErrors.{LexicalError, shifted, token_faults, faults_from, lexical_errors}
 use Rattle.squawk_tokens.proofs.StandApart.{stand_apart}
 use Rattle.squawk_tokens.proofs.converter.lexical_errors.Goals as goal
 
@@ -18,7 +18,7 @@ abbrev none : Token
 none = record { kind = Unknown; len = 0 }
 
 -- one token more: its errors are added, and those of the tokens behind it are left
-turn : (text : List ℕ) (tokens before : List Token) (at i : ℕ) (prefix : Option Prefix) (errors made all : List Fault) → i < length tokens → prefix ≡ continued before
+turn : (text : List ℕ) (tokens before : List Token) (at i : ℕ) (prefix : Option Prefix) (errors made all : List LexicalError) → i < length tokens → prefix ≡ continued before
     → errors ++ faults_from text before at (drop i tokens) ≡ all
     → let token = get_or tokens i none in made ≡ errors ++ map (shifted at) (token_faults token.kind (slice_range text at (at + token.len)) prefix)
     → made ++ faults_from text (token ∷ before) (at + token.len) (drop (i + 1) tokens) ≡ all
@@ -32,7 +32,7 @@ turn text tokens before at i prefix errors made all lt same whole is =
     ∙ (append_assoc errors (own (continued before)) rest ∙ (ap (λ fs. errors ++ fs) (sym split) ∙ whole)))
 
 -- behind the last token all are found
-all_found : (text : List ℕ) (tokens before : List Token) (at n : ℕ) (errors all : List Fault) → length tokens ≤ n → errors ++ faults_from text before at (drop n tokens) ≡ all → errors ≡ all
+all_found : (text : List ℕ) (tokens before : List Token) (at n : ℕ) (errors all : List LexicalError) → length tokens ≤ n → errors ++ faults_from text before at (drop n tokens) ≡ all → errors ≡ all
 all_found text tokens before at n errors all past whole =
     sym (ap (λ ts. errors ++ faults_from text before at ts) (drop_all n tokens past) ∙ append-nil errors) ∙ whole
 

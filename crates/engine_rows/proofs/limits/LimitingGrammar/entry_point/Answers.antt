@@ -5,9 +5,9 @@ use Rattle.engine_rows.proofs.limits.LimitingGrammar.entry_point.Goals as goal
 pub returns-clause-closed : goal.returns-clause-closed
 returns-clause-closed c goes =
     let fresh = HasHoles-fresh c.args.p.now c.requires.fresh in
-    let looked = HasHoles-part c.args.p.now c.with_limit-one.new.self [] fresh (λ goes. sym (ap (λ s. s.first) c.with_limit-one.ensures.does) ∙ goes) c.with_limit-one.ensures.holes in
+    let looked = HasHoles-part c.args.p.now c.with_limit-one.new.self [] fresh (λ goes. sym (ap (λ s. s.first_reason) c.with_limit-one.ensures.does) ∙ goes) c.with_limit-one.ensures.holes in
     let first = HasHoles-closed c.with_limit-one.new.self c.note.new.p looked c.note.ensures.went c.note.ensures.closed in
-    let looked_again = HasHoles-part c.note.new.p c.with_limit-two.new.self [] first (λ goes. sym (ap (λ s. s.first) c.with_limit-two.ensures.does) ∙ goes) c.with_limit-two.ensures.holes in
+    let looked_again = HasHoles-part c.note.new.p c.with_limit-two.new.self [] first (λ goes. sym (ap (λ s. s.first_reason) c.with_limit-two.ensures.does) ∙ goes) c.with_limit-two.ensures.holes in
     let second = HasHoles-closed c.with_limit-two.new.self c.note-2.new.p looked_again c.note-2.ensures.went c.note-2.ensures.closed in
     let ate = HasHoles-part c.note-2.new.p c.with_limit-position.new.self [] second c.with_limit-position.ensures.does c.with_limit-position.ensures.holes in
     let third = HasHoles-closed c.with_limit-position.new.self c.note-3.new.p ate c.note-3.ensures.went c.note-3.ensures.closed in

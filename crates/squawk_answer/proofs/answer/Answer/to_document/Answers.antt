@@ -7,7 +7,7 @@ use Rattle.squawk_table.specs.RawTable.{table_of}
 use Rattle.squawk_table.specs.Shape.{Fits}
 use Rattle.squawk_answer.specs.Answers.{Tells, parser_input, steps as steps_of, table_for}
 use Rattle.squawk_answer.specs.Fault.{fault_of_parse}
-use Rattle.squawk_lines.specs.Lines.{last_line, lex_lines}
+use Rattle.squawk_answer.specs.Lines.{last_line, lex_lines}
 use Rattle.squawk_answer.proofs.Answered.{fault-told, lines-told, named, none-refused, refusal-same, refusal-told, script_of, steps-told}
 use Rattle.squawk_answer.proofs.answer.Answer.to_document.Goals as goal
 

@@ -24,10 +24,10 @@ invariant_of-self c =
           let after = IsKept-with_token s c.args.kind n before can.goes can.room one in
           subst Goal (sym w.self-inside-is) (rw w.in-Ok.ensures.ok after.sound)
       | then-has_room+in-Err w ↦
-          let after = IsKept-past (record s { first = _ }) n (IsKept-failed s before) refl one in
+          let after = IsKept-past (record s { first_reason = _ }) n (IsKept-failed s before) refl one in
           subst Goal (sym w.self-inside-is) (rw w.in-Err.ensures.err after.sound)
       | else-has_room w ↦
           let failed = (w.if-has_room.ensures.full refl).1 in
-          let after = IsKept-past s n before (subst (λ t. IsSome t.first) (sym c.self.view_is) failed) one in
+          let after = IsKept-past s n before (subst (λ t. IsSome t.first_reason) (sym c.self.view_is) failed) one in
           subst Goal (sym w.self-inside-is) after.sound
     ]

@@ -4,7 +4,7 @@ use Rattle.squawk_kinds.specs.Kinds.{EOF}
 use Rattle.squawk_kinds.specs.TokenSets.{has}
 use Rattle.squawk_table.specs.ParserInput.{Entry, kind_in}
 use Rattle.squawk_table.specs.Shape.{AreOneToken}
-use Rattle.squawk_table.specs.Steps.{Token}
+use Rattle.squawk_output.specs.Steps.{Token}
 use Rattle.squawk_parser.specs.CompositeRows.{element_of, tail_of}
 use Rattle.squawk_parser.specs.Composites.{Glued, do_touch, stands_at}
 use Rattle.squawk_parser.specs.Eaten.{element_steps, node, row_of}

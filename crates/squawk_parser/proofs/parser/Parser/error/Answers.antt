@@ -1,7 +1,7 @@
 use Rattle.std.proofs.Common.{◌≡◌, string_bytes, ap, refl, subst, ◌∷◌, []}
 use Rattle.std.specs.Str.{chars}
 use Rattle.std.proofs.lemmas.Result.{IfOk-weaker}
-use Rattle.squawk_table.specs.Steps.{Error}
+use Rattle.squawk_output.specs.Steps.{Error}
 use Rattle.squawk_parser.specs.Recorded.{Puts}
 use Rattle.squawk_parser.specs.State.{State}
 use Rattle.squawk_parser.proofs.parser.Parser.error.Goals as goal

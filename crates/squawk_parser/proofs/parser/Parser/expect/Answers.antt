@@ -4,7 +4,7 @@ use Rattle.std.specs.Str.{chars}
 use Rattle.std.proofs.lemmas.Result.{IfOk-weaker}
 use Rattle.squawk_kinds.specs.TokenSets.{has}
 use Rattle.squawk_table.specs.ParserInput.{Entry}
-use Rattle.squawk_table.specs.Steps.{Error}
+use Rattle.squawk_output.specs.Steps.{Error}
 use Rattle.squawk_parser.specs.Composites.{stands_at}
 use Rattle.squawk_parser.specs.Eaten.{expect_steps, expected_text, name_in}
 use Rattle.squawk_parser.specs.Recorded.{Puts}

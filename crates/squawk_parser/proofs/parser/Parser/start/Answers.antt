@@ -1,5 +1,5 @@
 use Rattle.std.proofs.Common.{◌≡◌, ◌∙◌, ap, sym, refl, subst}
-use Rattle.squawk_event.specs.Draft.{IsAboveIds}
+use Rattle.squawk_log.specs.Draft.{IsAboveIds}
 use Rattle.squawk_parser.proofs.Soundness.{IsKept-started, IsKept-failed}
 use Rattle.squawk_parser.proofs.ParserViews.{seen, kept, has_room}
 use Rattle.squawk_parser.proofs.parser.Parser.start.Goals as goal

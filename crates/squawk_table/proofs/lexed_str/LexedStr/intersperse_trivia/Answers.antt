@@ -1,13 +1,11 @@
-use Rattle.std.proofs.Common.{◌≡◌, ◌∙◌, ◌+◌, ◌<◌, ◌≤◌, ℕ, Bool, List, length, map, get_or, slice_index, IsTrue, ap, sym, arith}
+use Rattle.std.proofs.Common.{◌≡◌, ◌∙◌, ◌+◌, ◌<◌, ◌≤◌, ℕ, Bool, List, length, get_or, slice_index, IsTrue, ap, sym, arith}
 use Rattle.std.specs.Prelude.{◌==◌}
 use Rattle.std.proofs.lemmas.Bool.{eqb-true, eq-eqb}
-use Rattle.std.proofs.lemmas.List.{length-map}
 use Rattle.std.proofs.lemmas.Result.{err_from_is_err_and}
 use Rattle.squawk_table.specs.RawTable.{Table, IsTable, raw_after, raw_tokens}
 use Rattle.squawk_table.specs.Sent.{errors_moved, is_receiver}
-use Rattle.squawk_table.specs.StepViews.{step_of, stored_of}
-use Rattle.squawk_table.specs.Steps as plain
-use Rattle.squawk_table.specs.declared.output.stored.StoredStep.{StoredStep}
+use Rattle.squawk_output.specs.StepViews.{step_of}
+use Rattle.squawk_output.specs.Steps as plain
 use Rattle.squawk_table.proofs.AllSent.{IsOverRaw-from_fits, root_moved, starts_at_end, all_eaten, end_if_eaten, beginning, whole_text, end_if_whole}
 use Rattle.squawk_table.proofs.ErrorsMoved.{length-moved}
 use Rattle.squawk_table.proofs.ReachedStep.{ReachedStep, reached_receiver, reached_other, stops_in_trivia, sends, took_step, stops_at_step}
@@ -23,13 +21,12 @@ loop-step-init g c = (
   tt,
   tt,
   SentSoFar-start c.args.self.now (errors_moved c.args.output.now.steps) c.new-steps.result (g.S.StepSink.stands_after c.args.sink.now)
-      (c.new-steps.ensures ∙ ap errors_moved c.steps.ensures),
+      (c.new-steps.ensures ∙ ap errors_moved c.iter.ensures.steps),
 )
 
 -- no walk has as many steps as a number of the code can count
-counted : (items : List StoredStep) (steps : List plain.Step) (depth : ℕ) → map stored_of items ≡ steps → length items < 18446744073709551616 → depth + 1 ≤ length (errors_moved steps)
-    → depth + 1 < 18446744073709551616
-counted items steps depth same low deep = omega (arith, length-map items stored_of, ap length same, length-moved steps)
+counted : (steps : List plain.Step) (depth : ℕ) → length steps < 18446744073709551616 → depth + 1 ≤ length (errors_moved steps) → depth + 1 < 18446744073709551616
+counted steps depth low deep = omega (arith, length-moved steps)
 
 pub depth_behind-depth-requires : goal.depth_behind-depth-requires
 depth_behind-depth-requires g c =
@@ -37,7 +34,7 @@ depth_behind-depth-requires g c =
     let stands = g.S.StepSink.stands_after in
     let so_far = c.loop-step.invariant.2 in
     let next = c.in-Some.ensures.steps in
-    counted c.steps.result.now c.args.output.now.steps c.loop-step.depth c.steps.ensures c.steps.type_inv.0
+    counted c.args.output.now.steps c.loop-step.depth c.iter.ensures.few
     (depth_low c.args.self.now moved c.loop-step.steps c.loop-step.place c.loop-step.depth (stands c.args.sink.now) (stands c.loop-step.sink) so_far (step_of c.in-Some.step) c.next.new.self next)
 
 -- ---- the step at hand

@@ -1,8 +1,8 @@
 use Rattle.std.proofs.Common.{◌≡◌, ◌+◌, ◌≤◌, ℕ, length, arith, subst}
 use Rattle.squawk_table.specs.RawTable.{Table}
 use Rattle.squawk_table.specs.Sending.{HasTokens}
-use Rattle.squawk_table.specs.StepViews.{step_of}
-use Rattle.squawk_table.specs.declared.output.step.Step.TheVariants.{the_data, Token}
+use Rattle.squawk_output.specs.StepViews.{step_of}
+use Rattle.squawk_output.specs.declared.output.step.Step.TheVariants.{the_data, Token}
 use Rattle.squawk_table.proofs.lexed_str.LexedStr.send_step.Goals as goal
 
 -- a token has its raw tokens

@@ -1,7 +1,5 @@
-use Rattle.std.proofs.Common.{map}
-use Rattle.squawk_table.specs.StepViews.{stored_of}
 use Rattle.squawk_table.proofs.RootSoFar.{RootSoFar}
 use Rattle.squawk_table.proofs.shortcuts.fit.stands_in_one_root.Given as goal
 
 abbrev pub invariant-loop-step : goal.invariant-loop-step
-invariant-loop-step l = RootSoFar (map stored_of l.steps) l.step-index l.depth l.has_root
+invariant-loop-step l = RootSoFar l.fn.steps l.step-iterator l.depth l.has_root

@@ -3,7 +3,7 @@ use Rattle.std.specs.Prelude.{codes, option_map}
 use Rattle.std.specs.Str.{chars}
 use Rattle.squawk_tokens.specs.EscapeUnits.{units}
 use Rattle.squawk_tokens.specs.Found.{Found, with_faults}
-use Rattle.squawk_tokens.specs.LexicalErrors.{Fault, short_escapes}
+use Rattle.squawk_tokens.specs.LexicalErrors.{LexicalError, short_escapes}
 use Rattle.squawk_tokens.proofs.ContentUnits.{escape_fault, turn_with, turn_without}
 use Rattle.squawk_tokens.proofs.FoundErrors.{with_more}
 use Rattle.squawk_tokens.proofs.converter.escapes.short_escapes.Goals as goal
@@ -17,7 +17,7 @@ same_fault found start end message hint wanted m h =
     ∙ ap (λ text. with_faults found (escape_fault start end text ∷ [])) h
 
 -- an error is added, and those of what stands behind it
-one_more : (found added : Found) (fault : Fault) (rest all : List Fault) → added ≡ with_faults found (fault ∷ []) → fault ∷ rest ≡ all
+one_more : (found added : Found) (fault : LexicalError) (rest all : List LexicalError) → added ≡ with_faults found (fault ∷ []) → fault ∷ rest ≡ all
     → with_faults added rest ≡ with_faults found all
 one_more found added fault rest all is e =
     ap (λ f. with_faults f rest) is ∙ (with_more found (fault ∷ []) rest ∙ ap (λ fs. with_faults found fs) e)

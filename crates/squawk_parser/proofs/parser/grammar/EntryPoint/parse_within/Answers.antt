@@ -1,7 +1,7 @@
 use Rattle.std.proofs.Common.{◌≡◌, ◌∙◌, ◌≤◌, ap, sym, subst, arith}
 use Rattle.std.proofs.lemmas.Result.{IfOk-weaker}
-use Rattle.squawk_table.specs.Steps.{Walk, errors_in}
-use Rattle.squawk_event.specs.Draft.{plain}
+use Rattle.squawk_output.specs.Steps.{Walk, errors_in}
+use Rattle.squawk_log.specs.Draft.{plain}
 use Rattle.squawk_parser.specs.State.{State, Keeps, IsSound}
 use Rattle.squawk_parser.proofs.RecordedItems.{errors-plain}
 use Rattle.squawk_parser.proofs.parser.grammar.EntryPoint.parse_within.Goals as goal

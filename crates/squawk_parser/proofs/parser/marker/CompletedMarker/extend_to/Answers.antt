@@ -1,9 +1,9 @@
 use Rattle.std.proofs.Common.{◌≡◌, ◌∙◌, ap, sym, subst}
 use Rattle.std.specs.Prelude.{true, Contains}
-use Rattle.squawk_event.specs.Draft.{Draft, Hole, Open, Mark, Node}
-use Rattle.squawk_event.specs.LogDraft.{made_of}
-use Rattle.squawk_event.specs.Edits.{extended}
-use Rattle.squawk_parser.specs.State.{State, Goes}
+use Rattle.squawk_log.specs.Draft.{Draft, Hole, Open, Mark, Node}
+use Rattle.squawk_log.specs.LogDraft.{made_of}
+use Rattle.squawk_log.specs.Edits.{extended}
+use Rattle.squawk_parser.specs.State.{State, HasNotFailed}
 use Rattle.squawk_parser.proofs.SoundExtended.{IsKept-extended}
 use Rattle.squawk_parser.proofs.ParserViews.{seen, kept, goes_on, Changes-edited, Changes-failed}
 use Rattle.squawk_parser.proofs.parser.marker.CompletedMarker.extend_to.Goals as goal
@@ -12,8 +12,8 @@ use Rattle.squawk_parser.proofs.parser.marker.CompletedMarker.extend_to.Goals.{t
 pub invariant_of-p : goal.invariant_of-p
 invariant_of-p c =
     let s = seen c.p.inside in
-    let goes : Goes s = goes_on s (c.if-is_none.ensures) in
-    let went : Goes c.args.p.now = subst Goes c.p.view_is goes in
+    let goes : HasNotFailed s = goes_on s (c.if-is_none.ensures) in
+    let went : HasNotFailed c.args.p.now = subst HasNotFailed c.p.view_is goes in
     let node : Node = record { id = c.self.inside.id; kind = c.self.inside.kind } in
     let m : Mark = record { id = c.m.inside.id; made = made_of c.m.inside.made c.m.inside.id } in
     let HasNode : State → Node → Type 0 = λ t m. Contains t.draft.items (Open m.id m.kind true) in
@@ -34,10 +34,10 @@ returns-clause-changes c =
     ∙ (ap (λ node. extended c.args.p.now.draft node c.m.inside.id) c.self.view_is ∙ ap (λ m. extended c.args.p.now.draft c.args.self m.id) c.m.view_is) in
     elim c.if-is_none.branch [
       | then-is_none w ↦
-          let goes : Goes s = goes_on s (w.if-is_none.ensures) in
+          let goes : HasNotFailed s = goes_on s (w.if-is_none.ensures) in
           let Has : State → Node → Type 0 = λ t m. Contains t.draft.items (Open m.id m.kind true) in
           let there = subst (λ t. Has t (record { id = c.self.inside.id; kind = c.self.inside.kind })) (sym c.p.view_is)
-          (subst (Has c.args.p.now) (sym c.self.view_is) (c.requires.node (subst Goes c.p.view_is goes))) in
+          (subst (Has c.args.p.now) (sym c.self.view_is) (c.requires.node (subst HasNotFailed c.p.view_is goes))) in
           Changes-edited c.args.p.now s c.if-is_none.p edited c.p.view_is goes
           (w.p-is ∙ ap {A = Draft} (λ d. record s { draft = d }) (w.extend.ensures c.self.inside.kind there ∙ same))
       | else-is_none w ↦ Changes-failed c.args.p.now s c.if-is_none.p edited c.p.view_is (w.if-is_none.ensures) w.p-is

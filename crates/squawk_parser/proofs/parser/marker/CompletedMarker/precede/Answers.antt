@@ -1,6 +1,6 @@
 use Rattle.std.proofs.Common.{◌≡◌, ◌∙◌, ap, sym, refl, subst}
 use Rattle.std.specs.Prelude.{true, Contains}
-use Rattle.squawk_event.specs.Draft.{IsAboveIds, Node, Open}
+use Rattle.squawk_log.specs.Draft.{IsAboveIds, Node, Open}
 use Rattle.squawk_parser.specs.State.{State}
 use Rattle.squawk_parser.proofs.Soundness.{IsKept-failed}
 use Rattle.squawk_parser.proofs.SoundMoves.{IsKept-preceded}

@@ -1,7 +1,7 @@
 use Rattle.std.proofs.Common.{◌≡◌, ◌∙◌, ℕ, sym, refl, subst}
 use Rattle.std.specs.Prelude.{Contains}
-use Rattle.squawk_event.specs.Draft.{Hole, Made}
-use Rattle.squawk_event.specs.LogDraft.{made_of}
+use Rattle.squawk_log.specs.Draft.{Hole, Made}
+use Rattle.squawk_log.specs.LogDraft.{made_of}
 use Rattle.squawk_parser.specs.State.{State}
 use Rattle.squawk_parser.proofs.Soundness.{IsKept-completed, IsKept-failed}
 use Rattle.squawk_parser.proofs.ParserViews.{seen, kept, has_room}

@@ -1,0 +1,36 @@
+//! What the program does with a run, and how it ends.
+ghost use Rattle.std.specs.Prelude.{◌≡◌, ◌≢◌, ℕ, List, Ok, Err, IfSome};
+ghost use Rattle.std.specs.Io.KnownBytes.{Appends};
+ghost use Rattle.std.specs.Process.{exit_status};
+ghost use Rattle.squawk_answer.specs.Answers.{IsAnswer};
+ghost use Rattle.squawk_answer.specs.Fault.{status_of};
+
+use crate::fault::Fault;
+use crate::running::run;
+use std::alloc::Global;
+use std::io::{Read, Write};
+use std::process::ExitCode;
+
+/// Runs, and ends with success, or with the status of a fault, whose line it prints. A line that
+/// can't be printed changes nothing.
+pub fn program<R: Read, W: Write, E: Write>(
+    alloc: Global,
+    reader: &mut R,
+    writer: &mut W,
+    error_writer: &mut E,
+) -> ExitCode
+    ensures success { exit_status result ≡ 0 → IfSome (R.remaining reader.old) (λ input. (text : List ℕ)
+        × IsAnswer input (Ok text) × Appends (W.contents writer.old) (W.contents writer.new) text) }
+    ensures silent { exit_status result ≡ 0 → error_writer.new ≡ error_writer.old }
+    ensures failure { exit_status result ≢ 0 → (fault : Fault) × (exit_status result ≡ status_of fault)
+        × IfSome (R.remaining reader.old) (λ input. IsAnswer input (Err fault))
+        × (fault ≢ Fault.Io → writer.new ≡ writer.old) }
+{
+    match run(alloc, reader, writer) {
+        Ok(()) => ExitCode::SUCCESS,
+        Err(fault) => {
+            let _ = writeln!(error_writer, "{fault}");
+            ExitCode::from(fault.status())
+        }
+    }
+}

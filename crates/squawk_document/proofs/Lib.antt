@@ -1,0 +1,4 @@
+mod KindSets
+mod ReadingLemmas
+mod Values
+mod KeywordPairLemmas

@@ -1,0 +1,49 @@
+//! The raw tokens of a document.
+ghost use Rattle.std.specs.Prelude.{map};
+ghost use Rattle.serde_json.specs.View.{view};
+ghost use Rattle.squawk_document.specs.Values.{Gives};
+ghost use Rattle.squawk_document.specs.TokenShapes.{spelled_token, token_in, tokens_in};
+
+mod field;
+mod kind;
+
+use crate::document_error::DocumentError;
+use crate::token::kind::kind;
+use crate::value::{items, string, u32_of};
+use serde_json::Value;
+use squawk_tokens::Token;
+use std::alloc::Global;
+
+/// The tokens of a list of lists.
+pub fn tokens(alloc: Global, value: &Value) -> Result<Vec<Token>, DocumentError>
+    ensures { Gives (λ v. v.items) result (tokens_in (view value.now)) }
+{
+    let items = items(value)?;
+    let mut tokens = Vec::with_capacity(alloc, items.len())?;
+    for item in items {
+        tokens.push_reserved(token(item)?);
+    }
+    Ok(tokens)
+}
+
+/// The token that a list spells.
+pub fn token(value: &Value) -> Result<Token, DocumentError>
+    ensures { Gives (λ t. t) result (token_in (view value.now)) }
+{
+    spelled_token(items(value)?)
+}
+
+/// A spelling, a length and fields.
+fn spelled_token(items: &[Value]) -> Result<Token, DocumentError>
+    ensures { Gives (λ t. t) result (spelled_token (map view items.now)) }
+{
+    match items {
+        [spelling, len, fields @ ..] => {
+            let word = string(spelling)?;
+            let len = u32_of(len)?;
+            let kind = kind(word, fields)?;
+            Ok(Token { kind, len })
+        }
+        _ => Err(DocumentError::Shape),
+    }
+}

@@ -1,0 +1,33 @@
+//! The fields of raw tokens.
+ghost use Rattle.serde_json.specs.View.{view};
+ghost use Rattle.squawk_document.specs.Values.{Gives};
+ghost use Rattle.squawk_document.specs.TokenShapes.{base_in, place_in};
+
+use crate::document_error::DocumentError;
+use crate::value::u32_of;
+use serde_json::Value;
+use squawk_tokens::Base;
+
+/// A place, or `None` at null.
+pub fn place(value: &Value) -> Result<Option<u32>, DocumentError>
+    ensures { Gives (λ n. n) result (place_in (view value.now)) }
+{
+    if value.is_null() {
+        Ok(None)
+    } else {
+        Ok(Some(u32_of(value)?))
+    }
+}
+
+/// The base of an integer, as a number.
+pub fn base(value: &Value) -> Result<Base, DocumentError>
+    ensures { Gives (λ b. b) result (base_in (view value.now)) }
+{
+    match u32_of(value)? {
+        2 => Ok(Base::Binary),
+        8 => Ok(Base::Octal),
+        10 => Ok(Base::Decimal),
+        16 => Ok(Base::Hexadecimal),
+        _ => Err(DocumentError::Shape),
+    }
+}

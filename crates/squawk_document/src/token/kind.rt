@@ -1,0 +1,137 @@
+//! The kinds of raw tokens, by their spellings and fields.
+ghost use Rattle.std.specs.Prelude.{map};
+ghost use Rattle.serde_json.specs.View.{view};
+ghost use Rattle.squawk_document.specs.Values.{Gives};
+ghost use Rattle.squawk_document.specs.TokenShapes.{kind_in, kind_of_one, kind_of_three, kind_of_two, plain_kind, quoted_literal};
+
+use crate::document_error::DocumentError;
+use crate::token::field::{base, place};
+use crate::value::{boolean, u32_of};
+use serde_json::Value;
+use squawk_tokens::{LiteralKind, TokenKind};
+
+/// The kind that is spelled, with all its fields and nothing behind them.
+pub fn kind(word: &str, fields: &[Value]) -> Result<TokenKind, DocumentError>
+    ensures { Gives (λ k. k) result (kind_in word.now (map view fields.now)) }
+{
+    match fields {
+        [] => plain_kind(word),
+        [a] => kind_of_one(word, a),
+        [a, b] => kind_of_two(word, a, b),
+        [a, b, c] => kind_of_three(word, a, b, c),
+        _ => Err(DocumentError::Shape),
+    }
+}
+
+/// A kind without fields.
+fn plain_kind(word: &str) -> Result<TokenKind, DocumentError>
+    ensures { Gives (λ k. k) result (plain_kind word.now) }
+{
+    match word {
+        "unknown" => Ok(TokenKind::Unknown),
+        "line_comment" => Ok(TokenKind::LineComment),
+        "whitespace" => Ok(TokenKind::Whitespace),
+        "ident" => Ok(TokenKind::Ident),
+        "semi" => Ok(TokenKind::Semi),
+        "comma" => Ok(TokenKind::Comma),
+        "dot" => Ok(TokenKind::Dot),
+        "dot_dot" => Ok(TokenKind::DotDot),
+        "open_paren" => Ok(TokenKind::OpenParen),
+        "close_paren" => Ok(TokenKind::CloseParen),
+        "open_bracket" => Ok(TokenKind::OpenBracket),
+        "close_bracket" => Ok(TokenKind::CloseBracket),
+        "open_curly" => Ok(TokenKind::OpenCurly),
+        "close_curly" => Ok(TokenKind::CloseCurly),
+        "at" => Ok(TokenKind::At),
+        "pound" => Ok(TokenKind::Pound),
+        "tilde" => Ok(TokenKind::Tilde),
+        "question" => Ok(TokenKind::Question),
+        "colon" => Ok(TokenKind::Colon),
+        "eq" => Ok(TokenKind::Eq),
+        "bang" => Ok(TokenKind::Bang),
+        "lt" => Ok(TokenKind::Lt),
+        "gt" => Ok(TokenKind::Gt),
+        "minus" => Ok(TokenKind::Minus),
+        "and" => Ok(TokenKind::And),
+        "or" => Ok(TokenKind::Or),
+        "plus" => Ok(TokenKind::Plus),
+        "star" => Ok(TokenKind::Star),
+        "slash" => Ok(TokenKind::Slash),
+        "caret" => Ok(TokenKind::Caret),
+        "percent" => Ok(TokenKind::Percent),
+        "backtick" => Ok(TokenKind::Backtick),
+        "eof" => Ok(TokenKind::Eof),
+        _ => Err(DocumentError::Shape),
+    }
+}
+
+/// A kind with one field.
+fn kind_of_one(word: &str, a: &Value) -> Result<TokenKind, DocumentError>
+    ensures { Gives (λ k. k) result (kind_of_one word.now (view a.now)) }
+{
+    match word {
+        "block_comment" => Ok(TokenKind::BlockComment {
+            terminated: boolean(a)?,
+        }),
+        "psql_command" => Ok(TokenKind::PsqlCommand {
+            ends_query: boolean(a)?,
+        }),
+        "positional_param" => Ok(TokenKind::PositionalParam {
+            trailing_junk_start: u32_of(a)?,
+        }),
+        _ => Ok(TokenKind::Literal {
+            kind: quoted_literal(word, boolean(a)?)?,
+        }),
+    }
+}
+
+/// A literal that says only whether it is terminated.
+fn quoted_literal(word: &str, terminated: bool) -> Result<LiteralKind, DocumentError>
+    ensures { Gives (λ k. k) result (quoted_literal word.now terminated) }
+{
+    match word {
+        "str" => Ok(LiteralKind::Str { terminated }),
+        "national_str" => Ok(LiteralKind::NationalStr { terminated }),
+        "byte_str" => Ok(LiteralKind::ByteStr { terminated }),
+        "bit_str" => Ok(LiteralKind::BitStr { terminated }),
+        "dollar_quoted_string" => Ok(LiteralKind::DollarQuotedString { terminated }),
+        "unicode_esc_str" => Ok(LiteralKind::UnicodeEscStr { terminated }),
+        "esc_str" => Ok(LiteralKind::EscStr { terminated }),
+        _ => Err(DocumentError::Shape),
+    }
+}
+
+/// A kind with two fields.
+fn kind_of_two(word: &str, a: &Value, b: &Value) -> Result<TokenKind, DocumentError>
+    ensures { Gives (λ k. k) result (kind_of_two word.now (view a.now) (view b.now)) }
+{
+    match word {
+        "quoted_ident" => Ok(TokenKind::QuotedIdent {
+            terminated: boolean(a)?,
+            uescape: boolean(b)?,
+        }),
+        "numeric" => Ok(TokenKind::Literal {
+            kind: LiteralKind::Numeric {
+                empty_exponent_start: place(a)?,
+                trailing_junk_start: u32_of(b)?,
+            },
+        }),
+        _ => Err(DocumentError::Shape),
+    }
+}
+
+/// The one kind with three fields.
+fn kind_of_three(word: &str, a: &Value, b: &Value, c: &Value) -> Result<TokenKind, DocumentError>
+    ensures { Gives (λ k. k) result (kind_of_three word.now (view a.now) (view b.now) (view c.now)) }
+{
+    match word {
+        "int" => Ok(TokenKind::Literal {
+            kind: LiteralKind::Int {
+                empty_int: boolean(a)?,
+                base: base(b)?,
+                trailing_junk_start: u32_of(c)?,
+            },
+        }),
+        _ => Err(DocumentError::Shape),
+    }
+}

@@ -1,0 +1,104 @@
+//! What is read of a JSON value.
+ghost use Rattle.std.specs.Prelude.{◌≡◌, ℕ, map};
+ghost use Rattle.serde_json.specs.View.{view};
+ghost use Rattle.squawk_document.specs.Values.{Gives, bool_in, has_members, item_at, items_in, member_in, number_in, pair_in, string_in, u32_in, value_of, with_len};
+
+use crate::document_error::DocumentError;
+use serde_json::Value;
+use std::alloc::Global;
+
+/// The value that the bytes are.
+pub fn parse(alloc: Global, input: &[u8]) -> Result<Value, DocumentError>
+    ensures { Gives (λ v. view v) result (value_of input.now) }
+{
+    match Value::from_slice(alloc, input) {
+        Ok(value) => Ok(value),
+        Err(e) if e.is_memory() => Err(DocumentError::OutOfMemory),
+        Err(_) => Err(DocumentError::Json),
+    }
+}
+
+/// An object with as many members as this.
+pub fn with_members(value: &Value, n: usize) -> Result<&Value, DocumentError>
+    ensures { Gives (λ v. view v.now) result (has_members n (view value.now)) }
+{
+    let members = value.as_object().ok_or(DocumentError::Shape)?;
+    if members.len() != n {
+        return Err(DocumentError::Shape);
+    }
+    Ok(value)
+}
+
+/// The member of an object at a key.
+pub fn member<'v>(value: &'v Value, key: &str) -> Result<&'v Value, DocumentError>
+    ensures { Gives (λ v. view v.now) result (member_in key.now (view value.now)) }
+{
+    value.get(key).ok_or(DocumentError::Shape)
+}
+
+/// The items of an array.
+pub fn items(value: &Value) -> Result<&[Value], DocumentError>
+    ensures { Gives (λ vs. map view vs.now) result (items_in (view value.now)) }
+{
+    let items = value.as_array().ok_or(DocumentError::Shape)?;
+    Ok(items.as_slice())
+}
+
+/// A list of as many items as this.
+pub fn with_len(items: &[Value], n: usize) -> Result<&[Value], DocumentError>
+    ensures { Gives (λ vs. map view vs.now) result (with_len n (map view items.now)) }
+{
+    if items.len() != n {
+        return Err(DocumentError::Shape);
+    }
+    Ok(items)
+}
+
+/// Item i of a list.
+pub fn item(items: &[Value], i: usize) -> Result<&Value, DocumentError>
+    ensures { Gives (λ v. view v.now) result (item_at (map view items.now) i) }
+{
+    items.get(i).ok_or(DocumentError::Shape)
+}
+
+/// The items of a list of two.
+pub fn pair(value: &Value) -> Result<(&Value, &Value), DocumentError>
+    ensures { Gives (λ p. (view p.0.now, view p.1.now)) result (pair_in (view value.now)) }
+{
+    let items = with_len(items(value)?, 2)?;
+    let first = item(items, 0)?;
+    let second = item(items, 1)?;
+    Ok((first, second))
+}
+
+/// A whole number from `low` to `high`.
+pub fn number(value: &Value, low: u64, high: u64) -> Result<u64, DocumentError>
+    ensures { Gives (λ n. n) result (number_in low high (view value.now)) }
+{
+    match value.as_u64() {
+        Some(n) if (low..=high).contains(&n) => Ok(n),
+        _ => Err(DocumentError::Shape),
+    }
+}
+
+/// A number of 32 bits.
+pub fn u32_of(value: &Value) -> Result<u32, DocumentError>
+    ensures { Gives (λ n. n) result (u32_in (view value.now)) }
+{
+    let n = number(value, 0, u64::from(u32::MAX))?;
+    Ok(n as u32)
+}
+
+/// A string.
+pub fn string(value: &Value) -> Result<&str, DocumentError>
+    ensures { Gives (λ s. s.now) result (string_in (view value.now)) }
+{
+    value.as_str().ok_or(DocumentError::Shape)
+}
+
+/// True or false.
+pub fn boolean(value: &Value) -> Result<bool, DocumentError>
+    ensures { Gives (λ b. b) result (bool_in (view value.now)) }
+{
+    value.as_bool().ok_or(DocumentError::Shape)
+}

@@ -1,8 +1,0 @@
-use Rattle.std.proofs.Common.{ap}
-use Rattle.squawk_event.proofs.EnteredBack.{Enters-next}
-use Rattle.squawk_event.proofs.event.enter_all.Goals as goal
-
-pub loop-kind-preserved : goal.loop-kind-preserved
-loop-kind-preserved c =
-    Enters-next c.args.kinds.now.items c.loop-kind.kinds.items c.pop.new.self.items c.args.output.now c.loop-kind.output c.enter.new.output c.in-Some.kind c.in-Some.ensures.items
-    (ap (λ w. w.steps) c.in_ok-enter.ensures) (ap (λ w. w.turns) c.in_ok-enter.ensures) (ap (λ w. w.recorded) c.in_ok-enter.ensures) c.loop-kind.invariant

@@ -1,9 +1,0 @@
-use Rattle.std.proofs.Common.{length}
-use Rattle.squawk_event.specs.Pass.{Enters}
-use Rattle.squawk_event.proofs.event.enter_all.Given as goal
-
-abbrev pub invariant-loop-kind : goal.invariant-loop-kind
-invariant-loop-kind l = Enters l.initial.kinds.items l.initial.output l.kinds.items l.output
-
-abbrev pub decreases-loop-kind : goal.decreases-loop-kind
-decreases-loop-kind l = length l.kinds.items

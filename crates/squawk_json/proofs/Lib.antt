@@ -1,4 +1,0 @@
-mod KindSets
-mod ReadingLemmas
-mod Values
-mod WordPairLemmas

@@ -1,0 +1,14 @@
+pub mod Owners
+pub mod Groups
+pub mod LogItems
+pub mod LogEdits
+pub mod StandsBefore
+pub mod ExtendedLog
+pub mod PlainLog
+pub mod GrownLog
+pub mod EditedErrors
+pub mod EditedLog
+pub mod AbandonedLog
+pub mod IdsBelow
+pub mod FoundHoles
+pub mod Examples

@@ -1,0 +1,241 @@
+-- From where a place is reached, and who owns it.
+use Rattle.std.proofs.Common.{◌≡◌, ◌≢◌, ◌∙◌, ◌⊎◌, ℕ, zero, suc, ◌+◌, ◌-◌, ◌<◌, ◌≤◌, Bool, true, false, Some, None, Option, [], ◌∷◌, ◌++◌, length, get_or, set, refl, sym, ap, arith, if◌then◌else◌, inl, inr}
+use Rattle.std.proofs.Math.Nat.{eq-or-lt_of_le}
+use Rattle.std.proofs.lemmas.Bool.{cases_order}
+use Rattle.squawk_output.specs.declared.event.Event.{Event}
+use Rattle.squawk_output.specs.declared.event.Event.TheVariants.{Start, Finish, Token, Error}
+use Rattle.squawk_output.specs.EventLog.{Lands, LinksLead, Log, ahead, leads, least, owner, reaches}
+use Rattle.squawk_output.proofs.Links.{is_start_at-within}
+use Rattle.squawk_output.proofs.Peel.{least-same}
+
+pub not_both : (b : Bool) → b ≡ true → b ≡ false → ⊥
+not_both b e h = absurd (cc)
+
+-- ---- reaching
+
+leads-both : (link : Option ℕ) (p q : ℕ → Bool) (R : Type 0) → leads link p ≡ true → leads link q ≡ true → ((n : ℕ) → p n ≡ true → q n ≡ true → R) → R
+leads-both None p q R a b go = absurd (cc)
+leads-both (Some n) p q R a b go = go n a b
+
+pub leads-same : (link : Option ℕ) (p q : ℕ → Bool) → ((n : ℕ) → p n ≡ q n) → leads link p ≡ leads link q
+leads-same None p q same = refl
+leads-same (Some n) p q same = same n
+
+pub reaches-itself : (log : Log) (i : ℕ) → i < length log → reaches log i i ≡ true
+reaches-itself [] i lt = absurd (omega arith)
+reaches-itself (x ∷ xs) zero lt = refl
+reaches-itself (x ∷ xs) (suc i) lt = reaches-itself xs i (omega arith)
+
+-- of two places that one reaches, the nearer reaches the farther
+reaches-between : (log : Log) (i m j : ℕ) → reaches log i m ≡ true → reaches log i j ≡ true → m ≤ j → reaches log m j ≡ true
+reaches-between [] i m j a b le = absurd (cc)
+reaches-between (x ∷ xs) zero zero j a b le = b
+reaches-between (x ∷ xs) zero (suc m) zero a b le = absurd (omega arith)
+reaches-between (x ∷ xs) zero (suc m) (suc j) a b le =
+    leads-both (ahead x) (λ n. reaches xs n m) (λ n. reaches xs n j) (reaches xs m j ≡ true) a b (λ n c d. reaches-between xs n m j c d (omega arith))
+reaches-between (x ∷ xs) (suc i) zero j a b le = absurd (cc)
+reaches-between (x ∷ xs) (suc i) (suc m) zero a b le = absurd (cc)
+reaches-between (x ∷ xs) (suc i) (suc m) (suc j) a b le = reaches-between xs i m j a b (omega arith)
+
+-- an event without a link reaches itself alone
+reaches-alone : (log : Log) (m j : ℕ) (d : Event) → ahead (get_or log m d) ≡ None → reaches log m j ≡ true → j ≡ m
+reaches-alone [] m j d none h = absurd (cc)
+reaches-alone (x ∷ xs) zero zero d none h = refl
+reaches-alone (x ∷ xs) zero (suc j) d none h = let there = rw none at h in absurd (cc)
+reaches-alone (x ∷ xs) (suc m) zero d none h = absurd (cc)
+reaches-alone (x ∷ xs) (suc m) (suc j) d none h = ap suc (reaches-alone xs m j d none h)
+
+-- ---- one event more at the end
+
+reaches-push : (log : Log) (x : Event) (i j : ℕ) → j < length log → reaches (log ++ x ∷ []) i j ≡ reaches log i j
+reaches-push [] x i j lt = absurd (omega arith)
+reaches-push (y ∷ ys) x zero zero lt = refl
+reaches-push (y ∷ ys) x zero (suc j) lt = leads-same (ahead y) (λ n. reaches (ys ++ x ∷ []) n j) (λ n. reaches ys n j) (λ n. reaches-push ys x n j (omega arith))
+reaches-push (y ∷ ys) x (suc i) zero lt = refl
+reaches-push (y ∷ ys) x (suc i) (suc j) lt = reaches-push ys x i j (omega arith)
+
+leads-nowhere : (y : Event) (ys : Log) (p : ℕ → Bool) → Lands y ys → ((n : ℕ) → n < length ys → p n ≡ false) → leads (ahead y) p ≡ false
+leads-nowhere (Start kind None) ys p lands none = refl
+leads-nowhere (Start kind (Some distance)) ys p lands none = none (distance - 1) (is_start_at-within ys (distance - 1) lands.1)
+leads-nowhere Finish ys p lands none = refl
+leads-nowhere (Token kind n) ys p lands none = refl
+leads-nowhere (Error text) ys p lands none = refl
+
+-- no link leads there
+pub reaches-last : (log : Log) (x : Event) (i : ℕ) → LinksLead log → i < length log → reaches (log ++ x ∷ []) i (length log) ≡ false
+reaches-last [] x i links lt = absurd (omega arith)
+reaches-last (y ∷ ys) x zero links lt = leads-nowhere y ys (λ n. reaches (ys ++ x ∷ []) n (length ys)) links.0 (λ n k. reaches-last ys x n links.1 k)
+reaches-last (y ∷ ys) x (suc i) links lt = reaches-last ys x i links.1 (omega arith)
+
+-- ---- a new link, from a place that had none
+
+or_else_false : (b : Bool) → b ≡ (if b then true else false)
+or_else_false true = refl
+or_else_false false = refl
+
+false_either_way : (b : Bool) → false ≡ (if b then false else false)
+false_either_way true = refl
+false_either_way false = refl
+
+leads-or : (link : Option ℕ) (p q r : ℕ → Bool) (s : Bool) → ((n : ℕ) → p n ≡ (if q n then true else if r n then s else false))
+    → leads link p ≡ (if leads link q then true else if leads link r then s else false)
+leads-or None p q r s same = refl
+leads-or (Some n) p q r s same = same n
+
+-- what reaches the place reaches also what the link leads to
+reaches-linked : (log : Log) (m c d : ℕ) (y z : Event) → c ≡ m + suc d → ahead (get_or log m z) ≡ None → ahead y ≡ Some d → m < length log → (i j : ℕ)
+    → reaches (set log m y) i j ≡ (if reaches log i j then true else if reaches log i m then reaches log c j else false)
+reaches-linked [] m c d y z far none some lt i j = absurd (omega arith)
+reaches-linked (x ∷ xs) m zero d y z far none some lt i j = absurd (omega arith)
+reaches-linked (x ∷ xs) zero (suc c) d y z far none some lt zero zero = refl
+reaches-linked (x ∷ xs) zero (suc c) d y z far none some lt zero (suc j) = let same : c ≡ d = omega arith in rw (none, some, same) refl
+reaches-linked (x ∷ xs) zero (suc c) d y z far none some lt (suc i) zero = refl
+reaches-linked (x ∷ xs) zero (suc c) d y z far none some lt (suc i) (suc j) = or_else_false (reaches xs i j)
+reaches-linked (x ∷ xs) (suc m) (suc c) d y z far none some lt zero zero = refl
+reaches-linked (x ∷ xs) (suc m) (suc c) d y z far none some lt zero (suc j) =
+    leads-or (ahead x) (λ n. reaches (set xs m y) n j) (λ n. reaches xs n j) (λ n. reaches xs n m) (reaches xs c j)
+    (λ n. reaches-linked xs m c d y z (omega arith) none some (omega arith) n j)
+reaches-linked (x ∷ xs) (suc m) (suc c) d y z far none some lt (suc i) zero = false_either_way (reaches xs i m)
+reaches-linked (x ∷ xs) (suc m) (suc c) d y z far none some lt (suc i) (suc j) = reaches-linked xs m c d y z (omega arith) none some (omega arith) i j
+
+-- ---- the same link
+
+reaches-kept : (log : Log) (m : ℕ) (y d : Event) → ahead y ≡ ahead (get_or log m d) → (i j : ℕ) → reaches (set log m y) i j ≡ reaches log i j
+reaches-kept [] m y d e i j = refl
+reaches-kept (x ∷ xs) zero y d e zero zero = refl
+reaches-kept (x ∷ xs) zero y d e zero (suc j) = ap (λ link. leads link (λ n. reaches xs n j)) e
+reaches-kept (x ∷ xs) zero y d e (suc i) zero = refl
+reaches-kept (x ∷ xs) zero y d e (suc i) (suc j) = refl
+reaches-kept (x ∷ xs) (suc m) y d e zero zero = refl
+reaches-kept (x ∷ xs) (suc m) y d e zero (suc j) = leads-same (ahead x) (λ n. reaches (set xs m y) n j) (λ n. reaches xs n j) (λ n. reaches-kept xs m y d e n j)
+reaches-kept (x ∷ xs) (suc m) y d e (suc i) zero = refl
+reaches-kept (x ∷ xs) (suc m) y d e (suc i) (suc j) = reaches-kept xs m y d e i j
+
+pub owner-kept : (log : Log) (m : ℕ) (y d : Event) → ahead y ≡ ahead (get_or log m d) → (j : ℕ) → owner (set log m y) j ≡ owner log j
+owner-kept log m y d e j = least-same (λ i. reaches (set log m y) i j) (λ i. reaches log i j) j (λ i. reaches-kept log m y d e i j)
+
+-- ---- the least
+
+most_cases : (b : Bool) (k n : ℕ) → k ≤ n → (if b then 0 else suc k) ≤ suc n
+most_cases true k n le = omega arith
+most_cases false k n le = omega arith
+
+least-most : (p : ℕ → Bool) (n : ℕ) → least p n ≤ n
+least-most p zero = omega arith
+least-most p (suc n) = most_cases (p 0) (least (λ i. p (suc i)) n) n (least-most (λ i. p (suc i)) n)
+
+passes_cases : (p : ℕ → Bool) (b : Bool) (k n : ℕ) → b ≡ p 0 → (k ≡ n) ⊎ (p (suc k) ≡ true)
+    → ((if b then 0 else suc k) ≡ suc n) ⊎ (p (if b then 0 else suc k) ≡ true)
+passes_cases p true k n e h = inr (sym e)
+passes_cases p false k n e (inl h) = inl (ap suc h)
+passes_cases p false k n e (inr h) = inr h
+
+least-passes : (p : ℕ → Bool) (n : ℕ) → (least p n ≡ n) ⊎ (p (least p n) ≡ true)
+least-passes p zero = inl refl
+least-passes p (suc n) = passes_cases p (p 0) (least (λ i. p (suc i)) n) n refl (least-passes (λ i. p (suc i)) n)
+
+below_cases : (p : ℕ → Bool) (b : Bool) (k i : ℕ) → b ≡ p 0 → ((i : ℕ) → i < k → p (suc i) ≡ false) → i < (if b then 0 else suc k) → p i ≡ false
+below_cases p true k i e none lt = absurd (omega arith)
+below_cases p false k zero e none lt = sym e
+below_cases p false k (suc i) e none lt = none i (omega arith)
+
+least-below : (p : ℕ → Bool) (n i : ℕ) → i < least p n → p i ≡ false
+least-below p zero i lt = absurd (omega arith)
+least-below p (suc n) i lt = below_cases p (p 0) (least (λ i. p (suc i)) n) i refl (least-below (λ i. p (suc i)) n) lt
+
+least-is : (p : ℕ → Bool) (n k : ℕ) → k ≤ n → p k ≡ true → ((i : ℕ) → i < k → p i ≡ false) → least p n ≡ k
+least-is p n k le here none = cases (cases_order (least p n) k) (least-passes p n)
+  where
+    cases : (least p n ≡ k) ⊎ ((least p n < k) ⊎ (k < least p n)) → (least p n ≡ n) ⊎ (p (least p n) ≡ true) → least p n ≡ k
+    cases (inl same) h = same
+    cases (inr (inl lt)) (inl h) = absurd (omega arith)
+    cases (inr (inl lt)) (inr h) = absurd (not_both (p (least p n)) h (none (least p n) lt))
+    cases (inr (inr lt)) h = absurd (not_both (p k) here (least-below p n k lt))
+
+-- ---- owners
+
+pub owner-most : (log : Log) (j : ℕ) → owner log j ≤ j
+owner-most log j = least-most (λ i. reaches log i j) j
+
+owner-reaches : (log : Log) (j : ℕ) → j < length log → reaches log (owner log j) j ≡ true
+owner-reaches log j lt = cases (least-passes (λ i. reaches log i j) j)
+  where
+    cases : (owner log j ≡ j) ⊎ (reaches log (owner log j) j ≡ true) → reaches log (owner log j) j ≡ true
+    cases (inl same) = rw same (reaches-itself log j lt)
+    cases (inr h) = h
+
+pub owner-below : (log : Log) (j i : ℕ) → i < owner log j → reaches log i j ≡ false
+owner-below log j i lt = least-below (λ i. reaches log i j) j i lt
+
+-- what has no link is the farthest of those that its owner has
+pub farthest : (log : Log) (m j : ℕ) (d : Event) → ahead (get_or log m d) ≡ None → m < j → j < length log → owner log j ≢ owner log m
+farthest log m j d none lt within same =
+    let there = owner-reaches log j within in
+    let here = owner-reaches log m (omega arith) in
+    let alone = reaches-alone log m j d none (reaches-between log (owner log m) m j here (rw same at there) (omega arith)) in
+    omega (arith, alone, lt)
+
+pub owner-push : (log : Log) (x : Event) (j : ℕ) → j < length log → owner (log ++ x ∷ []) j ≡ owner log j
+owner-push log x j lt = least-same (λ i. reaches (log ++ x ∷ []) i j) (λ i. reaches log i j) j (λ i. reaches-push log x i j lt)
+
+-- the last one owns itself
+pub owner-last : (log : Log) (x : Event) → LinksLead log → owner (log ++ x ∷ []) (length log) ≡ length log
+owner-last log x links = cases (least-passes (λ i. reaches (log ++ x ∷ []) i (length log)) (length log))
+  where
+    own : ℕ
+    own = owner (log ++ x ∷ []) (length log)
+
+    below : (own ≡ length log) ⊎ (own < length log) → reaches (log ++ x ∷ []) own (length log) ≡ true → own ≡ length log
+    below (inl same) h = same
+    below (inr lt) h = absurd (not_both (reaches (log ++ x ∷ []) own (length log)) h (reaches-last log x own links lt))
+
+    cases : (own ≡ length log) ⊎ (reaches (log ++ x ∷ []) own (length log) ≡ true) → own ≡ length log
+    cases (inl same) = same
+    cases (inr h) = below (eq-or-lt_of_le (owner-most (log ++ x ∷ []) (length log))) h
+
+-- a new link from m to c, where neither had one
+module _ (log : Log) (m c d : ℕ) (y z w : Event) (far : c ≡ m + suc d) (none : ahead (get_or log m z) ≡ None) (ends : ahead (get_or log c w) ≡ None)
+    (some : ahead y ≡ Some d) (within : c < length log) where
+  m_within : m < length log
+  m_within = omega (arith, far, within)
+
+  or_false : (a b s : Bool) → s ≡ false → (if a then true else if b then s else false) ≡ a
+  or_false true b s h = refl
+  or_false false true s h = h
+  or_false false false s h = refl
+
+  is_false : (b : Bool) → (b ≡ true → ⊥) → b ≡ false
+  is_false true never = absurd (never refl)
+  is_false false never = refl
+
+  pub owner-linked_other : (j : ℕ) → j ≢ c → owner (set log m y) j ≡ owner log j
+  owner-linked_other j ne =
+      least-same (λ i. reaches (set log m y) i j) (λ i. reaches log i j) j
+      (λ i. reaches-linked log m c d y z far none some m_within i j
+      ∙ or_false (reaches log i j) (reaches log i m) (reaches log c j) (is_false (reaches log c j) (λ h. ne (reaches-alone log c j w ends h))))
+
+  either_reaches : (i : ℕ) → reaches (set log m y) i c ≡ (if reaches log i c then true else if reaches log i m then true else false)
+  either_reaches i =
+      reaches-linked log m c d y z far none some m_within i c
+      ∙ ap (λ s. if reaches log i c then true else if reaches log i m then s else false) (reaches-itself log c within)
+
+  neither : (a b : Bool) → a ≡ false → b ≡ false → (if a then true else if b then true else false) ≡ false
+  neither a b p q = rw (p, q) refl
+
+  second : (a b : Bool) → b ≡ true → (if a then true else if b then true else false) ≡ true
+  second true b q = refl
+  second false b q = rw q refl
+
+  -- c comes to the owner of m where that is the lesser
+  pub owner-moved : owner log m < owner log c → owner (set log m y) c ≡ owner log m
+  owner-moved lt =
+      least-is (λ i. reaches (set log m y) i c) c (owner log m) (omega (arith, owner-most log m, far))
+      (either_reaches (owner log m) ∙ second (reaches log (owner log m) c) (reaches log (owner log m) m) (owner-reaches log m m_within))
+      (λ i h. either_reaches i ∙ neither (reaches log i c) (reaches log i m) (owner-below log c i (omega arith)) (owner-below log m i h))
+
+  -- and else stays
+  pub owner-stays : owner log c < owner log m → owner (set log m y) c ≡ owner log c
+  owner-stays lt =
+      least-is (λ i. reaches (set log m y) i c) c (owner log c) (owner-most log c)
+      (either_reaches (owner log c) ∙ ap (λ b. if b then true else if reaches log (owner log c) m then true else false) (owner-reaches log c within))
+      (λ i h. either_reaches i ∙ neither (reaches log i c) (reaches log i m) (owner-below log c i h) (owner-below log m i (omega arith)))

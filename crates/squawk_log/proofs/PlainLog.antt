@@ -1,0 +1,36 @@
+-- The list of a log is the plain list of its draft.
+use Rattle.std.proofs.Common.{◌≡◌, ◌∙◌, ℕ, zero, suc, ◌==◌, ◌<◌, Bool, true, false, not, List, [], ◌∷◌, length, get_or, refl, sym, ap, arith, if◌then◌else◌}
+use Rattle.squawk_kinds.specs.Kinds.{TOMBSTONE}
+use Rattle.squawk_output.specs.Steps as steps
+use Rattle.squawk_output.specs.declared.event.Event.{Event}
+use Rattle.squawk_output.specs.declared.event.Event.TheVariants.{Start, Finish, Token, Error}
+use Rattle.squawk_output.specs.Chain.{tombstone}
+use Rattle.squawk_log.specs.Draft as draft
+use Rattle.squawk_log.specs.Draft.{Made, plain}
+use Rattle.squawk_output.specs.EventLog.{Log, has_link, list_of, owner, steps_at, steps_of}
+use Rattle.squawk_log.specs.LogDraft.{draft_items, items_at, items_of, made_at}
+use Rattle.squawk_log.proofs.Groups.{flat_map-gathered, gathered-same}
+use Rattle.squawk_log.proofs.LogItems.{opening_if}
+
+plain-opening : (whole : Bool) (place kind : ℕ) (free : Bool) → plain (opening_if whole place kind free) ≡ (if whole then [] else steps.Enter kind ∷ [])
+plain-opening true place kind free = refl
+plain-opening false place kind free = refl
+
+plain-item : (place : ℕ) (made : Made) (event : Event) (mark : Bool) → (mark ≡ true → event ≡ tombstone) → plain (items_of place made event mark) ≡ steps_of event
+plain-item place made (Start kind link) true h = sym (ap steps_of (h refl))
+plain-item place made (Start kind link) false h = plain-opening (kind == TOMBSTONE) place kind (not (has_link (Start kind link)))
+plain-item place made Finish mark h = refl
+plain-item place made (Token kind n) mark h = refl
+plain-item place made (Error text) mark h = refl
+
+steps-here : (log : Log) (place : ℕ) (d : Event) → place < length log → steps_of (get_or log place d) ≡ steps_at log place
+steps-here [] place d lt = absurd (omega arith)
+steps-here (x ∷ xs) zero d lt = refl
+steps-here (x ∷ xs) (suc n) d lt = steps-here xs n d (omega arith)
+
+pub plain-draft_items : (log : Log) (marks : List Bool) → ((place : ℕ) → place < length log → get_or marks place false ≡ true → get_or log place Finish ≡ tombstone)
+    → plain (draft_items log marks) ≡ list_of log
+plain-draft_items log marks holes =
+    flat_map-gathered draft.steps_of (owner log) (items_at log marks) (length log)
+    ∙ gathered-same (owner log) (owner log) (λ j. plain (items_at log marks j)) (steps_at log) (length log) (λ j lt. refl)
+    (λ j lt. plain-item j (made_at log j) (get_or log j Finish) (get_or marks j false) (holes j lt) ∙ steps-here log j Finish lt)

@@ -1,0 +1,3 @@
+pub mod Draft
+pub mod Edits
+pub mod LogDraft

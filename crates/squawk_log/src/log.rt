@@ -1,0 +1,232 @@
+//! The log of events in which a parser records.
+ghost use Rattle.std.specs.Prelude.{ℕ, ◌≡◌, ◌≢◌, ◌+◌, ◌<◌, ◌≤◌, ◌*◌, ◌^◌, ◌++◌, ◌∷◌, [], true, Contains, IfOk, OnOk, OnErr};
+ghost use Rattle.squawk_kinds.specs.Kinds.{TOMBSTONE};
+ghost use Rattle.squawk_log.specs.Draft.{Hole, IsAboveIds, Open, errors_of, nothing, plain};
+ghost use Rattle.squawk_log.specs.Edits as spec;
+ghost use Rattle.squawk_log.specs.Edits.{abandoned, completed, extended, preceded, started, with_error, with_token};
+ghost use Rattle.squawk_log.specs.LogDraft.{HasHoleOf, HasNodeOf, made_of};
+
+use squawk_kinds::SyntaxKind;
+use squawk_output::{Event, Output, Text, process};
+use std::alloc::{AllocError, Global};
+use std::marker::Model;
+
+/// How a hole was made.
+#[derive(Clone, Copy, Debug)]
+pub enum Made {
+    ByStart,
+    /// In front of a completed node.
+    ByPrecede,
+}
+
+/// What a parser has recorded, as a log of events.
+///
+/// Contracts see it as a draft, in which every node begins where it will begin in the output. Beside
+/// each event stands a mark, set while the event is the hole of an open marker. An id is the place
+/// of an event; the place of one that was taken out again is used anew.
+#[derive(Drop)]
+pub struct EventLog {
+    events: Vec<Event>,
+    marks: Vec<bool>,
+    recorded: u32,
+    errors: u32,
+}
+
+impl Model for EventLog {
+    ghost use Rattle.squawk_log.specs.Draft.{Draft};
+    ghost use Rattle.squawk_log.specs.LogDraft.{IsRecord, draft_of};
+
+    ghost Value = { Draft };
+
+    ghost view = { λ log. draft_of log.events.items log.marks.items log.recorded };
+
+    ghost invariant = { λ log. IsRecord log.events.items log.marks.items log.recorded log.errors };
+}
+
+impl EventLog {
+    /// Nothing.
+    pub fn new(alloc: Global) -> EventLog
+        ensures { result ≡ nothing }
+    {
+        EventLog {
+            events: Vec::new(alloc),
+            marks: Vec::new(alloc),
+            recorded: 0,
+            errors: 0,
+        }
+    }
+
+    /// How many events were recorded.
+    pub fn recorded(&self) -> u32
+        ensures { result ≡ self.now.recorded }
+    {
+        self.recorded
+    }
+
+    /// How many of them are errors.
+    pub fn errors(&self) -> u32
+        ensures { result ≡ errors_of self.now.items }
+    {
+        self.errors
+    }
+
+    /// The id that the next hole will have: as many as there are entries.
+    pub fn next_id(&self) -> u32
+        ensures id { result ≡ self.now.entries }
+        ensures above { IsAboveIds result self.now.items }
+    {
+        self.events.len() as u32
+    }
+
+    /// A hole at the end.
+    pub fn start(&mut self) -> Result<(), AllocError>
+        requires { self.old.recorded + 1 < 2 ^ 32 }
+        ensures ok { OnOk result (self.new ≡ started self.old self.old.entries) }
+        ensures err { OnErr result (self.new ≡ self.old) }
+    {
+        grow(&mut self.events, &mut self.marks, Event::tombstone(), true)?;
+        self.recorded += 1;
+        Ok(())
+    }
+
+    /// The hole becomes an opening in its place, and a closing stands at the end.
+    pub fn complete(&mut self, id: u32, kind: SyntaxKind) -> Result<(), AllocError>
+        requires hole { HasHoleOf self.old.items id }
+        requires kind { kind ≢ TOMBSTONE }
+        requires room { self.old.recorded + 1 < 2 ^ 32 }
+        ensures ok { OnOk result (self.new ≡ completed self.old id kind) }
+        ensures err { OnErr result (self.new ≡ self.old) }
+    {
+        grow(&mut self.events, &mut self.marks, Event::Finish, false)?;
+        let place = id as usize;
+        self.events[place] = Event::Start {
+            kind,
+            forward_parent: None,
+        };
+        self.marks[place] = false;
+        self.recorded += 1;
+        Ok(())
+    }
+
+    /// A token at the end.
+    pub fn token(&mut self, kind: SyntaxKind, n_raw_tokens: u8) -> Result<(), AllocError>
+        requires { self.old.recorded + 1 < 2 ^ 32 }
+        ensures ok { OnOk result (self.new ≡ with_token self.old kind n_raw_tokens) }
+        ensures err { OnErr result (self.new ≡ self.old) }
+    {
+        let token = Event::Token { kind, n_raw_tokens };
+        grow(&mut self.events, &mut self.marks, token, false)?;
+        self.recorded += 1;
+        Ok(())
+    }
+
+    /// An error at the end.
+    pub fn error(&mut self, msg: Text) -> Result<(), AllocError>
+        requires room { self.old.recorded + 1 < 2 ^ 32 }
+        requires errors { errors_of self.old.items + 1 < 2 ^ 32 }
+        ensures ok { OnOk result (self.new ≡ with_error self.old msg) }
+        ensures err { OnErr result (self.new ≡ self.old) }
+    {
+        grow(
+            &mut self.events,
+            &mut self.marks,
+            Event::Error { msg },
+            false,
+        )?;
+        self.recorded += 1;
+        self.errors += 1;
+        Ok(())
+    }
+
+    /// A hole directly before the opening of a node of this kind, which can't be preceded again.
+    pub fn precede(&mut self, node: u32, kind: SyntaxKind) -> Result<(), AllocError>
+        requires node { Contains self.old.items (Open node kind true) }
+        requires room { self.old.recorded + 1 < 2 ^ 32 }
+        ensures ok { OnOk result (self.new ≡ preceded self.old node self.old.entries) }
+        ensures err { OnErr result (self.new ≡ self.old) }
+    {
+        let distance = self.next_id() - node;
+        grow(&mut self.events, &mut self.marks, Event::tombstone(), true)?;
+        self.events[node as usize] = Event::Start {
+            kind,
+            forward_parent: Some(distance),
+        };
+        self.recorded += 1;
+        Ok(())
+    }
+
+    /// The hole goes, and its event too, where it is the last one and was made by a start.
+    pub fn abandon(&mut self, id: u32, made: Made)
+        requires { Contains self.old.items (Hole id (made_of made id)) }
+        ensures { self.new ≡ abandoned self.old id }
+    {
+        if is_last_start(self.events.len(), id, made) {
+            let _ = self.events.pop();
+            let _ = self.marks.pop();
+        } else {
+            self.marks[id as usize] = false;
+        }
+    }
+
+    /// The opening of a node moves to the hole's place, if that stands before it, and the hole goes.
+    /// The marker was started before the node's.
+    pub fn extend(&mut self, node: u32, id: u32)
+        requires node { HasNodeOf self.old.items node }
+        requires hole { HasHoleOf self.old.items id }
+        requires older { id < node }
+        ensures { (kind : ℕ) → Contains self.old.items (Open node kind true) → self.new ≡ extended self.old (record { id = node; kind = kind }) id }
+    {
+        let place = id as usize;
+        self.events[place] = Event::Start {
+            kind: SyntaxKind::TOMBSTONE,
+            forward_parent: Some(node - id),
+        };
+        self.marks[place] = false;
+    }
+
+    /// The items as an output; holes are left out. It is made in one pass.
+    pub fn finish(self, alloc: Global) -> Result<Output, AllocError>
+        ensures output { IfOk result (λ o. o ≡ record { steps = plain self.items; recorded = self.recorded; turns = self.turns_due }) }
+        ensures bound { self.turns_due ≤ 4 * self.recorded }
+    {
+        let EventLog {
+            events,
+            marks: _,
+            recorded,
+            errors: _,
+        } = self;
+        process(alloc, events, recorded)
+    }
+}
+
+/// Whether the event of a hole is the last of so many, and the hole was made by a start.
+fn is_last_start(entries: usize, id: u32, made: Made) -> bool
+    ensures { result ≡ spec.is_last_start entries (Hole id (made_of made id)) }
+{
+    match made {
+        Made::ByStart => id as usize + 1 == entries,
+        Made::ByPrecede => false,
+    }
+}
+
+/// One event more, with its mark. Where memory is refused, neither is there.
+fn grow(
+    events: &mut Vec<Event>,
+    marks: &mut Vec<bool>,
+    event: Event,
+    mark: bool,
+) -> Result<(), AllocError>
+    ensures events { OnOk result (events.new.items ≡ events.old.items ++ event ∷ []) }
+    ensures marks { OnOk result (marks.new.items ≡ marks.old.items ++ mark ∷ []) }
+    ensures same_events { OnErr result (events.new.items ≡ events.old.items) }
+    ensures same_marks { OnErr result (marks.new.items ≡ marks.old.items) }
+{
+    marks.push(mark)?;
+    match events.push(event) {
+        Ok(()) => Ok(()),
+        Err(_) => {
+            let _ = marks.pop();
+            Err(AllocError)
+        }
+    }
+}

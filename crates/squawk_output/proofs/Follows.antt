@@ -1,0 +1,131 @@
+-- One link followed.
+use Rattle.std.proofs.Common.{◌≡◌, ◌∙◌, ℕ, zero, suc, ◌+◌, ◌-◌, ◌<◌, ◌≤◌, Some, None, Option, List, [], ◌∷◌, ◌++◌, length, get_or, set, refl, sym, ap, arith, append_assoc}
+use Rattle.std.proofs.Math.Nat.{suc-add}
+use Rattle.std.proofs.lemmas.List.{length-set, append-nil}
+use Rattle.squawk_output.specs.Steps.{Step, Passed}
+use Rattle.squawk_output.specs.declared.event.Event.{Event}
+use Rattle.squawk_output.specs.declared.event.Event.TheVariants.{Start}
+use Rattle.squawk_output.specs.EventLog.{LinksLead, Log, ahead}
+use Rattle.squawk_output.specs.Chain.{LandsAt, chain, erased, hop, tombstone}
+use Rattle.squawk_output.specs.Pass.{Follows}
+use Rattle.squawk_output.proofs.Links.{LinksLead-without, is_start_at-within}
+
+pub erased-None : (log : Log) → erased None log ≡ log
+erased-None [] = refl
+erased-None (x ∷ xs) = refl
+
+chain-None : (log : Log) → chain None log ≡ []
+chain-None [] = refl
+chain-None (x ∷ xs) = refl
+
+pub length-chain : (from : Option ℕ) (log : Log) → length (chain from log) ≤ length log
+length-chain from [] = omega arith
+length-chain None (x ∷ xs) = omega arith
+length-chain (Some zero) (x ∷ xs) = omega (arith, length-chain (ahead x) xs)
+length-chain (Some (suc n)) (x ∷ xs) = omega (arith, length-chain (Some n) xs)
+
+chain-some : (log : Log) (place : ℕ) → place < length log → 0 < length (chain (Some place) log)
+chain-some [] place lt = absurd (omega arith)
+chain-some (x ∷ xs) zero lt = omega arith
+chain-some (x ∷ xs) (suc n) lt = chain-some xs n (omega arith)
+
+one_further : (n : ℕ) → 0 < n → 0 + n ≡ suc (n - 1)
+one_further n h = omega arith
+
+-- ---- the Start at a place is taken out, and the chain goes on from where its link leads
+
+pub erased-start : (log : Log) (place kind : ℕ) (link : Option ℕ) (d : Event) → get_or log place d ≡ Start kind link → place < length log → LinksLead log
+    → erased (Some place) log ≡ erased (hop place link) (set log place tombstone)
+erased-start [] place kind link d is lt links = absurd (omega arith)
+erased-start (x ∷ xs) zero kind None d is lt links = rw is (ap (λ ys. tombstone ∷ ys) (erased-None xs))
+erased-start (x ∷ xs) zero kind (Some n) d is lt links = let h = rw is at links.0 in rw (is, one_further n h.0) refl
+erased-start (x ∷ xs) (suc m) kind None d is lt links =
+    ap (λ ys. x ∷ ys) (erased-start xs m kind None d is (omega arith) links.1 ∙ erased-None (set xs m tombstone))
+erased-start (x ∷ xs) (suc m) kind (Some n) d is lt links = rw (suc-add m n) (ap (λ ys. x ∷ ys) (erased-start xs m kind (Some n) d is (omega arith) links.1))
+
+pub chain-start : (log : Log) (place kind : ℕ) (link : Option ℕ) (d : Event) → get_or log place d ≡ Start kind link → place < length log → LinksLead log
+    → chain (Some place) log ≡ kind ∷ chain (hop place link) (set log place tombstone)
+chain-start [] place kind link d is lt links = absurd (omega arith)
+chain-start (x ∷ xs) zero kind None d is lt links = rw is (ap (λ ys. kind ∷ ys) (chain-None xs))
+chain-start (x ∷ xs) zero kind (Some n) d is lt links = let h = rw is at links.0 in rw (is, one_further n h.0) refl
+chain-start (x ∷ xs) (suc m) kind None d is lt links =
+    chain-start xs m kind None d is (omega arith) links.1 ∙ ap (λ ys. kind ∷ ys) (chain-None (set xs m tombstone))
+chain-start (x ∷ xs) (suc m) kind (Some n) d is lt links = rw (suc-add m n) (chain-start xs m kind (Some n) d is (omega arith) links.1)
+
+pub LandsAt-start : (log : Log) (place kind : ℕ) (link : Option ℕ) (d : Event) → get_or log place d ≡ Start kind link → place < length log → LinksLead log
+    → LandsAt (set log place tombstone) (hop place link)
+LandsAt-start log place kind None d is lt links = tt
+LandsAt-start [] place kind (Some n) d is lt links = absurd (omega arith)
+LandsAt-start (x ∷ xs) zero kind (Some n) d is lt links = let h = rw is at links.0 in rw (one_further n h.0) h.1
+LandsAt-start (x ∷ xs) (suc m) kind (Some n) d is lt links = rw (suc-add m n) (LandsAt-start xs m kind (Some n) d is (omega arith) links.1)
+
+-- ---- the loop
+
+pub next_within : (log : Log) (at : ℕ) (next : Option ℕ) (distance : ℕ) → next ≡ Some distance → LandsAt log (hop at next) → at + distance < length log
+next_within log at next distance is lands = is_start_at-within log (at + distance) (rw is at lands)
+
+passed_is : (output : Passed) (steps : List Step) (turns : ℕ) → output.steps ≡ steps → output.turns ≡ turns
+    → output ≡ record { steps = steps; turns = turns }
+passed_is output steps turns p q = rw (← p, ← q) refl
+
+module _ (log : Log) (kinds : List ℕ) (output : Passed) (from : Option ℕ) where
+  followed : (left : Log) (found : List ℕ) (made : Passed) (place kind : ℕ) (link : Option ℕ) (d : Event) → get_or left place d ≡ Start kind link
+      → Follows log kinds output from left found made (Some place)
+      → Follows log kinds output from (set left place tombstone) (found ++ kind ∷ []) (record made { turns = made.turns + 1 }) (hop place link)
+  followed left found made place kind link d is follows =
+      let lt : place < length left = is_start_at-within left place follows.lands in
+      let here = chain-start left place kind link d is lt follows.links in
+      let rest = chain (hop place link) (set left place tombstone) in
+      record {
+        same_length = length-set left place tombstone ∙ follows.same_length;
+        links = LinksLead-without left place follows.links;
+        lands = LandsAt-start left place kind link d is lt follows.links;
+        leaves = sym (erased-start left place kind link d is lt follows.links) ∙ follows.leaves;
+        finds = append_assoc found (kind ∷ []) rest ∙ (ap (λ ys. found ++ ys) (sym here) ∙ follows.finds);
+        turns = omega (arith, ap length here, follows.turns);
+        steps = follows.steps;
+      }
+
+  module _ (left : Log) (found : List ℕ) (made : Passed) (at distance : ℕ) (next : Option ℕ) (some : next ≡ Some distance)
+      (follows : Follows log kinds output from left found made (hop at next)) where
+    pub turn_fits : made.turns + 1 ≤ output.turns + length log
+    turn_fits =
+        let follows_here = rw some at follows in
+        omega (
+          arith,
+          follows_here.turns,
+          length-chain from log,
+          chain-some left (at + distance) (is_start_at-within left (at + distance) follows_here.lands),
+        )
+
+    module _ (kind : ℕ) (link : Option ℕ) (x d t : Event) (got : x ≡ get_or left (at + distance) d) (is : x ≡ Start kind link) (gone : t ≡ tombstone) where
+      pub Follows-next : (more : List ℕ) (turned : Passed) → more ≡ found ++ kind ∷ [] → turned ≡ record made { turns = made.turns + 1 }
+          → Follows log kinds output from (set left (at + distance) t) more turned (hop (at + distance) link)
+      Follows-next more turned pushed turn =
+          let follows_here = rw some at follows in
+          rw (gone, pushed, turn) (followed left found made (at + distance) kind link d (sym got ∙ is) follows_here)
+
+      -- less of the chain is left
+      pub chain-shorter : length (chain (hop (at + distance) link) (set left (at + distance) t)) < length (chain (hop at next) left)
+      chain-shorter =
+          let follows_here = rw some at follows in
+          let here = chain-start left (at + distance) kind link d (sym got ∙ is) (is_start_at-within left (at + distance) follows_here.lands) follows_here.links in
+          rw (gone, some) (omega (arith, ap length here))
+
+  -- where no link is left, the chain is at its end
+  module _ (left : Log) (found : List ℕ) (made : Passed) (at : ℕ) where
+    pub ends-events : (next : Option ℕ) → ((distance : ℕ) → next ≡ Some distance → ⊥) → Follows log kinds output from left found made (hop at next) → left ≡ erased from log
+    ends-events (Some distance) none follows = absurd (none distance refl)
+    ends-events None none follows = sym (erased-None left) ∙ follows.leaves
+
+    pub ends-kinds : (next : Option ℕ) → ((distance : ℕ) → next ≡ Some distance → ⊥) → Follows log kinds output from left found made (hop at next)
+        → found ≡ kinds ++ chain from log
+    ends-kinds (Some distance) none follows = absurd (none distance refl)
+    ends-kinds None none follows = sym (append-nil found) ∙ (ap (λ ys. found ++ ys) (sym (chain-None left)) ∙ follows.finds)
+
+    pub ends-passed : (next : Option ℕ) → ((distance : ℕ) → next ≡ Some distance → ⊥) → Follows log kinds output from left found made (hop at next)
+        → made ≡ record output { turns = output.turns + length (chain from log) }
+    ends-passed (Some distance) none follows = absurd (none distance refl)
+    ends-passed None none follows =
+        let turns : made.turns ≡ output.turns + length (chain from log) = omega (arith, ap length (chain-None left), follows.turns) in
+        passed_is made output.steps (output.turns + length (chain from log)) follows.steps turns

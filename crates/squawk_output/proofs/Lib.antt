@@ -1,0 +1,10 @@
+pub mod Texts
+pub mod Sums
+pub mod Erased
+pub mod Peel
+pub mod EnteredBack
+pub mod Links
+pub mod Follows
+pub mod LogTurns
+pub mod Visits
+pub mod Examples

@@ -1,0 +1,86 @@
+-- Logs whose links lead to later Starts.
+use Rattle.std.proofs.Common.{◌≡◌, ℕ, zero, suc, ◌-◌, ◌<◌, true, Some, None, Option, [], ◌∷◌, length, get_or, set, drop, refl, arith}
+use Rattle.squawk_kinds.specs.Kinds.{TOMBSTONE}
+use Rattle.squawk_output.specs.declared.event.Event.{Event}
+use Rattle.squawk_output.specs.declared.event.Event.TheVariants.{Start, Finish, Token, Error}
+use Rattle.squawk_output.specs.EventLog.{Lands, LinksLead, Log, ahead, is_start, is_start_at}
+use Rattle.squawk_output.specs.Chain.{LandsAt, erased, tombstone}
+
+pub is_start_at-within : (log : Log) (place : ℕ) → is_start_at log place ≡ true → place < length log
+is_start_at-within [] place h = absurd (cc)
+is_start_at-within (x ∷ xs) zero h = omega arith
+is_start_at-within (x ∷ xs) (suc n) h = omega (arith, is_start_at-within xs n h)
+
+pub is_start_at-event : (log : Log) (place : ℕ) (d : Event) → is_start_at log place ≡ true → is_start (get_or log place d) ≡ true
+is_start_at-event [] place d h = absurd (cc)
+is_start_at-event (x ∷ xs) zero d h = h
+is_start_at-event (x ∷ xs) (suc n) d h = is_start_at-event xs n d h
+
+-- what is a Start is none other
+pub is_start-other : (event : Event) → is_start event ≡ true → ((kind : ℕ) (link : Option ℕ) → event ≡ Start kind link → ⊥) → ⊥
+is_start-other (Start kind link) h other = other kind link refl
+is_start-other Finish h other = absurd (cc)
+is_start-other (Token kind n) h other = absurd (cc)
+is_start-other (Error text) h other = absurd (cc)
+
+-- a link lands where all Starts are Starts still
+pub Lands-still : (event : Event) (xs ys : Log) → ((j : ℕ) → is_start_at xs j ≡ true → is_start_at ys j ≡ true) → Lands event xs → Lands event ys
+Lands-still (Start kind None) xs ys still h = tt
+Lands-still (Start kind (Some distance)) xs ys still h = (h.0, still (distance - 1) h.1)
+Lands-still Finish xs ys still h = tt
+Lands-still (Token kind n) xs ys still h = tt
+Lands-still (Error text) xs ys still h = tt
+
+Lands-ahead : (event : Event) (log : Log) → Lands event log → LandsAt log (ahead event)
+Lands-ahead (Start kind None) log h = tt
+Lands-ahead (Start kind (Some distance)) log h = h.1
+Lands-ahead Finish log h = tt
+Lands-ahead (Token kind n) log h = tt
+Lands-ahead (Error text) log h = tt
+
+-- ---- a Start in an event's place
+
+pub start-set : (log : Log) (place kind : ℕ) (link : Option ℕ) (j : ℕ) → is_start_at log j ≡ true → is_start_at (set log place (Start kind link)) j ≡ true
+start-set [] place kind link j h = absurd (cc)
+start-set (x ∷ xs) zero kind link zero h = refl
+start-set (x ∷ xs) zero kind link (suc j) h = h
+start-set (x ∷ xs) (suc n) kind link zero h = h
+start-set (x ∷ xs) (suc n) kind link (suc j) h = start-set xs n kind link j h
+
+pub LinksLead-unlinked : (log : Log) (place kind : ℕ) → LinksLead log → LinksLead (set log place (Start kind None))
+LinksLead-unlinked [] place kind links = links
+LinksLead-unlinked (x ∷ xs) zero kind links = (tt, links.1)
+LinksLead-unlinked (x ∷ xs) (suc n) kind links =
+    (Lands-still x xs (set xs n (Start kind None)) (start-set xs n kind None) links.0, LinksLead-unlinked xs n kind links.1)
+
+-- what is taken out leaves a Start, too
+pub LinksLead-without : (log : Log) (place : ℕ) → LinksLead log → LinksLead (set log place tombstone)
+LinksLead-without log place links = LinksLead-unlinked log place TOMBSTONE links
+
+-- ---- a chain taken out
+
+start-erased : (from : Option ℕ) (log : Log) (j : ℕ) → is_start_at log j ≡ true → is_start_at (erased from log) j ≡ true
+start-erased from [] j h = absurd (cc)
+start-erased None (x ∷ xs) j h = h
+start-erased (Some zero) (x ∷ xs) zero h = refl
+start-erased (Some zero) (x ∷ xs) (suc j) h = start-erased (ahead x) xs j h
+start-erased (Some (suc n)) (x ∷ xs) zero h = h
+start-erased (Some (suc n)) (x ∷ xs) (suc j) h = start-erased (Some n) xs j h
+
+pub LinksLead-erased : (from : Option ℕ) (log : Log) → LinksLead log → LinksLead (erased from log)
+LinksLead-erased from [] h = h
+LinksLead-erased None (x ∷ xs) h = h
+LinksLead-erased (Some zero) (x ∷ xs) h = (tt, LinksLead-erased (ahead x) xs h.1)
+LinksLead-erased (Some (suc n)) (x ∷ xs) h = (Lands-still x xs (erased (Some n) xs) (start-erased (Some n) xs) h.0, LinksLead-erased (Some n) xs h.1)
+
+-- ---- the events behind a place
+
+pub LinksLead-drop : (log : Log) (place : ℕ) → LinksLead log → LinksLead (drop place log)
+LinksLead-drop log zero h = h
+LinksLead-drop [] (suc n) h = h
+LinksLead-drop (x ∷ xs) (suc n) h = LinksLead-drop xs n h.1
+
+pub LandsAt-ahead : (log : Log) (place : ℕ) (d : Event) → place < length log → LinksLead log → LandsAt (drop (suc place) log) (ahead (get_or log place d))
+LandsAt-ahead [] place d lt links = absurd (omega arith)
+LandsAt-ahead (x ∷ xs) zero d lt links = Lands-ahead x xs links.0
+LandsAt-ahead (x ∷ xs) (suc n) d lt links = LandsAt-ahead xs n d (omega arith) links.1

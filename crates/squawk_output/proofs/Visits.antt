@@ -1,0 +1,219 @@
+-- One event visited.
+use Rattle.std.proofs.Common.{◌≡◌, ◌∙◌, ℕ, zero, suc, ◌+◌, ◌*◌, ◌^◌, ◌<◌, false, Some, None, Option, List, [], ◌∷◌, ◌++◌, length, get_or, set, drop, refl, sym, ap, arith, append_assoc, add-one}
+use Rattle.std.proofs.Math.Seq.{drop-cons}
+use Rattle.std.proofs.lemmas.List.{length-set}
+use Rattle.squawk_output.specs.Steps.{Passed}
+use Rattle.squawk_output.specs.declared.event.Event.{Event}
+use Rattle.squawk_output.specs.declared.event.Event.TheVariants.{Start, Finish, Token, Error}
+use Rattle.squawk_output.specs.EventLog.{LinksLead, Log, ahead, entering, has_link, is_start, list_of, steps_of, turns_of}
+use Rattle.squawk_output.specs.Chain.{LandsAt, chain, entered_back, erased, hop, tombstone}
+use Rattle.squawk_output.specs.Pass.{Visits}
+use Rattle.squawk_output.proofs.Erased.{length-erased}
+use Rattle.squawk_output.proofs.Follows.{chain-start, erased-None, erased-start, length-chain}
+use Rattle.squawk_output.proofs.Links.{LandsAt-ahead, LinksLead-drop, LinksLead-erased, LinksLead-without}
+use Rattle.squawk_output.proofs.LogTurns.{one_if, turns_of-cons}
+use Rattle.squawk_output.proofs.Peel.{entered, list_of-cons}
+
+-- ---- a chain whose links lead to Starts
+
+-- what it enters are the kinds that it finds, from the last to the first
+entered-chain : (from : Option ℕ) (log : Log) → LinksLead log → LandsAt log from → entered from log ≡ entered_back (chain from log)
+entered-chain from [] links lands = refl
+entered-chain None (x ∷ xs) links lands = refl
+entered-chain (Some zero) (Start kind None ∷ xs) links lands = ap (λ ys. ys ++ entering kind) (entered-chain None xs links.1 tt)
+entered-chain (Some zero) (Start kind (Some distance) ∷ xs) links lands =
+    ap (λ ys. ys ++ entering kind) (entered-chain (ahead (Start kind (Some distance))) xs links.1 links.0.1)
+entered-chain (Some zero) (Finish ∷ xs) links lands = absurd (cc)
+entered-chain (Some zero) (Token kind n ∷ xs) links lands = absurd (cc)
+entered-chain (Some zero) (Error text ∷ xs) links lands = absurd (cc)
+entered-chain (Some (suc n)) (x ∷ xs) links lands = entered-chain (Some n) xs links.1 lands
+
+-- the turns of a link
+abbrev link_turns : Option ℕ → ℕ
+link_turns None = 0
+link_turns (Some n) = 2
+
+link_turns-ahead : (kind : ℕ) (link : Option ℕ) → link_turns (ahead (Start kind link)) ≡ 2 * one_if (has_link (Start kind link))
+link_turns-ahead kind None = refl
+link_turns-ahead kind (Some distance) = refl
+
+-- the turns of a log are two for each event of the chain, and those of the log without it
+turns-chain : (from : Option ℕ) (log : Log) → LinksLead log → LandsAt log from
+    → turns_of log + link_turns from ≡ 2 * length (chain from log) + turns_of (erased from log)
+turns-chain None [] links lands = refl
+turns-chain (Some n) [] links lands = absurd (cc)
+turns-chain None (x ∷ xs) links lands = omega arith
+turns-chain (Some zero) (Start kind None ∷ xs) links lands =
+    omega (
+      arith,
+      turns_of-cons (Start kind None) xs,
+      turns_of-cons tombstone (erased None xs),
+      turns-chain None xs links.1 tt,
+    )
+turns-chain (Some zero) (Start kind (Some distance) ∷ xs) links lands =
+    let on = ahead (Start kind (Some distance)) in
+    omega (
+      arith,
+      turns_of-cons (Start kind (Some distance)) xs,
+      turns_of-cons tombstone (erased on xs),
+      turns-chain on xs links.1 links.0.1,
+    )
+turns-chain (Some zero) (Finish ∷ xs) links lands = absurd (cc)
+turns-chain (Some zero) (Token kind n ∷ xs) links lands = absurd (cc)
+turns-chain (Some zero) (Error text ∷ xs) links lands = absurd (cc)
+turns-chain (Some (suc n)) (x ∷ xs) links lands =
+    omega (arith, turns_of-cons x xs, turns_of-cons x (erased (Some n) xs), turns-chain (Some n) xs links.1 lands)
+
+-- ---- the log from a place on
+
+drop-erased : (log : Log) (place : ℕ) (d : Event) → place < length log
+    → drop (suc place) (erased (Some place) log) ≡ erased (ahead (get_or log place d)) (drop (suc place) log)
+drop-erased [] place d lt = absurd (omega arith)
+drop-erased (x ∷ xs) zero d lt = refl
+drop-erased (x ∷ xs) (suc n) d lt = drop-erased xs n d (omega arith)
+
+chain-drop : (log : Log) (place : ℕ) → place < length log → chain (Some place) log ≡ chain (Some 0) (drop place log)
+chain-drop [] place lt = absurd (omega arith)
+chain-drop (x ∷ xs) zero lt = refl
+chain-drop (x ∷ xs) (suc n) lt = chain-drop xs n (omega arith)
+
+module _ (log : Log) (place : ℕ) (d : Event) (within : place < length log) where
+  abbrev here : Event
+  here = get_or log place d
+
+  abbrev behind : Log
+  behind = drop (suc place) log
+
+  abbrev left : Log
+  left = drop (suc place) (erased (Some place) log)
+
+  list-here : list_of (drop place log) ≡ (entered (ahead here) behind ++ steps_of here) ++ list_of left
+  list-here =
+      ap list_of (drop-cons log place d within)
+      ∙ (list_of-cons here behind ∙ ap (λ ys. (entered (ahead here) behind ++ steps_of here) ++ list_of ys) (sym (drop-erased log place d within)))
+
+  module _ (links : LinksLead log) (kind : ℕ) (link : Option ℕ) (is : here ≡ Start kind link) where
+    lands : LandsAt behind (ahead (Start kind link))
+    lands = rw is at (LandsAt-ahead log place d within links)
+
+    begins : drop place log ≡ Start kind link ∷ behind
+    begins = drop-cons log place d within ∙ ap (λ x. x ∷ behind) is
+
+    chain-here : chain (Some place) log ≡ kind ∷ chain (ahead (Start kind link)) behind
+    chain-here = chain-drop log place within ∙ ap (chain (Some 0)) begins
+
+    left-here : left ≡ erased (ahead (Start kind link)) behind
+    left-here = drop-erased log place d within ∙ ap (λ x. erased (ahead x) behind) is
+
+    turns-here : turns_of (drop place log) ≡ 2 * length (chain (Some place) log) + turns_of left
+    turns-here =
+        omega (
+          arith,
+          ap turns_of begins,
+          turns_of-cons (Start kind link) behind,
+          turns-chain (ahead (Start kind link)) behind (LinksLead-drop log (suc place) links) lands,
+          ap length chain-here,
+          ap turns_of left-here,
+          link_turns-ahead kind link,
+        )
+
+    entered-here : entered (ahead here) behind ++ steps_of here ≡ entered_back (chain (Some place) log)
+    entered-here =
+        ap (λ x. entered (ahead x) behind ++ steps_of x) is
+        ∙ (ap (λ ys. ys ++ entering kind) (entered-chain (ahead (Start kind link)) behind (LinksLead-drop log (suc place) links) lands)
+        ∙ ap entered_back (sym chain-here))
+
+-- ---- visits
+
+-- a Start: the kinds of its chain are entered, and the chain is taken out
+Visits-chain : (log after : Log) (output made : Passed) (place kind : ℕ) (link : Option ℕ) (d : Event) (kinds : List ℕ) → place < length log → LinksLead log
+    → get_or log place d ≡ Start kind link → after ≡ erased (Some place) log → kinds ≡ chain (Some place) log
+    → made.steps ≡ output.steps ++ entered_back kinds → made.turns ≡ output.turns + 2 * length kinds
+    → Visits log output after made place
+Visits-chain log after output made place kind link d kinds within links is gone found steps turns =
+    let left = drop (suc place) (erased (Some place) log) in
+    let rest : drop (place + 1) after ≡ left = rw (add-one, gone) refl in
+    record {
+      same_length = ap length gone ∙ length-erased (Some place) log;
+      links = rw gone (LinksLead-erased (Some place) log links);
+      steps =
+          ap (λ ys. ys ++ list_of (drop (place + 1) after)) (steps ∙ ap (λ ks. output.steps ++ entered_back ks) found)
+          ∙ (append_assoc output.steps (entered_back (chain (Some place) log)) (list_of (drop (place + 1) after))
+          ∙ ap (λ ys. output.steps ++ ys)
+          (ap (λ ys. entered_back (chain (Some place) log) ++ list_of ys) rest
+          ∙ (ap (λ ys. ys ++ list_of left) (sym (entered-here log place d within links kind link is)) ∙ sym (list-here log place d within))));
+      turns = omega (arith, turns-here log place d within links kind link is, ap turns_of rest, ap length found, turns);
+    }
+
+entered-None : (log : Log) → entered None log ≡ []
+entered-None [] = refl
+entered-None (x ∷ xs) = refl
+
+drop-set : (log : Log) (place : ℕ) (event : Event) → drop (suc place) (set log place event) ≡ drop (suc place) log
+drop-set [] place event = refl
+drop-set (x ∷ xs) zero event = refl
+drop-set (x ∷ xs) (suc n) event = drop-set xs n event
+
+-- as the code has it
+module _ (log : Log) (output turned : Passed) (place : ℕ) (x d t : Event) (within : place < length log) (links : LinksLead log) (got : x ≡ get_or log place d)
+    (gone : t ≡ tombstone)
+    (turn : turned ≡ record output { turns = output.turns + 1 }) where
+  -- any other event gives its step
+  pub Visits-other : (made : Passed) (event : Event) → is_start event ≡ false → ahead event ≡ None → has_link event ≡ false → x ≡ event
+      → made ≡ record turned { steps = turned.steps ++ steps_of event } → Visits log output (set log place t) made place
+  Visits-other made event other alone unlinked is put =
+      let begins : drop place log ≡ event ∷ drop (suc place) log = drop-cons log place d within ∙ ap (λ y. y ∷ drop (suc place) log) (sym got ∙ is) in
+      let rest : drop (place + 1) (set log place t) ≡ drop (suc place) log = rw add-one (drop-set log place t) in
+      let list : list_of (drop place log) ≡ steps_of event ++ list_of (drop (suc place) log) =
+      ap list_of begins
+      ∙ (list_of-cons event (drop (suc place) log)
+      ∙ (ap (λ from. (entered from (drop (suc place) log) ++ steps_of event) ++ list_of (erased from (drop (suc place) log))) alone
+      ∙ rw (entered-None (drop (suc place) log), erased-None (drop (suc place) log)) refl)) in
+      let steps : made.steps ≡ output.steps ++ steps_of event = rw (put, turn) refl in
+      record {
+        same_length = length-set log place t;
+        links = rw gone (LinksLead-without log place links);
+        steps =
+            ap (λ ys. ys ++ list_of (drop (place + 1) (set log place t))) steps
+            ∙ (append_assoc output.steps (steps_of event) (list_of (drop (place + 1) (set log place t)))
+            ∙ ap (λ ys. output.steps ++ ys) (ap (λ ys. steps_of event ++ list_of ys) rest ∙ sym list));
+        turns =
+            omega (
+              arith,
+              ap turns_of begins,
+              turns_of-cons event (drop (suc place) log),
+              ap turns_of rest,
+              ap one_if other,
+              ap one_if unlinked,
+              ap (λ w. w.turns) put,
+              ap (λ w. w.turns) turn,
+            );
+      }
+
+  -- a Start: its kind and those of the chain behind it
+  module _ (kind : ℕ) (link : Option ℕ) (is : x ≡ Start kind link) (none pushed kinds : List ℕ) (empty : none ≡ []) (push : pushed ≡ none ++ kind ∷ [])
+      (found : kinds ≡ pushed ++ chain (hop place link) (set log place t)) (followed : Passed) (follow : followed ≡ record turned { turns = turned.turns + length (chain (hop place link) (set log place t)) }) where
+    all_kinds : kinds ≡ kind ∷ chain (hop place link) (set log place t)
+    all_kinds = rw (found, push, empty) refl
+
+    pub kinds_fit : length log < 2 ^ 32 → output.turns < 2 ^ 35 → followed.turns + length kinds < 2 ^ 64
+    kinds_fit few turns =
+        omega (
+          arith,
+          ap length all_kinds,
+          ap (λ w. w.turns) turn,
+          ap (λ w. w.turns) follow,
+          length-chain (hop place link) (set log place t),
+          length-set log place t,
+        )
+
+    pub Visits-start : (after : Log) (made : Passed) → after ≡ erased (hop place link) (set log place t)
+        → made ≡ record followed { steps = followed.steps ++ entered_back kinds; turns = followed.turns + length kinds } → Visits log output after made place
+    Visits-start after made left enter =
+        let whole = sym got ∙ is in
+        let taken : after ≡ erased (Some place) log =
+        left ∙ (ap (λ y. erased (hop place link) (set log place y)) gone ∙ sym (erased-start log place kind link d whole within links)) in
+        let chained : kinds ≡ chain (Some place) log =
+        all_kinds ∙ (ap (λ y. kind ∷ chain (hop place link) (set log place y)) gone ∙ sym (chain-start log place kind link d whole within links)) in
+        Visits-chain log after output made place kind link d kinds within links whole taken chained (rw (enter, follow, turn) refl)
+        (omega (arith, ap length all_kinds, ap (λ w. w.turns) turn, ap (λ w. w.turns) follow, ap (λ w. w.turns) enter))

@@ -1,0 +1,5 @@
+pub mod Steps
+pub mod StepViews
+pub mod EventLog
+pub mod Chain
+pub mod Pass

@@ -1,0 +1,35 @@
+-- What the loops of the pass keep.
+use Rattle.std.specs.Prelude.{◌≡◌, ℕ, ◌+◌, Option, List, [], ◌++◌, length, drop}
+use Rattle.squawk_output.specs.Steps.{Passed}
+use Rattle.squawk_output.specs.EventLog.{Log, LinksLead, list_of, turns_of}
+use Rattle.squawk_output.specs.Chain.{LandsAt, chain, entered_back, erased}
+
+-- A chain is followed from a place: what is left of it, and what it has found so far, are what it finds in all.
+pub record Follows (log : Log) (kinds : List ℕ) (output : Passed) (from : Option ℕ) (log' : Log) (kinds' : List ℕ) (output' : Passed) (next : Option ℕ) : Type 0 where
+  pub same_length : length log' ≡ length log
+  pub links : LinksLead log'
+  pub lands : LandsAt log' next
+  pub leaves : erased next log' ≡ erased from log
+  pub finds : kinds' ++ chain next log' ≡ kinds ++ chain from log
+  pub turns : output'.turns + length (chain next log') ≡ output.turns + length (chain from log)
+  pub steps : output'.steps ≡ output.steps
+
+-- Kinds are entered from the last to the first: those that are left are still to be entered.
+pub record Enters (kinds : List ℕ) (output : Passed) (kinds' : List ℕ) (output' : Passed) : Type 0 where
+  pub turns : output'.turns + length kinds' ≡ output.turns + length kinds
+  pub steps : output'.steps ++ entered_back kinds' ≡ output.steps ++ entered_back kinds
+
+-- An event is visited: what is left behind it is a log, whose list and turns are still to come.
+pub record Visits (log : Log) (output : Passed) (log' : Log) (output' : Passed) (place : ℕ) : Type 0 where
+  pub same_length : length log' ≡ length log
+  pub links : LinksLead log'
+  pub steps : output'.steps ++ list_of (drop (place + 1) log') ≡ output.steps ++ list_of (drop place log)
+  pub turns : output'.turns + turns_of (drop (place + 1) log') ≡ output.turns + turns_of (drop place log)
+
+-- The events before a place were visited.
+pub record Passes (log : Log) (log' : Log) (output : Passed) (kinds : List ℕ) (place : ℕ) : Type 0 where
+  pub same_length : length log' ≡ length log
+  pub links : LinksLead log'
+  pub steps : output.steps ++ list_of (drop place log') ≡ list_of log
+  pub turns : output.turns + turns_of (drop place log') ≡ turns_of log
+  pub none : kinds ≡ []

@@ -1,0 +1,77 @@
+//! The steps of an output, one after another.
+ghost use Rattle.std.specs.Prelude.{◌≡◌, ◌∷◌, false, map, IsNone, IfSome};
+ghost use Rattle.std.specs.Str.{chars};
+ghost use Rattle.squawk_output.specs.StepViews.{stored_of};
+ghost use Rattle.squawk_output.specs.Steps.{Error, begins_with_error};
+
+use crate::output::step::Step;
+use crate::output::stored::StoredStep;
+use std::marker::Model;
+
+/// The steps that are left of an output.
+#[derive(Drop)]
+pub struct Steps<'a> {
+    steps: &'a [StoredStep],
+}
+
+impl<'a> Model for Steps<'a> {
+    ghost use Rattle.std.specs.Prelude.{List, map};
+    ghost use Rattle.squawk_output.specs.Steps as plain;
+
+    ghost Value = { List plain.Step };
+
+    ghost use Rattle.squawk_output.specs.StepViews.{stored_of};
+
+    ghost view = { λ s. map stored_of s.steps.now };
+}
+
+impl<'a> Steps<'a> {
+    pub(crate) fn new(steps: &'a [StoredStep]) -> Steps<'a>
+        ensures { result ≡ map stored_of steps.now }
+    {
+        Steps { steps }
+    }
+
+    /// Takes the next step if it is an error, and gives its text. Any other step stays.
+    pub fn next_error(&mut self) -> Option<&'a str>
+        ensures error { IfSome result (λ msg. self.old ≡ Error (chars msg.now) ∷ self.new) }
+        ensures none { IsNone result → begins_with_error self.old ≡ false }
+        ensures stays { IsNone result → self.new ≡ self.old }
+    {
+        match self.steps.split_first() {
+            Some((StoredStep::Error { msg }, rest)) => {
+                self.steps = rest;
+                Some(msg.as_str())
+            }
+            _ => None,
+        }
+    }
+}
+
+impl<'a> Iterator for Steps<'a> {
+    ghost use Rattle.std.specs.Prelude.{◌≡◌, length, Some, IfSome};
+    ghost use Rattle.std.specs.Iterator.{YieldsFirstBy, UpTo, item_count};
+    ghost use Rattle.std.specs.Iterator.SizeHint.{IsWithinCount};
+    ghost use Rattle.squawk_output.specs.StepViews.{step_of};
+
+    type Item = Step<'a>;
+
+    ghost next_gives = { YieldsFirstBy step_of (λ s. s) };
+
+    ghost remaining = { item_count (λ s. s) };
+
+    fn next(&mut self) -> Option<Step<'a>> {
+        let (first, rest) = self.steps.split_first()?;
+        self.steps = rest;
+        Some(first.lend())
+    }
+
+    fn size_hint(&self) -> (usize, Option<usize>)
+        ensures lower { IsWithinCount result.0 (item_count (λ s. s) self.now) }
+        ensures upper { IfSome result.1 (UpTo (item_count (λ s. s) self.now)) }
+        ensures exact { (result.0 ≡ length self.now) × (result.1 ≡ Some (length self.now)) }
+    {
+        let left = self.steps.len();
+        (left, Some(left))
+    }
+}
