@@ -12,9 +12,10 @@ use Rattle.squawk_log.specs.Draft.{Item, Made, Hole, Open}
 use Rattle.squawk_log.specs.Edits.{extended_items, is_hole_of, is_opening_of, moved, replaced, stands_before, without_hole}
 use Rattle.squawk_output.specs.EventLog.{Log, ahead, gathered, has_link, owner, picked}
 use Rattle.squawk_log.specs.LogDraft.{draft_items, items_at, items_of, made_at}
-use Rattle.squawk_log.proofs.Groups.{flat_map-gathered, gathered-moved, gathered-same, itself}
+use Rattle.squawk_log.proofs.Groups.{flat_map-gathered, gathered-same, itself}
+use Rattle.squawk_log.proofs.LinkedLog.{gathered-joined, owner-elsewhere, owner-remains}
 use Rattle.squawk_log.proofs.LogItems.{IsNodeAt, hole-elsewhere, opening-elsewhere, opening_if}
-use Rattle.squawk_log.proofs.Owners.{farthest, owner-linked_other, owner-most, owner-moved, owner-stays}
+use Rattle.squawk_log.proofs.Owners.{farthest, owner-most}
 use Rattle.squawk_log.proofs.StandsBefore.{each-before, each-behind, group-none, group-some, some}
 
 no_hole : (id place : ℕ) (made : Made) (event : Event) (mark : Bool) → place ≢ id → some (is_hole_of id) (items_of place made event mark) ≡ false
@@ -72,7 +73,7 @@ module _ (log : Log) (marks : List Bool) (id node kind d : ℕ) (same : length m
   some_link = ap Some (omega arith)
 
   owns : (j : ℕ) → j ≢ node → owner new j ≡ owner log j
-  owns j ne = owner-linked_other log id node d linked Finish Finish far none ends some_link is.within j ne
+  owns j ne = owner-elsewhere log id node d linked far none ends some_link is.within j ne
 
   -- ---- the items at the two places
 
@@ -138,8 +139,7 @@ module _ (log : Log) (marks : List Bool) (id node kind d : ℕ) (same : length m
   opening_moves : owner log id < owner log node → draft_items new new_marks ≡ moved (record { id = node; kind = kind }) id (draft_items log marks)
   opening_moves lt =
       ap (gathered (owner new) (items_at new new_marks)) (length-set log id linked)
-      ∙ (gathered-moved (owner log) (owner new) (items_at new new_marks) edited id node n older is.within
-      (owner-moved log id node d linked Finish Finish far none ends some_link is.within lt) owns (λ j lo hi. farthest log id j Finish none lo hi)
+      ∙ (gathered-joined log id node d linked far none ends some_link is.within lt (items_at new new_marks) edited
       (rw (old_hole, itself id, new_node, new_hole) refl) (rw (old_node, itself node) refl) edited_elsewhere
       ∙ (sym (flat_map-gathered (λ item. if is_hole_of id item then filled item else item ∷ []) (owner log) (λ j. replaced (is_opening_of node) (λ item. []) (items_at log marks j)) n)
       ∙ ap (replaced (is_hole_of id) filled)
@@ -150,7 +150,7 @@ module _ (log : Log) (marks : List Bool) (id node kind d : ℕ) (same : length m
   node_owner_stays : owner log node < owner log id → (j : ℕ) → owner new j ≡ owner log j
   node_owner_stays lt j =
       elim (eqb_tells j node) [
-        | inl e ↦ rw e.1 (owner-stays log id node d linked Finish Finish far none ends some_link is.within lt)
+        | inl e ↦ rw e.1 (owner-remains log id node d linked far none ends some_link is.within lt)
         | inr e ↦ owns j e.1
       ]
 

@@ -1,5 +1,6 @@
 pub mod Owners
 pub mod Groups
+pub mod LinkedLog
 pub mod LogItems
 pub mod LogEdits
 pub mod StandsBefore

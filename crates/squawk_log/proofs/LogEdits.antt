@@ -12,9 +12,10 @@ use Rattle.squawk_log.specs.Draft.{ByPrecede, ByStart, Item, Made, Hole, Open}
 use Rattle.squawk_log.specs.Edits.{is_hole_of, is_opening_of, preceded_item, replaced}
 use Rattle.squawk_output.specs.EventLog.{LinksLead, Log, ahead, gathered, owner}
 use Rattle.squawk_log.specs.LogDraft.{draft_items, items_at, items_of, made_at}
-use Rattle.squawk_log.proofs.Groups.{flat_map-gathered, gathered-moved, gathered-push, gathered-same, itself}
+use Rattle.squawk_log.proofs.Groups.{flat_map-gathered, gathered-push, gathered-same, itself}
+use Rattle.squawk_log.proofs.LinkedLog.{gathered-joined, owner-elsewhere, owner-joins}
 use Rattle.squawk_log.proofs.LogItems.{IsNodeAt, hole-elsewhere, opening-elsewhere}
-use Rattle.squawk_log.proofs.Owners.{farthest, owner-kept, owner-last, owner-linked_other, owner-most, owner-moved, owner-push}
+use Rattle.squawk_log.proofs.Owners.{owner-kept, owner-last, owner-most, owner-push}
 
 pub length-push : {X : Type 0} (xs : List X) (x : X) → length (xs ++ x ∷ []) ≡ suc (length xs)
 length-push xs x = omega (arith, length-append xs (x ∷ []))
@@ -99,7 +100,7 @@ module _ (log : Log) (marks : List Bool) (node kind d : ℕ) (links : LinksLead 
   some = ap Some (omega arith)
 
   owns_other : (j : ℕ) → j ≢ n → owner new j ≡ owner more j
-  owns_other j ne = owner-linked_other more node n d linked Finish Finish far none ends some n_within j ne
+  owns_other j ne = owner-elsewhere more node n d linked far none ends some n_within j ne
 
   owns : (j : ℕ) → j < n → owner new j ≡ owner log j
   owns j lt = owns_other j (λ e. absurd (omega (arith, e, lt))) ∙ owner-push log tombstone j lt
@@ -107,10 +108,12 @@ module _ (log : Log) (marks : List Bool) (node kind d : ℕ) (links : LinksLead 
   node_owner : owner more node ≡ owner log node
   node_owner = owner-push log tombstone node is.within
 
+  owner_first : owner more node < owner more n
+  owner_first = omega (arith, owner-most log node, owner-last log tombstone links, node_owner, is.within)
+
   owns_last : owner new n ≡ owner more node
   owns_last =
-      owner-moved more node n d linked Finish Finish far none ends some n_within
-      (omega (arith, owner-most log node, owner-last log tombstone links, node_owner, is.within))
+      owner-joins more node n d linked far none ends some n_within owner_first
 
   marks_below : (j : ℕ) → j < n → get_or new_marks j false ≡ get_or marks j false
   marks_below j lt = get_or-append marks (true ∷ []) false j (omega (arith, lt, same))
@@ -164,7 +167,7 @@ module _ (log : Log) (marks : List Bool) (node kind d : ℕ) (links : LinksLead 
   pub draft_items-preceded : draft_items (set (log ++ tombstone ∷ []) node (Start kind (Some (suc d)))) (marks ++ true ∷ [])
       ≡ replaced (is_opening_of node) (λ item. Hole (length log) (ByPrecede (length log)) ∷ preceded_item item ∷ []) (draft_items log marks)
   draft_items-preceded =
-      ap (gathered (owner new) (items_at new new_marks)) (length-set more node linked ∙ length-push log tombstone)
-      ∙ (gathered-moved (owner more) (owner new) (items_at new new_marks) edited node n (suc n) is.within (omega arith) owns_last owns_other
-      (λ j lo hi. farthest more node j Finish none lo (omega (arith, hi, length-push log tombstone))) edited_node edited_last edited_elsewhere
-      ∙ whole_edit)
+      ap (gathered (owner new) (items_at new new_marks)) (length-set more node linked)
+      ∙ (gathered-joined more node n d linked far none ends some n_within owner_first (items_at new new_marks) edited edited_node edited_last
+      (λ j h. edited_elsewhere j (omega (arith, h, length-push log tombstone)))
+      ∙ (ap (gathered (owner more) edited) (length-push log tombstone) ∙ whole_edit))

@@ -1,5 +1,5 @@
 -- What moving errors before closings keeps.
-use Rattle.std.proofs.Common.{◌≡◌, ◌∙◌, suc, List, [], ◌∷◌, ◌++◌, length, length-append, drop, filter, arith, ap, sym, subst, refl}
+use Rattle.std.proofs.Common.{◌≡◌, ◌∙◌, ℕ, suc, List, [], ◌∷◌, ◌++◌, length, drop, filter, ap, sym, subst, refl, if◌then◌else◌}
 use Rattle.squawk_table.specs.ParserInput.{Entry}
 use Rattle.squawk_table.specs.Sent.{leading_errors, errors_moved}
 use Rattle.squawk_table.specs.Shape.{IsOver}
@@ -18,51 +18,45 @@ leading_first (Error text ∷ steps) = ap (λ xs. Error text ∷ xs) (leading_fi
 abbrev behind : List Step → List Step
 behind steps = drop (length (leading_errors steps)) (errors_moved steps)
 
-without_leading : (steps rest : List Step) → without_errors (leading_errors steps ++ rest) ≡ without_errors rest
-without_leading [] rest = refl
-without_leading (Token kind n ∷ steps) rest = refl
-without_leading (Enter kind ∷ steps) rest = refl
-without_leading (Exit ∷ steps) rest = refl
-without_leading (Error text ∷ steps) rest = without_leading steps rest
+-- What a list of steps gives stays where it is the same for an error before a closing and behind it, and goes on from that of the steps
+-- behind the first.
+module _ {X : Type 0} (f : List Step → X) (across : (text : List ℕ) (steps : List Step) → f (Error text ∷ Exit ∷ steps) ≡ f (Exit ∷ Error text ∷ steps))
+    (goes_on : (step : Step) (xs ys : List Step) → f xs ≡ f ys → f (step ∷ xs) ≡ f (step ∷ ys)) where
+  across-leading : (steps rest : List Step) → f (leading_errors steps ++ Exit ∷ rest) ≡ f (Exit ∷ (leading_errors steps ++ rest))
+  across-leading [] rest = refl
+  across-leading (Token kind n ∷ steps) rest = refl
+  across-leading (Enter kind ∷ steps) rest = refl
+  across-leading (Exit ∷ steps) rest = refl
+  across-leading (Error text ∷ steps) rest =
+      goes_on (Error text) (leading_errors steps ++ Exit ∷ rest) (Exit ∷ (leading_errors steps ++ rest)) (across-leading steps rest)
+      ∙ across text (leading_errors steps ++ rest)
+
+  same-moved : (steps : List Step) → f (errors_moved steps) ≡ f steps
+  same-moved [] = refl
+  same-moved (Token kind n ∷ steps) = goes_on (Token kind n) (errors_moved steps) steps (same-moved steps)
+  same-moved (Enter kind ∷ steps) = goes_on (Enter kind) (errors_moved steps) steps (same-moved steps)
+  same-moved (Exit ∷ steps) =
+      across-leading steps (behind steps)
+      ∙ goes_on Exit (leading_errors steps ++ behind steps) steps (ap f (leading_first steps) ∙ same-moved steps)
+  same-moved (Error text ∷ steps) = goes_on (Error text) (errors_moved steps) steps (same-moved steps)
 
 pub without_errors-moved : (steps : List Step) → without_errors (errors_moved steps) ≡ without_errors steps
-without_errors-moved [] = refl
-without_errors-moved (Token kind n ∷ steps) = ap (λ xs. Token kind n ∷ xs) (without_errors-moved steps)
-without_errors-moved (Enter kind ∷ steps) = ap (λ xs. Enter kind ∷ xs) (without_errors-moved steps)
-without_errors-moved (Exit ∷ steps) =
-    without_leading steps (Exit ∷ behind steps)
-    ∙ ap (λ xs. Exit ∷ xs) (sym (without_leading steps (behind steps)) ∙ (ap without_errors (leading_first steps) ∙ without_errors-moved steps))
-without_errors-moved (Error text ∷ steps) = without_errors-moved steps
-
-errors_leading : (steps rest : List Step) → filter is_error (leading_errors steps ++ rest) ≡ leading_errors steps ++ filter is_error rest
-errors_leading [] rest = refl
-errors_leading (Token kind n ∷ steps) rest = refl
-errors_leading (Enter kind ∷ steps) rest = refl
-errors_leading (Exit ∷ steps) rest = refl
-errors_leading (Error text ∷ steps) rest = ap (λ xs. Error text ∷ xs) (errors_leading steps rest)
+without_errors-moved steps = same-moved without_errors (λ text rest. refl) goes_on steps
+  where
+    goes_on : (step : Step) (xs ys : List Step) → without_errors xs ≡ without_errors ys → without_errors (step ∷ xs) ≡ without_errors (step ∷ ys)
+    goes_on (Token kind n) xs ys e = ap (λ zs. Token kind n ∷ zs) e
+    goes_on (Enter kind) xs ys e = ap (λ zs. Enter kind ∷ zs) e
+    goes_on Exit xs ys e = ap (λ zs. Exit ∷ zs) e
+    goes_on (Error text) xs ys e = e
 
 pub errors-moved : (steps : List Step) → filter is_error (errors_moved steps) ≡ filter is_error steps
-errors-moved [] = refl
-errors-moved (Token kind n ∷ steps) = errors-moved steps
-errors-moved (Enter kind ∷ steps) = errors-moved steps
-errors-moved (Exit ∷ steps) =
-    errors_leading steps (Exit ∷ behind steps)
-    ∙ (sym (errors_leading steps (behind steps)) ∙ (ap (filter is_error) (leading_first steps) ∙ errors-moved steps))
-errors-moved (Error text ∷ steps) = ap (λ xs. Error text ∷ xs) (errors-moved steps)
+errors-moved steps = same-moved (filter is_error) (λ text rest. refl) goes_on steps
+  where
+    goes_on : (step : Step) (xs ys : List Step) → filter is_error xs ≡ filter is_error ys → filter is_error (step ∷ xs) ≡ filter is_error (step ∷ ys)
+    goes_on step xs ys e = ap (λ zs. if is_error step then step ∷ zs else zs) e
 
 pub length-moved : (steps : List Step) → length (errors_moved steps) ≡ length steps
-length-moved [] = refl
-length-moved (Token kind n ∷ steps) = ap suc (length-moved steps)
-length-moved (Enter kind ∷ steps) = ap suc (length-moved steps)
-length-moved (Exit ∷ steps) =
-    omega (
-      arith,
-      length-append (leading_errors steps) (Exit ∷ behind steps),
-      length-append (leading_errors steps) (behind steps),
-      ap length (leading_first steps),
-      length-moved steps,
-    )
-length-moved (Error text ∷ steps) = ap suc (length-moved steps)
+length-moved steps = same-moved length (λ text rest. refl) (λ step xs ys e. ap suc e) steps
 
 -- ---- errors eat nothing
 

@@ -68,11 +68,3 @@ IsOver-exit_last steps input over = IsOver-append steps (Exit ∷ []) input over
 
 pub IsOver-error_last : (steps : List Step) (input : List Entry) (text : List ℕ) → IsOver steps input → IsOver (steps ++ Error text ∷ []) input
 IsOver-error_last steps input text over = IsOver-append steps (Error text ∷ []) input over tt
-
--- one that eats nothing
-pub IsOver-other_last : (steps : List Step) (input : List Entry) (step : Step) → count_of step ≡ 0 → IsOver steps input
-    → ((kind n : ℕ) → step ≡ Token kind n → ⊥) → IsOver (steps ++ step ∷ []) input
-IsOver-other_last steps input (Token kind n) none over other = absurd (other kind n refl)
-IsOver-other_last steps input (Enter kind) none over other = IsOver-enter_last steps input kind over
-IsOver-other_last steps input Exit none over other = IsOver-exit_last steps input over
-IsOver-other_last steps input (Error text) none over other = IsOver-error_last steps input text over

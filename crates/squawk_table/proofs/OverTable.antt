@@ -1,10 +1,10 @@
 -- A walk over the input of a table, from a raw place on.
-use Rattle.std.proofs.Common.{◌≡◌, ◌∙◌, ℕ, ◌+◌, ◌-◌, ◌≤◌, List, ◌∷◌, length, take, drop, arith, ap, sym, subst, refl}
+use Rattle.std.proofs.Common.{◌≡◌, ◌∙◌, ℕ, ◌+◌, ◌-◌, ◌≤◌, List, ◌∷◌, length, take, drop, arith, ap, sym, subst}
 use Rattle.squawk_table.specs.ParserInput.{Entry, entries_of}
 use Rattle.squawk_table.specs.RawTable.{Table, raw_after}
 use Rattle.squawk_table.specs.Sent.{past_trivia, HasNoTrivia}
 use Rattle.squawk_table.specs.Shape.{IsOver, no_keywords}
-use Rattle.squawk_output.specs.Steps.{Step, Token, Enter, Exit, Error}
+use Rattle.squawk_output.specs.Steps.{Step, Token}
 use Rattle.squawk_table.proofs.FrontTokens.{FrontTokens, FrontTokens-one, one-FrontTokens, drop-entries_of, entries_of-past_trivia, length-raw_after, raw_after-add}
 
 -- the entries of the raw tokens that are left from a place on
@@ -32,11 +32,3 @@ module _ (t : Table) (steps : List Step) (place begin kind n : ℕ) (within : be
 
     pub over_all : IsOver steps (entries_after t (begin + n)) → IsOver (Token kind n ∷ steps) (entries_after t place)
     over_all over = (one-FrontTokens no_keywords n (raw_after t place) (subst (FrontTokens n) past front), subst (IsOver steps) (sym rest) over)
-
--- a step that isn't a token eats nothing
-pub over_other : (step : Step) (steps : List Step) (input : List Entry) → ((kind n : ℕ) → step ≡ Token kind n → ⊥)
-    → (IsOver (step ∷ steps) input → IsOver steps input) × (IsOver steps input → IsOver (step ∷ steps) input)
-over_other (Token kind n) steps input other = absurd (other kind n refl)
-over_other (Enter kind) steps input other = (λ over. over, λ over. over)
-over_other Exit steps input other = (λ over. over, λ over. over)
-over_other (Error text) steps input other = (λ over. over, λ over. over)

@@ -25,10 +25,6 @@ followed_cases : (t : Table) (i : ℕ) (b : Bool) → b ≡ nat_lt i (length t.k
 followed_cases t i true e = ap is_followed (raw_after-next t i (grind (arith, sym e)))
 followed_cases t i false e = ap is_followed (raw_after-end t i (grind (arith, sym e)))
 
--- whether a token of the input stands at place i
-pub is_followed-raw_after : (t : Table) (i : ℕ) → is_followed (raw_after t i) ≡ (nat_lt i (length t.kinds) && not (is_trivia (slice_index t.kinds i)))
-is_followed-raw_after t i = followed_cases t i (nat_lt i (length t.kinds)) refl
-
 -- one more raw token: one that isn't trivia is the next entry
 pub entries_of-token : (contextual : Keywords) (t : Table) (i : ℕ) → i < length t.kinds → is_trivia (slice_index t.kinds i) ≡ false
     → entries_of contextual (raw_after t i) ≡ entry_for contextual (raw_at t i) (raw_after t (i + 1)) ∷ entries_of contextual (raw_after t (i + 1))

@@ -1,6 +1,7 @@
 -- What is left of the raw tokens before each step of a walk.
 use Rattle.std.proofs.Common.{◌≡◌, ◌∙◌, ℕ, zero, suc, ◌+◌, ◌<◌, ◌≤◌, Bool, true, false, not, ◌&&◌, ◌||◌, List, [], if◌then◌else◌, length, take, get_or, arith, add-one, ap, sym, refl}
 use Rattle.std.specs.Prelude.{◌==◌}
+use Rattle.std.proofs.Math.Bool.{and-true}
 use Rattle.std.proofs.lemmas.Bool.{eq-eqb, ne_eqb, and_right}
 use Rattle.std.proofs.lemmas.List.{take-take}
 use Rattle.std.proofs.lemmas.List.Sums.{sum_by-take-le}
@@ -61,14 +62,10 @@ behind-or : (raw : List RawToken) (c : ℕ) (receiver received : Bool)
 behind-or raw c true received = sym (past_trivia-behind raw c received)
 behind-or raw c false received = refl
 
-and_true : (b : Bool) → (b && true) ≡ b
-and_true true = refl
-and_true false = refl
-
 -- at the same count one more step received
 pub is_received-same : (steps : List Step) (c i : ℕ) → eaten_before steps i ≡ c → is_received steps c (i + 1) ≡ (is_receiver steps i || is_received steps c i)
 is_received-same steps c i e =
-    let here = ap (λ b. is_receiver steps i && b) (eq-eqb (eaten_before steps i) c e) ∙ and_true (is_receiver steps i) in
+    let here = ap (λ b. is_receiver steps i && b) (eq-eqb (eaten_before steps i) c e) ∙ and-true (is_receiver steps i) in
     ap (is_received steps c) (add-one i) ∙ ap (λ b. b || is_received steps c i) here
 
 module _ (raw : List RawToken) (steps : List Step) (i : ℕ) (step : Step) (lt : i < length steps) (at : get_or steps i step ≡ step) where

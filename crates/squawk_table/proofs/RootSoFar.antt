@@ -3,7 +3,7 @@ use Rattle.std.proofs.Common.{◌≡◌, ℕ, ◌+◌, ◌<◌, ◌≤◌, Bool,
 use Rattle.std.proofs.lemmas.List.{length-drop, take_all}
 use Rattle.squawk_table.specs.Shape.{StandsInOneRoot}
 use Rattle.squawk_output.specs.Steps.{Step, is_enter, is_exit, is_error, without_errors}
-use Rattle.squawk_table.proofs.OneRoot.{RootBefore, MayBegin, RootBefore-more, StandsInOneRoot-all, open_inside, closed_after, first_step, length-root}
+use Rattle.squawk_table.proofs.OneRoot.{RootBefore, MayBegin, RootBefore-more, StandsInOneRoot-all, open_inside, closed_after, first_step}
 use Rattle.squawk_table.proofs.WithoutErrors.{kept, kept-error, kept-more, kept-at, kept-lt}
 use Rattle.squawk_table.proofs.StepPlaces.{hand_at, hand_behind, hand_lt}
 
@@ -78,6 +78,3 @@ module _ (steps left : List Step) (depth : ℕ) (has_root : Bool) (none : left �
 
   pub closed_at_end : StandsInOneRoot (without_errors steps) → depth ≡ 0
   closed_at_end root = closed_after (without_errors steps) (kept steps so_far.i) depth root so_far.before (omega (arith, all_kept))
-
-  pub rooted_at_end : StandsInOneRoot (without_errors steps) → has_root ≡ false → ⊥
-  rooted_at_end root rootless = omega (arith, so_far.rootless rootless, all_kept, length-root (without_errors steps) root.begins)

@@ -1,10 +1,10 @@
 -- Trivia at the front of raw tokens, and what stands behind it.
-use Rattle.std.proofs.Common.{◌≡◌, ◌∙◌, ℕ, ◌+◌, ◌<◌, ◌≤◌, true, false, List, [], ◌∷◌, ◌++◌, length, slice_index, ap, sym, refl, inl, inr}
+use Rattle.std.proofs.Common.{◌≡◌, ℕ, ◌+◌, ◌<◌, true, List, [], ◌∷◌, ◌++◌, length, slice_index, ap, refl, inl, inr}
 use Rattle.std.proofs.lemmas.Bool.{cases_Bool}
 use Rattle.squawk_kinds.specs.Kinds.{is_trivia}
 use Rattle.squawk_table.specs.RawTable.{Table, RawToken, raw_at, raw_after}
 use Rattle.squawk_table.specs.Sent.{input_tokens, leading_trivia, past_trivia}
-use Rattle.squawk_table.proofs.RawTokens.{raw_after-next, raw_after-end}
+use Rattle.squawk_table.proofs.RawTokens.{raw_after-next}
 
 -- the trivia at the front and what stands behind it are all
 pub leading_trivia-append-past_trivia : (raw : List RawToken) → leading_trivia raw ++ past_trivia raw ≡ raw
@@ -33,23 +33,9 @@ input_tokens-past_trivia (r ∷ raw) =
 
 -- ---- from a place of a table on
 
-module _ (t : Table) (i : ℕ) (lt : i < length t.kinds) where
-  module _ (trivia : is_trivia (slice_index t.kinds i) ≡ true) where
-    pub leading_trivia-more : leading_trivia (raw_after t i) ≡ raw_at t i ∷ leading_trivia (raw_after t (i + 1))
-    leading_trivia-more = rw (raw_after-next t i lt, trivia) refl
+module _ (t : Table) (i : ℕ) (lt : i < length t.kinds) (trivia : is_trivia (slice_index t.kinds i) ≡ true) where
+  pub leading_trivia-more : leading_trivia (raw_after t i) ≡ raw_at t i ∷ leading_trivia (raw_after t (i + 1))
+  leading_trivia-more = rw (raw_after-next t i lt, trivia) refl
 
-    pub past_trivia-more : past_trivia (raw_after t i) ≡ past_trivia (raw_after t (i + 1))
-    past_trivia-more = rw (raw_after-next t i lt, trivia) refl
-
-  module _ (input : is_trivia (slice_index t.kinds i) ≡ false) where
-    pub leading_trivia-token : leading_trivia (raw_after t i) ≡ []
-    leading_trivia-token = rw (raw_after-next t i lt, input) refl
-
-    pub past_trivia-token : past_trivia (raw_after t i) ≡ raw_after t i
-    past_trivia-token = rw (raw_after-next t i lt, input) refl
-
-pub leading_trivia-end : (t : Table) (i : ℕ) → length t.kinds ≤ i → leading_trivia (raw_after t i) ≡ []
-leading_trivia-end t i le = ap leading_trivia (raw_after-end t i le)
-
-pub past_trivia-end : (t : Table) (i : ℕ) → length t.kinds ≤ i → past_trivia (raw_after t i) ≡ raw_after t i
-past_trivia-end t i le = ap past_trivia (raw_after-end t i le) ∙ sym (raw_after-end t i le)
+  pub past_trivia-more : past_trivia (raw_after t i) ≡ past_trivia (raw_after t (i + 1))
+  past_trivia-more = rw (raw_after-next t i lt, trivia) refl
