@@ -1,5 +1,5 @@
 -- What holds of every row of composite kinds.
-use Rattle.std.proofs.Common.{◌≡◌, ◌≢◌, ◌∙◌, ℕ, ◌==◌, ◌&&◌, not, Bool, true, false, Option, Some, None, List, [], ◌∷◌, length, map, cond, if◌then◌else◌, ap, sym, refl}
+use Rattle.std.proofs.Common.{◌≡◌, ◌≢◌, ◌∙◌, ◌≤◌, ℕ, ◌==◌, ◌&&◌, not, Bool, true, false, Option, Some, None, List, [], ◌∷◌, length, map, cond, if◌then◌else◌, ap, sym, refl, arith}
 use Rattle.std.specs.Prelude.{option_map, unwrap_or}
 use Rattle.std.specs.List.{find, list_all}
 use Rattle.std.proofs.lemmas.Bool.{eqb-true}
@@ -29,7 +29,7 @@ is_closed_well Open = true
 is_closed_well (ClosedBy kind) = kind == R_PAREN
 
 is_good : Form → Bool
-is_good (Glued parts) = no_end parts && (length parts == 2)
+is_good (Glued parts) = no_end parts && not (length parts == 0)
 is_good (Touching parts) = no_end parts
 is_good (Sequence elements tail) = no_end (map kind_of elements) && is_closed_well tail
 is_good Operator = true
@@ -97,9 +97,14 @@ kinds_back (part ∷ parts) = ap (λ k. k ∷ map kind_of (map element_of parts)
 -- ---- what holds of its form
 
 module _ {kind : ℕ} {parts : List ℕ} (r : IsRow kind (Glued parts)) where
-  pub glued-two : length parts ≡ 2
+  -- there is one at least
+  pub glued-some : 1 ≤ length parts
   unfolding is_good
-  glued-two = let e : (length parts == 2) ≡ true = and-right (no_end parts) (length parts == 2) (good r) in eqb-true (length parts) 2 e
+  glued-some = some parts (and-right (no_end parts) (not (length parts == 0)) (good r))
+    where
+      some : (parts : List ℕ) → not (length parts == 0) ≡ true → 1 ≤ length parts
+      some [] e = absurd (cc)
+      some (part ∷ parts) e = omega arith
 
   pub glued-no_end : HasNoEndKind parts
   unfolding is_good

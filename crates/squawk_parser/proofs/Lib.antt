@@ -8,6 +8,7 @@ pub mod TailHoles
 pub mod Balance
 pub mod Filled
 pub mod Soundness
+pub mod Noted
 pub mod Splits
 pub mod SoundMoves
 pub mod SoundExtended

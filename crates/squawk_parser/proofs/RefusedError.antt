@@ -1,8 +1,10 @@
--- Errors that are refused.
-use Rattle.std.proofs.Common.{◌≡◌, ◌∙◌, ◌≤◌, ℕ, Option, Some, List, [], ◌∷◌, arith, add-zero, refl, subst}
+-- Errors that are recorded, and errors that are refused.
+use Rattle.std.proofs.Common.{rules, ◌≡◌, ◌∙◌, ◌≤◌, ℕ, Option, Some, List, [], ◌∷◌, arith, add-zero, refl, subst}
 use Rattle.std.specs.Prelude.{IsSome}
 use Rattle.squawk_output.specs.Steps.{Error}
 use Rattle.squawk_log.specs.Draft.{errors_of}
+use Rattle.squawk_log.specs.Draft as item
+use Rattle.squawk_log.specs.Edits.{with_error}
 use Rattle.squawk_parser.specs.Recorded.{IsReason, Puts}
 use Rattle.squawk_parser.specs.State.{State, HasNotFailed}
 use Rattle.squawk_parser.specs.declared.parser.parse_error.ParseError.{ParseError}
@@ -32,6 +34,26 @@ not_put old new msg failed place same why = record {
 pub Puts-refused : (s old : State) (msg : List ℕ) (is : ParseError) → s ≡ old → IsReasonFor old msg is → Puts (Error msg ∷ []) old (record s { first_reason = Some is })
 Puts-refused s old msg is e why =
     not_put old (record s { first_reason = Some is }) msg refl (cc) (cc) (λ _ reason refused. same_reason old msg (Some is) is reason refl refused why)
+
+-- a parser that goes on
+pub Puts-error : (s old : State) (msg : List ℕ) → s ≡ old → HasNotFailed old → Puts (Error msg ∷ []) old (record s { draft = with_error s.draft msg })
+Puts-error s old msg e goes = rw (← e) record {
+  position = omega arith;
+  went = λ after. after;
+  draft = λ after. record {
+    made = item.Error msg ∷ [];
+    items = refl;
+    steps_made = refl;
+    closed = search rules;
+    above = search rules;
+    ascending = search rules;
+    recorded = refl;
+    entries = refl;
+    turns_due = refl;
+  };
+  stays = λ failed. absurd (not_failed old goes (subst (λ t. IsSome t.first_reason) e failed));
+  refused = λ before reason refused. absurd (let r = refused in cc);
+}
 
 -- one that had no room for an event
 pub Puts-full : (old new : State) (msg : List ℕ) → errors_of old.draft.items ≤ old.max_errors → IsSome new.first_reason → new.position ≡ old.position → new.draft ≡ old.draft

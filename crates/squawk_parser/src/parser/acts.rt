@@ -12,7 +12,7 @@ ghost use Rattle.squawk_parser.specs.State.{HasNotFailed, Keeps, Records, ahead,
 
 use crate::parser::Parser;
 use crate::parser::marker::Marker;
-use crate::parser::parse_error::ParseError;
+use crate::parser::recording::note;
 use squawk_kinds::{SyntaxKind, TokenSet};
 use squawk_log::Made;
 
@@ -27,10 +27,7 @@ impl Parser<'_> {
     {
         let id = self.log.next_id();
         if self.has_room() {
-            match self.log.start() {
-                Ok(()) => {}
-                Err(_) => self.first_reason = Some(ParseError::OutOfMemory),
-            }
+            note(&mut self.first_reason, self.log.start());
         }
         let made = Made::ByStart;
         Marker { id, made }

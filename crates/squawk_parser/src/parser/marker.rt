@@ -6,7 +6,7 @@ ghost use Rattle.squawk_parser.specs.State.{Changes, HasNotFailed, HasHole, HasN
 ghost use Rattle.squawk_log.specs.Draft.{ByPrecede, IsAboveIds};
 
 use crate::parser::Parser;
-use crate::parser::parse_error::ParseError;
+use crate::parser::recording::note;
 use squawk_kinds::SyntaxKind;
 use squawk_log::Made;
 use std::marker::Model;
@@ -59,10 +59,7 @@ impl Marker {
     {
         let Marker { id, made: _ } = self;
         if p.has_room() {
-            match p.log.complete(id, kind) {
-                Ok(()) => {}
-                Err(_) => p.first_reason = Some(ParseError::OutOfMemory),
-            }
+            note(&mut p.first_reason, p.log.complete(id, kind));
         }
         CompletedMarker { id, kind }
     }
@@ -106,10 +103,7 @@ impl CompletedMarker {
         let CompletedMarker { id: node, kind } = self;
         let id = p.log.next_id();
         if p.has_room() {
-            match p.log.precede(node, kind) {
-                Ok(()) => {}
-                Err(_) => p.first_reason = Some(ParseError::OutOfMemory),
-            }
+            note(&mut p.first_reason, p.log.precede(node, kind));
         }
         let made = Made::ByPrecede;
         Marker { id, made }

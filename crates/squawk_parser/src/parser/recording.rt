@@ -1,5 +1,5 @@
 //! One event at a time: the limits are tested first, and memory is asked for last.
-ghost use Rattle.std.specs.Prelude.{◌≡◌, ◌+◌, ◌<◌, ◌∷◌, [], string_bytes, IsTrue, IsSome, Some, IfOk, List, ℕ, not};
+ghost use Rattle.std.specs.Prelude.{◌≡◌, ◌+◌, ◌<◌, ◌∷◌, [], string_bytes, IsTrue, IsSome, Some, IsOk, IsErr, IfOk, List, ℕ, not};
 ghost use Rattle.std.specs.Str.{chars};
 ghost use Rattle.squawk_table.specs.Shape.{AreOneToken};
 ghost use Rattle.squawk_output.specs.Steps.{Error};
@@ -7,13 +7,23 @@ ghost use Rattle.squawk_log.specs.Draft.{errors_of};
 ghost use Rattle.squawk_log.specs.Edits.{with_token};
 ghost use Rattle.squawk_parser.specs.Recorded.{Puts};
 ghost use Rattle.squawk_parser.specs.State.{HasNotFailed, Keeps, Records, ahead};
-ghost use Rattle.squawk_parser.specs.declared.parser.parse_error.ParseError.TheVariants.{TooManyEvents};
+ghost use Rattle.squawk_parser.specs.declared.parser.parse_error.ParseError.TheVariants.{OutOfMemory, TooManyEvents};
 
 use crate::parser::Parser;
 use crate::parser::parse_error::ParseError;
 use squawk_kinds::SyntaxKind;
 use squawk_output::Text;
 use std::alloc::AllocError;
+
+/// Notes a refused growth as the first reason of a parser that had not failed.
+pub(super) fn note(first_reason: &mut Option<ParseError>, grown: Result<(), AllocError>)
+    ensures ok { IsOk grown → first_reason.new ≡ first_reason.old }
+    ensures err { IsErr grown → first_reason.new ≡ Some OutOfMemory }
+{
+    if let Err(AllocError) = grown {
+        *first_reason = Some(ParseError::OutOfMemory);
+    }
+}
 
 impl Parser<'_> {
     /// Eats the next `n` tokens of the input, which touch one another, as one token of this kind.
@@ -24,10 +34,7 @@ impl Parser<'_> {
         ensures records { Records self.old self.new (with_token self.old.draft kind n_input_tokens) }
     {
         if self.has_room() {
-            match self.log.token(kind, n_input_tokens) {
-                Ok(()) => {}
-                Err(_) => self.first_reason = Some(ParseError::OutOfMemory),
-            }
+            note(&mut self.first_reason, self.log.token(kind, n_input_tokens));
         }
         self.position += n_input_tokens as usize;
     }
@@ -40,14 +47,11 @@ impl Parser<'_> {
         ensures keeps { Keeps self.old self.new }
         ensures puts { (msg : List ℕ) → IfOk text (λ s. chars (string_bytes s) ≡ msg) → Puts (Error msg ∷ []) self.old self.new }
     {
-        let Ok(text) = text else {
-            self.first_reason = Some(ParseError::OutOfMemory);
-            return;
+        let text = match text {
+            Ok(text) => Text::new(text),
+            Err(refused) => return note(&mut self.first_reason, Err(refused)),
         };
-        match self.log.error(Text::new(text)) {
-            Ok(()) => {}
-            Err(_) => self.first_reason = Some(ParseError::OutOfMemory),
-        }
+        note(&mut self.first_reason, self.log.error(text));
     }
 
     /// Whether one more event may be recorded. Where the limit is reached, the parser fails.

@@ -1,4 +1,4 @@
-use Rattle.std.proofs.Common.{◌≡◌, ◌≢◌, ◌==◌, ◌∙◌, ℕ, List, ◌∷◌, None, Some, [], Bool, true, length, map, arith, ap, sym, subst}
+use Rattle.std.proofs.Common.{◌≡◌, ◌≢◌, ◌==◌, ◌∙◌, ℕ, List, ◌∷◌, None, Some, [], Bool, true, length, map, ap, sym, subst}
 use Rattle.std.proofs.lemmas.Bool.{eqb-true}
 use Rattle.squawk_kinds.specs.Kinds.{EOF}
 use Rattle.squawk_kinds.specs.TokenSets.{has}
@@ -11,7 +11,7 @@ use Rattle.squawk_parser.specs.Eaten.{element_steps, node, row_of}
 use Rattle.squawk_parser.specs.Recorded.{Puts}
 use Rattle.squawk_parser.specs.State.{ahead}
 use Rattle.squawk_parser.specs.declared.parser.composite.Form.TheVariants as form
-use Rattle.squawk_parser.proofs.CompositeFacts.{IsRow, eat_steps-none, eat_steps-row, glued-no_end, glued-two, is_no_row, is_row, sequence-no_end, stands_at-none, stands_at-row}
+use Rattle.squawk_parser.proofs.CompositeFacts.{IsRow, eat_steps-none, eat_steps-row, glued-no_end, glued-some, is_no_row, is_row, sequence-no_end, stands_at-none, stands_at-row}
 use Rattle.squawk_parser.proofs.RecordedSteps.{hole_stays, node_puts, token_puts}
 use Rattle.squawk_parser.proofs.SeenSteps.{ahead-still, and-left, seen_one, touching_all}
 use Rattle.squawk_parser.proofs.parser.Parser.eat.Goals as goal
@@ -21,7 +21,7 @@ glued_one : (kind : ℕ) (parts slice : List ℕ) (seen : List Entry) (operator_
     → stands_at operator_kind kind seen ≡ true → slice ≡ parts → AreOneToken (length slice) seen
 glued_one kind parts slice seen operator_kind r stands is =
     let touch : do_touch parts seen ≡ true = and-left _ _ (sym (stands_at-row operator_kind seen r) ∙ stands) in
-    subst (λ xs. AreOneToken (length xs) seen) (sym is) (touching_all parts seen (omega (arith, glued-two r)) (glued-no_end r) touch)
+    subst (λ xs. AreOneToken (length xs) seen) (sym is) (touching_all parts seen (glued-some r) (glued-no_end r) touch)
 
 -- so is the token of a kind that isn't composite
 plain_one : (kind : ℕ) (seen : List Entry) (operator_kind : ℕ → Bool) → row_of kind ≡ None → stands_at operator_kind kind seen ≡ true → kind ≢ EOF → AreOneToken 1 seen

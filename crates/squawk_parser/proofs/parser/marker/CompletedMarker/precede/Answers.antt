@@ -1,7 +1,9 @@
 use Rattle.std.proofs.Common.{◌≡◌, ◌∙◌, ap, sym, refl, subst}
 use Rattle.std.specs.Prelude.{true, Contains}
 use Rattle.squawk_log.specs.Draft.{IsAboveIds, Node, Open}
-use Rattle.squawk_parser.specs.State.{State}
+use Rattle.squawk_log.specs.Edits.{preceded}
+use Rattle.squawk_parser.specs.State.{State, IsSound}
+use Rattle.squawk_parser.proofs.Noted.{noted}
 use Rattle.squawk_parser.proofs.Soundness.{IsKept-failed}
 use Rattle.squawk_parser.proofs.SoundMoves.{IsKept-preceded}
 use Rattle.squawk_parser.proofs.ParserViews.{seen, kept, has_room}
@@ -13,15 +15,13 @@ invariant_of-p c =
     let room = c.if-has_room.ensures.room refl in
     let same : s ≡ c.args.p.now = c.p-2.view_is ∙ room.0 in
     let can = has_room s c.args.p.now same (room.1, room.2) in
-    let before : c.p.inside.log ≡ s.draft = ap (λ t. t.draft) (c.p.view_is ∙ sym same) in
-    let above : IsAboveIds s.draft.entries s.draft.items = subst (λ d. IsAboveIds d.entries d.items) before (rw (← c.next_id-id.ensures.id) c.next_id-id.ensures.above) in
+    let log : c.p.inside.log ≡ s.draft = ap (λ t. t.draft) (c.p.view_is ∙ sym same) in
+    let above : IsAboveIds s.draft.entries s.draft.items = subst (λ d. IsAboveIds d.entries d.items) log (rw (← c.next_id-id.ensures.id) c.next_id-id.ensures.above) in
     let Has : State → Node → Type 0 = λ t m. Contains t.draft.items (Open m.id m.kind true) in
     let there = subst (λ t. Has t (record { id = c.self.inside.id; kind = c.self.inside.kind })) (sym same)
     (subst (Has c.args.p.now) (sym c.self.view_is) (c.requires room.1)) in
-    let after = IsKept-preceded s c.self.inside.id c.self.inside.kind s.draft.entries (kept c.p-2.inside c.p-2.invariant) can.goes can.room there above in
-    rw c.in-Ok.ensures.ok after.sound
-
-pub invariant_of-p-in-Err : goal.invariant_of-p-in-Err
-invariant_of-p-in-Err c =
-    let after = IsKept-failed (seen c.p-2.inside) (kept c.p-2.inside c.p-2.invariant) in
-    rw c.in-Err.ensures.err after.sound
+    let before = kept c.p-2.inside c.p-2.invariant in
+    let after = IsKept-preceded s c.self.inside.id c.self.inside.kind s.draft.entries before can.goes can.room there above in
+    let failed = IsKept-failed s before in
+    noted (λ draft reason. IsSound (record s { draft = draft; first_reason = reason })) s (preceded s.draft c.self.inside.id s.draft.entries) c.precede.new.self
+    c.note.new.first_reason c.precede.result after.sound failed.sound c.precede.ensures.ok c.precede.ensures.err c.note.ensures.ok c.note.ensures.err

@@ -1,8 +1,10 @@
 use Rattle.std.proofs.Common.{◌≡◌, ◌∙◌, ℕ, sym, refl, subst}
 use Rattle.std.specs.Prelude.{Contains}
 use Rattle.squawk_log.specs.Draft.{Hole, Made}
+use Rattle.squawk_log.specs.Edits.{completed}
 use Rattle.squawk_log.specs.LogDraft.{made_of}
-use Rattle.squawk_parser.specs.State.{State}
+use Rattle.squawk_parser.specs.State.{State, IsSound}
+use Rattle.squawk_parser.proofs.Noted.{noted}
 use Rattle.squawk_parser.proofs.Soundness.{IsKept-completed, IsKept-failed}
 use Rattle.squawk_parser.proofs.ParserViews.{seen, kept, has_room}
 use Rattle.squawk_parser.proofs.parser.marker.Marker.complete.Goals as goal
@@ -18,10 +20,8 @@ invariant_of-p c =
     let there : Contains s.draft.items (Hole c.self.inside.id made) =
     subst (λ t. Has t c.self.inside.id made) (sym same)
     (subst (λ m. Has c.args.p.now m.id m.made) (sym c.self.view_is) (c.requires.hole room.1)) in
-    let after = IsKept-completed s c.self.inside.id c.args.kind made (kept c.p.inside c.p.invariant) can.goes can.room there in
-    rw c.in-Ok.ensures.ok after.sound
-
-pub invariant_of-p-in-Err : goal.invariant_of-p-in-Err
-invariant_of-p-in-Err c =
-    let after = IsKept-failed (seen c.p.inside) (kept c.p.inside c.p.invariant) in
-    rw c.in-Err.ensures.err after.sound
+    let before = kept c.p.inside c.p.invariant in
+    let after = IsKept-completed s c.self.inside.id c.args.kind made before can.goes can.room there in
+    let failed = IsKept-failed s before in
+    noted (λ draft reason. IsSound (record s { draft = draft; first_reason = reason })) s (completed s.draft c.self.inside.id c.args.kind) c.complete.new.self
+    c.note.new.first_reason c.complete.result after.sound failed.sound c.complete.ensures.ok c.complete.ensures.err c.note.ensures.ok c.note.ensures.err
