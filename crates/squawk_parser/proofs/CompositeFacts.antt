@@ -4,7 +4,7 @@ use Rattle.std.specs.Prelude.{option_map, unwrap_or}
 use Rattle.std.specs.List.{find, list_all}
 use Rattle.std.proofs.lemmas.Bool.{eqb-true}
 use Rattle.std.proofs.lemmas.List.Elements.{All-nil, All-cons}
-use Rattle.squawk_kinds.specs.Kinds.{EOF, R_PAREN, TOMBSTONE, UNICODE_NORMAL_FORM}
+use Rattle.squawk_kinds.specs.Kinds.{EOF, R_PAREN, UNICODE_NORMAL_FORM}
 use Rattle.squawk_table.specs.ParserInput.{Entry}
 use Rattle.squawk_parser.specs.CompositeRows.{element_of, form_of}
 use Rattle.squawk_parser.specs.Composites.{Element, One, AtMostOne, Tail, NoTail, Open, ClosedBy, Form, Glued, Touching, Sequence, Operator, Composite, composites, HasNoEndKind, has_form, normal_form, stands_as, stands_at}
@@ -110,10 +110,6 @@ module _ {kind : ℕ} {parts : List ℕ} (r : IsRow kind (Glued parts)) where
   unfolding is_good
   glued-no_end = HasNoEndKind-test parts (and-left _ _ (good r))
 
-pub touching-no_end : {kind : ℕ} {parts : List ℕ} → IsRow kind (Touching parts) → HasNoEndKind parts
-unfolding is_good
-touching-no_end {kind} {parts} r = HasNoEndKind-test parts (good r)
-
 module _ (kind : ℕ) (parts : List ℕ) (tail : Tail) (r : IsRow kind (Sequence (map element_of parts) tail)) where
   pub sequence-no_end : HasNoEndKind parts
   unfolding is_good
@@ -125,14 +121,6 @@ module _ (kind : ℕ) (parts : List ℕ) (tail : Tail) (r : IsRow kind (Sequence
       let closed : is_closed_well tail ≡ true = and-right (no_end (map kind_of (map element_of parts))) (is_closed_well tail) (good r) in
       let test : (closing == R_PAREN) ≡ true = sym (ap is_closed_well e) ∙ closed in
       eqb-true closing R_PAREN test
-
--- a composite kind isn't a tombstone
-pub no_tombstone : {kind : ℕ} {form : Form} → IsRow kind form → kind ≢ TOMBSTONE
-no_tombstone {kind} r e = absurd (let none : None ≡ Some r.row = ap row_of (sym e) ∙ r.is in cc)
-
--- the parenthesis that closes isn't composite
-pub paren_has_no_tail : (closing : ℕ) → closing ≡ R_PAREN → tail_of_kind closing ≡ NoTail
-paren_has_no_tail closing e = ap tail_of_kind e
 
 -- ---- where it stands, and what it makes
 

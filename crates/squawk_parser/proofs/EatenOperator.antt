@@ -8,7 +8,7 @@ use Rattle.squawk_log.specs.Edits.{with_token}
 use Rattle.squawk_parser.specs.Operators.{is_operator_name, longest_name, operator_length, touching_run}
 use Rattle.squawk_parser.specs.Recorded.{Puts}
 use Rattle.squawk_parser.specs.State.{State, Keeps, Records, ahead, kind_at}
-use Rattle.squawk_parser.proofs.RecordedSteps.{Keeps-none, Keeps-then, puts-none, puts-then}
+use Rattle.squawk_parser.proofs.RecordedSteps.{Keeps-then, puts-then}
 use Rattle.squawk_parser.proofs.SeenSteps.{ahead-moved, bump_puts}
 
 -- a name is no longer than it may be
@@ -59,9 +59,6 @@ pub record AreEaten (i : ℕ) (old now : State) : Type 0 where
   pub keeps : Keeps old now
   pub puts : Puts (map (λ e. one e.kind) (take i (ahead old 0))) old now
   pub seen : ahead now 0 ≡ drop i (ahead old 0)
-
-pub are_eaten-none : (old : State) → AreEaten 0 old old
-are_eaten-none old = record { keeps = Keeps-none old; puts = puts-none old; seen = refl }
 
 -- the next one of an operator is eaten
 pub are_eaten-next : (operator_kind : ℕ → Bool) (i : ℕ) (old now next : State) → operator_kind EOF ≡ false

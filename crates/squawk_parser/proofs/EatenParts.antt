@@ -4,10 +4,9 @@ use Rattle.std.specs.Prelude.{IsSome, is_some, option_map}
 use Rattle.std.specs.List.{list_any}
 use Rattle.std.proofs.lemmas.Bool.{eqb-true}
 use Rattle.std.proofs.Math.Seq.{drop-cons, take-suc}
-use Rattle.std.proofs.lemmas.List.{append-nil, drop_all, map-append, take_all}
+use Rattle.std.proofs.lemmas.List.{map-append, take_all}
 use Rattle.squawk_kinds.specs.Kinds.{EOF, UNICODE_NORMAL_FORM}
 use Rattle.squawk_table.specs.ParserInput.{Entry, kind_in}
-use Rattle.squawk_table.specs.Shape.{AreOneToken}
 use Rattle.squawk_output.specs.Steps.{Step, eaten}
 use Rattle.squawk_parser.specs.CompositeRows.{element_of}
 use Rattle.squawk_parser.specs.Composites.{Element, One, HasNoEndKind, do_touch, normal_form, normal_forms, sequence_length}
@@ -16,8 +15,8 @@ use Rattle.squawk_log.specs.Edits.{with_token}
 use Rattle.squawk_parser.specs.LookAhead.{touches_next}
 use Rattle.squawk_parser.specs.Recorded.{Puts}
 use Rattle.squawk_parser.specs.State.{State, Keeps, Records, ahead}
-use Rattle.squawk_parser.proofs.RecordedSteps.{Keeps-none, Keeps-then, puts-none, puts-then, token_puts}
-use Rattle.squawk_parser.proofs.SeenSteps.{ahead-moved, and-left, and-right, if-true, if-false, seen_one}
+use Rattle.squawk_parser.proofs.RecordedSteps.{Keeps-then, puts-then, token_puts}
+use Rattle.squawk_parser.proofs.SeenSteps.{ahead-moved, and-right, if-true, if-false}
 
 -- the part at a place, and those behind it
 part_here : (parts : List ℕ) (i part : ℕ) → i < length parts → part ≡ get_or parts i part → drop i parts ≡ part ∷ drop (i + 1) parts
@@ -34,19 +33,9 @@ pub record IsTouched (parts : List ℕ) (i : ℕ) (old now : State) : Type 0 whe
   pub puts : Puts (map one (take i parts)) old now
   pub touch : do_touch (drop i parts) (ahead now 0) ≡ true
 
-pub touched-none : (parts : List ℕ) (old : State) → do_touch parts (ahead old 0) ≡ true → IsTouched parts 0 old old
-touched-none parts old touch = record { keeps = Keeps-none old; puts = puts-none old; touch = touch }
-
 module _ (parts : List ℕ) (i part : ℕ) (old now : State) (lt : i < length parts) (is : part ≡ get_or parts i part) (so_far : IsTouched parts i old now) where
   both : ((kind_in (ahead now 0) 0 == part) && ((length (drop (i + 1) parts) == 0) || touches_next (ahead now 0))) && do_touch (drop (i + 1) parts) (drop 1 (ahead now 0)) ≡ true
   both = sym (ap (λ xs. do_touch xs (ahead now 0)) (part_here parts i part lt is)) ∙ so_far.touch
-
-  -- the next of them stands
-  pub touched-stands : HasNoEndKind parts → AreOneToken 1 (ahead now 0)
-  touched-stands no_end =
-      let first : (kind_in (ahead now 0) 0 == part) ≡ true = and-left _ _ (and-left _ _ both) in
-      let same : kind_in (ahead now 0) 0 ≡ part = eqb-true (kind_in (ahead now 0) 0) part first in
-      seen_one (ahead now 0) (λ end. some_kind parts i part no_end lt is (sym same ∙ end))
 
   -- and is eaten
   pub touched-next : (next : State) → Keeps now next → next.position ≡ now.position + 1 → Records now next (with_token now.draft part 1)
@@ -75,15 +64,6 @@ pub record IsEaten (parts : List ℕ) (i : ℕ) (old now : State) : Type 0 where
   pub puts : Puts done old now
   pub all : done ++ element_steps (map element_of (drop i parts)) (ahead now 0) ≡ element_steps (map element_of parts) (ahead old 0)
   pub stands : IsSome (sequence_length (map element_of (drop i parts)) (ahead now 0))
-
-pub eaten-none : (parts : List ℕ) (old : State) → IsSome (sequence_length (map element_of parts) (ahead old 0)) → IsEaten parts 0 old old
-eaten-none parts old stands = record { keeps = Keeps-none old; done = []; puts = puts-none old; all = refl; stands = stands }
-
-pub eaten-all : (parts : List ℕ) (i : ℕ) (old now : State) → length parts ≤ i → IsEaten parts i old now
-    → Puts (element_steps (map element_of parts) (ahead old 0)) old now
-eaten-all parts i old now le so_far =
-    let none : element_steps (map element_of (drop i parts)) (ahead now 0) ≡ [] = ap (λ xs. element_steps (map element_of xs) (ahead now 0)) (drop_all i parts le) in
-    subst (λ steps. Puts steps old now) (sym (append-nil so_far.done) ∙ (ap (λ xs. so_far.done ++ xs) (sym none) ∙ so_far.all)) so_far.puts
 
 -- what the first of some elements records, and what stands behind it
 record IsFirst (element : Element) (elements : List Element) (seen : List Entry) (steps : List Step) : Type 0 where
@@ -148,9 +128,6 @@ module _ (parts : List ℕ) (i part : ℕ) (old now : State) (lt : i < length pa
   first : (part == UNICODE_NORMAL_FORM) ≡ false
       → (kind_in (ahead now 0) 0 ≡ part) × IsFirst (One part) (map element_of (drop (i + 1) parts)) (ahead now 0) (one part ∷ [])
   first other = first-one part (map element_of (drop (i + 1) parts)) (ahead now 0) (stands_now (One part) (if-false _ _ _ other))
-
-  pub eaten-stands : (part == UNICODE_NORMAL_FORM) ≡ false → HasNoEndKind parts → AreOneToken 1 (ahead now 0)
-  eaten-stands other no_end = seen_one (ahead now 0) (λ end. some_kind parts i part no_end lt is (sym (first other).0 ∙ end))
 
   pub eaten-next : (next : State) → (part == UNICODE_NORMAL_FORM) ≡ false → Keeps now next → next.position ≡ now.position + 1
       → Records now next (with_token now.draft part 1)

@@ -66,9 +66,6 @@ IsTaken-without_hole id made items once there =
 
 -- ---- a node that is extended
 
-abbrev one_if : Bool → ℕ
-one_if b = cond b 1 0
-
 module _ (node : Node) (id : ℕ) (made : Made) (xs ys zs : List Item) where
   abbrev opening : Item
   opening = Open node.id node.kind true
@@ -98,7 +95,7 @@ module _ (node : Node) (id : ℕ) (made : Made) (xs ys zs : List Item) where
   without_opening once =
       let p = is_opening_of node.id in
       let front = xs ++ Hole id made ∷ ys in
-      let there = ap one_if (itself node.id) in
+      let there = ap {B = ℕ} (λ b. cond b 1 0) (itself node.id) in
       let total : count_by p xs + (count_by p ys + (1 + count_by p zs)) ≤ 1 = omega (arith, openings-once node.id later once, counts p, there) in
       let none : count_by p front ≡ 0 =
       omega (arith, count_by-append p xs (Hole id made ∷ ys), count_by-fails p (Hole id made) ys refl) in
@@ -110,7 +107,7 @@ module _ (node : Node) (id : ℕ) (made : Made) (xs ys zs : List Item) where
   moved-there once =
       let p = is_hole_of id in
       let f = λ (item : Item). opening ∷ [] in
-      let there = ap one_if (itself id) in
+      let there = ap {B = ℕ} (λ b. cond b 1 0) (itself id) in
       let total : count_by p xs + (1 + (count_by p ys + count_by p zs)) ≤ 1 = omega (arith, holes-once id later once, counts p, there) in
       ap (replaced p f) (without_opening once)
       ∙ replaced-at p f xs (ys ++ zs) (Hole id made) (itself id) (omega arith) (omega (arith, count_by-append p ys zs))

@@ -1,7 +1,7 @@
 -- Where one marker stands after one more call.
 use Rattle.std.proofs.Common.{◌≡◌, ◌∙◌, ◌≢◌, ◌⊎◌, inl, inr, ℕ, ◌<◌, ◌≤◌, ◌&&◌, ◌||◌, Bool, true, false, not, List, [], ◌∷◌, ◌++◌, length, nat_lt, refl, sym, ap, arith}
 use Rattle.std.specs.List.{list_any}
-use Rattle.std.proofs.Math.Bool.{or-false}
+use Rattle.std.proofs.Math.Bool.{and-true, or-false}
 use Rattle.std.proofs.lemmas.Bool.{and_parts, and_right, cases_lt, lt-ltb, or_right}
 use Rattle.std.proofs.lemmas.List.{get_or_past}
 use Rattle.std.proofs.lemmas.List.Folds.{list_any-append}
@@ -56,10 +56,6 @@ false_from_not : (b : Bool) → not b ≡ true → b ≡ false
 false_from_not true e = cc
 false_from_not false e = refl
 
-and_true : (b : Bool) → (b && true) ≡ b
-and_true true = refl
-and_true false = refl
-
 none : (b : Bool) → false ≡ (b && false)
 none b = sym (and_right b false refl)
 
@@ -113,7 +109,7 @@ module _ (before : List Call) (statuses after : List Status) (call : Call) (m : 
       let c = any-push (completes m) before call ∙ ap (λ b. b || completes m call) had.1 in
       record {
         opened = rw (same, closed, any-this (spends m) before call spent) (none (nat_lt m (markers_of (before ++ call ∷ []))));
-        at_hand = rw (same, completed, p, c) (sym (and_true (completes m call)));
+        at_hand = rw (same, completed, p, c) (sym (and-true (completes m call)));
         unnamed = λ le. absurd (omega (arith, le, lt_after));
         unspent = λ e. cc (e, any-this (spends m) before call spent);
       }

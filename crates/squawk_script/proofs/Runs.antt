@@ -2,7 +2,7 @@
 use Rattle.std.proofs.Common.{◌≡◌, ◌∙◌, ℕ, ◌+◌, ◌<◌, ◌≤◌, Bool, true, false, Option, Some, None, List, [], ◌∷◌, ◌++◌, length, get_or, take, arith, ap, sym, refl, subst}
 use Rattle.std.specs.Prelude.{◌≢◌, Contains, IsTrue}
 use Rattle.std.proofs.Math.ListN.{get_or-map}
-use Rattle.std.proofs.lemmas.List.{get_or_default, length-map, take_all}
+use Rattle.std.proofs.lemmas.List.{get_or_default, take_all}
 use Rattle.std.proofs.lemmas.List.Elements.{All-cons, All-nil, Contains-append_right}
 use Rattle.std.proofs.lemmas.List.Sums.{fold-append}
 use Rattle.squawk_table.specs.ParserInput.{Entry}
@@ -16,7 +16,7 @@ use Rattle.squawk_parser.specs.declared.parser.parse_error.ParseError.TheVariant
 use Rattle.squawk_parser.proofs.RecordedItems.{errors-plain}
 use Rattle.squawk_parser.proofs.RecordedSteps.{Keeps-none, Keeps-then}
 use Rattle.squawk_parser.proofs.TailHoles.{went-kept}
-use Rattle.squawk_script.specs.Accepted.{IsAccepted, makes_marker, markers_of}
+use Rattle.squawk_script.specs.Accepted.{IsAccepted}
 use Rattle.squawk_script.specs.Events.{IsRunOf, errors_among, events_made, events_of, refusal}
 use Rattle.squawk_script.specs.Meaning.{Run, begin, run_of, seen, stepped}
 use Rattle.squawk_script.specs.Slots.{Holds, IsAt, IsRenamed, IsTied, Performs, is_admitted, is_status_open, same_id, slot_at, status_of, statuses_of}
@@ -24,7 +24,7 @@ use Rattle.squawk_script.specs.declared.call.Call.{Call}
 use Rattle.squawk_script.specs.declared.slot.Slot.{Slot}
 use Rattle.squawk_script.specs.declared.slot.Slot.TheVariants.{Open, Spent}
 use Rattle.squawk_script.proofs.Events.{errors-events, events-more, recorded-events}
-use Rattle.squawk_script.proofs.GoodCalls.{admitted-at, next, opened-last, room, statuses-more}
+use Rattle.squawk_script.proofs.GoodCalls.{admitted-at, next, opened-last, statuses-more}
 use Rattle.squawk_script.proofs.Held.{holds-begin}
 use Rattle.squawk_script.proofs.Refusals.{none-refused, refusal-append}
 use Rattle.squawk_script.proofs.RenamedSteps.{same-errors, same-plain}
@@ -118,12 +118,6 @@ module _ (start : State) (calls : List Call) (s : State) (slots : List Slot) (i 
       refused (Some r) failing reason failed told =
           let same : s.first_reason ≡ Some reason = sym (keeps.reason (rw failing refl)) ∙ failed in
           refusal-append start.max_events start.max_errors before (made start.words start.input) reason (stands.fails reason same told)
-
-  -- a slot for each marker of the calls so far, and room for that of the call
-  pub stands-room : IsTrue (makes_marker call) → length slots < markers_of calls
-  stands-room makes =
-      let count : length slots ≡ length (statuses_of slots) = sym (length-map slots status_of) in
-      omega (arith, count, room calls (statuses_of slots) i call lt is stands.statuses makes)
 
 -- ---- behind the last call
 
