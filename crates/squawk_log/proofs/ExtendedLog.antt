@@ -1,6 +1,7 @@
 -- A link from a hole to a node that has none, and the hole's mark taken away: the hole goes, and the opening stands where the hole stood,
 -- if that was before it.
 use Rattle.std.proofs.Common.{◌≡◌, ◌≢◌, ◌∙◌, ◌⊎◌, ℕ, suc, ◌+◌, ◌==◌, ◌<◌, Bool, true, false, not, Some, None, List, [], ◌∷◌, length, get_or, set, refl, sym, ap, arith, if◌then◌else◌, inl, inr}
+use Rattle.std.specs.List.{list_any}
 use Rattle.std.proofs.lemmas.Bool.{cases_order, ne_eqb}
 use Rattle.std.proofs.lemmas.Bool.Decides.{eqb_tells}
 use Rattle.std.proofs.lemmas.List.{length-set, get_or-set_same, get_or-set_other}
@@ -16,24 +17,24 @@ use Rattle.squawk_log.proofs.Groups.{flat_map-gathered, gathered-same, itself}
 use Rattle.squawk_log.proofs.LinkedLog.{gathered-joined, owner-elsewhere, owner-remains}
 use Rattle.squawk_log.proofs.LogItems.{IsNodeAt, hole-elsewhere, opening-elsewhere, opening_if}
 use Rattle.squawk_log.proofs.Owners.{farthest, owner-most}
-use Rattle.squawk_log.proofs.StandsBefore.{each-before, each-behind, group-none, group-some, some}
+use Rattle.squawk_log.proofs.StandsBefore.{each-before, each-behind, group-none, group-some}
 
-no_hole : (id place : ℕ) (made : Made) (event : Event) (mark : Bool) → place ≢ id → some (is_hole_of id) (items_of place made event mark) ≡ false
+no_hole : (id place : ℕ) (made : Made) (event : Event) (mark : Bool) → place ≢ id → list_any (is_hole_of id) (items_of place made event mark) ≡ false
 no_hole id place made (Start kind link) true ne = rw (ne_eqb place id ne) refl
 no_hole id place made (Start kind link) false ne = cases (kind == TOMBSTONE) (not (has_link (Start kind link)))
   where
-    cases : (whole free : Bool) → some (is_hole_of id) (opening_if whole place kind free) ≡ false
+    cases : (whole free : Bool) → list_any (is_hole_of id) (opening_if whole place kind free) ≡ false
     cases true free = refl
     cases false free = refl
 no_hole id place made Finish mark ne = refl
 no_hole id place made (Token kind n) mark ne = refl
 no_hole id place made (Error text) mark ne = refl
 
-no_opening : (id place : ℕ) (made : Made) (event : Event) (mark : Bool) → place ≢ id → some (is_opening_of id) (items_of place made event mark) ≡ false
+no_opening : (id place : ℕ) (made : Made) (event : Event) (mark : Bool) → place ≢ id → list_any (is_opening_of id) (items_of place made event mark) ≡ false
 no_opening id place made (Start kind link) true ne = refl
 no_opening id place made (Start kind link) false ne = cases (kind == TOMBSTONE) (not (has_link (Start kind link)))
   where
-    cases : (whole free : Bool) → some (is_opening_of id) (opening_if whole place kind free) ≡ false
+    cases : (whole free : Bool) → list_any (is_opening_of id) (opening_if whole place kind free) ≡ false
     cases true free = refl
     cases false free = rw (ne_eqb place id ne) refl
 no_opening id place made Finish mark ne = refl
@@ -100,10 +101,10 @@ module _ (log : Log) (marks : List Bool) (id node kind d : ℕ) (same : length m
 
   -- ---- which stands first
 
-  holes_only : (j : ℕ) → j ≢ id → some (is_hole_of id) (items_at log marks j) ≡ false
+  holes_only : (j : ℕ) → j ≢ id → list_any (is_hole_of id) (items_at log marks j) ≡ false
   holes_only j ne = no_hole id j (made_at log j) (get_or log j Finish) (get_or marks j false) ne
 
-  openings_only : (j : ℕ) → j ≢ node → some (is_opening_of node) (items_at log marks j) ≡ false
+  openings_only : (j : ℕ) → j ≢ node → list_any (is_opening_of node) (items_at log marks j) ≡ false
   openings_only j ne = no_opening node j (made_at log j) (get_or log j Finish) (get_or marks j false) ne
 
   abbrev group : ℕ → List Item

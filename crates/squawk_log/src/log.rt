@@ -21,9 +21,11 @@ pub enum Made {
 
 /// What a parser has recorded, as a log of events.
 ///
-/// Contracts see it as a draft, in which every node begins where it will begin in the output. Beside
-/// each event stands a mark, set while the event is the hole of an open marker. An id is the place
-/// of an event; the place of one that was taken out again is used anew.
+/// Contracts see it as a draft, in which every node begins where it will begin in the output. An id
+/// is the place of an event; the place of one that was taken out again is used anew.
+///
+/// Beside each event stands a mark, set while the event is the hole of an open marker. No code asks
+/// for it: contracts tell by it an open marker from one that was given up, whose event is the same.
 #[derive(Drop)]
 pub struct EventLog {
     events: Vec<Event>,
