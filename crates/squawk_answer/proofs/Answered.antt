@@ -1,5 +1,5 @@
 -- What a parse by the calls of a document answers.
-use Rattle.std.proofs.Common.{Bor, map, ◌≡◌, ◌∙◌, ℕ, ◌≤◌, Bool, List, ◌++◌, Some, None, Ok, Err, ap, arith, sym, subst}
+use Rattle.std.proofs.Common.{Bor, map, ◌≡◌, ◌∙◌, ℕ, ◌≤◌, Bool, List, ◌++◌, Some, None, Ok, Err, inl, inr, ap, arith, sym, subst}
 use Rattle.std.specs.Prelude.{Result, IsErrAnd, MatchResult, ◌==◌, ◌↔◌, ◌≢◌, IsTrue, length}
 use Rattle.std.proofs.lemmas.Bool.Decides.{Decides-eqb, same_from_decides}
 use Rattle.squawk_document.specs.Documents.{Told}
@@ -9,12 +9,13 @@ use Rattle.squawk_table.specs.Sent.{sent_list}
 use Rattle.squawk_table.specs.Shape.{no_keywords}
 use Rattle.squawk_output.specs.Steps.{Step, Walk, eaten, errors_in}
 use Rattle.squawk_log.specs.Draft.{plain}
-use Rattle.squawk_parser.specs.Parse.{IsParse}
+use Rattle.squawk_parser.specs.Parse.{IsParse, IsRefusalOf, IsRefused}
+use Rattle.squawk_parser.specs.State.{State}
 use Rattle.squawk_parser.specs.declared.parser.parse_error.ParseError.{ParseError}
 use Rattle.squawk_parser.specs.declared.parser.parse_error.ParseError.TheVariants as parse
 use Rattle.squawk_script.specs.Meaning.{Meaning, run_of}
 use Rattle.squawk_answer.specs.Answers.{HasScript, Tells, lines, parse_refusal, parser_input, steps, table_for}
-use Rattle.squawk_script.specs.Events.{IsRunOf, events_of, refusal}
+use Rattle.squawk_script.specs.Events.{FailsByLimits, IsRunOf, events_of, refusal}
 use Rattle.squawk_answer.specs.declared.fault.Fault.{Fault}
 use Rattle.squawk_answer.specs.Fault.{fault_of_parse}
 use Rattle.squawk_answer.specs.Lines.{last_line, lex_lines, step_lines}
@@ -32,6 +33,15 @@ pub refusal-told : (d : Told) (reason : ParseError) → HasScript d → (reason 
 refusal-told d parse.OutOfMemory script fails = tt
 refusal-told d parse.TooManyEvents script fails = (script, fails (λ same. let p = same in cc))
 refusal-told d parse.TooManyErrors script fails = (script, fails (λ same. let p = same in cc))
+
+-- what refuses a parse by a script, if it isn't want of memory
+pub limit-told : (script : Meaning) (begun : State) (reason : ParseError) → IsRefused (FailsByLimits script) begun reason → reason ≢ parse.OutOfMemory
+    → refusal begun.max_events begun.max_errors (events_of script.words begun.input script.calls) ≡ Some reason
+limit-told script begun reason refused other = cases refused.refusal
+  where
+    cases : IsRefusalOf refused.left reason → refusal begun.max_events begun.max_errors (events_of script.words begun.input script.calls) ≡ Some reason
+    cases (inl first) = refused.ran reason first other
+    cases (inr memory) = absurd (other memory.1)
 
 -- a fault that is answered
 pub fault-told : {X : Type 0} (result : Result X Fault) (Q : X → Type 0) (P : Fault → Type 0) (fault : Fault) → IsErrAnd result (λ f. f ≡ fault) → P fault → MatchResult result Q P

@@ -4,7 +4,7 @@ use Rattle.squawk_table.specs.ParserInput.{Entry}
 use Rattle.squawk_log.specs.Draft.{Draft, HasNoHole, plain}
 use Rattle.squawk_output.specs.Steps.{Walk}
 use Rattle.squawk_table.specs.Shape.{IsBalanced, IsOver}
-use Rattle.squawk_parser.specs.State.{State, IsSound}
+use Rattle.squawk_parser.specs.State.{State, IsSound, Keeps}
 use Rattle.squawk_parser.specs.declared.parser.parse_error.ParseError.{ParseError}
 use Rattle.squawk_parser.specs.declared.parser.parse_error.ParseError.TheVariants.{OutOfMemory}
 
@@ -24,11 +24,10 @@ pub record IsParse (leaves : Draft → Type 0) (input : List Entry) (output : Wa
 abbrev pub IsRefusalOf : State → ParseError → Type 0
 IsRefusalOf s reason = (s.first_reason ≡ Some reason) ⊎ ((s.first_reason ≡ None) × (reason ≡ OutOfMemory))
 
--- a parser that worked over this input, under these limits, was left, and the parse is refused for that
-pub record IsRefused (input : List Entry) (max_events max_errors : ℕ) (reason : ParseError) : Type 0 where
+-- A run that begins with this parser may leave another, and the parse is refused for what that one is.
+pub record IsRefused (runs : State → State → Type 0) (begun : State) (reason : ParseError) : Type 0 where
   pub left : State
+  pub ran : runs begun left
+  pub keeps : Keeps begun left
   pub sound : IsSound left
-  pub same_input : left.input ≡ input
-  pub same_events : left.max_events ≡ max_events
-  pub same_errors : left.max_errors ≡ max_errors
   pub refusal : IsRefusalOf left reason

@@ -1,14 +1,14 @@
 -- What a script may leave is one plain list, one number of events, and one of turns. It may fail for one reason, and only where its events or its
 -- errors are too many.
-use Rattle.std.proofs.Common.{◌≡◌, ◌∙◌, ℕ, zero, suc, ◌<◌, ◌≤◌, Bool, true, false, Some, None, List, [], ◌∷◌, length, arith, sym}
+use Rattle.std.proofs.Common.{◌≡◌, ◌≢◌, ◌∙◌, ℕ, zero, suc, ◌<◌, ◌≤◌, Bool, true, false, Some, None, List, [], ◌∷◌, length, arith, sym}
 use Rattle.squawk_table.specs.ParserInput.{Entry}
 use Rattle.squawk_output.specs.Steps.{errors_in}
 use Rattle.squawk_log.specs.Draft.{Draft, plain}
+use Rattle.squawk_parser.specs.State.{State}
 use Rattle.squawk_parser.specs.declared.parser.grammar.EntryPoint.{EntryPoint}
-use Rattle.squawk_parser.specs.declared.parser.limits.Limits.{Limits}
 use Rattle.squawk_parser.specs.declared.parser.parse_error.ParseError.{ParseError}
 use Rattle.squawk_parser.specs.declared.parser.parse_error.ParseError.TheVariants.{OutOfMemory, TooManyEvents, TooManyErrors}
-use Rattle.squawk_script.specs.Events.{errors_among, events_of, refusal}
+use Rattle.squawk_script.specs.Events.{errors_among, refusal}
 use Rattle.squawk_script.specs.Meaning.{Meaning}
 use Rattle.squawk_script.specs.contracts.script.ScriptGrammar.TheImpl as grammar
 use Rattle.squawk_script.proofs.Events.{errors_among-cons}
@@ -56,30 +56,20 @@ more-errors (suc events) errors (false ∷ es) is = omega (arith, more-errors ev
 more-errors (suc events) zero (true ∷ es) is = omega (arith, errors_among-cons true es)
 more-errors (suc events) (suc errors) (true ∷ es) is = omega (arith, more-errors events errors es is, errors_among-cons true es)
 
--- no event is refused for want of memory
-never-memory : (events errors : ℕ) (es : List Bool) → refusal events errors es ≡ Some OutOfMemory → ⊥
-never-memory events errors [] is = absurd (cc)
-never-memory zero errors (e ∷ es) is = absurd (cc)
-never-memory (suc events) errors (false ∷ es) is = never-memory events errors es is
-never-memory (suc events) zero (true ∷ es) is = absurd (cc)
-never-memory (suc events) (suc errors) (true ∷ es) is = never-memory events errors es is
-
 -- ---- why a script may fail
 
-module _ (script : Meaning) (entry other : EntryPoint) (input : List Entry) (limits : Limits) where
-  -- from an entry point
-  abbrev Fails : EntryPoint → ParseError → Type 0
-  Fails from reason = grammar.fails-value.it script from input limits reason
+module _ (script : Meaning) (entry other : EntryPoint) (begun first second : State) where
+  -- what a run from an entry point may leave of a parser
+  abbrev Leaves : EntryPoint → State → Type 0
+  Leaves from left = grammar.runs-value.it script from begun left
 
-  -- for one reason, which is the same from both
-  pub one-reason : (first second : ParseError) → Fails entry first → Fails other second → first ≡ second
-  one-reason first second is are = let p = sym is ∙ are in cc
+  -- its limits make it fail for one reason, which is the same from both
+  pub one-reason : (one two : ParseError) → Leaves entry first → Leaves other second → first.first_reason ≡ Some one → second.first_reason ≡ Some two
+      → one ≢ OutOfMemory → two ≢ OutOfMemory → one ≡ two
+  one-reason one two left right is are limit limit' = let p = sym (left one is limit) ∙ right two are limit' in cc
 
-  pub no-memory : Fails entry OutOfMemory → ⊥
-  no-memory = never-memory limits.events limits.errors (events_of script.words input script.calls)
-
-  -- a draft within the limits is one of a run that may not fail under them
-  pub none-fails : (d : Draft) → grammar.leaves-value.it script entry input d → d.recorded ≤ limits.events → errors_in (plain d.items) ≤ limits.errors
-      → (reason : ParseError) → Fails other reason → ⊥
-  none-fails d left events errors reason is =
-      absurd (let p = sym (left.unrefused limits.events limits.errors events errors) ∙ is in cc)
+  -- a draft within the limits is one of a run that fails under them for want of memory alone
+  pub none-fails : (d : Draft) → grammar.leaves-value.it script entry begun.input d → d.recorded ≤ begun.max_events → errors_in (plain d.items) ≤ begun.max_errors
+      → Leaves other first → (reason : ParseError) → first.first_reason ≡ Some reason → reason ≢ OutOfMemory → ⊥
+  none-fails d left events errors ran reason is limit =
+      absurd (let p = sym (left.unrefused begun.max_events begun.max_errors events errors) ∙ ran reason is limit in cc)

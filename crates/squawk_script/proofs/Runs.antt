@@ -17,7 +17,7 @@ use Rattle.squawk_parser.proofs.RecordedItems.{errors-plain}
 use Rattle.squawk_parser.proofs.RecordedSteps.{Keeps-none, Keeps-then}
 use Rattle.squawk_parser.proofs.TailHoles.{went-kept}
 use Rattle.squawk_script.specs.Accepted.{IsAccepted}
-use Rattle.squawk_script.specs.Events.{IsRunOf, errors_among, events_made, events_of, refusal}
+use Rattle.squawk_script.specs.Events.{FailsByLimits, IsRunOf, errors_among, events_made, events_of, refusal}
 use Rattle.squawk_script.specs.Meaning.{Run, begin, run_of, seen, stepped}
 use Rattle.squawk_script.specs.Slots.{Holds, IsAt, IsRenamed, IsTied, Performs, is_admitted, is_status_open, same_id, slot_at, status_of, statuses_of}
 use Rattle.squawk_script.specs.declared.call.Call.{Call}
@@ -31,12 +31,9 @@ use Rattle.squawk_script.proofs.RenamedSteps.{same-errors, same-plain}
 use Rattle.squawk_script.proofs.Renaming.{renamed-begin}
 use Rattle.squawk_script.proofs.Statuses.{AreStatusesOf, statuses-begin}
 
--- A parser that has failed behind these calls, and not by want of memory, has failed for the reason for which its limits refuse one of
--- their events.
+-- what limits did to a parser behind these calls
 abbrev FailsBy : State → List Call → State → Type 0
-FailsBy start calls s =
-    (reason : ParseError) → s.first_reason ≡ Some reason → reason ≢ OutOfMemory
-    → refusal start.max_events start.max_errors (events_of start.words start.input calls) ≡ Some reason
+FailsBy start calls s = FailsByLimits (record { calls = calls; words = start.words }) start s
 
 pub record Stands (start : State) (calls : List Call) (s : State) (slots : List Slot) (i : ℕ) : Type 0 where
   pub tied : IsTied s slots

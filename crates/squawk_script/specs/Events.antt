@@ -1,11 +1,12 @@
 -- The events that the calls of a run record, and which of them is refused where there is room for so many.
-use Rattle.std.specs.Prelude.{◌≡◌, ℕ, zero, suc, ◌≤◌, Bool, true, false, Option, Some, None, List, [], ◌∷◌, ◌++◌, count_by, map}
+use Rattle.std.specs.Prelude.{◌≡◌, ◌≢◌, ℕ, zero, suc, ◌≤◌, Bool, true, false, Option, Some, None, List, [], ◌∷◌, ◌++◌, count_by, map}
 use Rattle.squawk_table.specs.ParserInput.{Entry}
 use Rattle.squawk_output.specs.Steps.{errors_in, is_error}
 use Rattle.squawk_log.specs.Draft.{Draft, plain}
+use Rattle.squawk_parser.specs.State.{State}
 use Rattle.squawk_parser.specs.Words.{Words}
 use Rattle.squawk_parser.specs.declared.parser.parse_error.ParseError.{ParseError}
-use Rattle.squawk_parser.specs.declared.parser.parse_error.ParseError.TheVariants.{TooManyEvents, TooManyErrors}
+use Rattle.squawk_parser.specs.declared.parser.parse_error.ParseError.TheVariants.{OutOfMemory, TooManyEvents, TooManyErrors}
 use Rattle.squawk_script.specs.Meaning.{Meaning, Run, begin, call_steps, run_of, seen, stepped}
 use Rattle.squawk_script.specs.declared.call.Call.{Call}
 use Rattle.squawk_script.specs.declared.call.Call.TheVariants.{Start, Complete, Precede}
@@ -39,6 +40,13 @@ refusal zero errors (e ∷ es) = Some TooManyEvents
 refusal (suc events) errors (false ∷ es) = refusal events errors es
 refusal (suc events) zero (true ∷ es) = Some TooManyErrors
 refusal (suc events) (suc errors) (true ∷ es) = refusal events errors es
+
+-- A parser that makes the calls and fails, and not for want of memory, fails for the reason for which the limits that it began with refuse
+-- one of their events.
+abbrev pub FailsByLimits : Meaning → State → State → Type 0
+FailsByLimits script begun left =
+    (reason : ParseError) → left.first_reason ≡ Some reason → reason ≢ OutOfMemory
+    → refusal begun.max_events begun.max_errors (events_of script.words begun.input script.calls) ≡ Some reason
 
 -- The draft has the plain list and the counts of the run. Its ids may be others. Under limits that it is within, none of the
 -- run's events is refused.

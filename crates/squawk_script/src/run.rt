@@ -1,10 +1,9 @@
 //! A run of calls.
-ghost use Rattle.std.specs.Prelude.{◌≡◌, ◌≢◌, ◌<◌, IsTrue, OnOk, Some, vec_len, vec_capacity};
+ghost use Rattle.std.specs.Prelude.{◌≡◌, ◌<◌, IsTrue, OnOk, vec_len, vec_capacity};
 ghost use Rattle.squawk_log.specs.Draft.{HasNoHole};
 ghost use Rattle.squawk_parser.specs.State.{HasNotFailed, IsFresh, Keeps};
-ghost use Rattle.squawk_parser.specs.declared.parser.parse_error.ParseError.{ParseError};
 ghost use Rattle.squawk_script.specs.Accepted.{IsAccepted, makes_marker, markers_of};
-ghost use Rattle.squawk_script.specs.Events.{IsRunOf, events_of, refusal};
+ghost use Rattle.squawk_script.specs.Events.{FailsByLimits, IsRunOf};
 ghost use Rattle.squawk_script.specs.Slots.{IsTied, Performs, is_admitted, statuses_of};
 ghost use Rattle.squawk_script.specs.declared.call.Call.TheVariants as calls;
 
@@ -115,9 +114,9 @@ pub fn run_calls(
     requires markers { markers ≡ markers_of calls.now }
     ensures keeps { Keeps p.old p.new }
     ensures closed { OnOk result (HasNotFailed p.new → HasNoHole p.new.draft.items) }
-    ensures runs { OnOk result (HasNotFailed p.new → IsRunOf (record { calls = calls.now; words = p.old.words }) p.old.input p.new.draft) }
+    ensures leaves { OnOk result (HasNotFailed p.new → IsRunOf (record { calls = calls.now; words = p.old.words }) p.old.input p.new.draft) }
     // Also where the answer is want of memory.
-    ensures fails { (reason : ParseError) → p.new.first_reason ≡ Some reason → reason ≢ ParseError.OutOfMemory → refusal p.old.max_events p.old.max_errors (events_of p.old.words p.old.input calls.now) ≡ Some reason }
+    ensures runs { FailsByLimits (record { calls = calls.now; words = p.old.words }) p.old p.new }
 {
     let mut slots = Vec::with_capacity(alloc, markers)?;
     for call in calls {

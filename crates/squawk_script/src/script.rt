@@ -62,12 +62,11 @@ impl<'t> Script<'t> {
 }
 
 impl Grammar for Script<'_> {
-    ghost use Rattle.std.specs.Prelude.{◌≡◌, Some};
-    ghost use Rattle.squawk_script.specs.Events.{IsRunOf, events_of, refusal};
+    ghost use Rattle.squawk_script.specs.Events.{FailsByLimits, IsRunOf};
 
     ghost leaves = { λ script _ input draft. IsRunOf script input draft };
 
-    ghost fails = { λ script _ input limits reason. refusal limits.events limits.errors (events_of script.words input script.calls) ≡ Some reason };
+    ghost runs = { λ script _ begun left. FailsByLimits script begun left };
 
     ghost meaning = { λ script. script.words };
 

@@ -1,10 +1,8 @@
 //! Grammars, and the parse of an input by one.
-ghost use Rattle.std.specs.Prelude.{◌≡◌, ◌≢◌, ◌≤◌, IfOk, IfErr};
+ghost use Rattle.std.specs.Prelude.{◌≤◌, IfOk, IfErr};
 ghost use Rattle.squawk_output.specs.Steps.{errors_in};
-ghost use Rattle.squawk_log.specs.Draft.{Draft, HasNoHole, plain};
-ghost use Rattle.squawk_parser.specs.State.{State, IsFresh};
+ghost use Rattle.squawk_parser.specs.State.{fresh};
 ghost use Rattle.squawk_parser.specs.Parse.{IsParse, IsRefused};
-ghost use Rattle.squawk_parser.specs.declared.parser.parse_error.ParseError.{ParseError};
 
 use crate::parser::Parser;
 use crate::parser::limits::Limits;
@@ -25,24 +23,22 @@ pub enum EntryPoint {
 ///
 /// An entry point is called with a parser at the beginning of an input that has the grammar's words.
 /// It may leave no marker open, and it answers an error only where memory was refused to the grammar
-/// itself: what the parser was refused, the parser keeps. What it may leave over an input, and for
-/// which reasons the parser may fail there under its limits, the grammar says by two relations.
+/// itself: what the parser was refused, the parser keeps. By two relations the grammar says which
+/// drafts a run may leave, and what a run does to the parser, also where that fails. One that has
+/// nothing to say of the second sets it to what is always true.
 pub trait Grammar {
-    ghost use Rattle.std.specs.Prelude.{List, ◌≡◌, ◌≢◌, OnOk, Some};
+    ghost use Rattle.std.specs.Prelude.{List, ◌≡◌, OnOk};
     ghost use Rattle.squawk_table.specs.ParserInput.{Entry};
     ghost use Rattle.squawk_log.specs.Draft.{Draft, HasNoHole};
-    ghost use Rattle.squawk_parser.specs.State.{HasNotFailed, Keeps, IsFresh, limits_of};
+    ghost use Rattle.squawk_parser.specs.State.{State, HasNotFailed, Keeps, IsFresh};
     ghost use Rattle.squawk_parser.specs.Words as spec;
     ghost use Rattle.squawk_parser.specs.declared.parser.grammar.EntryPoint.{EntryPoint};
-    ghost use Rattle.squawk_parser.specs.declared.parser.limits.Limits.{Limits};
-    ghost use Rattle.squawk_parser.specs.declared.parser.parse_error.ParseError.{ParseError};
 
     /// Which drafts a run from an entry point may leave over an input.
     ghost leaves: { Self → EntryPoint → List Entry → Draft → Type 0 };
 
-    /// Why a parser may fail in a run from an entry point over an input, under these limits. Of want of
-    /// memory nothing is said.
-    ghost fails: { Self → EntryPoint → List Entry → Limits → ParseError → Type 0 };
+    /// What a run from an entry point does: the parser before it, and after it, failed or not.
+    ghost runs: { Self → EntryPoint → State → State → Type 0 };
 
     /// What the grammar tells about its kinds.
     ghost meaning: { Self → spec.Words };
@@ -59,7 +55,7 @@ pub trait Grammar {
         ensures keeps { Keeps p.old p.new }
         ensures closed { OnOk result (HasNotFailed p.new → HasNoHole p.new.draft.items) }
         ensures leaves { OnOk result (HasNotFailed p.new → leaves self.now EntryPoint.SourceFile p.old.input p.new.draft) }
-        ensures fails { (reason : ParseError) → p.new.first_reason ≡ Some reason → reason ≢ ParseError.OutOfMemory → fails self.now EntryPoint.SourceFile p.old.input (limits_of p.old) reason };
+        ensures runs { runs self.now EntryPoint.SourceFile p.old p.new };
 
     /// Parses the input as the body of a PL/pgSQL function.
     fn plpgsql_entry_point(&self, p: &mut Parser<'_>) -> Result<(), AllocError>
@@ -68,7 +64,7 @@ pub trait Grammar {
         ensures keeps { Keeps p.old p.new }
         ensures closed { OnOk result (HasNotFailed p.new → HasNoHole p.new.draft.items) }
         ensures leaves { OnOk result (HasNotFailed p.new → leaves self.now EntryPoint.Plpgsql p.old.input p.new.draft) }
-        ensures fails { (reason : ParseError) → p.new.first_reason ≡ Some reason → reason ≢ ParseError.OutOfMemory → fails self.now EntryPoint.Plpgsql p.old.input (limits_of p.old) reason };
+        ensures runs { runs self.now EntryPoint.Plpgsql p.old p.new };
 }
 
 /// The limits of a parse that is given none.
@@ -80,10 +76,9 @@ const LIMITS: Limits = Limits {
 impl EntryPoint {
     /// The parse of an input by a grammar, from this entry point.
     ///
-    /// It is refused for the first reason for which the parser failed; if it did not fail, by want
-    /// of memory, where the grammar answers that or the output finds none. A limit is a reason only
-    /// where the grammar's runs may fail for it. The parse may record 4294967295 events, and
-    /// 2147483648 errors among them.
+    /// It is refused for the first reason for which the grammar's run left the parser failed; if it
+    /// left none, by want of memory, where the grammar answers that or the output finds none. The
+    /// parse may record 4294967295 events, and 2147483648 errors among them.
     pub fn parse<G: Grammar>(
         &self,
         alloc: Global,
@@ -92,8 +87,7 @@ impl EntryPoint {
     ) -> Result<Output, ParseError>
         ensures output { IfOk result (λ o. IsParse (G.leaves grammar.now self.now input.now) input.now o) }
         ensures within { IfOk result (λ o. (o.recorded ≤ 4294967295) × (errors_in o.steps ≤ 2147483648)) }
-        ensures refused { IfErr result (λ e. IsRefused input.now 4294967295 2147483648 e) }
-        ensures fails { IfErr result (λ reason. reason ≢ ParseError.OutOfMemory → G.fails grammar.now self.now input.now (record { events = 4294967295; errors = 2147483648 }) reason) }
+        ensures refused { IfErr result (IsRefused (G.runs grammar.now self.now) (fresh input.now (G.meaning grammar.now) 4294967295 2147483648)) }
     {
         self.parse_within(alloc, input, grammar, LIMITS)
     }
@@ -112,8 +106,7 @@ impl EntryPoint {
         requires { limits.errors ≤ 2147483648 }
         ensures output { IfOk result (λ o. IsParse (G.leaves grammar.now self.now input.now) input.now o) }
         ensures within { IfOk result (λ o. (o.recorded ≤ limits.events) × (errors_in o.steps ≤ limits.errors)) }
-        ensures refused { IfErr result (λ e. IsRefused input.now limits.events limits.errors e) }
-        ensures fails { IfErr result (λ reason. reason ≢ ParseError.OutOfMemory → G.fails grammar.now self.now input.now limits reason) }
+        ensures refused { IfErr result (IsRefused (G.runs grammar.now self.now) (fresh input.now (G.meaning grammar.now) limits.events limits.errors)) }
     {
         let mut p = Parser::new(alloc, input, grammar.words(), limits);
         let run = match self {

@@ -19,8 +19,8 @@ let_go-requires c = ends-spent _ _ _ _ _ c.loop-call-test.false c.loop-call.inva
 pub returns-clause-closed : goal.returns-clause-closed
 returns-clause-closed c = ends-closed _ _ _ _ _ c.loop-call-test.false c.loop-call.invariant.0 c.requires.accepted
 
-pub returns-clause-runs : goal.returns-clause-runs
-returns-clause-runs c = ends-at _ _ _ _ _ c.loop-call-test.false c.loop-call.invariant.0 c.requires.accepted
+pub returns-clause-leaves : goal.returns-clause-leaves
+returns-clause-leaves c = ends-at _ _ _ _ _ c.loop-call-test.false c.loop-call.invariant.0 c.requires.accepted
 
-pub returns-clause-fails : goal.returns-clause-fails
-returns-clause-fails c = ends-fails _ _ _ _ _ c.loop-call-test.false c.loop-call.invariant.0 c.requires.accepted
+pub returns-clause-runs : goal.returns-clause-runs
+returns-clause-runs c = ends-fails _ _ _ _ _ c.loop-call-test.false c.loop-call.invariant.0 c.requires.accepted

@@ -8,7 +8,7 @@ use Rattle.squawk_table.specs.Shape.{Fits}
 use Rattle.squawk_answer.specs.Answers.{Tells, parser_input, steps as steps_of, table_for}
 use Rattle.squawk_answer.specs.Fault.{fault_of_parse}
 use Rattle.squawk_answer.specs.Lines.{last_line, lex_lines}
-use Rattle.squawk_answer.proofs.Answered.{fault-told, lines-told, named, none-refused, refusal-same, refusal-told, script_of, steps-told}
+use Rattle.squawk_answer.proofs.Answered.{fault-told, limit-told, lines-told, named, none-refused, refusal-same, refusal-told, script_of, steps-told}
 use Rattle.squawk_answer.proofs.answer.Answer.to_document.Goals as goal
 
 pub returns-in_err-output-clause-answer : goal.returns-in_err-output-clause-answer
@@ -22,7 +22,7 @@ returns-in_err-output-clause-answer c =
     let reason = c.in_err-output.field-0.0 in
     fault-told c.from_residual-in_err-output.result _ (λ fault. Tells d (Err fault)) (fault_of_parse reason) c.from_residual-in_err-output.ensures.1
     (refusal-told d reason (accepted, c.in_ok-script.ensures.accepted)
-    (λ other. sym (refusal-same d c.in_ok-script.script c.in_ok-input.input script input) ∙ c.in_err-output.ensures.fails other))
+    (λ other. sym (refusal-same d c.in_ok-script.script c.in_ok-input.input script input) ∙ limit-told c.in_ok-script.script _ reason c.in_err-output.ensures.refused other))
 
 pub returns-then-not-fits-clause-answer : goal.returns-then-not-fits-clause-answer
 returns-then-not-fits-clause-answer c =
