@@ -20,6 +20,8 @@ mod fitting;
 #[cfg(test)]
 mod fixture;
 #[cfg(test)]
+mod front_page;
+#[cfg(test)]
 mod input;
 #[cfg(test)]
 mod kinds;

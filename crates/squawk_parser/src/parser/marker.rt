@@ -89,6 +89,7 @@ impl Marker {
 
 impl CompletedMarker {
     /// Begins a node in front of this one, which will stand in it when the marker is completed.
+    /// [`squawk_output::Event`] draws the link to it, the forward parent.
     ///
     /// A node can be preceded once. Its opening is in the parser's draft and hasn't been preceded, or
     /// the parser has failed.
@@ -110,6 +111,7 @@ impl CompletedMarker {
     }
 
     /// The node begins where the marker was started, if that is before the node, and the marker goes.
+    /// [`squawk_output::Event`] draws the link from the marker to the node.
     ///
     /// It takes no memory, and never makes a parser fail. The node's opening is in the parser's draft
     /// and hasn't been preceded, the marker's hole is there, and the marker was started before the

@@ -1,0 +1,35 @@
+use Rattle.std.proofs.Common.{◌∙◌, ◌++◌, ap, sym, subst}
+use Rattle.squawk_log.specs.Draft.{HasNoHole, plain}
+use Rattle.squawk_parser.specs.Eaten.{node}
+use Rattle.squawk_parser.specs.Recorded.{Puts}
+use Rattle.squawk_parser.proofs.RecordedSteps.{Keeps-then, node_puts, puts-then}
+use Rattle.engine_rows.proofs.front_page.NamesGrammar.entry_point.Goals as goal
+
+pub loop-p-preserved : goal.loop-p-preserved
+loop-p-preserved c =
+    let before = c.loop-p.invariant in
+    let named = c.name.ensures in
+    record {
+      keeps = Keeps-then before.keeps named.keeps;
+      steps = before.steps ++ named.puts.0;
+      puts = puts-then before.keeps named.keeps before.puts named.puts.1;
+    }
+
+-- all that was recorded is one node
+file : (c : goal.After-complete) → Puts (node 700 c.loop-p.invariant.steps) c.args.p.now c.complete.new.p
+file c =
+    let start = c.start-file.ensures in
+    let names = c.loop-p.invariant in
+    let done = c.complete.ensures in
+    subst (λ kind. Puts (node kind names.steps) c.args.p.now c.complete.new.p) c.from.ensures
+    (node_puts c.start-file.result.id c.from.result start.keeps names.keeps done.keeps start.records start.fresh start.position names.puts done.records done.position)
+
+pub returns-clause-closed : goal.returns-clause-closed
+returns-clause-closed c goes =
+    let put = (file c).draft goes in
+    subst HasNoHole (sym (put.items ∙ ap (λ s. s.draft.items ++ put.made) c.requires.fresh)) put.closed
+
+pub returns-clause-leaves : goal.returns-clause-leaves
+returns-clause-leaves c goes =
+    let put = (file c).draft goes in
+    (c.loop-p.invariant.steps, ap plain (put.items ∙ ap (λ s. s.draft.items ++ put.made) c.requires.fresh) ∙ put.steps_made)
