@@ -72,51 +72,46 @@ fn signs_are_kinds_without_fields(rt: HostRuntime) {
 }
 
 #[test]
-fn fields_of_kinds_stand_behind_the_length(rt: HostRuntime) {
-    for (text, kind) in [
-        (
-            r#"["block_comment", 7, true]"#,
-            TokenKind::BlockComment { terminated: true },
-        ),
-        (
-            r#"["block_comment", 7, false]"#,
-            TokenKind::BlockComment { terminated: false },
-        ),
-        (
-            r#"["quoted_ident", 7, true, false]"#,
-            TokenKind::QuotedIdent {
-                terminated: true,
-                uescape: false,
-            },
-        ),
-        (
-            r#"["quoted_ident", 7, false, true]"#,
-            TokenKind::QuotedIdent {
-                terminated: false,
-                uescape: true,
-            },
-        ),
-        (
-            r#"["psql_command", 7, true]"#,
-            TokenKind::PsqlCommand { ends_query: true },
-        ),
-        (
-            r#"["psql_command", 7, false]"#,
-            TokenKind::PsqlCommand { ends_query: false },
-        ),
-        (
-            r#"["positional_param", 7, 0]"#,
-            TokenKind::PositionalParam {
-                trailing_junk_start: 0,
-            },
-        ),
-        (
-            r#"["positional_param", 7, 4294967295]"#,
-            TokenKind::PositionalParam {
-                trailing_junk_start: 4_294_967_295,
-            },
-        ),
+fn block_comments_say_whether_they_are_terminated(rt: HostRuntime) -> Result<(), Fail> {
+    for terminated in [true, false] {
+        let text = format!(in rt.alloc(); "[\"block_comment\", 7, {terminated}]")?;
+        assert_kind(&rt, &text, TokenKind::BlockComment { terminated });
+    }
+    Ok(())
+}
+
+#[test]
+fn quoted_identifiers_say_first_whether_they_are_terminated(rt: HostRuntime) {
+    for (text, terminated, uescape) in [
+        (r#"["quoted_ident", 7, true, false]"#, true, false),
+        (r#"["quoted_ident", 7, false, true]"#, false, true),
     ] {
+        let kind = TokenKind::QuotedIdent {
+            terminated,
+            uescape,
+        };
+        assert_kind(&rt, text, kind);
+    }
+}
+
+#[test]
+fn commands_of_psql_say_whether_they_end_a_query(rt: HostRuntime) -> Result<(), Fail> {
+    for ends_query in [true, false] {
+        let text = format!(in rt.alloc(); "[\"psql_command\", 7, {ends_query}]")?;
+        assert_kind(&rt, &text, TokenKind::PsqlCommand { ends_query });
+    }
+    Ok(())
+}
+
+#[test]
+fn parameters_say_where_their_junk_starts(rt: HostRuntime) {
+    for (text, trailing_junk_start) in [
+        (r#"["positional_param", 7, 0]"#, 0),
+        (r#"["positional_param", 7, 4294967295]"#, 4_294_967_295),
+    ] {
+        let kind = TokenKind::PositionalParam {
+            trailing_junk_start,
+        };
         assert_kind(&rt, text, kind);
     }
 }
