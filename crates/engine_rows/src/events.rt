@@ -1,14 +1,25 @@
 //! Logs of events, and the outputs that the one pass makes of them.
+ghost use Rattle.std.specs.Prelude.{◌≡◌};
 
-use crate::fixture::output::{assert_output, enter, token};
-use squawk_parser::{Event, Step, SyntaxKind, Text, process};
-use std::alloc::Global;
+use crate::fixture::kinds::{CALL, NAME, NAME_REF, PAREN, ROOT};
+use crate::fixture::output::assert_output;
+use squawk_parser::{Event, SyntaxKind, Text, process};
 use std::test::Fail;
+
+/// The start of a node of this kind, whose forward parent is so many places on.
+fn start(kind: u16, forward_parent: Option<u32>) -> Event
+    ensures { result ≡ Event.Start kind forward_parent }
+{
+    Event::Start {
+        kind: SyntaxKind::from(kind),
+        forward_parent,
+    }
+}
 
 #[test]
 fn empty_log_has_no_steps(rt: HostRuntime) -> Result<(), Fail> {
     let output = process(rt.alloc(), Vec::new(rt.alloc()), 0)?;
-    assert_output(&rt, &output, &[]);
+    assert_output(&rt, &output, "")?;
     assert_eq!(rt; output.recorded(), 0);
     assert_eq!(rt; output.turns(), 0);
     Ok(())
@@ -17,26 +28,13 @@ fn empty_log_has_no_steps(rt: HostRuntime) -> Result<(), Fail> {
 #[test]
 fn links_from_two_places_lead_to_one_node(rt: HostRuntime) -> Result<(), Fail> {
     let mut events = Vec::new(rt.alloc());
-    events.push(Event::Start {
-        kind: SyntaxKind::from(701),
-        forward_parent: Some(3),
-    })?;
-    events.push(Event::Start {
-        kind: SyntaxKind::TOMBSTONE,
-        forward_parent: Some(2),
-    })?;
+    events.push(start(NAME, Some(3)))?;
+    events.push(start(1, Some(2)))?;
     events.push(Event::Finish)?;
-    events.push(Event::Start {
-        kind: SyntaxKind::from(702),
-        forward_parent: None,
-    })?;
+    events.push(start(NAME_REF, None))?;
     events.push(Event::Finish)?;
     let output = process(rt.alloc(), events, 5)?;
-    assert_output(
-        &rt,
-        &output,
-        &[enter(702), enter(701), Step::Exit, Step::Exit],
-    );
+    assert_output(&rt, &output, "NAME_REF(NAME())")?;
     assert_eq!(rt; output.recorded(), 5);
     // Five events, three of them a start, and two links.
     assert_eq!(rt; output.turns(), 12);
@@ -46,39 +44,19 @@ fn links_from_two_places_lead_to_one_node(rt: HostRuntime) -> Result<(), Fail> {
 #[test]
 fn chain_begins_with_its_last_node(rt: HostRuntime) -> Result<(), Fail> {
     let mut events = Vec::new(rt.alloc());
-    events.push(Event::Start {
-        kind: SyntaxKind::from(701),
-        forward_parent: Some(3),
-    })?;
+    events.push(start(NAME, Some(3)))?;
     events.push(Event::Token {
         kind: SyntaxKind::IDENT,
         n_raw_tokens: 1,
     })?;
     events.push(Event::Finish)?;
-    events.push(Event::Start {
-        kind: SyntaxKind::from(702),
-        forward_parent: Some(2),
-    })?;
+    events.push(start(NAME_REF, Some(2)))?;
     events.push(Event::Finish)?;
-    events.push(Event::Start {
-        kind: SyntaxKind::from(707),
-        forward_parent: None,
-    })?;
+    events.push(start(PAREN, None))?;
     events.push(Event::Finish)?;
     let output = process(rt.alloc(), events, 7)?;
-    assert_output(
-        &rt,
-        &output,
-        &[
-            enter(707),
-            enter(702),
-            enter(701),
-            token(3),
-            Step::Exit,
-            Step::Exit,
-            Step::Exit,
-        ],
-    );
+    assert_output(&rt, &output, "PAREN(NAME_REF(NAME(IDENT)))")?;
+    // Seven events, three of them a start, and two links.
     assert_eq!(rt; output.turns(), 14);
     Ok(())
 }
@@ -86,51 +64,29 @@ fn chain_begins_with_its_last_node(rt: HostRuntime) -> Result<(), Fail> {
 #[test]
 fn first_link_to_a_node_takes_what_lies_beyond(rt: HostRuntime) -> Result<(), Fail> {
     let mut events = Vec::new(rt.alloc());
-    events.push(Event::Start {
-        kind: SyntaxKind::from(700),
-        forward_parent: Some(2),
-    })?;
-    events.push(Event::Start {
-        kind: SyntaxKind::from(701),
-        forward_parent: Some(1),
-    })?;
-    events.push(Event::Start {
-        kind: SyntaxKind::from(702),
-        forward_parent: Some(1),
-    })?;
-    events.push(Event::Start {
-        kind: SyntaxKind::from(703),
-        forward_parent: None,
-    })?;
+    events.push(start(ROOT, Some(2)))?;
+    events.push(start(NAME, Some(1)))?;
+    events.push(start(NAME_REF, Some(1)))?;
+    events.push(start(CALL, None))?;
     let output = process(rt.alloc(), events, 4)?;
-    assert_output(
-        &rt,
-        &output,
-        &[enter(703), enter(702), enter(700), enter(701)],
-    );
+    assert_output(&rt, &output, "CALL(NAME_REF(ROOT(NAME(")?;
+    // Four events, each a start, and three links.
     assert_eq!(rt; output.turns(), 14);
     Ok(())
-}
-
-/// The text of an error.
-fn text(alloc: Global) -> Result<Text, Fail> {
-    Ok(Text::new(String::from_str(alloc, "e")?))
 }
 
 #[test]
 fn start_without_a_kind_begins_no_node(rt: HostRuntime) -> Result<(), Fail> {
     let mut events = Vec::new(rt.alloc());
-    events.push(Event::Start {
-        kind: SyntaxKind::TOMBSTONE,
-        forward_parent: None,
-    })?;
+    events.push(start(1, None))?;
     events.push(Event::Error {
-        msg: text(rt.alloc())?,
+        msg: Text::new(String::from_str(rt.alloc(), "e")?),
     })?;
     let output = process(rt.alloc(), events, 9)?;
-    assert_output(&rt, &output, &[Step::Error { msg: "e" }]);
+    assert_output(&rt, &output, "!'e'")?;
     // What was recorded is handed in.
     assert_eq!(rt; output.recorded(), 9);
+    // Two events, one of them a start.
     assert_eq!(rt; output.turns(), 3);
     Ok(())
 }

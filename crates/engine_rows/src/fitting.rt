@@ -10,7 +10,7 @@ fn output_without_steps_fits_no_table(rt: HostRuntime) -> Result<(), Fail> {
     let empty = table(rt.alloc(), "", &[])?;
     let words = table(rt.alloc(), "a b", &[word(1), space(1), word(1)])?;
     let no_calls = parse(rt.alloc(), &words, Calls::Nothing)?;
-    let no_lines = parse_script(rt.alloc(), &words, Calls::Nothing.lines())?;
+    let no_lines = parse_script(&rt, &words, Calls::Nothing.list())?;
     for output in [&Output::empty(rt.alloc()), &no_calls, &no_lines] {
         assert!(rt; !empty.fits(output));
         assert!(rt; !words.fits(output));
@@ -23,7 +23,7 @@ fn output_with_more_than_one_node_at_the_top_does_not_fit(rt: HostRuntime) -> Re
     let words = table(rt.alloc(), "a b", &[word(1), space(1), word(1)])?;
     for calls in [Calls::TwoNodes, Calls::NodeBeforeToken] {
         assert!(rt; !words.fits(&parse(rt.alloc(), &words, calls)?));
-        assert!(rt; !words.fits(&parse_script(rt.alloc(), &words, calls.lines())?));
+        assert!(rt; !words.fits(&parse_script(&rt, &words, calls.list())?));
     }
     Ok(())
 }
@@ -61,7 +61,7 @@ fn output_fits_a_table_with_enough_tokens(rt: HostRuntime) -> Result<(), Fail> {
     )?;
     assert_fit(
         &rt,
-        &parse_script(rt.alloc(), &words, one.lines())?,
-        &parse_script(rt.alloc(), &words, two.lines())?,
+        &parse_script(&rt, &words, one.list())?,
+        &parse_script(&rt, &words, two.list())?,
     )
 }

@@ -1,8 +1,13 @@
-//! What the tests share: a vocabulary, grammars, and steps to compare with.
+//! What the tests share: vocabularies, grammars, and notations of calls and steps.
 
+pub mod call_list;
 pub mod calls;
+pub mod cases;
 pub mod errors;
 pub mod keywords;
+pub mod kinds;
+pub mod lexer;
+pub mod lines;
 pub mod looks;
 pub mod memory;
 pub mod moves;
@@ -12,16 +17,15 @@ pub mod parts;
 pub mod rows;
 pub mod scripts;
 pub mod signs;
-pub mod steps;
 pub mod words;
 
 pub use calls::{Calls, FixedGrammar};
 pub use keywords::{KEYWORDS, Keywords, NO_KEYWORDS};
-use scripts::{Line, script_of};
+use scripts::script_of;
 use squawk_parser::{EntryPoint, LexedStr, Output, Token, TokenKind};
 use std::alloc::Global;
+use std::process::Abort;
 use std::test::Fail;
-pub use steps::{EXIT, assert_steps, enter, error_step, space_step, token_step, word_step};
 
 /// The raw token of a word of so many bytes.
 pub fn word(len: u32) -> Token {
@@ -54,9 +58,13 @@ pub fn parse(alloc: Global, table: &LexedStr<'_>, calls: Calls) -> Result<Output
     Ok(EntryPoint::SourceFile.parse(alloc, &input, &grammar)?)
 }
 
-/// The output of a script of the lines over a table.
-pub fn parse_script(alloc: Global, table: &LexedStr<'_>, lines: &[Line]) -> Result<Output, Fail> {
-    let input = table.to_input(alloc, &NO_KEYWORDS)?;
-    let script = script_of(alloc, lines)?;
-    Ok(EntryPoint::SourceFile.parse(alloc, &input, &script)?)
+/// The output of the script of the calls over a table.
+pub fn parse_script(
+    rt: &(impl Abort + AllocGlobal),
+    table: &LexedStr<'_>,
+    calls: &str,
+) -> Result<Output, Fail> {
+    let input = table.to_input(rt.alloc(), &NO_KEYWORDS)?;
+    let script = script_of(rt, calls)?;
+    Ok(EntryPoint::SourceFile.parse(rt.alloc(), &input, &script)?)
 }

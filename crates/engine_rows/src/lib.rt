@@ -1,10 +1,15 @@
 //! Tests of the engine, over its public surface alone.
 //!
-//! The values that they want were worked out by hand.
+//! The values that they want were worked out by hand. Calls are written as lists (`fixture::call_list`)
+//! and steps as lines (`fixture::lines`); `notation` has the tests of both.
 #![tactic(auto)]
 
 #[cfg(test)]
+mod act_counts;
+#[cfg(test)]
 mod composites;
+#[cfg(test)]
+mod counts;
 #[cfg(test)]
 mod eaten;
 #[cfg(test)]
@@ -37,6 +42,8 @@ mod looks;
 mod markers;
 #[cfg(test)]
 mod memory;
+#[cfg(test)]
+mod notation;
 #[cfg(test)]
 mod operators;
 #[cfg(test)]

@@ -3,10 +3,10 @@ ghost use Rattle.squawk_parser.specs.State.{HasNotFailed};
 
 use crate::fixture::looks::{Look, ask, ask_under, assert_answers, at_under, length};
 use crate::fixture::notes::{NO, YES, note, yes_or_no};
-use crate::fixture::output::{assert_output, enter, token};
+use crate::fixture::output::assert_output;
 use crate::fixture::words::no_words;
 use crate::fixture::{NO_KEYWORDS, space, table, word};
-use squawk_parser::{EntryPoint, Grammar, Parser, Part, Step, SyntaxKind, TokenSet, Words};
+use squawk_parser::{EntryPoint, Grammar, Parser, Part, SyntaxKind, TokenSet, Words};
 use std::alloc::AllocError;
 use std::test::Fail;
 
@@ -103,23 +103,7 @@ fn limit_inside_a_limit_is_the_smaller(rt: HostRuntime) -> Result<(), Fail> {
     let tokens = [word(1), space(1), word(1), space(1), word(1)];
     let input = table(rt.alloc(), "a b c", &tokens)?.to_input(rt.alloc(), &NO_KEYWORDS)?;
     let output = EntryPoint::SourceFile.parse(rt.alloc(), &input, &Limiting)?;
-    assert_output(
-        &rt,
-        &output,
-        &[
-            enter(NO),
-            Step::Exit,
-            enter(YES),
-            Step::Exit,
-            // One token is eaten under the limit of one, then the other two.
-            token(3),
-            enter(length(1)),
-            Step::Exit,
-            token(3),
-            token(3),
-            enter(length(3)),
-            Step::Exit,
-        ],
-    );
+    // One token is eaten under the limit of one, then the other two.
+    assert_output(&rt, &output, "NO() YES() IDENT 721() IDENT IDENT 723()")?;
     Ok(())
 }

@@ -1,87 +1,38 @@
 //! Markers that move.
 
+use crate::fixture::kinds::{CALL, ROOT};
 use crate::fixture::moves::{abandoned, extended, preceded, preceded_in_vain};
 use crate::fixture::parts::{Act, Nothing, node, then};
 use crate::fixture::rows::{Case, Kinds, assert_row};
-use crate::fixture::scripts::Line::{Abandon, BumpAny, Complete, ExtendTo, Precede, Start};
-use crate::fixture::{EXIT, enter, space, space_step, token_step, word, word_step};
-use squawk_parser::{Token, TokenKind};
 use std::test::Fail;
 
 #[test]
 fn node_is_preceded_by_one_that_has_it(rt: HostRuntime) -> Result<(), Fail> {
-    let dot = Token {
-        kind: TokenKind::Dot,
-        len: 1,
-    };
     assert_row(
         &rt,
         Kinds::Plain,
         preceded(Act::BumpAny, then(Act::BumpAny, Act::BumpAny)),
-        &[
-            Start,
-            BumpAny,
-            Complete(0, 701),
-            Precede(0),
-            BumpAny,
-            BumpAny,
-            Complete(1, 702),
-        ],
         Case {
+            calls: "start, bump_any, complete 0 NAME, precede 0, bump_any, bump_any, \
+                    complete 1 NAME_REF",
             text: "foo.bar",
-            tokens: &[word(3), dot, word(3)],
-            recorded: 7,
-            turns: 11,
-            steps: &[
-                enter(702),
-                enter(701),
-                word_step("foo"),
-                EXIT,
-                token_step(7, "."),
-                word_step("bar"),
-                EXIT,
-            ],
-            is_whole: true,
+            line: "NAME_REF(NAME(foo) . bar)",
         },
     )
 }
 
 #[test]
 fn marker_in_front_of_a_node_may_be_given_up(rt: HostRuntime) -> Result<(), Fail> {
-    let second = node(703, Act::BumpAny);
+    let second = node(CALL, Act::BumpAny);
     assert_row(
         &rt,
         Kinds::Plain,
-        node(700, then(preceded_in_vain(Act::BumpAny), second)),
-        &[
-            Start,
-            Start,
-            BumpAny,
-            Complete(1, 701),
-            Precede(1),
-            Abandon(2),
-            Start,
-            BumpAny,
-            Complete(3, 703),
-            Complete(0, 700),
-        ],
+        node(ROOT, then(preceded_in_vain(Act::BumpAny), second)),
         Case {
+            calls: "start, start, bump_any, complete 1 NAME, precede 1, abandon 2, start, \
+                    bump_any, complete 3 CALL, complete 0 ROOT",
             text: "a b",
-            tokens: &[word(1), space(1), word(1)],
-            recorded: 9,
-            turns: 15,
-            steps: &[
-                enter(700),
-                enter(701),
-                word_step("a"),
-                EXIT,
-                space_step(" "),
-                enter(703),
-                word_step("b"),
-                EXIT,
-                EXIT,
-            ],
-            is_whole: true,
+            line: "ROOT(NAME(a) _ CALL(b))",
         },
     )
 }
@@ -91,15 +42,11 @@ fn abandoned_node_leaves_what_stood_in_it(rt: HostRuntime) -> Result<(), Fail> {
     assert_row(
         &rt,
         Kinds::Plain,
-        node(700, abandoned(Act::BumpAny)),
-        &[Start, Start, BumpAny, Abandon(1), Complete(0, 700)],
+        node(ROOT, abandoned(Act::BumpAny)),
         Case {
+            calls: "start, start, bump_any, abandon 1, complete 0 ROOT",
             text: "a",
-            tokens: &[word(1)],
-            recorded: 4,
-            turns: 6,
-            steps: &[enter(700), word_step("a"), EXIT],
-            is_whole: true,
+            line: "ROOT(a)",
         },
     )
 }
@@ -109,15 +56,11 @@ fn marker_may_be_abandoned_at_once(rt: HostRuntime) -> Result<(), Fail> {
     assert_row(
         &rt,
         Kinds::Plain,
-        node(700, then(abandoned(Nothing), Act::BumpAny)),
-        &[Start, Start, Abandon(1), BumpAny, Complete(0, 700)],
+        node(ROOT, then(abandoned(Nothing), Act::BumpAny)),
         Case {
+            calls: "start, start, abandon 1, bump_any, complete 0 ROOT",
             text: "a",
-            tokens: &[word(1)],
-            recorded: 4,
-            turns: 4,
-            steps: &[enter(700), word_step("a"), EXIT],
-            is_whole: true,
+            line: "ROOT(a)",
         },
     )
 }
@@ -127,32 +70,12 @@ fn extended_node_begins_at_the_marker(rt: HostRuntime) -> Result<(), Fail> {
     assert_row(
         &rt,
         Kinds::Plain,
-        node(700, extended(Act::BumpAny, Act::BumpAny)),
-        &[
-            Start,
-            Start,
-            BumpAny,
-            Start,
-            BumpAny,
-            Complete(2, 701),
-            ExtendTo(2, 1),
-            Complete(0, 700),
-        ],
+        node(ROOT, extended(Act::BumpAny, Act::BumpAny)),
         Case {
+            calls: "start, start, bump_any, start, bump_any, complete 2 NAME, extend_to 2 1, \
+                    complete 0 ROOT",
             text: "a b",
-            tokens: &[word(1), space(1), word(1)],
-            recorded: 7,
-            turns: 12,
-            steps: &[
-                enter(700),
-                enter(701),
-                word_step("a"),
-                space_step(" "),
-                word_step("b"),
-                EXIT,
-                EXIT,
-            ],
-            is_whole: true,
+            line: "ROOT(NAME(a _ b))",
         },
     )
 }

@@ -6,21 +6,21 @@ use crate::fixture::errors::{
     BAD_STRINGS, FOUR_DIGITS, Wanted, assert_table, bad_strings, errors_of_bad_strings, escapes,
     incomplete, string,
 };
-use crate::fixture::output::{self, assert_output, token};
-use crate::fixture::{
-    Calls, EXIT, FixedGrammar, Keywords, NO_KEYWORDS, assert_steps, enter, space, space_step, word,
-    word_step,
-};
+use crate::fixture::kinds::MESSAGE_KW;
+use crate::fixture::lines::line_of;
+use crate::fixture::memory::assert_sent_if_made;
+use crate::fixture::output::assert_output;
+use crate::fixture::{Calls, FixedGrammar, Keywords, NO_KEYWORDS, space, word};
 use squawk_parser::{
-    EntryPoint, Input, LexedStr, Output, ParseError, Step, StepList, StepSink, StrStep, SyntaxKind,
-    TableError, Token,
+    EntryPoint, Input, LexedStr, Output, OwnedStep, ParseError, StepList, StepSink, StrStep,
+    SyntaxKind, TableError, Token,
 };
 use std::alloc::AllocError;
 use std::process::Abort;
 
 const WORDS: Keywords<'static> = Keywords {
     keywords: &[],
-    contextual_keywords: &[("message", 201)],
+    contextual_keywords: &[("message", MESSAGE_KW)],
 };
 
 /// The table of `a message`, unless memory is wanting.
@@ -75,7 +75,7 @@ fn input_is_whole(rt: HostRuntime) {
         return
     };
     assert_eq!(rt; input.len(), 2);
-    for (i, contextual_kind) in [3, 201].into_iter().enumerate() {
+    for (i, contextual_kind) in [3, MESSAGE_KW].into_iter().enumerate() {
         assert_eq!(rt; input.kind(i), SyntaxKind::IDENT, "token {i}");
         assert_eq!(rt;
             input.contextual_kind(i),
@@ -96,26 +96,27 @@ fn output_is_whole(rt: HostRuntime) {
         return
     };
     assert_eq!(rt; output.recorded(), 4);
+    // Memory may be wanting for the line.
+    let _ = assert_output(&rt, &output, "ROOT(IDENT IDENT)");
+}
 
-    assert_output(
-        &rt,
-        &output,
-        &[output::enter(700), token(3), token(3), Step::Exit],
-    );
+/// Ends the test unless the steps have the line, or memory is wanting for it.
+fn assert_line_if_made(rt: &(impl Abort + AllocGlobal), steps: &[OwnedStep], wanted: &str) {
+    if let Ok(line) = line_of(rt.alloc(), steps) {
+        assert_eq!(rt; line.as_str(), wanted);
+    }
 }
 
 #[test]
 fn refused_step_leaves_a_list_as_it_was(rt: HostRuntime) {
-    let texts = ["a", "b", "message"];
-    let steps = [word_step("a"), word_step("b"), word_step("message")];
     let mut list = StepList::new(rt.alloc());
-    for (i, text) in texts.iter().enumerate() {
+    for (text, line_before) in [("a", ""), ("b", "a"), ("message", "a b")] {
         if take_word(&mut list, text).is_err() {
-            assert_steps(&rt, list.steps(), &steps[..i]);
+            assert_line_if_made(&rt, list.steps(), line_before);
             return;
         }
     }
-    assert_steps(&rt, list.steps(), &steps);
+    assert_line_if_made(&rt, list.steps(), "a b message");
 }
 
 /// Hands the token of a word to a list.
@@ -135,27 +136,7 @@ fn list_that_refuses_a_step_holds_those_before_it(rt: HostRuntime) {
     let Some(output) = output(&rt, &input) else {
         return
     };
-    assert!(rt; table.fits(&output));
-
-    let steps = [
-        enter(700),
-        word_step("a"),
-        space_step(" "),
-        word_step("message"),
-        EXIT,
-    ];
-    let mut list = StepList::new(rt.alloc());
-    match table.intersperse_trivia(&output, &mut list) {
-        Ok(is_whole) => {
-            assert!(rt; is_whole);
-            assert_steps(&rt, list.steps(), &steps);
-        }
-        Err(_) => {
-            let taken = list.steps().len();
-            assert!(rt; taken < steps.len());
-            assert_steps(&rt, list.steps(), &steps[..taken]);
-        }
-    }
+    assert_sent_if_made(&rt, &table, &output, "ROOT(a _ message)");
 }
 
 /// Ends the test unless the text has exactly the wanted errors, or memory is wanting.

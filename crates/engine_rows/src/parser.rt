@@ -3,16 +3,15 @@ ghost use Rattle.squawk_log.specs.Draft.{HasNoHole};
 ghost use Rattle.squawk_parser.specs.State.{HasNotFailed, Keeps};
 
 use crate::fixture::notes::note_three;
-use crate::fixture::output::{assert_output, enter, token};
+use crate::fixture::output::assert_output;
 use crate::fixture::scripts::script_of;
 use crate::fixture::words::no_words;
 use crate::fixture::{
     Calls, FixedGrammar, Keywords, NO_KEYWORDS, parse, parse_script, space, table, word,
 };
-use squawk_parser::{
-    EntryPoint, Grammar, Input, LexedStr, ParseError, Parser, Step, SyntaxKind, Words,
-};
+use squawk_parser::{EntryPoint, Grammar, Input, LexedStr, ParseError, Parser, SyntaxKind, Words};
 use std::alloc::AllocError;
+use std::process::Abort;
 use std::test::Fail;
 
 #[test]
@@ -20,42 +19,48 @@ fn output_has_the_tokens_without_trivia(rt: HostRuntime) -> Result<(), Fail> {
     let table = table(rt.alloc(), "a b", &[word(1), space(1), word(1)])?;
     let calls = Calls::NodeAroundTwoTokens;
     let by_grammar = parse(rt.alloc(), &table, calls)?;
-    let by_script = parse_script(rt.alloc(), &table, calls.lines())?;
+    assert_output(&rt, &by_grammar, "ROOT(IDENT IDENT)")?;
+    let by_script = parse_script(&rt, &table, calls.list())?;
+    assert_output(&rt, &by_script, "ROOT(IDENT IDENT)")?;
+    Ok(())
+}
+
+/// Ends the test unless the entry point makes these calls, by a grammar and in a script, with this
+/// line and so many events.
+fn assert_entry_point(
+    rt: &(impl Abort + AllocGlobal),
+    entry_point: EntryPoint,
+    calls: Calls,
+    line: &str,
+    recorded: u32,
+) -> Result<(), Fail> {
+    let grammar = FixedGrammar {
+        source_file: Calls::NodeAroundToken,
+        plpgsql: Calls::TwoNodes,
+    };
+    let table = table(rt.alloc(), "a", &[word(1)])?;
+    let input = table.to_input(rt.alloc(), &NO_KEYWORDS)?;
+    let by_grammar = entry_point.parse(rt.alloc(), &input, &grammar)?;
+    let script = script_of(rt, calls.list())?;
+    let by_script = entry_point.parse(rt.alloc(), &input, &script)?;
     for output in [&by_grammar, &by_script] {
-        assert_output(&rt, output, &[enter(700), token(3), token(3), Step::Exit]);
+        assert_output(rt, output, line)?;
+        assert_eq!(rt; output.recorded(), recorded, "{line}");
     }
     Ok(())
 }
 
 #[test]
 fn each_entry_point_is_its_own(rt: HostRuntime) -> Result<(), Fail> {
-    let table = table(rt.alloc(), "a", &[word(1)])?;
-    let input = table.to_input(rt.alloc(), &NO_KEYWORDS)?;
-    let grammar = FixedGrammar {
-        source_file: Calls::NodeAroundToken,
-        plpgsql: Calls::TwoNodes,
-    };
-
-    let source_file = EntryPoint::SourceFile.parse(rt.alloc(), &input, &grammar)?;
-    let script = script_of(rt.alloc(), grammar.source_file.lines())?;
-    let by_script = EntryPoint::SourceFile.parse(rt.alloc(), &input, &script)?;
-    for output in [&source_file, &by_script] {
-        assert_output(&rt, output, &[enter(700), token(3), Step::Exit]);
-        assert_eq!(rt; output.recorded(), 3);
-    }
-
-    let plpgsql = EntryPoint::Plpgsql.parse(rt.alloc(), &input, &grammar)?;
-    let script = script_of(rt.alloc(), grammar.plpgsql.lines())?;
-    let by_script = EntryPoint::Plpgsql.parse(rt.alloc(), &input, &script)?;
-    for output in [&plpgsql, &by_script] {
-        assert_output(
-            &rt,
-            output,
-            &[enter(700), Step::Exit, enter(700), Step::Exit],
-        );
-        assert_eq!(rt; output.recorded(), 4);
-    }
-    Ok(())
+    let source_file = Calls::NodeAroundToken;
+    assert_entry_point(&rt, EntryPoint::SourceFile, source_file, "ROOT(IDENT)", 3)?;
+    assert_entry_point(
+        &rt,
+        EntryPoint::Plpgsql,
+        Calls::TwoNodes,
+        "ROOT() ROOT()",
+        4,
+    )
 }
 
 /// A grammar that tells by the kinds of empty nodes what its parser answers.
@@ -127,34 +132,9 @@ fn parser_stays_at_the_end(rt: HostRuntime) -> Result<(), Fail> {
         &words,
     )?;
     let output = EntryPoint::SourceFile.parse(rt.alloc(), &input, &Looks)?;
-    assert_output(
-        &rt,
-        &output,
-        &[
-            // At `select`.
-            enter(720),
-            Step::Exit,
-            enter(731),
-            Step::Exit,
-            enter(740),
-            Step::Exit,
-            token(200),
-            // At the end.
-            enter(721),
-            Step::Exit,
-            enter(730),
-            Step::Exit,
-            enter(740),
-            Step::Exit,
-            // Still there, after one more try to eat.
-            enter(721),
-            Step::Exit,
-            enter(730),
-            Step::Exit,
-            enter(740),
-            Step::Exit,
-        ],
-    );
+    // At `select`, at the end, and still there after one more try to eat.
+    let line = "720() 731() 740() SELECT_KW 721() 730() 740() 721() 730() 740()";
+    assert_output(&rt, &output, line)?;
     // Two for each of nine nodes, and one for the token.
     assert_eq!(rt; output.recorded(), 19);
     Ok(())

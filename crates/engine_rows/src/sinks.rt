@@ -1,8 +1,7 @@
 //! Sinks that refuse a step.
 
-use crate::fixture::{
-    Calls, EXIT, assert_steps, enter, parse, space, space_step, table, word, word_step,
-};
+use crate::fixture::lines::line_of;
+use crate::fixture::{Calls, parse, space, table, word};
 use squawk_parser::{StepList, StepSink, StrStep};
 use std::alloc::AllocError;
 use std::test::Fail;
@@ -60,21 +59,17 @@ fn nothing_is_sent_after_a_refusal(rt: HostRuntime) -> Result<(), Fail> {
     let output = parse(rt.alloc(), &table, Calls::NodeAroundTwoTokens)?;
     assert!(rt; table.fits(&output));
 
-    let steps = [
-        enter(700),
-        word_step("a"),
-        space_step(" "),
-        word_step("b"),
-        EXIT,
-    ];
-    for taken in 0..5 {
+    for (taken, line) in ["", "ROOT(", "ROOT(a", "ROOT(a _", "ROOT(a _ b"]
+        .into_iter()
+        .enumerate()
+    {
         let mut sink = RefusingList {
             list: StepList::new(rt.alloc()),
             before_refusal: Some(taken),
         };
         let answer = table.intersperse_trivia(&output, &mut sink);
         assert_eq!(rt; answer, Err(Refusal::OnPurpose), "after {taken} steps");
-        assert_steps(&rt, sink.list.steps(), &steps[..taken]);
+        assert_eq!(rt; line_of(rt.alloc(), sink.list.steps())?.as_str(), line);
     }
 
     let mut sink = RefusingList {
@@ -82,6 +77,9 @@ fn nothing_is_sent_after_a_refusal(rt: HostRuntime) -> Result<(), Fail> {
         before_refusal: Some(5),
     };
     assert_eq!(rt; table.intersperse_trivia(&output, &mut sink), Ok(true));
-    assert_steps(&rt, sink.list.steps(), &steps);
+    assert_eq!(rt;
+        line_of(rt.alloc(), sink.list.steps())?.as_str(),
+        "ROOT(a _ b)"
+    );
     Ok(())
 }

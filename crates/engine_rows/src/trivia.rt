@@ -1,117 +1,61 @@
 //! Outputs with the trivia of their texts put back.
 
-use crate::fixture::rows::{Case, assert_case};
-use crate::fixture::{
-    Calls, EXIT, enter, parse, parse_script, space, space_step, table, word, word_step,
-};
+use crate::fixture::lexer::tokens_of;
+use crate::fixture::rows::assert_sent;
+use crate::fixture::{Calls, parse, parse_script, table};
 use std::process::Abort;
 use std::test::Fail;
 
-/// Ends the test unless the calls over the text, by themselves and in a script, give what is wanted.
-fn assert_sent(rt: &(impl Abort + AllocGlobal), calls: Calls, case: Case<'_>) -> Result<(), Fail> {
-    let table = table(rt.alloc(), case.text, case.tokens)?;
+/// Ends the test unless the calls over the text, by themselves and in a script, have the line and
+/// the same counts.
+fn assert_calls(
+    rt: &(impl Abort + AllocGlobal),
+    calls: Calls,
+    text: &str,
+    line: &str,
+) -> Result<(), Fail> {
+    let tokens = tokens_of(rt.alloc(), text)?;
+    let table = table(rt.alloc(), text, &tokens)?;
     let by_grammar = parse(rt.alloc(), &table, calls)?;
-    let by_script = parse_script(rt.alloc(), &table, calls.lines())?;
-    for output in [&by_grammar, &by_script] {
-        assert_case(rt, output, case)?;
-    }
+    let by_script = parse_script(rt, &table, calls.list())?;
+    assert_sent(rt, &by_grammar, text, line)?;
+    assert_sent(rt, &by_script, text, line)?;
+    assert_eq!(rt; by_grammar.recorded(), by_script.recorded());
+    assert_eq!(rt; by_grammar.turns(), by_script.turns());
     Ok(())
 }
 
 #[test]
 fn empty_text_has_a_node_alone(rt: HostRuntime) -> Result<(), Fail> {
-    assert_sent(
-        &rt,
-        Calls::Node,
-        Case {
-            text: "",
-            tokens: &[],
-            recorded: 2,
-            turns: 3,
-            steps: &[enter(700), EXIT],
-            is_whole: true,
-        },
-    )
+    assert_calls(&rt, Calls::Node, "", "ROOT()")
 }
 
 #[test]
 fn nodes_that_cross_in_the_calls_nest_in_the_steps(rt: HostRuntime) -> Result<(), Fail> {
-    assert_sent(
+    assert_calls(
         &rt,
         Calls::CrossingNodes,
-        Case {
-            text: "a b c",
-            tokens: &[word(1), space(1), word(1), space(1), word(1)],
-            recorded: 9,
-            turns: 12,
-            steps: &[
-                enter(700),
-                enter(703),
-                word_step("a"),
-                space_step(" "),
-                enter(704),
-                word_step("b"),
-                EXIT,
-                space_step(" "),
-                word_step("c"),
-                EXIT,
-                EXIT,
-            ],
-            is_whole: true,
-        },
+        "a b c",
+        "ROOT(CALL(a _ FIELD(b) _ c))",
     )
 }
 
 #[test]
 fn token_that_was_not_eaten_is_left_out(rt: HostRuntime) -> Result<(), Fail> {
-    assert_sent(
-        &rt,
-        Calls::NodeAroundToken,
-        Case {
-            text: "a b",
-            tokens: &[word(1), space(1), word(1)],
-            recorded: 3,
-            turns: 4,
-            steps: &[enter(700), word_step("a"), space_step(" "), EXIT],
-            is_whole: false,
-        },
-    )
+    assert_calls(&rt, Calls::NodeAroundToken, "a b", "ROOT(a _) ...")
 }
 
 #[test]
 fn byte_order_mark_goes_into_the_node(rt: HostRuntime) -> Result<(), Fail> {
-    assert_sent(
+    assert_calls(
         &rt,
         Calls::NodeAroundToken,
-        Case {
-            text: "\u{feff}a",
-            tokens: &[space(3), word(1)],
-            recorded: 3,
-            turns: 4,
-            steps: &[enter(700), space_step("\u{feff}"), word_step("a"), EXIT],
-            is_whole: true,
-        },
+        "\u{feff}a",
+        "ROOT(WHITESPACE'\\u{feff}' a)",
     )
 }
 
 #[test]
 fn white_space_stands_between_two_words(rt: HostRuntime) -> Result<(), Fail> {
-    assert_sent(
-        &rt,
-        Calls::NodeAroundTwoTokens,
-        Case {
-            text: "a b",
-            tokens: &[word(1), space(1), word(1)],
-            recorded: 4,
-            turns: 5,
-            steps: &[
-                enter(700),
-                word_step("a"),
-                space_step(" "),
-                word_step("b"),
-                EXIT,
-            ],
-            is_whole: true,
-        },
-    )
+    assert_calls(&rt, Calls::NodeAroundTwoTokens, "a b", "ROOT(a _ b)")
 }
