@@ -4,39 +4,6 @@ use crate::asserts::assert_answer;
 use std::test::Fail;
 
 #[test]
-fn selected_number_stands_in_its_nodes(rt: HostRuntime) -> Result<(), Fail> {
-    let document = r#"{"text":"select 1;",
-"tokens":[["ident",6],["whitespace",1],["int",1,false,10,1],["semi",1]],
-"words":{"operator_first":[],"names":[]},
-"vocabulary":{"keywords":[["select",200]],"contextual":[]},
-"entry":"sql",
-"calls":[["start"],["start"],["start"],["bump_any"],["start"],["start"],["start"],["bump_any"],
-["complete",5,715],["complete",4,714],["complete",3,713],["complete",2,712],["bump_any"],
-["complete",1,711],["complete",0,710]]}"#;
-    let lines = [
-        "enter 710",
-        "enter 711",
-        "enter 712",
-        r#"token 200 "select""#,
-        r#"token 639 " ""#,
-        "enter 713",
-        "enter 714",
-        "enter 715",
-        r#"token 33 "1""#,
-        "exit",
-        "exit",
-        "exit",
-        "exit",
-        r#"token 5 ";""#,
-        "exit",
-        "exit",
-        "all",
-    ];
-    assert_answer(&rt, document, &lines)?;
-    Ok(())
-}
-
-#[test]
 fn bit_string_goes_on_in_the_next_string(rt: HostRuntime) -> Result<(), Fail> {
     let document = r#"{"text":"B'0' '2' 0b12x $1a",
 "tokens":[["bit_str",4,true],["whitespace",1],["str",3,true],["whitespace",1],
@@ -44,6 +11,7 @@ fn bit_string_goes_on_in_the_next_string(rt: HostRuntime) -> Result<(), Fail> {
 "words":{"operator_first":[],"names":[]},"vocabulary":{"keywords":[],"contextual":[]},"entry":"sql",
 "calls":[["start"],["bump_any"],["bump_any"],["bump_any"],["bump_any"],["complete",0,700]]}"#;
     let lines = [
+        // The last string has no prefix of its own, and goes on with the bits.
         r#"lex 6..7 "\"2\" is not a valid binary digit""#,
         r#"lex 12..13 "invalid digit for a base 2 literal""#,
         r#"lex 13..14 "trailing junk after numeric literal""#,
@@ -64,42 +32,64 @@ fn bit_string_goes_on_in_the_next_string(rt: HostRuntime) -> Result<(), Fail> {
 }
 
 #[test]
-fn expected_kinds_keywords_and_recovery(rt: HostRuntime) -> Result<(), Fail> {
-    let document = r#"{"text":"select raise := B'0' '2' /*x",
+fn keyword_has_its_first_kind_and_a_contextual_one_is_a_name(rt: HostRuntime) -> Result<(), Fail> {
+    let document = r#"{"text":"select raise := /*x",
 "tokens":[["ident",6],["whitespace",1],["ident",5],["whitespace",1],["colon",1],["eq",1],
-["whitespace",1],["bit_str",4,true],["whitespace",1],["str",3,true],["whitespace",1],
-["block_comment",3,false]],
-"words":{"operator_first":[],"names":[[5,"SEMICOLON"],[5,"SECOND"]]},
+["whitespace",1],["block_comment",3,false]],
+"words":{"operator_first":[],"names":[]},
 "vocabulary":{"keywords":[["select",200],["select",202]],"contextual":[["raise",201]]},
 "entry":"sql",
 "calls":[["start"],["start"],["bump_any"],["complete",1,701],["start"],["eat",201],["bump_any"],
-["eat",45],["expect",5],["expect",33],["expect",38],["err_recover","no text",[35]],
-["err_recover","odd text",[5,33]],["complete",2,702],["complete",0,700]]}"#;
+["eat",45],["complete",2,702],["complete",0,700]]}"#;
     let lines = [
-        r#"lex 22..23 "\"2\" is not a valid binary digit""#,
-        r#"lex 25..28 "missing trailing `*/` symbols to terminate the block comment""#,
+        r#"lex 16..19 "missing trailing `*/` symbols to terminate the block comment""#,
         "enter 700",
         "enter 701",
         r#"token 200 "select""#,
         "exit",
         r#"token 639 " ""#,
         "enter 702",
+        // What is asked for is the contextual kind, and the token's is that of a name.
         r#"token 3 "raise""#,
         r#"token 639 " ""#,
         r#"token 45 ":=""#,
-        r#"error 15 "expected SEMICOLON""#,
-        r#"error 15 "expected 33""#,
-        r#"token 639 " ""#,
-        r#"token 38 "B'0'""#,
-        r#"error 20 "no text""#,
-        r#"token 639 " ""#,
-        "enter 2",
-        r#"error 21 "odd text""#,
-        r#"token 35 "'2'""#,
-        "exit",
         "exit",
         r#"token 639 " ""#,
         r#"token 4 "/*x""#,
+        "exit",
+        "all",
+    ];
+    assert_answer(&rt, document, &lines)?;
+    Ok(())
+}
+
+#[test]
+fn expected_kind_is_told_by_its_first_name_or_its_number(rt: HostRuntime) -> Result<(), Fail> {
+    let document = r#"{"text":":= B'0' '2'",
+"tokens":[["colon",1],["eq",1],["whitespace",1],["bit_str",4,true],["whitespace",1],["str",3,true]],
+"words":{"operator_first":[],"names":[[5,"SEMICOLON"],[5,"SECOND"]]},
+"vocabulary":{"keywords":[],"contextual":[]},"entry":"sql",
+"calls":[["start"],["start"],["eat",45],["expect",5],["expect",33],["expect",38],
+["err_recover","no text",[35]],["err_recover","odd text",[5,33]],["complete",1,702],
+["complete",0,700]]}"#;
+    let lines = [
+        r#"lex 9..10 "\"2\" is not a valid binary digit""#,
+        "enter 700",
+        "enter 702",
+        r#"token 45 ":=""#,
+        r#"error 2 "expected SEMICOLON""#,
+        r#"error 2 "expected 33""#,
+        r#"token 639 " ""#,
+        r#"token 38 "B'0'""#,
+        // A string may stand here, and is left to others.
+        r#"error 7 "no text""#,
+        r#"token 639 " ""#,
+        // Here it may not.
+        "enter 2",
+        r#"error 8 "odd text""#,
+        r#"token 35 "'2'""#,
+        "exit",
+        "exit",
         "exit",
         "all",
     ];
@@ -120,6 +110,7 @@ fn moved_nodes_and_errors_of_the_other_entry(rt: HostRuntime) -> Result<(), Fail
 ["abandon",2],["extend_to",4,1],["start"],["abandon",5],["complete",0,700],["error","end"]]}"#;
     let lines = [
         "enter 700",
+        // It was put in front of 703, and then begins where marker 1 was started.
         "enter 704",
         r#"token 201 "raise""#,
         r#"token 639 " ""#,
@@ -130,6 +121,7 @@ fn moved_nodes_and_errors_of_the_other_entry(rt: HostRuntime) -> Result<(), Fail
         r#"token 202 "b""#,
         r#"error 9 "late""#,
         "exit",
+        // An error behind the root stands in it, before the trivia at the end.
         r#"error 9 "end""#,
         r#"token 639 " ""#,
         r#"token 4 "-- c""#,
@@ -154,6 +146,7 @@ fn error_before_any_node_and_at_the_end_of_the_tokens(rt: HostRuntime) -> Result
         r#"error 1 "odd""#,
         r#"token 6 ",""#,
         "exit",
+        // No token is left to stand in the error node.
         "enter 2",
         r#"error 2 "none""#,
         "exit",
@@ -175,6 +168,7 @@ fn operators_are_eaten_whole(rt: HostRuntime) -> Result<(), Fail> {
 ["complete",0,700]]}"#;
     let lines = [
         "enter 700",
+        // `<=-` is no name of an operator, and so `<=` stands here.
         r#"token 48 "<=""#,
         "enter 664",
         r#"token 24 "-""#,

@@ -10,14 +10,23 @@ pub fn assert_answer(
     document: &str,
     lines: &[&str],
 ) -> Result<(), Fault> {
-    let mut written = Vec::new(rt.alloc());
-    run(rt.alloc(), &mut document.as_bytes(), &mut written)?;
     let mut wanted = String::new(rt.alloc());
     for line in lines {
         wanted.push_str(line)?;
         wanted.push('\n')?;
     }
-    assert_eq!(rt; str::from_utf8(&written), Ok(wanted.as_str()), "{document}");
+    assert_written(rt, document, &wanted)
+}
+
+/// The document has this answer, byte for byte.
+pub fn assert_written(
+    rt: &(impl Abort + AllocGlobal),
+    document: &str,
+    answer: &str,
+) -> Result<(), Fault> {
+    let mut written = Vec::new(rt.alloc());
+    run(rt.alloc(), &mut document.as_bytes(), &mut written)?;
+    assert_eq!(rt; str::from_utf8(&written), Ok(answer), "{document}");
     Ok(())
 }
 

@@ -1,7 +1,6 @@
 //! The documents in the repository's `examples/`, and their answers there.
 
-use squawk_answer::{Fault, run};
-use std::process::Abort;
+use crate::asserts::assert_written;
 use std::test::Fail;
 
 const EMPTY: &str = r#"{"text": "",
@@ -100,23 +99,11 @@ exit
 all
 "#;
 
-/// The document has this answer, byte for byte.
-fn assert_answer(
-    rt: &(impl Abort + AllocGlobal),
-    document: &str,
-    lines: &str,
-) -> Result<(), Fault> {
-    let mut written = Vec::new(rt.alloc());
-    run(rt.alloc(), &mut document.as_bytes(), &mut written)?;
-    assert_eq!(rt; str::from_utf8(&written), Ok(lines), "{document}");
-    Ok(())
-}
-
 #[test]
 fn examples_have_their_answers(rt: HostRuntime) -> Result<(), Fail> {
-    assert_answer(&rt, EMPTY, EMPTY_LINES)?;
-    assert_answer(&rt, SELECT, SELECT_LINES)?;
-    assert_answer(&rt, LEXICAL_ERRORS, LEXICAL_ERRORS_LINES)?;
-    assert_answer(&rt, MOVED_NODES, MOVED_NODES_LINES)?;
+    assert_written(&rt, EMPTY, EMPTY_LINES)?;
+    assert_written(&rt, SELECT, SELECT_LINES)?;
+    assert_written(&rt, LEXICAL_ERRORS, LEXICAL_ERRORS_LINES)?;
+    assert_written(&rt, MOVED_NODES, MOVED_NODES_LINES)?;
     Ok(())
 }

@@ -25,29 +25,22 @@ fn byte_that_is_no_text_is_no_json(rt: HostRuntime) {
 }
 
 #[test]
-fn kind_with_a_fraction_is_another_shape(rt: HostRuntime) -> Result<(), Fail> {
-    let document = r#"{"text":"","tokens":[],
-"words":{"operator_first":[],"names":[]},"vocabulary":{"keywords":[],"contextual":[]},"entry":"sql",
-"calls":[["start"],["complete",0,700.5]]}"#;
-    assert_fault(&rt, document, Fault::Shape, 2, "shape")?;
-    Ok(())
-}
-
-#[test]
-fn kind_with_a_sign_is_another_shape(rt: HostRuntime) -> Result<(), Fail> {
-    let document = r#"{"text":"","tokens":[],
-"words":{"operator_first":[],"names":[]},"vocabulary":{"keywords":[],"contextual":[]},"entry":"sql",
-"calls":[["start"],["complete",0,-1]]}"#;
-    assert_fault(&rt, document, Fault::Shape, 2, "shape")?;
+fn kind_with_a_fraction_or_a_sign_is_another_shape(rt: HostRuntime) -> Result<(), Fail> {
+    for calls in [
+        r#"[["start"],["complete",0,700.5]]"#,
+        r#"[["start"],["complete",0,-1]]"#,
+    ] {
+        let document = Members { calls, ..EMPTY }.document(rt.alloc())?;
+        assert_fault(&rt, document.as_str(), Fault::Shape, 2, "shape")?;
+    }
     Ok(())
 }
 
 #[test]
 fn unknown_entry_is_another_shape(rt: HostRuntime) -> Result<(), Fail> {
-    let document = r#"{"text":"","tokens":[],
-"words":{"operator_first":[],"names":[]},"vocabulary":{"keywords":[],"contextual":[]},"entry":"pg",
-"calls":[["start"],["complete",0,700]]}"#;
-    assert_fault(&rt, document, Fault::Shape, 2, "shape")?;
+    let entry = r#""pg""#;
+    let document = Members { entry, ..EMPTY }.document(rt.alloc())?;
+    assert_fault(&rt, document.as_str(), Fault::Shape, 2, "shape")?;
     Ok(())
 }
 
@@ -61,66 +54,22 @@ fn one_more_member_is_another_shape(rt: HostRuntime) -> Result<(), Fail> {
 }
 
 #[test]
-fn token_without_a_length_is_bad(rt: HostRuntime) -> Result<(), Fail> {
-    let document = r#"{"text":"","tokens":[["ident",0]],
-"words":{"operator_first":[],"names":[]},"vocabulary":{"keywords":[],"contextual":[]},"entry":"sql",
-"calls":[["start"],["complete",0,700]]}"#;
-    let fault = Fault::BadToken { index: 0 };
-    assert_fault(&rt, document, fault, 3, "bad token 0")?;
-    Ok(())
-}
-
-#[test]
 fn bad_token_is_told_before_an_open_marker(rt: HostRuntime) -> Result<(), Fail> {
-    let document = r#"{"text":"","tokens":[["ident",0]],
-"words":{"operator_first":[],"names":[]},"vocabulary":{"keywords":[],"contextual":[]},"entry":"sql",
-"calls":[["start"]]}"#;
+    let document = Members {
+        tokens: r#"[["ident",0]]"#,
+        calls: r#"[["start"]]"#,
+        ..EMPTY
+    }
+    .document(rt.alloc())?;
     let fault = Fault::BadToken { index: 0 };
-    assert_fault(&rt, document, fault, 3, "bad token 0")?;
-    Ok(())
-}
-
-#[test]
-fn open_marker_is_unspent(rt: HostRuntime) -> Result<(), Fail> {
-    let document = r#"{"text":"","tokens":[],
-"words":{"operator_first":[],"names":[]},"vocabulary":{"keywords":[],"contextual":[]},"entry":"sql",
-"calls":[["start"]]}"#;
-    let fault = Fault::Unspent { marker: 0 };
-    assert_fault(&rt, document, fault, 4, "unspent 0")?;
-    Ok(())
-}
-
-#[test]
-fn marker_that_is_not_there_is_a_bad_call(rt: HostRuntime) -> Result<(), Fail> {
-    let document = r#"{"text":"","tokens":[],
-"words":{"operator_first":[],"names":[]},"vocabulary":{"keywords":[],"contextual":[]},"entry":"sql",
-"calls":[["complete",0,700]]}"#;
-    let fault = Fault::BadCall { index: 0 };
-    assert_fault(&rt, document, fault, 4, "bad call 0")?;
-    Ok(())
-}
-
-#[test]
-fn two_nodes_do_not_fit(rt: HostRuntime) -> Result<(), Fail> {
-    let document = r#"{"text":"","tokens":[],
-"words":{"operator_first":[],"names":[]},"vocabulary":{"keywords":[],"contextual":[]},"entry":"sql",
-"calls":[["start"],["complete",0,700],["start"],["complete",1,700]]}"#;
-    assert_fault(&rt, document, Fault::DoesNotFit, 6, "does not fit")?;
-    Ok(())
-}
-
-#[test]
-fn no_calls_do_not_fit(rt: HostRuntime) -> Result<(), Fail> {
-    let document = r#"{"text":"","tokens":[],
-"words":{"operator_first":[],"names":[]},"vocabulary":{"keywords":[],"contextual":[]},"entry":"sql",
-"calls":[]}"#;
-    assert_fault(&rt, document, Fault::DoesNotFit, 6, "does not fit")?;
+    assert_fault(&rt, document.as_str(), fault, 3, "bad token 0")?;
     Ok(())
 }
 
 #[test]
 fn first_bad_token_is_told(rt: HostRuntime) -> Result<(), Fail> {
     for (text, tokens, index, line) in [
+        (r#""""#, r#"[["ident",0]]"#, 0, "bad token 0"),
         (
             r#""ab""#,
             r#"[["ident",1],["ident",0],["ident",1]]"#,
@@ -174,6 +123,7 @@ fn text_behind_the_tokens_is_left(rt: HostRuntime) -> Result<(), Fail> {
 #[test]
 fn first_bad_call_is_told(rt: HostRuntime) -> Result<(), Fail> {
     for (calls, index, line) in [
+        (r#"[["complete",0,700]]"#, 0, "bad call 0"),
         (r#"[["start"],["complete",0,1]]"#, 1, "bad call 1"),
         (
             r#"[["start"],["abandon",0],["abandon",0],["abandon",0]]"#,
@@ -203,6 +153,7 @@ fn first_bad_call_is_told(rt: HostRuntime) -> Result<(), Fail> {
 #[test]
 fn least_open_marker_is_told(rt: HostRuntime) -> Result<(), Fail> {
     for (calls, marker, line) in [
+        (r#"[["start"]]"#, 0, "unspent 0"),
         (
             r#"[["start"],["start"],["complete",1,700]]"#,
             0,
@@ -222,6 +173,18 @@ fn least_open_marker_is_told(rt: HostRuntime) -> Result<(), Fail> {
         let document = Members { calls, ..EMPTY };
         let fault = Fault::Unspent { marker };
         assert_fault(&rt, document.document(rt.alloc())?.as_str(), fault, 4, line)?;
+    }
+    Ok(())
+}
+
+#[test]
+fn no_node_and_two_nodes_do_not_fit(rt: HostRuntime) -> Result<(), Fail> {
+    for calls in [
+        "[]",
+        r#"[["start"],["complete",0,700],["start"],["complete",1,700]]"#,
+    ] {
+        let document = Members { calls, ..EMPTY }.document(rt.alloc())?;
+        assert_fault(&rt, document.as_str(), Fault::DoesNotFit, 6, "does not fit")?;
     }
     Ok(())
 }

@@ -1,7 +1,7 @@
 //! Small documents and their lines.
 
-use crate::asserts::assert_answer;
-use crate::documents::{Members, PLAIN, PLAIN_LINES};
+use crate::asserts::{assert_answer, assert_written};
+use crate::documents::{ESCAPE, ESCAPE_LINES, Members, NAME, NAME_LINES, PLAIN, PLAIN_LINES};
 use std::test::Fail;
 
 #[test]
@@ -15,20 +15,7 @@ fn empty_text_is_a_node_alone(rt: HostRuntime) -> Result<(), Fail> {
 
 #[test]
 fn error_behind_a_node_stands_in_it_and_space_behind_it(rt: HostRuntime) -> Result<(), Fail> {
-    let document = r#"{"text":"x ","tokens":[["ident",1],["whitespace",1]],
-"words":{"operator_first":[],"names":[]},"vocabulary":{"keywords":[],"contextual":[]},"entry":"sql",
-"calls":[["start"],["start"],["bump_any"],["complete",1,701],["error","e"],["complete",0,700]]}"#;
-    let lines = [
-        "enter 700",
-        "enter 701",
-        r#"token 3 "x""#,
-        r#"error 1 "e""#,
-        "exit",
-        r#"token 639 " ""#,
-        "exit",
-        "all",
-    ];
-    assert_answer(&rt, document, &lines)?;
+    assert_written(&rt, NAME, NAME_LINES)?;
     Ok(())
 }
 
@@ -50,17 +37,7 @@ fn tokens_that_are_not_eaten_are_a_rest(rt: HostRuntime) -> Result<(), Fail> {
 
 #[test]
 fn short_escape_is_a_lexical_error_with_a_hint(rt: HostRuntime) -> Result<(), Fail> {
-    let document = r#"{"text":"E'\\u0'","tokens":[["esc_str",6,true]],
-"words":{"operator_first":[],"names":[]},"vocabulary":{"keywords":[],"contextual":[]},"entry":"sql",
-"calls":[["start"],["bump_any"],["complete",0,700]]}"#;
-    let lines = [
-        r#"lex 2..5 "incomplete unicode escape" "expected 4 hex digits, like `\\uXXXX`""#,
-        "enter 700",
-        r#"token 41 "E'\\u0'""#,
-        "exit",
-        "all",
-    ];
-    assert_answer(&rt, document, &lines)?;
+    assert_written(&rt, ESCAPE, ESCAPE_LINES)?;
     Ok(())
 }
 
@@ -70,7 +47,7 @@ fn string_without_an_end_is_a_lexical_error(rt: HostRuntime) -> Result<(), Fail>
 "words":{"operator_first":[],"names":[]},"vocabulary":{"keywords":[],"contextual":[]},"entry":"sql",
 "calls":[["start"],["bump_any"],["complete",0,700]]}"#;
     let lines = [
-        "lex 0..2 \"missing trailing `'` symbol to terminate the string literal\"",
+        r#"lex 0..2 "missing trailing `'` symbol to terminate the string literal""#,
         "enter 700",
         r#"token 35 "'a""#,
         "exit",
@@ -103,9 +80,10 @@ fn texts_are_printed_as_json_strings(rt: HostRuntime) -> Result<(), Fail> {
     };
     let lines = [
         "enter 700",
+        // The byte order mark and the delete character stand as they are.
         "token 639 \"\u{feff}\\t\\u0001\"",
         "token 2 \"\\\"\\\\/é\u{7f}😀\"",
-        "error 15 \"\\n\\u001f\"",
+        r#"error 15 "\n\u001f""#,
         "exit",
         "all",
     ];

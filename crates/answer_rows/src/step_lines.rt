@@ -4,6 +4,13 @@ use squawk_answer::Lines;
 use squawk_parser::{StepSink, StrStep, SyntaxKind};
 use std::test::Fail;
 
+const WANTED: &str = r#"enter 3
+token 3 "a\""
+error 12 "expected \n"
+exit
+rest
+"#;
+
 #[test]
 fn each_step_is_a_line(rt: HostRuntime) -> Result<(), Fail> {
     let mut lines = Lines::new(rt.alloc());
@@ -16,7 +23,6 @@ fn each_step_is_a_line(rt: HostRuntime) -> Result<(), Fail> {
     })?;
     lines.step(StrStep::Exit)?;
     let text = lines.finish(false)?;
-    let wanted = "enter 3\ntoken 3 \"a\\\"\"\nerror 12 \"expected \\n\"\nexit\nrest\n";
-    assert_eq!(rt; text.as_str(), wanted);
+    assert_eq!(rt; text.as_str(), WANTED);
     Ok(())
 }

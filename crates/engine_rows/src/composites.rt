@@ -29,40 +29,6 @@ fn words(rt: &(impl Abort + AllocGlobal), text: &str) -> Result<Input, Fail> {
     input(rt, text, &tokens)
 }
 
-#[test]
-fn pairs_stand_where_their_tokens_touch(rt: HostRuntime) -> Result<(), Fail> {
-    for (kind, text, tokens) in [
-        (45, ":=", [COLON, EQ]),
-        (46, "!=", [BANG, EQ]),
-        (47, "<>", [LT, GT]),
-        (48, "<=", [LT, EQ]),
-        (49, "=>", [EQ, GT]),
-        (50, "<<", [LT, LT]),
-        (51, ">>", [GT, GT]),
-        (52, ">=", [GT, EQ]),
-        (645, "::", [COLON, COLON]),
-    ] {
-        let kind = SyntaxKind::from(kind);
-        let questions = [at(kind), nth_at(1, kind), at_under(1, kind)];
-        assert_signs(&rt, text, &tokens, &questions, &[YES, NO, NO])?;
-    }
-    assert_signs(
-        &rt,
-        ": =",
-        &[COLON, space(1), EQ],
-        &[at(SyntaxKind::COLON_EQ)],
-        &[NO],
-    )?;
-    assert_signs(
-        &rt,
-        "< =",
-        &[LT, space(1), EQ],
-        &[at(SyntaxKind::LTEQ)],
-        &[NO],
-    )?;
-    Ok(())
-}
-
 /// Ends the test unless the kind stands, or doesn't, at the front of the text.
 fn assert_at(
     rt: &(impl Abort + AllocGlobal),
@@ -75,48 +41,43 @@ fn assert_at(
 }
 
 #[test]
+fn pairs_stand_where_their_tokens_touch(rt: HostRuntime) -> Result<(), Fail> {
+    for (kind, text, tokens) in [
+        (SyntaxKind::COLON_EQ, ":=", [COLON, EQ]),
+        (SyntaxKind::NEQ, "!=", [BANG, EQ]),
+        (SyntaxKind::NEQB, "<>", [LT, GT]),
+        (SyntaxKind::LTEQ, "<=", [LT, EQ]),
+        (SyntaxKind::FAT_ARROW, "=>", [EQ, GT]),
+        (SyntaxKind::LESS_LESS, "<<", [LT, LT]),
+        (SyntaxKind::GREATER_GREATER, ">>", [GT, GT]),
+        (SyntaxKind::GTEQ, ">=", [GT, EQ]),
+        (SyntaxKind::COLON_COLON, "::", [COLON, COLON]),
+    ] {
+        let questions = [at(kind), nth_at(1, kind), at_under(1, kind)];
+        assert_signs(&rt, text, &tokens, &questions, &[YES, NO, NO])?;
+    }
+    assert_at(&rt, SyntaxKind::COLON_EQ, ": =", &[COLON, space(1), EQ], NO)?;
+    assert_at(&rt, SyntaxKind::LTEQ, "< =", &[LT, space(1), EQ], NO)
+}
+
+#[test]
 fn pairs_do_not_stand_in_longer_operators(rt: HostRuntime) -> Result<(), Fail> {
-    assert_at(
-        &rt,
-        SyntaxKind::LTEQ,
-        "<=-1",
-        &[LT, EQ, MINUS, digit()],
-        YES,
-    )?;
-    assert_at(&rt, SyntaxKind::LTEQ, "<=*", &[LT, EQ, STAR], NO)?;
-    // The third kind is none of an operator, or it doesn't touch.
-    assert_at(&rt, SyntaxKind::LTEQ, "<=,", &[LT, EQ, COMMA], YES)?;
-    assert_at(
-        &rt,
-        SyntaxKind::LTEQ,
-        "<= *",
-        &[LT, EQ, space(1), STAR],
-        YES,
-    )?;
-
-    assert_at(
-        &rt,
-        SyntaxKind::NEQ,
-        "!=-1",
-        &[BANG, EQ, MINUS, digit()],
-        NO,
-    )?;
-    assert_at(
-        &rt,
-        SyntaxKind::CUSTOM_OP,
-        "!=-1",
-        &[BANG, EQ, MINUS, digit()],
-        YES,
-    )?;
-
-    assert_at(&rt, SyntaxKind::FAT_ARROW, "=>=", &[EQ, GT, EQ], NO)?;
-    assert_at(
-        &rt,
-        SyntaxKind::FAT_ARROW,
-        "=>-1",
-        &[EQ, GT, MINUS, digit()],
-        YES,
-    )?;
+    let one = digit();
+    let rows: [(SyntaxKind, &str, &[Token], u16); 8] = [
+        (SyntaxKind::LTEQ, "<=*", &[LT, EQ, STAR], NO),
+        // The third kind is none of an operator, or it doesn't touch.
+        (SyntaxKind::LTEQ, "<=,", &[LT, EQ, COMMA], YES),
+        (SyntaxKind::LTEQ, "<= *", &[LT, EQ, space(1), STAR], YES),
+        // A name ends in a minus sign only where it has a special sign, as `!`.
+        (SyntaxKind::LTEQ, "<=-1", &[LT, EQ, MINUS, one], YES),
+        (SyntaxKind::NEQ, "!=-1", &[BANG, EQ, MINUS, one], NO),
+        (SyntaxKind::CUSTOM_OP, "!=-1", &[BANG, EQ, MINUS, one], YES),
+        (SyntaxKind::FAT_ARROW, "=>-1", &[EQ, GT, MINUS, one], YES),
+        (SyntaxKind::FAT_ARROW, "=>=", &[EQ, GT, EQ], NO),
+    ];
+    for (kind, text, tokens, answer) in rows {
+        assert_at(&rt, kind, text, tokens, answer)?;
+    }
     let length_of_three = [ask(Look::OpLen)];
     assert_signs(&rt, "=>=", &[EQ, GT, EQ], &length_of_three, &[length(3)])
 }
@@ -140,12 +101,11 @@ fn pairs_look_at_the_first_and_the_third_kind(rt: HostRuntime) -> Result<(), Fai
 /// Ends the test unless the kind stands before these words, and doesn't where the last is not seen.
 fn assert_words(
     rt: &(impl Abort + AllocGlobal),
-    kind: u16,
+    kind: SyntaxKind,
     text: &str,
     count: usize,
 ) -> Result<(), Fail> {
     let input = words(rt, text)?;
-    let kind = SyntaxKind::from(kind);
     let questions = [
         at(kind),
         at_under(count, kind),
@@ -158,26 +118,26 @@ fn assert_words(
 #[test]
 fn words_stand_in_their_order(rt: HostRuntime) -> Result<(), Fail> {
     for (kind, text, count) in [
-        (640, "similar to", 2),
-        (656, "not similar to", 3),
-        (641, "at time zone", 3),
-        (642, "at local", 2),
-        (663, "is not", 2),
-        (659, "is distinct from", 3),
-        (657, "is not distinct from", 4),
-        (660, "not like", 2),
-        (661, "not ilike", 2),
-        (662, "not in", 2),
-        (646, "is json", 2),
-        (652, "is json object", 3),
-        (653, "is json array", 3),
-        (654, "is json value", 3),
-        (655, "is json scalar", 3),
-        (647, "is not json", 3),
-        (648, "is not json object", 4),
-        (649, "is not json array", 4),
-        (650, "is not json value", 4),
-        (651, "is not json scalar", 4),
+        (SyntaxKind::SIMILAR_TO, "similar to", 2),
+        (SyntaxKind::NOT_SIMILAR_TO, "not similar to", 3),
+        (SyntaxKind::AT_TIME_ZONE, "at time zone", 3),
+        (SyntaxKind::AT_LOCAL, "at local", 2),
+        (SyntaxKind::IS_NOT, "is not", 2),
+        (SyntaxKind::IS_DISTINCT_FROM, "is distinct from", 3),
+        (SyntaxKind::IS_NOT_DISTINCT_FROM, "is not distinct from", 4),
+        (SyntaxKind::NOT_LIKE, "not like", 2),
+        (SyntaxKind::NOT_ILIKE, "not ilike", 2),
+        (SyntaxKind::NOT_IN, "not in", 2),
+        (SyntaxKind::IS_JSON, "is json", 2),
+        (SyntaxKind::IS_JSON_OBJECT, "is json object", 3),
+        (SyntaxKind::IS_JSON_ARRAY, "is json array", 3),
+        (SyntaxKind::IS_JSON_VALUE, "is json value", 3),
+        (SyntaxKind::IS_JSON_SCALAR, "is json scalar", 3),
+        (SyntaxKind::IS_NOT_JSON, "is not json", 3),
+        (SyntaxKind::IS_NOT_JSON_OBJECT, "is not json object", 4),
+        (SyntaxKind::IS_NOT_JSON_ARRAY, "is not json array", 4),
+        (SyntaxKind::IS_NOT_JSON_VALUE, "is not json value", 4),
+        (SyntaxKind::IS_NOT_JSON_SCALAR, "is not json scalar", 4),
     ] {
         assert_words(&rt, kind, text, count)?;
     }
@@ -187,13 +147,13 @@ fn words_stand_in_their_order(rt: HostRuntime) -> Result<(), Fail> {
 #[test]
 fn normal_form_may_be_left_out(rt: HostRuntime) -> Result<(), Fail> {
     for (kind, text, count) in [
-        (644, "is normalized", 2),
-        (644, "is nfc normalized", 3),
-        (644, "is nfd normalized", 3),
-        (644, "is nfkc normalized", 3),
-        (644, "is nfkd normalized", 3),
-        (643, "is not normalized", 3),
-        (643, "is not nfc normalized", 4),
+        (SyntaxKind::IS_NORMALIZED, "is normalized", 2),
+        (SyntaxKind::IS_NORMALIZED, "is nfc normalized", 3),
+        (SyntaxKind::IS_NORMALIZED, "is nfd normalized", 3),
+        (SyntaxKind::IS_NORMALIZED, "is nfkc normalized", 3),
+        (SyntaxKind::IS_NORMALIZED, "is nfkd normalized", 3),
+        (SyntaxKind::IS_NOT_NORMALIZED, "is not normalized", 3),
+        (SyntaxKind::IS_NOT_NORMALIZED, "is not nfc normalized", 4),
     ] {
         assert_words(&rt, kind, text, count)?;
     }

@@ -37,7 +37,7 @@ impl Grammar for Names {
     // All stands in one SOURCE_FILE.
     ghost leaves = { λ _ _ _ draft. (inner : List Step) × (plain draft.items ≡ node 700 inner) };
 
-    ghost fails = { λ _ _ _ _ _. Unit {0} };
+    ghost runs = { λ _ _ _ _. Unit {0} };
 
     ghost meaning = { λ _. no_words };
 

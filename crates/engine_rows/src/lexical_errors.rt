@@ -105,60 +105,42 @@ fn a_parameter_has_a_number_that_is_not_too_large(rt: HostRuntime) -> Result<(),
 
 #[test]
 fn an_integer_has_digits_of_its_base(rt: HostRuntime) -> Result<(), Fail> {
-    for (text, base, wanted) in [
-        (
-            "select 0o7889;",
-            Base::Octal,
-            [
-                at(10, 11, NOT_BASE_8),
-                at(11, 12, NOT_BASE_8),
-                at(12, 13, NOT_BASE_8),
-            ],
-        ),
-        (
-            "select 0o999;",
-            Base::Octal,
-            [
-                at(9, 10, NOT_BASE_8),
-                at(10, 11, NOT_BASE_8),
-                at(11, 12, NOT_BASE_8),
-            ],
-        ),
-        (
-            "select 0b234;",
-            Base::Binary,
-            [
-                at(9, 10, NOT_BASE_2),
-                at(10, 11, NOT_BASE_2),
-                at(11, 12, NOT_BASE_2),
-            ],
-        ),
+    for (text, base, first, message) in [
+        ("select 0o7889;", Base::Octal, 10, NOT_BASE_8),
+        ("select 0o999;", Base::Octal, 9, NOT_BASE_8),
+        ("select 0b234;", Base::Binary, 9, NOT_BASE_2),
     ] {
         let len = len_of(text).saturating_sub(8);
         let tokens = [word(6), space(1), token(int(base, len), len), SEMI];
+        // Three digits in a row, from the first one on.
+        let wanted = [
+            at(first, first + 1, message),
+            at(first + 1, first + 2, message),
+            at(first + 2, first + 3, message),
+        ];
         assert_errors(&rt, text, &tokens, &wanted)?;
     }
-    // The digits come before the junk.
-    assert_token(
-        &rt,
-        "0b102_3x",
-        int(Base::Binary, 7),
-        &[
-            at(4, 5, NOT_BASE_2),
-            at(6, 7, NOT_BASE_2),
-            at(7, 8, NUMBER_JUNK),
-        ],
-    )?;
-    // A character of several bytes is one digit.
-    assert_token(
-        &rt,
-        "0b1_é2",
-        int(Base::Binary, 7),
-        &[at(4, 6, NOT_BASE_2), at(6, 7, NOT_BASE_2)],
-    )?;
-    assert_token(&rt, "0oé", int(Base::Octal, 4), &[at(2, 4, NOT_BASE_8)])?;
-    assert_token(&rt, "0b1_0", int(Base::Binary, 5), &[])?;
-    assert_token(&rt, "0o7_7", int(Base::Octal, 5), &[])
+    for (text, base) in [("0b1_0", Base::Binary), ("0o7_7", Base::Octal)] {
+        assert_token(&rt, text, int(base, 5), &[])?;
+    }
+    Ok(())
+}
+
+#[test]
+fn the_digits_of_an_integer_come_before_its_junk(rt: HostRuntime) -> Result<(), Fail> {
+    let wanted = [
+        at(4, 5, NOT_BASE_2),
+        at(6, 7, NOT_BASE_2),
+        at(7, 8, NUMBER_JUNK),
+    ];
+    assert_token(&rt, "0b102_3x", int(Base::Binary, 7), &wanted)
+}
+
+#[test]
+fn a_character_of_several_bytes_is_one_digit(rt: HostRuntime) -> Result<(), Fail> {
+    let wanted = [at(4, 6, NOT_BASE_2), at(6, 7, NOT_BASE_2)];
+    assert_token(&rt, "0b1_é2", int(Base::Binary, 7), &wanted)?;
+    assert_token(&rt, "0oé", int(Base::Octal, 4), &[at(2, 4, NOT_BASE_8)])
 }
 
 #[test]

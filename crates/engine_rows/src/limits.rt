@@ -73,7 +73,7 @@ impl Grammar for Limiting {
 
     ghost leaves = { λ _ _ _ _. Unit {0} };
 
-    ghost fails = { λ _ _ _ _ _. Unit {0} };
+    ghost runs = { λ _ _ _ _. Unit {0} };
 
     ghost meaning = { λ _. no_words };
 

@@ -26,7 +26,7 @@ impl Grammar for Ahead {
 
     ghost leaves = { λ _ _ _ _. Unit {0} };
 
-    ghost fails = { λ _ _ _ _ _. Unit {0} };
+    ghost runs = { λ _ _ _ _. Unit {0} };
 
     ghost meaning = { λ _. no_words };
 

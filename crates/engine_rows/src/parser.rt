@@ -99,7 +99,7 @@ impl Grammar for Looks {
 
     ghost leaves = { λ _ _ _ _. Unit {0} };
 
-    ghost fails = { λ _ _ _ _ _. Unit {0} };
+    ghost runs = { λ _ _ _ _. Unit {0} };
 
     ghost meaning = { λ _. no_words };
 
@@ -149,7 +149,7 @@ impl Grammar for WantsMemory {
 
     ghost leaves = { λ _ _ _ _. Unit {0} };
 
-    ghost fails = { λ _ _ _ _ _. Unit {0} };
+    ghost runs = { λ _ _ _ _. Unit {0} };
 
     ghost meaning = { λ _. no_words };
 

@@ -6,7 +6,7 @@ use crate::fixture::errors::{
     incomplete, int, len_of, literal, national, numeric, string, token,
 };
 use crate::fixture::{space, table, word};
-use squawk_parser::{Base, LiteralKind, TokenKind};
+use squawk_parser::{Base, LiteralKind, Token, TokenKind};
 use std::test::Fail;
 
 const OPEN_STRING: &str = "missing trailing `'` symbol to terminate the string literal";
@@ -47,44 +47,22 @@ fn errors_know_how_many_are_left(rt: HostRuntime) -> Result<(), Fail> {
 }
 
 #[test]
+#[rattlefmt::skip]
 fn a_string_is_terminated(rt: HostRuntime) -> Result<(), Fail> {
-    for (text, kind, wanted) in [
-        (
-            "select 'hello;",
-            LiteralKind::Str { terminated: false },
-            at(7, 14, OPEN_STRING),
-        ),
-        (
-            "select X'1F;",
-            LiteralKind::ByteStr { terminated: false },
-            at(7, 12, OPEN_BYTES),
-        ),
-        (
-            "select B'101;",
-            LiteralKind::BitStr { terminated: false },
-            at(7, 13, OPEN_BITS),
-        ),
-        (
-            "select $tag$hello;",
-            LiteralKind::DollarQuotedString { terminated: false },
-            at(7, 18, OPEN_DOLLAR),
-        ),
-        (
-            "select U&'hello;",
-            LiteralKind::UnicodeEscStr { terminated: false },
-            at(7, 16, OPEN_UNICODE),
-        ),
-        (
-            "select E'hello;",
-            LiteralKind::EscStr { terminated: false },
-            at(7, 15, OPEN_ESCAPES),
-        ),
+    let terminated = false;
+    for (text, kind, end, message) in [
+        ("select 'hello;", LiteralKind::Str { terminated }, 14, OPEN_STRING),
+        ("select X'1F;", LiteralKind::ByteStr { terminated }, 12, OPEN_BYTES),
+        ("select B'101;", LiteralKind::BitStr { terminated }, 13, OPEN_BITS),
+        ("select $tag$hello;", LiteralKind::DollarQuotedString { terminated }, 18, OPEN_DOLLAR),
+        ("select U&'hello;", LiteralKind::UnicodeEscStr { terminated }, 16, OPEN_UNICODE),
+        ("select E'hello;", LiteralKind::EscStr { terminated }, 15, OPEN_ESCAPES),
     ] {
         let len = len_of(text).saturating_sub(7);
         let tokens = [word(6), space(1), token(literal(kind), len)];
-        assert_errors(&rt, text, &tokens, &[wanted])?;
+        assert_errors(&rt, text, &tokens, &[at(7, end, message)])?;
     }
-    let open = literal(LiteralKind::NationalStr { terminated: false });
+    let open = literal(LiteralKind::NationalStr { terminated });
     assert_token(&rt, "N'a", open, &[at(0, 3, OPEN_NATIONAL)])
 }
 
@@ -226,62 +204,29 @@ fn a_string_continues_over_comments(rt: HostRuntime) -> Result<(), Fail> {
 }
 
 #[test]
+#[rattlefmt::skip]
 fn other_tokens_part_two_strings(rt: HostRuntime) -> Result<(), Fail> {
-    let number = token(int(Base::Decimal, 1), 1);
-    assert_errors(
-        &rt,
-        "B'01' 2 '2'",
-        &[bits(5), space(1), number, space(1), string(3)],
-        &[],
-    )?;
+    let integer = token(int(Base::Decimal, 1), 1);
+    let number = token(numeric(None, 3), 3);
     let bar = token(TokenKind::Or, 1);
     let dollar = literal(LiteralKind::DollarQuotedString { terminated: true });
-    assert_errors(
-        &rt,
-        r"B'01' || '2'; X'0F' N'x' 'G'; E'ok' $tag$x$tag$ '\u0'",
-        &[
-            bits(5),
-            space(1),
-            bar,
-            bar,
-            space(1),
-            string(3),
-            SEMI,
-            space(1),
-            bytes(5),
-            space(1),
-            national(4),
-            space(1),
-            string(3),
-            SEMI,
-            space(1),
-            escapes(5),
-            space(1),
-            token(dollar, 11),
-            space(1),
-            string(5),
-        ],
-        &[],
-    )?;
-    assert_errors(
-        &rt,
-        "B'01' 2 '2'; X'0F' 1.5 'G'",
-        &[
-            bits(5),
-            space(1),
-            number,
-            space(1),
-            string(3),
-            SEMI,
-            space(1),
-            bytes(5),
-            space(1),
-            token(numeric(None, 3), 3),
-            space(1),
-            string(3),
-        ],
-        &[],
-    )
+    let tagged = token(dollar, 11);
+    let rows: [(&str, &[Token]); 3] = [
+        ("B'01' 2 '2'", &[bits(5), space(1), integer, space(1), string(3)]),
+        (r"B'01' || '2'; X'0F' N'x' 'G'; E'ok' $tag$x$tag$ '\u0'", &[
+            bits(5), space(1), bar, bar, space(1), string(3), SEMI, space(1),
+            bytes(5), space(1), national(4), space(1), string(3), SEMI, space(1),
+            escapes(5), space(1), tagged, space(1), string(5),
+        ]),
+        ("B'01' 2 '2'; X'0F' 1.5 'G'", &[
+            bits(5), space(1), integer, space(1), string(3), SEMI, space(1),
+            bytes(5), space(1), number, space(1), string(3),
+        ]),
+    ];
+    for (text, tokens) in rows {
+        assert_errors(&rt, text, tokens, &[])?;
+    }
+    Ok(())
 }
 
 #[test]

@@ -1,22 +1,18 @@
 //! What the kinds of raw tokens say of their texts, and the syntax kinds that they give.
 
 use crate::fixture::NO_KEYWORDS;
-use squawk_parser::{
-    Base, LexedStr, LiteralKind, SyntaxKind, TableError, Token, TokenKind, check_tokens,
-};
+use crate::fixture::errors::{len_of, literal, numeric, token};
+use squawk_parser::{Base, LexedStr, LiteralKind, SyntaxKind, TableError, TokenKind, check_tokens};
+use std::process::Abort;
 use std::test::Fail;
 
-const fn literal(kind: LiteralKind) -> TokenKind {
-    TokenKind::Literal { kind }
-}
-
-const fn param(trailing_junk_start: u32) -> TokenKind {
+fn param(trailing_junk_start: u32) -> TokenKind {
     TokenKind::PositionalParam {
         trailing_junk_start,
     }
 }
 
-const fn int(empty_int: bool, base: Base, trailing_junk_start: u32) -> TokenKind {
+fn int(empty_int: bool, base: Base, trailing_junk_start: u32) -> TokenKind {
     literal(LiteralKind::Int {
         empty_int,
         base,
@@ -24,33 +20,25 @@ const fn int(empty_int: bool, base: Base, trailing_junk_start: u32) -> TokenKind
     })
 }
 
-const fn numeric(empty_exponent_start: Option<u32>, trailing_junk_start: u32) -> TokenKind {
-    literal(LiteralKind::Numeric {
-        empty_exponent_start,
-        trailing_junk_start,
-    })
-}
-
-const fn string(terminated: bool) -> TokenKind {
+fn string(terminated: bool) -> TokenKind {
     literal(LiteralKind::Str { terminated })
 }
 
-const fn bits(terminated: bool) -> TokenKind {
+fn bits(terminated: bool) -> TokenKind {
     literal(LiteralKind::BitStr { terminated })
 }
 
-const fn bytes(terminated: bool) -> TokenKind {
+fn bytes(terminated: bool) -> TokenKind {
     literal(LiteralKind::ByteStr { terminated })
 }
 
-const fn escapes(terminated: bool) -> TokenKind {
+fn escapes(terminated: bool) -> TokenKind {
     literal(LiteralKind::EscStr { terminated })
 }
 
 /// Why a token of this kind can't be the whole text.
 fn refusal(text: &str, kind: TokenKind) -> Option<TableError> {
-    let len = u32::try_from(text.len()).unwrap_or(u32::MAX);
-    check_tokens(text, &[Token { kind, len }]).err()
+    check_tokens(text, &[token(kind, len_of(text))]).err()
 }
 
 #[test]
@@ -120,100 +108,102 @@ fn kinds_that_fit_their_texts_are_good(rt: HostRuntime) {
     }
 }
 
-/// The syntax kind of a token of one byte.
-fn syntax_kind(rt: &impl AllocGlobal, kind: TokenKind) -> Result<u16, Fail> {
-    let table = LexedStr::new(rt.alloc(), "x", &[Token { kind, len: 1 }], &NO_KEYWORDS)?;
-    if table.len() == 0 {
-        return Ok(0);
-    }
-    Ok(u16::from(table.kind(0)))
+const SIGNS: [(TokenKind, SyntaxKind); 28] = [
+    (TokenKind::Semi, SyntaxKind::SEMICOLON),
+    (TokenKind::Comma, SyntaxKind::COMMA),
+    (TokenKind::Dot, SyntaxKind::DOT),
+    (TokenKind::DotDot, SyntaxKind::DOT_DOT),
+    (TokenKind::OpenParen, SyntaxKind::L_PAREN),
+    (TokenKind::CloseParen, SyntaxKind::R_PAREN),
+    (TokenKind::OpenBracket, SyntaxKind::L_BRACK),
+    (TokenKind::CloseBracket, SyntaxKind::R_BRACK),
+    (TokenKind::OpenCurly, SyntaxKind::L_CURLY),
+    (TokenKind::CloseCurly, SyntaxKind::R_CURLY),
+    (TokenKind::At, SyntaxKind::AT),
+    (TokenKind::Pound, SyntaxKind::POUND),
+    (TokenKind::Tilde, SyntaxKind::TILDE),
+    (TokenKind::Question, SyntaxKind::QUESTION),
+    (TokenKind::Colon, SyntaxKind::COLON),
+    (TokenKind::Eq, SyntaxKind::EQ),
+    (TokenKind::Bang, SyntaxKind::BANG),
+    (TokenKind::Lt, SyntaxKind::L_ANGLE),
+    (TokenKind::Gt, SyntaxKind::R_ANGLE),
+    (TokenKind::Minus, SyntaxKind::MINUS),
+    (TokenKind::And, SyntaxKind::AMP),
+    (TokenKind::Or, SyntaxKind::PIPE),
+    (TokenKind::Plus, SyntaxKind::PLUS),
+    (TokenKind::Star, SyntaxKind::STAR),
+    (TokenKind::Slash, SyntaxKind::SLASH),
+    (TokenKind::Caret, SyntaxKind::CARET),
+    (TokenKind::Percent, SyntaxKind::PERCENT),
+    (TokenKind::Backtick, SyntaxKind::BACKTICK),
+];
+
+/// Ends the test unless a token of this kind, which is the whole text, has the syntax kind.
+fn assert_syntax_kind(
+    rt: &(impl Abort + AllocGlobal),
+    text: &str,
+    kind: TokenKind,
+    wanted: SyntaxKind,
+) -> Result<(), Fail> {
+    let tokens = [token(kind, len_of(text))];
+    let table = LexedStr::new(rt.alloc(), text, &tokens, &NO_KEYWORDS)?;
+    assert_eq!(rt; table.len(), 1);
+    assert_eq!(rt; table.kind(0), wanted, "{kind:?}");
+    Ok(())
 }
 
 #[test]
-fn kinds_without_places_give_their_syntax_kinds(rt: HostRuntime) -> Result<(), Fail> {
-    let signs = [
-        TokenKind::Semi,
-        TokenKind::Comma,
-        TokenKind::Dot,
-        TokenKind::DotDot,
-        TokenKind::OpenParen,
-        TokenKind::CloseParen,
-        TokenKind::OpenBracket,
-        TokenKind::CloseBracket,
-        TokenKind::OpenCurly,
-        TokenKind::CloseCurly,
-        TokenKind::At,
-        TokenKind::Pound,
-        TokenKind::Tilde,
-        TokenKind::Question,
-        TokenKind::Colon,
-        TokenKind::Eq,
-        TokenKind::Bang,
-        TokenKind::Lt,
-        TokenKind::Gt,
-        TokenKind::Minus,
-        TokenKind::And,
-        TokenKind::Or,
-        TokenKind::Plus,
-        TokenKind::Star,
-        TokenKind::Slash,
-        TokenKind::Caret,
-        TokenKind::Percent,
-        TokenKind::Backtick,
-    ];
-    for (sign, number) in signs.into_iter().zip(5u16..33) {
-        assert_eq!(rt; syntax_kind(&rt, sign)?, number, "{sign:?}");
+fn signs_give_their_syntax_kinds(rt: HostRuntime) -> Result<(), Fail> {
+    for (sign, wanted) in SIGNS {
+        assert_syntax_kind(&rt, "x", sign, wanted)?;
     }
-    for (kind, number) in [
-        (TokenKind::Unknown, 2),
-        (TokenKind::LineComment, 4),
-        (TokenKind::BlockComment { terminated: true }, 4),
-        (TokenKind::BlockComment { terminated: false }, 4),
-        (TokenKind::Whitespace, 639),
-        (TokenKind::Ident, 3),
-        (
-            TokenKind::QuotedIdent {
-                terminated: true,
-                uescape: false,
-            },
-            3,
-        ),
-        (TokenKind::PsqlCommand { ends_query: true }, 44),
-        (TokenKind::PsqlCommand { ends_query: false }, 43),
+    Ok(())
+}
+
+#[test]
+fn words_and_trivia_give_their_syntax_kinds(rt: HostRuntime) -> Result<(), Fail> {
+    let quoted = TokenKind::QuotedIdent {
+        terminated: true,
+        uescape: false,
+    };
+    let closed = TokenKind::BlockComment { terminated: true };
+    let open = TokenKind::BlockComment { terminated: false };
+    let command = TokenKind::PsqlCommand { ends_query: false };
+    let terminator = TokenKind::PsqlCommand { ends_query: true };
+    for (kind, wanted) in [
+        (TokenKind::Unknown, SyntaxKind::ERROR),
+        (TokenKind::LineComment, SyntaxKind::COMMENT),
+        (closed, SyntaxKind::COMMENT),
+        (open, SyntaxKind::COMMENT),
+        (TokenKind::Whitespace, SyntaxKind::WHITESPACE),
+        (TokenKind::Ident, SyntaxKind::IDENT),
+        (quoted, SyntaxKind::IDENT),
+        (terminator, SyntaxKind::PSQL_TERMINATOR_TEXT),
+        (command, SyntaxKind::PSQL_COMMAND_TEXT),
     ] {
-        assert_eq!(rt; syntax_kind(&rt, kind)?, number, "{kind:?}");
+        assert_syntax_kind(&rt, "x", kind, wanted)?;
     }
     Ok(())
 }
 
 #[test]
 fn literals_give_their_syntax_kinds(rt: HostRuntime) -> Result<(), Fail> {
-    for (kind, number) in [
-        (int(false, Base::Decimal, 1), 33),
-        (numeric(None, 1), 34),
-        (string(false), 35),
-        (literal(LiteralKind::NationalStr { terminated: false }), 36),
-        (bytes(false), 37),
-        (bits(false), 38),
-        (
-            literal(LiteralKind::DollarQuotedString { terminated: false }),
-            39,
-        ),
-        (
-            literal(LiteralKind::UnicodeEscStr { terminated: false }),
-            40,
-        ),
-        (escapes(false), 41),
+    let national = literal(LiteralKind::NationalStr { terminated: false });
+    let dollar = literal(LiteralKind::DollarQuotedString { terminated: false });
+    let unicode = literal(LiteralKind::UnicodeEscStr { terminated: false });
+    for (kind, wanted) in [
+        (int(false, Base::Decimal, 1), SyntaxKind::INT_NUMBER),
+        (numeric(None, 1), SyntaxKind::NUMERIC_NUMBER),
+        (string(false), SyntaxKind::STRING),
+        (national, SyntaxKind::NATIONAL_STRING),
+        (bytes(false), SyntaxKind::BYTE_STRING),
+        (bits(false), SyntaxKind::BIT_STRING),
+        (dollar, SyntaxKind::DOLLAR_QUOTED_STRING),
+        (unicode, SyntaxKind::UNICODE_ESC_STRING),
+        (escapes(false), SyntaxKind::ESC_STRING),
     ] {
-        assert_eq!(rt; syntax_kind(&rt, kind)?, number, "{kind:?}");
+        assert_syntax_kind(&rt, "x", kind, wanted)?;
     }
-    let text = "$1";
-    let tokens = [Token {
-        kind: param(2),
-        len: 2,
-    }];
-    let table = LexedStr::new(rt.alloc(), text, &tokens, &NO_KEYWORDS)?;
-    assert_eq!(rt; table.len(), 1);
-    assert_eq!(rt; table.kind(0), SyntaxKind::POSITIONAL_PARAM);
-    Ok(())
+    assert_syntax_kind(&rt, "$1", param(2), SyntaxKind::POSITIONAL_PARAM)
 }

@@ -23,7 +23,7 @@
 //!     // All stands in one SOURCE_FILE.
 //!     ghost leaves = { λ _ _ _ draft. (inner : List Step) × (plain draft.items ≡ node 700 inner) };
 //!
-//!     ghost fails = { λ _ _ _ _ _. Unit {0} };
+//!     ghost runs = { λ _ _ _ _. Unit {0} };
 //!
 //!     ghost meaning = { λ _. no_words };
 //!
@@ -84,8 +84,8 @@
 //! comma in an [`SyntaxKind::ERROR`], the space, and `two` in a NAME_REF.
 //!
 //! The ghost members are what the grammar promises beyond what holds of every parse: `leaves` tells
-//! what it leaves over an input, `fails` why its parser may fail there, and `meaning` what `words`
-//! gives.
+//! what it leaves over an input, `runs` what it does to the parser, also where that fails, and
+//! `meaning` what `words` gives.
 #![tactic(auto)]
 
 pub mod parser;
