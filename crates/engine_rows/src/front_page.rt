@@ -8,10 +8,8 @@ ghost use Rattle.squawk_output.specs.Steps.{Step};
 ghost use Rattle.squawk_parser.specs.Recorded.{Puts};
 ghost use Rattle.squawk_parser.specs.State.{Keeps, kind_at};
 
-use crate::fixture::{
-    EXIT, NO_KEYWORDS, assert_steps, enter, error_step, space, space_step, token_step, word,
-    word_step,
-};
+use crate::fixture::lines::line_of;
+use crate::fixture::{NO_KEYWORDS, space, word};
 use squawk_parser::{
     EntryPoint, Grammar, LexedStr, Parser, StepList, SyntaxKind, Token, TokenKind, TokenSet,
     Vocabulary, Words,
@@ -20,9 +18,9 @@ use std::alloc::{AllocError, Global};
 use std::test::Fail;
 
 // The front page begins.
-const SOURCE_FILE: u16 = 700;
+const SOURCE_FILE: u16 = 710;
 
-const NAME_REF: u16 = 701;
+const NAME_REF: u16 = 702;
 
 /// A source file of names: each in a node of its own, and what is no name in an error node.
 struct Names;
@@ -35,7 +33,7 @@ impl Grammar for Names {
     ghost use Rattle.squawk_parser.specs.Words.{no_words};
 
     // All stands in one SOURCE_FILE.
-    ghost leaves = { λ _ _ _ draft. (inner : List Step) × (plain draft.items ≡ node 700 inner) };
+    ghost leaves = { λ _ _ _ draft. (inner : List Step) × (plain draft.items ≡ node 710 inner) };
 
     ghost runs = { λ _ _ _ _. Unit {0} };
 
@@ -107,24 +105,8 @@ fn names_are_nodes_and_the_rest_errors(rt: HostRuntime) -> Result<(), Fail> {
 
     let mut sink = StepList::new(rt.alloc());
     assert!(rt; send(rt.alloc(), text, &tokens, &NO_KEYWORDS, &mut sink)?);
-    assert_steps(
-        &rt,
-        sink.steps(),
-        &[
-            enter(700),
-            enter(701),
-            word_step("one"),
-            EXIT,
-            enter(2),
-            error_step("expected a name", 3),
-            token_step(6, ","),
-            EXIT,
-            space_step(" "),
-            enter(701),
-            word_step("two"),
-            EXIT,
-            EXIT,
-        ],
-    );
+    let line = line_of(rt.alloc(), sink.steps())?;
+    let wanted = "SOURCE_FILE(NAME_REF(one) ERROR(!'expected a name'@3 ,) _ NAME_REF(two))";
+    assert_eq!(rt; line.as_str(), wanted);
     Ok(())
 }

@@ -6,9 +6,9 @@
 //! one is of names:
 //!
 //! ```rust
-//! const SOURCE_FILE: u16 = 700;
+//! const SOURCE_FILE: u16 = 710;
 //!
-//! const NAME_REF: u16 = 701;
+//! const NAME_REF: u16 = 702;
 //!
 //! /// A source file of names: each in a node of its own, and what is no name in an error node.
 //! struct Names;
@@ -21,7 +21,7 @@
 //!     ghost use Rattle.squawk_parser.specs.Words.{no_words};
 //!
 //!     // All stands in one SOURCE_FILE.
-//!     ghost leaves = { λ _ _ _ draft. (inner : List Step) × (plain draft.items ≡ node 700 inner) };
+//!     ghost leaves = { λ _ _ _ draft. (inner : List Step) × (plain draft.items ≡ node 710 inner) };
 //!
 //!     ghost runs = { λ _ _ _ _. Unit {0} };
 //!

@@ -16,7 +16,7 @@ loop-p-preserved c =
     }
 
 -- all that was recorded is one node
-file : (c : goal.After-complete) → Puts (node 700 c.loop-p.invariant.steps) c.args.p.now c.complete.new.p
+file : (c : goal.After-complete) → Puts (node 710 c.loop-p.invariant.steps) c.args.p.now c.complete.new.p
 file c =
     let start = c.start-file.ensures in
     let names = c.loop-p.invariant in
