@@ -1,3 +1,4 @@
 pub mod Kinds
+pub mod Constants
 pub mod TokenSets
 pub mod Keywords

@@ -5,6 +5,7 @@
 #![tactic(auto)]
 
 pub mod classes;
+mod constants;
 pub mod syntax_kind;
 pub mod token_set;
 pub mod vocabulary;
