@@ -1,50 +1,12 @@
--- The units of a content, one after another.
-use Rattle.std.proofs.Common.{◌≡◌, ◌∙◌, ℕ, zero, suc, ◌+◌, ◌<◌, ◌≤◌, nat_lt, ◌==◌, Bool, true, false, cond, Some, None, List, [], ◌∷◌, ◌++◌, length, drop, length-drop, arith, ap, sym, refl}
+-- The errors of a content's units, one after another.
+use Rattle.std.proofs.Common.{◌≡◌, ◌∙◌, ℕ, ◌+◌, ◌<◌, nat_lt, Bool, true, false, cond, Some, None, List, [], ◌∷◌, ◌++◌, length, drop, arith, ap, sym, refl}
 use Rattle.std.specs.Prelude.{codes, option_map}
 use Rattle.std.specs.Str.{chars}
-use Rattle.squawk_tokens.specs.EscapeUnits.{Unit, Escape, Other, first_unit, first_units, units, chars_of, bytes_of, wanted_digits, escape_at}
+use Rattle.squawk_tokens.specs.EscapeUnits.{Unit, Escape, Other, first_unit, units, chars_of, bytes_of}
 use Rattle.squawk_tokens.specs.LexicalErrors.{LexicalError, only_if, short_escapes, hint_of}
 use Rattle.squawk_tokens.specs.UnitCuts.{IsCutFrom, wanted_of}
 use Rattle.squawk_tokens.specs.declared.converter.escapes.UnitCut.{UnitCut}
-
--- ---- cutting
-
-escape_or_other : (b : Bool) (c letter : ℕ) (cs : List ℕ) → 1 ≤ length (chars_of (cond b (Other (c ∷ letter ∷ [])) (escape_at letter cs)))
-escape_or_other true c letter cs = omega arith
-escape_or_other false c letter cs = omega arith
-
-one_or_more : (b other : Bool) (c letter : ℕ) (cs : List ℕ)
-    → 1 ≤ length (chars_of (cond b (cond other (Other (c ∷ letter ∷ [])) (escape_at letter cs)) (Other (c ∷ []))))
-one_or_more true other c letter cs = escape_or_other other c letter cs
-one_or_more false other c letter cs = omega arith
-
--- a unit has at least one character
-unit_nonempty : (c : ℕ) (cs : List ℕ) → 1 ≤ length (chars_of (first_unit c cs))
-unit_nonempty c [] = omega arith
-unit_nonempty c (letter ∷ cs) = one_or_more (c == 92) (wanted_digits letter == 0) c letter cs
-
--- so fewer are left behind it
-behind_unit : (c : ℕ) (cs : List ℕ) → length (drop (length (chars_of (first_unit c cs))) (c ∷ cs)) ≤ length cs
-behind_unit c cs = omega (arith, length-drop (length (chars_of (first_unit c cs))) (c ∷ cs), unit_nonempty c cs)
-
--- as many units as there are characters are enough, and no more come of more
-enough : (n m : ℕ) (cs : List ℕ) → length cs ≤ n → length cs ≤ m → first_units n cs ≡ first_units m cs
-enough zero zero [] le lt = refl
-enough zero (suc m) [] le lt = refl
-enough (suc n) zero [] le lt = refl
-enough (suc n) (suc m) [] le lt = refl
-enough zero m (c ∷ cs) le lt = absurd (omega arith)
-enough (suc n) zero (c ∷ cs) le lt = absurd (omega arith)
-enough (suc n) (suc m) (c ∷ cs) le lt =
-    let left = behind_unit c cs in
-    ap (λ us. first_unit c cs ∷ us) (enough n m (drop (length (chars_of (first_unit c cs))) (c ∷ cs)) (omega arith) (omega arith))
-
--- the units are the first one, and those of what stands behind it
-units-cons : (c : ℕ) (cs : List ℕ) → units (c ∷ cs) ≡ first_unit c cs ∷ units (drop (length (chars_of (first_unit c cs))) (c ∷ cs))
-units-cons c cs =
-    let behind = drop (length (chars_of (first_unit c cs))) (c ∷ cs) in
-    let left = behind_unit c cs in
-    ap (λ us. first_unit c cs ∷ us) (enough (length cs) (length behind) behind (omega arith) (omega arith))
+use Rattle.squawk_tokens.proofs.Units.{units-cons, behind_unit}
 
 -- ---- errors
 
@@ -62,16 +24,16 @@ some_if false hint wanted start end rest e = absurd (let no : ⊥ = cc in no)
 
 unit_without : (unit : Unit) (at : ℕ) (us : List Unit) → wanted_of unit ≡ None → short_escapes at (unit ∷ us) ≡ short_escapes (at + bytes_of unit) us
 unit_without (Other cs) at us e = refl
-unit_without (Escape letter digits) at us e =
-    none_if (nat_lt (length digits) (wanted_digits letter)) (hint_of letter) (escape_fault at (at + bytes_of (Escape letter digits)) (hint_of letter))
-    (short_escapes (at + bytes_of (Escape letter digits)) us) e
+unit_without (Escape letter wanted digits) at us e =
+    none_if (nat_lt (length digits) wanted) (hint_of letter) (escape_fault at (at + bytes_of (Escape letter wanted digits)) (hint_of letter))
+    (short_escapes (at + bytes_of (Escape letter wanted digits)) us) e
 
 unit_with : (unit : Unit) (hint : List ℕ) (at : ℕ) (us : List Unit) → wanted_of unit ≡ Some hint
     → short_escapes at (unit ∷ us) ≡ escape_fault at (at + bytes_of unit) hint ∷ short_escapes (at + bytes_of unit) us
 unit_with (Other cs) hint at us e = absurd (let no : ⊥ = cc in no)
-unit_with (Escape letter digits) hint at us e =
-    some_if (nat_lt (length digits) (wanted_digits letter)) (hint_of letter) hint at (at + bytes_of (Escape letter digits))
-    (short_escapes (at + bytes_of (Escape letter digits)) us) e
+unit_with (Escape letter wanted digits) hint at us e =
+    some_if (nat_lt (length digits) wanted) (hint_of letter) hint at (at + bytes_of (Escape letter wanted digits))
+    (short_escapes (at + bytes_of (Escape letter wanted digits)) us) e
 
 -- ---- one turn
 

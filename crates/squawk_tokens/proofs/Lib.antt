@@ -1,5 +1,8 @@
 pub mod SourceText
 pub mod FoundErrors
+pub mod Continued
+pub mod Units
+pub mod LongestUnits
 pub mod FirstUnit
 pub mod ContentUnits
 pub mod ParamNumbers

@@ -14,7 +14,7 @@ use Rattle.squawk_tokens.specs.declared.prefix.Prefix.{Prefix}
 use Rattle.squawk_tokens.specs.declared.prefix.Prefix.TheVariants.{Bit, Byte}
 use Rattle.squawk_tokens.specs.declared.prefix.Prefix.TheVariants as prefixed
 use Rattle.squawk_tokens.specs.Continuation.{continued}
-use Rattle.squawk_tokens.specs.EscapeUnits.{Unit, Other, wanted_digits, bytes_of, units}
+use Rattle.squawk_tokens.specs.EscapeUnits.{Unit, Other, bytes_of, units}
 use Rattle.squawk_tokens.specs.EscapeUnits as escape
 
 -- an error: the bytes of the text that it is about, what is wrong, and what is wanted
@@ -84,9 +84,9 @@ hint_of letter = if letter == 117 then codes "expected 4 hex digits, like `\\uXX
 abbrev pub short_escapes : ℕ → List Unit → List LexicalError
 short_escapes at [] = []
 short_escapes at (Other cs ∷ rest) = short_escapes (at + bytes_of (Other cs)) rest
-short_escapes at (escape.Escape letter digits ∷ rest) =
-    let end = at + bytes_of (escape.Escape letter digits) in
-    only_if (nat_lt (length digits) (wanted_digits letter))
+short_escapes at (escape.Escape letter wanted digits ∷ rest) =
+    let end = at + bytes_of (escape.Escape letter wanted digits) in
+    only_if (nat_lt (length digits) wanted)
     (record { start = at; end = end; message = codes "incomplete unicode escape"; hint = Some (hint_of letter) })
     ++ short_escapes end rest
 

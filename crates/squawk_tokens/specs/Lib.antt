@@ -1,3 +1,4 @@
+pub mod Bases
 pub mod TokenRows
 pub mod AcceptedTokens
 pub mod EscapeUnits

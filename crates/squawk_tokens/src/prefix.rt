@@ -1,6 +1,6 @@
 //! Which prefixed string a plain string continues.
-ghost use Rattle.std.specs.Prelude.{◌≡◌};
-ghost use Rattle.squawk_tokens.specs.Continuation.{continued_behind};
+ghost use Rattle.std.specs.Prelude.{◌≡◌, if◌then◌else◌};
+ghost use Rattle.squawk_tokens.specs.Continuation.{is_passed_over, prefix_of};
 
 use crate::token::{LiteralKind, TokenKind};
 
@@ -19,7 +19,7 @@ impl Prefix {
     /// What a plain string behind a token continues, where one in the token's place would continue
     /// `earlier`.
     pub(crate) fn continued_behind(kind: TokenKind, earlier: Option<Prefix>) -> Option<Prefix>
-        ensures { result ≡ continued_behind kind earlier }
+        ensures { result ≡ (if is_passed_over kind then earlier else prefix_of kind) }
     {
         match kind {
             TokenKind::Whitespace | TokenKind::LineComment | TokenKind::BlockComment { .. } => {

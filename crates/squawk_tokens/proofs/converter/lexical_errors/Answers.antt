@@ -1,4 +1,4 @@
-use Rattle.std.proofs.Common.{◌≡◌, ◌∙◌, ℕ, suc, ◌+◌, ◌<◌, ◌≤◌, Option, List, [], ◌∷◌, ◌++◌, length, drop, get_or, map, append_assoc, drop-cons, add-one, arith, ap, sym, refl, subst}
+use Rattle.std.proofs.Common.{◌≡◌, ◌∙◌, ℕ, suc, ◌+◌, ◌<◌, ◌≤◌, Option, List, [], ◌∷◌, ◌++◌, length, drop, get_or, map, append_assoc, drop-cons, add-one, arith, ap, cond, sym, refl, subst}
 use Rattle.std.specs.Prelude.{slice_range}
 use Rattle.std.proofs.lemmas.List.{append-nil, drop_all}
 use Rattle.std.proofs.lemmas.List.Sums.{sum_by_more}
@@ -7,10 +7,11 @@ use Rattle.squawk_tokens.specs.declared.prefix.Prefix.{Prefix}
 use Rattle.squawk_tokens.specs.declared.token.Token.{Token}
 use Rattle.squawk_tokens.specs.declared.token.TokenKind.TheVariants.{Unknown}
 use Rattle.squawk_tokens.specs.AcceptedTokens.{start_of}
-use Rattle.squawk_tokens.specs.Continuation.{continued, continued_behind}
+use Rattle.squawk_tokens.specs.Continuation.{continued, is_passed_over, prefix_of}
 use Rattle.squawk_tokens.specs.ErrorRanges.{StandApart}
 use Rattle.squawk_tokens.specs.Found.{Found, with_faults}
 use Rattle.squawk_tokens.specs.LexicalErrors.{LexicalError, shifted, token_faults, faults_from, lexical_errors}
+use Rattle.squawk_tokens.proofs.Continued.{continued-cons}
 use Rattle.squawk_tokens.proofs.StandApart.{stand_apart}
 use Rattle.squawk_tokens.proofs.converter.lexical_errors.Goals as goal
 
@@ -63,7 +64,7 @@ loop-token-preserved c =
     record {
       sum = omega (arith, end, more);
       boundary = rw end good.boundary;
-      errors = (token ∷ before, c.continued_behind-continued.ensures ∙ ap (continued_behind token.kind) prefix, rw at (turn text tokens before here.found.at here.token-index here.continued here.found.errors c.found-in-loop-token.inside.errors.items (lexical_errors text tokens) c.loop-token-test.true prefix whole made));
+      errors = (token ∷ before, c.continued_behind-continued.ensures ∙ (ap (λ earlier. cond (is_passed_over token.kind) earlier (prefix_of token.kind)) prefix ∙ sym (continued-cons token before)), rw at (turn text tokens before here.found.at here.token-index here.continued here.found.errors c.found-in-loop-token.inside.errors.items (lexical_errors text tokens) c.loop-token-test.true prefix whole made));
     }
 
 pub returns-clause-apart : goal.returns-clause-apart
