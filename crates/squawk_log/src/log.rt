@@ -85,6 +85,7 @@ impl EventLog {
         requires { self.old.recorded + 1 < 2 ^ 32 }
         ensures ok { OnOk result (self.new ≡ started self.old self.old.entries) }
         ensures err { OnErr result (self.new ≡ self.old) }
+        ensures turns { self.new.turns_due ≤ 4 * self.new.recorded }
     {
         grow(&mut self.events, &mut self.marks, Event::tombstone(), true)?;
         self.recorded += 1;
@@ -98,6 +99,7 @@ impl EventLog {
         requires room { self.old.recorded + 1 < 2 ^ 32 }
         ensures ok { OnOk result (self.new ≡ completed self.old id kind) }
         ensures err { OnErr result (self.new ≡ self.old) }
+        ensures turns { self.new.turns_due ≤ 4 * self.new.recorded }
     {
         grow(&mut self.events, &mut self.marks, Event::Finish, false)?;
         let place = id as usize;
@@ -115,6 +117,7 @@ impl EventLog {
         requires { self.old.recorded + 1 < 2 ^ 32 }
         ensures ok { OnOk result (self.new ≡ with_token self.old kind n_raw_tokens) }
         ensures err { OnErr result (self.new ≡ self.old) }
+        ensures turns { self.new.turns_due ≤ 4 * self.new.recorded }
     {
         let token = Event::Token { kind, n_raw_tokens };
         grow(&mut self.events, &mut self.marks, token, false)?;
@@ -128,6 +131,7 @@ impl EventLog {
         requires errors { errors_of self.old.items + 1 < 2 ^ 32 }
         ensures ok { OnOk result (self.new ≡ with_error self.old msg) }
         ensures err { OnErr result (self.new ≡ self.old) }
+        ensures turns { self.new.turns_due ≤ 4 * self.new.recorded }
     {
         grow(
             &mut self.events,
@@ -146,6 +150,7 @@ impl EventLog {
         requires room { self.old.recorded + 1 < 2 ^ 32 }
         ensures ok { OnOk result (self.new ≡ preceded self.old node self.old.entries) }
         ensures err { OnErr result (self.new ≡ self.old) }
+        ensures turns { self.new.turns_due ≤ 4 * self.new.recorded }
     {
         let distance = self.next_id() - node;
         grow(&mut self.events, &mut self.marks, Event::tombstone(), true)?;
@@ -160,7 +165,8 @@ impl EventLog {
     /// The hole goes, and its event too, where it is the last one and was made by a start.
     pub fn abandon(&mut self, id: u32, made: Made)
         requires { Contains self.old.items (Hole id (made_of made id)) }
-        ensures { self.new ≡ abandoned self.old id }
+        ensures abandoned { self.new ≡ abandoned self.old id }
+        ensures turns { self.new.turns_due ≤ 4 * self.new.recorded }
     {
         if is_last_start(self.events.len(), id, made) {
             let _ = self.events.pop();
@@ -176,7 +182,8 @@ impl EventLog {
         requires node { HasNodeOf self.old.items node }
         requires hole { HasHoleOf self.old.items id }
         requires older { id < node }
-        ensures { (kind : ℕ) → Contains self.old.items (Open node kind true) → self.new ≡ extended self.old (record { id = node; kind = kind }) id }
+        ensures extended { (kind : ℕ) → Contains self.old.items (Open node kind true) → self.new ≡ extended self.old (record { id = node; kind = kind }) id }
+        ensures turns { self.new.turns_due ≤ 4 * self.new.recorded }
     {
         let place = id as usize;
         self.events[place] = Event::Start {

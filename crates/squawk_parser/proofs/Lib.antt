@@ -3,10 +3,12 @@ pub mod CompositeLemmas
 pub mod Pairs
 pub mod RecordedItems
 pub mod RecordedSteps
+pub mod Room
 pub mod Recovery
 pub mod TailHoles
 pub mod Balance
 pub mod Filled
+pub mod ItemCounts
 pub mod Soundness
 pub mod Noted
 pub mod Splits

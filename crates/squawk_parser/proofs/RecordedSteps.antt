@@ -1,5 +1,5 @@
 -- Steps that are recorded one after another, and a node of them.
-use Rattle.std.proofs.Common.{◌≡◌, ◌∙◌, ℕ, ◌+◌, ◌<◌, true, false, Option, Some, None, List, [], ◌∷◌, ◌++◌, length, arith, ap, sym, refl, append_assoc, length-append, inl, inr, ◌⊎◌}
+use Rattle.std.proofs.Common.{◌≡◌, ◌∙◌, ℕ, ◌+◌, ◌<◌, Bool, true, false, Option, Some, None, List, [], ◌∷◌, ◌++◌, length, arith, add-zero, ap, sym, refl, append_assoc, length-append}
 use Rattle.std.specs.Prelude.{All, IsSome}
 use Rattle.std.proofs.lemmas.List.{append-nil}
 use Rattle.std.proofs.lemmas.List.Elements.{All-nil, All-cons, All-head, All-append, All-weaker, Contains-append_left, Contains-push}
@@ -10,10 +10,9 @@ use Rattle.squawk_output.specs.Steps.{Step, Enter, Exit, is_error, errors_in}
 use Rattle.squawk_log.specs.Draft.{Draft, Item, Made, Mark, Hole, Open, Close, Token, ByStart, HasNoHole, IsAboveIds, errors_of, ids, is_hole, plain}
 use Rattle.squawk_parser.specs.Eaten.{node}
 use Rattle.squawk_log.specs.Edits.{completed, filled, started, with_token}
-use Rattle.squawk_parser.specs.Recorded.{IsPut, IsReason, IsRefusedStep, Puts, turns_due_of, turns_of_step}
-use Rattle.squawk_parser.specs.State.{State, HasNotFailed, HasHole, Keeps, Records}
+use Rattle.squawk_parser.specs.Recorded.{IsPut, IsRefusedStep, Puts, turns_due_of, turns_of_step}
+use Rattle.squawk_parser.specs.State.{State, HasNotFailed, HasHole, IsReason, Keeps, Records}
 use Rattle.squawk_parser.specs.declared.parser.parse_error.ParseError.{ParseError}
-use Rattle.squawk_parser.specs.declared.parser.parse_error.ParseError.TheVariants.{OutOfMemory, TooManyEvents}
 use Rattle.squawk_parser.proofs.Pairs.{AllPairs-nil, AllPairs-append}
 use Rattle.squawk_parser.proofs.RecordedItems.{plain-append, ids-append, filled-append, steps_errors-append, eaten-append, errors-plain, All-front, filled-below, filled-closed, filled-here}
 use Rattle.squawk_log.proofs.EditedErrors.{errors-append}
@@ -51,11 +50,11 @@ abbrev Refuses : List Step → State → State → Type 0
 Refuses xs a b = HasNotFailed a → (reason : ParseError) → b.first_reason ≡ Some reason → IsRefusedStep a xs reason
 
 -- A parser that goes on has recorded them.
-record Counts (xs : List Step) (a b : State) : Type 0 where
-  recorded : b.draft.recorded ≡ a.draft.recorded + length xs
-  errors : errors_of b.draft.items ≡ errors_of a.draft.items + errors_in xs
+pub record Counts (xs : List Step) (a b : State) : Type 0 where
+  pub recorded : b.draft.recorded ≡ a.draft.recorded + length xs
+  pub errors : errors_of b.draft.items ≡ errors_of a.draft.items + errors_in xs
 
-counted : {xs : List Step} {a b : State} → IsPut xs a.draft b.draft → Counts xs a b
+pub counted : {xs : List Step} {a b : State} → IsPut xs a.draft b.draft → Counts xs a b
 counted {xs} {a} {b} put = record {
   recorded = put.recorded;
   errors = ap errors_of put.items ∙ (errors-append a.draft.items put.made ∙ ap (λ n. errors_of a.draft.items + n) (errors-plain put.made ∙ ap errors_in put.steps_made));
@@ -71,7 +70,7 @@ later xs ys a b reason keeps counts r = record {
   why = moved keeps.max_events keeps.max_errors events errors r.why;
 }
   where
-    moved : {m m' n n' k k' e e' : ℕ} → m ≡ m' → n ≡ n' → k ≡ k' → e ≡ e' → IsReason m n k e r.next reason → IsReason m' n' k' e' r.next reason
+    moved : {m m' n n' k k' e e' : ℕ} → m ≡ m' → n ≡ n' → k ≡ k' → e ≡ e' → IsReason m n k e (is_error r.next) reason → IsReason m' n' k' e' (is_error r.next) reason
     moved p q s t why = rw (← p, ← q, ← s, ← t) why
 
     events : b.draft.recorded + length r.front ≡ a.draft.recorded + length (xs ++ r.front)
@@ -159,21 +158,13 @@ puts-then {xs} {ys} {a} {b} {c} k l p q = record {
 
 -- ---- one event
 
--- an event that is no error is refused by the limit of events, or by want of memory
+-- an event that is no error, as a step
 refuses-one : {a b : State} {edited : Draft} (step : Step) → is_error step ≡ false → Records a b edited → Refuses (step ∷ []) a b
-refuses-one {a} {b} {edited} step plain_step r goes reason fails = record { front = []; next = step; rest = []; is = refl; why = why (lt_or_ge) }
+refuses-one {a} {b} {edited} step plain_step r goes reason fails = record { front = []; next = step; rest = []; is = refl; why = same plain_step (r.refused goes reason fails) }
   where
-    lt_or_ge : (a.draft.recorded < a.max_events) ⊎ (a.draft.recorded ≡ a.max_events)
-    lt_or_ge = grind (arith, r.within)
-
-    why : (a.draft.recorded < a.max_events) ⊎ (a.draft.recorded ≡ a.max_events)
-        → IsReason a.max_events a.max_errors (a.draft.recorded + 0) (errors_of a.draft.items + 0) step reason
-    why (inl lt) =
-        let same : reason ≡ OutOfMemory = let p = sym fails ∙ r.room goes lt (rw fails refl) in cc in
-        rw same (omega arith, λ error. absurd (let p = sym error ∙ plain_step in cc))
-    why (inr full) =
-        let same : reason ≡ TooManyEvents = let p = sym fails ∙ r.full goes full in cc in
-        rw same (omega (arith, full), omega (arith, r.within_errors))
+    same : {wrong : Bool} → wrong ≡ false → IsReason a.max_events a.max_errors a.draft.recorded (errors_of a.draft.items) false reason
+        → IsReason a.max_events a.max_errors (a.draft.recorded + 0) (errors_of a.draft.items + 0) wrong reason
+    same is why = rw is (simp add-zero why)
 
 -- a token
 pub token_puts : {a b : State} (kind n : ℕ) → Keeps a b → Records a b (with_token a.draft kind n) → b.position ≡ a.position + n → Puts (steps.Token kind n ∷ []) a b

@@ -1,19 +1,19 @@
 -- Errors that are recorded, and errors that are refused.
-use Rattle.std.proofs.Common.{rules, ◌≡◌, ◌∙◌, ◌≤◌, ℕ, Option, Some, List, [], ◌∷◌, arith, add-zero, refl, subst}
+use Rattle.std.proofs.Common.{rules, ◌≡◌, ◌∙◌, ℕ, true, Option, Some, List, [], ◌∷◌, arith, add-zero, refl, subst}
 use Rattle.std.specs.Prelude.{IsSome}
 use Rattle.squawk_output.specs.Steps.{Error}
 use Rattle.squawk_log.specs.Draft.{errors_of}
 use Rattle.squawk_log.specs.Draft as item
 use Rattle.squawk_log.specs.Edits.{with_error}
-use Rattle.squawk_parser.specs.Recorded.{IsReason, Puts}
-use Rattle.squawk_parser.specs.State.{State, HasNotFailed}
+use Rattle.squawk_parser.specs.Recorded.{Puts}
+use Rattle.squawk_parser.specs.State.{State, HasNotFailed, IsReason, Records}
 use Rattle.squawk_parser.specs.declared.parser.parse_error.ParseError.{ParseError}
 use Rattle.squawk_parser.specs.declared.parser.parse_error.ParseError.TheVariants.{TooManyEvents}
 use Rattle.squawk_parser.proofs.Soundness.{not_failed}
 
 -- why an error is refused to a parser
 abbrev pub IsReasonFor : State → List ℕ → ParseError → Type 0
-IsReasonFor s msg reason = IsReason s.max_events s.max_errors s.draft.recorded (errors_of s.draft.items) (Error msg) reason
+IsReasonFor s msg reason = IsReason s.max_events s.max_errors s.draft.recorded (errors_of s.draft.items) true reason
 
 -- there is one reason
 same_reason : (s : State) (msg : List ℕ) (first : Option ParseError) (is reason : ParseError) → first ≡ Some is → first ≡ Some reason → IsReasonFor s msg is → IsReasonFor s msg reason
@@ -56,7 +56,8 @@ Puts-error s old msg e goes = rw (← e) record {
 }
 
 -- one that had no room for an event
-pub Puts-full : (old new : State) (msg : List ℕ) → errors_of old.draft.items ≤ old.max_errors → IsSome new.first_reason → new.position ≡ old.position → new.draft ≡ old.draft
+pub Puts-full : (old new : State) (msg : List ℕ) → Records old new old.draft → IsSome new.first_reason → new.position ≡ old.position → new.draft ≡ old.draft
     → (HasNotFailed old → (old.draft.recorded ≡ old.max_events) × (new.first_reason ≡ Some TooManyEvents)) → Puts (Error msg ∷ []) old new
-Puts-full old new msg errors failed place same full =
-    not_put old new msg failed place same (λ goes reason refused. same_reason old msg new.first_reason TooManyEvents reason (full goes).1 refused ((full goes).0, errors))
+Puts-full old new msg records failed place same full =
+    not_put old new msg failed place same
+    (λ goes reason refused. same_reason old msg new.first_reason TooManyEvents reason (full goes).1 refused (records.refused goes TooManyEvents (full goes).1))

@@ -1,5 +1,5 @@
 -- A parser stays sound where a marker is abandoned, and where a node is extended to one.
-use Rattle.std.proofs.Common.{◌≡◌, ◌∙◌, ℕ, ◌+◌, ◌≤◌, ◌==◌, Bool, true, false, List, [], ◌∷◌, ◌++◌, cond, arith, ap, sym, refl, subst}
+use Rattle.std.proofs.Common.{◌≡◌, ◌∙◌, ℕ, ◌+◌, ◌≤◌, ◌==◌, Bool, true, false, List, [], ◌∷◌, ◌++◌, length, cond, arith, ap, sym, refl, subst}
 use Rattle.std.specs.Prelude.{Contains, count_by}
 use Rattle.std.proofs.lemmas.List.{append_assoc}
 use Rattle.squawk_log.specs.Draft.{Draft, Made, Item, Hole, Open, Node, ids, plain, HasNoIdTwice}
@@ -7,6 +7,7 @@ use Rattle.squawk_log.specs.Edits.{is_hole_of, is_opening_of, replaced, abandone
 use Rattle.squawk_parser.specs.State.{State, HasNotFailed}
 use Rattle.squawk_output.proofs.Sums.{count_by-cons}
 use Rattle.squawk_parser.proofs.RecordedItems.{plain-append, ids-append}
+use Rattle.squawk_parser.proofs.ItemCounts.{HasFewTurns, length-extended, length-without_hole}
 use Rattle.squawk_parser.proofs.Soundness.{IsKept}
 use Rattle.squawk_parser.proofs.SoundMoves.{IsMoved, IsMoved-same, IsMoved-earlier, IsKept-moved}
 use Rattle.squawk_log.proofs.Groups.{itself}
@@ -178,15 +179,17 @@ IsTaken-extended node id made items once hole there = cases (stands_before (is_h
 
 -- ---- parsers
 
-IsKept-taken : (s : State) (d : Draft) → IsKept s → HasNotFailed s → d.recorded ≡ s.draft.recorded → IsTaken s.draft.items d.items → IsKept (record s { draft = d })
-IsKept-taken s d kept goes same taken = IsKept-moved s d kept goes (omega (arith, same, kept.sound.recorded)) taken.move taken.once
+IsKept-taken : (s : State) (d : Draft) → IsKept s → HasNotFailed s → d.recorded ≡ s.draft.recorded → length d.items ≤ length s.draft.items → HasFewTurns d
+    → IsTaken s.draft.items d.items → IsKept (record s { draft = d })
+IsKept-taken s d kept goes same fewer few taken =
+    IsKept-moved s d kept goes (omega (arith, same, kept.sound.recorded)) (omega (arith, same, fewer, kept.sound.items)) few taken.move taken.once
 
 pub IsKept-abandoned : (s : State) (id : ℕ) (made : Made) → IsKept s → HasNotFailed s → Contains s.draft.items (Hole id made)
-    → IsKept (record s { draft = abandoned s.draft id })
-IsKept-abandoned s id made kept goes there =
-    IsKept-taken s (abandoned s.draft id) kept goes refl (IsTaken-without_hole id made s.draft.items kept.sound.ids there)
+    → HasFewTurns (abandoned s.draft id) → IsKept (record s { draft = abandoned s.draft id })
+IsKept-abandoned s id made kept goes there few =
+    IsKept-taken s (abandoned s.draft id) kept goes refl (length-without_hole id s.draft.items) few (IsTaken-without_hole id made s.draft.items kept.sound.ids there)
 
 pub IsKept-extended : (s : State) (node : Node) (id : ℕ) (made : Made) → IsKept s → HasNotFailed s → Contains s.draft.items (Hole id made)
-    → Contains s.draft.items (Open node.id node.kind true) → IsKept (record s { draft = extended s.draft node id })
-IsKept-extended s node id made kept goes hole there =
-    IsKept-taken s (extended s.draft node id) kept goes refl (IsTaken-extended node id made s.draft.items kept.sound.ids hole there)
+    → Contains s.draft.items (Open node.id node.kind true) → HasFewTurns (extended s.draft node id) → IsKept (record s { draft = extended s.draft node id })
+IsKept-extended s node id made kept goes hole there few =
+    IsKept-taken s (extended s.draft node id) kept goes refl (length-extended node id s.draft.items) few (IsTaken-extended node id made s.draft.items kept.sound.ids hole there)

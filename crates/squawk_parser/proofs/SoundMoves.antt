@@ -1,5 +1,5 @@
 -- A parser stays sound where a node is preceded, a marker is abandoned, and a node is extended.
-use Rattle.std.proofs.Common.{◌≡◌, ◌∙◌, ℕ, zero, suc, ◌+◌, ◌<◌, ◌≤◌, ◌==◌, true, false, Some, List, [], ◌∷◌, ◌++◌, drop, arith, ap, sym, refl, subst}
+use Rattle.std.proofs.Common.{◌≡◌, ◌∙◌, ℕ, zero, suc, ◌+◌, ◌<◌, ◌≤◌, ◌==◌, true, false, Some, List, [], ◌∷◌, ◌++◌, length, drop, arith, ap, sym, refl, subst}
 use Rattle.std.specs.Prelude.{Contains, count_by}
 use Rattle.squawk_output.specs.Steps as steps
 use Rattle.squawk_output.specs.Steps.{Step, Enter, eaten, errors_in}
@@ -14,6 +14,7 @@ use Rattle.squawk_output.proofs.Sums.{count_by-cons}
 use Rattle.squawk_parser.proofs.Balance.{depth_after, depth_after-append, depth_after-suc, depth_after-balanced, IsBalanced-depth_after}
 use Rattle.squawk_parser.proofs.RecordedItems.{plain-append, ids-append, eaten-append, steps_errors-append, errors-plain}
 use Rattle.squawk_parser.proofs.Soundness.{IsKept, HasNoIdTwice-push, not_refused}
+use Rattle.squawk_parser.proofs.ItemCounts.{HasFewTurns, length-preceded}
 use Rattle.squawk_log.proofs.Groups.{itself}
 use Rattle.squawk_parser.proofs.Splits.{Split, split, count_by-append, count_by-passes, count_by-fails, replaced-at, openings-once}
 
@@ -83,14 +84,16 @@ module _ (kind : ℕ) (xs ys zs : List Step) where
   }
 
 -- a parser that goes on, with other items
-pub IsKept-moved : (s : State) (d : Draft) → IsKept s → HasNotFailed s → d.recorded ≤ s.max_events → IsMoved (plain s.draft.items) (plain d.items) → HasNoIdTwice d.items
-    → IsKept (record s { draft = d })
-IsKept-moved s d kept goes room move once = record {
+pub IsKept-moved : (s : State) (d : Draft) → IsKept s → HasNotFailed s → d.recorded ≤ s.max_events → length d.items ≤ d.recorded → HasFewTurns d
+    → IsMoved (plain s.draft.items) (plain d.items) → HasNoIdTwice d.items → IsKept (record s { draft = d })
+IsKept-moved s d kept goes room items few move once = record {
   sound = record {
     position = kept.sound.position;
     limit = kept.sound.limit;
     words = kept.sound.words;
     recorded = room;
+    items = items;
+    turns = few;
     errors = omega (arith, kept.sound.errors, move.errors, errors-plain d.items, errors-plain s.draft.items);
     refused = λ full. absurd (not_refused s TooManyEvents goes full);
     refused_error = λ full. absurd (not_refused s TooManyErrors goes full);
@@ -148,8 +151,8 @@ preceded-split node kind id made items once there =
     (at, ap edit at.is ∙ preceded-there node kind id made at.front at.back once_there)
 
 pub IsKept-preceded : (s : State) (node kind id : ℕ) → IsKept s → HasNotFailed s → s.draft.recorded < s.max_events → Contains s.draft.items (Open node kind true)
-    → IsAboveIds id s.draft.items → IsKept (record s { draft = preceded s.draft node id })
-IsKept-preceded s node kind id kept goes room there above =
+    → IsAboveIds id s.draft.items → HasFewTurns (preceded s.draft node id) → IsKept (record s { draft = preceded s.draft node id })
+IsKept-preceded s node kind id kept goes room there above few =
     let made = ByPrecede s.draft.entries in
     let new = preceded-split node kind id made s.draft.items kept.sound.ids there in
     let at = new.0 in
@@ -158,7 +161,7 @@ IsKept-preceded s node kind id kept goes room there above =
     let once : HasNoIdTwice (whole node kind id made xs ys) = subst HasNoIdTwice at.is kept.sound.ids in
     let above_there : IsAboveIds id (whole node kind id made xs ys) = subst (IsAboveIds id) at.is above in
     let items : (preceded s.draft node id).items ≡ behind_hole node kind id made xs ys = new.1 in
-    IsKept-moved s (preceded s.draft node id) kept goes (omega arith)
+    IsKept-moved s (preceded s.draft node id) kept goes (omega arith) (omega (arith, kept.sound.items, length-preceded node id made s.draft.items kept.sound.ids)) few
     (rw items
     (IsMoved-same (plain s.draft.items) (plain (behind_hole node kind id made xs ys)) (preceded-plain node kind id made xs ys ∙ ap plain (sym at.is))))
     (rw items (preceded-once node kind id made xs ys once above_there))

@@ -1,5 +1,5 @@
 -- A parser stays sound under its acts.
-use Rattle.std.proofs.Common.{◌≡◌, ℕ, ◌+◌, ◌<◌, ◌≤◌, ◌==◌, Bool, true, false, Some, List, [], ◌∷◌, ◌++◌, cond, drop, arith, add-zero, ap, sym, refl, ◌∙◌}
+use Rattle.std.proofs.Common.{◌≡◌, ℕ, ◌+◌, ◌<◌, ◌≤◌, ◌==◌, Bool, true, false, Some, List, [], ◌∷◌, ◌++◌, cond, drop, arith, length-append, add-zero, ap, sym, refl, ◌∙◌}
 use Rattle.std.specs.Prelude.{All, Contains, IsSome, count_by}
 use Rattle.std.proofs.lemmas.Bool.{eqb-true}
 use Rattle.std.proofs.lemmas.List.{append-nil}
@@ -19,6 +19,7 @@ use Rattle.squawk_output.proofs.Sums.{count_by-cons}
 use Rattle.squawk_parser.proofs.RecordedItems.{plain-append, ids-append}
 use Rattle.squawk_parser.proofs.Balance.{depth_after, depth_after-append, depth_after-balanced, IsBalanced-depth_after}
 use Rattle.squawk_parser.proofs.Filled.{ids-filled, eaten-filled, IsOver-filled, depth_after-filled, one_hole, holes}
+use Rattle.squawk_parser.proofs.ItemCounts.{HasFewTurns, length-filled}
 use Rattle.squawk_parser.proofs.OneToken.{AreOneToken-seen, AreOneToken-within}
 
 -- one more item has one error more, or none
@@ -63,8 +64,8 @@ not_failed s goes failed = cc
 
 -- a hole at the end
 pub IsKept-started : (s : State) (id : ℕ) → IsKept s → HasNotFailed s → s.draft.recorded < s.max_events → IsAboveIds id s.draft.items
-    → IsKept (record s { draft = started s.draft id })
-IsKept-started s id kept goes room above =
+    → HasFewTurns (started s.draft id) → IsKept (record s { draft = started s.draft id })
+IsKept-started s id kept goes room above few =
     let items = s.draft.items in
     let hole : List Item = Hole id (ByStart s.draft.entries) ∷ [] in
     let same : plain (items ++ hole) ≡ plain items = plain-append items hole ∙ append-nil (plain items) in
@@ -75,6 +76,8 @@ IsKept-started s id kept goes room above =
         limit = kept.sound.limit;
         words = kept.sound.words;
         recorded = omega arith;
+        items = omega (arith, kept.sound.items, length-append items hole);
+        turns = few;
         errors = omega (arith, kept.sound.errors, errors_of-push items (Hole id (ByStart s.draft.entries)));
         refused = λ full. absurd (not_refused s TooManyEvents goes full);
         refused_error = λ full. absurd (not_refused s TooManyErrors goes full);
@@ -88,8 +91,8 @@ IsKept-started s id kept goes room above =
 
 -- a hole that became an opening, and a closing at the end
 pub IsKept-completed : (s : State) (id kind : ℕ) (made : Made) → IsKept s → HasNotFailed s → s.draft.recorded < s.max_events → Contains s.draft.items (Hole id made)
-    → IsKept (record s { draft = completed s.draft id kind })
-IsKept-completed s id kind made kept goes room there =
+    → HasFewTurns (completed s.draft id kind) → IsKept (record s { draft = completed s.draft id kind })
+IsKept-completed s id kind made kept goes room there few =
     let items = s.draft.items in
     let inner = filled items id kind in
     let close : List Item = Close ∷ [] in
@@ -107,6 +110,8 @@ IsKept-completed s id kind made kept goes room there =
         limit = kept.sound.limit;
         words = kept.sound.words;
         recorded = omega arith;
+        items = omega (arith, kept.sound.items, length-append inner close, length-filled id kind items);
+        turns = few;
         errors = omega (arith, kept.sound.errors, errors_of-push inner Close, errors-filled id kind items);
         refused = λ full. absurd (not_refused s TooManyEvents goes full);
         refused_error = λ full. absurd (not_refused s TooManyErrors goes full);
@@ -128,8 +133,8 @@ within s n one = AreOneToken-within n s.limit s.position s.input (rw add-zero at
 
 -- n tokens as one at the end, which the parser eats
 pub IsKept-with_token : (s : State) (kind n : ℕ) → IsKept s → HasNotFailed s → s.draft.recorded < s.max_events → AreOneToken n (ahead s 0)
-    → IsKept (record s { position = s.position + n; draft = with_token s.draft kind n })
-IsKept-with_token s kind n kept goes room one =
+    → HasFewTurns (with_token s.draft kind n) → IsKept (record s { position = s.position + n; draft = with_token s.draft kind n })
+IsKept-with_token s kind n kept goes room one few =
     let items = s.draft.items in
     let token : List Item = Token kind n ∷ [] in
     let reads : plain (items ++ token) ≡ plain items ++ steps.Token kind n ∷ [] = plain-append items token in
@@ -144,6 +149,8 @@ IsKept-with_token s kind n kept goes room one =
         limit = kept.sound.limit;
         words = kept.sound.words;
         recorded = omega arith;
+        items = omega (arith, kept.sound.items, length-append items token);
+        turns = few;
         errors = omega (arith, kept.sound.errors, errors_of-push items (Token kind n));
         refused = λ full. absurd (not_refused s TooManyEvents goes full);
         refused_error = λ full. absurd (not_refused s TooManyErrors goes full);
@@ -157,8 +164,8 @@ IsKept-with_token s kind n kept goes room one =
 
 -- an error at the end
 pub IsKept-with_error : (s : State) (text : List ℕ) → IsKept s → HasNotFailed s → s.draft.recorded < s.max_events → errors_of s.draft.items < s.max_errors
-    → IsKept (record s { draft = with_error s.draft text })
-IsKept-with_error s text kept goes room errors =
+    → HasFewTurns (with_error s.draft text) → IsKept (record s { draft = with_error s.draft text })
+IsKept-with_error s text kept goes room errors few =
     let items = s.draft.items in
     let error : List Item = Error text ∷ [] in
     let reads : plain (items ++ error) ≡ plain items ++ steps.Error text ∷ [] = plain-append items error in
@@ -173,6 +180,8 @@ IsKept-with_error s text kept goes room errors =
         limit = kept.sound.limit;
         words = kept.sound.words;
         recorded = omega arith;
+        items = omega (arith, kept.sound.items, length-append items error);
+        turns = few;
         errors = omega (arith, errors_of-push items (Error text));
         refused = λ full. absurd (not_refused s TooManyEvents goes full);
         refused_error = λ full. absurd (not_refused s TooManyErrors goes full);
@@ -192,6 +201,8 @@ IsKept-failed s kept = record {
     limit = kept.sound.limit;
     words = kept.sound.words;
     recorded = kept.sound.recorded;
+    items = kept.sound.items;
+    turns = kept.sound.turns;
     errors = kept.sound.errors;
     refused = λ full. absurd (let other = full in cc);
     refused_error = λ full. absurd (let other = full in cc);
@@ -211,6 +222,8 @@ IsKept-past s n kept failed one = record {
     limit = kept.sound.limit;
     words = kept.sound.words;
     recorded = kept.sound.recorded;
+    items = kept.sound.items;
+    turns = kept.sound.turns;
     errors = kept.sound.errors;
     refused = kept.sound.refused;
     refused_error = kept.sound.refused_error;

@@ -11,7 +11,7 @@ use Rattle.squawk_parser.specs.Composites.{Element, One, AtMostOne, Tail, NoTail
 use Rattle.squawk_log.specs.Draft.{IsAboveIds, holes_of}
 use Rattle.squawk_log.specs.Edits.{started, completed}
 use Rattle.squawk_parser.specs.Operators.{operator_length}
-use Rattle.squawk_parser.specs.State.{State, HasNotFailed, Keeps, Records, ahead}
+use Rattle.squawk_parser.specs.State.{State, HasNotFailed, IsSound, Keeps, Records, ahead}
 use Rattle.squawk_parser.specs.Recorded.{Puts}
 use Rattle.squawk_parser.specs.Words.{Words}
 
@@ -113,25 +113,45 @@ no_recovery kind = false
 
 -- ---- a kind with a tail
 
+infixr 5 ◌⨾◌
+-- one relation after another, with a sound parser between them
+pub record ◌⨾◌ (does next : State → State → Type 0) (old new : State) : Type 0 where
+  pub between : State
+  pub sound : IsSound between
+  pub does_so : does old between
+  pub goes_on : next between new
+
+-- a node is begun
+pub record Begins (id : ℕ) (old new : State) : Type 0 where
+  pub keeps : Keeps old new
+  pub position : new.position ≡ old.position
+  pub records : Records old new (started old.draft id)
+  pub fresh : HasNotFailed new → IsAboveIds id old.draft.items
+
+-- the steps of what stands ahead are put at the end
+pub record PutsAhead (steps : State → List Step) (old new : State) : Type 0 where
+  pub keeps : Keeps old new
+  pub puts : Puts (steps old) old new
+
+-- a tail does what it does, and leaves the open markers as they are
+pub record RunsTail (does : State → State → Type 0) (old new : State) : Type 0 where
+  pub keeps : Keeps old new
+  pub runs : does old new
+  pub holes : HasNotFailed new → holes_of new.draft.items ≡ holes_of old.draft.items
+
+-- the node is completed
+pub record Completes (id kind : ℕ) (old new : State) : Type 0 where
+  pub keeps : Keeps old new
+  pub position : new.position ≡ old.position
+  pub records : Records old new (completed old.draft id kind)
+
 -- A node is begun, the tokens of the kind's sequence are eaten, the tail runs once, what closes it is expected, and the node is
 -- completed.
-pub record EatsWith (does : State → State → Type 0) (kind : ℕ) (old new : State) : Type 0 where
-  pub id : ℕ
-  pub begun : State
-  pub eaten : State
-  pub ran : State
-  pub closed : State
-  pub begins : Records old begun (started old.draft id)
-  pub begins_here : begun.position ≡ old.position
-  pub begins_keeps : Keeps old begun
-  pub fresh : HasNotFailed begun → IsAboveIds id old.draft.items
-  pub eats : Puts (element_steps (elements_of_kind kind) (ahead old 0)) begun eaten
-  pub eats_keeps : Keeps begun eaten
-  pub does_tail : does eaten ran
-  pub tail_keeps : Keeps eaten ran
-  pub tail_holes : HasNotFailed ran → holes_of ran.draft.items ≡ holes_of eaten.draft.items
-  pub closes : Puts (closing_steps old.words (tail_of_kind kind) (ahead ran 0)) ran closed
-  pub closes_keeps : Keeps ran closed
-  pub completes : Records closed new (completed closed.draft id kind)
-  pub completes_here : new.position ≡ closed.position
-  pub completes_keeps : Keeps closed new
+abbrev pub EatsWith : (State → State → Type 0) → ℕ → State → State → Type 0
+EatsWith does kind old new =
+    (id : ℕ)
+    × (Begins id
+    ⨾ PutsAhead (λ s. element_steps (elements_of_kind kind) (ahead s 0))
+    ⨾ RunsTail does
+    ⨾ PutsAhead (λ s. closing_steps s.words (tail_of_kind kind) (ahead s 0))
+    ⨾ Completes id kind) old new

@@ -1,5 +1,5 @@
 -- What a parse answers.
-use Rattle.std.specs.Prelude.{◌≡◌, ℕ, ◌≤◌, ◌*◌, Some, None, List, ◌⊎◌}
+use Rattle.std.specs.Prelude.{◌≡◌, ◌≤◌, ◌*◌, Some, None, List, length, ◌⊎◌}
 use Rattle.squawk_table.specs.ParserInput.{Entry}
 use Rattle.squawk_log.specs.Draft.{Draft, HasNoHole, plain}
 use Rattle.squawk_output.specs.Steps.{Walk}
@@ -16,6 +16,8 @@ pub record IsParse (leaves : Draft → Type 0) (input : List Entry) (output : Wa
   pub steps : output.steps ≡ plain draft.items
   pub recorded : output.recorded ≡ draft.recorded
   pub turns : output.turns ≡ draft.turns_due
+  -- a recorded event is a step at most, and four turns at most
+  pub few : length output.steps ≤ output.recorded
   pub bound : output.turns ≤ 4 * output.recorded
   pub balanced : IsBalanced output.steps
   pub over : IsOver output.steps input

@@ -1,10 +1,9 @@
 -- What acts record that put whole steps at the end of a draft.
-use Rattle.std.specs.Prelude.{◌≡◌, ℕ, ◌+◌, ◌<◌, ◌≤◌, true, Some, List, ◌∷◌, ◌++◌, length, sum_by, All, AllPairs, IsSome, if◌then◌else◌}
+use Rattle.std.specs.Prelude.{◌≡◌, ℕ, ◌+◌, ◌<◌, Some, List, ◌∷◌, ◌++◌, length, sum_by, All, AllPairs, IsSome, if◌then◌else◌}
 use Rattle.squawk_output.specs.Steps.{Step, is_enter, is_error, errors_in, eaten}
 use Rattle.squawk_log.specs.Draft.{Draft, Item, HasNoHole, IsAboveIds, errors_of, ids, plain}
-use Rattle.squawk_parser.specs.State.{State, HasNotFailed}
+use Rattle.squawk_parser.specs.State.{State, HasNotFailed, IsReason}
 use Rattle.squawk_parser.specs.declared.parser.parse_error.ParseError.{ParseError}
-use Rattle.squawk_parser.specs.declared.parser.parse_error.ParseError.TheVariants.{OutOfMemory, TooManyEvents, TooManyErrors}
 
 -- how many turns a step is due in a pass over its events: one, and two where a node is entered
 abbrev pub turns_of_step : Step → ℕ
@@ -27,25 +26,18 @@ pub record IsPut (steps : List Step) (old new : Draft) : Type 0 where
   pub entries : new.entries ≡ old.entries + length steps
   pub turns_due : new.turns_due ≡ old.turns_due + turns_due_of steps
 
--- Why a parser that has recorded so many events and errors, both within its limits, is refused a step. The limit of events is tested
--- first, then that of errors, and memory last.
-abbrev pub IsReason : ℕ → ℕ → ℕ → ℕ → Step → ParseError → Type 0
-IsReason max_events max_errors events errors step TooManyEvents = (events ≡ max_events) × (errors ≤ max_errors)
-IsReason max_events max_errors events errors step TooManyErrors = (is_error step ≡ true) × (errors ≡ max_errors) × (events < max_events)
-IsReason max_events max_errors events errors step OutOfMemory = (events < max_events) × (is_error step ≡ true → errors < max_errors)
-
 -- One of the steps was refused, after those before it were recorded.
 pub record IsRefusedStep (old : State) (steps : List Step) (reason : ParseError) : Type 0 where
   pub front : List Step
   pub next : Step
   pub rest : List Step
   pub is : steps ≡ front ++ next ∷ rest
-  pub why : IsReason old.max_events old.max_errors (old.draft.recorded + length front) (errors_of old.draft.items + errors_in front) next reason
+  pub why : IsReason old.max_events old.max_errors (old.draft.recorded + length front) (errors_of old.draft.items + errors_in front) (is_error next) reason
 
 -- Steps are recorded, one after another, and their tokens are eaten: these also by a parser that has failed.
 pub record Puts (steps : List Step) (old new : State) : Type 0 where
   pub position : new.position ≡ old.position + eaten steps
-  -- unless the parser has failed afterwards, it hadn't failed before, and the draft has the steps
+  -- a parser that hasn't failed afterwards hadn't failed before, and its draft has the steps
   pub went : HasNotFailed new → HasNotFailed old
   pub draft : HasNotFailed new → IsPut steps old.draft new.draft
   -- a parser that had failed records nothing

@@ -1,5 +1,5 @@
 -- What contracts see of a parser.
-use Rattle.std.specs.Prelude.{◌≡◌, ℕ, true, ◌+◌, ◌<◌, ◌≤◌, min, Option, Some, None, List, length, nat_lt, if◌then◌else◌, IsSome, Contains}
+use Rattle.std.specs.Prelude.{◌≡◌, ℕ, Bool, true, false, ◌+◌, ◌*◌, ◌<◌, ◌≤◌, min, Option, Some, None, List, length, nat_lt, if◌then◌else◌, IsSome, Contains}
 use Rattle.squawk_kinds.specs.Kinds.{EOF}
 use Rattle.squawk_table.specs.ParserInput.{Entry, kind_in, contextual_kind_in}
 use Rattle.squawk_parser.specs.LookAhead.{seen_from}
@@ -74,18 +74,24 @@ pub record Keeps (old new : State) : Type 0 where
   pub max_errors : new.max_errors ≡ old.max_errors
   pub reason : IsSome old.first_reason → new.first_reason ≡ old.first_reason
 
--- An event that is no error is recorded. Unless the parser has failed afterwards, it hadn't failed before and the draft is this one.
+-- Why a parser that has recorded so many events and errors, both within its limits, is refused one event more, which may be an error.
+-- The limit of events is tested first, then that of errors, and memory last.
+abbrev pub IsReason : ℕ → ℕ → ℕ → ℕ → Bool → ParseError → Type 0
+IsReason max_events max_errors events errors wrong TooManyEvents = (events ≡ max_events) × (errors ≤ max_errors)
+IsReason max_events max_errors events errors wrong TooManyErrors = (wrong ≡ true) × (errors ≡ max_errors) × (events < max_events)
+IsReason max_events max_errors events errors wrong OutOfMemory = (events < max_events) × (errors ≤ max_errors) × (wrong ≡ true → errors < max_errors)
+
+-- An event that is no error is recorded. A parser that hasn't failed afterwards hadn't failed before, it had room for the event, and
+-- its draft is this one.
 pub record Records (old new : State) (edited : Draft) : Type 0 where
   pub went : HasNotFailed new → HasNotFailed old
+  pub room : HasNotFailed new → old.draft.recorded < old.max_events
   pub draft : HasNotFailed new → new.draft ≡ edited
   -- nothing is recorded by a parser that has failed
   pub stays : IsSome new.first_reason → new.draft ≡ old.draft
-  -- no more events were recorded than may be, and no more errors
-  pub within : old.draft.recorded ≤ old.max_events
-  pub within_errors : errors_of old.draft.items ≤ old.max_errors
-  -- it fails exactly where the limit is reached, and else only by want of memory
-  pub full : HasNotFailed old → old.draft.recorded ≡ old.max_events → new.first_reason ≡ Some TooManyEvents
-  pub room : HasNotFailed old → old.draft.recorded < old.max_events → IsSome new.first_reason → new.first_reason ≡ Some OutOfMemory
+  -- one that fails has a reason
+  pub refused : HasNotFailed old → (reason : ParseError) → new.first_reason ≡ Some reason
+      → IsReason old.max_events old.max_errors old.draft.recorded (errors_of old.draft.items) false reason
 
 -- the marker's hole is in the draft, or the parser has failed
 abbrev pub HasHole : State → Mark → Type 0
@@ -106,6 +112,9 @@ pub record IsSound (s : State) : Type 0 where
   pub limit : s.limit ≤ length s.input
   pub words : HasNoEnd s.words
   pub recorded : s.draft.recorded ≤ s.max_events
+  -- there is an item for a recorded event at most, and so a step of the plain list, and four turns of a pass at most
+  pub items : length s.draft.items ≤ s.draft.recorded
+  pub turns : s.draft.turns_due ≤ 4 * s.draft.recorded
   pub errors : errors_of s.draft.items ≤ s.max_errors
   -- a parser that was refused an event has recorded as many as it may
   pub refused : s.first_reason ≡ Some TooManyEvents → s.draft.recorded ≡ s.max_events

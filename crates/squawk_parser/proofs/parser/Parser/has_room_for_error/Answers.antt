@@ -8,7 +8,7 @@ use Rattle.squawk_parser.proofs.parser.Parser.has_room_for_error.Goals as goal
 pub returns-then-not-has_room-clause-full : goal.returns-then-not-has_room-clause-full
 returns-then-not-has_room-clause-full c =
     let of = c.if-not-has_room.ensures in
-    λ _ msg. Puts-full c.args.self.now c.has_room.new.self msg (of.full refl).0.within_errors (of.full refl).1 of.position of.draft (of.refused refl)
+    λ _ msg. Puts-full c.args.self.now c.has_room.new.self msg (of.full refl).0 (of.full refl).1 of.position of.draft (of.refused refl)
 
 pub returns-then-errors-self-clause-full : goal.returns-then-errors-self-clause-full
 returns-then-errors-self-clause-full c =

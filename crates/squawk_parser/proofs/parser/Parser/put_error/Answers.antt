@@ -1,4 +1,4 @@
-use Rattle.std.proofs.Common.{◌≡◌, ◌∙◌, ◌∷◌, [], refl, subst}
+use Rattle.std.proofs.Common.{◌≡◌, ◌∙◌, ◌∷◌, [], arith, refl, subst}
 use Rattle.std.specs.Prelude.{IfOk, string_bytes}
 use Rattle.std.specs.Str.{chars}
 use Rattle.squawk_log.specs.Edits.{with_error}
@@ -7,6 +7,7 @@ use Rattle.squawk_parser.specs.Recorded.{Puts}
 use Rattle.squawk_parser.specs.State.{IsSound}
 use Rattle.squawk_parser.specs.declared.parser.parse_error.ParseError.TheVariants.{OutOfMemory}
 use Rattle.squawk_parser.proofs.Noted.{noted}
+use Rattle.squawk_parser.proofs.ItemCounts.{HasFewTurns}
 use Rattle.squawk_parser.proofs.Soundness.{IsKept-with_error, IsKept-failed}
 use Rattle.squawk_parser.proofs.ParserViews.{seen, kept, has_room, errors_room}
 use Rattle.squawk_parser.proofs.RefusedError.{Puts-error, Puts-refused}
@@ -15,7 +16,7 @@ use Rattle.squawk_parser.proofs.parser.Parser.put_error.Goals as goal
 pub returns-in-Err-clause-puts : goal.returns-in-Err-clause-puts
 returns-in-Err-clause-puts c =
     λ msg _. rw (c.note.ensures.err refl)
-    (Puts-refused (seen c.self.inside) c.args.self.now msg OutOfMemory c.self.view_is (c.requires.room, λ _. c.requires.errors))
+    (Puts-refused (seen c.self.inside) c.args.self.now msg OutOfMemory c.self.view_is (c.requires.room, omega (arith, c.requires.errors), λ _. c.requires.errors))
 
 pub invariant_of-self-2 : goal.invariant_of-self-2
 invariant_of-self-2 c =
@@ -26,8 +27,8 @@ invariant_of-self-2 c =
     let before = kept c.self.inside c.self.invariant in
     let after = IsKept-with_error s text before can.goes can.room errors in
     let failed = IsKept-failed s before in
-    noted (λ draft reason. IsSound (record s { draft = draft; first_reason = reason })) s (with_error s.draft text) c.error.new.self c.note-2.new.first_reason
-    c.error.result after.sound failed.sound c.error.ensures.ok c.error.ensures.err c.note-2.ensures.ok c.note-2.ensures.err
+    noted HasFewTurns (λ draft reason. IsSound (record s { draft = draft; first_reason = reason })) s (with_error s.draft text) c.error.new.self c.note-2.new.first_reason
+    c.error.result c.error.ensures.turns (λ few. (after few).sound) failed.sound c.error.ensures.ok c.error.ensures.err c.note-2.ensures.ok c.note-2.ensures.err
 
 pub returns-clause-puts : goal.returns-clause-puts
 returns-clause-puts c msg is =
@@ -35,7 +36,7 @@ returns-clause-puts c msg is =
     let old = c.args.self.now in
     let text = c.new-text.result in
     let same : text ≡ msg = c.new-text.ensures ∙ subst (λ t. IfOk t (λ s. chars (string_bytes s) ≡ msg)) c.in-Ok.is is in
-    let refused = Puts-refused s old msg OutOfMemory c.self.view_is (c.requires.room, λ _. c.requires.errors) in
+    let refused = Puts-refused s old msg OutOfMemory c.self.view_is (c.requires.room, omega (arith, c.requires.errors), λ _. c.requires.errors) in
     let put = subst (λ m. Puts (Error m ∷ []) old (record s { draft = with_error s.draft text })) same (Puts-error s old text c.self.view_is c.requires.goes) in
-    noted (λ draft reason. Puts (Error msg ∷ []) old (record s { draft = draft; first_reason = reason })) s (with_error s.draft text) c.error.new.self
-    c.note-2.new.first_reason c.error.result put refused c.error.ensures.ok c.error.ensures.err c.note-2.ensures.ok c.note-2.ensures.err
+    noted HasFewTurns (λ draft reason. Puts (Error msg ∷ []) old (record s { draft = draft; first_reason = reason })) s (with_error s.draft text) c.error.new.self
+    c.note-2.new.first_reason c.error.result c.error.ensures.turns (λ few. put) refused c.error.ensures.ok c.error.ensures.err c.note-2.ensures.ok c.note-2.ensures.err

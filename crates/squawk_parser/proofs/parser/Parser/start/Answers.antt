@@ -3,6 +3,7 @@ use Rattle.squawk_log.specs.Draft.{IsAboveIds}
 use Rattle.squawk_log.specs.Edits.{started}
 use Rattle.squawk_parser.specs.State.{IsSound}
 use Rattle.squawk_parser.proofs.Noted.{noted}
+use Rattle.squawk_parser.proofs.ItemCounts.{HasFewTurns}
 use Rattle.squawk_parser.proofs.Soundness.{IsKept-started, IsKept-failed}
 use Rattle.squawk_parser.proofs.ParserViews.{seen, kept, has_room}
 use Rattle.squawk_parser.proofs.parser.Parser.start.Goals as goal
@@ -19,5 +20,5 @@ invariant_of-self c =
     let before = kept c.self-2.inside c.self-2.invariant in
     let after = IsKept-started s s.draft.entries before can.goes can.room above in
     let failed = IsKept-failed s before in
-    noted (λ draft reason. IsSound (record s { draft = draft; first_reason = reason })) s (started s.draft s.draft.entries) c.start.new.self c.note.new.first_reason
-    c.start.result after.sound failed.sound c.start.ensures.ok c.start.ensures.err c.note.ensures.ok c.note.ensures.err
+    noted HasFewTurns (λ draft reason. IsSound (record s { draft = draft; first_reason = reason })) s (started s.draft s.draft.entries) c.start.new.self c.note.new.first_reason
+    c.start.result c.start.ensures.turns (λ few. (after few).sound) failed.sound c.start.ensures.ok c.start.ensures.err c.note.ensures.ok c.note.ensures.err

@@ -4,6 +4,7 @@ use Rattle.squawk_log.specs.Draft.{Draft, Hole, Open, Mark, Node}
 use Rattle.squawk_log.specs.LogDraft.{made_of}
 use Rattle.squawk_log.specs.Edits.{extended}
 use Rattle.squawk_parser.specs.State.{State, HasNotFailed}
+use Rattle.squawk_parser.proofs.ItemCounts.{HasFewTurns}
 use Rattle.squawk_parser.proofs.SoundExtended.{IsKept-extended}
 use Rattle.squawk_parser.proofs.ParserViews.{seen, kept, goes_on, Changes-edited, Changes-failed}
 use Rattle.squawk_parser.proofs.parser.marker.CompletedMarker.extend_to.Goals as goal
@@ -22,8 +23,9 @@ invariant_of-p c =
     (subst (HasNode c.args.p.now) (sym c.self.view_is) (c.requires.node went)) in
     let hole = subst (λ t. HasHole t m) (sym c.p.view_is)
     (subst (HasHole c.args.p.now) (sym c.m.view_is) (c.requires.hole went)) in
-    let after = IsKept-extended s node m.id m.made (kept c.p.inside c.p.invariant) goes hole there in
-    rw (c.extend.ensures node.kind there) after.sound
+    let after = IsKept-extended s node m.id m.made (kept c.p.inside c.p.invariant) goes hole there
+    (subst HasFewTurns (c.extend.ensures.extended node.kind there) c.extend.ensures.turns) in
+    rw (c.extend.ensures.extended node.kind there) after.sound
 
 pub returns-clause-changes : goal.returns-clause-changes
 returns-clause-changes c =
@@ -39,6 +41,6 @@ returns-clause-changes c =
           let there = subst (λ t. Has t (record { id = c.self.inside.id; kind = c.self.inside.kind })) (sym c.p.view_is)
           (subst (Has c.args.p.now) (sym c.self.view_is) (c.requires.node (subst HasNotFailed c.p.view_is goes))) in
           Changes-edited c.args.p.now s c.if-is_none.p edited c.p.view_is goes
-          (w.p-is ∙ ap {A = Draft} (λ d. record s { draft = d }) (w.extend.ensures c.self.inside.kind there ∙ same))
+          (w.p-is ∙ ap {A = Draft} (λ d. record s { draft = d }) (w.extend.ensures.extended c.self.inside.kind there ∙ same))
       | else-is_none w ↦ Changes-failed c.args.p.now s c.if-is_none.p edited c.p.view_is (w.if-is_none.ensures) w.p-is
     ]

@@ -4,6 +4,7 @@ use Rattle.squawk_log.specs.Draft.{IsAboveIds, Node, Open}
 use Rattle.squawk_log.specs.Edits.{preceded}
 use Rattle.squawk_parser.specs.State.{State, IsSound}
 use Rattle.squawk_parser.proofs.Noted.{noted}
+use Rattle.squawk_parser.proofs.ItemCounts.{HasFewTurns}
 use Rattle.squawk_parser.proofs.Soundness.{IsKept-failed}
 use Rattle.squawk_parser.proofs.SoundMoves.{IsKept-preceded}
 use Rattle.squawk_parser.proofs.ParserViews.{seen, kept, has_room}
@@ -23,5 +24,5 @@ invariant_of-p c =
     let before = kept c.p-2.inside c.p-2.invariant in
     let after = IsKept-preceded s c.self.inside.id c.self.inside.kind s.draft.entries before can.goes can.room there above in
     let failed = IsKept-failed s before in
-    noted (λ draft reason. IsSound (record s { draft = draft; first_reason = reason })) s (preceded s.draft c.self.inside.id s.draft.entries) c.precede.new.self
-    c.note.new.first_reason c.precede.result after.sound failed.sound c.precede.ensures.ok c.precede.ensures.err c.note.ensures.ok c.note.ensures.err
+    noted HasFewTurns (λ draft reason. IsSound (record s { draft = draft; first_reason = reason })) s (preceded s.draft c.self.inside.id s.draft.entries) c.precede.new.self
+    c.note.new.first_reason c.precede.result c.precede.ensures.turns (λ few. (after few).sound) failed.sound c.precede.ensures.ok c.precede.ensures.err c.note.ensures.ok c.note.ensures.err

@@ -3,6 +3,7 @@ use Rattle.std.specs.Prelude.{Contains}
 use Rattle.squawk_log.specs.Draft.{Hole, Mark}
 use Rattle.squawk_log.specs.LogDraft.{made_of}
 use Rattle.squawk_parser.specs.State.{State, HasNotFailed}
+use Rattle.squawk_parser.proofs.ItemCounts.{HasFewTurns}
 use Rattle.squawk_parser.proofs.SoundExtended.{IsKept-abandoned}
 use Rattle.squawk_parser.proofs.ParserViews.{seen, kept, goes_on}
 use Rattle.squawk_parser.proofs.parser.marker.Marker.abandon.Goals as goal
@@ -15,5 +16,5 @@ invariant_of-p c =
     let Has : State → Mark → Type 0 = λ t m. Contains t.draft.items (Hole m.id m.made) in
     let there = subst (λ t. Has t m) (sym c.p.view_is)
     (subst (Has c.args.p.now) (sym c.self.view_is) (c.requires (subst HasNotFailed c.p.view_is goes))) in
-    let after = IsKept-abandoned s m.id m.made (kept c.p.inside c.p.invariant) goes there in
-    rw c.abandon.ensures after.sound
+    let after = IsKept-abandoned s m.id m.made (kept c.p.inside c.p.invariant) goes there (subst HasFewTurns c.abandon.ensures.abandoned c.abandon.ensures.turns) in
+    rw c.abandon.ensures.abandoned after.sound

@@ -5,6 +5,7 @@ use Rattle.squawk_log.specs.Edits.{completed}
 use Rattle.squawk_log.specs.LogDraft.{made_of}
 use Rattle.squawk_parser.specs.State.{State, IsSound}
 use Rattle.squawk_parser.proofs.Noted.{noted}
+use Rattle.squawk_parser.proofs.ItemCounts.{HasFewTurns}
 use Rattle.squawk_parser.proofs.Soundness.{IsKept-completed, IsKept-failed}
 use Rattle.squawk_parser.proofs.ParserViews.{seen, kept, has_room}
 use Rattle.squawk_parser.proofs.parser.marker.Marker.complete.Goals as goal
@@ -23,5 +24,5 @@ invariant_of-p c =
     let before = kept c.p.inside c.p.invariant in
     let after = IsKept-completed s c.self.inside.id c.args.kind made before can.goes can.room there in
     let failed = IsKept-failed s before in
-    noted (λ draft reason. IsSound (record s { draft = draft; first_reason = reason })) s (completed s.draft c.self.inside.id c.args.kind) c.complete.new.self
-    c.note.new.first_reason c.complete.result after.sound failed.sound c.complete.ensures.ok c.complete.ensures.err c.note.ensures.ok c.note.ensures.err
+    noted HasFewTurns (λ draft reason. IsSound (record s { draft = draft; first_reason = reason })) s (completed s.draft c.self.inside.id c.args.kind) c.complete.new.self
+    c.note.new.first_reason c.complete.result c.complete.ensures.turns (λ few. (after few).sound) failed.sound c.complete.ensures.ok c.complete.ensures.err c.note.ensures.ok c.note.ensures.err

@@ -1,0 +1,24 @@
+-- A parser that goes on after an act had room for all of its steps. So one that hadn't, and that no memory was refused, has failed for
+-- a limit.
+use Rattle.std.proofs.Common.{◌+◌, ◌≤◌, List, length, arith}
+use Rattle.squawk_output.specs.Steps.{Step, errors_in}
+use Rattle.squawk_log.specs.Draft.{errors_of}
+use Rattle.squawk_parser.specs.Recorded.{Puts}
+use Rattle.squawk_parser.specs.State.{State, HasNotFailed, IsSound, Keeps}
+use Rattle.squawk_parser.proofs.RecordedSteps.{counted}
+
+-- the steps fit under both limits
+pub record HasRoomFor (steps : List Step) (s : State) : Type 0 where
+  pub events : s.draft.recorded + length steps ≤ s.max_events
+  pub errors : errors_of s.draft.items + errors_in steps ≤ s.max_errors
+
+pub had_room : {steps : List Step} {old new : State} → Keeps old new → IsSound new → Puts steps old new → HasNotFailed new → HasRoomFor steps old
+had_room {steps} {old} {new} keeps sound puts goes =
+    let counts = counted {xs = steps} {a = old} {b = new} (puts.draft goes) in
+    record {
+      events = omega (arith, counts.recorded, sound.recorded, keeps.max_events);
+      errors = omega (arith, counts.errors, sound.errors, keeps.max_errors);
+    }
+
+pub without_room : {steps : List Step} {old new : State} → Keeps old new → IsSound new → Puts steps old new → ¬ (HasRoomFor steps old) → ¬ (HasNotFailed new)
+without_room keeps sound puts none goes = none (had_room keeps sound puts goes)
