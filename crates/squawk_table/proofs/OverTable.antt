@@ -1,10 +1,11 @@
 -- A walk over the input of a table, from a raw place on.
-use Rattle.std.proofs.Common.{◌≡◌, ◌∙◌, ℕ, ◌+◌, ◌-◌, ◌≤◌, List, ◌∷◌, length, take, drop, arith, ap, sym, subst}
+use Rattle.std.proofs.Common.{◌≡◌, ◌∙◌, ℕ, ◌+◌, ◌-◌, ◌≤◌, List, [], ◌∷◌, length, take, drop, arith, ap, sym, subst}
+use Rattle.squawk_kinds.specs.Keywords.{Keywords}
 use Rattle.squawk_table.specs.ParserInput.{Entry, entries_of}
-use Rattle.squawk_table.specs.RawTable.{Table, raw_after}
+use Rattle.squawk_table.specs.RawTable.{RawToken, Table, raw_after}
 use Rattle.squawk_table.specs.Sent.{past_trivia, HasNoTrivia}
 use Rattle.squawk_table.specs.Shape.{IsOver, no_keywords}
-use Rattle.squawk_output.specs.Steps.{Step, Token}
+use Rattle.squawk_output.specs.Steps.{Step, Token, Enter, Exit, Error}
 use Rattle.squawk_table.proofs.FrontTokens.{FrontTokens, FrontTokens-one, one-FrontTokens, drop-entries_of, entries_of-past_trivia, length-raw_after, raw_after-add}
 
 -- the entries of the raw tokens that are left from a place on
@@ -32,3 +33,15 @@ module _ (t : Table) (steps : List Step) (place begin kind n : ℕ) (within : be
 
     pub over_all : IsOver steps (entries_after t (begin + n)) → IsOver (Token kind n ∷ steps) (entries_after t place)
     over_all over = (one-FrontTokens no_keywords n (raw_after t place) (subst (FrontTokens n) past front), subst (IsOver steps) (sym rest) over)
+
+-- which steps are over the entries of raw tokens doesn't depend on contextual keywords
+pub IsOver-keywords : (a b : Keywords) (steps : List Step) (raws : List RawToken) → IsOver steps (entries_of a raws) → IsOver steps (entries_of b raws)
+IsOver-keywords a b [] raws over = tt
+IsOver-keywords a b (Token kind n ∷ steps) raws over =
+    let front = FrontTokens-one a n raws over.0 in
+    let next : (c : Keywords) → drop n (entries_of c raws) ≡ entries_of c (drop n (past_trivia raws)) =
+    λ c. ap (drop n) (sym (entries_of-past_trivia c raws)) ∙ drop-entries_of c n (past_trivia raws) front.there front.input in
+    (one-FrontTokens b n raws front, subst (IsOver steps) (sym (next b)) (IsOver-keywords a b steps (drop n (past_trivia raws)) (subst (IsOver steps) (next a) over.1)))
+IsOver-keywords a b (Enter kind ∷ steps) raws over = IsOver-keywords a b steps raws over
+IsOver-keywords a b (Exit ∷ steps) raws over = IsOver-keywords a b steps raws over
+IsOver-keywords a b (Error text ∷ steps) raws over = IsOver-keywords a b steps raws over

@@ -1,5 +1,6 @@
 //! The test whether an output can be sent over a table.
 ghost use Rattle.std.specs.Prelude.{◌≡◌, ◌+◌, ◌<◌, ◌≤◌, ◌^◌, ◌↔◌, IsTrue, SomeIff, length, take};
+ghost use Rattle.squawk_kinds.specs.Keywords.{Keywords};
 ghost use Rattle.squawk_table.specs.ParserInput.{input_of};
 ghost use Rattle.squawk_table.specs.RawTable.{raw_after};
 ghost use Rattle.squawk_table.specs.Sent.{past_trivia, HasNoTrivia};
@@ -13,8 +14,13 @@ impl LexedStr<'_> {
     /// Whether the output can be sent over this table: errors aside, it is one node with all that
     /// it holds, and under each of its tokens stand the next raw tokens that aren't trivia, with
     /// nothing between them.
+    ///
+    /// An output of a parse over an input of this table, whatever its contextual keywords were, fits
+    /// exactly where it is one node, errors aside.
     pub fn fits(&self, output: &Output) -> bool
-        ensures { IsTrue result ↔ Fits self.now output.now.steps }
+        ensures fits { IsTrue result ↔ Fits self.now output.now.steps }
+        ensures own { (contextual : Keywords) → IsOver output.now.steps (input_of contextual self.now)
+            → IsTrue result ↔ StandsInOneRoot (without_errors output.now.steps) }
     {
         stands_in_one_root(output.iter()) && self.is_under(output.iter())
     }
