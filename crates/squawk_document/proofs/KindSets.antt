@@ -16,7 +16,7 @@ use Rattle.squawk_kinds.proofs.TokenSetLemmas.{bit_of, bit_of-no_kinds, has-all,
 use Rattle.squawk_kinds.specs.declared.token_set.TokenSet.{TokenSet}
 use Rattle.squawk_document.specs.declared.document_error.DocumentError.{DocumentError}
 use Rattle.squawk_document.specs.declared.document_error.DocumentError.TheVariants.{Shape}
-use Rattle.squawk_document.specs.KindSets.{set_of, with_kind}
+use Rattle.squawk_document.specs.KindSets.{HasExactly, set_of, with_kind}
 use Rattle.squawk_document.specs.Values.{◌>>=◌, each, number_in}
 
 -- a bit of a word, as code shifts it there
@@ -81,15 +81,23 @@ all-within low high (d ∷ ds) kinds reads = by_first (number_in low high d) ref
     by_first (Ok n) first smaller = by_rest n first (each (number_in low high) ds) refl smaller
     by_first (Err e) first smaller = absurd (let p = rw first at reads in cc)
 
--- a set of kinds above 0 is without the end
-pub no_end : (low : ℕ) (ds : List Data) (set : TokenSet) → 0 < low → Ok set ≡ (each (number_in low WHITESPACE) ds >>= λ kinds. Ok (set_of kinds)) → has set EOF ≡ false
-no_end low ds set above reads = by_kinds (each (number_in low WHITESPACE) ds) refl
+-- the set of the kinds that are read has exactly these
+pub has-read : (low : ℕ) (ds : List Data) (set : TokenSet) → Ok set ≡ (each (number_in low WHITESPACE) ds >>= λ kinds. Ok (set_of kinds)) → HasExactly set (each (number_in low WHITESPACE) ds)
+has-read low ds set reads = by_kinds (each (number_in low WHITESPACE) ds) refl
   where
-    by_kinds : (read : Result (List ℕ) DocumentError) → each (number_in low WHITESPACE) ds ≡ read → has set EOF ≡ false
-    by_kinds (Ok kinds) are =
+    by_kinds : (read : Result (List ℕ) DocumentError) → each (number_in low WHITESPACE) ds ≡ read → HasExactly set read
+    by_kinds (Ok kinds) are = λ kind.
         let is : set ≡ set_of kinds = let p = rw are at reads in cc in
         let all = all-within low WHITESPACE ds kinds are in
-        ap (λ words. has words EOF) is
-        ∙ (has-set_of kinds (λ d i lt. (all d i lt).1) EOF
-        ∙ list_any_none (λ one. one == EOF) kinds (λ d i lt. let p = (all d i lt).0 in ne_eqb _ 0 (λ e. absurd (omega (arith, p, e, above)))))
+        ap (λ words. has words kind) is ∙ has-set_of kinds (λ d i lt. (all d i lt).1) kind
     by_kinds (Err e) are = absurd (let p = rw are at reads in cc)
+
+-- a set of kinds above 0 is without the end
+pub no_end : (low : ℕ) (ds : List Data) (set : TokenSet) → 0 < low → Ok set ≡ (each (number_in low WHITESPACE) ds >>= λ kinds. Ok (set_of kinds)) → has set EOF ≡ false
+no_end low ds set above reads = by_kinds (each (number_in low WHITESPACE) ds) refl (has-read low ds set reads)
+  where
+    by_kinds : (read : Result (List ℕ) DocumentError) → each (number_in low WHITESPACE) ds ≡ read → HasExactly set read → has set EOF ≡ false
+    by_kinds (Ok kinds) are these =
+        let all = all-within low WHITESPACE ds kinds are in
+        these EOF ∙ list_any_none (λ one. one == EOF) kinds (λ d i lt. let p = (all d i lt).0 in ne_eqb _ 0 (λ e. absurd (omega (arith, p, e, above))))
+    by_kinds (Err e) are none = absurd none

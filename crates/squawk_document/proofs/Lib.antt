@@ -1,4 +1,7 @@
 mod KindSets
 mod ReadingLemmas
 mod Values
+mod WrittenValues
+mod WrittenTokens
+mod WrittenCalls
 mod KeywordPairLemmas

@@ -1,9 +1,11 @@
 pub mod Values
 pub mod TokenShapes
+pub mod WrittenTokens
 pub mod KindSets
 pub mod GrammarWords
 pub mod KeywordPairs
 pub mod KeywordAnswers
 pub mod DocumentParts
 pub mod Calls
+pub mod WrittenCalls
 pub mod Documents

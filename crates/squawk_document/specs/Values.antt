@@ -22,10 +22,15 @@ Fails Json reading = reading ≡ Err Json
 Fails Shape reading = reading ≡ Err Shape
 Fails OutOfMemory reading = Unit {0}
 
--- what a function answered, seen by view, is what the reading gives, unless memory was refused
+-- what a function that takes an allocator answered, seen by view, is what the reading gives, unless memory was refused
 abbrev pub Gives : {X Y : Type 0} → (X → Y) → Result X DocumentError → Result Y DocumentError → Type 0
 Gives view (Ok x) reading = reading ≡ Ok (view x)
 Gives view (Err e) reading = Fails e reading
+
+-- what a function that takes none answered, seen by view, is what the reading gives: no memory is asked for, so none is refused
+abbrev pub GivesExactly : {X Y : Type 0} → (X → Y) → Result X DocumentError → Result Y DocumentError → Type 0
+GivesExactly view (Ok x) reading = reading ≡ Ok (view x)
+GivesExactly view (Err e) reading = reading ≡ Err e
 
 -- ---- JSON values
 

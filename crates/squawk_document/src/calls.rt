@@ -1,8 +1,10 @@
 //! The calls of a document.
-ghost use Rattle.std.specs.Prelude.{◌≡◌, map};
+ghost use Rattle.std.specs.Prelude.{◌≡◌, map, IfOk, IfErr};
 ghost use Rattle.serde_json.specs.View.{view};
 ghost use Rattle.squawk_document.specs.Calls.{alone, argument, call_in, call_named, calls_in, complete_in, err_recover_in, extend_to_in, kind_in, message_in};
-ghost use Rattle.squawk_document.specs.Values.{Gives};
+ghost use Rattle.squawk_document.specs.WrittenCalls.{AreCalls, AreNoCalls, IsCall, IsNoCall};
+ghost use Rattle.squawk_document.specs.declared.document_error.DocumentError.TheVariants.{Shape};
+ghost use Rattle.squawk_document.specs.Values.{Gives, GivesExactly};
 
 use crate::document_error::DocumentError;
 use crate::kind_set::kind_set;
@@ -14,7 +16,9 @@ use std::alloc::Global;
 
 /// The calls that a list spells.
 pub fn calls(alloc: Global, value: &Value) -> Result<Vec<Call>, DocumentError>
-    ensures { Gives (λ v. v.items) result (calls_in (view value.now)) }
+    ensures reads { Gives (λ v. v.items) result (calls_in (view value.now)) }
+    ensures written { IfOk result (λ v. AreCalls v.items (view value.now)) }
+    ensures unwritten { IfErr result (λ e. e ≡ Shape → AreNoCalls (view value.now)) }
 {
     let items = value::items(value)?;
     let mut calls = Vec::with_capacity(alloc, items.len())?;
@@ -26,7 +30,9 @@ pub fn calls(alloc: Global, value: &Value) -> Result<Vec<Call>, DocumentError>
 
 /// The call that a list spells: its name, and what it needs.
 pub fn call(alloc: Global, value: &Value) -> Result<Call, DocumentError>
-    ensures { Gives (λ c. c) result (call_in (view value.now)) }
+    ensures reads { Gives (λ c. c) result (call_in (view value.now)) }
+    ensures written { IfOk result (λ c. IsCall c (view value.now)) }
+    ensures unwritten { IfErr result (λ e. e ≡ Shape → IsNoCall (view value.now)) }
 {
     let items = value::items(value)?;
     let name = value::string(value::item(items, 0)?)?;
@@ -70,14 +76,14 @@ fn call_named(alloc: Global, name: &str, items: &[Value]) -> Result<Call, Docume
 
 /// A call that needs nothing.
 fn alone(items: &[Value], call: Call) -> Result<Call, DocumentError>
-    ensures { Gives (λ c. c) result (alone (map view items.now) call) }
+    ensures { GivesExactly (λ c. c) result (alone (map view items.now) call) }
 {
     value::with_len(items, 1)?;
     Ok(call)
 }
 
 fn complete(items: &[Value]) -> Result<Call, DocumentError>
-    ensures { Gives (λ c. c) result (complete_in (map view items.now)) }
+    ensures { GivesExactly (λ c. c) result (complete_in (map view items.now)) }
 {
     let items = value::with_len(items, 3)?;
     let marker = value::u32_of(value::item(items, 1)?)?;
@@ -86,7 +92,7 @@ fn complete(items: &[Value]) -> Result<Call, DocumentError>
 }
 
 fn extend_to(items: &[Value]) -> Result<Call, DocumentError>
-    ensures { Gives (λ c. c) result (extend_to_in (map view items.now)) }
+    ensures { GivesExactly (λ c. c) result (extend_to_in (map view items.now)) }
 {
     let items = value::with_len(items, 3)?;
     let node = value::u32_of(value::item(items, 1)?)?;
@@ -105,13 +111,13 @@ fn err_recover(alloc: Global, items: &[Value]) -> Result<Call, DocumentError>
 
 /// The one item after a call's name.
 fn argument(items: &[Value]) -> Result<&Value, DocumentError>
-    ensures { Gives (λ v. view v.now) result (argument (map view items.now)) }
+    ensures { GivesExactly (λ v. view v.now) result (argument (map view items.now)) }
 {
     value::item(value::with_len(items, 2)?, 1)
 }
 
 fn kind(value: &Value) -> Result<SyntaxKind, DocumentError>
-    ensures { Gives (λ kind. kind) result (kind_in (view value.now)) }
+    ensures { GivesExactly (λ kind. kind) result (kind_in (view value.now)) }
 {
     let number = value::number(value, 0, u64::from(u16::MAX))?;
     Ok(SyntaxKind::from(number as u16))

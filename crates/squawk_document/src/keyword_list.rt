@@ -6,7 +6,7 @@ ghost use Rattle.std.specs.Str.{bytes_eq};
 ghost use Rattle.serde_json.specs.View.{view};
 ghost use Rattle.squawk_kinds.specs.Kinds.{IsKeyword};
 ghost use Rattle.squawk_kinds.specs.TokenSets.{has};
-ghost use Rattle.squawk_document.specs.Values.{Gives};
+ghost use Rattle.squawk_document.specs.Values.{Gives, GivesExactly};
 ghost use Rattle.squawk_document.specs.KeywordPairs.{AreKeywords, ListAnswers, has_kind, keyword_in, keyword_kind_in, list_answered, keyword_list_in};
 
 use crate::document_error::DocumentError;
@@ -86,7 +86,7 @@ fn put_first(
 /// The kind of a keyword: a token kind other than the end, an open marker, a comment and white
 /// space.
 fn keyword_kind(value: &Value) -> Result<u16, DocumentError>
-    ensures kind { Gives (λ kind. kind) result (keyword_kind_in (view value.now)) }
+    ensures kind { GivesExactly (λ kind. kind) result (keyword_kind_in (view value.now)) }
     ensures keyword { IfOk result IsKeyword }
 {
     let kind = value::number(value, 2, 638)?;
@@ -98,7 +98,7 @@ fn keyword_kind(value: &Value) -> Result<u16, DocumentError>
 
 /// A word and its kind.
 fn keyword(value: &Value) -> Result<(&str, u16), DocumentError>
-    ensures pair { Gives (λ pair. (pair.0.now, pair.1)) result (keyword_in (view value.now)) }
+    ensures pair { GivesExactly (λ pair. (pair.0.now, pair.1)) result (keyword_in (view value.now)) }
     ensures keyword { IfOk result (λ pair. IsKeyword pair.1) }
 {
     let (word, kind) = value::pair(value)?;

@@ -3,8 +3,8 @@ ghost use Rattle.std.specs.Prelude.{◌≡◌, ◌<◌, false, IfOk};
 ghost use Rattle.serde_json.specs.View.{view};
 ghost use Rattle.squawk_kinds.specs.Kinds.{EOF};
 ghost use Rattle.squawk_kinds.specs.TokenSets.{has};
-ghost use Rattle.squawk_document.specs.KindSets.{set_in};
-ghost use Rattle.squawk_document.specs.Values.{Gives};
+ghost use Rattle.squawk_document.specs.KindSets.{HasExactly, kinds_in, set_in};
+ghost use Rattle.squawk_document.specs.Values.{GivesExactly};
 
 use crate::document_error::DocumentError;
 use crate::value;
@@ -13,7 +13,8 @@ use squawk_kinds::TokenSet;
 
 /// The set of the kinds that a list has, each a token kind and at least `low`.
 pub fn kind_set(value: &Value, low: u64) -> Result<TokenSet, DocumentError>
-    ensures set { Gives (λ set. set) result (set_in low (view value.now)) }
+    ensures set { GivesExactly (λ set. set) result (set_in low (view value.now)) }
+    ensures kinds { IfOk result (λ set. HasExactly set (kinds_in low (view value.now))) }
     ensures no_end { 0 < low → IfOk result (λ set. has set EOF ≡ false) }
 {
     let items = value::items(value)?;

@@ -1,7 +1,7 @@
 //! The members of a document, and where its grammar begins.
 ghost use Rattle.serde_json.specs.View.{view};
 ghost use Rattle.squawk_document.specs.DocumentParts.{entry_in, member_data, members_in};
-ghost use Rattle.squawk_document.specs.Values.{Gives, string_in};
+ghost use Rattle.squawk_document.specs.Values.{GivesExactly, string_in};
 
 use crate::document_error::DocumentError;
 use crate::value;
@@ -21,7 +21,7 @@ pub struct DocumentMembers<'v> {
 
 /// The members of a document: an object with these six and no other.
 pub fn members(document: &Value) -> Result<DocumentMembers<'_>, DocumentError>
-    ensures { Gives member_data result (members_in (view document.now)) }
+    ensures { GivesExactly member_data result (members_in (view document.now)) }
 {
     let object = value::with_members(document, 6)?;
     let text = value::member(object, "text")?;
@@ -42,14 +42,14 @@ pub fn members(document: &Value) -> Result<DocumentMembers<'_>, DocumentError>
 
 /// The text of a document.
 pub fn text(value: &Value) -> Result<&str, DocumentError>
-    ensures { Gives (λ s. s.now) result (string_in (view value.now)) }
+    ensures { GivesExactly (λ s. s.now) result (string_in (view value.now)) }
 {
     value::string(value)
 }
 
 /// Where the grammar of a document begins.
 pub fn entry(value: &Value) -> Result<EntryPoint, DocumentError>
-    ensures { Gives (λ e. e) result (entry_in (view value.now)) }
+    ensures { GivesExactly (λ e. e) result (entry_in (view value.now)) }
 {
     match value::string(value)? {
         "sql" => Ok(EntryPoint::SourceFile),

@@ -1,8 +1,10 @@
 //! The raw tokens of a document.
-ghost use Rattle.std.specs.Prelude.{map};
+ghost use Rattle.std.specs.Prelude.{◌≡◌, map, IfOk, IfErr};
 ghost use Rattle.serde_json.specs.View.{view};
-ghost use Rattle.squawk_document.specs.Values.{Gives};
+ghost use Rattle.squawk_document.specs.declared.document_error.DocumentError.TheVariants.{Shape};
+ghost use Rattle.squawk_document.specs.Values.{Gives, GivesExactly};
 ghost use Rattle.squawk_document.specs.TokenShapes.{spelled_token, token_in, tokens_in};
+ghost use Rattle.squawk_document.specs.WrittenTokens.{IsNoToken, IsNoTokens, written_token, written_tokens};
 
 mod field;
 mod kind;
@@ -16,7 +18,9 @@ use std::alloc::Global;
 
 /// The tokens of a list of lists.
 pub fn tokens(alloc: Global, value: &Value) -> Result<Vec<Token>, DocumentError>
-    ensures { Gives (λ v. v.items) result (tokens_in (view value.now)) }
+    ensures reads { Gives (λ v. v.items) result (tokens_in (view value.now)) }
+    ensures written { IfOk result (λ v. view value.now ≡ written_tokens v.items) }
+    ensures unwritten { IfErr result (λ e. e ≡ Shape → IsNoTokens (view value.now)) }
 {
     let items = items(value)?;
     let mut tokens = Vec::with_capacity(alloc, items.len())?;
@@ -28,14 +32,16 @@ pub fn tokens(alloc: Global, value: &Value) -> Result<Vec<Token>, DocumentError>
 
 /// The token that a list spells.
 pub fn token(value: &Value) -> Result<Token, DocumentError>
-    ensures { Gives (λ t. t) result (token_in (view value.now)) }
+    ensures reads { GivesExactly (λ t. t) result (token_in (view value.now)) }
+    ensures written { IfOk result (λ t. view value.now ≡ written_token t) }
+    ensures unwritten { IfErr result (λ _. IsNoToken (view value.now)) }
 {
     spelled_token(items(value)?)
 }
 
 /// A spelling, a length and fields.
 fn spelled_token(items: &[Value]) -> Result<Token, DocumentError>
-    ensures { Gives (λ t. t) result (spelled_token (map view items.now)) }
+    ensures { GivesExactly (λ t. t) result (spelled_token (map view items.now)) }
 {
     match items {
         [spelling, len, fields @ ..] => {

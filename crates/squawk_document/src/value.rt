@@ -1,7 +1,7 @@
 //! What is read of a JSON value.
 ghost use Rattle.std.specs.Prelude.{◌≡◌, ℕ, map};
 ghost use Rattle.serde_json.specs.View.{view};
-ghost use Rattle.squawk_document.specs.Values.{Gives, bool_in, has_members, item_at, items_in, member_in, number_in, pair_in, string_in, u32_in, value_of, with_len};
+ghost use Rattle.squawk_document.specs.Values.{Gives, GivesExactly, bool_in, has_members, item_at, items_in, member_in, number_in, pair_in, string_in, u32_in, value_of, with_len};
 
 use crate::document_error::DocumentError;
 use serde_json::Value;
@@ -20,7 +20,7 @@ pub fn parse(alloc: Global, input: &[u8]) -> Result<Value, DocumentError>
 
 /// An object with as many members as this.
 pub fn with_members(value: &Value, n: usize) -> Result<&Value, DocumentError>
-    ensures { Gives (λ v. view v.now) result (has_members n (view value.now)) }
+    ensures { GivesExactly (λ v. view v.now) result (has_members n (view value.now)) }
 {
     let members = value.as_object().ok_or(DocumentError::Shape)?;
     if members.len() != n {
@@ -31,14 +31,14 @@ pub fn with_members(value: &Value, n: usize) -> Result<&Value, DocumentError>
 
 /// The member of an object at a key.
 pub fn member<'v>(value: &'v Value, key: &str) -> Result<&'v Value, DocumentError>
-    ensures { Gives (λ v. view v.now) result (member_in key.now (view value.now)) }
+    ensures { GivesExactly (λ v. view v.now) result (member_in key.now (view value.now)) }
 {
     value.get(key).ok_or(DocumentError::Shape)
 }
 
 /// The items of an array.
 pub fn items(value: &Value) -> Result<&[Value], DocumentError>
-    ensures { Gives (λ vs. map view vs.now) result (items_in (view value.now)) }
+    ensures { GivesExactly (λ vs. map view vs.now) result (items_in (view value.now)) }
 {
     let items = value.as_array().ok_or(DocumentError::Shape)?;
     Ok(items.as_slice())
@@ -46,7 +46,7 @@ pub fn items(value: &Value) -> Result<&[Value], DocumentError>
 
 /// A list of as many items as this.
 pub fn with_len(items: &[Value], n: usize) -> Result<&[Value], DocumentError>
-    ensures { Gives (λ vs. map view vs.now) result (with_len n (map view items.now)) }
+    ensures { GivesExactly (λ vs. map view vs.now) result (with_len n (map view items.now)) }
 {
     if items.len() != n {
         return Err(DocumentError::Shape);
@@ -56,14 +56,14 @@ pub fn with_len(items: &[Value], n: usize) -> Result<&[Value], DocumentError>
 
 /// Item i of a list.
 pub fn item(items: &[Value], i: usize) -> Result<&Value, DocumentError>
-    ensures { Gives (λ v. view v.now) result (item_at (map view items.now) i) }
+    ensures { GivesExactly (λ v. view v.now) result (item_at (map view items.now) i) }
 {
     items.get(i).ok_or(DocumentError::Shape)
 }
 
 /// The items of a list of two.
 pub fn pair(value: &Value) -> Result<(&Value, &Value), DocumentError>
-    ensures { Gives (λ p. (view p.0.now, view p.1.now)) result (pair_in (view value.now)) }
+    ensures { GivesExactly (λ p. (view p.0.now, view p.1.now)) result (pair_in (view value.now)) }
 {
     let items = with_len(items(value)?, 2)?;
     let first = item(items, 0)?;
@@ -73,7 +73,7 @@ pub fn pair(value: &Value) -> Result<(&Value, &Value), DocumentError>
 
 /// A whole number from `low` to `high`.
 pub fn number(value: &Value, low: u64, high: u64) -> Result<u64, DocumentError>
-    ensures { Gives (λ n. n) result (number_in low high (view value.now)) }
+    ensures { GivesExactly (λ n. n) result (number_in low high (view value.now)) }
 {
     match value.as_u64() {
         Some(n) if (low..=high).contains(&n) => Ok(n),
@@ -83,7 +83,7 @@ pub fn number(value: &Value, low: u64, high: u64) -> Result<u64, DocumentError>
 
 /// A number of 32 bits.
 pub fn u32_of(value: &Value) -> Result<u32, DocumentError>
-    ensures { Gives (λ n. n) result (u32_in (view value.now)) }
+    ensures { GivesExactly (λ n. n) result (u32_in (view value.now)) }
 {
     let n = number(value, 0, u64::from(u32::MAX))?;
     Ok(n as u32)
@@ -91,14 +91,14 @@ pub fn u32_of(value: &Value) -> Result<u32, DocumentError>
 
 /// A string.
 pub fn string(value: &Value) -> Result<&str, DocumentError>
-    ensures { Gives (λ s. s.now) result (string_in (view value.now)) }
+    ensures { GivesExactly (λ s. s.now) result (string_in (view value.now)) }
 {
     value.as_str().ok_or(DocumentError::Shape)
 }
 
 /// True or false.
 pub fn boolean(value: &Value) -> Result<bool, DocumentError>
-    ensures { Gives (λ b. b) result (bool_in (view value.now)) }
+    ensures { GivesExactly (λ b. b) result (bool_in (view value.now)) }
 {
     value.as_bool().ok_or(DocumentError::Shape)
 }

@@ -4,8 +4,8 @@ ghost use Rattle.serde_json.specs.View.{view};
 ghost use Rattle.squawk_kinds.specs.Kinds.{EOF};
 ghost use Rattle.squawk_kinds.specs.TokenSets.{has};
 ghost use Rattle.squawk_document.specs.GrammarWords.{word_data, word_members_in, name_in, names_in};
-ghost use Rattle.squawk_document.specs.KindSets.{set_in};
-ghost use Rattle.squawk_document.specs.Values.{Gives};
+ghost use Rattle.squawk_document.specs.KindSets.{HasExactly, kinds_in, set_in};
+ghost use Rattle.squawk_document.specs.Values.{Gives, GivesExactly};
 
 use crate::document_error::DocumentError;
 use crate::kind_set::kind_set;
@@ -23,7 +23,7 @@ pub struct WordMembers<'v> {
 
 /// The members of a document's words: an object with these two and no other.
 pub fn members(words: &Value) -> Result<WordMembers<'_>, DocumentError>
-    ensures { Gives word_data result (word_members_in (view words.now)) }
+    ensures { GivesExactly word_data result (word_members_in (view words.now)) }
 {
     let object = value::with_members(words, 2)?;
     let operator_first = value::member(object, "operator_first")?;
@@ -36,7 +36,8 @@ pub fn members(words: &Value) -> Result<WordMembers<'_>, DocumentError>
 
 /// The set of the kinds that an operator is made of: token kinds other than the end.
 pub fn operator_first(value: &Value) -> Result<TokenSet, DocumentError>
-    ensures set { Gives (λ set. set) result (set_in 1 (view value.now)) }
+    ensures set { GivesExactly (λ set. set) result (set_in 1 (view value.now)) }
+    ensures kinds { IfOk result (λ set. HasExactly set (kinds_in 1 (view value.now))) }
     ensures no_end { IfOk result (λ set. has set EOF ≡ false) }
 {
     kind_set(value, 1)
@@ -44,7 +45,7 @@ pub fn operator_first(value: &Value) -> Result<TokenSet, DocumentError>
 
 /// A kind and its name.
 fn name(value: &Value) -> Result<(u16, &str), DocumentError>
-    ensures { Gives (λ pair. (pair.0, pair.1.now)) result (name_in (view value.now)) }
+    ensures { GivesExactly (λ pair. (pair.0, pair.1.now)) result (name_in (view value.now)) }
 {
     let (kind, name) = value::pair(value)?;
     let kind = value::number(kind, 0, 65535)?;

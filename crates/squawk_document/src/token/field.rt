@@ -1,6 +1,6 @@
 //! The fields of raw tokens.
 ghost use Rattle.serde_json.specs.View.{view};
-ghost use Rattle.squawk_document.specs.Values.{Gives};
+ghost use Rattle.squawk_document.specs.Values.{GivesExactly};
 ghost use Rattle.squawk_document.specs.TokenShapes.{base_in, place_in};
 
 use crate::document_error::DocumentError;
@@ -10,7 +10,7 @@ use squawk_tokens::Base;
 
 /// A place, or `None` at null.
 pub fn place(value: &Value) -> Result<Option<u32>, DocumentError>
-    ensures { Gives (λ n. n) result (place_in (view value.now)) }
+    ensures { GivesExactly (λ n. n) result (place_in (view value.now)) }
 {
     if value.is_null() {
         Ok(None)
@@ -21,7 +21,7 @@ pub fn place(value: &Value) -> Result<Option<u32>, DocumentError>
 
 /// The base of an integer, as a number.
 pub fn base(value: &Value) -> Result<Base, DocumentError>
-    ensures { Gives (λ b. b) result (base_in (view value.now)) }
+    ensures { GivesExactly (λ b. b) result (base_in (view value.now)) }
 {
     match u32_of(value)? {
         2 => Ok(Base::Binary),

@@ -1,7 +1,7 @@
 //! The kinds of raw tokens, by their spellings and fields.
 ghost use Rattle.std.specs.Prelude.{map};
 ghost use Rattle.serde_json.specs.View.{view};
-ghost use Rattle.squawk_document.specs.Values.{Gives};
+ghost use Rattle.squawk_document.specs.Values.{GivesExactly};
 ghost use Rattle.squawk_document.specs.TokenShapes.{kind_in, kind_of_one, kind_of_three, kind_of_two, plain_kind, quoted_literal};
 
 use crate::document_error::DocumentError;
@@ -12,7 +12,7 @@ use squawk_tokens::{LiteralKind, TokenKind};
 
 /// The kind that is spelled, with all its fields and nothing behind them.
 pub fn kind(word: &str, fields: &[Value]) -> Result<TokenKind, DocumentError>
-    ensures { Gives (λ k. k) result (kind_in word.now (map view fields.now)) }
+    ensures { GivesExactly (λ k. k) result (kind_in word.now (map view fields.now)) }
 {
     match fields {
         [] => plain_kind(word),
@@ -25,7 +25,7 @@ pub fn kind(word: &str, fields: &[Value]) -> Result<TokenKind, DocumentError>
 
 /// A kind without fields.
 fn plain_kind(word: &str) -> Result<TokenKind, DocumentError>
-    ensures { Gives (λ k. k) result (plain_kind word.now) }
+    ensures { GivesExactly (λ k. k) result (plain_kind word.now) }
 {
     match word {
         "unknown" => Ok(TokenKind::Unknown),
@@ -67,7 +67,7 @@ fn plain_kind(word: &str) -> Result<TokenKind, DocumentError>
 
 /// A kind with one field.
 fn kind_of_one(word: &str, a: &Value) -> Result<TokenKind, DocumentError>
-    ensures { Gives (λ k. k) result (kind_of_one word.now (view a.now)) }
+    ensures { GivesExactly (λ k. k) result (kind_of_one word.now (view a.now)) }
 {
     match word {
         "block_comment" => Ok(TokenKind::BlockComment {
@@ -87,7 +87,7 @@ fn kind_of_one(word: &str, a: &Value) -> Result<TokenKind, DocumentError>
 
 /// A literal that says only whether it is terminated.
 fn quoted_literal(word: &str, terminated: bool) -> Result<LiteralKind, DocumentError>
-    ensures { Gives (λ k. k) result (quoted_literal word.now terminated) }
+    ensures { GivesExactly (λ k. k) result (quoted_literal word.now terminated) }
 {
     match word {
         "str" => Ok(LiteralKind::Str { terminated }),
@@ -103,7 +103,7 @@ fn quoted_literal(word: &str, terminated: bool) -> Result<LiteralKind, DocumentE
 
 /// A kind with two fields.
 fn kind_of_two(word: &str, a: &Value, b: &Value) -> Result<TokenKind, DocumentError>
-    ensures { Gives (λ k. k) result (kind_of_two word.now (view a.now) (view b.now)) }
+    ensures { GivesExactly (λ k. k) result (kind_of_two word.now (view a.now) (view b.now)) }
 {
     match word {
         "quoted_ident" => Ok(TokenKind::QuotedIdent {
@@ -122,7 +122,7 @@ fn kind_of_two(word: &str, a: &Value, b: &Value) -> Result<TokenKind, DocumentEr
 
 /// The one kind with three fields.
 fn kind_of_three(word: &str, a: &Value, b: &Value, c: &Value) -> Result<TokenKind, DocumentError>
-    ensures { Gives (λ k. k) result (kind_of_three word.now (view a.now) (view b.now) (view c.now)) }
+    ensures { GivesExactly (λ k. k) result (kind_of_three word.now (view a.now) (view b.now) (view c.now)) }
 {
     match word {
         "int" => Ok(TokenKind::Literal {
