@@ -18,7 +18,7 @@ use Rattle.squawk_answer.specs.Answers.{HasScript, Tells, lines, parse_refusal, 
 use Rattle.squawk_script.specs.Events.{FailsByLimits, IsRunOf, events_of, refusal}
 use Rattle.squawk_answer.specs.declared.fault.Fault.{Fault}
 use Rattle.squawk_answer.specs.Fault.{fault_of_parse}
-use Rattle.squawk_answer.specs.Lines.{last_line, lex_lines, step_lines}
+use Rattle.squawk_answer.specs.Lines.{Texts, last_line, lex_lines, step_lines}
 
 -- the calls of a document, as a script
 abbrev pub script_of : Told → Meaning
@@ -70,12 +70,19 @@ module _ (d : Told) (script : Meaning) (input : List Entry) (output : Walk) (sam
       let errors : errors_in (plain parse.draft.items) ≤ 2147483648 = subst (λ steps. errors_in steps ≤ 2147483648) parse.steps within.1 in
       sym (refusal-same d script input same_script same_input) ∙ parse.left.unrefused 4294967295 2147483648 events errors
 
--- the lines of a table and of the steps that are sent over it
-pub lines-told : (d : Told) (table : Table) (sent : List Step) (all : Bool) → table ≡ table_for d → sent ≡ steps d
-    → IsTrue all ↔ (eaten sent ≡ length (input_of no_keywords table)) → lex_lines table.errors ++ (step_lines (sent_list table sent) ++ last_line all) ≡ lines d
-lines-told d table sent all same_table same_steps is =
-    ap (λ b. lex_lines table.errors ++ (step_lines (sent_list table sent) ++ last_line b)) (same_from_decides all (eaten sent == length (input_of no_keywords table)) is (Decides-eqb (eaten sent) (length (input_of no_keywords table))))
-    ∙ (ap (λ t. Lines t sent) same_table ∙ ap (Lines (table_for d)) same_steps)
+-- two texts
+abbrev texts : List ℕ → List ℕ → Texts
+texts errors steps = record { errors = errors; steps = steps }
+
+-- the two texts of a table and of the steps that are sent over it
+pub texts-told : (d : Told) (table : Table) (sent : List Step) (all : Bool) (errors steps_text : List ℕ) → table ≡ table_for d → sent ≡ steps d
+    → IsTrue all ↔ (eaten sent ≡ length (input_of no_keywords table))
+    → errors ≡ lex_lines table.errors → steps_text ≡ step_lines (sent_list table sent) ++ last_line all → texts errors steps_text ≡ lines d
+texts-told d table sent all errors steps_text same_table same_steps is same_errors same_text =
+    ap (λ text. texts text steps_text) same_errors
+    ∙ (ap (texts (lex_lines table.errors)) same_text
+    ∙ (ap (λ b. texts (lex_lines table.errors) (step_lines (sent_list table sent) ++ last_line b)) (same_from_decides all (eaten sent == length (input_of no_keywords table)) is (Decides-eqb (eaten sent) (length (input_of no_keywords table))))
+    ∙ (ap (λ t. lines_over t sent) same_table ∙ ap (lines_over (table_for d)) same_steps)))
   where
-    Lines : Table → List Step → List ℕ
-    Lines t s = lex_lines t.errors ++ (step_lines (sent_list t s) ++ last_line (eaten s == length (input_of no_keywords t)))
+    lines_over : Table → List Step → Texts
+    lines_over t s = texts (lex_lines t.errors) (step_lines (sent_list t s) ++ last_line (eaten s == length (input_of no_keywords t)))

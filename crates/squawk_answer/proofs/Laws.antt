@@ -17,12 +17,13 @@ use Rattle.squawk_script.specs.declared.call.Call.{Call}
 use Rattle.squawk_script.specs.declared.script_error.ScriptError.{ScriptError}
 use Rattle.squawk_script.specs.declared.script_error.ScriptError.TheVariants as calls
 use Rattle.squawk_answer.specs.Answers.{IsAnswer, ReadTells, Tells, document_of, lines, parse_refusal, steps, table_for}
+use Rattle.squawk_answer.specs.Lines.{Texts}
 use Rattle.squawk_answer.specs.Fault.{fault_of_parse, fault_of_script, fault_of_table}
 use Rattle.squawk_answer.specs.declared.fault.Fault.{Fault}
 use Rattle.squawk_answer.specs.declared.fault.Fault.TheVariants.{Json, Shape, TextTooLong, BadToken, TextLeft, BadCall, Unspent, TooManyEvents, TooManyErrors, DoesNotFit, Memory, Io}
 
 abbrev Answer : Type 0
-Answer = Result (List ℕ) Fault
+Answer = Result Texts Fault
 
 -- an answer that is told of the bytes alone
 abbrev pub IsTold : Answer → Type 0
@@ -118,7 +119,7 @@ Reading d a = Refused (tokens.Refuses d.text d.tokens) fault_of_table a ⊎ (tok
 
 -- at which stage an answer is told
 reading : (d : Told) (a : Answer) → IsTold a → Tells d a → Reading d a
-reading d (Ok text) told ((((accepted, good), none), fits, is)) = inr (accepted, inr (good, inr (none, inl (fits, ap Ok is))))
+reading d (Ok texts) told ((((accepted, good), none), fits, is)) = inr (accepted, inr (good, inr (none, inl (fits, ap Ok is))))
 reading d (Err TextTooLong) told t = inl (table.TextTooLong, t, refl)
 reading d (Err (BadToken i)) told t = inl (table.BadToken i, t, refl)
 reading d (Err (TextLeft at)) told t = inl (table.TextLeft at, t, refl)
@@ -149,7 +150,7 @@ document-one d a b told told' t t' =
 
 -- what is told of bytes is told of what is read of them
 read : (input : List ℕ) (a : Answer) → IsTold a → IsAnswer input a → ReadTells (document_of input) a
-read input (Ok text) told t = t
+read input (Ok texts) told t = t
 read input (Err Json) told t = t
 read input (Err Shape) told t = t
 read input (Err TextTooLong) told t = t

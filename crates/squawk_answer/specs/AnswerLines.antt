@@ -1,7 +1,8 @@
--- The lines that are written for an answer.
-use Rattle.std.specs.Prelude.{ℕ, List, ◌++◌, string_bytes}
+-- The lines that an answer has.
+use Rattle.std.specs.Prelude.{string_bytes}
+use Rattle.squawk_answer.specs.Lines.{Texts}
 use Rattle.squawk_answer.specs.declared.answer.Answer.{Answer}
 
--- those of the lexical errors, and then those of the steps
-abbrev pub lines_of : Answer → List ℕ
-lines_of answer = string_bytes answer.errors ++ string_bytes answer.steps
+-- its two texts
+abbrev pub texts_of : Answer → Texts
+texts_of answer = record { errors = string_bytes answer.errors; steps = string_bytes answer.steps }

@@ -18,7 +18,7 @@ use Rattle.squawk_script.specs.Accepted as script
 use Rattle.squawk_script.specs.Events.{events_of, refusal}
 use Rattle.squawk_script.specs.Meaning.{run_of}
 use Rattle.squawk_script.specs.declared.script_error.ScriptError.TheVariants as calls
-use Rattle.squawk_answer.specs.Lines.{last_line, lex_lines, step_lines}
+use Rattle.squawk_answer.specs.Lines.{Texts, last_line, lex_lines, step_lines}
 use Rattle.squawk_answer.specs.declared.fault.Fault.{Fault}
 use Rattle.squawk_answer.specs.declared.fault.Fault.TheVariants.{Json, Shape, TextTooLong, BadToken, TextLeft, BadCall, Unspent, TooManyEvents, TooManyErrors, DoesNotFit, Memory, Io}
 
@@ -48,9 +48,9 @@ parse_refusal d = refusal 4294967295 2147483648 (events_of d.words (parser_input
 abbrev pub eats_all : Told → Bool
 eats_all d = eaten (steps d) == length (input_of no_keywords (table_for d))
 
--- the lines of its lexical errors, of what is sent for the steps, and the last one
-abbrev pub lines : Told → List ℕ
-lines d = lex_lines (table_for d).errors ++ (step_lines (sent_list (table_for d) (steps d)) ++ last_line (eats_all d))
+-- the lines of its lexical errors, and those of what is sent for the steps, with the last one
+abbrev pub lines : Told → Texts
+lines d = record { errors = lex_lines (table_for d).errors; steps = step_lines (sent_list (table_for d) (steps d)) ++ last_line (eats_all d) }
 
 -- ---- its answer
 
@@ -63,8 +63,8 @@ abbrev pub HasSteps : Told → Type 0
 HasSteps d = HasScript d × (parse_refusal d ≡ None)
 
 -- What a document tells: its lines, or the first fault. Of memory nothing is said, and reading and writing aren't the document's.
-abbrev pub Tells : Told → Result (List ℕ) Fault → Type 0
-Tells d (Ok text) = HasSteps d × Fits (table_for d) (steps d) × (text ≡ lines d)
+abbrev pub Tells : Told → Result Texts Fault → Type 0
+Tells d (Ok texts) = HasSteps d × Fits (table_for d) (steps d) × (texts ≡ lines d)
 Tells d (Err Json) = ⊥
 Tells d (Err Shape) = ⊥
 Tells d (Err TextTooLong) = tokens.Refuses d.text d.tokens table.TextTooLong
@@ -79,14 +79,14 @@ Tells d (Err Memory) = Unit {0}
 Tells d (Err Io) = Unit {0}
 
 -- what reading a document tells
-abbrev pub ReadTells : Result Told DocumentError → Result (List ℕ) Fault → Type 0
+abbrev pub ReadTells : Result Told DocumentError → Result Texts Fault → Type 0
 ReadTells (Ok d) answer = Tells d answer
 ReadTells (Err document.Json) answer = answer ≡ Err Json
 ReadTells (Err document.Shape) answer = answer ≡ Err Shape
 ReadTells (Err document.OutOfMemory) answer = ⊥
 
 -- What is told of the bytes that were read: the lines, or the first fault.
-abbrev pub IsAnswer : List ℕ → Result (List ℕ) Fault → Type 0
+abbrev pub IsAnswer : List ℕ → Result Texts Fault → Type 0
 IsAnswer input (Err Memory) = Unit {0}
 IsAnswer input (Err Io) = Unit {0}
 IsAnswer input answer = ReadTells (document_of input) answer

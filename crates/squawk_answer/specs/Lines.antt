@@ -44,3 +44,12 @@ step_lines steps = flat_map step_line steps
 abbrev pub last_line : Bool → List ℕ
 last_line true = codes "all\n"
 last_line false = codes "rest\n"
+
+-- the lines of an answer: those of the lexical errors, and those of the steps with the last one
+pub record Texts : Type 0 where
+  pub errors : List ℕ
+  pub steps : List ℕ
+
+-- both, in this order
+abbrev pub joined : Texts → List ℕ
+joined texts = texts.errors ++ texts.steps

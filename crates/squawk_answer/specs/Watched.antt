@@ -5,3 +5,7 @@ use Rattle.std.specs.Prelude.{ℕ, Bool}
 pub record Watched : Type 0 where
   pub reads : ℕ
   pub failed : Bool
+
+-- the most reads of a run, interrupted ones too
+abbrev pub most_reads : ℕ
+most_reads = 4294967296

@@ -3,7 +3,7 @@ ghost use Rattle.std.specs.Prelude.{◌≡◌, ◌≢◌, Ok, Err, false, IfErr,
 ghost use Rattle.squawk_document.specs.Documents.{told};
 ghost use Rattle.squawk_kinds.specs.Kinds.{EOF};
 ghost use Rattle.squawk_kinds.specs.TokenSets.{has};
-ghost use Rattle.squawk_answer.specs.AnswerLines.{lines_of};
+ghost use Rattle.squawk_answer.specs.AnswerLines.{texts_of};
 ghost use Rattle.squawk_answer.specs.Answers.{IsAnswer, Tells};
 
 use crate::fault::Fault;
@@ -13,10 +13,12 @@ use squawk_parser::{LexedStr, Words};
 use squawk_script::Script;
 use std::alloc::Global;
 
-/// The lines of an answer: those of the lexical errors, and then those of the steps.
+/// The lines of an answer.
 #[derive(Drop)]
 pub struct Answer {
+    /// A line for each lexical error.
     pub errors: String,
+    /// A line for each step, and a last one that says whether all tokens were eaten.
     pub steps: String,
 }
 
@@ -24,7 +26,7 @@ impl Answer {
     /// The answer to what was read.
     pub fn new(alloc: Global, input: &[u8]) -> Result<Answer, Fault>
         ensures answer { MatchResult result
-            (λ a. IsAnswer input.now (Ok (lines_of a)))
+            (λ a. IsAnswer input.now (Ok (texts_of a)))
             (λ fault. IsAnswer input.now (Err fault)) }
         ensures unwritten { IfErr result (λ fault. fault ≢ Fault.Io) }
     {
@@ -36,7 +38,7 @@ impl Answer {
     fn to_document(alloc: Global, document: Document<'_>) -> Result<Answer, Fault>
         requires { has document.operator_first EOF ≡ false }
         ensures answer { MatchResult result
-            (λ a. Tells (told document.entry) (Ok (lines_of a)))
+            (λ a. Tells (told document.entry) (Ok (texts_of a)))
             (λ fault. Tells (told document.entry) (Err fault)) }
         ensures unwritten { IfErr result (λ fault. fault ≢ Fault.Io) }
     {

@@ -1,9 +1,10 @@
 //! What the program does with a run, and how it ends.
-ghost use Rattle.std.specs.Prelude.{◌≡◌, ◌≢◌, ℕ, List, Ok, Err, IfSome};
+ghost use Rattle.std.specs.Prelude.{◌≡◌, ◌≢◌, Ok, Err, IfSome};
 ghost use Rattle.std.specs.Io.KnownBytes.{Appends};
 ghost use Rattle.std.specs.Process.{exit_status};
 ghost use Rattle.squawk_answer.specs.Answers.{IsAnswer};
 ghost use Rattle.squawk_answer.specs.Fault.{status_of};
+ghost use Rattle.squawk_answer.specs.Lines.{Texts, joined};
 
 use crate::fault::Fault;
 use crate::running::run;
@@ -19,8 +20,8 @@ pub fn program<R: Read, W: Write, E: Write>(
     writer: &mut W,
     error_writer: &mut E,
 ) -> ExitCode
-    ensures success { exit_status result ≡ 0 → IfSome (R.remaining reader.old) (λ input. (text : List ℕ)
-        × IsAnswer input (Ok text) × Appends (W.contents writer.old) (W.contents writer.new) text) }
+    ensures success { exit_status result ≡ 0 → IfSome (R.remaining reader.old) (λ input. (texts : Texts)
+        × IsAnswer input (Ok texts) × Appends (W.contents writer.old) (W.contents writer.new) (joined texts)) }
     ensures silent { exit_status result ≡ 0 → error_writer.new ≡ error_writer.old }
     ensures failure { exit_status result ≢ 0 → (fault : Fault) × (exit_status result ≡ status_of fault)
         × IfSome (R.remaining reader.old) (λ input. IsAnswer input (Err fault))

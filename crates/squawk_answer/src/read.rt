@@ -1,6 +1,7 @@
 //! Reading to the end.
-ghost use Rattle.std.specs.Prelude.{◌≡◌, ◌≤◌, true, IfOk, IfErr, OnOk, IfSome, ◌⊎◌};
+ghost use Rattle.std.specs.Prelude.{◌≡◌, ◌≢◌, ◌≤◌, true, Err, IfOk, IfErr, OnOk, IfSome, ◌⊎◌};
 ghost use Rattle.std.specs.Io.KnownBytes.{IsAtEnd};
+ghost use Rattle.squawk_answer.specs.Watched.{most_reads};
 
 use crate::fault::Fault;
 use crate::watch::{ReadOutcome, Watch};
@@ -18,9 +19,11 @@ pub fn read_all<R: Read>(alloc: Global, watch: &mut Watch, reader: &mut R) -> Re
     requires { watch.old.reads ≡ 0 }
     ensures bytes { IfOk result (λ v. IfSome (R.remaining reader.old) (λ input. v.items ≡ input)) }
     ensures end { OnOk result (IsAtEnd (R.remaining reader.new)) }
-    ensures reads { watch.new.reads ≤ MOST_READS }
+    ensures reads { watch.new.reads ≤ most_reads }
     ensures fault { IfErr result (λ e. (e ≡ Fault.Memory)
-        ⊎ ((e ≡ Fault.Io) × ((watch.new.failed ≡ true) ⊎ (watch.new.reads ≡ MOST_READS)))) }
+        ⊎ ((e ≡ Fault.Io) × ((watch.new.failed ≡ true) ⊎ (watch.new.reads ≡ most_reads)))) }
+    // A read that fails is the last one.
+    ensures unfailed { result ≢ Err Fault.Io → watch.new.failed ≡ watch.old.failed }
 {
     let mut bytes = Vec::new(alloc);
     let mut buffer = [0u8; LONGEST_READ];

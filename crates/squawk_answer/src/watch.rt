@@ -1,8 +1,10 @@
 //! The reads and the writes of a run, watched.
-ghost use Rattle.std.specs.Prelude.{◌≡◌, ◌≢◌, ◌+◌, ◌<◌, ◌^◌, true, false};
+ghost use Rattle.std.specs.Prelude.{◌≡◌, ◌≢◌, ◌+◌, ◌<◌, ◌^◌, true, false, is_ok, IfOk, IfErr};
 ghost use Rattle.std.specs.Io.KnownBytes.{Appends};
+ghost use Rattle.std.specs.IoError.{error_kind};
 ghost use Rattle.squawk_answer.specs.Reads.{OutcomeConsumes};
 
+use std::io;
 use std::io::{ErrorKind, Read, Write};
 use std::marker::Model;
 
@@ -51,15 +53,8 @@ impl Watch {
         ensures failed { result ≡ ReadOutcome.Failed → self.new.failed ≡ true }
         ensures same { result ≢ ReadOutcome.Failed → self.new.failed ≡ self.old.failed }
     {
-        self.reads += 1;
-        match reader.read(buffer) {
-            Ok(n) => ReadOutcome::Bytes(n),
-            Err(e) if e.kind() == ErrorKind::Interrupted => ReadOutcome::Interrupted,
-            Err(_) => {
-                self.failed = true;
-                ReadOutcome::Failed
-            }
-        }
+        let answer = reader.read(buffer);
+        self.note_read(answer)
     }
 
     /// Writes all of these bytes. Whether it could.
@@ -69,7 +64,55 @@ impl Watch {
         ensures failed { result ≡ false → self.new.failed ≡ true }
         ensures same { result ≡ true → self.new.failed ≡ self.old.failed }
     {
-        if writer.write_all(bytes).is_err() {
+        let answer = writer.write_all(bytes);
+        self.note_write(answer)
+    }
+
+    /// How often it was read.
+    pub fn reads(&self) -> u64
+        ensures { result ≡ self.now.reads }
+    {
+        self.reads
+    }
+
+    /// Whether a read or a write has failed.
+    pub fn failed(&self) -> bool
+        ensures { result ≡ self.now.failed }
+    {
+        self.failed
+    }
+
+    /// Counts a read with this answer of its reader, and tells its outcome.
+    fn note_read(&mut self, answer: io::Result<usize>) -> ReadOutcome
+        requires { self.old.reads < 2 ^ 63 }
+        ensures bytes { IfOk answer (λ n. result ≡ ReadOutcome.Bytes n) }
+        ensures interrupted { IfErr answer (λ e.
+            error_kind e ≡ ErrorKind.Interrupted → result ≡ ReadOutcome.Interrupted) }
+        ensures refused { IfErr answer (λ e.
+            error_kind e ≢ ErrorKind.Interrupted → result ≡ ReadOutcome.Failed) }
+        ensures reads { self.new.reads ≡ self.old.reads + 1 }
+        ensures failed { result ≡ ReadOutcome.Failed → self.new.failed ≡ true }
+        ensures same { result ≢ ReadOutcome.Failed → self.new.failed ≡ self.old.failed }
+    {
+        self.reads += 1;
+        match answer {
+            Ok(n) => ReadOutcome::Bytes(n),
+            Err(e) if e.kind() == ErrorKind::Interrupted => ReadOutcome::Interrupted,
+            Err(_) => {
+                self.failed = true;
+                ReadOutcome::Failed
+            }
+        }
+    }
+
+    /// Notes whether a write with this answer of its writer has failed. Whether it could write.
+    fn note_write(&mut self, answer: io::Result<()>) -> bool
+        ensures ok { result ≡ is_ok answer }
+        ensures reads { self.new.reads ≡ self.old.reads }
+        ensures failed { result ≡ false → self.new.failed ≡ true }
+        ensures same { result ≡ true → self.new.failed ≡ self.old.failed }
+    {
+        if answer.is_err() {
             self.failed = true;
             return false;
         }

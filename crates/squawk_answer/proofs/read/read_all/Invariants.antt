@@ -6,4 +6,5 @@ abbrev pub invariant-loop : goal.invariant-loop
 invariant-loop g l = record {
   bytes : Consumes (g.R.Read.remaining l.initial.reader) (g.R.Read.remaining l.reader) l.bytes.items;
   reads : l.watch.reads ≡ l.counter;
+  unfailed : l.watch.failed ≡ l.initial.watch.failed;
 }

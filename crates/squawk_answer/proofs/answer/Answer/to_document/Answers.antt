@@ -8,7 +8,7 @@ use Rattle.squawk_table.specs.Shape.{Fits}
 use Rattle.squawk_answer.specs.Answers.{Tells, parser_input, steps as steps_of, table_for}
 use Rattle.squawk_answer.specs.Fault.{fault_of_parse}
 use Rattle.squawk_answer.specs.Lines.{last_line, lex_lines}
-use Rattle.squawk_answer.proofs.Answered.{fault-told, limit-told, lines-told, named, none-refused, refusal-same, refusal-told, script_of, steps-told}
+use Rattle.squawk_answer.proofs.Answered.{fault-told, limit-told, texts-told, named, none-refused, refusal-same, refusal-told, script_of, steps-told}
 use Rattle.squawk_answer.proofs.answer.Answer.to_document.Goals as goal
 
 pub returns-in_err-output-clause-answer : goal.returns-in_err-output-clause-answer
@@ -35,7 +35,7 @@ returns-then-not-fits-clause-answer c =
     let steps = steps-told d c.in_ok-script.script c.in_ok-input.input c.in_ok-output.output script input parse in
     let accepted = subst (IsAccepted d.text) tokens c.in_ok-table.ensures.accepted in
     let none = none-refused d c.in_ok-script.script c.in_ok-input.input c.in_ok-output.output script input parse c.in_ok-output.ensures.within in
-    (((accepted, c.in_ok-script.ensures.accepted), none), λ fits. absurd (let yes = c.fits.ensures.1 (rw (table, steps) fits) in let no = c.if-not-fits.true in cc))
+    (((accepted, c.in_ok-script.ensures.accepted), none), λ fits. absurd (let yes = c.fits.ensures.fits.1 (rw (table, steps) fits) in let no = c.if-not-fits.true in cc))
 
 pub returns-clause-answer : goal.returns-clause-answer
 returns-clause-answer c =
@@ -50,7 +50,6 @@ returns-clause-answer c =
     let none = none-refused d c.in_ok-script.script c.in_ok-input.input c.in_ok-output.output script input parse c.in_ok-output.ensures.within in
     let errors = c.in_ok-errors.ensures ∙ ap lex_lines c.errors.ensures.errors in
     let sent = c.in_ok-steps.ensures ∙ ap (λ text. text ++ last_line c.in_ok-all.all) (c.in_ok-all.ensures.ok [] c.new-lines.ensures) in
-    let lines = lines-told d c.in_ok-table.table c.in_ok-output.output.steps c.in_ok-all.all table steps c.in_ok-all.ensures.all in
-    let fits : Fits c.in_ok-table.table c.in_ok-output.output.steps = c.fits.ensures.0 (let p = c.if-not-fits.false in cc) in
-    let written = ap (λ text. text ++ string_bytes c.in_ok-steps.steps) errors ∙ (ap (λ text. lex_lines c.in_ok-table.table.errors ++ text) sent ∙ lines) in
-    (((accepted, c.in_ok-script.ensures.accepted), none), subst (λ t. Fits t (steps_of d)) table (subst (Fits c.in_ok-table.table) steps fits), written)
+    let texts = texts-told d c.in_ok-table.table c.in_ok-output.output.steps c.in_ok-all.all (string_bytes c.in_ok-errors.errors) (string_bytes c.in_ok-steps.steps) table steps c.in_ok-all.ensures.all errors sent in
+    let fits : Fits c.in_ok-table.table c.in_ok-output.output.steps = c.fits.ensures.fits.0 (let p = c.if-not-fits.false in cc) in
+    (((accepted, c.in_ok-script.ensures.accepted), none), subst (λ t. Fits t (steps_of d)) table (subst (Fits c.in_ok-table.table) steps fits), texts)
