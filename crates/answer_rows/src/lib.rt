@@ -40,4 +40,6 @@ mod step_lines;
 #[cfg(test)]
 mod streams;
 #[cfg(test)]
+mod watches;
+#[cfg(test)]
 mod writers;

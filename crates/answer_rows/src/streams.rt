@@ -30,6 +30,63 @@ impl Read for Pieces<'_> {
     }
 }
 
+/// What a planned read does.
+#[derive(Clone, Copy)]
+pub enum Turn {
+    /// Gives so many bytes, or as many as are left.
+    Gives(usize),
+    /// Gives none, and is refused with this error.
+    Refuses(ErrorKind),
+}
+
+/// Reads by a plan. Behind it, a read gives all that is left.
+#[derive(Drop)]
+pub struct Planned<'a> {
+    pub rest: &'a [u8],
+    /// What the next reads do.
+    pub plan: &'a [Turn],
+    /// The reads so far, interrupted ones too.
+    pub reads: u64,
+}
+
+impl<'a> Planned<'a> {
+    /// A reader of these bytes that has not been read.
+    pub fn new(rest: &'a [u8], plan: &'a [Turn]) -> Planned<'a> {
+        Planned {
+            rest,
+            plan,
+            reads: 0,
+        }
+    }
+
+    /// Takes the next turn out of the plan.
+    fn take_turn(&mut self) -> Turn {
+        self.reads = self.reads.saturating_add(1);
+        match self.plan.split_first() {
+            Some((turn, plan)) => {
+                self.plan = plan;
+                *turn
+            }
+            None => Turn::Gives(self.rest.len()),
+        }
+    }
+}
+
+impl Read for Planned<'_> {
+    fn read(&mut self, buffer: &mut [u8]) -> io::Result<usize> {
+        match self.take_turn() {
+            Turn::Gives(most) => {
+                let n = self.rest.len().min(buffer.len()).min(most);
+                let (front, rest) = self.rest.split_at(n);
+                buffer[..n].copy_from_slice(front);
+                self.rest = rest;
+                Ok(n)
+            }
+            Turn::Refuses(kind) => Err(io::Error::from(kind)),
+        }
+    }
+}
+
 /// Takes bytes a few at a time, and fails at one write.
 #[derive(Drop)]
 pub struct Takes {

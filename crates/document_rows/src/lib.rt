@@ -6,6 +6,8 @@
 #[cfg(test)]
 mod calls;
 #[cfg(test)]
+mod many;
+#[cfg(test)]
 mod members;
 #[cfg(test)]
 mod refused_calls;

@@ -201,15 +201,23 @@ holes-eat s t true steps puts none goes = holes-puts s t steps (puts refl) goes
 holes-eat s t false steps puts none goes = ap (λ u. holes_of u.draft.items) (none refl)
 
 holes-with : (does : State → State → Type 0) (kind : ℕ) (s t : State) → EatsWith does kind s t → HasNotFailed t → holes_of t.draft.items ≡ holes_of s.draft.items
-holes-with does kind s t eats goes =
-    let keeps = Keeps-twice eats.begun eats.eaten eats.closed eats.eats_keeps (Keeps-twice eats.eaten eats.ran eats.closed eats.tail_keeps eats.closes_keeps) in
-    let same : HasNotFailed eats.closed → holes_of eats.closed.draft.items ≡ holes_of eats.begun.draft.items =
+holes-with does kind s t (id, e) goes =
+    let begun = e.between in
+    let eaten = e.goes_on.between in
+    let ran = e.goes_on.goes_on.between in
+    let closed = e.goes_on.goes_on.goes_on.between in
+    let begins = e.does_so in
+    let elements = e.goes_on.does_so in
+    let tail = e.goes_on.goes_on.does_so in
+    let closing = e.goes_on.goes_on.goes_on.does_so in
+    let completes = e.goes_on.goes_on.goes_on.goes_on in
+    let keeps = Keeps-twice begun eaten closed elements.keeps (Keeps-twice eaten ran closed tail.keeps closing.keeps) in
+    let same : HasNotFailed closed → holes_of closed.draft.items ≡ holes_of begun.draft.items =
     λ goes_closed.
-    let goes_ran = eats.closes.went goes_closed in
-    let goes_eaten = went-kept eats.tail_keeps goes_ran in
-    holes-puts eats.ran eats.closed _ eats.closes goes_closed
-    ∙ (eats.tail_holes goes_ran ∙ holes-puts eats.begun eats.eaten _ eats.eats goes_eaten) in
-    holes-around s eats.begun eats.closed eats.id eats.begins keeps same t kind eats.fresh eats.completes goes
+    let goes_ran = closing.puts.went goes_closed in
+    let goes_eaten = went-kept tail.keeps goes_ran in
+    holes-puts ran closed _ closing.puts goes_closed ∙ (tail.holes goes_ran ∙ holes-puts begun eaten _ elements.puts goes_eaten) in
+    holes-around s begun closed id begins.records keeps same t kind begins.fresh completes.records goes
 
 pub holes-eat_with : (does : State → State → Type 0) (kind : ℕ) (s t : State) (b : Bool) → (IsTrue b → EatsWith does kind s t) → (IsTrue (not b) → t ≡ s) → HasNotFailed t
     → holes_of t.draft.items ≡ holes_of s.draft.items

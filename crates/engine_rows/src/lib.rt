@@ -35,9 +35,13 @@ mod lexical_errors;
 #[cfg(test)]
 mod limits;
 #[cfg(test)]
+mod limits_of_kinds;
+#[cfg(test)]
 mod limits_of_parses;
 #[cfg(test)]
 mod looks;
+#[cfg(test)]
+mod many;
 #[cfg(test)]
 mod markers;
 #[cfg(test)]
