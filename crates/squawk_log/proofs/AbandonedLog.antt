@@ -13,8 +13,10 @@ use Rattle.squawk_output.specs.declared.event.Event.TheVariants.{Finish}
 use Rattle.squawk_output.specs.Chain.{tombstone}
 use Rattle.squawk_log.specs.Draft.{ByPrecede, ByStart, Close, Error, Hole, Item, Made, Open, Token, errors_of}
 use Rattle.squawk_log.specs.Edits.{abandoned, entries_gone, takes_entry, is_hole_of, is_last_start, without_hole}
-use Rattle.squawk_output.specs.EventLog.{LinksLead, Log, owner, reaches, turns_of}
-use Rattle.squawk_log.specs.LogDraft.{IsRecord, draft_items, draft_of, items_at, made_at}
+use Rattle.squawk_output.specs.EventLog.{LinksLead, Log, reaches, turns_of}
+use Rattle.squawk_output.proofs.Gathered.{least_owner}
+use Rattle.squawk_log.specs.LogDraft.{IsRecord, draft_items, draft_of}
+use Rattle.squawk_log.proofs.GatheredItems.{draft_items-gathered, made_by, place_items}
 use Rattle.squawk_log.proofs.EditedErrors.{errors-without_hole}
 use Rattle.squawk_log.proofs.EditedLog.{HaveHoles, draft_is, holes-unmarked}
 use Rattle.squawk_log.proofs.GrownLog.{LinksLead-front, turns_of-push}
@@ -77,7 +79,7 @@ module _ (log : Log) (marks : List Bool) (recorded errors : ℕ) (is : IsRecord 
         let found = IsHoleAt-found log marks i how there in
         elim (eqb_tells i id) [
           | inl e ↦
-              let same_made : how ≡ made = sym found.how ∙ (ap (made_at log) e.1 ∙ here.how) in
+              let same_made : how ≡ made = sym found.how ∙ (ap (made_by log) e.1 ∙ here.how) in
               and-false (i == id) (is_last_start (length log) (Hole i how)) (rw same_made stays)
           | inr e ↦ rw (ne_eqb i id e.1) refl
         ]
@@ -94,16 +96,16 @@ module _ (log : Log) (marks : List Bool) (recorded errors : ℕ) (is : IsRecord 
 
 -- ---- the event is taken out
 
-owns_itself : (log : Log) (id : ℕ) → made_at log id ≡ ByStart id → owner log id ≡ id
-owns_itself log id made = cases (owner log id == id) refl made
+owns_itself : (log : Log) (id : ℕ) → made_by log id ≡ ByStart id → least_owner log id ≡ id
+owns_itself log id made = cases (least_owner log id == id) refl made
   where
-    cases : (b : Bool) → (owner log id == id) ≡ b → (if b then ByStart id else ByPrecede id) ≡ ByStart id → owner log id ≡ id
-    cases true e h = eqb-true (owner log id) id e
+    cases : (b : Bool) → (least_owner log id == id) ≡ b → (if b then ByStart id else ByPrecede id) ≡ ByStart id → least_owner log id ≡ id
+    cases true e h = eqb-true (least_owner log id) id e
     cases false e h = absurd (cc)
 
 module _ (log : Log) (marks : List Bool) (recorded errors : ℕ) (is : IsRecord (log ++ tombstone ∷ []) (marks ++ true ∷ []) recorded errors)
     (same : length marks ≡ length log)
-    (made : made_at (log ++ tombstone ∷ []) (length log) ≡ ByStart (length log)) where
+    (made : made_by (log ++ tombstone ∷ []) (length log) ≡ ByStart (length log)) where
   abbrev whole : Log
   whole = log ++ tombstone ∷ []
 
@@ -121,9 +123,11 @@ module _ (log : Log) (marks : List Bool) (recorded errors : ℕ) (is : IsRecord 
 
   none_there : without_hole (length log) (draft_items log marks) ≡ draft_items log marks
   none_there =
-      flat_map-gathered (λ item. if is_hole_of (length log) item then [] else item ∷ []) (owner log) (items_at log marks) (length log)
-      ∙ gathered-same (owner log) (owner log) (λ j. without_hole (length log) (items_at log marks j)) (items_at log marks) (length log) (λ j lt. refl)
-      (λ j lt. hole-elsewhere (length log) j (made_at log j) (get_or log j Finish) (get_or marks j false) (λ item. []) (λ e. absurd (omega (arith, e, lt))))
+      ap (without_hole (length log)) (draft_items-gathered log marks)
+      ∙ (flat_map-gathered (λ item. if is_hole_of (length log) item then [] else item ∷ []) (least_owner log) (place_items log marks) (length log)
+      ∙ (gathered-same (least_owner log) (least_owner log) (λ j. without_hole (length log) (place_items log marks j)) (place_items log marks) (length log) (λ j lt. refl)
+      (λ j lt. hole-elsewhere (length log) j (made_by log j) (get_or log j Finish) (get_or marks j false) (λ item. []) (λ e. absurd (omega (arith, e, lt))))
+      ∙ sym (draft_items-gathered log marks)))
 
   items-popped : draft_items log marks ≡ without_hole (length log) (draft_items whole whole_marks)
   items-popped =

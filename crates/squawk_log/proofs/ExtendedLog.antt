@@ -11,8 +11,10 @@ use Rattle.squawk_output.specs.declared.event.Event.TheVariants.{Start, Finish, 
 use Rattle.squawk_output.specs.Chain.{tombstone}
 use Rattle.squawk_log.specs.Draft.{Item, Made, Hole, Open}
 use Rattle.squawk_log.specs.Edits.{extended_items, is_hole_of, is_opening_of, moved, replaced, stands_before, without_hole}
-use Rattle.squawk_output.specs.EventLog.{Log, ahead, gathered, has_link, owner, picked}
-use Rattle.squawk_log.specs.LogDraft.{draft_items, items_at, items_of, made_at}
+use Rattle.squawk_output.specs.EventLog.{Log, ahead, has_link}
+use Rattle.squawk_output.proofs.Gathered.{gathered, least_owner, picked}
+use Rattle.squawk_log.specs.LogDraft.{draft_items, items_of}
+use Rattle.squawk_log.proofs.GatheredItems.{draft_items-gathered, made_by, place_items}
 use Rattle.squawk_log.proofs.Groups.{flat_map-gathered, gathered-same, itself}
 use Rattle.squawk_log.proofs.LinkedLog.{gathered-joined, owner-elsewhere, owner-remains}
 use Rattle.squawk_log.proofs.LogItems.{IsNodeAt, hole-elsewhere, opening-elsewhere, opening_if}
@@ -73,18 +75,18 @@ module _ (log : Log) (marks : List Bool) (id node kind d : ℕ) (same : length m
   some_link : ahead linked ≡ Some d
   some_link = ap Some (omega arith)
 
-  owns : (j : ℕ) → j ≢ node → owner new j ≡ owner log j
+  owns : (j : ℕ) → j ≢ node → least_owner new j ≡ least_owner log j
   owns j ne = owner-elsewhere log id node d linked far none ends some_link is.within j ne
 
   -- ---- the items at the two places
 
-  old_hole : items_at log marks id ≡ Hole id (made_at log id) ∷ []
+  old_hole : place_items log marks id ≡ Hole id (made_by log id) ∷ []
   old_hole = rw (hole, marked) refl
 
-  old_node : items_at log marks node ≡ opening ∷ []
+  old_node : place_items log marks node ≡ opening ∷ []
   old_node = rw (is.event, is.unmarked, is.whole) refl
 
-  new_hole : items_at new new_marks id ≡ []
+  new_hole : place_items new new_marks id ≡ []
   new_hole =
       let event = get_or-set_same log id linked Finish id_within in
       let mark = get_or-set_same marks id false false (omega (arith, id_within, same)) in
@@ -93,36 +95,38 @@ module _ (log : Log) (marks : List Bool) (id node kind d : ℕ) (same : length m
   not_id : node ≢ id
   not_id e = absurd (omega (arith, e, older))
 
-  new_node : items_at new new_marks node ≡ opening ∷ []
+  new_node : place_items new new_marks node ≡ opening ∷ []
   new_node = rw (get_or-set_other log id node linked Finish not_id, get_or-set_other marks id node false false not_id, is.event, is.unmarked, is.whole) refl
 
-  elsewhere : (j : ℕ) → j ≢ id → j ≢ node → items_at new new_marks j ≡ items_at log marks j
+  elsewhere : (j : ℕ) → j ≢ id → j ≢ node → place_items new new_marks j ≡ place_items log marks j
   elsewhere j ne not_node = rw (owns j not_node, get_or-set_other log id j linked Finish ne, get_or-set_other marks id j false false ne) refl
 
   -- ---- which stands first
 
-  holes_only : (j : ℕ) → j ≢ id → list_any (is_hole_of id) (items_at log marks j) ≡ false
-  holes_only j ne = no_hole id j (made_at log j) (get_or log j Finish) (get_or marks j false) ne
+  holes_only : (j : ℕ) → j ≢ id → list_any (is_hole_of id) (place_items log marks j) ≡ false
+  holes_only j ne = no_hole id j (made_by log j) (get_or log j Finish) (get_or marks j false) ne
 
-  openings_only : (j : ℕ) → j ≢ node → list_any (is_opening_of node) (items_at log marks j) ≡ false
-  openings_only j ne = no_opening node j (made_at log j) (get_or log j Finish) (get_or marks j false) ne
+  openings_only : (j : ℕ) → j ≢ node → list_any (is_opening_of node) (place_items log marks j) ≡ false
+  openings_only j ne = no_opening node j (made_by log j) (get_or log j Finish) (get_or marks j false) ne
 
   abbrev group : ℕ → List Item
-  group i = picked (λ j. owner log j == i) (items_at log marks) n
+  group i = picked (λ j. least_owner log j == i) (place_items log marks) n
 
-  hole_first : owner log id < owner log node → stands_before (is_hole_of id) (is_opening_of node) (draft_items log marks) ≡ true
+  hole_first : least_owner log id < least_owner log node → stands_before (is_hole_of id) (is_opening_of node) (draft_items log marks) ≡ true
   hole_first lt =
-      each-before (is_hole_of id) (is_opening_of node) group n (owner log id) (owner log node) lt (omega (arith, owner-most log id, id_within))
-      (λ i ne. group-none (owner log) (items_at log marks) n id (is_hole_of id) holes_only i ne)
-      (λ i ne. group-none (owner log) (items_at log marks) n node (is_opening_of node) openings_only i ne)
-      (group-some (owner log) (items_at log marks) n id (is_hole_of id) holes_only id_within (rw (old_hole, itself id) refl))
+      ap (stands_before (is_hole_of id) (is_opening_of node)) (draft_items-gathered log marks)
+      ∙ each-before (is_hole_of id) (is_opening_of node) group n (least_owner log id) (least_owner log node) lt (omega (arith, owner-most log id, id_within))
+      (λ i ne. group-none (least_owner log) (place_items log marks) n id (is_hole_of id) holes_only i ne)
+      (λ i ne. group-none (least_owner log) (place_items log marks) n node (is_opening_of node) openings_only i ne)
+      (group-some (least_owner log) (place_items log marks) n id (is_hole_of id) holes_only id_within (rw (old_hole, itself id) refl))
 
-  opening_first : owner log node < owner log id → stands_before (is_hole_of id) (is_opening_of node) (draft_items log marks) ≡ false
+  opening_first : least_owner log node < least_owner log id → stands_before (is_hole_of id) (is_opening_of node) (draft_items log marks) ≡ false
   opening_first lt =
-      each-behind (is_hole_of id) (is_opening_of node) group n (owner log id) (owner log node) lt (omega (arith, owner-most log node, is.within))
-      (λ i ne. group-none (owner log) (items_at log marks) n id (is_hole_of id) holes_only i ne)
-      (λ i ne. group-none (owner log) (items_at log marks) n node (is_opening_of node) openings_only i ne)
-      (group-some (owner log) (items_at log marks) n node (is_opening_of node) openings_only is.within (rw (old_node, itself node) refl))
+      ap (stands_before (is_hole_of id) (is_opening_of node)) (draft_items-gathered log marks)
+      ∙ each-behind (is_hole_of id) (is_opening_of node) group n (least_owner log id) (least_owner log node) lt (omega (arith, owner-most log node, is.within))
+      (λ i ne. group-none (least_owner log) (place_items log marks) n id (is_hole_of id) holes_only i ne)
+      (λ i ne. group-none (least_owner log) (place_items log marks) n node (is_opening_of node) openings_only i ne)
+      (group-some (least_owner log) (place_items log marks) n node (is_opening_of node) openings_only is.within (rw (old_node, itself node) refl))
 
   -- ---- the opening moves
 
@@ -130,51 +134,55 @@ module _ (log : Log) (marks : List Bool) (id node kind d : ℕ) (same : length m
   filled item = opening ∷ []
 
   abbrev edited : ℕ → List Item
-  edited j = replaced (is_hole_of id) filled (replaced (is_opening_of node) (λ item. []) (items_at log marks j))
+  edited j = replaced (is_hole_of id) filled (replaced (is_opening_of node) (λ item. []) (place_items log marks j))
 
-  edited_elsewhere : (j : ℕ) → j < n → j ≢ node → j ≢ id → edited j ≡ items_at new new_marks j
+  edited_elsewhere : (j : ℕ) → j < n → j ≢ node → j ≢ id → edited j ≡ place_items new new_marks j
   edited_elsewhere j lt not_node ne =
-      ap (replaced (is_hole_of id) filled) (opening-elsewhere node j (made_at log j) (get_or log j Finish) (get_or marks j false) (λ item. []) not_node)
-      ∙ (hole-elsewhere id j (made_at log j) (get_or log j Finish) (get_or marks j false) filled ne ∙ sym (elsewhere j ne not_node))
+      ap (replaced (is_hole_of id) filled) (opening-elsewhere node j (made_by log j) (get_or log j Finish) (get_or marks j false) (λ item. []) not_node)
+      ∙ (hole-elsewhere id j (made_by log j) (get_or log j Finish) (get_or marks j false) filled ne ∙ sym (elsewhere j ne not_node))
 
-  opening_moves : owner log id < owner log node → draft_items new new_marks ≡ moved (record { id = node; kind = kind }) id (draft_items log marks)
+  opening_moves : least_owner log id < least_owner log node → draft_items new new_marks ≡ moved (record { id = node; kind = kind }) id (draft_items log marks)
   opening_moves lt =
-      ap (gathered (owner new) (items_at new new_marks)) (length-set log id linked)
-      ∙ (gathered-joined log id node d linked far none ends some_link is.within lt (items_at new new_marks) edited
+      draft_items-gathered new new_marks
+      ∙ (ap (gathered (least_owner new) (place_items new new_marks)) (length-set log id linked)
+      ∙ (gathered-joined log id node d linked far none ends some_link is.within lt (place_items new new_marks) edited
       (rw (old_hole, itself id, new_node, new_hole) refl) (rw (old_node, itself node) refl) edited_elsewhere
-      ∙ (sym (flat_map-gathered (λ item. if is_hole_of id item then filled item else item ∷ []) (owner log) (λ j. replaced (is_opening_of node) (λ item. []) (items_at log marks j)) n)
+      ∙ (sym (flat_map-gathered (λ item. if is_hole_of id item then filled item else item ∷ []) (least_owner log) (λ j. replaced (is_opening_of node) (λ item. []) (place_items log marks j)) n)
       ∙ ap (replaced (is_hole_of id) filled)
-      (sym (flat_map-gathered (λ item. if is_opening_of node item then [] else item ∷ []) (owner log) (items_at log marks) n))))
+      (sym (flat_map-gathered (λ item. if is_opening_of node item then [] else item ∷ []) (least_owner log) (place_items log marks) n)
+      ∙ ap (replaced (is_opening_of node) (λ item. [])) (sym (draft_items-gathered log marks))))))
 
   -- ---- or stays
 
-  node_owner_stays : owner log node < owner log id → (j : ℕ) → owner new j ≡ owner log j
+  node_owner_stays : least_owner log node < least_owner log id → (j : ℕ) → least_owner new j ≡ least_owner log j
   node_owner_stays lt j =
       elim (eqb_tells j node) [
         | inl e ↦ rw e.1 (owner-remains log id node d linked far none ends some_link is.within lt)
         | inr e ↦ owns j e.1
       ]
 
-  only_hole_goes : owner log node < owner log id → (j : ℕ) → items_at new new_marks j ≡ without_hole id (items_at log marks j)
+  only_hole_goes : least_owner log node < least_owner log id → (j : ℕ) → place_items new new_marks j ≡ without_hole id (place_items log marks j)
   only_hole_goes lt j =
       elim (eqb_tells j id) [
         | inl e ↦ rw e.1 (new_hole ∙ sym (rw (old_hole, itself id) refl))
         | inr e ↦ rw (node_owner_stays lt j, get_or-set_other log id j linked Finish e.1, get_or-set_other marks id j false false e.1)
-            (sym (hole-elsewhere id j (made_at log j) (get_or log j Finish) (get_or marks j false) (λ item. []) e.1))
+            (sym (hole-elsewhere id j (made_by log j) (get_or log j Finish) (get_or marks j false) (λ item. []) e.1))
       ]
 
-  opening_stays : owner log node < owner log id → draft_items new new_marks ≡ without_hole id (draft_items log marks)
+  opening_stays : least_owner log node < least_owner log id → draft_items new new_marks ≡ without_hole id (draft_items log marks)
   opening_stays lt =
-      ap (gathered (owner new) (items_at new new_marks)) (length-set log id linked)
-      ∙ (gathered-same (owner new) (owner log) (items_at new new_marks) (λ j. without_hole id (items_at log marks j)) n (λ j h. node_owner_stays lt j)
+      draft_items-gathered new new_marks
+      ∙ (ap (gathered (least_owner new) (place_items new new_marks)) (length-set log id linked)
+      ∙ (gathered-same (least_owner new) (least_owner log) (place_items new new_marks) (λ j. without_hole id (place_items log marks j)) n (λ j h. node_owner_stays lt j)
       (λ j h. only_hole_goes lt j)
-      ∙ sym (flat_map-gathered (λ item. if is_hole_of id item then [] else item ∷ []) (owner log) (items_at log marks) n))
+      ∙ (sym (flat_map-gathered (λ item. if is_hole_of id item then [] else item ∷ []) (least_owner log) (place_items log marks) n)
+      ∙ ap (without_hole id) (sym (draft_items-gathered log marks)))))
 
   pub draft_items-extended : draft_items (set log id (Start TOMBSTONE (Some (suc d)))) (set marks id false)
       ≡ extended_items (record { id = node; kind = kind }) id (draft_items log marks)
-  draft_items-extended = cases (cases_order (owner log id) (owner log node))
+  draft_items-extended = cases (cases_order (least_owner log id) (least_owner log node))
     where
-      cases : (owner log id ≡ owner log node) ⊎ ((owner log id < owner log node) ⊎ (owner log node < owner log id))
+      cases : (least_owner log id ≡ least_owner log node) ⊎ ((least_owner log id < least_owner log node) ⊎ (least_owner log node < least_owner log id))
           → draft_items new new_marks ≡ extended_items (record { id = node; kind = kind }) id (draft_items log marks)
       cases (inl e) = absurd (farthest log id node Finish none older is.within (sym e))
       cases (inr (inl lt)) = rw (hole_first lt) (opening_moves lt)

@@ -10,7 +10,8 @@ use Rattle.squawk_output.specs.Chain.{tombstone}
 use Rattle.squawk_log.specs.Draft.{ByStart, Draft, Hole, Made, Open}
 use Rattle.squawk_log.specs.Edits.{abandoned, is_last_start}
 use Rattle.squawk_output.specs.EventLog.{Log}
-use Rattle.squawk_log.specs.LogDraft.{HasHoleOf, IsRecord, draft_of, made_at, made_of}
+use Rattle.squawk_log.specs.LogDraft.{HasHoleOf, IsRecord, draft_of, made_of}
+use Rattle.squawk_log.proofs.GatheredItems.{made_by}
 use Rattle.squawk_log.specs.declared.log.Made.{Made as Given}
 use Rattle.squawk_log.specs.declared.log.Made.TheVariants as given
 use Rattle.squawk_log.proofs.AbandonedLog.{IsRecord-popped, draft_of-popped}
@@ -71,7 +72,7 @@ module _ (log front : Log) (marks front_marks : List Bool) (event : Event) (mark
   record_whole : IsRecord (front ++ tombstone ∷ []) (front_marks ++ true ∷ []) recorded errors
   record_whole = rw (← whole, ← whole_marks) is
 
-  started_last : made_at (front ++ tombstone ∷ []) (length front) ≡ ByStart (length front)
+  started_last : made_by (front ++ tombstone ∷ []) (length front) ≡ ByStart (length front)
   started_last = rw (← whole, ← at_end) (here.how ∙ (last_start (length log) id how last).0)
 
   pub IsRecord-front : IsRecord front front_marks recorded errors

@@ -5,7 +5,7 @@ use Rattle.std.proofs.lemmas.Bool.{eq-eqb, ne_eqb}
 use Rattle.std.proofs.lemmas.Bool.Decides.{eqb_tells}
 use Rattle.std.proofs.lemmas.Grind.{flat_map-append}
 use Rattle.std.proofs.lemmas.List.{append-nil}
-use Rattle.squawk_output.specs.EventLog.{each, gathered, picked}
+use Rattle.squawk_output.proofs.Gathered.{each, gathered, picked}
 use Rattle.squawk_output.proofs.Peel.{each-same, picked-same}
 
 pub itself : (a : ℕ) → (a == a) ≡ true

@@ -5,7 +5,8 @@ use Rattle.squawk_output.specs.declared.event.Event.TheVariants.{Start, Finish, 
 use Rattle.squawk_output.specs.EventLog.{Lands, LinksLead, Log, ahead, is_start_at, leads, reaches, turns_of}
 use Rattle.squawk_output.proofs.Links.{Lands-still, start-set}
 use Rattle.squawk_output.proofs.LogTurns.{turns_at, turns_of-cons}
-use Rattle.squawk_log.proofs.Owners.{not_both, reaches-itself}
+use Rattle.squawk_log.proofs.Owners.{not_both}
+use Rattle.squawk_output.proofs.Gathered.{reaches-itself}
 
 -- ---- turns
 

@@ -1,13 +1,15 @@
 -- The ids of a log's draft are below the number of its entries.
-use Rattle.std.proofs.Common.{ℕ, zero, suc, ◌==◌, ◌<◌, Bool, true, false, not, List, [], length, get_or, sym, subst, arith, if◌then◌else◌}
+use Rattle.std.proofs.Common.{◌∙◌, ℕ, zero, suc, ◌==◌, ◌<◌, Bool, true, false, not, List, [], length, get_or, sym, ap, subst, arith, if◌then◌else◌}
 use Rattle.std.specs.Prelude.{All}
 use Rattle.std.proofs.lemmas.List.Elements.{All-append, All-cons, All-nil}
 use Rattle.squawk_kinds.specs.Kinds.{TOMBSTONE}
 use Rattle.squawk_output.specs.declared.event.Event.{Event}
 use Rattle.squawk_output.specs.declared.event.Event.TheVariants.{Start, Finish, Token, Error}
 use Rattle.squawk_log.specs.Draft.{IsAboveIds, Made, ids, ids_of}
-use Rattle.squawk_output.specs.EventLog.{Log, each, gathered, has_link, owner, picked}
-use Rattle.squawk_log.specs.LogDraft.{draft_items, items_at, items_of, made_at}
+use Rattle.squawk_output.specs.EventLog.{Log, has_link}
+use Rattle.squawk_output.proofs.Gathered.{each, gathered, least_owner, picked}
+use Rattle.squawk_log.specs.LogDraft.{draft_items, items_of}
+use Rattle.squawk_log.proofs.GatheredItems.{draft_items-gathered, made_by, place_items}
 use Rattle.squawk_log.proofs.Groups.{flat_map-gathered}
 use Rattle.squawk_log.proofs.LogItems.{opening_if}
 
@@ -48,6 +50,6 @@ module _ (n : ℕ) where
 
 pub IsAboveIds-entries : (log : Log) (marks : List Bool) → IsAboveIds (length log) (draft_items log marks)
 IsAboveIds-entries log marks =
-    subst (All (below (length log))) (sym (flat_map-gathered ids_of (owner log) (items_at log marks) (length log)))
-    (All-gathered (below (length log)) (owner log) (λ j. ids (items_at log marks j)) (length log)
-    (λ j lt. ids-below (length log) j (made_at log j) (get_or log j Finish) (get_or marks j false) lt))
+    subst (All (below (length log))) (sym (ap ids (draft_items-gathered log marks) ∙ flat_map-gathered ids_of (least_owner log) (place_items log marks) (length log)))
+    (All-gathered (below (length log)) (least_owner log) (λ j. ids (place_items log marks j)) (length log)
+    (λ j lt. ids-below (length log) j (made_by log j) (get_or log j Finish) (get_or marks j false) lt))

@@ -1,5 +1,6 @@
 pub mod Owners
 pub mod Groups
+pub mod GatheredItems
 pub mod LinkedLog
 pub mod LogItems
 pub mod LogEdits

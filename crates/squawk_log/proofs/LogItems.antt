@@ -9,8 +9,10 @@ use Rattle.squawk_output.specs.declared.event.Event.TheVariants.{Start, Finish, 
 use Rattle.squawk_log.specs.Draft as draft
 use Rattle.squawk_log.specs.Draft.{Item, Made, Hole, Open, Close}
 use Rattle.squawk_log.specs.Edits.{is_hole_of, is_opening_of, replaced}
-use Rattle.squawk_output.specs.EventLog.{Log, each, gathered, has_link, owner, picked}
-use Rattle.squawk_log.specs.LogDraft.{draft_items, items_at, items_of, made_at}
+use Rattle.squawk_output.specs.EventLog.{Log, has_link}
+use Rattle.squawk_output.proofs.Gathered.{each, gathered, least_owner, picked}
+use Rattle.squawk_log.specs.LogDraft.{draft_items, items_of}
+use Rattle.squawk_log.proofs.GatheredItems.{draft_items-gathered, made_by, place_items}
 
 -- ---- items of other places
 
@@ -80,7 +82,7 @@ module _ {X : Type 0} (x : X) where
 pub record IsHoleAt (log : Log) (marks : List Bool) (id : ℕ) (made : Made) : Type 0 where
   pub within : id < length log
   pub marked : get_or marks id false ≡ true
-  pub how : made_at log id ≡ made
+  pub how : made_by log id ≡ made
 
 -- the event of a node that hasn't been preceded
 pub record IsNodeAt (log : Log) (marks : List Bool) (id kind : ℕ) : Type 0 where
@@ -124,18 +126,18 @@ node-of place how (Error text) mark id kind h = let e = Contains-only (Open id k
 module _ (log : Log) (marks : List Bool) where
   pub IsHoleAt-found : (id : ℕ) (made : Made) → Contains (draft_items log marks) (Hole id made) → IsHoleAt log marks id made
   IsHoleAt-found id made there =
-      let r = in_gathered (Hole id made) (owner log) (items_at log marks) (length log) there in
-      let is = hole-of r.0 (made_at log r.0) (get_or log r.0 Finish) (get_or marks r.0 false) id made r.2 in
+      let r = in_gathered (Hole id made) (least_owner log) (place_items log marks) (length log) (rw (draft_items-gathered log marks) at there) in
+      let is = hole-of r.0 (made_by log r.0) (get_or log r.0 Finish) (get_or marks r.0 false) id made r.2 in
       record {
         within = omega (arith, r.1, is.0);
         marked = ap (λ place. get_or marks place false) (sym is.0) ∙ is.2;
-        how = ap (made_at log) (sym is.0) ∙ is.1;
+        how = ap (made_by log) (sym is.0) ∙ is.1;
       }
 
   pub IsNodeAt-found : (id kind : ℕ) → Contains (draft_items log marks) (Open id kind true) → IsNodeAt log marks id kind
   IsNodeAt-found id kind there =
-      let r = in_gathered (Open id kind true) (owner log) (items_at log marks) (length log) there in
-      let is = node-of r.0 (made_at log r.0) (get_or log r.0 Finish) (get_or marks r.0 false) id kind r.2 in
+      let r = in_gathered (Open id kind true) (least_owner log) (place_items log marks) (length log) (rw (draft_items-gathered log marks) at there) in
+      let is = node-of r.0 (made_by log r.0) (get_or log r.0 Finish) (get_or marks r.0 false) id kind r.2 in
       record {
         within = omega (arith, r.1, is.0);
         unmarked = ap (λ place. get_or marks place false) (sym is.0) ∙ is.1;

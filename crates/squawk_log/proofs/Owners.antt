@@ -4,7 +4,8 @@ use Rattle.std.proofs.Math.Nat.{eq-or-lt_of_le}
 use Rattle.std.proofs.lemmas.Bool.{cases_order}
 use Rattle.squawk_output.specs.declared.event.Event.{Event}
 use Rattle.squawk_output.specs.declared.event.Event.TheVariants.{Start, Finish, Token, Error}
-use Rattle.squawk_output.specs.EventLog.{Lands, LinksLead, Log, ahead, leads, least, owner, reaches}
+use Rattle.squawk_output.specs.EventLog.{Lands, LinksLead, Log, ahead, leads, reaches}
+use Rattle.squawk_output.proofs.Gathered.{least, least_owner, reaches-itself}
 use Rattle.squawk_output.proofs.Links.{is_start_at-within}
 use Rattle.squawk_output.proofs.Peel.{least-same}
 
@@ -20,11 +21,6 @@ leads-both (Some n) p q R a b go = go n a b
 pub leads-same : (link : Option ℕ) (p q : ℕ → Bool) → ((n : ℕ) → p n ≡ q n) → leads link p ≡ leads link q
 leads-same None p q same = refl
 leads-same (Some n) p q same = same n
-
-pub reaches-itself : (log : Log) (i : ℕ) → i < length log → reaches log i i ≡ true
-reaches-itself [] i lt = absurd (omega arith)
-reaches-itself (x ∷ xs) zero lt = refl
-reaches-itself (x ∷ xs) (suc i) lt = reaches-itself xs i (omega arith)
 
 -- of two places that one reaches, the nearer reaches the farther
 reaches-between : (log : Log) (i m j : ℕ) → reaches log i m ≡ true → reaches log i j ≡ true → m ≤ j → reaches log m j ≡ true
@@ -111,7 +107,7 @@ reaches-kept (x ∷ xs) (suc m) y d e zero (suc j) = leads-same (ahead x) (λ n.
 reaches-kept (x ∷ xs) (suc m) y d e (suc i) zero = refl
 reaches-kept (x ∷ xs) (suc m) y d e (suc i) (suc j) = reaches-kept xs m y d e i j
 
-pub owner-kept : (log : Log) (m : ℕ) (y d : Event) → ahead y ≡ ahead (get_or log m d) → (j : ℕ) → owner (set log m y) j ≡ owner log j
+pub owner-kept : (log : Log) (m : ℕ) (y d : Event) → ahead y ≡ ahead (get_or log m d) → (j : ℕ) → least_owner (set log m y) j ≡ least_owner log j
 owner-kept log m y d e j = least-same (λ i. reaches (set log m y) i j) (λ i. reaches log i j) j (λ i. reaches-kept log m y d e i j)
 
 -- ---- the least
@@ -154,36 +150,36 @@ least-is p n k le here none = cases (cases_order (least p n) k) (least-passes p 
 
 -- ---- owners
 
-pub owner-most : (log : Log) (j : ℕ) → owner log j ≤ j
+pub owner-most : (log : Log) (j : ℕ) → least_owner log j ≤ j
 owner-most log j = least-most (λ i. reaches log i j) j
 
-owner-reaches : (log : Log) (j : ℕ) → j < length log → reaches log (owner log j) j ≡ true
+owner-reaches : (log : Log) (j : ℕ) → j < length log → reaches log (least_owner log j) j ≡ true
 owner-reaches log j lt = cases (least-passes (λ i. reaches log i j) j)
   where
-    cases : (owner log j ≡ j) ⊎ (reaches log (owner log j) j ≡ true) → reaches log (owner log j) j ≡ true
+    cases : (least_owner log j ≡ j) ⊎ (reaches log (least_owner log j) j ≡ true) → reaches log (least_owner log j) j ≡ true
     cases (inl same) = rw same (reaches-itself log j lt)
     cases (inr h) = h
 
-pub owner-below : (log : Log) (j i : ℕ) → i < owner log j → reaches log i j ≡ false
+pub owner-below : (log : Log) (j i : ℕ) → i < least_owner log j → reaches log i j ≡ false
 owner-below log j i lt = least-below (λ i. reaches log i j) j i lt
 
 -- what has no link is the farthest of those that its owner has
-pub farthest : (log : Log) (m j : ℕ) (d : Event) → ahead (get_or log m d) ≡ None → m < j → j < length log → owner log j ≢ owner log m
+pub farthest : (log : Log) (m j : ℕ) (d : Event) → ahead (get_or log m d) ≡ None → m < j → j < length log → least_owner log j ≢ least_owner log m
 farthest log m j d none lt within same =
     let there = owner-reaches log j within in
     let here = owner-reaches log m (omega arith) in
-    let alone = reaches-alone log m j d none (reaches-between log (owner log m) m j here (rw same at there) (omega arith)) in
+    let alone = reaches-alone log m j d none (reaches-between log (least_owner log m) m j here (rw same at there) (omega arith)) in
     omega (arith, alone, lt)
 
-pub owner-push : (log : Log) (x : Event) (j : ℕ) → j < length log → owner (log ++ x ∷ []) j ≡ owner log j
+pub owner-push : (log : Log) (x : Event) (j : ℕ) → j < length log → least_owner (log ++ x ∷ []) j ≡ least_owner log j
 owner-push log x j lt = least-same (λ i. reaches (log ++ x ∷ []) i j) (λ i. reaches log i j) j (λ i. reaches-push log x i j lt)
 
 -- the last one owns itself
-pub owner-last : (log : Log) (x : Event) → LinksLead log → owner (log ++ x ∷ []) (length log) ≡ length log
+pub owner-last : (log : Log) (x : Event) → LinksLead log → least_owner (log ++ x ∷ []) (length log) ≡ length log
 owner-last log x links = cases (least-passes (λ i. reaches (log ++ x ∷ []) i (length log)) (length log))
   where
     own : ℕ
-    own = owner (log ++ x ∷ []) (length log)
+    own = least_owner (log ++ x ∷ []) (length log)
 
     below : (own ≡ length log) ⊎ (own < length log) → reaches (log ++ x ∷ []) own (length log) ≡ true → own ≡ length log
     below (inl same) h = same
@@ -208,7 +204,7 @@ module _ (log : Log) (m c d : ℕ) (y z w : Event) (far : c ≡ m + suc d) (none
   is_false true never = absurd (never refl)
   is_false false never = refl
 
-  pub owner-linked_other : (j : ℕ) → j ≢ c → owner (set log m y) j ≡ owner log j
+  pub owner-linked_other : (j : ℕ) → j ≢ c → least_owner (set log m y) j ≡ least_owner log j
   owner-linked_other j ne =
       least-same (λ i. reaches (set log m y) i j) (λ i. reaches log i j) j
       (λ i. reaches-linked log m c d y z far none some m_within i j
@@ -227,15 +223,15 @@ module _ (log : Log) (m c d : ℕ) (y z w : Event) (far : c ≡ m + suc d) (none
   second false b q = rw q refl
 
   -- c comes to the owner of m where that is the lesser
-  pub owner-moved : owner log m < owner log c → owner (set log m y) c ≡ owner log m
+  pub owner-moved : least_owner log m < least_owner log c → least_owner (set log m y) c ≡ least_owner log m
   owner-moved lt =
-      least-is (λ i. reaches (set log m y) i c) c (owner log m) (omega (arith, owner-most log m, far))
-      (either_reaches (owner log m) ∙ second (reaches log (owner log m) c) (reaches log (owner log m) m) (owner-reaches log m m_within))
+      least-is (λ i. reaches (set log m y) i c) c (least_owner log m) (omega (arith, owner-most log m, far))
+      (either_reaches (least_owner log m) ∙ second (reaches log (least_owner log m) c) (reaches log (least_owner log m) m) (owner-reaches log m m_within))
       (λ i h. either_reaches i ∙ neither (reaches log i c) (reaches log i m) (owner-below log c i (omega arith)) (owner-below log m i h))
 
   -- and else stays
-  pub owner-stays : owner log c < owner log m → owner (set log m y) c ≡ owner log c
+  pub owner-stays : least_owner log c < least_owner log m → least_owner (set log m y) c ≡ least_owner log c
   owner-stays lt =
-      least-is (λ i. reaches (set log m y) i c) c (owner log c) (owner-most log c)
-      (either_reaches (owner log c) ∙ ap (λ b. if b then true else if reaches log (owner log c) m then true else false) (owner-reaches log c within))
+      least-is (λ i. reaches (set log m y) i c) c (least_owner log c) (owner-most log c)
+      (either_reaches (least_owner log c) ∙ ap (λ b. if b then true else if reaches log (least_owner log c) m then true else false) (owner-reaches log c within))
       (λ i h. either_reaches i ∙ neither (reaches log i c) (reaches log i m) (owner-below log c i h) (owner-below log m i (omega arith)))

@@ -1,5 +1,5 @@
 -- The list of a log is the plain list of its draft, and its turns are at most four times what was recorded.
-use Rattle.std.proofs.Common.{◌≡◌, ◌∙◌, ℕ, zero, suc, ◌*◌, ◌==◌, ◌<◌, ◌≤◌, Bool, true, false, not, List, [], ◌∷◌, length, get_or, refl, sym, ap, arith, if◌then◌else◌}
+use Rattle.std.proofs.Common.{◌≡◌, ◌∙◌, ℕ, ◌*◌, ◌==◌, ◌<◌, ◌≤◌, Bool, true, false, not, List, [], ◌∷◌, length, get_or, refl, sym, ap, arith, if◌then◌else◌}
 use Rattle.squawk_kinds.specs.Kinds.{TOMBSTONE}
 use Rattle.squawk_output.specs.Steps as steps
 use Rattle.squawk_output.specs.declared.event.Event.{Event}
@@ -7,9 +7,11 @@ use Rattle.squawk_output.specs.declared.event.Event.TheVariants.{Start, Finish, 
 use Rattle.squawk_output.specs.Chain.{tombstone}
 use Rattle.squawk_log.specs.Draft as draft
 use Rattle.squawk_log.specs.Draft.{Made, plain}
-use Rattle.squawk_output.specs.EventLog.{Log, has_link, list_of, owner, steps_at, steps_of, turns_of}
+use Rattle.squawk_output.specs.EventLog.{Log, has_link, list_of, steps_of, turns_of}
+use Rattle.squawk_output.proofs.Gathered.{least_owner, list_of-gathered, steps-here, steps_at}
 use Rattle.squawk_output.proofs.LogTurns.{turns_of-most}
-use Rattle.squawk_log.specs.LogDraft.{IsRecord, draft_items, items_at, items_of, made_at}
+use Rattle.squawk_log.specs.LogDraft.{IsRecord, draft_items, items_of}
+use Rattle.squawk_log.proofs.GatheredItems.{draft_items-gathered, made_by, place_items}
 use Rattle.squawk_log.proofs.Groups.{flat_map-gathered, gathered-same}
 use Rattle.squawk_log.proofs.LogItems.{opening_if}
 
@@ -24,17 +26,14 @@ plain-item place made Finish mark h = refl
 plain-item place made (Token kind n) mark h = refl
 plain-item place made (Error text) mark h = refl
 
-steps-here : (log : Log) (place : ℕ) (d : Event) → place < length log → steps_of (get_or log place d) ≡ steps_at log place
-steps-here [] place d lt = absurd (omega arith)
-steps-here (x ∷ xs) zero d lt = refl
-steps-here (x ∷ xs) (suc n) d lt = steps-here xs n d (omega arith)
-
 pub plain-draft_items : (log : Log) (marks : List Bool) → ((place : ℕ) → place < length log → get_or marks place false ≡ true → get_or log place Finish ≡ tombstone)
     → plain (draft_items log marks) ≡ list_of log
 plain-draft_items log marks holes =
-    flat_map-gathered draft.steps_of (owner log) (items_at log marks) (length log)
-    ∙ gathered-same (owner log) (owner log) (λ j. plain (items_at log marks j)) (steps_at log) (length log) (λ j lt. refl)
-    (λ j lt. plain-item j (made_at log j) (get_or log j Finish) (get_or marks j false) (holes j lt) ∙ steps-here log j Finish lt)
+    ap plain (draft_items-gathered log marks)
+    ∙ (flat_map-gathered draft.steps_of (least_owner log) (place_items log marks) (length log)
+    ∙ (gathered-same (least_owner log) (least_owner log) (λ j. plain (place_items log marks j)) (steps_at log) (length log) (λ j lt. refl)
+    (λ j lt. plain-item j (made_by log j) (get_or log j Finish) (get_or marks j false) (holes j lt) ∙ steps-here log j Finish lt)
+    ∙ sym (list_of-gathered log)))
 
 pub turns-most : (log : Log) (marks : List Bool) (recorded errors : ℕ) → IsRecord log marks recorded errors → turns_of log ≤ 4 * recorded
 turns-most log marks recorded errors is = omega (arith, turns_of-most log, is.few)

@@ -7,7 +7,7 @@ use Rattle.std.proofs.lemmas.Bool.Decides.{eqb_tells}
 use Rattle.std.proofs.lemmas.List.Folds.{list_any-append}
 use Rattle.squawk_log.specs.Draft.{Item}
 use Rattle.squawk_log.specs.Edits.{stands_before}
-use Rattle.squawk_output.specs.EventLog.{each, picked}
+use Rattle.squawk_output.proofs.Gathered.{each, picked}
 use Rattle.squawk_log.proofs.Groups.{down, itself, picked-down}
 
 any-down_none : (p : Item → Bool) (f : ℕ → List Item) (n : ℕ) → ((j : ℕ) → j < n → list_any p (f j) ≡ false) → list_any p (down f n) ≡ false

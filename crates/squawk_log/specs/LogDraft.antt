@@ -1,10 +1,11 @@
 -- The draft that a log of events and their marks stand for. An id is the place of an event.
 use Rattle.std.specs.Prelude.{◌≡◌, ℕ, ◌==◌, ◌<◌, ◌≤◌, ◌^◌, Bool, true, false, not, List, [], ◌∷◌, length, slice_index_or, Contains, if◌then◌else◌}
+use Rattle.std.specs.List.{flat_map}
 use Rattle.squawk_kinds.specs.Kinds.{TOMBSTONE}
 use Rattle.squawk_output.specs.Chain.{tombstone}
 use Rattle.squawk_log.specs.Draft as draft
 use Rattle.squawk_log.specs.Draft.{ByPrecede, ByStart, Draft, Item, Made, errors_of}
-use Rattle.squawk_output.specs.EventLog.{LinksLead, Log, gathered, has_link, owner, turns_of}
+use Rattle.squawk_output.specs.EventLog.{LinksLead, Log, has_link, in_list_order, owner, turns_of}
 use Rattle.squawk_output.specs.declared.event.Event.{Event}
 use Rattle.squawk_output.specs.declared.event.Event.TheVariants.{Start, Finish, Token, Error}
 use Rattle.squawk_log.specs.declared.log.Made.{Made as Given}
@@ -28,12 +29,13 @@ items_of place made (Error text) mark = draft.Error text ∷ []
 abbrev pub made_at : Log → ℕ → Made
 made_at log place = if owner log place == place then ByStart place else ByPrecede place
 
-abbrev pub items_at : Log → List Bool → ℕ → List Item
-items_at log marks place = items_of place (made_at log place) (slice_index_or log place Finish) (slice_index_or marks place false)
+-- the items of an event with its place
+abbrev pub items_at : Log → List Bool → ℕ × Event → List Item
+items_at log marks (place, event) = items_of place (made_at log place) event (slice_index_or marks place false)
 
 -- the items stand where the steps of their events stand in the list of the log
 abbrev pub draft_items : Log → List Bool → List Item
-draft_items log marks = gathered (owner log) (items_at log marks) (length log)
+draft_items log marks = flat_map (items_at log marks) (in_list_order log)
 
 abbrev pub draft_of : Log → List Bool → ℕ → Draft
 draft_of log marks recorded = record { items = draft_items log marks; recorded = recorded; entries = length log; turns_due = turns_of log }

@@ -1,7 +1,8 @@
 -- A log with a chain taken out.
 use Rattle.std.proofs.Common.{◌≡◌, ℕ, zero, suc, Bool, false, Some, None, Option, [], ◌∷◌, length, refl, sym, ap, if◌then◌else◌}
-use Rattle.squawk_output.specs.EventLog.{Log, ahead, leads, reaches, steps_at}
+use Rattle.squawk_output.specs.EventLog.{Log, ahead, leads, reaches}
 use Rattle.squawk_output.specs.Chain.{erased}
+use Rattle.squawk_output.proofs.Gathered.{steps_at}
 
 -- whether the chain from a place comes to another
 abbrev pub comes : Option ℕ → Log → ℕ → Bool

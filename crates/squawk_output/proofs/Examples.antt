@@ -3,7 +3,7 @@ use Rattle.std.proofs.Common.{◌≡◌, Some, None, [], ◌∷◌, refl}
 use Rattle.squawk_output.specs.Steps as steps
 use Rattle.squawk_output.specs.Steps.{Enter, Exit}
 use Rattle.squawk_output.specs.declared.event.Event.TheVariants.{Start, Finish, Token, Error}
-use Rattle.squawk_output.specs.EventLog.{Log, list_of, turns_of}
+use Rattle.squawk_output.specs.EventLog.{Log, list_of, owned, turns_of}
 
 -- a node, a token and an error without a link
 abbrev flat : Log
@@ -18,6 +18,9 @@ turns_of_flat = refl
 -- a chain: its last node is the outermost
 abbrev chain : Log
 chain = Start 701 (Some 3) ∷ Token 3 1 ∷ Finish ∷ Start 702 (Some 2) ∷ Finish ∷ Start 707 None ∷ Finish ∷ []
+
+owned_chain : owned chain 0 ≡ (5, Start 707 None) ∷ (3, Start 702 (Some 2)) ∷ (0, Start 701 (Some 3)) ∷ []
+owned_chain = refl
 
 list_of_chain : list_of chain ≡ Enter 707 ∷ Enter 702 ∷ Enter 701 ∷ steps.Token 3 1 ∷ Exit ∷ Exit ∷ Exit ∷ []
 list_of_chain = refl
@@ -38,6 +41,9 @@ turns_of_crossing = refl
 -- two links to one place: the first takes it and what lies beyond
 abbrev forest : Log
 forest = Start 700 (Some 2) ∷ Start 701 (Some 1) ∷ Start 702 (Some 1) ∷ Start 703 None ∷ []
+
+owned_forest : owned forest 1 ≡ (1, Start 701 (Some 1)) ∷ []
+owned_forest = refl
 
 list_of_forest : list_of forest ≡ Enter 703 ∷ Enter 702 ∷ Enter 700 ∷ Enter 701 ∷ []
 list_of_forest = refl

@@ -1,5 +1,6 @@
 pub mod Texts
 pub mod Sums
+pub mod Gathered
 pub mod Erased
 pub mod Peel
 pub mod EnteredBack

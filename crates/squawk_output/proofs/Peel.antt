@@ -5,9 +5,10 @@ use Rattle.std.proofs.Math.Dec.{eqb-suc-suc, eqb-suc-zero, eqb-zero-suc}
 use Rattle.std.proofs.lemmas.List.{append-nil}
 use Rattle.squawk_output.specs.Steps.{Step}
 use Rattle.squawk_output.specs.declared.event.Event.{Event}
-use Rattle.squawk_output.specs.EventLog.{Log, ahead, each, gathered, least, list_of, owner, picked, reaches, steps_at, steps_of}
+use Rattle.squawk_output.specs.EventLog.{Log, ahead, list_of, reaches, steps_of}
 use Rattle.squawk_output.specs.Chain.{erased}
 use Rattle.squawk_output.proofs.Erased.{comes, length-erased, reaches-erased, steps-erased}
+use Rattle.squawk_output.proofs.Gathered.{each, gathered, least, least_owner, list_of-gathered, picked, steps_at}
 
 pub least-same : (p q : ℕ → Bool) (n : ℕ) → ((i : ℕ) → p i ≡ q i) → least p n ≡ least q n
 least-same p q zero same = refl
@@ -90,8 +91,10 @@ picked_entered (Some (suc n)) (x ∷ xs) = append-nil (picked (comes (Some n) xs
 pub list_of-cons : (x : Event) (xs : Log) → list_of (x ∷ xs) ≡ (entered (ahead x) xs ++ steps_of x) ++ list_of (erased (ahead x) xs)
 list_of-cons x xs =
     let left = erased (ahead x) xs in
-    peel (owner (x ∷ xs)) (owner xs) (owner left) (comes (ahead x) xs) (steps_at (x ∷ xs)) (steps_at left) (length xs) refl (λ j. refl)
+    list_of-gathered (x ∷ xs)
+    ∙ (peel (least_owner (x ∷ xs)) (least_owner xs) (least_owner left) (comes (ahead x) xs) (steps_at (x ∷ xs)) (steps_at left) (length xs) refl (λ j. refl)
     (λ j away. least-same (λ i. reaches left i j) (λ i. reaches xs i j) j (reaches-erased (ahead x) xs j away))
     (steps-erased (ahead x) xs)
-    ∙ (ap (λ ys. (ys ++ steps_of x) ++ gathered (owner left) (steps_at left) (length xs)) (picked_entered (ahead x) xs)
-    ∙ ap (λ n. (entered (ahead x) xs ++ steps_of x) ++ gathered (owner left) (steps_at left) n) (sym (length-erased (ahead x) xs)))
+    ∙ (ap (λ ys. (ys ++ steps_of x) ++ gathered (least_owner left) (steps_at left) (length xs)) (picked_entered (ahead x) xs)
+    ∙ (ap (λ n. (entered (ahead x) xs ++ steps_of x) ++ gathered (least_owner left) (steps_at left) n) (sym (length-erased (ahead x) xs))
+    ∙ ap (λ ys. (entered (ahead x) xs ++ steps_of x) ++ ys) (sym (list_of-gathered left)))))

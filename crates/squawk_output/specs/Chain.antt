@@ -4,7 +4,7 @@ use Rattle.squawk_kinds.specs.Kinds.{TOMBSTONE}
 use Rattle.squawk_output.specs.Steps.{Step}
 use Rattle.squawk_output.specs.EventLog.{Log, ahead, entering, is_start_at}
 use Rattle.squawk_output.specs.declared.event.Event.{Event}
-use Rattle.squawk_output.specs.declared.event.Event.TheVariants.{Start, Finish, Token, Error}
+use Rattle.squawk_output.specs.declared.event.Event.TheVariants.{Start}
 
 -- what an event leaves behind that was taken out
 abbrev pub tombstone : Event

@@ -1,5 +1,6 @@
 -- An event log, and the steps that it stands for.
-use Rattle.std.specs.Prelude.{◌≡◌, ℕ, zero, suc, ◌+◌, ◌-◌, ◌*◌, ◌<◌, ◌==◌, Bool, true, false, if◌then◌else◌, Option, Some, None, List, [], ◌∷◌, ◌++◌, length, count_by}
+use Rattle.std.specs.Prelude.{◌≡◌, ℕ, zero, suc, ◌+◌, ◌-◌, ◌*◌, ◌<◌, ◌==◌, Bool, true, false, if◌then◌else◌, Option, Some, None, List, [], ◌∷◌, length, count_by, filter, reverse}
+use Rattle.std.specs.List.{enumerate_from, flat_map, position_or_len, range_with_len}
 use Rattle.squawk_kinds.specs.Kinds.{TOMBSTONE}
 use Rattle.squawk_output.specs.Steps as steps
 use Rattle.squawk_output.specs.declared.event.Event.{Event}
@@ -28,30 +29,23 @@ reaches (event ∷ log) zero (suc j) = leads (ahead event) (λ place. reaches lo
 reaches (event ∷ log) (suc i) zero = false
 reaches (event ∷ log) (suc i) (suc j) = reaches log i j
 
--- the least number below n that passes a test, or n
-abbrev pub least : (ℕ → Bool) → ℕ → ℕ
-least p zero = zero
-least p (suc n) = if p 0 then 0 else suc (least (λ i. p (suc i)) n)
+-- the places of a log, in order
+abbrev pub places : Log → List ℕ
+places log = range_with_len 0 (length log)
 
--- the owner of a place: the least place from which links lead there, which may be that place itself
+-- the owner of a place: the first place from which links lead there, which may be that place itself
 abbrev pub owner : Log → ℕ → ℕ
-owner log j = least (λ i. reaches log i j) j
+owner log j = position_or_len (λ i. reaches log i j) (places log)
 
 -- ---- the list of a log
 
--- the items of the places below n that pass a test, those of the farthest place first
-abbrev pub picked : {X : Type 0} → (ℕ → Bool) → (ℕ → List X) → ℕ → List X
-picked p items zero = []
-picked p items (suc n) = picked (λ j. p (suc j)) (λ j. items (suc j)) n ++ (if p 0 then items 0 else [])
+-- the events that a place owns, each with its place, the farthest along the links first
+abbrev pub owned : Log → ℕ → List (ℕ × Event)
+owned log i = reverse (filter (λ (place, event). owner log place == i) (enumerate_from 0 log))
 
--- the items of the places below n, one place after another
-abbrev pub each : {X : Type 0} → (ℕ → List X) → ℕ → List X
-each items zero = []
-each items (suc n) = items 0 ++ each (λ i. items (suc i)) n
-
--- for each place in order, the items of the places that it owns, those of the farthest first
-abbrev pub gathered : {X : Type 0} → (ℕ → ℕ) → (ℕ → List X) → ℕ → List X
-gathered owner_of items n = each (λ i. picked (λ j. owner_of j == i) items n) n
+-- in order, for each place, the events that it owns
+abbrev pub in_list_order : Log → List (ℕ × Event)
+in_list_order log = flat_map (owned log) (places log)
 
 -- a node of a kind is entered; TOMBSTONE is no node's kind
 abbrev pub entering : ℕ → List steps.Step
@@ -64,16 +58,9 @@ steps_of Finish = steps.Exit ∷ []
 steps_of (Token kind n) = steps.Token kind n ∷ []
 steps_of (Error text) = steps.Error text ∷ []
 
--- the steps of the event at a place
-abbrev pub steps_at : Log → ℕ → List steps.Step
-steps_at [] j = []
-steps_at (event ∷ log) zero = steps_of event
-steps_at (event ∷ log) (suc j) = steps_at log j
-
--- The list of a log: in order, the steps of each event that is no Start; and for each Start that owns itself the nodes of the Starts that
--- it owns, the farthest along the links first.
+-- The list of a log: in order, for each place, the steps of the events that it owns, the farthest along the links first.
 abbrev pub list_of : Log → List steps.Step
-list_of log = gathered (owner log) (steps_at log) (length log)
+list_of log = flat_map (λ (place, event). steps_of event) (in_list_order log)
 
 -- ---- the turns of a log
 
