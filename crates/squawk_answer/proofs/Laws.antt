@@ -1,6 +1,6 @@
 -- Bytes have one answer, memory, reading and writing aside.
-use Rattle.std.proofs.Common.{◌≡◌, ◌∙◌, ℕ, ◌<◌, List, ◌⊎◌, Some, None, Ok, Err, inl, inr, arith, ap, sym, refl, false}
-use Rattle.std.specs.Prelude.{Result, IsTrue}
+use Rattle.std.proofs.Common.{◌≡◌, ◌∙◌, ℕ, ◌<◌, List, ◌⊎◌, Some, None, Ok, Err, inl, inr, arith, ap, sym, refl, subst, false}
+use Rattle.std.specs.Prelude.{MatchResult, Result, IsTrue}
 use Rattle.std.proofs.lemmas.Bool.{cases_order}
 use Rattle.squawk_document.specs.Documents.{Told}
 use Rattle.squawk_document.specs.declared.document_error.DocumentError.{DocumentError}
@@ -16,7 +16,7 @@ use Rattle.squawk_script.specs.Accepted as script
 use Rattle.squawk_script.specs.declared.call.Call.{Call}
 use Rattle.squawk_script.specs.declared.script_error.ScriptError.{ScriptError}
 use Rattle.squawk_script.specs.declared.script_error.ScriptError.TheVariants as calls
-use Rattle.squawk_answer.specs.Answers.{IsAnswer, ReadTells, Tells, document_of, lines, parse_refusal, steps, table_for}
+use Rattle.squawk_answer.specs.Answers.{IsAnswer, IsTheAnswer, IsTold, ReadTells, Tells, document_of, lines, parse_refusal, steps, table_for}
 use Rattle.squawk_answer.specs.Lines.{Texts}
 use Rattle.squawk_answer.specs.Fault.{fault_of_parse, fault_of_script, fault_of_table}
 use Rattle.squawk_answer.specs.declared.fault.Fault.{Fault}
@@ -24,12 +24,6 @@ use Rattle.squawk_answer.specs.declared.fault.Fault.TheVariants.{Json, Shape, Te
 
 abbrev Answer : Type 0
 Answer = Result Texts Fault
-
--- an answer that is told of the bytes alone
-abbrev pub IsTold : Answer → Type 0
-IsTold (Err Memory) = ⊥
-IsTold (Err Io) = ⊥
-IsTold answer = Unit {0}
 
 -- ---- the first of several
 
@@ -173,3 +167,30 @@ read-one (Err document.OutOfMemory) a b told told' t t' = elim t [ ]
 -- and so have bytes
 pub answer-one : (input : List ℕ) (a b : Answer) → IsTold a → IsTold b → IsAnswer input a → IsAnswer input b → a ≡ b
 answer-one input a b told told' t t' = read-one (document_of input) a b told told' (read input a told t) (read input b told' t')
+
+-- so an answer to them is the one
+pub the_answer : (input : List ℕ) (answer : Answer) → IsAnswer input answer → IsTheAnswer input answer
+the_answer input answer is = record { is = is; only = λ told other told' is'. answer-one input other answer told' told is' is }
+
+-- what is told of a document is told of its bytes
+answered : (input : List ℕ) (a : Answer) → ReadTells (document_of input) a → IsAnswer input a
+answered input (Ok texts) t = t
+answered input (Err Json) t = t
+answered input (Err Shape) t = t
+answered input (Err TextTooLong) t = t
+answered input (Err (BadToken i)) t = t
+answered input (Err (TextLeft at)) t = t
+answered input (Err (BadCall i)) t = t
+answered input (Err (Unspent m)) t = t
+answered input (Err TooManyEvents) t = t
+answered input (Err TooManyErrors) t = t
+answered input (Err DoesNotFit) t = t
+answered input (Err Memory) t = tt
+answered input (Err Io) t = tt
+
+-- and what a document's answer tells is the one answer to the bytes that it was read of
+pub the_answer-read : {X : Type 0} (input : List ℕ) (d : Told) (texts : X → Texts) (result : Result X Fault) → document_of input ≡ Ok d
+    → MatchResult result (λ x. Tells d (Ok (texts x))) (λ fault. Tells d (Err fault))
+    → MatchResult result (λ x. IsTheAnswer input (Ok (texts x))) (λ fault. IsTheAnswer input (Err fault))
+the_answer-read input d texts (Ok x) is t = the_answer input (Ok (texts x)) (answered input (Ok (texts x)) (subst (λ r. ReadTells r (Ok (texts x))) (sym is) t))
+the_answer-read input d texts (Err fault) is t = the_answer input (Err fault) (answered input (Err fault) (subst (λ r. ReadTells r (Err fault)) (sym is) t))

@@ -90,3 +90,14 @@ abbrev pub IsAnswer : List ℕ → Result Texts Fault → Type 0
 IsAnswer input (Err Memory) = Unit {0}
 IsAnswer input (Err Io) = Unit {0}
 IsAnswer input answer = ReadTells (document_of input) answer
+
+-- an answer that is told of the bytes alone: no memory was refused, and no read or write failed
+abbrev pub IsTold : Result Texts Fault → Type 0
+IsTold (Err Memory) = ⊥
+IsTold (Err Io) = ⊥
+IsTold answer = Unit {0}
+
+-- Bytes have one answer: another that is told of them is this one.
+pub record IsTheAnswer (input : List ℕ) (answer : Result Texts Fault) : Type 0 where
+  pub is : IsAnswer input answer
+  pub only : IsTold answer → (other : Result Texts Fault) → IsTold other → IsAnswer input other → other ≡ answer

@@ -4,7 +4,7 @@ ghost use Rattle.squawk_document.specs.Documents.{told};
 ghost use Rattle.squawk_kinds.specs.Kinds.{EOF};
 ghost use Rattle.squawk_kinds.specs.TokenSets.{has};
 ghost use Rattle.squawk_answer.specs.AnswerLines.{texts_of};
-ghost use Rattle.squawk_answer.specs.Answers.{IsAnswer, Tells};
+ghost use Rattle.squawk_answer.specs.Answers.{IsTheAnswer, Tells};
 
 use crate::fault::Fault;
 use crate::lines::{Lines, error_lines};
@@ -26,8 +26,8 @@ impl Answer {
     /// The answer to what was read.
     pub fn new(alloc: Global, input: &[u8]) -> Result<Answer, Fault>
         ensures answer { MatchResult result
-            (λ a. IsAnswer input.now (Ok (texts_of a)))
-            (λ fault. IsAnswer input.now (Err fault)) }
+            (λ a. IsTheAnswer input.now (Ok (texts_of a)))
+            (λ fault. IsTheAnswer input.now (Err fault)) }
         ensures unwritten { IfErr result (λ fault. fault ≢ Fault.Io) }
     {
         let value = value::parse(alloc, input)?;

@@ -2,7 +2,7 @@
 ghost use Rattle.std.specs.Prelude.{◌≡◌, ◌≢◌, Ok, Err, IfSome};
 ghost use Rattle.std.specs.Io.KnownBytes.{Appends};
 ghost use Rattle.std.specs.Process.{exit_status};
-ghost use Rattle.squawk_answer.specs.Answers.{IsAnswer};
+ghost use Rattle.squawk_answer.specs.Answers.{IsTheAnswer};
 ghost use Rattle.squawk_answer.specs.Fault.{status_of};
 ghost use Rattle.squawk_answer.specs.Lines.{Texts, joined};
 
@@ -21,10 +21,10 @@ pub fn program<R: Read, W: Write, E: Write>(
     error_writer: &mut E,
 ) -> ExitCode
     ensures success { exit_status result ≡ 0 → IfSome (R.remaining reader.old) (λ input. (texts : Texts)
-        × IsAnswer input (Ok texts) × Appends (W.contents writer.old) (W.contents writer.new) (joined texts)) }
+        × IsTheAnswer input (Ok texts) × Appends (W.contents writer.old) (W.contents writer.new) (joined texts)) }
     ensures silent { exit_status result ≡ 0 → error_writer.new ≡ error_writer.old }
     ensures failure { exit_status result ≢ 0 → (fault : Fault) × (exit_status result ≡ status_of fault)
-        × IfSome (R.remaining reader.old) (λ input. IsAnswer input (Err fault))
+        × IfSome (R.remaining reader.old) (λ input. IsTheAnswer input (Err fault))
         × (fault ≢ Fault.Io → writer.new ≡ writer.old) }
 {
     match run(alloc, reader, writer) {

@@ -2,7 +2,7 @@
 ghost use Rattle.std.specs.Prelude.{◌≡◌, ◌≢◌, ◌≤◌, true, false, Ok, Err, IfErr, IfSome, OnOk, OnErr, ◌⊎◌};
 ghost use Rattle.std.specs.Io.KnownBytes.{Appends, IsAtEnd};
 ghost use Rattle.squawk_answer.specs.AnswerLines.{texts_of};
-ghost use Rattle.squawk_answer.specs.Answers.{IsAnswer};
+ghost use Rattle.squawk_answer.specs.Answers.{IsTheAnswer};
 ghost use Rattle.squawk_answer.specs.Lines.{Texts, joined};
 ghost use Rattle.squawk_answer.specs.Watched.{most_reads};
 
@@ -20,8 +20,8 @@ use std::io::{Read, Write};
 /// there, since that watch is gone when `run` ends.
 pub fn run<R: Read, W: Write>(alloc: Global, reader: &mut R, writer: &mut W) -> Result<(), Fault>
     ensures ok { OnOk result (IfSome (R.remaining reader.old) (λ input. (texts : Texts)
-        × IsAnswer input (Ok texts) × Appends (W.contents writer.old) (W.contents writer.new) (joined texts))) }
-    ensures fault { IfErr result (λ fault. IfSome (R.remaining reader.old) (λ input. IsAnswer input (Err fault))) }
+        × IsTheAnswer input (Ok texts) × Appends (W.contents writer.old) (W.contents writer.new) (joined texts))) }
+    ensures fault { IfErr result (λ fault. IfSome (R.remaining reader.old) (λ input. IsTheAnswer input (Err fault))) }
     // Only a fault of writing can have written anything.
     ensures unwritten { IfErr result (λ fault. fault ≢ Fault.Io → writer.new ≡ writer.old) }
     ensures unread { OnErr result ((writer.new ≡ writer.old) ⊎ IsAtEnd (R.remaining reader.new)) }
@@ -39,8 +39,8 @@ pub fn run_watched<R: Read, W: Write>(
     requires unread { watch.old.reads ≡ 0 }
     requires unfailed { watch.old.failed ≡ false }
     ensures ok { OnOk result (IfSome (R.remaining reader.old) (λ input. (texts : Texts)
-        × IsAnswer input (Ok texts) × Appends (W.contents writer.old) (W.contents writer.new) (joined texts))) }
-    ensures fault { IfErr result (λ fault. IfSome (R.remaining reader.old) (λ input. IsAnswer input (Err fault))) }
+        × IsTheAnswer input (Ok texts) × Appends (W.contents writer.old) (W.contents writer.new) (joined texts))) }
+    ensures fault { IfErr result (λ fault. IfSome (R.remaining reader.old) (λ input. IsTheAnswer input (Err fault))) }
     ensures unwritten { IfErr result (λ fault. fault ≢ Fault.Io → writer.new ≡ writer.old) }
     ensures unread { OnErr result ((writer.new ≡ writer.old) ⊎ IsAtEnd (R.remaining reader.new)) }
     // It reads no more often than it may, and `Io` comes where a read or a write failed, or there.
