@@ -1,7 +1,9 @@
 -- Which event of a run the limits of its parser refuse.
-use Rattle.std.proofs.Common.{◌≡◌, ◌∙◌, ℕ, zero, suc, ◌+◌, ◌<◌, ◌≤◌, Bool, true, false, Some, None, List, [], ◌∷◌, ◌++◌, length, map, arith, ap, sym, refl, subst, append_assoc, length-append}
+use Rattle.std.proofs.Common.{◌≡◌, ◌∙◌, ◌⊎◌, inl, inr, ℕ, zero, suc, ◌+◌, ◌<◌, ◌≤◌, Bool, true, false, Some, None, List, [], ◌∷◌, ◌++◌, length, map, take, arith, ap, sym, refl, subst, append_assoc, length-append}
 use Rattle.std.specs.Prelude.{◌≢◌}
-use Rattle.std.proofs.lemmas.List.{length-map, map-append}
+use Rattle.std.proofs.Math.Seq.{take-append_seam}
+use Rattle.std.proofs.lemmas.Bool.{cases_lt, le-ltb, lt-ltb}
+use Rattle.std.proofs.lemmas.List.{length-map, map-append, take-append-le, take_all}
 use Rattle.squawk_output.specs.Steps.{Step, errors_in, is_error}
 use Rattle.squawk_log.specs.Draft.{Draft}
 use Rattle.squawk_parser.specs.Recorded.{Puts}
@@ -12,35 +14,73 @@ use Rattle.squawk_script.specs.Events.{errors_among, refusal}
 use Rattle.squawk_script.specs.Slots.{FailsAt}
 use Rattle.squawk_script.proofs.Events.{errors_among-append, errors_among-cons, errors_among-steps}
 
+-- ---- the three cases
+
+module _ (events errors : ℕ) (es : List Bool) where
+  -- where there are too many errors among the events that there is room for
+  pub is-errors : errors < errors_among (take events es) → refusal events errors es ≡ Some TooManyErrors
+  is-errors many = rw (lt-ltb errors (errors_among (take events es)) many) refl
+
+  -- where there are not, but there are more events
+  pub is-events : errors_among (take events es) ≤ errors → events < length es → refusal events errors es ≡ Some TooManyEvents
+  is-events few more = rw (le-ltb errors (errors_among (take events es)) few, lt-ltb events (length es) more) refl
+
+  -- where there are no more events either
+  pub is-none : errors_among (take events es) ≤ errors → length es ≤ events → refusal events errors es ≡ None
+  is-none few fit = rw (le-ltb errors (errors_among (take events es)) few, le-ltb events (length es) fit) refl
+
+  -- which of them it is
+  pub data Case : Type 0 where
+    Errors : errors < errors_among (take events es) → Case
+    Events : errors_among (take events es) ≤ errors → events < length es → Case
+    Fit : errors_among (take events es) ≤ errors → length es ≤ events → Case
+
+  pub the-case : Case
+  the-case = first (cases_lt errors (errors_among (take events es)))
+    where
+      second : errors_among (take events es) ≤ errors → (events < length es) ⊎ (length es ≤ events) → Case
+      second few (inl more) = Events few more
+      second few (inr fit) = Fit few fit
+
+      first : (errors < errors_among (take events es)) ⊎ (errors_among (take events es) ≤ errors) → Case
+      first (inl many) = Errors many
+      first (inr few) = second few (cases_lt events (length es))
+
+-- ---- some events, and more behind them
+
+-- the errors among the first of some events are errors among the first of all
+more-errors-behind : (n : ℕ) (xs ys : List Bool) → errors_among (take n xs) ≤ errors_among (take n (xs ++ ys))
+more-errors-behind zero xs ys = omega arith
+more-errors-behind (suc n) [] ys = omega arith
+more-errors-behind (suc n) (x ∷ xs) ys = omega (arith, more-errors-behind n xs ys, errors_among-cons x (take n xs), errors_among-cons x (take n (xs ++ ys)))
+
 -- what refuses the first events refuses all
 pub refusal-append : (events errors : ℕ) (xs ys : List Bool) (reason : ParseError) → refusal events errors xs ≡ Some reason → refusal events errors (xs ++ ys) ≡ Some reason
-refusal-append events errors [] ys reason is = absurd (cc)
-refusal-append zero errors (x ∷ xs) ys reason is = is
-refusal-append (suc events) errors (false ∷ xs) ys reason is = refusal-append events errors xs ys reason is
-refusal-append (suc events) zero (true ∷ xs) ys reason is = is
-refusal-append (suc events) (suc errors) (true ∷ xs) ys reason is = refusal-append events errors xs ys reason is
+refusal-append events errors xs ys reason is = cases (the-case events errors xs)
+  where
+    cases : Case events errors xs → refusal events errors (xs ++ ys) ≡ Some reason
+    cases (Errors many) = is-errors events errors (xs ++ ys) (omega (arith, many, more-errors-behind events xs ys)) ∙ (sym (is-errors events errors xs many) ∙ is)
+    cases (Events few more) =
+        let same = take-append-le events xs ys (omega (arith, more)) in
+        is-events events errors (xs ++ ys) (omega (arith, few, ap errors_among same)) (omega (arith, more, length-append xs ys)) ∙ (sym (is-events events errors xs few more) ∙ is)
+    cases (Fit few fit) = absurd (let p = sym (is-none events errors xs few fit) ∙ is in cc)
 
 -- an event that finds no room for it
 pub refused-event : (events errors : ℕ) (front : List Bool) (x : Bool) (rest : List Bool) → length front ≡ events → errors_among front ≤ errors
     → refusal events errors (front ++ x ∷ rest) ≡ Some TooManyEvents
-refused-event zero errors [] x rest full fit = refl
-refused-event (suc events) errors [] x rest full fit = absurd (omega arith)
-refused-event zero errors (y ∷ front) x rest full fit = absurd (omega arith)
-refused-event (suc events) errors (false ∷ front) x rest full fit =
-    refused-event events errors front x rest (omega arith) (omega (arith, errors_among-cons false front))
-refused-event (suc events) zero (true ∷ front) x rest full fit = absurd (omega (arith, errors_among-cons true front))
-refused-event (suc events) (suc errors) (true ∷ front) x rest full fit =
-    refused-event events errors front x rest (omega arith) (omega (arith, errors_among-cons true front))
+refused-event events errors front x rest full fit =
+    let first : take events (front ++ x ∷ rest) ≡ front = subst (λ n. take n (front ++ x ∷ rest) ≡ front) full (take-append_seam front (x ∷ rest)) in
+    is-events events errors (front ++ x ∷ rest) (omega (arith, fit, ap errors_among first)) (omega (arith, full, length-append front (x ∷ rest)))
 
 -- an error that finds none among the errors
 pub refused-error : (events errors : ℕ) (front rest : List Bool) → length front < events → errors_among front ≡ errors
     → refusal events errors (front ++ true ∷ rest) ≡ Some TooManyErrors
-refused-error zero errors front rest lt full = absurd (omega arith)
-refused-error (suc events) zero [] rest lt full = refl
-refused-error (suc events) (suc errors) [] rest lt full = absurd (omega arith)
-refused-error (suc events) errors (false ∷ front) rest lt full = refused-error events errors front rest (omega arith) (omega (arith, errors_among-cons false front))
-refused-error (suc events) zero (true ∷ front) rest lt full = absurd (omega (arith, errors_among-cons true front))
-refused-error (suc events) (suc errors) (true ∷ front) rest lt full = refused-error events errors front rest (omega arith) (omega (arith, errors_among-cons true front))
+refused-error events errors front rest lt full =
+    let upto : List Bool = front ++ true ∷ [] in
+    let all : upto ++ rest ≡ front ++ true ∷ rest = append_assoc front (true ∷ []) rest in
+    let first : take events upto ≡ upto = take_all events upto (omega (arith, lt, length-append front (true ∷ []))) in
+    ap (refusal events errors) (sym all)
+    ∙ is-errors events errors (upto ++ rest) (omega (arith, full, errors_among-append front (true ∷ []), ap errors_among first, more-errors-behind events upto rest))
 
 -- ---- what a parser is refused
 
@@ -93,15 +133,3 @@ module _ (old new : State) where
   changes-fails edited changes goes before count errors reason fails told =
       let same : new.first_reason ≡ old.first_reason = ap (λ s. s.first_reason) (changes.goes goes) in
       absurd (let p = sym fails ∙ (same ∙ goes) in cc)
-
--- there is room for the events and for the errors among them
-abbrev pub Fits : ℕ → ℕ → List Bool → Type 0
-Fits events errors es = (length es ≤ events) × (errors_among es ≤ errors)
-
--- where there is, none is refused
-pub none-refused : (events errors : ℕ) (es : List Bool) → Fits events errors es → refusal events errors es ≡ None
-none-refused events errors [] fits = refl
-none-refused zero errors (e ∷ es) fits = absurd (omega (arith, fits.0))
-none-refused (suc events) errors (false ∷ es) fits = none-refused events errors es (omega (arith, fits.0), omega (arith, fits.1, errors_among-cons false es))
-none-refused (suc events) zero (true ∷ es) fits = absurd (omega (arith, fits.1, errors_among-cons true es))
-none-refused (suc events) (suc errors) (true ∷ es) fits = none-refused events errors es (omega (arith, fits.0), omega (arith, fits.1, errors_among-cons true es))
