@@ -1,5 +1,5 @@
 -- Which event of a run the limits of its parser refuse.
-use Rattle.std.proofs.Common.{◌≡◌, ◌∙◌, ◌⊎◌, inl, inr, ℕ, zero, suc, ◌+◌, ◌<◌, ◌≤◌, Bool, true, false, Some, None, List, [], ◌∷◌, ◌++◌, length, map, take, arith, ap, sym, refl, subst, append_assoc, length-append}
+use Rattle.std.proofs.Common.{◌≡◌, ◌∙◌, ◌⊎◌, inl, inr, ℕ, zero, suc, ◌+◌, ◌<◌, ◌≤◌, Bool, true, false, Option, Some, None, List, [], ◌∷◌, ◌++◌, length, map, take, arith, ap, sym, refl, subst, append_assoc, length-append}
 use Rattle.std.specs.Prelude.{◌≢◌}
 use Rattle.std.proofs.Math.Seq.{take-append_seam}
 use Rattle.std.proofs.lemmas.Bool.{cases_lt, le-ltb, lt-ltb}
@@ -14,37 +14,32 @@ use Rattle.squawk_script.specs.Events.{errors_among, refusal}
 use Rattle.squawk_script.specs.Slots.{FailsAt}
 use Rattle.squawk_script.proofs.Events.{errors_among-append, errors_among-cons, errors_among-steps}
 
--- ---- the three cases
+-- ---- what a refusal tells
 
 module _ (events errors : ℕ) (es : List Bool) where
-  -- where there are too many errors among the events that there is room for
-  pub is-errors : errors < errors_among (take events es) → refusal events errors es ≡ Some TooManyErrors
+  -- of the events that there is room for, more are errors than may be; they are not, but there are more events; there are none
+  abbrev pub Tells : Option ParseError → Type 0
+  Tells (Some TooManyErrors) = errors < errors_among (take events es)
+  Tells (Some TooManyEvents) = (errors_among (take events es) ≤ errors) × (events < length es)
+  Tells (Some OutOfMemory) = ⊥
+  Tells None = (errors_among (take events es) ≤ errors) × (length es ≤ events)
+
+  pub is-errors : Tells (Some TooManyErrors) → refusal events errors es ≡ Some TooManyErrors
   is-errors many = rw (lt-ltb errors (errors_among (take events es)) many) refl
 
-  -- where there are not, but there are more events
-  pub is-events : errors_among (take events es) ≤ errors → events < length es → refusal events errors es ≡ Some TooManyEvents
-  is-events few more = rw (le-ltb errors (errors_among (take events es)) few, lt-ltb events (length es) more) refl
+  pub is-events : Tells (Some TooManyEvents) → refusal events errors es ≡ Some TooManyEvents
+  is-events (few, more) = rw (le-ltb errors (errors_among (take events es)) few, lt-ltb events (length es) more) refl
 
-  -- where there are no more events either
-  pub is-none : errors_among (take events es) ≤ errors → length es ≤ events → refusal events errors es ≡ None
-  is-none few fit = rw (le-ltb errors (errors_among (take events es)) few, le-ltb events (length es) fit) refl
+  pub is-none : Tells None → refusal events errors es ≡ None
+  is-none (few, fit) = rw (le-ltb errors (errors_among (take events es)) few, le-ltb events (length es) fit) refl
 
-  -- which of them it is
-  pub data Case : Type 0 where
-    Errors : errors < errors_among (take events es) → Case
-    Events : errors_among (take events es) ≤ errors → events < length es → Case
-    Fit : errors_among (take events es) ≤ errors → length es ≤ events → Case
-
-  pub the-case : Case
-  the-case = first (cases_lt errors (errors_among (take events es)))
+  pub tells : (answer : Option ParseError) → refusal events errors es ≡ answer → Tells answer
+  tells answer is = subst Tells is (cases (cases_lt errors (errors_among (take events es))) (cases_lt events (length es)))
     where
-      second : errors_among (take events es) ≤ errors → (events < length es) ⊎ (length es ≤ events) → Case
-      second few (inl more) = Events few more
-      second few (inr fit) = Fit few fit
-
-      first : (errors < errors_among (take events es)) ⊎ (errors_among (take events es) ≤ errors) → Case
-      first (inl many) = Errors many
-      first (inr few) = second few (cases_lt events (length es))
+      cases : (errors < errors_among (take events es)) ⊎ (errors_among (take events es) ≤ errors) → (events < length es) ⊎ (length es ≤ events) → Tells (refusal events errors es)
+      cases (inl many) size = subst Tells (sym (is-errors many)) many
+      cases (inr few) (inl more) = subst Tells (sym (is-events (few, more))) (few, more)
+      cases (inr few) (inr fit) = subst Tells (sym (is-none (few, fit))) (few, fit)
 
 -- ---- some events, and more behind them
 
@@ -56,21 +51,21 @@ more-errors-behind (suc n) (x ∷ xs) ys = omega (arith, more-errors-behind n xs
 
 -- what refuses the first events refuses all
 pub refusal-append : (events errors : ℕ) (xs ys : List Bool) (reason : ParseError) → refusal events errors xs ≡ Some reason → refusal events errors (xs ++ ys) ≡ Some reason
-refusal-append events errors xs ys reason is = cases (the-case events errors xs)
+refusal-append events errors xs ys reason is = cases reason (tells events errors xs (Some reason) is)
   where
-    cases : Case events errors xs → refusal events errors (xs ++ ys) ≡ Some reason
-    cases (Errors many) = is-errors events errors (xs ++ ys) (omega (arith, many, more-errors-behind events xs ys)) ∙ (sym (is-errors events errors xs many) ∙ is)
-    cases (Events few more) =
-        let same = take-append-le events xs ys (omega (arith, more)) in
-        is-events events errors (xs ++ ys) (omega (arith, few, ap errors_among same)) (omega (arith, more, length-append xs ys)) ∙ (sym (is-events events errors xs few more) ∙ is)
-    cases (Fit few fit) = absurd (let p = sym (is-none events errors xs few fit) ∙ is in cc)
+    cases : (r : ParseError) → Tells events errors xs (Some r) → refusal events errors (xs ++ ys) ≡ Some r
+    cases TooManyErrors many = is-errors events errors (xs ++ ys) (omega (arith, many, more-errors-behind events xs ys))
+    cases TooManyEvents (few, more) =
+        let same : take events (xs ++ ys) ≡ take events xs = take-append-le events xs ys (omega (arith, more)) in
+        is-events events errors (xs ++ ys) (omega (arith, few, ap errors_among same), omega (arith, more, length-append xs ys))
+    cases OutOfMemory never = absurd never
 
 -- an event that finds no room for it
 pub refused-event : (events errors : ℕ) (front : List Bool) (x : Bool) (rest : List Bool) → length front ≡ events → errors_among front ≤ errors
     → refusal events errors (front ++ x ∷ rest) ≡ Some TooManyEvents
 refused-event events errors front x rest full fit =
     let first : take events (front ++ x ∷ rest) ≡ front = subst (λ n. take n (front ++ x ∷ rest) ≡ front) full (take-append_seam front (x ∷ rest)) in
-    is-events events errors (front ++ x ∷ rest) (omega (arith, fit, ap errors_among first)) (omega (arith, full, length-append front (x ∷ rest)))
+    is-events events errors (front ++ x ∷ rest) (omega (arith, fit, ap errors_among first), omega (arith, full, length-append front (x ∷ rest)))
 
 -- an error that finds none among the errors
 pub refused-error : (events errors : ℕ) (front rest : List Bool) → length front < events → errors_among front ≡ errors
@@ -81,6 +76,23 @@ refused-error events errors front rest lt full =
     let first : take events upto ≡ upto = take_all events upto (omega (arith, lt, length-append front (true ∷ []))) in
     ap (refusal events errors) (sym all)
     ∙ is-errors events errors (upto ++ rest) (omega (arith, full, errors_among-append front (true ∷ []), ap errors_among first, more-errors-behind events upto rest))
+
+-- one of the errors, behind as many others
+pub record HasError (n : ℕ) (es : List Bool) : Type 0 where
+  pub front : List Bool
+  pub rest : List Bool
+  pub is : es ≡ front ++ true ∷ rest
+  pub behind : errors_among front ≡ n
+
+pub error-at : (n : ℕ) (es : List Bool) → n < errors_among es → HasError n es
+error-at n [] lt = absurd (omega (arith, lt))
+error-at n (false ∷ es) lt =
+    let e = error-at n es (omega (arith, lt, errors_among-cons false es)) in
+    record { front = false ∷ e.front; rest = e.rest; is = ap (λ xs. false ∷ xs) e.is; behind = omega (arith, e.behind, errors_among-cons false e.front) }
+error-at zero (true ∷ es) lt = record { front = []; rest = es; is = refl; behind = refl }
+error-at (suc n) (true ∷ es) lt =
+    let e = error-at n es (omega (arith, lt, errors_among-cons true es)) in
+    record { front = true ∷ e.front; rest = e.rest; is = ap (λ xs. true ∷ xs) e.is; behind = omega (arith, e.behind, errors_among-cons true e.front) }
 
 -- ---- what a parser is refused
 

@@ -32,12 +32,12 @@ events_of words input calls = events_from words input begin calls
 abbrev pub errors_among : List Bool → ℕ
 errors_among events = count_by (λ event. event) events
 
--- Where there is room for so many events, and for so many errors among them: why the first event that finds no room is refused, if any
--- is. Counted from 0, that is error number `errors`, where it stands before place `events`, or else the event at that place.
+-- Where there is room for so many events, and for so many errors among them: why the first event that finds no room is refused, if one
+-- is. Counted from 0, that is error number `max_errors`, where it stands before place `max_events`, or else the event at that place.
 abbrev pub refusal : ℕ → ℕ → List Bool → Option ParseError
-refusal events errors es =
-    if nat_lt errors (errors_among (take events es)) then Some TooManyErrors else
-    if nat_lt events (length es) then Some TooManyEvents else None
+refusal max_events max_errors events =
+    if nat_lt max_errors (errors_among (take max_events events)) then Some TooManyErrors else
+    if nat_lt max_events (length events) then Some TooManyEvents else None
 
 -- A parser that makes the calls and fails, and not for want of memory, fails for the reason for which the limits that it began with refuse
 -- one of their events.
