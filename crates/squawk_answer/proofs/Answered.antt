@@ -16,6 +16,7 @@ use Rattle.squawk_parser.specs.declared.parser.parse_error.ParseError.TheVariant
 use Rattle.squawk_script.specs.Meaning.{Meaning, run_of}
 use Rattle.squawk_answer.specs.Answers.{HasScript, Tells, lines, parse_refusal, parser_input, steps, table_for}
 use Rattle.squawk_script.specs.Events.{FailsByLimits, IsRunOf, events_of, refusal}
+use Rattle.squawk_script.proofs.Laws.{unrefused}
 use Rattle.squawk_answer.specs.declared.fault.Fault.{Fault}
 use Rattle.squawk_answer.specs.Fault.{fault_of_parse}
 use Rattle.squawk_answer.specs.Lines.{Texts, last_line, lex_lines, step_lines}
@@ -68,7 +69,7 @@ module _ (d : Told) (script : Meaning) (input : List Entry) (output : Walk) (sam
   none-refused within =
       let events : parse.draft.recorded ≤ 4294967295 = omega (arith, parse.recorded, within.0) in
       let errors : errors_in (plain parse.draft.items) ≤ 2147483648 = subst (λ steps. errors_in steps ≤ 2147483648) parse.steps within.1 in
-      sym (refusal-same d script input same_script same_input) ∙ parse.left.unrefused 4294967295 2147483648 events errors
+      sym (refusal-same d script input same_script same_input) ∙ unrefused script input parse.draft parse.left 4294967295 2147483648 (events, errors)
 
 -- two texts
 abbrev texts : List ℕ → List ℕ → Texts

@@ -1,5 +1,5 @@
--- What calls mean over small inputs: what they give is worked out by hand.
-use Rattle.std.proofs.Common.{◌≡◌, ℕ, true, false, List, [], ◌∷◌, refl}
+-- What calls mean over small inputs, and which events limits refuse: what they give is worked out by hand.
+use Rattle.std.proofs.Common.{◌≡◌, ℕ, Bool, true, false, Some, None, List, [], ◌∷◌, refl}
 use Rattle.squawk_kinds.specs.Kinds.{COLON, COLON_EQ, EOF, EQ, ERROR, IDENT}
 use Rattle.squawk_kinds.specs.TokenSets as sets
 use Rattle.squawk_kinds.specs.TokenSets.{no_kinds}
@@ -8,7 +8,9 @@ use Rattle.squawk_output.specs.Steps as steps
 use Rattle.squawk_output.specs.Steps.{Step, Enter, Exit, Token}
 use Rattle.squawk_log.specs.Draft.{plain}
 use Rattle.squawk_parser.specs.Words.{no_words}
+use Rattle.squawk_parser.specs.declared.parser.parse_error.ParseError.TheVariants.{TooManyEvents, TooManyErrors}
 use Rattle.squawk_script.specs.Accepted.{is_at_hand, is_open, may_follow}
+use Rattle.squawk_script.specs.Events.{refusal}
 use Rattle.squawk_script.specs.Meaning.{Run, run_of}
 use Rattle.squawk_script.specs.declared.call.Call.{Call}
 use Rattle.squawk_script.specs.declared.call.Call.TheVariants.{Start, Complete, Abandon, Precede, ExtendTo, Eat, BumpAny, BumpRemap, Error, ErrRecover, ErrAndBump}
@@ -79,6 +81,28 @@ skipped_token : leaves (word ∷ []) (ErrAndBump (101 ∷ []) ∷ ErrRecover (10
     (Enter ERROR ∷ steps.Error (101 ∷ []) ∷ Token 3 1 ∷ Exit ∷ Enter ERROR ∷ steps.Error (102 ∷ []) ∷ Exit ∷ steps.Error (103 ∷ []) ∷ []) 8 10 1
 unfolding sets.has
 skipped_token = (refl, refl, refl, refl)
+
+-- ---- events that find no room
+
+-- each is an error or not
+abbrev two_errors : List Bool
+two_errors = false ∷ true ∷ false ∷ true ∷ []
+
+room_for_all : refusal 4 2 two_errors ≡ None
+room_for_all = refl
+
+room_for_two : refusal 2 1 two_errors ≡ Some TooManyEvents
+room_for_two = refl
+
+room_for_one_error : refusal 4 1 two_errors ≡ Some TooManyErrors
+room_for_one_error = refl
+
+-- the first that finds no room counts, and of one that is an error the room for events
+errors_are_first : refusal 3 0 two_errors ≡ Some TooManyErrors
+errors_are_first = refl
+
+both_at_once : refusal 1 0 two_errors ≡ Some TooManyEvents
+both_at_once = refl
 
 -- ---- calls that may follow others
 

@@ -1,18 +1,23 @@
 -- What a script may leave is one plain list, one number of events, and one of turns. It may fail for one reason, and only where its events or its
--- errors are too many.
-use Rattle.std.proofs.Common.{◌≡◌, ◌≢◌, ◌∙◌, ℕ, zero, suc, ◌<◌, ◌≤◌, Bool, true, false, Some, None, List, [], ◌∷◌, length, arith, sym}
+-- errors are too many: for the first event that finds no room.
+use Rattle.std.proofs.Common.{◌≡◌, ◌≢◌, ◌∙◌, ℕ, suc, ◌<◌, ◌≤◌, Bool, true, false, Some, None, List, ◌∷◌, ◌++◌, length, get_or, take, drop, arith, ap, refl, sym, append_assoc, length-append}
+use Rattle.std.proofs.Math.Seq.{split_at}
+use Rattle.std.proofs.lemmas.List.{length-take, length-take-le, take-append-drop, take_all}
 use Rattle.squawk_table.specs.ParserInput.{Entry}
 use Rattle.squawk_output.specs.Steps.{errors_in}
 use Rattle.squawk_log.specs.Draft.{Draft, plain}
-use Rattle.squawk_parser.specs.State.{State}
+use Rattle.squawk_parser.specs.State.{State, IsReason}
+use Rattle.squawk_parser.specs.Words.{Words}
 use Rattle.squawk_parser.specs.declared.parser.grammar.EntryPoint.{EntryPoint}
 use Rattle.squawk_parser.specs.declared.parser.parse_error.ParseError.{ParseError}
 use Rattle.squawk_parser.specs.declared.parser.parse_error.ParseError.TheVariants.{OutOfMemory, TooManyEvents, TooManyErrors}
-use Rattle.squawk_script.specs.Events.{errors_among, refusal}
-use Rattle.squawk_script.specs.Meaning.{Meaning}
+use Rattle.squawk_script.specs.Events.{IsRunOf, errors_among, events_of, refusal}
+use Rattle.squawk_script.specs.Meaning.{Meaning, run_of}
+use Rattle.squawk_script.specs.declared.call.Call.{Call}
 use Rattle.squawk_script.specs.contracts.script.ScriptGrammar.TheImpl as grammar
-use Rattle.squawk_script.proofs.Events.{errors_among-cons}
-use Rattle.squawk_script.proofs.Refusals.{Fits}
+use Rattle.squawk_parser.proofs.RecordedItems.{errors-plain}
+use Rattle.squawk_script.proofs.Events.{errors-events, errors_among-append, recorded-events}
+use Rattle.squawk_script.proofs.Refusals.{Tells, error-at, is-none, refused-error, refused-event, tells}
 
 module _ (script : Meaning) (entry other : EntryPoint) (input : List Entry) (d e : Draft) where
   -- two drafts that a script may leave over an input, from the same entry point or from both
@@ -30,31 +35,107 @@ module _ (script : Meaning) (entry other : EntryPoint) (input : List Entry) (d e
 
 -- ---- refusals
 
--- where none is refused, there is room for the events and for the errors among them
-pub room-for-all : (events errors : ℕ) (es : List Bool) → refusal events errors es ≡ None → Fits events errors es
-room-for-all events errors [] is = (omega arith, omega arith)
-room-for-all zero errors (e ∷ es) is = absurd (cc)
-room-for-all (suc events) errors (false ∷ es) is =
-    let fits = room-for-all events errors es is in (omega (arith, fits.0), omega (arith, fits.1, errors_among-cons false es))
-room-for-all (suc events) zero (true ∷ es) is = absurd (cc)
-room-for-all (suc events) (suc errors) (true ∷ es) is =
-    let fits = room-for-all events errors es is in (omega (arith, fits.0), omega (arith, fits.1, errors_among-cons true es))
+-- there is room for the events and for the errors among them
+abbrev pub Fits : ℕ → ℕ → List Bool → Type 0
+Fits events errors es = (length es ≤ events) × (errors_among es ≤ errors)
 
--- too many events are refused only where there are more than there is room for
-pub more-events : (events errors : ℕ) (es : List Bool) → refusal events errors es ≡ Some TooManyEvents → events < length es
-more-events events errors [] is = absurd (cc)
-more-events zero errors (e ∷ es) is = omega arith
-more-events (suc events) errors (false ∷ es) is = omega (arith, more-events events errors es is)
-more-events (suc events) zero (true ∷ es) is = absurd (cc)
-more-events (suc events) (suc errors) (true ∷ es) is = omega (arith, more-events events errors es is)
+-- One of the events finds no room, and that for this reason, which isn't want of memory. Those in front of it found room.
+pub record IsFirstRefused (events errors : ℕ) (es : List Bool) (reason : ParseError) : Type 0 where
+  pub front : List Bool
+  pub next : Bool
+  pub rest : List Bool
+  pub is : es ≡ front ++ next ∷ rest
+  pub why : IsReason events errors (length front) (errors_among front) next reason
+  pub limit : reason ≢ OutOfMemory
 
--- and too many errors only where there are more errors than there is room for
-pub more-errors : (events errors : ℕ) (es : List Bool) → refusal events errors es ≡ Some TooManyErrors → errors < errors_among es
-more-errors events errors [] is = absurd (cc)
-more-errors zero errors (e ∷ es) is = absurd (cc)
-more-errors (suc events) errors (false ∷ es) is = omega (arith, more-errors events errors es is, errors_among-cons false es)
-more-errors (suc events) zero (true ∷ es) is = omega (arith, errors_among-cons true es)
-more-errors (suc events) (suc errors) (true ∷ es) is = omega (arith, more-errors events errors es is, errors_among-cons true es)
+module _ (events errors : ℕ) (es : List Bool) where
+  -- where there is room for all, none is refused
+  pub none-refused : Fits events errors es → refusal events errors es ≡ None
+  none-refused fits = is-none events errors es (omega (arith, fits.1, ap errors_among (take_all events es fits.0)), fits.0)
+
+  -- where none is refused, there is room for all
+  pub room-for-all : refusal events errors es ≡ None → Fits events errors es
+  room-for-all is =
+      let told = tells events errors es None is in (told.1, omega (arith, told.0, ap errors_among (take_all events es told.1)))
+
+  -- too many events are refused only where there are more than there is room for
+  pub more-events : refusal events errors es ≡ Some TooManyEvents → events < length es
+  more-events is = (tells events errors es (Some TooManyEvents) is).1
+
+  -- and too many errors only where there are more errors than there is room for
+  pub more-errors : refusal events errors es ≡ Some TooManyErrors → errors < errors_among es
+  more-errors is =
+      let many = tells events errors es (Some TooManyErrors) is in
+      omega (arith, many, ap errors_among (take-append-drop events es), errors_among-append (take events es) (drop events es))
+
+  -- what is refused is the first event that finds no room
+  pub first-refused : (reason : ParseError) → refusal events errors es ≡ Some reason → IsFirstRefused events errors es reason
+  first-refused reason is = cases reason (tells events errors es (Some reason) is)
+    where
+      cases : (r : ParseError) → Tells events errors es (Some r) → IsFirstRefused events errors es r
+      cases TooManyErrors many =
+          let e = error-at errors (take events es) many in
+          record {
+            front = e.front;
+            next = true;
+            rest = e.rest ++ drop events es;
+            is = sym (take-append-drop events es) ∙ (ap (λ xs. xs ++ drop events es) e.is ∙ append_assoc e.front (true ∷ e.rest) (drop events es));
+            why = (refl, e.behind, omega (arith, length-take events es, ap length e.is, length-append e.front (true ∷ e.rest)));
+            limit = λ same. let p = same in cc;
+          }
+      cases TooManyEvents (few, more) = record {
+        front = take events es;
+        next = get_or es events false;
+        rest = drop (suc events) es;
+        is = split_at es events false more;
+        why = (length-take-le events es (omega (arith, more)), few);
+        limit = λ same. let p = same in cc;
+      }
+      cases OutOfMemory never = absurd never
+
+  -- and the first that finds none is refused
+  pub refused-first : (reason : ParseError) → IsFirstRefused events errors es reason → refusal events errors es ≡ Some reason
+  refused-first reason first = ap (refusal events errors) first.is ∙ cases reason first.limit first.why
+    where
+      cases : (r : ParseError) → r ≢ OutOfMemory → IsReason events errors (length first.front) (errors_among first.front) first.next r
+          → refusal events errors (first.front ++ first.next ∷ first.rest) ≡ Some r
+      cases TooManyEvents limit (full, fit) = refused-event events errors first.front first.next first.rest full fit
+      cases TooManyErrors limit (wrong, full, lt) =
+          ap (λ b. refusal events errors (first.front ++ b ∷ first.rest)) wrong ∙ refused-error events errors first.front first.rest lt full
+      cases OutOfMemory limit why = absurd (limit refl)
+
+-- ---- the events of a run
+
+module _ (words : Words) (input : List Entry) (calls : List Call) where
+  -- there are as many as it recorded
+  pub all-recorded : length (events_of words input calls) ≡ (run_of words input calls).draft.recorded
+  all-recorded = recorded-events words input calls
+
+  -- and as many errors among them as in its plain list
+  pub all-errors : errors_among (events_of words input calls) ≡ errors_in (plain (run_of words input calls).draft.items)
+  all-errors = errors-events words input calls ∙ errors-plain (run_of words input calls).draft.items
+
+-- limits refuse none of a run's events exactly where a draft that it may leave is within them
+module _ (script : Meaning) (input : List Entry) (left : Draft) (run : IsRunOf script input left) (events errors : ℕ) where
+  abbrev IsWithin : Type 0
+  IsWithin = (left.recorded ≤ events) × (errors_in (plain left.items) ≤ errors)
+
+  abbrev IsUnrefused : Type 0
+  IsUnrefused = refusal events errors (events_of script.words input script.calls) ≡ None
+
+  recorded : length (events_of script.words input script.calls) ≡ left.recorded
+  recorded = all-recorded script.words input script.calls ∙ sym run.recorded
+
+  wrong : errors_among (events_of script.words input script.calls) ≡ errors_in (plain left.items)
+  wrong = all-errors script.words input script.calls ∙ ap errors_in (sym run.items)
+
+  pub unrefused : IsWithin → IsUnrefused
+  unrefused within = none-refused events errors (events_of script.words input script.calls) (omega (arith, recorded, within.0), omega (arith, wrong, within.1))
+
+  pub within : IsUnrefused → IsWithin
+  within none =
+      let fits = room-for-all events errors (events_of script.words input script.calls) none in
+      (omega (arith, recorded, fits.0), omega (arith, wrong, fits.1))
 
 -- ---- why a script may fail
 
@@ -72,4 +153,4 @@ module _ (script : Meaning) (entry other : EntryPoint) (begun first second : Sta
   pub none-fails : (d : Draft) → grammar.leaves-value.it script entry begun.input d → d.recorded ≤ begun.max_events → errors_in (plain d.items) ≤ begun.max_errors
       → Leaves other first → (reason : ParseError) → first.first_reason ≡ Some reason → reason ≢ OutOfMemory → ⊥
   none-fails d left events errors ran reason is limit =
-      absurd (let p = sym (left.unrefused begun.max_events begun.max_errors events errors) ∙ ran reason is limit in cc)
+      absurd (let p = sym (unrefused script begun.input d left begun.max_events begun.max_errors (events, errors)) ∙ ran reason is limit in cc)

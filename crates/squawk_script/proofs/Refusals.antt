@@ -1,7 +1,9 @@
 -- Which event of a run the limits of its parser refuse.
-use Rattle.std.proofs.Common.{◌≡◌, ◌∙◌, ℕ, zero, suc, ◌+◌, ◌<◌, ◌≤◌, Bool, true, false, Some, None, List, [], ◌∷◌, ◌++◌, length, map, arith, ap, sym, refl, subst, append_assoc, length-append}
+use Rattle.std.proofs.Common.{◌≡◌, ◌∙◌, ◌⊎◌, inl, inr, ℕ, zero, suc, ◌+◌, ◌<◌, ◌≤◌, Bool, true, false, Option, Some, None, List, [], ◌∷◌, ◌++◌, length, map, take, arith, ap, sym, refl, subst, append_assoc, length-append}
 use Rattle.std.specs.Prelude.{◌≢◌}
-use Rattle.std.proofs.lemmas.List.{length-map, map-append}
+use Rattle.std.proofs.Math.Seq.{take-append_seam}
+use Rattle.std.proofs.lemmas.Bool.{cases_lt, le-ltb, lt-ltb}
+use Rattle.std.proofs.lemmas.List.{length-map, map-append, take-append-le, take_all}
 use Rattle.squawk_output.specs.Steps.{Step, errors_in, is_error}
 use Rattle.squawk_log.specs.Draft.{Draft}
 use Rattle.squawk_parser.specs.Recorded.{Puts}
@@ -12,35 +14,85 @@ use Rattle.squawk_script.specs.Events.{errors_among, refusal}
 use Rattle.squawk_script.specs.Slots.{FailsAt}
 use Rattle.squawk_script.proofs.Events.{errors_among-append, errors_among-cons, errors_among-steps}
 
+-- ---- what a refusal tells
+
+module _ (events errors : ℕ) (es : List Bool) where
+  -- of the events that there is room for, more are errors than may be; they are not, but there are more events; there are none
+  abbrev pub Tells : Option ParseError → Type 0
+  Tells (Some TooManyErrors) = errors < errors_among (take events es)
+  Tells (Some TooManyEvents) = (errors_among (take events es) ≤ errors) × (events < length es)
+  Tells (Some OutOfMemory) = ⊥
+  Tells None = (errors_among (take events es) ≤ errors) × (length es ≤ events)
+
+  pub is-errors : Tells (Some TooManyErrors) → refusal events errors es ≡ Some TooManyErrors
+  is-errors many = rw (lt-ltb errors (errors_among (take events es)) many) refl
+
+  pub is-events : Tells (Some TooManyEvents) → refusal events errors es ≡ Some TooManyEvents
+  is-events (few, more) = rw (le-ltb errors (errors_among (take events es)) few, lt-ltb events (length es) more) refl
+
+  pub is-none : Tells None → refusal events errors es ≡ None
+  is-none (few, fit) = rw (le-ltb errors (errors_among (take events es)) few, le-ltb events (length es) fit) refl
+
+  pub tells : (answer : Option ParseError) → refusal events errors es ≡ answer → Tells answer
+  tells answer is = subst Tells is (cases (cases_lt errors (errors_among (take events es))) (cases_lt events (length es)))
+    where
+      cases : (errors < errors_among (take events es)) ⊎ (errors_among (take events es) ≤ errors) → (events < length es) ⊎ (length es ≤ events) → Tells (refusal events errors es)
+      cases (inl many) size = subst Tells (sym (is-errors many)) many
+      cases (inr few) (inl more) = subst Tells (sym (is-events (few, more))) (few, more)
+      cases (inr few) (inr fit) = subst Tells (sym (is-none (few, fit))) (few, fit)
+
+-- ---- some events, and more behind them
+
+-- the errors among the first of some events are errors among the first of all
+more-errors-behind : (n : ℕ) (xs ys : List Bool) → errors_among (take n xs) ≤ errors_among (take n (xs ++ ys))
+more-errors-behind zero xs ys = omega arith
+more-errors-behind (suc n) [] ys = omega arith
+more-errors-behind (suc n) (x ∷ xs) ys = omega (arith, more-errors-behind n xs ys, errors_among-cons x (take n xs), errors_among-cons x (take n (xs ++ ys)))
+
 -- what refuses the first events refuses all
 pub refusal-append : (events errors : ℕ) (xs ys : List Bool) (reason : ParseError) → refusal events errors xs ≡ Some reason → refusal events errors (xs ++ ys) ≡ Some reason
-refusal-append events errors [] ys reason is = absurd (cc)
-refusal-append zero errors (x ∷ xs) ys reason is = is
-refusal-append (suc events) errors (false ∷ xs) ys reason is = refusal-append events errors xs ys reason is
-refusal-append (suc events) zero (true ∷ xs) ys reason is = is
-refusal-append (suc events) (suc errors) (true ∷ xs) ys reason is = refusal-append events errors xs ys reason is
+refusal-append events errors xs ys reason is = cases reason (tells events errors xs (Some reason) is)
+  where
+    cases : (r : ParseError) → Tells events errors xs (Some r) → refusal events errors (xs ++ ys) ≡ Some r
+    cases TooManyErrors many = is-errors events errors (xs ++ ys) (omega (arith, many, more-errors-behind events xs ys))
+    cases TooManyEvents (few, more) =
+        let same : take events (xs ++ ys) ≡ take events xs = take-append-le events xs ys (omega (arith, more)) in
+        is-events events errors (xs ++ ys) (omega (arith, few, ap errors_among same), omega (arith, more, length-append xs ys))
+    cases OutOfMemory never = absurd never
 
 -- an event that finds no room for it
 pub refused-event : (events errors : ℕ) (front : List Bool) (x : Bool) (rest : List Bool) → length front ≡ events → errors_among front ≤ errors
     → refusal events errors (front ++ x ∷ rest) ≡ Some TooManyEvents
-refused-event zero errors [] x rest full fit = refl
-refused-event (suc events) errors [] x rest full fit = absurd (omega arith)
-refused-event zero errors (y ∷ front) x rest full fit = absurd (omega arith)
-refused-event (suc events) errors (false ∷ front) x rest full fit =
-    refused-event events errors front x rest (omega arith) (omega (arith, errors_among-cons false front))
-refused-event (suc events) zero (true ∷ front) x rest full fit = absurd (omega (arith, errors_among-cons true front))
-refused-event (suc events) (suc errors) (true ∷ front) x rest full fit =
-    refused-event events errors front x rest (omega arith) (omega (arith, errors_among-cons true front))
+refused-event events errors front x rest full fit =
+    let first : take events (front ++ x ∷ rest) ≡ front = subst (λ n. take n (front ++ x ∷ rest) ≡ front) full (take-append_seam front (x ∷ rest)) in
+    is-events events errors (front ++ x ∷ rest) (omega (arith, fit, ap errors_among first), omega (arith, full, length-append front (x ∷ rest)))
 
 -- an error that finds none among the errors
 pub refused-error : (events errors : ℕ) (front rest : List Bool) → length front < events → errors_among front ≡ errors
     → refusal events errors (front ++ true ∷ rest) ≡ Some TooManyErrors
-refused-error zero errors front rest lt full = absurd (omega arith)
-refused-error (suc events) zero [] rest lt full = refl
-refused-error (suc events) (suc errors) [] rest lt full = absurd (omega arith)
-refused-error (suc events) errors (false ∷ front) rest lt full = refused-error events errors front rest (omega arith) (omega (arith, errors_among-cons false front))
-refused-error (suc events) zero (true ∷ front) rest lt full = absurd (omega (arith, errors_among-cons true front))
-refused-error (suc events) (suc errors) (true ∷ front) rest lt full = refused-error events errors front rest (omega arith) (omega (arith, errors_among-cons true front))
+refused-error events errors front rest lt full =
+    let upto : List Bool = front ++ true ∷ [] in
+    let all : upto ++ rest ≡ front ++ true ∷ rest = append_assoc front (true ∷ []) rest in
+    let first : take events upto ≡ upto = take_all events upto (omega (arith, lt, length-append front (true ∷ []))) in
+    ap (refusal events errors) (sym all)
+    ∙ is-errors events errors (upto ++ rest) (omega (arith, full, errors_among-append front (true ∷ []), ap errors_among first, more-errors-behind events upto rest))
+
+-- one of the errors, behind as many others
+pub record HasError (n : ℕ) (es : List Bool) : Type 0 where
+  pub front : List Bool
+  pub rest : List Bool
+  pub is : es ≡ front ++ true ∷ rest
+  pub behind : errors_among front ≡ n
+
+pub error-at : (n : ℕ) (es : List Bool) → n < errors_among es → HasError n es
+error-at n [] lt = absurd (omega (arith, lt))
+error-at n (false ∷ es) lt =
+    let e = error-at n es (omega (arith, lt, errors_among-cons false es)) in
+    record { front = false ∷ e.front; rest = e.rest; is = ap (λ xs. false ∷ xs) e.is; behind = omega (arith, e.behind, errors_among-cons false e.front) }
+error-at zero (true ∷ es) lt = record { front = []; rest = es; is = refl; behind = refl }
+error-at (suc n) (true ∷ es) lt =
+    let e = error-at n es (omega (arith, lt, errors_among-cons true es)) in
+    record { front = true ∷ e.front; rest = e.rest; is = ap (λ xs. true ∷ xs) e.is; behind = omega (arith, e.behind, errors_among-cons true e.front) }
 
 -- ---- what a parser is refused
 
@@ -93,15 +145,3 @@ module _ (old new : State) where
   changes-fails edited changes goes before count errors reason fails told =
       let same : new.first_reason ≡ old.first_reason = ap (λ s. s.first_reason) (changes.goes goes) in
       absurd (let p = sym fails ∙ (same ∙ goes) in cc)
-
--- there is room for the events and for the errors among them
-abbrev pub Fits : ℕ → ℕ → List Bool → Type 0
-Fits events errors es = (length es ≤ events) × (errors_among es ≤ errors)
-
--- where there is, none is refused
-pub none-refused : (events errors : ℕ) (es : List Bool) → Fits events errors es → refusal events errors es ≡ None
-none-refused events errors [] fits = refl
-none-refused zero errors (e ∷ es) fits = absurd (omega (arith, fits.0))
-none-refused (suc events) errors (false ∷ es) fits = none-refused events errors es (omega (arith, fits.0), omega (arith, fits.1, errors_among-cons false es))
-none-refused (suc events) zero (true ∷ es) fits = absurd (omega (arith, fits.1, errors_among-cons true es))
-none-refused (suc events) (suc errors) (true ∷ es) fits = none-refused events errors es (omega (arith, fits.0), omega (arith, fits.1, errors_among-cons true es))

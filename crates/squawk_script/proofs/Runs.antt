@@ -6,14 +6,12 @@ use Rattle.std.proofs.lemmas.List.{get_or_default, take_all}
 use Rattle.std.proofs.lemmas.List.Elements.{All-cons, All-nil, Contains-append_right}
 use Rattle.std.proofs.lemmas.List.Sums.{fold-append}
 use Rattle.squawk_table.specs.ParserInput.{Entry}
-use Rattle.squawk_output.specs.Steps.{errors_in}
 use Rattle.squawk_log.specs.Draft as draft
 use Rattle.squawk_log.specs.Draft.{HasNoHole, Item, Mark, errors_of, is_hole, plain}
 use Rattle.squawk_parser.specs.State.{State, HasNotFailed, IsFresh, Keeps}
 use Rattle.squawk_parser.specs.Words.{Words}
 use Rattle.squawk_parser.specs.declared.parser.parse_error.ParseError.{ParseError}
 use Rattle.squawk_parser.specs.declared.parser.parse_error.ParseError.TheVariants.{OutOfMemory}
-use Rattle.squawk_parser.proofs.RecordedItems.{errors-plain}
 use Rattle.squawk_parser.proofs.RecordedSteps.{Keeps-none, Keeps-then}
 use Rattle.squawk_parser.proofs.TailHoles.{went-kept}
 use Rattle.squawk_script.specs.Accepted.{IsAccepted}
@@ -26,7 +24,7 @@ use Rattle.squawk_script.specs.declared.slot.Slot.TheVariants.{Open, Spent}
 use Rattle.squawk_script.proofs.Events.{errors-events, events-more, recorded-events}
 use Rattle.squawk_script.proofs.GoodCalls.{admitted-at, next, opened-last, statuses-more}
 use Rattle.squawk_script.proofs.Held.{holds-begin}
-use Rattle.squawk_script.proofs.Refusals.{none-refused, refusal-append}
+use Rattle.squawk_script.proofs.Refusals.{refusal-append}
 use Rattle.squawk_script.proofs.RenamedSteps.{same-errors, same-plain}
 use Rattle.squawk_script.proofs.Renaming.{renamed-begin}
 use Rattle.squawk_script.proofs.Statuses.{AreStatusesOf, statuses-begin}
@@ -151,17 +149,11 @@ module _ (start : State) (calls : List Call) (s : State) (slots : List Slot) (i 
   pub ends-at : HasNotFailed s → IsRunOf (record { calls = calls; words = start.words }) start.input s.draft
   ends-at goes =
       let at : IsAt s slots (run_of start.words start.input calls) = subst (λ before. IsAt s slots (run_of start.words start.input before)) (take_all i calls end) (stands.at goes) in
-      let run : Run = run_of start.words start.input calls in
-      let same : plain s.draft.items ≡ plain run.draft.items = same-plain at.f s.draft.items run.draft.items at.items.same in
       record {
-        items = same;
+        items = same-plain at.f s.draft.items (run_of start.words start.input calls).draft.items at.items.same;
         recorded = sym at.recorded;
         entries = sym at.entries;
         turns_due = sym at.turns_due;
-        unrefused = λ events errors within few.
-            let all = recorded-events start.words start.input calls ∙ at.recorded in
-            let wrong = errors-events start.words start.input calls ∙ (errors-plain run.draft.items ∙ ap errors_in (sym same)) in
-            none-refused events errors (events_of start.words start.input calls) (omega (arith, all, within), omega (arith, wrong, few));
       }
 
   pub ends-fails : FailsBy start calls s

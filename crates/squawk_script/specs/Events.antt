@@ -1,7 +1,7 @@
 -- The events that the calls of a run record, and which of them is refused where there is room for so many.
-use Rattle.std.specs.Prelude.{◌≡◌, ◌≢◌, ℕ, zero, suc, ◌≤◌, Bool, true, false, Option, Some, None, List, [], ◌∷◌, ◌++◌, count_by, map}
+use Rattle.std.specs.Prelude.{◌≡◌, ◌≢◌, ℕ, Bool, false, Option, Some, None, List, [], ◌∷◌, ◌++◌, count_by, length, map, nat_lt, take, if◌then◌else◌}
 use Rattle.squawk_table.specs.ParserInput.{Entry}
-use Rattle.squawk_output.specs.Steps.{errors_in, is_error}
+use Rattle.squawk_output.specs.Steps.{is_error}
 use Rattle.squawk_log.specs.Draft.{Draft, plain}
 use Rattle.squawk_parser.specs.State.{State}
 use Rattle.squawk_parser.specs.Words.{Words}
@@ -32,14 +32,12 @@ events_of words input calls = events_from words input begin calls
 abbrev pub errors_among : List Bool → ℕ
 errors_among events = count_by (λ event. event) events
 
--- Where there is room for so many events, and for so many errors among them: why the first event that finds no room is refused. The room
--- for events is looked at first.
+-- Where there is room for so many events, and for so many errors among them: why the first event that finds no room is refused, if one
+-- is. Counted from 0, that is error number `max_errors`, where it stands before place `max_events`, or else the event at that place.
 abbrev pub refusal : ℕ → ℕ → List Bool → Option ParseError
-refusal events errors [] = None
-refusal zero errors (e ∷ es) = Some TooManyEvents
-refusal (suc events) errors (false ∷ es) = refusal events errors es
-refusal (suc events) zero (true ∷ es) = Some TooManyErrors
-refusal (suc events) (suc errors) (true ∷ es) = refusal events errors es
+refusal max_events max_errors events =
+    if nat_lt max_errors (errors_among (take max_events events)) then Some TooManyErrors else
+    if nat_lt max_events (length events) then Some TooManyEvents else None
 
 -- A parser that makes the calls and fails, and not for want of memory, fails for the reason for which the limits that it began with refuse
 -- one of their events.
@@ -48,12 +46,9 @@ FailsByLimits script begun left =
     (reason : ParseError) → left.first_reason ≡ Some reason → reason ≢ OutOfMemory
     → refusal begun.max_events begun.max_errors (events_of script.words begun.input script.calls) ≡ Some reason
 
--- The draft has the plain list and the counts of the run. Its ids may be others. Under limits that it is within, none of the
--- run's events is refused.
+-- The draft has the plain list and the counts of the run. Its ids may be others.
 pub record IsRunOf (script : Meaning) (input : List Entry) (left : Draft) : Type 0 where
   pub items : plain left.items ≡ plain (run_of script.words input script.calls).draft.items
   pub recorded : left.recorded ≡ (run_of script.words input script.calls).draft.recorded
   pub entries : left.entries ≡ (run_of script.words input script.calls).draft.entries
   pub turns_due : left.turns_due ≡ (run_of script.words input script.calls).draft.turns_due
-  pub unrefused : (events errors : ℕ) → left.recorded ≤ events → errors_in (plain left.items) ≤ errors
-      → refusal events errors (events_of script.words input script.calls) ≡ None
