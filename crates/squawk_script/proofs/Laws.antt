@@ -11,7 +11,7 @@ use Rattle.squawk_parser.specs.Words.{Words}
 use Rattle.squawk_parser.specs.declared.parser.grammar.EntryPoint.{EntryPoint}
 use Rattle.squawk_parser.specs.declared.parser.parse_error.ParseError.{ParseError}
 use Rattle.squawk_parser.specs.declared.parser.parse_error.ParseError.TheVariants.{OutOfMemory, TooManyEvents, TooManyErrors}
-use Rattle.squawk_script.specs.Events.{IsRunOf, errors_among, events_of, refusal}
+use Rattle.squawk_script.specs.Events.{IsRunOf, LeavesOne, errors_among, events_of, refusal}
 use Rattle.squawk_script.specs.Meaning.{Meaning, run_of}
 use Rattle.squawk_script.specs.declared.call.Call.{Call}
 use Rattle.squawk_script.specs.contracts.script.ScriptGrammar.TheImpl as grammar
@@ -32,6 +32,14 @@ module _ (script : Meaning) (entry other : EntryPoint) (input : List Entry) (d e
 
   pub one-turns_due : May entry d → May other e → d.turns_due ≡ e.turns_due
   one-turns_due first second = first.turns_due ∙ sym second.turns_due
+
+-- so the script leaves one
+pub leaves_one : (script : Meaning) → LeavesOne script
+leaves_one script = record {
+  plain_list = λ input one other first second. first.items ∙ sym second.items;
+  recorded = λ input one other first second. first.recorded ∙ sym second.recorded;
+  turns_due = λ input one other first second. first.turns_due ∙ sym second.turns_due;
+}
 
 -- ---- refusals
 

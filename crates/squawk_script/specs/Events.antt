@@ -52,3 +52,9 @@ pub record IsRunOf (script : Meaning) (input : List Entry) (left : Draft) : Type
   pub recorded : left.recorded ≡ (run_of script.words input script.calls).draft.recorded
   pub entries : left.entries ≡ (run_of script.words input script.calls).draft.entries
   pub turns_due : left.turns_due ≡ (run_of script.words input script.calls).draft.turns_due
+
+-- What a script may leave over an input is one plain list, with one number of recorded events and one of turns.
+pub record LeavesOne (script : Meaning) : Type 0 where
+  pub plain_list : (input : List Entry) (one other : Draft) → IsRunOf script input one → IsRunOf script input other → plain one.items ≡ plain other.items
+  pub recorded : (input : List Entry) (one other : Draft) → IsRunOf script input one → IsRunOf script input other → one.recorded ≡ other.recorded
+  pub turns_due : (input : List Entry) (one other : Draft) → IsRunOf script input one → IsRunOf script input other → one.turns_due ≡ other.turns_due

@@ -2,6 +2,7 @@
 ghost use Rattle.std.specs.Prelude.{◌≡◌, IfOk, IfErr};
 ghost use Rattle.squawk_parser.specs.Words.{HasNoEnd, words_of};
 ghost use Rattle.squawk_script.specs.Accepted.{IsAccepted, Refuses};
+ghost use Rattle.squawk_script.specs.Events.{LeavesOne};
 
 use crate::call::Call;
 use crate::check::check;
@@ -45,6 +46,7 @@ impl<'t> Script<'t> {
         ensures script { IfOk result (λ s. s ≡ record { calls = calls.items; words = words_of words.entry }) }
         ensures accepted { IfOk result (λ s. IsAccepted calls.items) }
         ensures refused { IfErr result (Refuses calls.items) }
+        ensures leaves { IfOk result LeavesOne }
     {
         let Words {
             operator_first,
