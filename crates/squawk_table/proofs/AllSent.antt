@@ -17,6 +17,7 @@ use Rattle.squawk_table.proofs.RawTokens.{raw_after-next, raw_after-end}
 use Rattle.squawk_table.proofs.Received.{left_before}
 use Rattle.squawk_table.proofs.RootEnd.{left_before-all}
 use Rattle.squawk_table.proofs.SentSteps.{IsOverRaw}
+use Rattle.squawk_table.proofs.SentNumbered.{sent_list-numbered}
 use Rattle.squawk_table.proofs.SentTexts.{raw_chars, texts_of-sent_below}
 use Rattle.squawk_table.proofs.SourceChars.{AreTexts-raw_tokens, raw_chars-raw_after, raw_chars-raw_tokens}
 
@@ -79,7 +80,8 @@ module _ (t : Table) (table : IsTable t) (steps : List Step) (fits : Fits t step
       let sent = texts_of (sent_list t steps) in
       let rest_chars = sym (raw_chars-raw_after t table place within) ∙ ap raw_chars left in
       ap (λ xs. sent ++ xs) rest_chars
-      ∙ (texts_of-sent_below (raw_tokens t) (errors_moved steps) (AreTexts-raw_tokens t table) (IsOverRaw-from_fits t steps fits) (length (errors_moved steps)) (omega arith) ∙ raw_chars-raw_tokens t table)
+      ∙ (ap (λ xs. texts_of xs ++ raw_chars (left_before (raw_tokens t) (errors_moved steps) (length (errors_moved steps)))) (sent_list-numbered t steps)
+      ∙ (texts_of-sent_below (raw_tokens t) (errors_moved steps) (AreTexts-raw_tokens t table) (IsOverRaw-from_fits t steps fits) (length (errors_moved steps)) (omega arith) ∙ raw_chars-raw_tokens t table))
 
   pub beginning : IsBeginning (texts_of (sent_list t steps)) (chars t.text)
   beginning = (chars (drop (slice_index t.starts place) t.text), sent_and_rest)

@@ -5,6 +5,7 @@ pub mod AllSent
 pub mod ErrorsMoved
 pub mod FrontTokens
 pub mod InputTokens
+pub mod NumberedSteps
 pub mod OneRoot
 pub mod Over
 pub mod OverTable
@@ -16,11 +17,13 @@ pub mod RootSoFar
 pub mod SendsStep
 pub mod SentBelow
 pub mod SentLaws
+pub mod SentNumbered
 pub mod SentSoFar
 pub mod SentSteps
 pub mod SentTexts
 pub mod Sinks
 pub mod SourceChars
 pub mod StepPlaces
+pub mod Trimmed
 pub mod Trivia
 pub mod WithoutErrors

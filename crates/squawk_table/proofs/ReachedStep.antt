@@ -3,9 +3,10 @@ use Rattle.std.proofs.Common.{◌≡◌, ◌∙◌, ℕ, ◌+◌, ◌<◌, ◌�
 use Rattle.std.proofs.lemmas.List.{append-nil}
 use Rattle.squawk_table.specs.RawTable.{Table, IsTable, raw_after, raw_tokens}
 use Rattle.squawk_table.specs.Sending.{sent_here}
-use Rattle.squawk_table.specs.Sent.{leading_trivia, past_trivia, is_receiver, trivia_before, sent_raw, sent_below, StopsWithin}
+use Rattle.squawk_table.specs.Sent.{leading_trivia, past_trivia, sent_raw, StopsWithin}
 use Rattle.squawk_output.specs.Steps.{Step}
 use Rattle.squawk_table.specs.declared.shortcuts.str_step.OwnedStep.{OwnedStep}
+use Rattle.squawk_table.proofs.NumberedSteps.{is_receiver, trivia_before, sent_below}
 use Rattle.squawk_table.proofs.Received.{left_before, left_at, trivia_before-left}
 use Rattle.squawk_table.proofs.SentBelow.{sent_to, sent_for, sent_below-more, sent_below-around}
 use Rattle.squawk_table.proofs.SendsStep.{SendsStep, sends_step}

@@ -6,8 +6,9 @@ use Rattle.std.proofs.lemmas.Bool.{eq-eqb, ne_eqb, and_right}
 use Rattle.std.proofs.lemmas.List.{take-take}
 use Rattle.std.proofs.lemmas.List.Sums.{sum_by-take-le}
 use Rattle.squawk_table.specs.RawTable.{RawToken}
-use Rattle.squawk_table.specs.Sent.{leading_trivia, past_trivia, after_input, trivia_run, eaten_before, is_receiver, is_received, trivia_before}
+use Rattle.squawk_table.specs.Sent.{leading_trivia, past_trivia, after_input, trivia_run}
 use Rattle.squawk_output.specs.Steps.{Step, count_of, eaten}
+use Rattle.squawk_table.proofs.NumberedSteps.{eaten_before, is_receiver, is_received, trivia_before}
 use Rattle.squawk_table.proofs.StepPlaces.{eaten-take_more}
 use Rattle.squawk_table.proofs.Trivia.{past_trivia-past_trivia, leading_trivia-past_trivia}
 

@@ -3,9 +3,10 @@ use Rattle.std.proofs.Common.{◌≡◌, ◌∙◌, ℕ, zero, suc, ◌+◌, ◌
 use Rattle.std.proofs.lemmas.Bool.{cases_lt, or_left, or_right}
 use Rattle.std.proofs.lemmas.List.{take_all, get_or_default}
 use Rattle.squawk_table.specs.RawTable.{RawToken}
-use Rattle.squawk_table.specs.Sent.{past_trivia, after_input, eaten_before, is_receiver, is_received}
+use Rattle.squawk_table.specs.Sent.{past_trivia, after_input}
 use Rattle.squawk_table.specs.Shape.{StandsInOneRoot}
 use Rattle.squawk_output.specs.Steps.{Step, Token, Enter, Exit, Error, is_error, count_of, openings, closings, eaten, without_errors}
+use Rattle.squawk_table.proofs.NumberedSteps.{eaten_before, is_receiver, is_received}
 use Rattle.squawk_table.proofs.OneRoot.{first_step, length-root}
 use Rattle.squawk_table.proofs.Received.{left_before, behind, is_received-same}
 use Rattle.squawk_table.proofs.Receivers.{is_receiver-at, last_receives}

@@ -3,9 +3,10 @@ use Rattle.std.proofs.Common.{◌≡◌, ◌∙◌, ℕ, zero, suc, ◌+◌, ◌
 use Rattle.std.proofs.lemmas.List.{append-nil}
 use Rattle.std.proofs.lemmas.Option.{slice_get-get_or}
 use Rattle.squawk_table.specs.RawTable.{RawToken}
-use Rattle.squawk_table.specs.Sent.{eaten_before, trivia_before, sent_raw, sent_step, sent_steps, sent_below}
+use Rattle.squawk_table.specs.Sent.{sent_raw, sent_step}
 use Rattle.squawk_output.specs.Steps.{Step}
 use Rattle.squawk_table.specs.declared.shortcuts.str_step.OwnedStep.{OwnedStep}
+use Rattle.squawk_table.proofs.NumberedSteps.{eaten_before, trivia_before, sent_steps, sent_below}
 
 -- what is sent before step i, with the trivia before it
 abbrev pub sent_to : List RawToken → List Step → ℕ → List OwnedStep

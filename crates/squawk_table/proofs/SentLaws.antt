@@ -1,17 +1,14 @@
 -- Laws of what is sent.
-use Rattle.std.proofs.Common.{◌≡◌, ◌∙◌, ℕ, zero, suc, ◌+◌, ◌-◌, ◌<◌, true, false, not, ◌&&◌, if◌then◌else◌, Option, None, Some, List, [], ◌∷◌, ◌++◌, map, filter, length, length-append, take, drop, slice_get, add-zero, arith, append_assoc, ap, sym, refl, subst, ◌⊎◌, inl, inr}
-use Rattle.std.specs.Prelude.{◌==◌}
-use Rattle.std.proofs.lemmas.Bool.{lt-ltb, ne_eqb, or_left, or_right, and_right}
+use Rattle.std.proofs.Common.{◌≡◌, ◌∙◌, ℕ, zero, suc, Option, None, Some, List, [], ◌∷◌, ◌++◌, map, filter, length, length-append, slice_get, arith, append_assoc, ap, sym, refl, subst, ◌⊎◌, inl, inr}
 use Rattle.std.proofs.lemmas.List.{append-nil}
-use Rattle.std.proofs.lemmas.Option.{slice_get_within, get_or_from_slice_get}
 use Rattle.squawk_table.specs.RawTable.{Table, RawToken, raw_tokens}
-use Rattle.squawk_table.specs.Sent.{errors_moved, eaten_before, receives, is_receiver, is_received, trivia_run, trivia_before, sent_raw, sent_step, sent_steps, sent_below, sent_list, bytes_of}
-use Rattle.squawk_output.specs.Steps.{Step, Token, Enter, Exit, Error, is_error, openings, closings, eaten, without_errors}
+use Rattle.squawk_table.specs.Sent.{errors_moved, sent_raw, sent_step, sent_list, bytes_of}
+use Rattle.squawk_output.specs.Steps.{Step, Token, Enter, Exit, Error, is_error, eaten, without_errors}
 use Rattle.squawk_table.specs.declared.shortcuts.str_step.OwnedStep.{OwnedStep}
 use Rattle.squawk_table.specs.declared.shortcuts.str_step.OwnedStep.TheVariants as sent
 use Rattle.squawk_table.proofs.ErrorsMoved as moved
-use Rattle.squawk_table.proofs.Received.{is_received-same}
-use Rattle.squawk_table.proofs.StepPlaces.{eaten-take_more}
+use Rattle.squawk_table.proofs.NumberedSteps.{eaten_before, trivia_before, sent_steps, sent_below}
+use Rattle.squawk_table.proofs.SentNumbered.{sent_list-numbered}
 
 -- ---- the order of steps
 
@@ -30,43 +27,6 @@ eaten-errors_moved steps = moved.eaten-moved steps
 -- and there are as many steps
 pub length-errors_moved : (steps : List Step) → length (errors_moved steps) ≡ length steps
 length-errors_moved steps = moved.length-moved steps
-
--- ---- where trivia stands
-
--- what was received stays received
-received_later : (steps : List Step) (c n k : ℕ) → is_received steps c n ≡ true → is_received steps c (n + k) ≡ true
-received_later steps c n zero received = ap (is_received steps c) (add-zero n) ∙ received
-received_later steps c n (suc k) received =
-    let more : n + suc k ≡ suc (n + k) = omega arith in
-    ap (is_received steps c) more
-    ∙ or_right (is_receiver steps (n + k) && (eaten_before steps (n + k) == c)) (is_received steps c (n + k)) (received_later steps c n k received)
-
--- No node but the root begins with trivia: none stands between an opening that isn't the first and the token behind it,
-pub trivia_before-inside : (raw : List RawToken) (steps : List Step) (i j kind : ℕ) → slice_get steps i ≡ Some (Enter kind) → 0 < openings (take i steps)
-    → i < j → eaten_before steps j ≡ eaten_before steps i → trivia_before raw steps j ≡ []
-trivia_before-inside raw steps i j kind here inner later none_eaten =
-    let c = eaten_before steps j in
-    let receiver : is_receiver steps i ≡ true = ap (receives steps i) here ∙ lt-ltb 0 (openings (take i steps)) inner in
-    let behind = is_received-same steps c i (sym none_eaten) ∙ or_left (is_receiver steps i) (is_received steps c i) receiver in
-    let place : (i + 1) + (j - (i + 1)) ≡ j = omega arith in
-    let received : is_received steps c j ≡ true = ap (is_received steps c) (sym place) ∙ received_later steps c (i + 1) (j - (i + 1)) behind in
-    ap (λ b. if b then trivia_run raw c else []) (and_right (is_receiver steps j) (not (is_received steps c j)) (ap not received))
-
--- also not directly behind it
-pub trivia_before-opened : (raw : List RawToken) (steps : List Step) (i kind : ℕ) → slice_get steps i ≡ Some (Enter kind) → 0 < openings (take i steps)
-    → trivia_before raw steps (i + 1) ≡ []
-trivia_before-opened raw steps i kind here inner =
-    let lt = slice_get_within steps i (Enter kind) here in
-    let at = get_or_from_slice_get steps i (Enter kind) (Enter kind) here in
-    trivia_before-inside raw steps i (i + 1) kind here inner (omega arith) (omega (arith, eaten-take_more steps i (Enter kind) lt at))
-
--- and none ends with trivia: none stands before a closing that isn't the last
-pub trivia_before-closing : (raw : List RawToken) (steps : List Step) (i : ℕ) → slice_get steps i ≡ Some Exit → 0 < closings (drop (i + 1) steps)
-    → trivia_before raw steps i ≡ []
-trivia_before-closing raw steps i here inner =
-    let c = eaten_before steps i in
-    let other : is_receiver steps i ≡ false = ap (receives steps i) here ∙ ne_eqb (closings (drop (i + 1) steps)) 0 (λ e. omega arith) in
-    ap (λ b. if b && not (is_received steps c i) then trivia_run raw c else []) other
 
 -- ---- the positions of errors
 
@@ -120,4 +80,6 @@ placed_below raw steps (suc i) =
 -- the position of an error is the number of bytes that were sent before it
 pub position-error : (table : Table) (steps : List Step) (front rest : List OwnedStep) (text : List ℕ) (pos : ℕ)
     → sent_list table steps ≡ front ++ sent.Error text pos ∷ rest → pos ≡ bytes_of front
-position-error table steps = placed_below (raw_tokens table) (errors_moved steps) (length (errors_moved steps))
+position-error table steps =
+    let moved = errors_moved steps in
+    subst ArePlaced (sym (sent_list-numbered table steps)) (placed_below (raw_tokens table) moved (length moved))

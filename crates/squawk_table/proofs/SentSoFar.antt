@@ -3,9 +3,9 @@ use Rattle.std.proofs.Common.{◌≡◌, ◌∙◌, ℕ, ◌+◌, ◌<◌, ◌�
 use Rattle.std.proofs.lemmas.List.{append-nil, length-drop, length-take-le}
 use Rattle.std.proofs.lemmas.List.Sums.{count_by-le-length}
 use Rattle.squawk_table.specs.RawTable.{Table, raw_after, raw_tokens}
-use Rattle.squawk_table.specs.Sent.{sent_below}
 use Rattle.squawk_output.specs.Steps.{Step, is_enter, openings, closings}
 use Rattle.squawk_table.specs.declared.shortcuts.str_step.OwnedStep.{OwnedStep}
+use Rattle.squawk_table.proofs.NumberedSteps.{sent_below}
 use Rattle.squawk_table.proofs.RawTokens.{raw_after-start}
 use Rattle.squawk_table.proofs.Received.{left_before}
 use Rattle.squawk_table.proofs.StepPlaces.{hand_at, hand_behind, hand_lt}

@@ -3,11 +3,12 @@ use Rattle.std.proofs.Common.{◌≡◌, ◌∙◌, ℕ, zero, suc, ◌+◌, ◌
 use Rattle.std.proofs.lemmas.List.{take-append-drop, drop_more}
 use Rattle.squawk_table.specs.ParserInput.{entries_of}
 use Rattle.squawk_table.specs.RawTable.{RawToken, text_of}
-use Rattle.squawk_table.specs.Sent.{past_trivia, after_input, input_tokens, eaten_before}
+use Rattle.squawk_table.specs.Sent.{past_trivia, after_input, input_tokens}
 use Rattle.squawk_table.specs.Shape.{AreOneToken, IsOver, no_keywords}
 use Rattle.squawk_output.specs.Steps.{Step, Token}
 use Rattle.squawk_table.proofs.FrontTokens.{FrontTokens, FrontTokens-one, take-input_tokens, after_input-front}
 use Rattle.squawk_table.proofs.InputTokens.{input_tokens-after_input, entries_of-after_input}
+use Rattle.squawk_table.proofs.NumberedSteps.{eaten_before}
 use Rattle.squawk_table.proofs.Over.{IsOver-back}
 use Rattle.squawk_table.proofs.Received.{left_before, left_at, left_before-token, left_at-receiver}
 use Rattle.squawk_table.proofs.Receivers.{is_receiver-at}

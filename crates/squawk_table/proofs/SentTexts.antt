@@ -9,8 +9,9 @@ use Rattle.std.proofs.lemmas.List.Elements.{All-take, All-drop}
 use Rattle.std.proofs.lemmas.Str.{chars-append, chars-nil}
 use Rattle.squawk_kinds.specs.Kinds.{is_trivia}
 use Rattle.squawk_table.specs.RawTable.{RawToken, text_of}
-use Rattle.squawk_table.specs.Sent.{leading_trivia, past_trivia, after_input, eaten_before, is_receiver, is_received, trivia_before, sent_raw, sent_below, text_in, texts_of}
+use Rattle.squawk_table.specs.Sent.{leading_trivia, past_trivia, after_input, sent_raw, text_in, texts_of}
 use Rattle.squawk_output.specs.Steps.{Step, Token, Enter, Exit, Error}
+use Rattle.squawk_table.proofs.NumberedSteps.{eaten_before, is_receiver, is_received, trivia_before, sent_below}
 use Rattle.squawk_table.proofs.Received.{left_before, left_at, left_before-other, trivia_before-left}
 use Rattle.squawk_table.proofs.SentBelow.{sent_to, sent_for, sent_below-more}
 use Rattle.squawk_table.proofs.SentSteps.{IsOverRaw, token_here}

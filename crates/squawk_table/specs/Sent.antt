@@ -1,6 +1,6 @@
 -- What is sent for a walk over a table: its steps with their texts, and the trivia put back between them.
-use Rattle.std.specs.Prelude.{◌≡◌, ℕ, zero, suc, ◌+◌, ◌==◌, nat_lt, All, Bool, true, false, not, ◌&&◌, ◌||◌, Option, Some, None, List, [], ◌∷◌, ◌++◌, map, filter, take, drop, length, slice_get, sum_by, encode_utf8_all, if◌then◌else◌}
-use Rattle.std.specs.List.{flat_map}
+use Rattle.std.specs.Prelude.{◌≡◌, ℕ, zero, suc, ◌==◌, nat_lt, All, Bool, true, false, not, ◌&&◌, List, [], ◌∷◌, ◌++◌, map, filter, take, drop, length, sum_by, encode_utf8_all, if◌then◌else◌}
+use Rattle.std.specs.List.{flat_map, list_any}
 use Rattle.std.specs.Str.{chars}
 use Rattle.squawk_kinds.specs.Kinds.{is_trivia}
 use Rattle.squawk_output.specs.Steps.{Step, Token, Enter, Exit, Error, openings, closings, eaten}
@@ -62,33 +62,49 @@ errors_moved (Exit ∷ steps) =
     errors ++ Exit ∷ drop (length errors) (errors_moved steps)
 errors_moved (Error text ∷ steps) = Error text ∷ errors_moved steps
 
+-- ---- places
+
+-- a step of a walk, with the steps before it and those behind it
+pub record Place : Type 0 where
+  pub before : List Step
+  pub step : Step
+  pub behind : List Step
+
+-- the places of steps that stand behind others
+abbrev pub places_behind : List Step → List Step → List Place
+places_behind before [] = []
+places_behind before (step ∷ behind) = record { before = before; step = step; behind = behind } ∷ places_behind (before ++ step ∷ []) behind
+
+-- the places of a walk
+abbrev pub places_of : List Step → List Place
+places_of steps = places_behind [] steps
+
+-- how many input tokens precede a place
+abbrev pub eaten_at : Place → ℕ
+eaten_at place = eaten place.before
+
 -- ---- where trivia stands
 
--- how many input tokens are eaten before step i
-abbrev pub eaten_before : List Step → ℕ → ℕ
-eaten_before steps i = eaten (take i steps)
+-- whether trivia may stand directly before a step that stands between others: before a token, an opening that isn't the first, and
+-- the last closing
+abbrev pub receives_between : List Step → Step → List Step → Bool
+receives_between before (Token kind n) behind = true
+receives_between before (Enter kind) behind = nat_lt 0 (openings before)
+receives_between before Exit behind = closings behind == 0
+receives_between before (Error text) behind = false
 
--- whether trivia may stand directly before step i, if it is this one: a token, an opening other than the first, or the last closing
-abbrev pub receives : List Step → ℕ → Option Step → Bool
-receives steps i None = false
-receives steps i (Some (Token kind n)) = true
-receives steps i (Some (Enter kind)) = nat_lt 0 (openings (take i steps))
-receives steps i (Some Exit) = closings (drop (i + 1) steps) == 0
-receives steps i (Some (Error text)) = false
+abbrev pub receives : Place → Bool
+receives place = receives_between place.before place.step place.behind
 
-abbrev pub is_receiver : List Step → ℕ → Bool
-is_receiver steps i = receives steps i (slice_get steps i)
+-- whether a place receives trivia, and c input tokens precede it
+abbrev pub receives_at_count : ℕ → Place → Bool
+receives_at_count c place = receives place && (eaten_at place == c)
 
--- whether a step before place n, with c input tokens before it, receives trivia
-abbrev pub is_received : List Step → ℕ → ℕ → Bool
-is_received steps c zero = false
-is_received steps c (suc n) = (is_receiver steps n && (eaten_before steps n == c)) || is_received steps c n
-
--- the trivia that stands directly before step i: run c, if the step is the first receiver that c input tokens precede
-abbrev pub trivia_before : List RawToken → List Step → ℕ → List RawToken
-trivia_before raw steps i =
-    let c = eaten_before steps i in
-    if is_receiver steps i && not (is_received steps c i) then trivia_run raw c else []
+-- the trivia that stands directly before a place behind earlier ones: run c, if it is the first receiver that c input tokens precede
+abbrev pub trivia_at : List RawToken → List Place → Place → List RawToken
+trivia_at raw earlier place =
+    let c = eaten_at place in
+    if receives place && not (list_any (receives_at_count c) earlier) then trivia_run raw c else []
 
 -- ---- texts of what is sent
 
@@ -119,29 +135,51 @@ sent_step raw c before (Enter kind) = sent.Enter kind
 sent_step raw c before Exit = sent.Exit
 sent_step raw c before (Error text) = sent.Error text (bytes_of before)
 
--- the same of a step that may not be there
-abbrev pub sent_steps : List RawToken → ℕ → List OwnedStep → Option Step → List OwnedStep
-sent_steps raw c before None = []
-sent_steps raw c before (Some step) = sent_step raw c before step ∷ []
+-- what is sent, marked by where it comes from: a step of the walk, or trivia that is put back
+pub data Marked : Type 0 where
+  Walked : OwnedStep → Marked
+  PutBack : RawToken → Marked
 
--- what was sent, and then what is sent for step i: the trivia before it, and the step
-abbrev pub sent_past : List RawToken → List Step → ℕ → List OwnedStep → List OwnedStep
-sent_past raw steps i before =
-    let past = before ++ map sent_raw (trivia_before raw steps i) in
-    past ++ sent_steps raw (eaten_before steps i) past (slice_get steps i)
+-- the same without the mark
+abbrev pub unmarked : Marked → OwnedStep
+unmarked (Walked step) = step
+unmarked (PutBack raw) = sent_raw raw
 
--- what is sent for the first n steps
-abbrev pub sent_below : List RawToken → List Step → ℕ → List OwnedStep
-sent_below raw steps zero = []
-sent_below raw steps (suc i) = sent_past raw steps i (sent_below raw steps i)
+-- what is sent for places behind earlier ones, for which these steps were sent: for each the trivia before it, and its step
+abbrev pub sent_behind : List RawToken → List Place → List OwnedStep → List Place → List Marked
+sent_behind raw earlier before [] = []
+sent_behind raw earlier before (place ∷ places) =
+    let trivia = trivia_at raw earlier place in
+    let past = before ++ map sent_raw trivia in
+    let step = sent_step raw (eaten_at place) past place.step in
+    map PutBack trivia ++ Walked step ∷ sent_behind raw (earlier ++ place ∷ []) (past ++ step ∷ []) places
 
--- the sent list of a walk: its errors moved, and trivia put back
+-- the sent list of a walk, marked: its errors moved, and trivia put back
+abbrev pub marked_list : Table → List Step → List Marked
+marked_list table steps = sent_behind (raw_tokens table) [] [] (places_of (errors_moved steps))
+
+-- the sent list
 abbrev pub sent_list : Table → List Step → List OwnedStep
-sent_list table steps = let moved = errors_moved steps in sent_below (raw_tokens table) moved (length moved)
+sent_list table steps = map unmarked (marked_list table steps)
 
 -- one list is the beginning of another
 abbrev pub IsBeginning : {X : Type 0} → List X → List X → Type 0
 IsBeginning {X} front whole = (rest : List X) × (front ++ rest ≡ whole)
+
+-- ---- nodes and trivia
+
+-- a step of the walk that is an error
+abbrev pub IsError : Marked → Type 0
+IsError (Walked (sent.Error text pos)) = Unit {0}
+IsError step = ⊥
+
+-- No node but the root begins or ends with trivia that was put back, errors aside: none stands behind an opening that another one
+-- precedes, or before a closing that another one follows, directly or with nothing but errors between.
+pub record InnerNodesAreTrimmed (all : List Marked) : Type 0 where
+  pub begins : (front middle errors rest : List Marked) (outer inner : ℕ) (trivia : RawToken) → All IsError errors
+      → ¬ (all ≡ front ++ Walked (sent.Enter outer) ∷ (middle ++ Walked (sent.Enter inner) ∷ (errors ++ PutBack trivia ∷ rest)))
+  pub ends : (front errors middle rest : List Marked) (trivia : RawToken) → All IsError errors
+      → ¬ (all ≡ front ++ PutBack trivia ∷ (errors ++ Walked sent.Exit ∷ (middle ++ Walked sent.Exit ∷ rest)))
 
 -- ---- sinks
 

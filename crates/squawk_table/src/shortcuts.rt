@@ -3,7 +3,7 @@ ghost use Rattle.std.specs.Prelude.{◌≡◌, ◌+◌, ◌^◌, ◌<◌, ◌≤
 ghost use Rattle.std.specs.Str.{chars};
 ghost use Rattle.squawk_table.specs.ParserInput.{input_of};
 ghost use Rattle.squawk_table.specs.RawTable.{raw_after};
-ghost use Rattle.squawk_table.specs.Sent.{sent_list, sent_raw, leading_trivia, past_trivia, texts_of, IsBeginning, StopsWithin};
+ghost use Rattle.squawk_table.specs.Sent.{marked_list, sent_list, sent_raw, leading_trivia, past_trivia, texts_of, InnerNodesAreTrimmed, IsBeginning, StopsWithin};
 ghost use Rattle.squawk_table.specs.Sending.{sent_here, HasTokens, next_place, receives_at, depth_behind, SendsOne};
 ghost use Rattle.squawk_table.specs.Shape.{Fits, no_keywords};
 ghost use Rattle.squawk_output.specs.StepViews.{step_of};
@@ -44,6 +44,9 @@ impl LexedStr<'_> {
         ensures all { IfOk result (λ all. IsTrue all ↔ (eaten output.now.steps ≡ length (input_of no_keywords self.now))) }
         ensures whole { IfOk result (λ all. IsTrue all ↔ (texts_of (sent_list self.now output.now.steps) ≡ chars self.now.text)) }
         ensures beginning { OnOk result (IsBeginning (texts_of (sent_list self.now output.now.steps)) (chars self.now.text)) }
+
+        // In the list that is sent no node but the root begins or ends with trivia that was put back.
+        ensures trimmed { InnerNodesAreTrimmed (marked_list self.now output.now.steps) }
 
         ensures ok { OnOk result ((l : List OwnedStep) → S.stands_after sink.old l
             → S.stands_after sink.new (l ++ sent_list self.now output.now.steps)) }

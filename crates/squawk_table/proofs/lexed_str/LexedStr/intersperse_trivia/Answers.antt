@@ -3,15 +3,18 @@ use Rattle.std.specs.Prelude.{◌==◌}
 use Rattle.std.proofs.lemmas.Bool.{eqb-true, eq-eqb}
 use Rattle.std.proofs.lemmas.Result.{err_from_is_err_and}
 use Rattle.squawk_table.specs.RawTable.{Table, IsTable, raw_after, raw_tokens}
-use Rattle.squawk_table.specs.Sent.{errors_moved, is_receiver}
+use Rattle.squawk_table.specs.Sent.{errors_moved}
 use Rattle.squawk_output.specs.StepViews.{step_of}
 use Rattle.squawk_output.specs.Steps as plain
 use Rattle.squawk_table.proofs.AllSent.{IsOverRaw-from_fits, root_moved, starts_at_end, all_eaten, end_if_eaten, beginning, whole_text, end_if_whole}
 use Rattle.squawk_table.proofs.ErrorsMoved.{length-moved}
+use Rattle.squawk_table.proofs.NumberedSteps.{is_receiver}
 use Rattle.squawk_table.proofs.ReachedStep.{ReachedStep, reached_receiver, reached_other, stops_in_trivia, sends, took_step, stops_at_step}
 use Rattle.squawk_table.proofs.Received.{left_before}
 use Rattle.squawk_table.proofs.Receivers.{receives_at-receiver, open_behind}
+use Rattle.squawk_table.proofs.SentNumbered.{sent_list-numbered}
 use Rattle.squawk_table.proofs.SentSoFar.{SentSoFar-start, here_lt, here_at, rest_behind, depth_low, left_at_end, stood_at_end}
+use Rattle.squawk_table.proofs.Trimmed.{trimmed}
 use Rattle.squawk_table.proofs.lexed_str.LexedStr.intersperse_trivia.Given as given
 use Rattle.squawk_table.proofs.lexed_str.LexedStr.intersperse_trivia.Goals as goal
 use Rattle.squawk_table.proofs.lexed_str.LexedStr.intersperse_trivia.Goals.{After-receives_trivia, Joined-receives_trivia, then-receives_trivia+in_ok-place, else-receives_trivia}
@@ -139,7 +142,7 @@ returns-in_err-place-2-clause-err g c =
     let at = reached g (goal.at.returns-in_err-place-2-clause-err g c).Joined-receives_trivia in
     let over = IsOverRaw-from_fits t steps c.requires in
     let p = err_from_is_err_and c.from_residual-in_err-place-2.result c.from_residual-in_err-place-2.ensures.1 in
-    rw (p.1, p.2)
+    rw (p.1, p.2, sent_list-numbered t c.args.output.now.steps)
     (stops_at_step t (errors_moved steps) i (step_of c.in-Some.step) at_step.lt at_step.at c.len-len.ensures.table over c.if-receives_trivia.place (stands c.args.sink.now) (stands c.if-receives_trivia.sink) (stands c.send_step.new.sink) at
     g.S.StepSink.refuses c.in_err-place-2.field-0.0 c.in_err-place-2.ensures.sent)
 
@@ -152,7 +155,7 @@ returns-in_err-place-clause-err g c =
     let at_step = here g (goal.at.returns-in_err-place-clause-err g c).After-receives_trivia in
     let receiver = at_step.receiver ∙ c.if-receives_trivia.true in
     let p = err_from_is_err_and c.from_residual.result c.from_residual.ensures.1 in
-    rw (p.1, p.2)
+    rw (p.1, p.2, sent_list-numbered t c.args.output.now.steps)
     (stops_in_trivia t moved before.i (step_of c.in-Some.step) at_step.lt at_step.at c.loop-step.place (stands c.args.sink.now) (stands c.loop-step.sink) (stands c.send_trivia.new.sink)
     g.S.StepSink.refuses c.in_err-place.field-0.0 before.raw_left receiver before.stood c.in_err-place.ensures.err)
 
@@ -194,4 +197,16 @@ returns-clause-beginning g c =
 
 pub returns-clause-ok : goal.returns-clause-ok
 returns-clause-ok g c =
-    stood_at_end c.args.self.now (errors_moved c.args.output.now.steps) c.loop-step.steps c.loop-step.place c.loop-step.depth (g.S.StepSink.stands_after c.args.sink.now) (g.S.StepSink.stands_after c.loop-step.sink) c.loop-step.invariant.2 c.in_default.ensures.steps.0
+    rw (sent_list-numbered c.args.self.now c.args.output.now.steps)
+    (stood_at_end c.args.self.now (errors_moved c.args.output.now.steps) c.loop-step.steps c.loop-step.place c.loop-step.depth (g.S.StepSink.stands_after c.args.sink.now) (g.S.StepSink.stands_after c.loop-step.sink) c.loop-step.invariant.2 c.in_default.ensures.steps.0)
+
+-- ---- what is sent, whatever the outcome
+
+pub returns-clause-trimmed : goal.returns-clause-trimmed
+returns-clause-trimmed g c = trimmed c.args.self.now c.args.output.now.steps
+
+pub returns-in_err-place-clause-trimmed : goal.returns-in_err-place-clause-trimmed
+returns-in_err-place-clause-trimmed g c = trimmed c.args.self.now c.args.output.now.steps
+
+pub returns-in_err-place-2-clause-trimmed : goal.returns-in_err-place-2-clause-trimmed
+returns-in_err-place-2-clause-trimmed g c = trimmed c.args.self.now c.args.output.now.steps
