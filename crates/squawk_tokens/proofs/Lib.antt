@@ -8,6 +8,6 @@ pub mod ContentUnits
 pub mod ParamNumbers
 pub mod Contents
 pub mod Ranges
-pub mod TokenFaults
+pub mod TokenErrors
 pub mod StandApart
 pub mod LexicalExamples

@@ -2,8 +2,8 @@
 ghost use Rattle.std.specs.Prelude.{◌≡◌, ◌+◌, ◌^◌, ◌<◌, length, IfOk, OnOk};
 ghost use Rattle.squawk_tokens.specs.AcceptedTokens.{IsAccepted, start_of};
 ghost use Rattle.squawk_tokens.specs.ErrorRanges.{StandApart};
-ghost use Rattle.squawk_tokens.specs.Found.{with_faults};
-ghost use Rattle.squawk_tokens.specs.LexicalErrors.{is_empty_ident, lexical_errors, token_faults};
+ghost use Rattle.squawk_tokens.specs.Found.{with_errors};
+ghost use Rattle.squawk_tokens.specs.LexicalErrors.{is_empty_ident, lexical_errors, token_errors};
 ghost use Rattle.squawk_tokens.specs.TokenRows.{MeetsKind};
 
 mod alphabet;
@@ -57,7 +57,7 @@ fn token_errors(
 ) -> Result<(), AllocError>
     requires room { found.old.at + length text.now < 2 ^ 32 }
     requires kind { MeetsKind text.now kind }
-    ensures { OnOk result (found.new ≡ with_faults found.old (token_faults kind text.now continued)) }
+    ensures { OnOk result (found.new ≡ with_errors found.old (token_errors kind text.now continued)) }
 {
     match kind {
         TokenKind::BlockComment { terminated: false } => whole_token(

@@ -1,7 +1,7 @@
 //! The errors that were found so far.
 ghost use Rattle.std.specs.Prelude.{◌≡◌, ◌+◌, ◌^◌, ◌<◌, ◌≤◌, None, [], ◌∷◌, OnOk, option_map, string_bytes};
-ghost use Rattle.squawk_tokens.specs.Found.{with_faults};
-ghost use Rattle.squawk_tokens.specs.LexicalErrors.{fault};
+ghost use Rattle.squawk_tokens.specs.Found.{with_errors};
+ghost use Rattle.squawk_tokens.specs.LexicalErrors.{error_at};
 
 use crate::lex_error::LexError;
 use std::alloc::{AllocError, Global};
@@ -40,7 +40,7 @@ impl Found {
     pub(super) fn add(&mut self, start: usize, end: usize, message: &str) -> Result<(), AllocError>
         requires order { start ≤ end }
         requires room { self.old.at + end < 2 ^ 32 }
-        ensures { OnOk result (self.new ≡ with_faults self.old (fault start end message.now ∷ [])) }
+        ensures { OnOk result (self.new ≡ with_errors self.old (error_at start end message.now ∷ [])) }
     {
         let message = String::from_str(self.alloc, message)?;
         self.push(start, end, message, None)
@@ -56,7 +56,7 @@ impl Found {
     ) -> Result<(), AllocError>
         requires order { start ≤ end }
         requires room { self.old.at + end < 2 ^ 32 }
-        ensures { OnOk result (self.new ≡ with_faults self.old
+        ensures { OnOk result (self.new ≡ with_errors self.old
             (record { start = start; end = end; message = string_bytes message; hint = option_map string_bytes hint } ∷ [])) }
     {
         let range = self.at + start as u32..self.at + end as u32;
