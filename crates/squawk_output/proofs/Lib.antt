@@ -7,5 +7,7 @@ pub mod EnteredBack
 pub mod Links
 pub mod Follows
 pub mod LogTurns
+pub mod LogErrors
 pub mod Visits
 pub mod Examples
+pub mod StoredSteps

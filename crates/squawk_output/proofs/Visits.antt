@@ -1,8 +1,9 @@
 -- One event visited.
-use Rattle.std.proofs.Common.{◌≡◌, ◌∙◌, ℕ, zero, suc, ◌+◌, ◌*◌, ◌^◌, ◌<◌, false, Some, None, Option, List, [], ◌∷◌, ◌++◌, length, get_or, set, drop, refl, sym, ap, arith, append_assoc, add-one}
+use Rattle.std.proofs.Common.{◌≡◌, ◌∙◌, ℕ, zero, suc, ◌+◌, ◌*◌, ◌^◌, ◌<◌, ◌≤◌, false, Some, None, Option, List, [], ◌∷◌, ◌++◌, length, get_or, set, drop, refl, sym, ap, arith, append_assoc, add-one}
 use Rattle.std.proofs.Math.Seq.{drop-cons}
 use Rattle.std.proofs.lemmas.List.{length-set}
-use Rattle.squawk_output.specs.Steps.{Passed}
+use Rattle.squawk_output.specs.Steps as steps
+use Rattle.squawk_output.specs.Steps.{Passed, errors_in}
 use Rattle.squawk_output.specs.declared.event.Event.{Event}
 use Rattle.squawk_output.specs.declared.event.Event.TheVariants.{Start, Finish, Token, Error}
 use Rattle.squawk_output.specs.EventLog.{LinksLead, Log, ahead, entering, has_link, is_start, list_of, steps_of, turns_of}
@@ -10,6 +11,7 @@ use Rattle.squawk_output.specs.Chain.{LandsAt, chain, entered_back, erased, hop,
 use Rattle.squawk_output.specs.Pass.{Visits}
 use Rattle.squawk_output.proofs.Erased.{length-erased}
 use Rattle.squawk_output.proofs.Follows.{chain-start, erased-None, erased-start, length-chain}
+use Rattle.squawk_output.proofs.LogErrors.{errors-append}
 use Rattle.squawk_output.proofs.Links.{LandsAt-ahead, LinksLead-drop, LinksLead-erased, LinksLead-without}
 use Rattle.squawk_output.proofs.LogTurns.{one_if, turns_of-cons}
 use Rattle.squawk_output.proofs.Peel.{entered, list_of-cons}
@@ -158,17 +160,35 @@ drop-set (x ∷ xs) (suc n) event = drop-set xs n event
 module _ (log : Log) (output turned : Passed) (place : ℕ) (x d t : Event) (within : place < length log) (links : LinksLead log) (got : x ≡ get_or log place d)
     (gone : t ≡ tombstone)
     (turn : turned ≡ record output { turns = output.turns + 1 }) where
-  -- any other event gives its step
+  -- any other event begins the list of the log with its step
+  list-other : (event : Event) → ahead event ≡ None → x ≡ event → list_of (drop place log) ≡ steps_of event ++ list_of (drop (suc place) log)
+  list-other event alone is =
+      let begins : drop place log ≡ event ∷ drop (suc place) log = drop-cons log place d within ∙ ap (λ y. y ∷ drop (suc place) log) (sym got ∙ is) in
+      ap list_of begins
+      ∙ (list_of-cons event (drop (suc place) log)
+      ∙ (ap (λ from. (entered from (drop (suc place) log) ++ steps_of event) ++ list_of (erased from (drop (suc place) log))) alone
+      ∙ rw (entered-None (drop (suc place) log), erased-None (drop (suc place) log)) refl))
+
+  -- an error finds a number, where the list has no more errors than there are numbers
+  pub error_fits : (text : List ℕ) → x ≡ Error text → errors_in (output.steps ++ list_of (drop place log)) ≤ 2147483648 → errors_in turned.steps < 2147483648
+  error_fits text is few =
+      let rest = list_of (drop (suc place) log) in
+      omega (
+        arith,
+        ap (λ steps. errors_in (output.steps ++ steps)) (list-other (Error text) refl is),
+        errors-append output.steps (steps.Error text ∷ rest),
+        errors-append (steps.Error text ∷ []) rest,
+        ap (λ w. errors_in w.steps) turn,
+        few,
+      )
+
+  -- and it gives that step
   pub Visits-other : (made : Passed) (event : Event) → is_start event ≡ false → ahead event ≡ None → has_link event ≡ false → x ≡ event
       → made ≡ record turned { steps = turned.steps ++ steps_of event } → Visits log output (set log place t) made place
   Visits-other made event other alone unlinked is put =
       let begins : drop place log ≡ event ∷ drop (suc place) log = drop-cons log place d within ∙ ap (λ y. y ∷ drop (suc place) log) (sym got ∙ is) in
       let rest : drop (place + 1) (set log place t) ≡ drop (suc place) log = rw add-one (drop-set log place t) in
-      let list : list_of (drop place log) ≡ steps_of event ++ list_of (drop (suc place) log) =
-      ap list_of begins
-      ∙ (list_of-cons event (drop (suc place) log)
-      ∙ (ap (λ from. (entered from (drop (suc place) log) ++ steps_of event) ++ list_of (erased from (drop (suc place) log))) alone
-      ∙ rw (entered-None (drop (suc place) log), erased-None (drop (suc place) log)) refl)) in
+      let list = list-other event alone is in
       let steps : made.steps ≡ output.steps ++ steps_of event = rw (put, turn) refl in
       record {
         same_length = length-set log place t;

@@ -76,6 +76,16 @@ has_link event = false
 abbrev pub turns_of : Log → ℕ
 turns_of log = length log + count_by is_start log + 2 * count_by has_link log
 
+-- ---- the errors of a log
+
+abbrev pub is_error : Event → Bool
+is_error (Error text) = true
+is_error event = false
+
+-- how many of its events are errors
+abbrev pub errors_of : Log → ℕ
+errors_of log = count_by is_error log
+
 -- ---- logs whose links lead to later Starts
 
 abbrev pub is_start_at : Log → ℕ → Bool

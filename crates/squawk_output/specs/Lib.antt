@@ -1,5 +1,6 @@
 pub mod Steps
 pub mod StepViews
+pub mod StoredSteps
 pub mod EventLog
 pub mod Chain
 pub mod Pass

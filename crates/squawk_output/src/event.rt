@@ -1,8 +1,9 @@
 //! Events, and the one pass that makes an output of them.
-ghost use Rattle.std.specs.Prelude.{◌≡◌, ◌<◌, ◌+◌, ◌^◌, length, IfOk, ◌++◌, []};
+ghost use Rattle.std.specs.Prelude.{◌≡◌, ◌<◌, ◌≤◌, ◌+◌, ◌^◌, drop, length, IfOk, ◌++◌, []};
 ghost use Rattle.squawk_output.specs.Chain.{LandsAt, chain, entered_back, erased, hop, tombstone};
-ghost use Rattle.squawk_output.specs.EventLog.{LinksLead, entering, list_of, turns_of};
+ghost use Rattle.squawk_output.specs.EventLog.{LinksLead, entering, errors_of, list_of, turns_of};
 ghost use Rattle.squawk_output.specs.Pass.{Visits};
+ghost use Rattle.squawk_output.specs.Steps.{errors_in};
 
 use crate::output::passed::PassedSteps;
 use crate::output::{Output, Text};
@@ -72,13 +73,15 @@ impl Event {
 /// Each event gives its step where it stands; a `Start` of `TOMBSTONE` gives none. Where a `Start`
 /// has a link, all nodes along the links begin there, the farthest first, and nothing begins where
 /// those stand. If links lead to one `Start` from two places, it begins at the first of them. Every
-/// link leads to a later `Start`, and the log has at most 4294967295 events.
+/// link leads to a later `Start`, and the log has at most 4294967295 events, of which at most
+/// 2147483648 are errors.
 ///
 /// A turn is an event visited, a link followed, or a kind entered of those that a visit has found.
 /// An event that was reached by a link is visited too.
 pub fn process(alloc: Global, mut events: Vec<Event>, recorded: u32) -> Result<Output, AllocError>
     requires few { length events.items < 2 ^ 32 }
     requires links { LinksLead events.items }
+    requires errors { errors_of events.items ≤ 2147483648 }
     ensures { IfOk result (λ output. output ≡ record { steps = list_of events.items; recorded = recorded; turns = turns_of events.items }) }
 {
     let mut passed = PassedSteps::with_capacity(alloc, events.len())?;
@@ -100,6 +103,7 @@ fn visit(
     requires turns { passed.old.turns < 2 ^ 35 }
     requires within { place < length events.old.items }
     requires links { LinksLead events.old.items }
+    requires errors { errors_in (passed.old.steps ++ list_of (drop place events.old.items)) ≤ 2147483648 }
     requires none { kinds.old.items ≡ [] }
     ensures visits { IfOk result (λ _. Visits events.old.items passed.old events.new.items passed.new place) }
     ensures none { IfOk result (λ _. kinds.new.items ≡ []) }

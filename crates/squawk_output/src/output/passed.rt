@@ -1,6 +1,6 @@
 //! The steps that a pass makes.
 ghost use Rattle.std.specs.Prelude.{◌≡◌, [], ◌∷◌, ◌++◌, ◌+◌, ◌<◌, ◌^◌, IfOk, length};
-ghost use Rattle.squawk_output.specs.Steps.{Token, Enter, Exit, Error};
+ghost use Rattle.squawk_output.specs.Steps.{Token, Enter, Exit, Error, errors_in};
 
 use crate::output::steps::Steps;
 use crate::output::stored::StoredStep;
@@ -10,9 +10,12 @@ use std::alloc::{AllocError, Global};
 use std::marker::Model;
 
 /// The steps that a pass has made so far, and how many turns it took.
+///
+/// Each step is a word, and the text of each error stands in a list of its own, at the error's number.
 #[derive(Drop)]
 pub(crate) struct PassedSteps {
-    steps: Vec<StoredStep>,
+    words: Vec<u32>,
+    errors: Vec<Text>,
     turns: u64,
 }
 
@@ -21,10 +24,13 @@ impl Model for PassedSteps {
 
     ghost Value = { Passed };
 
-    ghost use Rattle.std.specs.Prelude.{map};
-    ghost use Rattle.squawk_output.specs.StepViews.{stored_of};
+    ghost use Rattle.std.specs.Prelude.{◌≡◌, map, length};
+    ghost use Rattle.squawk_output.specs.Steps.{errors_in};
+    ghost use Rattle.squawk_output.specs.StoredSteps.{HaveTexts, step_in};
 
-    ghost view = { λ p. record { steps = map stored_of p.steps.items; turns = p.turns } };
+    ghost view = { λ p. record { steps = map (step_in p.errors.items) p.words.items; turns = p.turns } };
+
+    ghost invariant = { λ p. HaveTexts p.errors.items p.words.items × (length p.errors.items ≡ errors_in (map (step_in p.errors.items) p.words.items)) };
 }
 
 impl PassedSteps {
@@ -33,7 +39,8 @@ impl PassedSteps {
         ensures { result ≡ record { steps = []; turns = 0 } }
     {
         PassedSteps {
-            steps: Vec::new(alloc),
+            words: Vec::new(alloc),
+            errors: Vec::new(alloc),
             turns: 0,
         }
     }
@@ -43,7 +50,8 @@ impl PassedSteps {
         ensures { IfOk result (λ p. p ≡ record { steps = []; turns = 0 }) }
     {
         Ok(PassedSteps {
-            steps: Vec::with_capacity(alloc, steps)?,
+            words: Vec::with_capacity(alloc, steps)?,
+            errors: Vec::new(alloc),
             turns: 0,
         })
     }
@@ -60,10 +68,11 @@ impl PassedSteps {
     pub(crate) fn token(&mut self, kind: SyntaxKind, n_input_tokens: u8) -> Result<(), AllocError>
         ensures { IfOk result (λ _. self.new ≡ record self.old { steps = self.old.steps ++ Token kind n_input_tokens ∷ [] }) }
     {
-        self.steps.push(StoredStep::Token {
+        let token = StoredStep::Token {
             kind,
             n_input_tokens,
-        })?;
+        };
+        self.words.push(token.pack())?;
         Ok(())
     }
 
@@ -71,7 +80,7 @@ impl PassedSteps {
     pub(crate) fn enter_node(&mut self, kind: SyntaxKind) -> Result<(), AllocError>
         ensures { IfOk result (λ _. self.new ≡ record self.old { steps = self.old.steps ++ Enter kind ∷ [] }) }
     {
-        self.steps.push(StoredStep::Enter { kind })?;
+        self.words.push(StoredStep::Enter { kind }.pack())?;
         Ok(())
     }
 
@@ -79,15 +88,20 @@ impl PassedSteps {
     pub(crate) fn leave_node(&mut self) -> Result<(), AllocError>
         ensures { IfOk result (λ _. self.new ≡ record self.old { steps = self.old.steps ++ Exit ∷ [] }) }
     {
-        self.steps.push(StoredStep::Exit)?;
+        self.words.push(StoredStep::Exit.pack())?;
         Ok(())
     }
 
-    /// Puts an error at the end.
+    /// Puts an error at the end. Numbers of errors have 31 bits.
     pub(crate) fn error(&mut self, msg: Text) -> Result<(), AllocError>
+        requires { errors_in self.old.steps < 2147483648 }
         ensures { IfOk result (λ _. self.new ≡ record self.old { steps = self.old.steps ++ Error msg ∷ [] }) }
     {
-        self.steps.push(StoredStep::Error { msg })?;
+        self.words.reserve(1)?;
+        let number = self.errors.len() as u32;
+        self.errors.push(msg)?;
+        self.words
+            .push_reserved(StoredStep::Error { number }.pack());
         Ok(())
     }
 
@@ -96,7 +110,7 @@ impl PassedSteps {
         ensures steps { result ≡ self.now.steps }
         ensures few { length self.now.steps < 2 ^ 64 }
     {
-        Steps::new(&self.steps)
+        Steps::new(&self.words, &self.errors)
     }
 
     /// How many turns it took.
@@ -106,3 +120,6 @@ impl PassedSteps {
         self.turns
     }
 }
+
+#[cfg(test)]
+mod tests;

@@ -1,17 +1,20 @@
 //! The steps of an output, one after another.
 ghost use Rattle.std.specs.Prelude.{◌≡◌, ◌∷◌, false, map, IsNone, IfSome};
 ghost use Rattle.std.specs.Str.{chars};
-ghost use Rattle.squawk_output.specs.StepViews.{stored_of};
+ghost use Rattle.squawk_output.specs.StoredSteps.{HaveTexts, step_in};
 ghost use Rattle.squawk_output.specs.Steps.{Error, begins_with_error};
 
 use crate::output::step::Step;
 use crate::output::stored::StoredStep;
+use crate::output::text::Text;
 use std::marker::Model;
 
 /// The steps that are left of an output.
 #[derive(Drop)]
 pub struct Steps<'a> {
-    steps: &'a [StoredStep],
+    words: &'a [u32],
+    /// The texts of the errors of the whole output, by their numbers.
+    errors: &'a [Text],
 }
 
 impl<'a> Model for Steps<'a> {
@@ -20,16 +23,19 @@ impl<'a> Model for Steps<'a> {
 
     ghost Value = { List plain.Step };
 
-    ghost use Rattle.squawk_output.specs.StepViews.{stored_of};
+    ghost use Rattle.squawk_output.specs.StoredSteps.{HaveTexts, step_in};
 
-    ghost view = { λ s. map stored_of s.steps.now };
+    ghost view = { λ s. map (step_in s.errors.now) s.words.now };
+
+    ghost invariant = { λ s. HaveTexts s.errors.now s.words.now };
 }
 
 impl<'a> Steps<'a> {
-    pub(crate) fn new(steps: &'a [StoredStep]) -> Steps<'a>
-        ensures { result ≡ map stored_of steps.now }
+    pub(crate) fn new(words: &'a [u32], errors: &'a [Text]) -> Steps<'a>
+        requires { HaveTexts errors.now words.now }
+        ensures { result ≡ map (step_in errors.now) words.now }
     {
-        Steps { steps }
+        Steps { words, errors }
     }
 
     /// Takes the next step if it is an error, and gives its text. Any other step stays.
@@ -38,10 +44,11 @@ impl<'a> Steps<'a> {
         ensures none { IsNone result → begins_with_error self.old ≡ false }
         ensures stays { IsNone result → self.new ≡ self.old }
     {
-        match self.steps.split_first() {
-            Some((StoredStep::Error { msg }, rest)) => {
-                self.steps = rest;
-                Some(msg.as_str())
+        let (word, rest) = self.words.split_first()?;
+        match StoredStep::unpack(*word) {
+            StoredStep::Error { number } => {
+                self.words = rest;
+                Some(self.errors[number as usize].as_str())
             }
             _ => None,
         }
@@ -61,9 +68,9 @@ impl<'a> Iterator for Steps<'a> {
     ghost remaining = { item_count (λ s. s) };
 
     fn next(&mut self) -> Option<Step<'a>> {
-        let (first, rest) = self.steps.split_first()?;
-        self.steps = rest;
-        Some(first.lend())
+        let (first, rest) = self.words.split_first()?;
+        self.words = rest;
+        Some(StoredStep::unpack(*first).lend(self.errors))
     }
 
     fn size_hint(&self) -> (usize, Option<usize>)
@@ -71,7 +78,7 @@ impl<'a> Iterator for Steps<'a> {
         ensures upper { IfSome result.1 (UpTo (item_count (λ s. s) self.now)) }
         ensures exact { (result.0 ≡ length self.now) × (result.1 ≡ Some (length self.now)) }
     {
-        let left = self.steps.len();
+        let left = self.words.len();
         (left, Some(left))
     }
 }

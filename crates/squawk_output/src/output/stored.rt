@@ -1,13 +1,20 @@
-//! The steps of an output as it keeps them.
-ghost use Rattle.std.specs.Prelude.{◌≡◌};
-ghost use Rattle.squawk_output.specs.StepViews.{step_of, stored_of};
+//! The steps of an output as it keeps them, in a word each.
+ghost use Rattle.std.specs.Prelude.{◌≡◌, ◌<◌};
+ghost use Rattle.squawk_output.specs.StepViews.{step_of};
+ghost use Rattle.squawk_output.specs.StoredSteps.{FitsWord, HasText, odd_word, packed, unpacked, with_text};
 
 use crate::output::step::Step;
 use crate::output::text::Text;
 use squawk_kinds::SyntaxKind;
 
-/// A step with a text of its own.
-#[derive(Debug, Drop)]
+const TOKEN: u32 = 0;
+
+const ENTER: u32 = 1;
+
+const EXIT: u32 = 2;
+
+/// A step whose text, if it is an error, is kept elsewhere.
+#[derive(Clone, Copy, Debug)]
 pub(crate) enum StoredStep {
     Token {
         kind: SyntaxKind,
@@ -17,27 +24,78 @@ pub(crate) enum StoredStep {
         kind: SyntaxKind,
     },
     Exit,
+    /// The errors of an output are numbered from 0.
     Error {
-        msg: Text,
+        number: u32,
     },
 }
 
 impl StoredStep {
-    /// The step, with its text lent.
-    pub(crate) fn lend(&self) -> Step<'_>
-        ensures { step_of result ≡ stored_of self.now }
+    /// The step as a word.
+    ///
+    /// An even word is twice an error's number. An odd one has 1 in its lowest four bits, and above
+    /// them four bits that tell a token, the beginning of a node, or its end; eight with the number of
+    /// input tokens; and sixteen with the kind.
+    pub(crate) fn pack(self) -> u32
+        requires { FitsWord self }
+        ensures word { result ≡ packed self }
+        ensures undone { unpacked result ≡ self }
+    {
+        match self {
+            StoredStep::Token {
+                kind,
+                n_input_tokens,
+            } => odd_word(kind, n_input_tokens, TOKEN),
+            StoredStep::Enter { kind } => odd_word(kind, 0, ENTER),
+            StoredStep::Exit => (EXIT << 4) + 1,
+            StoredStep::Error { number } => number * 2,
+        }
+    }
+
+    /// The step of a word.
+    pub(crate) fn unpack(word: u32) -> StoredStep
+        ensures { result ≡ unpacked word }
+    {
+        if word % 2 == 0 {
+            return StoredStep::Error { number: word / 2 };
+        }
+        let kind = SyntaxKind::from((word >> 16) as u16);
+        match (word >> 4) % 16 {
+            TOKEN => StoredStep::Token {
+                kind,
+                n_input_tokens: ((word >> 8) % 256) as u8,
+            },
+            ENTER => StoredStep::Enter { kind },
+            _ => StoredStep::Exit,
+        }
+    }
+
+    /// The step, with the text of its error out of all of them.
+    pub(crate) fn lend(self, errors: &[Text]) -> Step<'_>
+        requires { HasText errors.now self }
+        ensures { step_of result ≡ with_text errors.now self }
     {
         match self {
             StoredStep::Token {
                 kind,
                 n_input_tokens,
             } => Step::Token {
-                kind: *kind,
-                n_input_tokens: *n_input_tokens,
+                kind,
+                n_input_tokens,
             },
-            StoredStep::Enter { kind } => Step::Enter { kind: *kind },
+            StoredStep::Enter { kind } => Step::Enter { kind },
             StoredStep::Exit => Step::Exit,
-            StoredStep::Error { msg } => Step::Error { msg: msg.as_str() },
+            StoredStep::Error { number } => Step::Error {
+                msg: errors[number as usize].as_str(),
+            },
         }
     }
+}
+
+/// The word of a step that is no error.
+fn odd_word(kind: SyntaxKind, n_input_tokens: u8, tag: u32) -> u32
+    requires { tag < 16 }
+    ensures { result ≡ odd_word kind n_input_tokens tag }
+{
+    (u32::from(u16::from(kind)) << 16) + (u32::from(n_input_tokens) << 8) + (tag << 4) + 1
 }

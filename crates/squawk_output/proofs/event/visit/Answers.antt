@@ -3,7 +3,7 @@ use Rattle.std.proofs.lemmas.Result.{IfOk-weaker}
 use Rattle.squawk_output.specs.declared.event.Event.TheVariants.{Finish, Token, Error}
 use Rattle.squawk_output.proofs.Follows.{LandsAt-start}
 use Rattle.squawk_output.proofs.Links.{LinksLead-without}
-use Rattle.squawk_output.proofs.Visits.{Visits-other, Visits-start, kinds_fit}
+use Rattle.squawk_output.proofs.Visits.{Visits-other, Visits-start, error_fits, kinds_fit}
 use Rattle.squawk_output.proofs.event.visit.Goals as goal
 
 pub follow-requires-clause-links : goal.follow-requires-clause-links
@@ -54,3 +54,8 @@ returns-in-Error-clause-visits c =
     (c.replace.ensures.value ∙ c.index_mut.ensures.value) (c.replace.ensures.after ∙ c.tombstone.ensures) c.turn.ensures c.error.new.self
     (Error c.in-Error.msg) refl refl refl c.in-Error.is put)
     c.error.ensures
+
+pub error-requires : goal.error-requires
+error-requires c =
+    error_fits c.args.events.now.items c.args.passed.now c.turn.new.self c.args.place c.replace.result _ c.replace.new.dest c.requires.within c.requires.links
+    (c.replace.ensures.value ∙ c.index_mut.ensures.value) (c.replace.ensures.after ∙ c.tombstone.ensures) c.turn.ensures c.in-Error.msg c.in-Error.is c.requires.errors
