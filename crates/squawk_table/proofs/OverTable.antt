@@ -1,7 +1,8 @@
 -- A walk over the input of a table, from a raw place on.
-use Rattle.std.proofs.Common.{◌≡◌, ◌∙◌, ℕ, ◌+◌, ◌-◌, ◌≤◌, List, [], ◌∷◌, length, take, drop, arith, ap, sym, subst}
+use Rattle.std.proofs.Common.{◌≡◌, ◌∙◌, ℕ, suc, ◌+◌, ◌-◌, ◌≤◌, Bool, true, false, if◌then◌else◌, List, [], ◌∷◌, length, take, drop, arith, ap, refl, sym, subst}
 use Rattle.squawk_kinds.specs.Keywords.{Keywords}
-use Rattle.squawk_table.specs.ParserInput.{Entry, entries_of}
+use Rattle.squawk_kinds.specs.Kinds.{is_trivia}
+use Rattle.squawk_table.specs.ParserInput.{Entry, entries_of, entry_for}
 use Rattle.squawk_table.specs.RawTable.{RawToken, Table, raw_after}
 use Rattle.squawk_table.specs.Sent.{past_trivia, HasNoTrivia}
 use Rattle.squawk_table.specs.Shape.{IsOver, no_keywords}
@@ -45,3 +46,13 @@ IsOver-keywords a b (Token kind n ∷ steps) raws over =
 IsOver-keywords a b (Enter kind ∷ steps) raws over = IsOver-keywords a b steps raws over
 IsOver-keywords a b (Exit ∷ steps) raws over = IsOver-keywords a b steps raws over
 IsOver-keywords a b (Error text ∷ steps) raws over = IsOver-keywords a b steps raws over
+
+-- nor does it how many tokens there are
+pub length-keywords : (a b : Keywords) (raws : List RawToken) → length (entries_of a raws) ≡ length (entries_of b raws)
+length-keywords a b [] = refl
+length-keywords a b (raw ∷ raws) = cases (is_trivia raw.kind) (length-keywords a b raws)
+  where
+    cases : (trivia : Bool) → length (entries_of a raws) ≡ length (entries_of b raws)
+        → length (if trivia then entries_of a raws else entry_for a raw raws ∷ entries_of a raws) ≡ length (if trivia then entries_of b raws else entry_for b raw raws ∷ entries_of b raws)
+    cases true same = same
+    cases false same = ap suc same

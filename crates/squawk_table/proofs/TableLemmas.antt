@@ -11,6 +11,7 @@ use Rattle.squawk_tokens.specs.ErrorRanges.{LiesIn, StandApart}
 use Rattle.squawk_tokens.specs.LexicalErrors.{LexicalError, lexical_errors}
 use Rattle.squawk_table.specs.RawTable.{IsTable, Table, table_of, kinds_from, starts_from}
 use Rattle.squawk_kinds.specs.Keywords.{Keywords}
+use Rattle.squawk_table.proofs.NoEnd.{AreKeywords, table-no_end}
 
 abbrev none : Token
 none = record { kind = Ident; len = 0 }
@@ -54,9 +55,9 @@ module _ (keyword : Keywords) (text : List ℕ) (tokens : List Token) (ok : IsAc
   at i le = starts_from_at 0 tokens i le ∙ zero-add (start_of tokens i)
 
   -- an error that lies in a token lies in the table's
-  in_table : (fault : LexicalError) → ((i : ℕ) × LiesIn (start_of tokens) (length tokens) fault i)
-      → (i : ℕ) × LiesIn (slice_index (starts_from 0 tokens)) (length (kinds_from keyword text 0 tokens)) fault i
-  in_table fault (i, lies) =
+  in_table : (error : LexicalError) → ((i : ℕ) × LiesIn (start_of tokens) (length tokens) error i)
+      → (i : ℕ) × LiesIn (slice_index (starts_from 0 tokens)) (length (kinds_from keyword text 0 tokens)) error i
+  in_table error (i, lies) =
       let kinds = length-kinds_from keyword text 0 tokens in
       let within = lies.within in (
         i,
@@ -68,12 +69,13 @@ module _ (keyword : Keywords) (text : List ℕ) (tokens : List Token) (ok : IsAc
         },
       )
 
-  pub IsTable-table_of : IsUtf8 text → StandApart (start_of tokens) (length tokens) (lexical_errors text tokens) → IsTable (table_of keyword text tokens)
-  IsTable-table_of utf8 apart =
+  pub IsTable-table_of : AreKeywords keyword → IsUtf8 text → StandApart (start_of tokens) (length tokens) (lexical_errors text tokens) → IsTable (table_of keyword text tokens)
+  IsTable-table_of law utf8 apart =
       let kinds = length-kinds_from keyword text 0 tokens in
       let starts = length-starts_from 0 tokens in
       record {
         utf8 = utf8;
+        no_end = table-no_end keyword text tokens law ok;
         entries = omega arith;
         begins = at 0 (omega arith);
         ends = rw kinds (at (length tokens) (omega arith) ∙ ok.whole);

@@ -1,5 +1,5 @@
 -- Trivia at the front of raw tokens, and what stands behind it.
-use Rattle.std.proofs.Common.{◌≡◌, ℕ, ◌+◌, ◌<◌, true, List, [], ◌∷◌, ◌++◌, length, slice_index, ap, refl, inl, inr}
+use Rattle.std.proofs.Common.{◌≡◌, ℕ, ◌+◌, ◌<◌, true, false, List, [], ◌∷◌, ◌++◌, length, slice_index, ap, refl, inl, inr}
 use Rattle.std.proofs.lemmas.Bool.{cases_Bool}
 use Rattle.squawk_kinds.specs.Kinds.{is_trivia}
 use Rattle.squawk_table.specs.RawTable.{Table, RawToken, raw_at, raw_after}
@@ -39,3 +39,7 @@ module _ (t : Table) (i : ℕ) (lt : i < length t.kinds) (trivia : is_trivia (sl
 
   pub past_trivia-more : past_trivia (raw_after t i) ≡ past_trivia (raw_after t (i + 1))
   past_trivia-more = rw (raw_after-next t i lt, trivia) refl
+
+-- at a raw token that is none, nothing is left out
+pub past_trivia-here : (t : Table) (i : ℕ) → i < length t.kinds → is_trivia (slice_index t.kinds i) ≡ false → past_trivia (raw_after t i) ≡ raw_after t i
+past_trivia-here t i lt e = rw (raw_after-next t i lt, e) refl

@@ -1,13 +1,21 @@
 -- What contracts see of an input's tokens.
-use Rattle.std.specs.Prelude.{ℕ, ◌+◌}
-use Rattle.squawk_table.specs.ParserInput.{Entry, entry_for}
-use Rattle.squawk_table.specs.RawTable.{Table, raw_at, raw_after}
-use Rattle.squawk_kinds.specs.Keywords.{Keywords}
-use Rattle.squawk_table.specs.declared.input.InputToken.{InputToken}
+use Rattle.std.specs.Prelude.{◌≡◌, ℕ, Bool, false, List, length, map, slice_index}
+use Rattle.std.specs.List.{range_with_len, slice_index_or}
+use Rattle.squawk_table.specs.ParserInput.{Entry}
 
-abbrev pub entry_of : InputToken → Entry
-entry_of token = record { kind = token.kind; contextual_kind = token.contextual_kind; touches = token.joint }
+-- token k of an input, by the lists of kinds, of contextual kinds, and of whether each token touches the next
+abbrev pub entry_in : List ℕ → List ℕ → List Bool → ℕ → Entry
+entry_in kinds contextual_kinds touches k = record {
+  kind = slice_index kinds k;
+  contextual_kind = slice_index contextual_kinds k;
+  touches = slice_index_or touches k false;
+}
 
--- the entry of raw token i of a table
-abbrev pub entry_at : Keywords → Table → ℕ → Entry
-entry_at contextual table i = entry_for contextual (raw_at table i) (raw_after table (i + 1))
+-- its tokens
+abbrev pub entries_in : List ℕ → List ℕ → List Bool → List Entry
+entries_in kinds contextual_kinds touches = map (entry_in kinds contextual_kinds touches) (range_with_len 0 (length kinds))
+
+-- each of the lists has an item a token
+pub record IsEven (kinds contextual_kinds : List ℕ) (touches : List Bool) : Type 0 where
+  pub contextual : length contextual_kinds ≡ length kinds
+  pub joint : length touches ≡ length kinds

@@ -2,7 +2,9 @@ pub mod TokenKinds
 pub mod RawTable
 pub mod ParserInput
 pub mod InputView
+pub mod JointBits
 pub mod SinkViews
 pub mod Shape
 pub mod Sent
 pub mod Sending
+pub mod StrWalk

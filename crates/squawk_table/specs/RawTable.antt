@@ -1,10 +1,11 @@
 -- The table of a text's raw tokens.
-use Rattle.std.specs.Prelude.{◌≡◌, ℕ, zero, suc, ◌+◌, ◌-◌, ◌<◌, List, [], ◌∷◌, length, slice_index, slice_range, IsCharBoundary, IsUtf8}
+use Rattle.std.specs.Prelude.{◌≡◌, ◌≢◌, All, ℕ, zero, suc, ◌+◌, ◌-◌, ◌<◌, List, [], ◌∷◌, length, slice_index, slice_range, IsCharBoundary, IsUtf8}
 use Rattle.std.specs.List.{flat_map}
 use Rattle.squawk_tokens.specs.declared.token.Token.{Token}
 use Rattle.squawk_tokens.specs.ErrorRanges.{StandApart}
 use Rattle.squawk_tokens.specs.LexicalErrors.{LexicalError, lexical_errors}
 use Rattle.squawk_kinds.specs.Keywords.{Keywords}
+use Rattle.squawk_kinds.specs.Kinds.{EOF}
 use Rattle.squawk_table.specs.TokenKinds.{kind_of}
 
 -- A source, the syntax kinds of its raw tokens, where they start, and their lexical errors. The last start is the end of the
@@ -38,10 +39,11 @@ table_of keyword text tokens = record {
 abbrev pub piece : Table → ℕ → List ℕ
 piece t i = slice_range t.text (slice_index t.starts i) (slice_index t.starts (i + 1))
 
--- What every table keeps: the source is text, the starts ascend over character boundaries, from 0 to its end, and the errors
--- ascend without overlapping, each in one raw token.
+-- What every table keeps: the source is text, no raw token is the end, the starts ascend over character boundaries, from 0 to the
+-- source's end, and the errors ascend without overlapping, each in one raw token.
 pub record IsTable (t : Table) : Type 0 where
   pub utf8 : IsUtf8 t.text
+  pub no_end : All (λ kind. kind ≢ EOF) t.kinds
   pub entries : length t.starts ≡ length t.kinds + 1
   pub begins : slice_index t.starts 0 ≡ 0
   pub ends : slice_index t.starts (length t.kinds) ≡ length t.text

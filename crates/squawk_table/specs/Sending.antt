@@ -1,8 +1,9 @@
--- One step on its way to a sink.
-use Rattle.std.specs.Prelude.{ℕ, ◌+◌, ◌-◌, ◌≤◌, ◌==◌, nat_lt, Bool, true, false, List, [], ◌∷◌, ◌++◌, length, slice_index, slice_range, Result, Ok, Err}
+-- Steps on their way out, one after another.
+use Rattle.std.specs.Prelude.{ℕ, ◌+◌, ◌-◌, ◌≤◌, ◌==◌, nat_lt, Bool, true, false, List, [], ◌∷◌, ◌++◌, map, length, slice_index, slice_range, if◌then◌else◌}
 use Rattle.std.specs.Str.{chars}
 use Rattle.squawk_output.specs.Steps.{Step, Token, Enter, Exit, Error}
-use Rattle.squawk_table.specs.RawTable.{Table}
+use Rattle.squawk_table.specs.RawTable.{Table, RawToken, raw_after}
+use Rattle.squawk_table.specs.Sent.{sent_raw, leading_trivia}
 use Rattle.squawk_table.specs.declared.shortcuts.str_step.OwnedStep.{OwnedStep}
 use Rattle.squawk_table.specs.declared.shortcuts.str_step.OwnedStep.TheVariants as sent
 
@@ -37,7 +38,31 @@ abbrev pub next_place : ℕ → Step → ℕ
 next_place place (Token kind n) = place + n
 next_place place step = place
 
--- a sink took one step, or refused it and stands as before
-abbrev pub SendsOne : {X R Y : Type 0} → (List X → Type 0) → (List X → X → R → Type 0) → List X → X → Result Y R → Type 0
-SendsOne stands refuses before step (Ok y) = stands (before ++ step ∷ [])
-SendsOne stands refuses before step (Err answer) = stands before × refuses before step answer
+-- the trivia that is sent directly before a step, from a raw place inside of so many nodes on
+abbrev pub trivia_here : Table → ℕ → ℕ → Step → List RawToken
+trivia_here table place depth step = if receives_at depth step then leading_trivia (raw_after table place) else []
+
+-- the raw place of the step, behind that trivia
+abbrev pub place_here : Table → ℕ → ℕ → Step → ℕ
+place_here table place depth step = place + length (trivia_here table place depth step)
+
+-- what is sent for steps from a raw place inside of so many nodes on
+abbrev pub sent_from : Table → ℕ → ℕ → List Step → List OwnedStep
+sent_from table place depth [] = []
+sent_from table place depth (step ∷ steps) =
+    let at = place_here table place depth step in
+    map sent_raw (trivia_here table place depth step) ++ sent_here table at step ∷ sent_from table (next_place at step) (depth_behind depth step) steps
+
+-- the raw place behind them
+abbrev pub end_from : Table → ℕ → ℕ → List Step → ℕ
+end_from table place depth [] = place
+end_from table place depth (step ∷ steps) =
+    let at = place_here table place depth step in
+    end_from table (next_place at step) (depth_behind depth step) steps
+
+-- each of their tokens has its raw tokens, and they end within the table
+abbrev pub HaveTokens : Table → ℕ → ℕ → List Step → Type 0
+HaveTokens table place depth [] = place ≤ length table.kinds
+HaveTokens table place depth (step ∷ steps) =
+    let at = place_here table place depth step in
+    HasTokens table at step × HaveTokens table (next_place at step) (depth_behind depth step) steps

@@ -1,7 +1,9 @@
 -- What contracts see of the steps that a sink takes.
-use Rattle.std.specs.Prelude.{Bool, true, false, List, ◌∷◌}
+use Rattle.std.specs.Prelude.{Bool, true, false, List, ◌∷◌, Option, Some, None}
 use Rattle.std.specs.Str.{chars}
 use Rattle.squawk_output.specs.Steps.{Step, Exit}
+use Rattle.squawk_output.specs.StepViews.{step_of}
+use Rattle.squawk_output.specs.declared.output.step.Step.{Step as Lent}
 use Rattle.squawk_table.specs.declared.shortcuts.str_step.StrStep.{StrStep}
 use Rattle.squawk_table.specs.declared.shortcuts.str_step.StrStep.TheVariants as borrowed
 use Rattle.squawk_table.specs.declared.shortcuts.str_step.OwnedStep.{OwnedStep}
@@ -11,6 +13,11 @@ use Rattle.squawk_table.specs.declared.shortcuts.str_step.OwnedStep.TheVariants 
 abbrev pub behind_closing : Bool → List Step → List Step
 behind_closing true steps = Exit ∷ steps
 behind_closing false steps = steps
+
+-- steps behind one that waits, if one does
+abbrev pub behind_waiting : Option Lent → List Step → List Step
+behind_waiting (Some step) steps = step_of step ∷ steps
+behind_waiting None steps = steps
 
 -- a step that borrows its text, as the step that owns it
 abbrev pub owned_step_of : StrStep → OwnedStep

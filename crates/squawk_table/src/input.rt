@@ -1,22 +1,15 @@
 //! The input of a parser.
 ghost use Rattle.std.specs.Prelude.{◌≡◌, ◌<◌, ◌+◌, [], length, IfOk, IsTrue};
-ghost use Rattle.squawk_table.specs.InputView.{entry_of, entry_at};
-ghost use Rattle.squawk_table.specs.ParserInput.{input_of, kind_in, contextual_kind_in, touches_in, is_followed};
-ghost use Rattle.squawk_table.specs.RawTable.{raw_after};
+ghost use Rattle.squawk_table.specs.ParserInput.{HasNoEndToken, input_of, kind_in, contextual_kind_in, contextual_kind_of, touches_in, is_followed};
+ghost use Rattle.squawk_table.specs.RawTable.{raw_at, raw_after};
 
+mod joints;
+
+use crate::input::joints::Joints;
 use crate::lexed_str::LexedStr;
 use squawk_kinds::{SyntaxKind, Vocabulary};
 use std::alloc::{AllocError, Global};
 use std::marker::Model;
-
-/// A raw token that isn't trivia.
-#[derive(Clone, Copy, Debug)]
-struct InputToken {
-    kind: SyntaxKind,
-    contextual_kind: SyntaxKind,
-    /// Whether the next token of the input is the next raw token.
-    joint: bool,
-}
 
 /// The tokens that a parser sees: the raw tokens of a text without its trivia.
 ///
@@ -24,18 +17,23 @@ struct InputToken {
 /// from 0.
 #[derive(Drop)]
 pub struct Input {
-    tokens: Vec<InputToken>,
+    kinds: Vec<SyntaxKind>,
+    contextual_kinds: Vec<SyntaxKind>,
+    /// Whether the next token of the input is the next raw token.
+    joints: Joints,
 }
 
 impl Model for Input {
-    ghost use Rattle.std.specs.Prelude.{List, map};
+    ghost use Rattle.std.specs.Prelude.{List};
     ghost use Rattle.squawk_table.specs.ParserInput.{Entry};
 
     ghost Value = { List Entry };
 
-    ghost use Rattle.squawk_table.specs.InputView.{entry_of};
+    ghost use Rattle.squawk_table.specs.InputView.{IsEven, entries_in};
 
-    ghost view = { λ input. map entry_of input.tokens.items };
+    ghost view = { λ input. entries_in input.kinds.items input.contextual_kinds.items input.joints.bits };
+
+    ghost invariant = { λ input. IsEven input.kinds.items input.contextual_kinds.items input.joints.bits };
 }
 
 impl Input {
@@ -44,7 +42,9 @@ impl Input {
         ensures { result ≡ [] }
     {
         Input {
-            tokens: Vec::new(alloc),
+            kinds: Vec::new(alloc),
+            contextual_kinds: Vec::new(alloc),
+            joints: Joints::new(alloc),
         }
     }
 
@@ -52,15 +52,15 @@ impl Input {
     pub fn len(&self) -> usize
         ensures { result ≡ length self.now }
     {
-        self.tokens.len()
+        self.kinds.len()
     }
 
     /// The kind of token `i`, and [`SyntaxKind::EOF`] past the end.
     pub fn kind(&self, i: usize) -> SyntaxKind
         ensures { result ≡ kind_in self.now i }
     {
-        match self.tokens.get(i) {
-            Some(token) => token.kind,
+        match self.kinds.get(i) {
+            Some(kind) => *kind,
             None => SyntaxKind::EOF,
         }
     }
@@ -70,8 +70,8 @@ impl Input {
     pub fn contextual_kind(&self, i: usize) -> SyntaxKind
         ensures { result ≡ contextual_kind_in self.now i }
     {
-        match self.tokens.get(i) {
-            Some(token) => token.contextual_kind,
+        match self.contextual_kinds.get(i) {
+            Some(kind) => *kind,
             None => SyntaxKind::EOF,
         }
     }
@@ -82,7 +82,7 @@ impl Input {
         requires { i < length self.now }
         ensures { result ≡ touches_in self.now i }
     {
-        self.tokens[i].joint
+        self.joints.get(i)
     }
 }
 
@@ -93,15 +93,40 @@ impl LexedStr<'_> {
         alloc: Global,
         vocabulary: &V,
     ) -> Result<Input, AllocError>
-        ensures { IfOk result (λ input. input ≡ input_of (V.contextual_keyword vocabulary.now) self.now) }
+        ensures input { IfOk result (λ input. input ≡ input_of (V.contextual_keyword vocabulary.now) self.now) }
+        ensures no_end { IfOk result HasNoEndToken }
     {
-        let mut tokens = Vec::with_capacity(alloc, self.len())?;
-        for i in 0..self.len() {
-            if !self.kind(i).is_trivia() {
-                tokens.push_reserved(self.input_token(i, vocabulary));
+        let len = self.len();
+        let mut kinds = Vec::with_capacity(alloc, len)?;
+        let mut contextual_kinds = Vec::with_capacity(alloc, len)?;
+        let mut joints = Joints::with_capacity(alloc, len)?;
+        for i in 0..len {
+            let kind = self.kind(i);
+            if !kind.is_trivia() {
+                kinds.push_reserved(kind);
+                contextual_kinds.push_reserved(self.contextual_kind(i, vocabulary));
+                joints.push(self.is_followed(i));
             }
         }
-        Ok(Input { tokens })
+        Ok(Input {
+            kinds,
+            contextual_kinds,
+            joints,
+        })
+    }
+
+    /// The contextual kind of raw token `i`.
+    fn contextual_kind<V: Vocabulary>(&self, i: usize, vocabulary: &V) -> SyntaxKind
+        requires { i < length self.now.kinds }
+        ensures { result ≡ contextual_kind_of (V.contextual_keyword vocabulary.now) (raw_at self.now i) }
+    {
+        if self.kind(i) == SyntaxKind::IDENT {
+            vocabulary
+                .from_contextual_keyword(self.text(i))
+                .unwrap_or(SyntaxKind::IDENT)
+        } else {
+            SyntaxKind::EOF
+        }
     }
 
     /// Whether the raw token after `i` is there and isn't trivia.
@@ -111,25 +136,5 @@ impl LexedStr<'_> {
     {
         let len = self.len();
         i + 1 < len && !self.kind(i + 1).is_trivia()
-    }
-
-    /// Raw token `i` as a token of the input.
-    fn input_token<V: Vocabulary>(&self, i: usize, vocabulary: &V) -> InputToken
-        requires { i < length self.now.kinds }
-        ensures { entry_of result ≡ entry_at (V.contextual_keyword vocabulary.now) self.now i }
-    {
-        let kind = self.kind(i);
-        let contextual_kind = if kind == SyntaxKind::IDENT {
-            vocabulary
-                .from_contextual_keyword(self.text(i))
-                .unwrap_or(SyntaxKind::IDENT)
-        } else {
-            SyntaxKind::EOF
-        };
-        InputToken {
-            kind,
-            contextual_kind,
-            joint: self.is_followed(i),
-        }
     }
 }

@@ -12,4 +12,4 @@ pub use input::Input;
 pub use lexed_str::{
     Base, LexError, LexErrors, LexedStr, LiteralKind, TableError, Token, TokenKind, check_tokens,
 };
-pub use shortcuts::{OwnedStep, StepList, StepSink, StrStep};
+pub use shortcuts::{OwnedStep, StepList, StepSink, StrStep, StrSteps};

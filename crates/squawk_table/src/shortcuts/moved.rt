@@ -1,5 +1,5 @@
 //! The steps of an output in the order in which they are sent.
-ghost use Rattle.std.specs.Prelude.{◌≡◌};
+ghost use Rattle.std.specs.Prelude.{◌≡◌, ◌<◌, ◌^◌, length};
 ghost use Rattle.squawk_table.specs.Sent.{errors_moved};
 
 use squawk_output::{Step, Steps};
@@ -15,7 +15,7 @@ pub(super) struct MovedErrors<'a> {
 }
 
 impl<'a> Model for MovedErrors<'a> {
-    ghost use Rattle.std.specs.Prelude.{List};
+    ghost use Rattle.std.specs.Prelude.{List, length, ◌<◌, ◌^◌};
     ghost use Rattle.squawk_output.specs.Steps as plain;
     ghost use Rattle.squawk_table.specs.Sent.{errors_moved};
     ghost use Rattle.squawk_table.specs.SinkViews.{behind_closing};
@@ -23,16 +23,26 @@ impl<'a> Model for MovedErrors<'a> {
     ghost Value = { List plain.Step };
 
     ghost view = { λ m. errors_moved (behind_closing m.holds_closing m.steps) };
+
+    ghost invariant = { λ m. length (behind_closing m.holds_closing m.steps) < 2 ^ 64 };
 }
 
 impl<'a> MovedErrors<'a> {
     pub(super) fn new(steps: Steps<'a>) -> MovedErrors<'a>
+        requires { length steps < 2 ^ 64 }
         ensures { result ≡ errors_moved steps.entry }
     {
         MovedErrors {
             steps,
             holds_closing: false,
         }
+    }
+
+    /// How many steps are left.
+    pub(super) fn len(&self) -> usize
+        ensures { result ≡ length self.now }
+    {
+        self.steps.size_hint().0 + usize::from(self.holds_closing)
     }
 }
 

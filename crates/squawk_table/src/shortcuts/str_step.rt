@@ -5,7 +5,7 @@ use squawk_kinds::SyntaxKind;
 use squawk_output::Text;
 
 /// A step of a walk over a syntax tree, with the texts of its tokens.
-#[derive(Clone, Copy, Debug)]
+#[derive(Clone, Copy, Debug, PartialEq, Eq)]
 pub enum StrStep<'a> {
     /// A token and the part of the source under it.
     Token { kind: SyntaxKind, text: &'a str },

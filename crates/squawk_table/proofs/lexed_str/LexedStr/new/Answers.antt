@@ -16,5 +16,5 @@ invariant_of-result g c =
     let loop = c.loop-token in
     subst IsTable
     (is_table_of keyword c.args.text.now c.args.tokens.now loop.kinds.items loop.starts.items c.push.new.self.items c.in_ok-errors.errors.items loop.at loop.token-index (omega arith) loop.invariant.kinds loop.invariant.starts c.in_ok-push.ensures.items c.in_ok-errors.ensures.errors)
-    (IsTable-table_of keyword c.args.text.now c.args.tokens.now c.in_ok-check_tokens.ensures.answer c.utf8.text
+    (IsTable-table_of keyword c.args.text.now c.args.tokens.now c.in_ok-check_tokens.ensures.answer (g.met.V.Vocabulary.keywords_are_tokens c.args.vocabulary.now) c.utf8.text
     (subst (StandApart (start_of c.args.tokens.now) (length c.args.tokens.now)) c.in_ok-errors.ensures.errors c.in_ok-errors.ensures.apart))

@@ -1,6 +1,6 @@
 use Rattle.std.proofs.Common.{◌∙◌, ◌<◌, length, arith, ap, sym}
 use Rattle.squawk_kinds.specs.Kinds.{is_trivia}
-use Rattle.squawk_table.proofs.Trivia.{past_trivia-more}
+use Rattle.squawk_table.proofs.Trivia.{past_trivia-here, past_trivia-more}
 use Rattle.squawk_table.proofs.lexed_str.LexedStr.past_trivia.Goals as goal
 
 pub loop-place-preserved : goal.loop-place-preserved
@@ -10,3 +10,11 @@ loop-place-preserved c =
     let lt : i < length t.kinds = omega arith in
     let trivia = sym (c.is_trivia.ensures ∙ ap is_trivia c.kind.ensures) ∙ c.if-is_trivia.true in
     record { within = omega arith; past = sym (past_trivia-more t i lt trivia) ∙ c.loop-place.invariant.past }
+
+pub returns-else-is_trivia : goal.returns-else-is_trivia
+returns-else-is_trivia c =
+    let t = c.args.self.now in
+    let i = c.loop-place.place in
+    let lt : i < length t.kinds = omega arith in
+    let input = sym (c.is_trivia.ensures ∙ ap is_trivia c.kind.ensures) ∙ c.if-is_trivia.false in
+    (omega arith, sym (past_trivia-here t i lt input) ∙ c.loop-place.invariant.past)
