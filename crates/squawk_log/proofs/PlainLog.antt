@@ -1,14 +1,17 @@
--- The list of a log is the plain list of its draft, and its turns are at most four times what was recorded.
-use Rattle.std.proofs.Common.{◌≡◌, ◌∙◌, ℕ, ◌*◌, ◌==◌, ◌<◌, ◌≤◌, Bool, true, false, not, List, [], ◌∷◌, length, get_or, refl, sym, ap, arith, if◌then◌else◌}
+-- The list of a log is the plain list of its draft, with its errors, and its turns are at most four times what was recorded.
+use Rattle.std.proofs.Common.{◌≡◌, ◌∙◌, ℕ, ◌+◌, ◌*◌, ◌==◌, ◌<◌, ◌≤◌, Bool, true, false, not, List, [], ◌∷◌, length, get_or, refl, sym, ap, arith, if◌then◌else◌}
 use Rattle.squawk_kinds.specs.Kinds.{TOMBSTONE}
 use Rattle.squawk_output.specs.Steps as steps
+use Rattle.squawk_output.specs.Steps.{errors_in}
 use Rattle.squawk_output.specs.declared.event.Event.{Event}
 use Rattle.squawk_output.specs.declared.event.Event.TheVariants.{Start, Finish, Token, Error}
 use Rattle.squawk_output.specs.Chain.{tombstone}
 use Rattle.squawk_log.specs.Draft as draft
-use Rattle.squawk_log.specs.Draft.{Made, plain}
-use Rattle.squawk_output.specs.EventLog.{Log, has_link, list_of, steps_of, turns_of}
+use Rattle.squawk_log.specs.Draft.{Item, Made, plain}
+use Rattle.squawk_output.specs.EventLog.{Log, errors_of, has_link, list_of, steps_of, turns_of}
 use Rattle.squawk_output.proofs.Gathered.{least_owner, list_of-gathered, steps-here, steps_at}
+use Rattle.squawk_output.proofs.LogErrors.{errors_in-list_of}
+use Rattle.squawk_output.proofs.Sums.{count_by-cons}
 use Rattle.squawk_output.proofs.LogTurns.{turns_of-most}
 use Rattle.squawk_log.specs.LogDraft.{IsRecord, draft_items, items_of}
 use Rattle.squawk_log.proofs.GatheredItems.{draft_items-gathered, made_by, place_items}
@@ -34,6 +37,23 @@ plain-draft_items log marks holes =
     ∙ (gathered-same (least_owner log) (least_owner log) (λ j. plain (place_items log marks j)) (steps_at log) (length log) (λ j lt. refl)
     (λ j lt. plain-item j (made_by log j) (get_or log j Finish) (get_or marks j false) (holes j lt) ∙ steps-here log j Finish lt)
     ∙ sym (list_of-gathered log)))
+
+-- the errors of items are those of their steps
+pub errors-plain : (items : List Item) → draft.errors_of items ≡ errors_in (plain items)
+errors-plain [] = refl
+errors-plain (draft.Hole i made ∷ items) = count_by-cons draft.is_error (draft.Hole i made) items ∙ (omega (arith, errors-plain items))
+errors-plain (draft.Open i kind free ∷ items) =
+    count_by-cons draft.is_error (draft.Open i kind free) items ∙ (ap (λ n. 0 + n) (errors-plain items) ∙ sym (count_by-cons steps.is_error (steps.Enter kind) (plain items)))
+errors-plain (draft.Close ∷ items) = count_by-cons draft.is_error draft.Close items ∙ (ap (λ n. 0 + n) (errors-plain items) ∙ sym (count_by-cons steps.is_error steps.Exit (plain items)))
+errors-plain (draft.Token kind n ∷ items) =
+    count_by-cons draft.is_error (draft.Token kind n) items ∙ (ap (λ n. 0 + n) (errors-plain items) ∙ sym (count_by-cons steps.is_error (steps.Token kind n) (plain items)))
+errors-plain (draft.Error text ∷ items) =
+    count_by-cons draft.is_error (draft.Error text) items ∙ (ap (λ n. 1 + n) (errors-plain items) ∙ sym (count_by-cons steps.is_error (steps.Error text) (plain items)))
+
+-- and so the errors of a draft are those of its log
+pub errors-log : (log : Log) (marks : List Bool) (recorded errors : ℕ) → IsRecord log marks recorded errors → errors_of log ≡ draft.errors_of (draft_items log marks)
+errors-log log marks recorded errors is =
+    sym (errors_in-list_of log) ∙ (ap errors_in (sym (plain-draft_items log marks is.holes)) ∙ sym (errors-plain (draft_items log marks)))
 
 pub turns-most : (log : Log) (marks : List Bool) (recorded errors : ℕ) → IsRecord log marks recorded errors → turns_of log ≤ 4 * recorded
 turns-most log marks recorded errors is = omega (arith, turns_of-most log, is.few)

@@ -195,6 +195,7 @@ impl EventLog {
 
     /// The items as an output; holes are left out. It is made in one pass.
     pub fn finish(self, alloc: Global) -> Result<Output, AllocError>
+        requires { errors_of self.items ≤ 2147483648 }
         ensures output { IfOk result (λ o. o ≡ record { steps = plain self.items; recorded = self.recorded; turns = self.turns_due }) }
         ensures bound { self.turns_due ≤ 4 * self.recorded }
     {

@@ -1,5 +1,6 @@
 pub mod CompositeFacts
 pub mod CompositeLemmas
+pub mod Progress
 pub mod Pairs
 pub mod RecordedItems
 pub mod RecordedSteps
@@ -30,3 +31,7 @@ pub mod SeenTokens
 pub mod SeenSteps
 pub mod TouchingRun
 pub mod EatenExamples
+pub mod JoinedItems
+pub mod AddedSteps
+pub mod StepsInOrder
+pub mod WholeSteps

@@ -1,15 +1,12 @@
 -- Items at the end of a draft, and a hole among them that becomes an opening.
-use Rattle.std.proofs.Common.{◌≡◌, ◌∙◌, ℕ, ◌+◌, ◌<◌, ◌==◌, Bool, true, false, List, [], ◌∷◌, ◌++◌, cond, arith, ap, sym, refl}
+use Rattle.std.proofs.Common.{◌≡◌, ℕ, ◌+◌, ◌<◌, ◌==◌, Bool, true, false, List, [], ◌∷◌, ◌++◌, cond, arith, ap, refl}
 use Rattle.std.specs.Prelude.{All}
 use Rattle.std.proofs.lemmas.List.Sums.{sum_by-append}
 use Rattle.std.proofs.lemmas.List.Elements.{All-nil, All-cons, All-head, All-tail}
 use Rattle.std.proofs.lemmas.Grind.{flat_map-append}
-use Rattle.squawk_output.specs.Steps as steps
-use Rattle.squawk_output.specs.Steps.{Step, Enter, Exit, is_error, errors_in, eaten, count_of}
-use Rattle.squawk_log.specs.Draft as draft
-use Rattle.squawk_log.specs.Draft.{Item, Made, Hole, Open, Close, Token, Error, HasNoHole, IsAboveIds, errors_of, ids, ids_of, is_hole, plain, steps_of}
+use Rattle.squawk_output.specs.Steps.{Step, is_error, errors_in, eaten, count_of}
+use Rattle.squawk_log.specs.Draft.{Item, Made, Hole, Open, Close, Token, Error, HasNoHole, IsAboveIds, ids, ids_of, is_hole, plain, steps_of}
 use Rattle.squawk_log.specs.Edits.{filled}
-use Rattle.squawk_output.proofs.Sums.{count_by-cons}
 
 pub plain-append : (xs ys : List Item) → plain (xs ++ ys) ≡ plain xs ++ plain ys
 plain-append xs ys = flat_map-append steps_of xs ys
@@ -25,18 +22,6 @@ steps_errors-append xs ys = sum_by-append (λ step. cond (is_error step) 1 0) xs
 
 pub eaten-append : (xs ys : List Step) → eaten (xs ++ ys) ≡ eaten xs + eaten ys
 eaten-append xs ys = sum_by-append count_of xs ys
-
--- the errors of items are those of their steps
-pub errors-plain : (items : List Item) → errors_of items ≡ errors_in (plain items)
-errors-plain [] = refl
-errors-plain (Hole i made ∷ items) = count_by-cons draft.is_error (Hole i made) items ∙ (omega (arith, errors-plain items))
-errors-plain (Open i kind free ∷ items) =
-    count_by-cons draft.is_error (Open i kind free) items ∙ (ap (λ n. 0 + n) (errors-plain items) ∙ sym (count_by-cons is_error (Enter kind) (plain items)))
-errors-plain (Close ∷ items) = count_by-cons draft.is_error Close items ∙ (ap (λ n. 0 + n) (errors-plain items) ∙ sym (count_by-cons is_error Exit (plain items)))
-errors-plain (Token kind n ∷ items) =
-    count_by-cons draft.is_error (Token kind n) items ∙ (ap (λ n. 0 + n) (errors-plain items) ∙ sym (count_by-cons is_error (steps.Token kind n) (plain items)))
-errors-plain (Error text ∷ items) =
-    count_by-cons draft.is_error (Error text) items ∙ (ap (λ n. 1 + n) (errors-plain items) ∙ sym (count_by-cons is_error (steps.Error text) (plain items)))
 
 -- what holds of all elements holds of the first of them
 pub All-front : {X : Type 0} (P : X → Type 0) (xs ys : List X) → All P (xs ++ ys) → All P xs

@@ -14,7 +14,8 @@ use Rattle.squawk_parser.specs.Recorded.{IsPut, IsRefusedStep, Puts, turns_due_o
 use Rattle.squawk_parser.specs.State.{State, HasNotFailed, HasHole, IsReason, Keeps, Records}
 use Rattle.squawk_parser.specs.declared.parser.parse_error.ParseError.{ParseError}
 use Rattle.squawk_parser.proofs.Pairs.{AllPairs-nil, AllPairs-append}
-use Rattle.squawk_parser.proofs.RecordedItems.{plain-append, ids-append, filled-append, steps_errors-append, eaten-append, errors-plain, All-front, filled-below, filled-closed, filled-here}
+use Rattle.squawk_log.proofs.PlainLog.{errors-plain}
+use Rattle.squawk_parser.proofs.RecordedItems.{plain-append, ids-append, filled-append, steps_errors-append, eaten-append, All-front, filled-below, filled-closed, filled-here}
 use Rattle.squawk_log.proofs.EditedErrors.{errors-append}
 use Rattle.squawk_parser.proofs.Splits.{All-back}
 
@@ -29,7 +30,7 @@ turns_due_of-cons step xs = sum_by-cons turns_of_step step xs
 -- ---- one step after another
 
 pub Keeps-none : (a : State) → Keeps a a
-Keeps-none a = record { input = refl; words = refl; limit = refl; max_events = refl; max_errors = refl; reason = λ failed. refl }
+Keeps-none a = record { input = refl; words = refl; limit = refl; forward = omega arith; max_events = refl; max_errors = refl; reason = λ failed. refl }
 
 -- a parser that has failed has still failed afterwards
 still : {a b : State} → Keeps a b → IsSome a.first_reason → IsSome b.first_reason
@@ -40,13 +41,14 @@ Keeps-then {a} {b} {c} k l = record {
   input = l.input ∙ k.input;
   words = l.words ∙ k.words;
   limit = l.limit ∙ k.limit;
+  forward = omega (arith, k.forward, l.forward);
   max_events = l.max_events ∙ k.max_events;
   max_errors = l.max_errors ∙ k.max_errors;
   reason = λ failed. l.reason (still k failed) ∙ k.reason failed;
 }
 
 -- A parser that fails is refused one of the steps.
-abbrev Refuses : List Step → State → State → Type 0
+abbrev pub Refuses : List Step → State → State → Type 0
 Refuses xs a b = HasNotFailed a → (reason : ParseError) → b.first_reason ≡ Some reason → IsRefusedStep a xs reason
 
 -- A parser that goes on has recorded them.
@@ -88,7 +90,7 @@ earlier xs ys a reason r = record {
   why = r.why;
 }
 
-refuses-then : {xs ys : List Step} {a b c : State} → Keeps a b → Keeps b c → (HasNotFailed b → Counts xs a b) → Refuses xs a b → Refuses ys b c → Refuses (xs ++ ys) a c
+pub refuses-then : {xs ys : List Step} {a b c : State} → Keeps a b → Keeps b c → (HasNotFailed b → Counts xs a b) → Refuses xs a b → Refuses ys b c → Refuses (xs ++ ys) a c
 refuses-then {xs} {ys} {a} {b} {c} k l counts first second goes reason fails = cases b.first_reason refl
   where
     cases : (f : Option ParseError) → b.first_reason ≡ f → IsRefusedStep a (xs ++ ys) reason
@@ -159,7 +161,7 @@ puts-then {xs} {ys} {a} {b} {c} k l p q = record {
 -- ---- one event
 
 -- an event that is no error, as a step
-refuses-one : {a b : State} {edited : Draft} (step : Step) → is_error step ≡ false → Records a b edited → Refuses (step ∷ []) a b
+pub refuses-one : {a b : State} {edited : Draft} (step : Step) → is_error step ≡ false → Records a b edited → Refuses (step ∷ []) a b
 refuses-one {a} {b} {edited} step plain_step r goes reason fails = record { front = []; next = step; rest = []; is = refl; why = same plain_step (r.refused goes reason fails) }
   where
     same : {wrong : Bool} → wrong ≡ false → IsReason a.max_events a.max_errors a.draft.recorded (errors_of a.draft.items) false reason

@@ -1,11 +1,11 @@
 -- An error, and the current token with it in a node.
-use Rattle.std.proofs.Common.{◌≡◌, ◌≢◌, ◌∙◌, ℕ, ◌+◌, ◌==◌, Bool, true, false, List, [], ◌∷◌, if◌then◌else◌, arith, ap, sym, refl, subst}
-use Rattle.std.proofs.lemmas.Bool.{eqb-true}
+use Rattle.std.proofs.Common.{◌≡◌, ◌≢◌, ◌∙◌, ℕ, ◌+◌, ◌==◌, Bool, true, false, List, [], ◌∷◌, drop, if◌then◌else◌, arith, ap, sym, refl, subst}
+use Rattle.std.proofs.lemmas.Bool.{eqb-true, ne_eqb}
 use Rattle.squawk_kinds.specs.Kinds.{EOF, ERROR}
 use Rattle.squawk_table.specs.ParserInput.{Entry, kind_in}
 use Rattle.squawk_output.specs.Steps.{Error}
 use Rattle.squawk_log.specs.Draft.{IsAboveIds}
-use Rattle.squawk_parser.specs.Eaten.{current_as, node, recovery_steps}
+use Rattle.squawk_parser.specs.Eaten.{current_as, no_recovery, node, one, recovery_steps}
 use Rattle.squawk_log.specs.Edits.{completed, started, with_token}
 use Rattle.squawk_parser.specs.Recorded.{Puts}
 use Rattle.squawk_parser.specs.State.{State, HasNotFailed, Keeps, Records, ahead, kind_at}
@@ -61,3 +61,25 @@ pub recovery-same : (text : List ℕ) (recovers others : ℕ → Bool) (seen : L
     → recovery_steps text recovers seen ≡ recovery_steps text others seen
 recovery-same text recovers others seen same =
     ap (λ b. if b then Error text ∷ [] else node ERROR (Error text ∷ current_as (kind_in seen 0) seen)) (same (kind_in seen 0))
+
+-- ---- where no kind is one to go on from, the current token is eaten
+
+-- the current token stands with the error in a node, and is gone
+pub record EatsOne (text : List ℕ) (a b : State) : Type 0 where
+  pub entry : Entry
+  pub is : ahead a 0 ≡ entry ∷ ahead b 0
+  pub kind : entry.kind ≢ EOF
+  pub puts : Puts (node ERROR (Error text ∷ one entry.kind ∷ [])) a b
+
+pub eats_one : {text : List ℕ} {a b : State} → Keeps a b → kind_at a 0 ≢ EOF → Puts (recovery_steps text no_recovery (ahead a 0)) a b → EatsOne text a b
+eats_one {text} {a} {b} keeps some puts = cases (ahead a 0) refl
+  where
+    cases : (seen : List Entry) → ahead a 0 ≡ seen → EatsOne text a b
+    cases [] e = absurd (some (kind_at-first a ∙ ap (λ seen. kind_in seen 0) e))
+    cases (entry ∷ rest) e =
+        let kind : entry.kind ≢ EOF = λ end. some (kind_at-first a ∙ (ap (λ seen. kind_in seen 0) e ∙ end)) in
+        let same : recovery_steps text no_recovery (entry ∷ rest) ≡ node ERROR (Error text ∷ one entry.kind ∷ []) =
+        ap (λ steps. node ERROR (Error text ∷ steps)) (if-false _ _ _ (ne_eqb entry.kind EOF kind)) in
+        let put : Puts (node ERROR (Error text ∷ one entry.kind ∷ [])) a b =
+        subst (λ steps. Puts steps a b) (ap (recovery_steps text no_recovery) e ∙ same) puts in
+        record { entry = entry; is = e ∙ ap (λ seen. entry ∷ seen) (sym (ahead-moved 1 keeps put.position ∙ ap (drop 1) e)); kind = kind; puts = put }

@@ -1,7 +1,7 @@
 -- The tokens that are seen, and what acts that eat make of them.
 use Rattle.std.proofs.Common.{◌≡◌, ◌≢◌, ◌∙◌, ℕ, zero, suc, ◌+◌, ◌<◌, ◌≤◌, ◌==◌, ◌&&◌, ◌||◌, Bool, true, false, List, [], ◌∷◌, length, take, drop, nat_lt, if◌then◌else◌, arith, ap, sym, refl}
 use Rattle.std.specs.List.{list_any}
-use Rattle.std.proofs.lemmas.List.{drop-drop}
+use Rattle.std.proofs.lemmas.List.{drop-drop, take_all}
 use Rattle.std.proofs.lemmas.List.Elements.{All-head, All-tail}
 use Rattle.squawk_kinds.specs.Kinds.{EOF, UNICODE_NORMAL_FORM}
 use Rattle.squawk_table.specs.ParserInput.{Entry, kind_in}
@@ -10,7 +10,7 @@ use Rattle.squawk_parser.specs.Composites.{HasNoEndKind, do_touch, normal_form, 
 use Rattle.squawk_parser.specs.Eaten.{element_steps, node, one}
 use Rattle.squawk_log.specs.Edits.{with_token}
 use Rattle.squawk_parser.specs.Recorded.{Puts}
-use Rattle.squawk_parser.specs.State.{State, Keeps, Records, ahead, kind_at}
+use Rattle.squawk_parser.specs.State.{State, IsFresh, Keeps, Records, ahead, kind_at}
 use Rattle.squawk_parser.proofs.CompositeLemmas.{kind_in-drop}
 use Rattle.squawk_parser.proofs.RecordedSteps.{token_puts}
 
@@ -48,6 +48,13 @@ ahead-moved {a} {b} n keeps position =
 -- where none was eaten, all are
 pub ahead-still : {a b : State} → Keeps a b → b.position ≡ a.position → ahead b 0 ≡ ahead a 0
 ahead-still {a} {b} keeps position = ahead-moved 0 keeps (position ∙ (omega arith))
+
+-- a parser at the beginning sees all of its input
+pub ahead-fresh : {s : State} → IsFresh s → ahead s 0 ≡ s.input
+ahead-fresh {s} fresh =
+    let place : s.position + 0 ≡ 0 = omega (arith, ap (λ s. s.position) fresh) in
+    let limit : s.limit ≡ length s.input = ap (λ s. s.limit) fresh in
+    ap (λ place. drop place (take s.limit s.input)) place ∙ (ap (λ limit. take limit s.input) limit ∙ take_all (length s.input) s.input (omega arith))
 
 -- ---- one token
 

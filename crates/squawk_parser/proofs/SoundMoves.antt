@@ -12,7 +12,8 @@ use Rattle.squawk_parser.specs.State.{State, HasNotFailed}
 use Rattle.squawk_parser.specs.declared.parser.parse_error.ParseError.TheVariants.{TooManyEvents, TooManyErrors}
 use Rattle.squawk_output.proofs.Sums.{count_by-cons}
 use Rattle.squawk_parser.proofs.Balance.{depth_after, depth_after-append, depth_after-suc, depth_after-balanced, IsBalanced-depth_after}
-use Rattle.squawk_parser.proofs.RecordedItems.{plain-append, ids-append, eaten-append, steps_errors-append, errors-plain}
+use Rattle.squawk_log.proofs.PlainLog.{errors-plain}
+use Rattle.squawk_parser.proofs.RecordedItems.{plain-append, ids-append, eaten-append, steps_errors-append}
 use Rattle.squawk_parser.proofs.Soundness.{IsKept, HasNoIdTwice-push, not_refused}
 use Rattle.squawk_parser.proofs.ItemCounts.{HasFewTurns, length-preceded}
 use Rattle.squawk_log.proofs.Groups.{itself}

@@ -8,3 +8,4 @@ pub mod Recorded
 pub mod Eaten
 pub mod Parse
 pub mod ErrorLines
+pub mod Composed

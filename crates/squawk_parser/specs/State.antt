@@ -65,11 +65,12 @@ limited s n = record s { limit = min s.limit (s.position + n) }
 abbrev pub with_limit_of : State → State → State
 with_limit_of s other = record s { limit = other.limit }
 
--- the input, the words and the limits stay, and so does a first reason to fail
+-- the input, the words and the limits stay, and so does a first reason to fail; no token is given back
 pub record Keeps (old new : State) : Type 0 where
   pub input : new.input ≡ old.input
   pub words : new.words ≡ old.words
   pub limit : new.limit ≡ old.limit
+  pub forward : old.position ≤ new.position
   pub max_events : new.max_events ≡ old.max_events
   pub max_errors : new.max_errors ≡ old.max_errors
   pub reason : IsSome old.first_reason → new.first_reason ≡ old.first_reason

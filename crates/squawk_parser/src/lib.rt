@@ -2,8 +2,8 @@
 //!
 //! A grammar is an `impl` of [`Grammar`]: it looks at the tokens ahead, starts nodes, eats tokens and
 //! completes nodes. [`EntryPoint::parse`] runs it over the tokens that aren't trivia, and
-//! [`LexedStr::intersperse_trivia`] sends what it recorded, with the trivia, to a [`StepSink`]. This
-//! one is of names:
+//! [`LexedStr::intersperse_trivia`] sends what it recorded, with the trivia, to a [`StepSink`];
+//! [`LexedStr::str_steps`] gives it step by step. This one is of names:
 //!
 //! ```rust
 //! const SOURCE_FILE: u16 = 710;
@@ -66,15 +66,9 @@
 //! }
 //!
 //! /// Sends the steps of a text with these raw tokens, and tells whether they have all of it.
-//! fn send<V: Vocabulary>(
-//!     alloc: Global,
-//!     text: &str,
-//!     tokens: &[Token],
-//!     words: &V,
-//!     sink: &mut StepList,
-//! ) -> Result<bool, Fail> {
-//!     let table = LexedStr::new(alloc, text, tokens, words)?;
-//!     let input = table.to_input(alloc, words)?;
+//! fn send(alloc: Global, text: &str, tokens: &[Token], sink: &mut StepList) -> Result<bool, Fail> {
+//!     let table = LexedStr::new(alloc, text, tokens, &NoKeywords)?;
+//!     let input = table.to_input(alloc, &NoKeywords)?;
 //!     let output = EntryPoint::SourceFile.parse(alloc, &input, &Names)?;
 //!     Ok(table.fits(&output) && table.intersperse_trivia(&output, sink)?)
 //! }
@@ -94,11 +88,12 @@ pub use parser::{
     CompletedMarker, EntryPoint, Grammar, Limits, Marker, ParseError, Parser, Part, Words, has_tail,
 };
 pub use squawk_kinds::{
-    SyntaxKind, TokenSet, Vocabulary, classes, is_col_name_keyword, is_reserved_keyword,
-    is_type_func_name_keyword, syntax_kind, token_set, vocabulary,
+    NoKeywords, SyntaxKind, TokenSet, Vocabulary, classes, is_col_name_keyword,
+    is_reserved_keyword, is_type_func_name_keyword, no_keywords, syntax_kind, token_set,
+    vocabulary,
 };
 pub use squawk_output::{Event, Output, Step, Steps, Text, event, output, process};
 pub use squawk_table::{
     Base, Input, LexError, LexErrors, LexedStr, LiteralKind, OwnedStep, StepList, StepSink,
-    StrStep, TableError, Token, TokenKind, check_tokens, input, lexed_str, shortcuts,
+    StrStep, StrSteps, TableError, Token, TokenKind, check_tokens, input, lexed_str, shortcuts,
 };

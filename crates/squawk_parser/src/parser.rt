@@ -67,7 +67,8 @@ impl<'t> Parser<'t> {
     /// A parser at the beginning of an input.
     fn new(alloc: Global, input: &'t Input, words: Words<'t>, limits: Limits) -> Parser<'t>
         requires { HasNoEnd (words_of words) }
-        ensures { result ≡ fresh input.now (words_of words.entry) limits.events limits.errors }
+        ensures begins { result ≡ fresh input.now (words_of words.entry) limits.events limits.errors }
+        ensures sound { IsSound result }
     {
         let Words {
             operator_first,
@@ -107,6 +108,7 @@ impl<'t> Parser<'t> {
     /// It is refused for the parser's first reason; if that has none, by want of memory, where the
     /// grammar answers it or the output finds none.
     fn finish(self, run: Result<(), AllocError>) -> Result<Output, ParseError>
+        requires { self.max_errors ≤ 2147483648 }
         ensures sound { IsSound self.entry }
         ensures went { IsOk result → HasNotFailed self.entry × IsOk run }
         ensures output { IfOk result (λ o. o ≡ record { steps = plain self.entry.draft.items; recorded = self.entry.draft.recorded; turns = self.entry.draft.turns_due }) }

@@ -15,7 +15,7 @@ use Rattle.squawk_script.specs.Events.{IsRunOf, LeavesOne, errors_among, events_
 use Rattle.squawk_script.specs.Meaning.{Meaning, run_of}
 use Rattle.squawk_script.specs.declared.call.Call.{Call}
 use Rattle.squawk_script.specs.contracts.script.ScriptGrammar.TheImpl as grammar
-use Rattle.squawk_parser.proofs.RecordedItems.{errors-plain}
+use Rattle.squawk_log.proofs.PlainLog.{errors-plain}
 use Rattle.squawk_script.proofs.Events.{errors-events, errors_among-append, recorded-events}
 use Rattle.squawk_script.proofs.Refusals.{Tells, error-at, is-none, refused-error, refused-event, tells}
 

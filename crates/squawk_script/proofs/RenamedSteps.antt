@@ -3,7 +3,7 @@ use Rattle.std.proofs.Common.{◌≡◌, ◌∙◌, ℕ, List, [], ◌∷◌, ma
 use Rattle.squawk_output.specs.Steps.{Enter, Exit, Token, Error, errors_in}
 use Rattle.squawk_log.specs.Draft as draft
 use Rattle.squawk_log.specs.Draft.{Item, errors_of, plain}
-use Rattle.squawk_parser.proofs.RecordedItems.{errors-plain}
+use Rattle.squawk_log.proofs.PlainLog.{errors-plain}
 use Rattle.squawk_script.specs.Slots.{renamed, same_id}
 
 plain-renamed : (f : ℕ → ℕ) (items : List Item) → plain (map (renamed f) items) ≡ plain items

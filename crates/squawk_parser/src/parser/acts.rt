@@ -1,5 +1,5 @@
 //! What a grammar records.
-ghost use Rattle.std.specs.Prelude.{◌≡◌, ◌≢◌, ◌+◌, ◌∷◌, []};
+ghost use Rattle.std.specs.Prelude.{◌≡◌, ◌≢◌, ◌+◌, ◌<◌, ◌∷◌, [], false};
 ghost use Rattle.std.specs.Str.{chars};
 ghost use Rattle.squawk_kinds.specs.Kinds.{EOF};
 ghost use Rattle.squawk_kinds.specs.TokenSets.{has};
@@ -8,7 +8,7 @@ ghost use Rattle.squawk_log.specs.Draft.{ByStart, IsAboveIds};
 ghost use Rattle.squawk_parser.specs.Eaten.{recovery_steps, no_recovery};
 ghost use Rattle.squawk_log.specs.Edits.{started, with_token};
 ghost use Rattle.squawk_parser.specs.Recorded.{Puts};
-ghost use Rattle.squawk_parser.specs.State.{HasNotFailed, Keeps, Records, ahead, kind_at};
+ghost use Rattle.squawk_parser.specs.State.{HasHole, HasNotFailed, Keeps, Records, ahead, kind_at};
 
 use crate::parser::Parser;
 use crate::parser::marker::Marker;
@@ -24,6 +24,7 @@ impl Parser<'_> {
         ensures keeps { Keeps self.old self.new }
         ensures position { self.new.position ≡ self.old.position }
         ensures records { Records self.old self.new (started self.old.draft result.id) }
+        ensures hole { HasHole self.new result }
     {
         let id = self.log.next_id();
         if self.has_room() {
@@ -75,6 +76,7 @@ impl Parser<'_> {
     pub fn err_recover(&mut self, msg: &str, recovery: TokenSet)
         ensures keeps { Keeps self.old self.new }
         ensures puts { Puts (recovery_steps (chars msg.now) (has recovery) (ahead self.old 0)) self.old self.new }
+        ensures eats { has recovery (kind_at self.old 0) ≡ false → kind_at self.old 0 ≢ EOF → self.old.position < self.new.position }
     {
         if self.at_ts(recovery) {
             self.error(msg);
@@ -91,6 +93,7 @@ impl Parser<'_> {
     pub fn err_and_bump(&mut self, msg: &str)
         ensures keeps { Keeps self.old self.new }
         ensures puts { Puts (recovery_steps (chars msg.now) no_recovery (ahead self.old 0)) self.old self.new }
+        ensures eats { kind_at self.old 0 ≢ EOF → self.old.position < self.new.position }
     {
         self.err_recover(msg, TokenSet::EMPTY);
     }

@@ -59,6 +59,7 @@ pub(super) enum Form {
 }
 
 /// The row of a composite kind; a kind that isn't composite has none.
+#[inline(always)]
 pub(super) fn composite(kind: SyntaxKind) -> Option<Form>
     ensures { option_map form_of result ≡ option_map (λ row. row.form) (find (λ row. row.kind == kind) composites) }
 {

@@ -1,7 +1,8 @@
 //! Acts that eat a kind where it stands, a composite one as its row says.
-ghost use Rattle.std.specs.Prelude.{ℕ, ◌≡◌, ◌≢◌, ◌∷◌, ◌++◌, [], codes, string_bytes, map, IfOk, IsTrue, IsSome, not};
+ghost use Rattle.std.specs.Prelude.{ℕ, ◌≡◌, ◌≢◌, ◌<◌, ◌∷◌, ◌++◌, [], codes, string_bytes, map, IfOk, IsTrue, IsSome, not};
 ghost use Rattle.squawk_kinds.specs.Kinds.{EOF, R_PAREN, TOMBSTONE};
 ghost use Rattle.squawk_kinds.specs.TokenSets.{has};
+ghost use Rattle.squawk_table.specs.ParserInput.{kind_in};
 ghost use Rattle.squawk_parser.specs.CompositeRows.{element_of, tail_of};
 ghost use Rattle.squawk_parser.specs.Composites.{ClosedBy, HasNoEndKind, NoTail, Operator, do_touch, normal_form, sequence_length, stands_at};
 ghost use Rattle.squawk_parser.specs.Eaten.{EatsWith, closing_steps, eat_steps, element_steps, expect_steps, form_steps, name_in, node, one, tail_of_kind};
@@ -26,6 +27,7 @@ impl Parser<'_> {
         ensures at { result ≡ stands_at (has self.old.words.operator_first) kind (ahead self.old 0) }
         ensures keeps { Keeps self.old self.new }
         ensures puts { IsTrue result → Puts (eat_steps self.old.words kind (ahead self.old 0)) self.old self.new }
+        ensures eats { IsTrue result → self.old.position < self.new.position }
         ensures none { IsTrue (not result) → self.new ≡ self.old }
     {
         if !self.at(kind) {
@@ -54,6 +56,7 @@ impl Parser<'_> {
         ensures at { result ≡ stands_at (has self.old.words.operator_first) kind (ahead self.old 0) }
         ensures keeps { Keeps self.old self.new }
         ensures eats { IsTrue result → EatsWith (λ before after. F.does tail before after tt) kind self.old self.new }
+        ensures forward { IsTrue result → self.old.position < self.new.position }
         ensures none { IsTrue (not result) → self.new ≡ self.old }
     {
         if !self.at(kind) {
@@ -90,6 +93,7 @@ impl Parser<'_> {
         requires at { IsTrue (stands_at (has self.old.words.operator_first) kind (ahead self.old 0)) }
         ensures keeps { Keeps self.old self.new }
         ensures puts { Puts (eat_steps self.old.words kind (ahead self.old 0)) self.old self.new }
+        ensures eats { self.old.position < self.new.position }
     {
         self.eat(kind);
     }
@@ -104,6 +108,7 @@ impl Parser<'_> {
         ensures at { result ≡ stands_at (has self.old.words.operator_first) kind (ahead self.old 0) }
         ensures keeps { Keeps self.old self.new }
         ensures puts { Puts (expect_steps self.old.words kind (ahead self.old 0)) self.old self.new }
+        ensures eats { IsTrue result → self.old.position < self.new.position }
     {
         if self.eat(kind) {
             return true;
@@ -149,6 +154,7 @@ impl Parser<'_> {
         requires { kind ≢ TOMBSTONE }
         ensures keeps { Keeps self.old self.new }
         ensures puts { Puts (form_steps (has self.old.words.operator_first) kind Operator (ahead self.old 0)) self.old self.new }
+        ensures eats { IsTrue (has self.old.words.operator_first (kind_in (ahead self.old 0) 0)) → self.old.position < self.new.position }
     {
         let len = self.view(0).operator_len(&self.operator_first);
         let node = self.start();

@@ -30,7 +30,7 @@ pub trait Grammar {
     ghost use Rattle.std.specs.Prelude.{List, ◌≡◌, OnOk};
     ghost use Rattle.squawk_table.specs.ParserInput.{Entry};
     ghost use Rattle.squawk_log.specs.Draft.{Draft, HasNoHole};
-    ghost use Rattle.squawk_parser.specs.State.{State, HasNotFailed, Keeps, IsFresh};
+    ghost use Rattle.squawk_parser.specs.State.{State, HasNotFailed, IsFresh, IsSound, Keeps};
     ghost use Rattle.squawk_parser.specs.Words as spec;
     ghost use Rattle.squawk_parser.specs.declared.parser.grammar.EntryPoint.{EntryPoint};
 
@@ -51,6 +51,8 @@ pub trait Grammar {
     /// Parses the input as a source file.
     fn entry_point(&self, p: &mut Parser<'_>) -> Result<(), AllocError>
         requires fresh { IsFresh p.old }
+        // What every parser keeps.
+        requires sound { IsSound p.old }
         requires words { p.old.words ≡ meaning self.now }
         ensures keeps { Keeps p.old p.new }
         ensures closed { OnOk result (HasNotFailed p.new → HasNoHole p.new.draft.items) }
@@ -60,6 +62,8 @@ pub trait Grammar {
     /// Parses the input as the body of a PL/pgSQL function.
     fn plpgsql_entry_point(&self, p: &mut Parser<'_>) -> Result<(), AllocError>
         requires fresh { IsFresh p.old }
+        // What every parser keeps.
+        requires sound { IsSound p.old }
         requires words { p.old.words ≡ meaning self.now }
         ensures keeps { Keeps p.old p.new }
         ensures closed { OnOk result (HasNotFailed p.new → HasNoHole p.new.draft.items) }

@@ -2,7 +2,7 @@
 //!
 //! A look is at the token that is so many places from the current one. It sees no token at the limit
 //! or past it; there, and past the input, both kinds are [`SyntaxKind::EOF`].
-ghost use Rattle.std.specs.Prelude.{◌≡◌, ◌+◌, ◌<◌, ◌==◌, SomeIff};
+ghost use Rattle.std.specs.Prelude.{◌≡◌, ◌+◌, ◌<◌, ◌==◌, SomeIff, true};
 ghost use Rattle.squawk_parser.specs.Composites.{stands_at};
 ghost use Rattle.squawk_parser.specs.Operators.{operator_length, is_next_apart};
 ghost use Rattle.squawk_parser.specs.State.{ahead, kind_at, contextual_kind_at};
@@ -21,6 +21,7 @@ impl Parser<'_> {
     }
 
     /// The kind of the token `n` places ahead.
+    #[inline(always)]
     pub fn nth(&self, n: usize) -> SyntaxKind
         ensures { result ≡ kind_at self.now n }
     {
@@ -41,6 +42,7 @@ impl Parser<'_> {
     }
 
     /// Whether the kind, which may be a composite one, stands at the position.
+    #[inline(always)]
     pub fn at(&self, kind: SyntaxKind) -> bool
         ensures { result ≡ stands_at (has self.now.words.operator_first) kind (ahead self.now 0) }
     {
@@ -48,6 +50,7 @@ impl Parser<'_> {
     }
 
     /// Whether the kind, which may be a composite one, stands `n` places ahead.
+    #[inline(always)]
     pub fn nth_at(&self, n: usize, kind: SyntaxKind) -> bool
         ensures { result ≡ stands_at (has self.now.words.operator_first) kind (ahead self.now n) }
     {
@@ -55,6 +58,7 @@ impl Parser<'_> {
     }
 
     /// Whether the set has the current kind.
+    #[inline(always)]
     pub fn at_ts(&self, set: TokenSet) -> bool
         ensures { result ≡ has set (kind_at self.now 0) }
     {
@@ -62,6 +66,7 @@ impl Parser<'_> {
     }
 
     /// Whether the set has the kind of the token `n` places ahead.
+    #[inline(always)]
     pub fn nth_at_ts(&self, n: usize, set: TokenSet) -> bool
         ensures { result ≡ has set (kind_at self.now n) }
     {
@@ -91,7 +96,8 @@ impl Parser<'_> {
 
     /// How many tokens the operator at the position has; 0 where none stands there.
     pub fn op_len(&self) -> usize
-        ensures { result ≡ operator_length (has self.now.words.operator_first) (ahead self.now 0) }
+        ensures length { result ≡ operator_length (has self.now.words.operator_first) (ahead self.now 0) }
+        ensures some { has self.now.words.operator_first (kind_at self.now 0) ≡ true → 0 < result }
     {
         self.view(0).operator_len(&self.operator_first)
     }
@@ -104,6 +110,7 @@ impl Parser<'_> {
     }
 
     /// The tokens from `n` places ahead on.
+    #[inline(always)]
     pub(super) fn view(&self, n: usize) -> View<'_>
         ensures { result ≡ ahead self.now n }
     {
@@ -111,6 +118,7 @@ impl Parser<'_> {
     }
 
     /// The place in the input of the token `n` places ahead, if it is seen.
+    #[inline(always)]
     fn seen(&self, n: usize) -> Option<usize>
         ensures { SomeIff result (self.now.position + n < self.now.limit) (self.now.position + n) }
     {

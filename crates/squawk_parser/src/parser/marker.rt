@@ -56,6 +56,7 @@ impl Marker {
         ensures keeps { Keeps p.old p.new }
         ensures position { p.new.position ≡ p.old.position }
         ensures records { Records p.old p.new (completed p.old.draft self.id kind) }
+        ensures at_hand { HasNode p.new result }
     {
         let Marker { id, made: _ } = self;
         if p.has_room() {
@@ -100,6 +101,7 @@ impl CompletedMarker {
         ensures keeps { Keeps p.old p.new }
         ensures position { p.new.position ≡ p.old.position }
         ensures records { Records p.old p.new (preceded p.old.draft self.id result.id) }
+        ensures hole { HasHole p.new result }
     {
         let CompletedMarker { id: node, kind } = self;
         let id = p.log.next_id();
@@ -122,6 +124,7 @@ impl CompletedMarker {
         requires older { HasNotFailed p.old → m.id < self.id }
         ensures node { result ≡ self }
         ensures changes { Changes p.old p.new (extended p.old.draft self m.id) }
+        ensures at_hand { HasNode p.new result }
     {
         let CompletedMarker { id: node, kind } = self;
         let Marker { id, made: _ } = m;

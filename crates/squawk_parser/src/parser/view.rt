@@ -35,6 +35,7 @@ impl<'t> Model for View<'t> {
 
 impl<'t> View<'t> {
     /// The view from token `place` of the input to token `limit`.
+    #[inline(always)]
     pub(super) fn new(input: &'t Input, place: usize, limit: usize) -> View<'t>
         requires { limit ≤ length input.now }
         ensures { result ≡ seen_from input.now limit place }
@@ -47,6 +48,7 @@ impl<'t> View<'t> {
     }
 
     /// The kind of token `i`.
+    #[inline(always)]
     pub(super) fn kind(&self, i: usize) -> SyntaxKind
         ensures { result ≡ kind_in self.now i }
     {

@@ -11,6 +11,7 @@ use squawk_kinds::{SyntaxKind, TokenSet};
 
 impl View<'_> {
     /// Whether the kind, composite or not, stands at the front.
+    #[inline(always)]
     pub(in crate::parser) fn is_at(&self, kind: SyntaxKind, operator_first: &TokenSet) -> bool
         ensures { result ≡ stands_at (has operator_first.now) kind self.now }
     {
@@ -25,6 +26,7 @@ impl View<'_> {
     }
 
     /// Whether the parts stand at the front, each touching the next.
+    #[inline(always)]
     fn do_touch(&self, parts: &Parts) -> bool
         ensures { result ≡ do_touch parts.now self.now }
     {
@@ -49,6 +51,7 @@ impl View<'_> {
     }
 
     /// How many tokens the parts of a sequence have at the front, if they stand there.
+    #[inline(always)]
     fn sequence_len(&self, parts: &Parts) -> Option<usize>
         ensures { result ≡ sequence_length (map element_of parts.now) self.now }
     {

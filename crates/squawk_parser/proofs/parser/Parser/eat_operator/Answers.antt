@@ -1,8 +1,9 @@
-use Rattle.std.proofs.Common.{◌≡◌, ◌∙◌, arith, ap, sym}
+use Rattle.std.proofs.Common.{◌≡◌, ◌∙◌, arith, ap, sym, subst}
 use Rattle.squawk_kinds.specs.TokenSets.{has}
 use Rattle.squawk_parser.specs.Operators.{operator_length}
-use Rattle.squawk_parser.specs.State.{ahead}
+use Rattle.squawk_parser.specs.State.{IsSound, ahead}
 use Rattle.squawk_parser.proofs.EatenOperator.{are_eaten-all, are_eaten-next}
+use Rattle.squawk_parser.proofs.Progress.{operator-eats}
 use Rattle.squawk_parser.proofs.RecordedSteps.{hole_stays, node_puts}
 use Rattle.squawk_parser.proofs.SeenSteps.{ahead-still}
 use Rattle.squawk_parser.proofs.parser.Parser.eat_operator.Goals as goal
@@ -37,3 +38,10 @@ returns-clause-puts c =
     let all_of_it : l.counter ≡ operator_length (has old.words.operator_first) (ahead old 0) = omega (arith, len, c.loop-test.false, l.auto.counter-end) in
     let all = are_eaten-all (has old.words.operator_first) l.counter begun l.self (ahead old 0) all_of_it (ahead-still start.keeps start.position) l.invariant in
     node_puts c.start-node.result.id c.args.kind start.keeps l.invariant.keeps done.keeps start.records start.fresh start.position all done.records done.position
+
+pub returns-clause-eats : goal.returns-clause-eats
+returns-clause-eats c first =
+    let old = c.args.self.now in
+    let sound : IsSound old = subst IsSound c.self.view_is c.self.invariant in
+    let operator = operator-eats (has old.words.operator_first) c.args.kind (ahead old 0) sound.words first in
+    omega (arith, operator, (returns-clause-puts c).position)

@@ -12,3 +12,6 @@ pub returns-clause-puts : goal.returns-clause-puts
 returns-clause-puts c =
     subst (λ steps. Puts steps c.args.self.now c.err_recover.new.self)
     (recovery-same (chars c.args.msg.now) (has no_kinds) no_recovery (ahead c.args.self.now 0) has-no_kinds) c.err_recover.ensures.puts
+
+pub returns-clause-eats : goal.returns-clause-eats
+returns-clause-eats c some = c.err_recover.ensures.eats (has-no_kinds _) some

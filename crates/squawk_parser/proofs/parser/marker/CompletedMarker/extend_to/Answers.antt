@@ -3,10 +3,11 @@ use Rattle.std.specs.Prelude.{true, Contains}
 use Rattle.squawk_log.specs.Draft.{Draft, Hole, Open, Mark, Node}
 use Rattle.squawk_log.specs.LogDraft.{made_of}
 use Rattle.squawk_log.specs.Edits.{extended}
-use Rattle.squawk_parser.specs.State.{State, HasNotFailed}
+use Rattle.squawk_parser.specs.State.{State, HasNode, HasNotFailed}
 use Rattle.squawk_parser.proofs.ItemCounts.{HasFewTurns}
 use Rattle.squawk_parser.proofs.SoundExtended.{IsKept-extended}
 use Rattle.squawk_parser.proofs.ParserViews.{seen, kept, goes_on, Changes-edited, Changes-failed}
+use Rattle.squawk_parser.proofs.Markers.{node-extended}
 use Rattle.squawk_parser.proofs.parser.marker.CompletedMarker.extend_to.Goals as goal
 use Rattle.squawk_parser.proofs.parser.marker.CompletedMarker.extend_to.Goals.{then-is_none, else-is_none}
 
@@ -44,3 +45,7 @@ returns-clause-changes c =
           (w.p-is ∙ ap {A = Draft} (λ d. record s { draft = d }) (w.extend.ensures.extended c.self.inside.kind there ∙ same))
       | else-is_none w ↦ Changes-failed c.args.p.now s c.if-is_none.p edited c.p.view_is (w.if-is_none.ensures) w.p-is
     ]
+
+pub returns-clause-at_hand : goal.returns-clause-at_hand
+returns-clause-at_hand c =
+    subst (HasNode c.if-is_none.p) (sym c.self.view_is) (node-extended c.args.self c.args.m c.requires.node c.requires.hole (returns-clause-changes c))

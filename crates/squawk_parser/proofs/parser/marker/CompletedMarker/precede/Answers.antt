@@ -1,13 +1,14 @@
-use Rattle.std.proofs.Common.{◌≡◌, ◌∙◌, ap, sym, refl, subst}
+use Rattle.std.proofs.Common.{rules, ◌≡◌, ◌∙◌, ap, sym, refl, subst}
 use Rattle.std.specs.Prelude.{true, Contains}
-use Rattle.squawk_log.specs.Draft.{IsAboveIds, Node, Open}
+use Rattle.squawk_log.specs.Draft.{ByPrecede, IsAboveIds, Node, Open}
 use Rattle.squawk_log.specs.Edits.{preceded}
-use Rattle.squawk_parser.specs.State.{State, IsSound}
+use Rattle.squawk_parser.specs.State.{State, HasHole, HasNode, IsSound, Records}
 use Rattle.squawk_parser.proofs.Noted.{noted}
 use Rattle.squawk_parser.proofs.ItemCounts.{HasFewTurns}
 use Rattle.squawk_parser.proofs.Soundness.{IsKept-failed}
 use Rattle.squawk_parser.proofs.SoundMoves.{IsKept-preceded}
 use Rattle.squawk_parser.proofs.ParserViews.{seen, kept, has_room}
+use Rattle.squawk_parser.proofs.Markers.{hole-preceded}
 use Rattle.squawk_parser.proofs.parser.marker.CompletedMarker.precede.Goals as goal
 
 pub invariant_of-p : goal.invariant_of-p
@@ -26,3 +27,13 @@ invariant_of-p c =
     let failed = IsKept-failed s before in
     noted HasFewTurns (λ draft reason. IsSound (record s { draft = draft; first_reason = reason })) s (preceded s.draft c.self.inside.id s.draft.entries) c.precede.new.self
     c.note.new.first_reason c.precede.result c.precede.ensures.turns (λ few. (after few).sound) failed.sound c.precede.ensures.ok c.precede.ensures.err c.note.ensures.ok c.note.ensures.err
+
+pub returns-clause-hole : goal.returns-clause-hole
+returns-clause-hole c =
+    let old = c.args.p.now in
+    let id = c.next_id-id.result in
+    let node : Node = record { id = c.self.inside.id; kind = c.self.inside.kind } in
+    let there : HasNode old node = subst (HasNode old) (sym c.self.view_is) c.requires in
+    let records : Records old c.if-has_room.p (preceded old.draft node.id id) = search rules in
+    let made : id ≡ old.draft.entries = c.next_id-id.ensures.id ∙ ap (λ s. s.draft.entries) c.p.view_is in
+    subst (λ entries. HasHole c.if-has_room.p (record { id = id; made = ByPrecede entries })) (sym made) (hole-preceded node id (subst IsSound c.p.view_is c.p.invariant).ids there records)

@@ -1,13 +1,14 @@
-use Rattle.std.proofs.Common.{◌≡◌, ◌∙◌, ℕ, sym, refl, subst}
+use Rattle.std.proofs.Common.{rules, ◌≡◌, ◌∙◌, ℕ, sym, refl, subst}
 use Rattle.std.specs.Prelude.{Contains}
-use Rattle.squawk_log.specs.Draft.{Hole, Made}
+use Rattle.squawk_log.specs.Draft.{Hole, Made, Mark}
 use Rattle.squawk_log.specs.Edits.{completed}
 use Rattle.squawk_log.specs.LogDraft.{made_of}
-use Rattle.squawk_parser.specs.State.{State, IsSound}
+use Rattle.squawk_parser.specs.State.{State, HasHole, IsSound, Records}
 use Rattle.squawk_parser.proofs.Noted.{noted}
 use Rattle.squawk_parser.proofs.ItemCounts.{HasFewTurns}
 use Rattle.squawk_parser.proofs.Soundness.{IsKept-completed, IsKept-failed}
 use Rattle.squawk_parser.proofs.ParserViews.{seen, kept, has_room}
+use Rattle.squawk_parser.proofs.Markers.{node-completed}
 use Rattle.squawk_parser.proofs.parser.marker.Marker.complete.Goals as goal
 
 pub invariant_of-p : goal.invariant_of-p
@@ -26,3 +27,11 @@ invariant_of-p c =
     let failed = IsKept-failed s before in
     noted HasFewTurns (λ draft reason. IsSound (record s { draft = draft; first_reason = reason })) s (completed s.draft c.self.inside.id c.args.kind) c.complete.new.self
     c.note.new.first_reason c.complete.result c.complete.ensures.turns (λ few. (after few).sound) failed.sound c.complete.ensures.ok c.complete.ensures.err c.note.ensures.ok c.note.ensures.err
+
+pub returns-clause-at_hand : goal.returns-clause-at_hand
+returns-clause-at_hand c =
+    let old = c.args.p.now in
+    let m : Mark = record { id = c.self.inside.id; made = made_of c.self.inside.made c.self.inside.id } in
+    let there : HasHole old m = subst (HasHole old) (sym c.self.view_is) c.requires.hole in
+    let records : Records old c.if-has_room.p (completed old.draft m.id c.args.kind) = search rules in
+    node-completed m c.args.kind there records
