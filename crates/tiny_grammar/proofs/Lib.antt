@@ -1,0 +1,7 @@
+pub mod Operand
+pub mod Expression
+pub mod Tail
+pub mod Source
+pub mod Root
+pub mod Whole
+pub mod InOrder

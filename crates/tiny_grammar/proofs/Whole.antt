@@ -1,0 +1,100 @@
+-- `Tiny` fits the table of its input, and eats all of it.
+use Rattle.std.proofs.Common.{◌≡◌, ◌≢◌, ◌∙◌, ℕ, zero, suc, ◌+◌, ◌*◌, ◌≤◌, Bool, true, false, List, [], ◌∷◌, ◌++◌, length, if◌then◌else◌, arith, ap, sym, refl, subst}
+use Rattle.std.specs.Prelude.{replicate}
+use Rattle.std.specs.List.{flat_map}
+use Rattle.std.proofs.lemmas.Bool.{ne_eqb}
+use Rattle.std.proofs.lemmas.List.{length-drop}
+use Rattle.std.proofs.lemmas.List.Elements.{All-drop, All-head, All-tail}
+use Rattle.std.proofs.lemmas.List.Folds.{sum_by-replicate}
+use Rattle.squawk_kinds.specs.Keywords.{Keywords}
+use Rattle.squawk_kinds.specs.Kinds.{EOF, ERROR}
+use Rattle.squawk_table.specs.ParserInput.{Entry, HasNoEndToken, input_of, kind_in}
+use Rattle.squawk_table.specs.RawTable.{Table, raw_tokens}
+use Rattle.squawk_table.specs.Shape.{Fits, IsOver, StandsInOneRoot, no_keywords}
+use Rattle.squawk_output.specs.Steps.{Step, Walk, Enter, Exit, Error, count_of, eaten, without_errors}
+use Rattle.squawk_table.proofs.Over.{eaten-le}
+use Rattle.squawk_table.proofs.OverTable.{IsOver-keywords, length-keywords}
+use Rattle.squawk_parser.specs.Eaten.{node, one}
+use Rattle.squawk_parser.specs.Parse.{IsParse}
+use Rattle.squawk_parser.proofs.Progress.{eaten-node}
+use Rattle.squawk_parser.proofs.RecordedItems.{eaten-append}
+use Rattle.squawk_parser.proofs.SeenSteps.{if-false}
+use Rattle.tiny_grammar.specs.Expressions.{IsTiny, behind, bin, expected_end, nested, operand_steps, rest_of, right_steps, rights, rights_of, source, tail_of, tail_steps, tiny_steps}
+use Rattle.tiny_grammar.proofs.Root.{tiny_root}
+
+tail-eaten : (seen : List Entry) → HasNoEndToken seen → eaten (tail_steps seen) ≡ length seen
+tail-eaten [] some = refl
+tail-eaten (e ∷ seen) some =
+    let kind = All-head (λ e. e.kind ≢ EOF) e seen some in
+    let step = node ERROR (Error expected_end ∷ one e.kind ∷ []) in
+    let is : tail_steps (e ∷ seen) ≡ step ++ tail_steps seen = if-false _ _ _ (ne_eqb e.kind EOF kind) in
+    let first : eaten step ≡ 1 = refl in
+    omega (arith, ap eaten is, eaten-append step (tail_steps seen), first, tail-eaten seen (All-tail (λ e. e.kind ≢ EOF) e seen some))
+
+abbrev closed_parts : List (List Step) → List Step
+closed_parts parts = flat_map (λ part. part ++ Exit ∷ []) parts
+
+rights-eaten : (operator_kind : ℕ → Bool) (n : ℕ) (seen : List Entry) → length seen ≤ eaten (closed_parts (rights operator_kind n seen)) + length (rest_of operator_kind n seen)
+rights-eaten operator_kind zero seen = omega arith
+rights-eaten operator_kind (suc n) seen =
+    let right = right_steps operator_kind seen in
+    cases (operator_kind (kind_in seen 0)) (rights-eaten operator_kind n (behind right seen))
+  where
+    cases : (b : Bool)
+        → length (behind (right_steps operator_kind seen) seen) ≤ eaten (closed_parts (rights operator_kind n (behind (right_steps operator_kind seen) seen))) + length (rest_of operator_kind n (behind (right_steps operator_kind seen) seen))
+        → length seen ≤ eaten (closed_parts (if b then right_steps operator_kind seen ∷ rights operator_kind n (behind (right_steps operator_kind seen) seen) else [])) + length (if b then rest_of operator_kind n (behind (right_steps operator_kind seen) seen) else seen)
+    cases true rest =
+        let right = right_steps operator_kind seen in
+        let parts = rights operator_kind n (behind right seen) in
+        omega (arith, rest, length-drop (eaten right) seen, eaten-append (right ++ Exit ∷ []) (closed_parts parts), eaten-append right (Exit ∷ []))
+    cases false rest = omega arith
+
+rest-some : (operator_kind : ℕ → Bool) (n : ℕ) (seen : List Entry) → HasNoEndToken seen → HasNoEndToken (rest_of operator_kind n seen)
+rest-some operator_kind zero seen some = some
+rest-some operator_kind (suc n) seen some =
+    let right = right_steps operator_kind seen in
+    cases (operator_kind (kind_in seen 0)) (rest-some operator_kind n (behind right seen) (All-drop (λ e. e.kind ≢ EOF) (eaten right) seen some))
+  where
+    cases : (b : Bool) → HasNoEndToken (rest_of operator_kind n (behind (right_steps operator_kind seen) seen))
+        → HasNoEndToken (if b then rest_of operator_kind n (behind (right_steps operator_kind seen) seen) else seen)
+    cases true rest = rest
+    cases false rest = some
+
+nested-eaten : (first : List Step) (parts : List (List Step)) → eaten (nested first parts) ≡ eaten first + eaten (closed_parts parts)
+nested-eaten first parts =
+    let ones = replicate (length parts) (Enter bin) in
+    let none : eaten ones ≡ length parts * 0 = sum_by-replicate count_of (length parts) (Enter bin) in
+    omega (arith, none, eaten-append (ones ++ first) (closed_parts parts), eaten-append ones first)
+
+tiny-eaten : (operator_kind : ℕ → Bool) (input : List Entry) → HasNoEndToken input → length input ≤ eaten (tiny_steps operator_kind input)
+tiny-eaten operator_kind input some =
+    let first = operand_steps input in
+    let seen = behind first input in
+    let parts = rights_of operator_kind input in
+    let rest = tail_of operator_kind input in
+    let left = rest-some operator_kind (length input) seen (All-drop (λ e. e.kind ≢ EOF) (eaten first) input some) in
+    omega (
+      arith,
+      rights-eaten operator_kind (length input) seen,
+      tail-eaten rest left,
+      nested-eaten first parts,
+      length-drop (eaten first) input,
+      eaten-append (nested first parts) (tail_steps rest),
+      eaten-node source (nested first parts ++ tail_steps rest),
+    )
+
+module _ {operator_kind : ℕ → Bool} {input : List Entry} {output : Walk} (table : Table) (k : Keywords) (is : input ≡ input_of k table)
+    (parse : IsParse (IsTiny operator_kind input) input output) where
+  pub tiny_fits : Fits table output.steps
+  tiny_fits = record {
+    root = subst (λ steps. StandsInOneRoot (without_errors steps)) (sym (parse.steps ∙ parse.left.items)) (tiny_root operator_kind input);
+    over = IsOver-keywords k no_keywords output.steps (raw_tokens table) (subst (IsOver output.steps) is parse.over);
+  }
+
+  pub tiny_whole : HasNoEndToken input → eaten output.steps ≡ length (input_of no_keywords table)
+  tiny_whole some =
+      let least = tiny-eaten operator_kind input some in
+      let same = ap eaten (parse.steps ∙ parse.left.items) in
+      let most = eaten-le output.steps input parse.over in
+      let len : length input ≡ length (input_of no_keywords table) = ap length is ∙ length-keywords k no_keywords (raw_tokens table) in
+      omega (arith, least, same, most, len)
