@@ -1,41 +1,49 @@
--- What a parse by the calls of a document answers.
-use Rattle.std.proofs.Common.{Bor, map, ◌≡◌, ◌∙◌, ℕ, ◌≤◌, Bool, List, ◌++◌, Some, None, Ok, Err, inl, inr, ap, arith, sym, subst}
-use Rattle.std.specs.Prelude.{Result, IsErrAnd, MatchResult, ◌==◌, ◌↔◌, ◌≢◌, IsTrue, length}
+-- What a parse by the grammar of a document answers, and what a document tells then.
+use Rattle.std.proofs.Common.{Bor, ◌≡◌, ◌≢◌, ◌∙◌, ℕ, ◌≤◌, Bool, List, ◌++◌, Some, None, Ok, Err, inl, inr, ap, arith, sym, subst}
+use Rattle.std.specs.Prelude.{Result, IsErrAnd, MatchResult, ◌==◌, ◌↔◌, IsTrue, length}
 use Rattle.std.proofs.lemmas.Bool.Decides.{Decides-eqb, same_from_decides}
+use Rattle.squawk_document.specs.DocumentGrammars.{ToldGrammar, by_calls}
 use Rattle.squawk_document.specs.Documents.{Told}
+use Rattle.squawk_tokens.specs.AcceptedTokens as tokens
 use Rattle.squawk_table.specs.ParserInput.{Entry, input_of}
 use Rattle.squawk_table.specs.RawTable.{Table}
 use Rattle.squawk_table.specs.Sent.{sent_list}
-use Rattle.squawk_table.specs.Shape.{no_keywords}
+use Rattle.squawk_table.specs.Shape.{Fits, no_keywords}
 use Rattle.squawk_output.specs.Steps.{Step, Walk, eaten, errors_in}
 use Rattle.squawk_log.specs.Draft.{plain}
 use Rattle.squawk_parser.specs.Parse.{IsParse, IsRefusalOf, IsRefused}
 use Rattle.squawk_parser.specs.State.{State}
+use Rattle.squawk_parser.specs.Words.{Words}
+use Rattle.squawk_parser.specs.declared.parser.grammar.EntryPoint.{EntryPoint}
 use Rattle.squawk_parser.specs.declared.parser.parse_error.ParseError.{ParseError}
 use Rattle.squawk_parser.specs.declared.parser.parse_error.ParseError.TheVariants as parse
-use Rattle.squawk_script.specs.Meaning.{Meaning, run_of}
-use Rattle.squawk_answer.specs.Answers.{HasScript, Tells, lines, parse_refusal, parser_input, steps, table_for}
 use Rattle.squawk_script.specs.Events.{FailsByLimits, IsRunOf, events_of, refusal}
+use Rattle.squawk_script.specs.Meaning.{Meaning, run_of}
+use Rattle.squawk_script.specs.declared.call.Call.{Call}
 use Rattle.squawk_script.proofs.Laws.{unrefused}
-use Rattle.squawk_answer.specs.declared.fault.Fault.{Fault}
+use Rattle.squawk_answer.specs.Answers.{HasCalls, ParseOf, ParseTells, Tells, lines, refusal_by, steps, steps_by, table_for, words_with}
 use Rattle.squawk_answer.specs.Fault.{fault_of_parse}
 use Rattle.squawk_answer.specs.Lines.{Texts, last_line, lex_lines, step_lines}
+use Rattle.squawk_answer.specs.declared.fault.Fault.{Fault}
+use Rattle.squawk_answer.specs.declared.fault.Fault.TheVariants.{Json, Shape, TextTooLong, BadToken, TextLeft, BadCall, Unspent, TooManyEvents, TooManyErrors, DoesNotFit, Memory, Io}
 
--- the calls of a document, as a script
-abbrev pub script_of : Told → Meaning
-script_of d = record { calls = d.calls; words = d.words }
+-- ---- a parse
 
--- and with names as they are borrowed
-abbrev pub named : Told → List (ℕ × Bor (List ℕ)) → Meaning
-named d names = record { calls = d.calls; words = record { operator_first = d.words.operator_first; names = map (λ pair. (pair.0, pair.1.now)) names } }
+-- one that is refused
+pub refusal-told : (g : ToldGrammar) (words : Words) (input : List Entry) (t : Table) (reason : ParseError) → HasCalls g
+    → (reason ≢ parse.OutOfMemory → refusal_by g words input ≡ Some reason) → ParseTells g words input t (Err (fault_of_parse reason))
+refusal-told g words input t parse.OutOfMemory has fails = tt
+refusal-told g words input t parse.TooManyEvents has fails = (has, fails (λ same. let p = same in cc))
+refusal-told g words input t parse.TooManyErrors has fails = (has, fails (λ same. let p = same in cc))
 
--- a parse that is refused
-pub refusal-told : (d : Told) (reason : ParseError) → HasScript d → (reason ≢ parse.OutOfMemory → parse_refusal d ≡ Some reason) → Tells d (Err (fault_of_parse reason))
-refusal-told d parse.OutOfMemory script fails = tt
-refusal-told d parse.TooManyEvents script fails = (script, fails (λ same. let p = same in cc))
-refusal-told d parse.TooManyErrors script fails = (script, fails (λ same. let p = same in cc))
+-- a fault that is answered
+pub fault-told : {X : Type 0} (result : Result X Fault) (Q : X → Type 0) (P : Fault → Type 0) (fault : Fault) → IsErrAnd result (λ f. f ≡ fault) → P fault → MatchResult result Q P
+fault-told (Ok x) Q P fault is told = absurd is
+fault-told (Err f) Q P fault is told = subst P (sym is) told
 
--- what refuses a parse by a script, if it isn't want of memory
+-- ---- a parse by calls
+
+-- what refuses it, if it isn't want of memory
 pub limit-told : (script : Meaning) (begun : State) (reason : ParseError) → IsRefused (FailsByLimits script) begun reason → reason ≢ parse.OutOfMemory
     → refusal begun.max_events begun.max_errors (events_of script.words begun.input script.calls) ≡ Some reason
 limit-told script begun reason refused other = cases refused.refusal
@@ -44,32 +52,54 @@ limit-told script begun reason refused other = cases refused.refusal
     cases (inl first) = refused.ran reason first other
     cases (inr memory) = absurd (other memory.1)
 
--- a fault that is answered
-pub fault-told : {X : Type 0} (result : Result X Fault) (Q : X → Type 0) (P : Fault → Type 0) (fault : Fault) → IsErrAnd result (λ f. f ≡ fault) → P fault → MatchResult result Q P
-fault-told (Ok x) Q P fault is told = absurd is
-fault-told (Err f) Q P fault is told = subst P (sym is) told
+-- these calls with these words, as a script
+abbrev pub script_of : List Call → Words → Meaning
+script_of cs words = record { calls = cs; words = words }
 
--- the run of the calls, as the parse sees it
-pub refusal-same : (d : Told) (script : Meaning) (input : List Entry) → script ≡ script_of d → input ≡ parser_input d
-    → refusal 4294967295 2147483648 (events_of script.words input script.calls) ≡ parse_refusal d
-refusal-same d script input same_script same_input =
-    ap (λ s. refusal 4294967295 2147483648 (events_of s.words input s.calls)) same_script
-    ∙ ap (λ entries. refusal 4294967295 2147483648 (events_of d.words entries d.calls)) same_input
+module _ (entry : EntryPoint) (cs : List Call) (words : Words) (input : List Entry) (script : Meaning) (parsed : List Entry)
+    (same_script : script ≡ script_of cs words) (same_input : parsed ≡ input) where
+  -- the events of its run, as the parse sees them
+  pub refusal-same : refusal 4294967295 2147483648 (events_of script.words parsed script.calls) ≡ refusal_by (by_calls entry cs) words input
+  refusal-same =
+      ap (λ s. refusal 4294967295 2147483648 (events_of s.words parsed s.calls)) same_script
+      ∙ ap (λ entries. refusal 4294967295 2147483648 (events_of words entries cs)) same_input
 
--- a parse that is not
-module _ (d : Told) (script : Meaning) (input : List Entry) (output : Walk) (same_script : script ≡ script_of d) (same_input : input ≡ parser_input d)
-    (parse : IsParse (IsRunOf script input) input output) where
-  pub steps-told : output.steps ≡ steps d
-  steps-told =
-      parse.steps
-      ∙ (parse.left.items
-      ∙ (ap (λ s. plain (run_of s.words input s.calls).draft.items) same_script ∙ ap (λ entries. plain (run_of d.words entries d.calls).draft.items) same_input))
+  module _ (output : Walk) (is : IsParse (IsRunOf script parsed) parsed output) where
+    pub steps-told : output.steps ≡ steps_by (by_calls entry cs) words input
+    steps-told =
+        is.steps
+        ∙ (is.left.items
+        ∙ (ap (λ s. plain (run_of s.words parsed s.calls).draft.items) same_script ∙ ap (λ entries. plain (run_of words entries cs).draft.items) same_input))
 
-  pub none-refused : (output.recorded ≤ 4294967295) × (errors_in output.steps ≤ 2147483648) → parse_refusal d ≡ None
-  none-refused within =
-      let events : parse.draft.recorded ≤ 4294967295 = omega (arith, parse.recorded, within.0) in
-      let errors : errors_in (plain parse.draft.items) ≤ 2147483648 = subst (λ steps. errors_in steps ≤ 2147483648) parse.steps within.1 in
-      sym (refusal-same d script input same_script same_input) ∙ unrefused script input parse.draft parse.left 4294967295 2147483648 (events, errors)
+    pub none-refused : (output.recorded ≤ 4294967295) × (errors_in output.steps ≤ 2147483648) → refusal_by (by_calls entry cs) words input ≡ None
+    none-refused within =
+        let events : is.draft.recorded ≤ 4294967295 = omega (arith, is.recorded, within.0) in
+        let errors : errors_in (plain is.draft.items) ≤ 2147483648 = subst (λ steps. errors_in steps ≤ 2147483648) is.steps within.1 in
+        sym refusal-same ∙ unrefused script parsed is.draft is.left 4294967295 2147483648 (events, errors)
+
+-- ---- a document
+
+-- what is told of its parse, over its table as it was made and with its names as they are borrowed
+pub parse-told : (d : Told) (t : Table) (names : List (ℕ × Bor (List ℕ))) (answer : Result (List Step) Fault) → t ≡ table_for d → words_with d.words.operator_first names ≡ d.words
+    → ParseTells d.grammar (words_with d.words.operator_first names) (input_of d.vocabulary.contextual.kind_of t) t answer → ParseOf d answer
+parse-told d t names answer same_table same_words told =
+    subst (λ table. ParseTells d.grammar d.words (input_of d.vocabulary.contextual.kind_of table) table answer) same_table
+    (subst (λ words. ParseTells d.grammar words (input_of d.vocabulary.contextual.kind_of t) t answer) same_words told)
+
+-- a fault of its parse is the document's
+pub parse_fault-told : (d : Told) (fault : Fault) → tokens.IsAccepted d.text d.tokens → ParseOf d (Err fault) → Tells d (Err fault)
+parse_fault-told d Json accepted told = absurd told
+parse_fault-told d Shape accepted told = absurd told
+parse_fault-told d TextTooLong accepted told = absurd told
+parse_fault-told d (BadToken index) accepted told = absurd told
+parse_fault-told d (TextLeft at) accepted told = absurd told
+parse_fault-told d (BadCall index) accepted told = (accepted, told)
+parse_fault-told d (Unspent marker) accepted told = (accepted, told)
+parse_fault-told d TooManyEvents accepted told = (accepted, told)
+parse_fault-told d TooManyErrors accepted told = (accepted, told)
+parse_fault-told d DoesNotFit accepted told = (accepted, told)
+parse_fault-told d Memory accepted told = tt
+parse_fault-told d Io accepted told = tt
 
 -- two texts
 abbrev texts : List ℕ → List ℕ → Texts

@@ -1,7 +1,8 @@
 -- Bytes have one answer, memory, reading and writing aside.
 use Rattle.std.proofs.Common.{◌≡◌, ◌∙◌, ℕ, ◌<◌, List, ◌⊎◌, Some, None, Ok, Err, inl, inr, arith, ap, sym, refl, subst, false}
-use Rattle.std.specs.Prelude.{MatchResult, Result, IsTrue}
+use Rattle.std.specs.Prelude.{MatchResult, Option, Result, IsTrue}
 use Rattle.std.proofs.lemmas.Bool.{cases_order}
+use Rattle.squawk_document.specs.DocumentGrammars.{ToldGrammar, by_calls, by_tiny}
 use Rattle.squawk_document.specs.Documents.{Told}
 use Rattle.squawk_document.specs.declared.document_error.DocumentError.{DocumentError}
 use Rattle.squawk_document.specs.declared.document_error.DocumentError.TheVariants as document
@@ -16,7 +17,7 @@ use Rattle.squawk_script.specs.Accepted as script
 use Rattle.squawk_script.specs.declared.call.Call.{Call}
 use Rattle.squawk_script.specs.declared.script_error.ScriptError.{ScriptError}
 use Rattle.squawk_script.specs.declared.script_error.ScriptError.TheVariants as calls
-use Rattle.squawk_answer.specs.Answers.{IsAnswer, IsTheAnswer, IsTold, ReadTells, Tells, document_of, lines, parse_refusal, steps, table_for}
+use Rattle.squawk_answer.specs.Answers.{HasCalls, IsAnswer, IsTheAnswer, IsTold, ReadTells, RefusesCalls, Tells, document_of, lines, parser_input, refusal_by, steps, table_for}
 use Rattle.squawk_answer.specs.Lines.{Texts}
 use Rattle.squawk_answer.specs.Fault.{fault_of_parse, fault_of_script, fault_of_table}
 use Rattle.squawk_answer.specs.declared.fault.Fault.{Fault}
@@ -55,24 +56,33 @@ module _ (text : List ℕ) (ts : List Token) where
   tokens-one e table.OutOfMemory a b r s = absurd b
 
 module _ (cs : List Call) where
+  -- a marker that calls don't leave open
   abbrev Closed : ℕ → Type 0
   Closed m = script.is_open cs m ≡ false
 
   open-not : (m : ℕ) → IsTrue (script.is_open cs m) → ¬ (Closed m)
   open-not m is closed = let p = sym is ∙ closed in cc
 
-  calls-not : (e : ScriptError) → IsTold (Err (fault_of_script e)) → script.Refuses cs e → script.IsAccepted cs → ⊥
-  calls-not (calls.BadCall i) told r accepted = r.bad (accepted.good i r.within)
-  calls-not (calls.Unspent m) told r accepted = open-not m r.is (accepted.spent m)
-  calls-not calls.OutOfMemory told r accepted = told
+  script-not : (e : ScriptError) → IsTold (Err (fault_of_script e)) → script.Refuses cs e → script.IsAccepted cs → ⊥
+  script-not (calls.BadCall i) told r accepted = r.bad (accepted.good i r.within)
+  script-not (calls.Unspent m) told r accepted = open-not m r.is (accepted.spent m)
+  script-not calls.OutOfMemory told r accepted = told
 
-  calls-one : (e f : ScriptError) → IsTold (Err (fault_of_script e)) → IsTold (Err (fault_of_script f)) → script.Refuses cs e → script.Refuses cs f → e ≡ f
-  calls-one (calls.BadCall i) (calls.BadCall j) a b r s = ap calls.BadCall (first-same (script.IsGoodAt cs) i j r.before r.bad s.before s.bad)
-  calls-one (calls.BadCall i) (calls.Unspent m) a b r s = absurd (r.bad (s.good i r.within))
-  calls-one (calls.Unspent m) (calls.BadCall j) a b r s = absurd (s.bad (r.good j s.within))
-  calls-one (calls.Unspent m) (calls.Unspent n) a b r s = ap calls.Unspent (first-same Closed m n r.before (open-not m r.is) s.before (open-not n s.is))
-  calls-one calls.OutOfMemory f a b r s = absurd a
-  calls-one e calls.OutOfMemory a b r s = absurd b
+  script-one : (e f : ScriptError) → IsTold (Err (fault_of_script e)) → IsTold (Err (fault_of_script f)) → script.Refuses cs e → script.Refuses cs f → e ≡ f
+  script-one (calls.BadCall i) (calls.BadCall j) a b r s = ap calls.BadCall (first-same (script.IsGoodAt cs) i j r.before r.bad s.before s.bad)
+  script-one (calls.BadCall i) (calls.Unspent m) a b r s = absurd (r.bad (s.good i r.within))
+  script-one (calls.Unspent m) (calls.BadCall j) a b r s = absurd (s.bad (r.good j s.within))
+  script-one (calls.Unspent m) (calls.Unspent n) a b r s = ap calls.Unspent (first-same Closed m n r.before (open-not m r.is) s.before (open-not n s.is))
+  script-one calls.OutOfMemory f a b r s = absurd a
+  script-one e calls.OutOfMemory a b r s = absurd b
+
+calls-not : (g : ToldGrammar) (e : ScriptError) → IsTold (Err (fault_of_script e)) → RefusesCalls g e → HasCalls g → ⊥
+calls-not (by_calls entry cs) e told r accepted = script-not cs e told r accepted
+calls-not by_tiny e told r accepted = r
+
+calls-one : (g : ToldGrammar) (e f : ScriptError) → IsTold (Err (fault_of_script e)) → IsTold (Err (fault_of_script f)) → RefusesCalls g e → RefusesCalls g f → e ≡ f
+calls-one (by_calls entry cs) e f a b r s = script-one cs e f a b r s
+calls-one by_tiny e f a b r s = absurd r
 
 -- ---- stages
 
@@ -93,6 +103,10 @@ stage Refuses fault Accepted a b told_a told_b never one (inr (accepted, more)) 
 
 -- ---- a document
 
+-- why its run is refused, if it is
+abbrev parse_refusal : Told → Option ParseError
+parse_refusal d = refusal_by d.grammar d.words (parser_input d)
+
 parse-one : (d : Told) (e f : ParseError) → parse_refusal d ≡ Some e → parse_refusal d ≡ Some f → e ≡ f
 parse-one d e f r s = let p = sym r ∙ s in cc
 
@@ -106,22 +120,22 @@ abbrev Parsing : Told → Answer → Type 0
 Parsing d a = Refused (λ e. parse_refusal d ≡ Some e) fault_of_parse a ⊎ ((parse_refusal d ≡ None) × Fitting d a)
 
 abbrev Calling : Told → Answer → Type 0
-Calling d a = Refused (script.Refuses d.calls) fault_of_script a ⊎ (script.IsAccepted d.calls × Parsing d a)
+Calling d a = Refused (RefusesCalls d.grammar) fault_of_script a ⊎ (HasCalls d.grammar × Parsing d a)
 
 abbrev Reading : Told → Answer → Type 0
 Reading d a = Refused (tokens.Refuses d.text d.tokens) fault_of_table a ⊎ (tokens.IsAccepted d.text d.tokens × Calling d a)
 
 -- at which stage an answer is told
 reading : (d : Told) (a : Answer) → IsTold a → Tells d a → Reading d a
-reading d (Ok texts) told ((((accepted, good), none), fits, is)) = inr (accepted, inr (good, inr (none, inl (fits, ap Ok is))))
+reading d (Ok texts) told ((accepted, ((good, none), fits, same)), is) = inr (accepted, inr (good, inr (none, inl (fits, ap Ok is))))
 reading d (Err TextTooLong) told t = inl (table.TextTooLong, t, refl)
 reading d (Err (BadToken i)) told t = inl (table.BadToken i, t, refl)
 reading d (Err (TextLeft at)) told t = inl (table.TextLeft at, t, refl)
 reading d (Err (BadCall i)) told (accepted, t) = inr (accepted, inl (calls.BadCall i, t, refl))
 reading d (Err (Unspent m)) told (accepted, t) = inr (accepted, inl (calls.Unspent m, t, refl))
-reading d (Err TooManyEvents) told ((accepted, good), t) = inr (accepted, inr (good, inl (parse.TooManyEvents, t, refl)))
-reading d (Err TooManyErrors) told ((accepted, good), t) = inr (accepted, inr (good, inl (parse.TooManyErrors, t, refl)))
-reading d (Err DoesNotFit) told (((accepted, good), none), unfit) = inr (accepted, inr (good, inr (none, inr (unfit, refl))))
+reading d (Err TooManyEvents) told (accepted, (good, t)) = inr (accepted, inr (good, inl (parse.TooManyEvents, t, refl)))
+reading d (Err TooManyErrors) told (accepted, (good, t)) = inr (accepted, inr (good, inl (parse.TooManyErrors, t, refl)))
+reading d (Err DoesNotFit) told (accepted, ((good, none), unfit)) = inr (accepted, inr (good, inr (none, inr (unfit, refl))))
 reading d (Err Json) told t = elim t [ ]
 reading d (Err Shape) told t = elim t [ ]
 reading d (Err Memory) told t = absurd told
@@ -138,7 +152,7 @@ pub document-one : (d : Told) (a b : Answer) → IsTold a → IsTold b → Tells
 document-one d a b told told' t t' =
     stage (tokens.Refuses d.text d.tokens) fault_of_table (tokens.IsAccepted d.text d.tokens) a b told told' (tokens-not d.text d.tokens) (tokens-one d.text d.tokens)
     (reading d a told t) (reading d b told' t')
-    (λ x y. stage (script.Refuses d.calls) fault_of_script (script.IsAccepted d.calls) a b told told' (calls-not d.calls) (calls-one d.calls) x y
+    (λ x y. stage (RefusesCalls d.grammar) fault_of_script (HasCalls d.grammar) a b told told' (calls-not d.grammar) (calls-one d.grammar) x y
     (λ p q. stage (λ e. parse_refusal d ≡ Some e) fault_of_parse (parse_refusal d ≡ None) a b told told' (λ e told some none. parse-not d e some none) (λ e f told told'. parse-one d e f)
     p q (fitting-one d a b)))
 

@@ -1,23 +1,29 @@
 -- What is answered.
-use Rattle.std.specs.Prelude.{◌≡◌, ℕ, ◌==◌, Bool, List, ◌++◌, length, Option, Some, None, Result, Ok, Err}
+use Rattle.std.specs.Prelude.{◌≡◌, ℕ, ◌==◌, Bool, List, ◌++◌, length, map, Option, Some, None, Result, Ok, Err}
+use Rattle.squawk_document.specs.DocumentGrammars.{ToldGrammar, by_calls, by_tiny}
 use Rattle.squawk_document.specs.Documents.{Told, document_in}
 use Rattle.squawk_document.specs.Values.{◌>>=◌, value_of}
 use Rattle.squawk_document.specs.declared.document_error.DocumentError.{DocumentError}
 use Rattle.squawk_document.specs.declared.document_error.DocumentError.TheVariants as document
+use Rattle.std.specs.Borrow.{Bor}
+use Rattle.squawk_kinds.specs.declared.token_set.TokenSet.{TokenSet}
 use Rattle.squawk_tokens.specs.AcceptedTokens as tokens
 use Rattle.squawk_tokens.specs.declared.check.TableError.TheVariants as table
 use Rattle.squawk_table.specs.ParserInput.{Entry, input_of}
 use Rattle.squawk_table.specs.RawTable.{Table, table_of}
 use Rattle.squawk_table.specs.Sent.{sent_list}
 use Rattle.squawk_table.specs.Shape.{Fits, no_keywords}
-use Rattle.squawk_output.specs.Steps.{Step, eaten}
+use Rattle.squawk_output.specs.Steps.{Step, eaten, is_error}
 use Rattle.squawk_log.specs.Draft.{plain}
+use Rattle.squawk_parser.specs.Words.{Words}
 use Rattle.squawk_parser.specs.declared.parser.parse_error.ParseError.{ParseError}
 use Rattle.squawk_parser.specs.declared.parser.parse_error.ParseError.TheVariants as parse
 use Rattle.squawk_script.specs.Accepted as script
 use Rattle.squawk_script.specs.Events.{events_of, refusal}
 use Rattle.squawk_script.specs.Meaning.{run_of}
+use Rattle.squawk_script.specs.declared.script_error.ScriptError.{ScriptError}
 use Rattle.squawk_script.specs.declared.script_error.ScriptError.TheVariants as calls
+use Rattle.tiny_grammar.specs.Expressions.{is_operator_kind, tiny_in_order, tiny_steps}
 use Rattle.squawk_answer.specs.Lines.{Texts, last_line, lex_lines, step_lines}
 use Rattle.squawk_answer.specs.declared.fault.Fault.{Fault}
 use Rattle.squawk_answer.specs.declared.fault.Fault.TheVariants.{Json, Shape, TextTooLong, BadToken, TextLeft, BadCall, Unspent, TooManyEvents, TooManyErrors, DoesNotFit, Memory, Io}
@@ -36,13 +42,61 @@ table_for d = table_of d.vocabulary.keywords.kind_of d.text d.tokens
 abbrev pub parser_input : Told → List Entry
 parser_input d = input_of d.vocabulary.contextual.kind_of (table_for d)
 
--- the steps that the run of its calls leaves
-abbrev pub steps : Told → List Step
-steps d = plain (run_of d.words (parser_input d) d.calls).draft.items
+-- ---- a parse by a grammar
+
+-- the words of a grammar, with names as they are borrowed
+abbrev pub words_with : TokenSet → List (ℕ × Bor (List ℕ)) → Words
+words_with operator_first names = record { operator_first = operator_first; names = map (λ pair. (pair.0, pair.1.now)) names }
+
+-- its calls are accepted, and the small grammar has none
+abbrev pub HasCalls : ToldGrammar → Type 0
+HasCalls (by_calls entry cs) = script.IsAccepted cs
+HasCalls by_tiny = Unit {0}
+
+-- its calls are refused
+abbrev pub RefusesCalls : ToldGrammar → ScriptError → Type 0
+RefusesCalls (by_calls entry cs) e = script.Refuses cs e
+RefusesCalls by_tiny e = ⊥
+
+-- the steps that its run leaves over an input
+abbrev pub steps_by : ToldGrammar → Words → List Entry → List Step
+steps_by (by_calls entry cs) words input = plain (run_of words input cs).draft.items
+steps_by by_tiny words input = tiny_steps is_operator_kind input
+
+-- the events that its run records, in their order, each as whether it is an error
+abbrev pub events_by : ToldGrammar → Words → List Entry → List Bool
+events_by (by_calls entry cs) words input = events_of words input cs
+events_by by_tiny words input = map is_error (tiny_in_order is_operator_kind input)
 
 -- why the run is refused, if it is: it may record 4294967295 events, and 2147483648 errors among them
-abbrev pub parse_refusal : Told → Option ParseError
-parse_refusal d = refusal 4294967295 2147483648 (events_of d.words (parser_input d) d.calls)
+abbrev pub refusal_by : ToldGrammar → Words → List Entry → Option ParseError
+refusal_by grammar words input = refusal 4294967295 2147483648 (events_by grammar words input)
+
+-- its calls are accepted, and its run is not refused
+abbrev pub HasSteps : ToldGrammar → Words → List Entry → Type 0
+HasSteps grammar words input = HasCalls grammar × (refusal_by grammar words input ≡ None)
+
+-- What a parse by a grammar over the input of a table tells: its steps, or the first fault. Of memory nothing is said, and the other
+-- faults aren't those of a parse.
+abbrev pub ParseTells : ToldGrammar → Words → List Entry → Table → Result (List Step) Fault → Type 0
+ParseTells g words input t (Ok steps) = HasSteps g words input × Fits t steps × (steps ≡ steps_by g words input)
+ParseTells g words input t (Err (BadCall index)) = RefusesCalls g (calls.BadCall index)
+ParseTells g words input t (Err (Unspent marker)) = RefusesCalls g (calls.Unspent marker)
+ParseTells g words input t (Err TooManyEvents) = HasCalls g × (refusal_by g words input ≡ Some parse.TooManyEvents)
+ParseTells g words input t (Err TooManyErrors) = HasCalls g × (refusal_by g words input ≡ Some parse.TooManyErrors)
+ParseTells g words input t (Err DoesNotFit) = HasSteps g words input × ¬ (Fits t (steps_by g words input))
+ParseTells g words input t (Err Memory) = Unit {0}
+ParseTells g words input t (Err fault) = ⊥
+
+-- of a document
+abbrev pub ParseOf : Told → Result (List Step) Fault → Type 0
+ParseOf d answer = ParseTells d.grammar d.words (parser_input d) (table_for d) answer
+
+-- ---- a document's answer
+
+-- the steps that its grammar leaves
+abbrev pub steps : Told → List Step
+steps d = steps_by d.grammar d.words (parser_input d)
 
 -- whether the steps have all raw tokens that aren't trivia
 abbrev pub eats_all : Told → Bool
@@ -52,29 +106,23 @@ eats_all d = eaten (steps d) == length (input_of no_keywords (table_for d))
 abbrev pub lines : Told → Texts
 lines d = record { errors = lex_lines (table_for d).errors; steps = step_lines (sent_list (table_for d) (steps d)) ++ last_line (eats_all d) }
 
--- ---- its answer
-
--- its raw tokens and its calls are accepted
-abbrev pub HasScript : Told → Type 0
-HasScript d = tokens.IsAccepted d.text d.tokens × script.IsAccepted d.calls
-
--- and its run is not refused
-abbrev pub HasSteps : Told → Type 0
-HasSteps d = HasScript d × (parse_refusal d ≡ None)
+-- its raw tokens are accepted, and this is what its parse tells
+abbrev pub IsParsed : Told → Result (List Step) Fault → Type 0
+IsParsed d answer = tokens.IsAccepted d.text d.tokens × ParseOf d answer
 
 -- What a document tells: its lines, or the first fault. Of memory nothing is said, and reading and writing aren't the document's.
 abbrev pub Tells : Told → Result Texts Fault → Type 0
-Tells d (Ok texts) = HasSteps d × Fits (table_for d) (steps d) × (texts ≡ lines d)
+Tells d (Ok texts) = IsParsed d (Ok (steps d)) × (texts ≡ lines d)
 Tells d (Err Json) = ⊥
 Tells d (Err Shape) = ⊥
 Tells d (Err TextTooLong) = tokens.Refuses d.text d.tokens table.TextTooLong
 Tells d (Err (BadToken index)) = tokens.Refuses d.text d.tokens (table.BadToken index)
 Tells d (Err (TextLeft at)) = tokens.Refuses d.text d.tokens (table.TextLeft at)
-Tells d (Err (BadCall index)) = tokens.IsAccepted d.text d.tokens × script.Refuses d.calls (calls.BadCall index)
-Tells d (Err (Unspent marker)) = tokens.IsAccepted d.text d.tokens × script.Refuses d.calls (calls.Unspent marker)
-Tells d (Err TooManyEvents) = HasScript d × (parse_refusal d ≡ Some parse.TooManyEvents)
-Tells d (Err TooManyErrors) = HasScript d × (parse_refusal d ≡ Some parse.TooManyErrors)
-Tells d (Err DoesNotFit) = HasSteps d × ¬ (Fits (table_for d) (steps d))
+Tells d (Err (BadCall index)) = IsParsed d (Err (BadCall index))
+Tells d (Err (Unspent marker)) = IsParsed d (Err (Unspent marker))
+Tells d (Err TooManyEvents) = IsParsed d (Err TooManyEvents)
+Tells d (Err TooManyErrors) = IsParsed d (Err TooManyErrors)
+Tells d (Err DoesNotFit) = IsParsed d (Err DoesNotFit)
 Tells d (Err Memory) = Unit {0}
 Tells d (Err Io) = Unit {0}
 

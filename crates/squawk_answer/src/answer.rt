@@ -7,10 +7,10 @@ ghost use Rattle.squawk_answer.specs.AnswerLines.{texts_of};
 ghost use Rattle.squawk_answer.specs.Answers.{IsTheAnswer, Tells};
 
 use crate::fault::Fault;
-use crate::lines::{Lines, error_lines};
+use crate::lines::{error_lines, step_lines};
+use crate::parse::parse;
 use squawk_document::{Document, value};
-use squawk_parser::{LexedStr, Words};
-use squawk_script::Script;
+use squawk_parser::LexedStr;
 use std::alloc::Global;
 
 /// The lines of an answer.
@@ -48,24 +48,12 @@ impl Answer {
             operator_first,
             names,
             vocabulary,
-            entry,
-            calls,
+            grammar,
         } = document;
         let table = LexedStr::new(alloc, text, &tokens, &vocabulary)?;
-        let words = Words {
-            operator_first,
-            names: &names,
-        };
-        let script = Script::new(alloc, calls, words)?;
-        let input = table.to_input(alloc, &vocabulary)?;
-        let output = entry.parse(alloc, &input, &script)?;
-        if !table.fits(&output) {
-            return Err(Fault::DoesNotFit);
-        }
+        let output = parse(alloc, &table, &vocabulary, operator_first, &names, grammar)?;
         let errors = error_lines(alloc, table.errors())?;
-        let mut lines = Lines::new(alloc);
-        let all = table.intersperse_trivia(&output, &mut lines)?;
-        let steps = lines.finish(all)?;
+        let steps = step_lines(alloc, table.str_steps(&output))?;
         Ok(Answer { errors, steps })
     }
 }

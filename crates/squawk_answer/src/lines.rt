@@ -1,86 +1,50 @@
 //! A line for each lexical error, and one for each step.
-ghost use Rattle.std.specs.Prelude.{◌≡◌, [], ◌++◌, option_map, string_bytes, IfOk, OnOk, OnErr};
+ghost use Rattle.std.specs.Prelude.{◌≡◌, ◌++◌, option_map, string_bytes, IfOk, OnOk};
 ghost use Rattle.std.specs.Str.{chars};
-ghost use Rattle.squawk_table.specs.declared.shortcuts.str_step.OwnedStep.TheVariants.{Token, Enter, Error};
-ghost use Rattle.squawk_answer.specs.Lines.{hint_part, json_of, last_line, lex_line, lex_lines, quoted, step_line};
+ghost use Rattle.squawk_table.specs.SinkViews.{owned_step_of};
+ghost use Rattle.squawk_answer.specs.Lines.{hint_part, json_of, last_line, lex_line, lex_lines, quoted, step_line, step_lines};
 
 use serde_json::Value;
-use squawk_kinds::SyntaxKind;
-use squawk_table::{LexError, LexErrors, StepSink, StrStep};
+use squawk_table::{LexError, LexErrors, StrStep, StrSteps};
 use std::alloc::{AllocError, Global};
 use std::fmt::Write;
 
-/// A sink that makes a line of each step.
-#[derive(Drop)]
-pub struct Lines {
-    alloc: Global,
-    text: String,
+/// The lines of steps, and a last one that says whether all tokens were eaten.
+pub fn step_lines(alloc: Global, mut steps: StrSteps<'_>) -> Result<String, AllocError>
+    ensures { IfOk result (λ s. string_bytes s ≡ step_lines steps.entry.steps ++ last_line steps.entry.eaten_all) }
+{
+    let mut text = String::new(alloc);
+    while let Some(step) = steps.next() {
+        push_step_line(alloc, &mut text, step)?;
+    }
+    text.push_str(if steps.eaten_all() { "all\n" } else { "rest\n" })?;
+    Ok(text)
 }
 
-impl Lines {
-    /// No lines.
-    pub fn new(alloc: Global) -> Lines
-        ensures { string_bytes result.text ≡ [] }
-    {
-        Lines {
-            alloc,
-            text: String::new(alloc),
+/// Puts the line of a step behind others.
+pub fn push_step_line(
+    alloc: Global,
+    lines: &mut String,
+    step: StrStep<'_>,
+) -> Result<(), AllocError>
+    ensures { OnOk result (string_bytes lines.new ≡ string_bytes lines.old ++ step_line (owned_step_of step.entry)) }
+{
+    match step {
+        StrStep::Token { kind, text } => {
+            let kind = u16::from(kind);
+            let quoted = json_text(alloc, text)?;
+            writeln!(lines, "token {kind} {quoted}")
+        }
+        StrStep::Enter { kind } => {
+            let kind = u16::from(kind);
+            writeln!(lines, "enter {kind}")
+        }
+        StrStep::Exit => writeln!(lines, "exit"),
+        StrStep::Error { msg, pos } => {
+            let quoted = json_text(alloc, msg)?;
+            writeln!(lines, "error {pos} {quoted}")
         }
     }
-
-    /// The lines, and a last one that says whether all tokens were eaten.
-    pub fn finish(self, all: bool) -> Result<String, AllocError>
-        ensures { IfOk result (λ s. string_bytes s ≡ string_bytes self.text ++ last_line all) }
-    {
-        let Lines { alloc: _, mut text } = self;
-        text.push_str(if all { "all\n" } else { "rest\n" })?;
-        Ok(text)
-    }
-}
-
-impl StepSink for Lines {
-    ghost use Rattle.squawk_answer.specs.Lines.{step_lines};
-
-    type Refusal = AllocError;
-
-    ghost stands_after = { λ lines steps. string_bytes lines.text ≡ step_lines steps };
-
-    ghost refuses = { λ _ _ _. Unit {0} };
-
-    fn step(&mut self, step: StrStep<'_>) -> Result<(), AllocError> {
-        let line = match step {
-            StrStep::Token { kind, text } => token_line(self.alloc, kind, text)?,
-            StrStep::Enter { kind } => enter_line(self.alloc, kind)?,
-            StrStep::Exit => String::from_str(self.alloc, "exit\n")?,
-            StrStep::Error { msg, pos } => error_line(self.alloc, msg, pos)?,
-        };
-        self.text.push_str(line.as_str())
-    }
-}
-
-/// The line of a token.
-fn token_line(alloc: Global, kind: SyntaxKind, text: &str) -> Result<String, AllocError>
-    ensures { IfOk result (λ s. string_bytes s ≡ step_line (Token kind (chars text.now))) }
-{
-    let kind = u16::from(kind);
-    let quoted = json_text(alloc, text)?;
-    format!(in alloc; "token {kind} {quoted}\n")
-}
-
-/// The line of the beginning of a node.
-fn enter_line(alloc: Global, kind: SyntaxKind) -> Result<String, AllocError>
-    ensures { IfOk result (λ s. string_bytes s ≡ step_line (Enter kind)) }
-{
-    let kind = u16::from(kind);
-    format!(in alloc; "enter {kind}\n")
-}
-
-/// The line of an error.
-fn error_line(alloc: Global, msg: &str, pos: usize) -> Result<String, AllocError>
-    ensures { IfOk result (λ s. string_bytes s ≡ step_line (Error (chars msg.now) pos)) }
-{
-    let quoted = json_text(alloc, msg)?;
-    format!(in alloc; "error {pos} {quoted}\n")
 }
 
 /// The lines of lexical errors.

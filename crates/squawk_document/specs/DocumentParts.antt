@@ -1,13 +1,10 @@
--- The members of a document, and where its grammar begins.
-use Rattle.std.specs.Prelude.{ℕ, List, Result, Ok, Err, codes, if◌then◌else◌}
+-- The members of a document.
+use Rattle.std.specs.Prelude.{Result, Ok, codes}
 use Rattle.serde_json.specs.Data.{Data}
 use Rattle.serde_json.specs.View.{view}
-use Rattle.squawk_parser.specs.declared.parser.grammar.EntryPoint.{EntryPoint}
-use Rattle.squawk_parser.specs.declared.parser.grammar.EntryPoint.TheVariants.{SourceFile, Plpgsql}
 use Rattle.squawk_document.specs.declared.document_error.DocumentError.{DocumentError}
-use Rattle.squawk_document.specs.declared.document_error.DocumentError.TheVariants.{Shape}
 use Rattle.squawk_document.specs.declared.members.DocumentMembers.{DocumentMembers}
-use Rattle.squawk_document.specs.Values.{◌>>=◌, has_members, is_word, member_in, string_in}
+use Rattle.squawk_document.specs.Values.{◌>>=◌, has_members, member_in}
 
 pub record MemberData : Type 0 where
   pub text : Data
@@ -37,13 +34,3 @@ members_in d = has_members 6 d
     >>= λ vocabulary. member_in (codes "entry") object
     >>= λ entry. member_in (codes "calls") object
     >>= λ calls. Ok (record { text = text; tokens = tokens; words = words; vocabulary = vocabulary; entry = entry; calls = calls })
-
-abbrev pub entry_spelled : List ℕ → Result EntryPoint DocumentError
-entry_spelled word =
-    if is_word word (codes "sql") then Ok SourceFile else
-    if is_word word (codes "plpgsql") then Ok Plpgsql else
-    Err Shape
-
--- where the grammar begins
-abbrev pub entry_in : Data → Result EntryPoint DocumentError
-entry_in d = string_in d >>= entry_spelled

@@ -2,13 +2,11 @@
 use Rattle.std.specs.Prelude.{ℕ, List, map, Result, Ok}
 use Rattle.serde_json.specs.Data.{Data}
 use Rattle.squawk_parser.specs.Words.{Words}
-use Rattle.squawk_parser.specs.declared.parser.grammar.EntryPoint.{EntryPoint}
-use Rattle.squawk_script.specs.declared.call.Call.{Call}
 use Rattle.squawk_tokens.specs.declared.token.Token.{Token}
 use Rattle.squawk_document.specs.declared.document.Document.{Document}
 use Rattle.squawk_document.specs.declared.document_error.DocumentError.{DocumentError}
-use Rattle.squawk_document.specs.Calls.{calls_in}
-use Rattle.squawk_document.specs.DocumentParts.{entry_in, members_in}
+use Rattle.squawk_document.specs.DocumentGrammars.{ToldGrammar, grammar_in, told_grammar}
+use Rattle.squawk_document.specs.DocumentParts.{members_in}
 use Rattle.squawk_document.specs.GrammarWords.{names_in, word_members_in}
 use Rattle.squawk_document.specs.KindSets.{set_in}
 use Rattle.squawk_document.specs.TokenShapes.{tokens_in}
@@ -16,14 +14,13 @@ use Rattle.squawk_document.specs.Values.{◌>>=◌, string_in}
 use Rattle.squawk_document.specs.KeywordPairs.{VocabularyAnswers, answered, vocabulary_in}
 use Rattle.squawk_document.specs.KeywordAnswers.{answers}
 
--- a text, its raw tokens, and the grammar: what it tells about kinds, what its vocabulary answers, where it begins and its calls
+-- a text, its raw tokens, what the grammar tells about kinds, what its vocabulary answers, and the grammar
 pub record Told : Type 0 where
   pub text : List ℕ
   pub tokens : List Token
   pub words : Words
   pub vocabulary : VocabularyAnswers
-  pub entry : EntryPoint
-  pub calls : List Call
+  pub grammar : ToldGrammar
 
 -- the kinds that operators are made of, and the names of kinds
 abbrev pub words_in : Data → Result Words DocumentError
@@ -39,9 +36,8 @@ document_in d = members_in d
     >>= λ text. tokens_in members.tokens
     >>= λ tokens. words_in members.words
     >>= λ words. answered (vocabulary_in members.vocabulary)
-    >>= λ vocabulary. entry_in members.entry
-    >>= λ entry. calls_in members.calls
-    >>= λ calls. Ok (record { text = text; tokens = tokens; words = words; vocabulary = vocabulary; entry = entry; calls = calls })
+    >>= λ vocabulary. grammar_in members.entry members.calls
+    >>= λ grammar. Ok (record { text = text; tokens = tokens; words = words; vocabulary = vocabulary; grammar = grammar })
 
 -- what a document that was read tells
 abbrev pub told : Document → Told
@@ -50,6 +46,5 @@ told d = record {
   tokens = d.tokens.items;
   words = record { operator_first = d.operator_first; names = map (λ pair. (pair.0, pair.1.now)) d.names.items };
   vocabulary = answers d.vocabulary;
-  entry = d.entry;
-  calls = d.calls.items;
+  grammar = told_grammar d.grammar;
 }

@@ -8,4 +8,5 @@ pub mod KeywordAnswers
 pub mod DocumentParts
 pub mod Calls
 pub mod WrittenCalls
+pub mod DocumentGrammars
 pub mod Documents

@@ -6,17 +6,16 @@ ghost use Rattle.squawk_kinds.specs.TokenSets.{has};
 ghost use Rattle.squawk_document.specs.Documents.{document_in, told};
 ghost use Rattle.squawk_document.specs.Values.{Gives};
 
-use crate::calls::calls;
 use crate::document_error::DocumentError;
+use crate::grammar::{DocumentGrammar, grammar};
 use crate::keyword_lists::{KeywordLists, vocabulary};
 use crate::token::tokens;
 use crate::{members, words};
 use serde_json::Value;
-use squawk_parser::{EntryPoint, SyntaxKind, Token, TokenSet};
-use squawk_script::Call;
+use squawk_parser::{SyntaxKind, Token, TokenSet};
 use std::alloc::Global;
 
-/// A document: a text with its raw tokens, and a grammar that is a list of calls.
+/// A document: a text with its raw tokens, and what it is parsed by.
 #[derive(Drop)]
 pub struct Document<'v> {
     pub text: &'v str,
@@ -26,8 +25,7 @@ pub struct Document<'v> {
     /// Kinds with their names.
     pub names: Vec<(SyntaxKind, &'v str)>,
     pub vocabulary: KeywordLists,
-    pub entry: EntryPoint,
-    pub calls: Vec<Call>,
+    pub grammar: DocumentGrammar,
 }
 
 impl<'v> Document<'v> {
@@ -43,16 +41,14 @@ impl<'v> Document<'v> {
         let operator_first = words::operator_first(words.operator_first)?;
         let names = words::names(alloc, words.names)?;
         let vocabulary = vocabulary(alloc, members.vocabulary)?;
-        let entry = members::entry(members.entry)?;
-        let calls = calls(alloc, members.calls)?;
+        let grammar = grammar(alloc, members.entry, members.calls)?;
         Ok(Document {
             text,
             tokens,
             operator_first,
             names,
             vocabulary,
-            entry,
-            calls,
+            grammar,
         })
     }
 }

@@ -12,6 +12,7 @@
 pub mod calls;
 mod document;
 mod document_error;
+pub mod grammar;
 mod keyword_list;
 pub mod keyword_lists;
 pub mod kind_set;
@@ -22,3 +23,4 @@ pub mod words;
 
 pub use document::Document;
 pub use document_error::DocumentError;
+pub use grammar::DocumentGrammar;

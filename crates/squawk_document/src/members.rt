@@ -1,12 +1,11 @@
-//! The members of a document, and where its grammar begins.
+//! The members of a document.
 ghost use Rattle.serde_json.specs.View.{view};
-ghost use Rattle.squawk_document.specs.DocumentParts.{entry_in, member_data, members_in};
+ghost use Rattle.squawk_document.specs.DocumentParts.{member_data, members_in};
 ghost use Rattle.squawk_document.specs.Values.{GivesExactly, string_in};
 
 use crate::document_error::DocumentError;
 use crate::value;
 use serde_json::Value;
-use squawk_parser::EntryPoint;
 
 /// The members of a document.
 #[derive(Clone, Copy)]
@@ -45,15 +44,4 @@ pub fn text(value: &Value) -> Result<&str, DocumentError>
     ensures { GivesExactly (λ s. s.now) result (string_in (view value.now)) }
 {
     value::string(value)
-}
-
-/// Where the grammar of a document begins.
-pub fn entry(value: &Value) -> Result<EntryPoint, DocumentError>
-    ensures { GivesExactly (λ e. e) result (entry_in (view value.now)) }
-{
-    match value::string(value)? {
-        "sql" => Ok(EntryPoint::SourceFile),
-        "plpgsql" => Ok(EntryPoint::Plpgsql),
-        _ => Err(DocumentError::Shape),
-    }
 }

@@ -1,0 +1,85 @@
+-- What a parse by the small grammar answers.
+use Rattle.std.proofs.Common.{◌≡◌, ◌≢◌, ◌∙◌, ℕ, ◌+◌, ◌≤◌, Bool, Some, None, Ok, Err, List, [], ◌∷◌, ◌++◌, length, map, arith, ap, refl, sym, subst, inl, inr}
+use Rattle.std.specs.Prelude.{◌⊎◌, MatchResult, Result}
+use Rattle.std.proofs.Math.Path.{fun_ext}
+use Rattle.std.proofs.lemmas.List.{length-map, map-append}
+use Rattle.squawk_kinds.specs.TokenSets.{has}
+use Rattle.squawk_kinds.specs.declared.token_set.TokenSet.{TokenSet}
+use Rattle.squawk_document.specs.DocumentGrammars.{ToldGrammar, by_tiny}
+use Rattle.squawk_table.specs.ParserInput.{Entry}
+use Rattle.squawk_table.specs.RawTable.{Table}
+use Rattle.squawk_output.specs.Steps.{Step, Walk, errors_in, is_error}
+use Rattle.squawk_output.proofs.Sums.{count_by-cons}
+use Rattle.squawk_parser.specs.Parse.{IsParse, IsRefusalOf, IsRefused}
+use Rattle.squawk_parser.specs.Recorded.{IsRefusedStep}
+use Rattle.squawk_parser.specs.State.{IsReason, fresh}
+use Rattle.squawk_parser.specs.Words.{Words}
+use Rattle.squawk_parser.specs.declared.parser.parse_error.ParseError.{ParseError}
+use Rattle.squawk_parser.specs.declared.parser.parse_error.ParseError.TheVariants as parse
+use Rattle.squawk_script.specs.Events.{errors_among, refusal}
+use Rattle.squawk_script.proofs.Laws.{none-refused, refused-first}
+use Rattle.tiny_grammar.specs.Expressions.{FailsTiny, IsTiny, is_operator_kind, tiny_in_order, tiny_steps}
+use Rattle.tiny_grammar.proofs.InOrder.{tiny-errors}
+use Rattle.squawk_answer.specs.Answers.{ParseTells, refusal_by}
+use Rattle.squawk_answer.specs.declared.fault.Fault.{Fault}
+
+-- the errors among steps
+errors_among-steps : (steps : List Step) → errors_among (map is_error steps) ≡ errors_in steps
+errors_among-steps [] = refl
+errors_among-steps (step ∷ steps) =
+    omega (arith, errors_among-steps steps, count_by-cons (λ event. event) (is_error step) (map is_error steps), count_by-cons is_error step steps)
+
+-- a step that a fresh parser is refused is the first of the recorded events that finds no room
+refused-first-step : (input : List Entry) (words : Words) (events errors : ℕ) (steps : List Step) (reason : ParseError) → reason ≢ parse.OutOfMemory
+    → IsRefusedStep (fresh input words events errors) steps reason → refusal events errors (map is_error steps) ≡ Some reason
+refused-first-step input words events errors steps reason limit step =
+    let front : List Bool = map is_error step.front in
+    let few : 0 + length step.front ≡ length front = omega (arith, length-map step.front is_error) in
+    let wrong : 0 + errors_in step.front ≡ errors_among front = omega (arith, errors_among-steps step.front) in
+    refused-first events errors (map is_error steps) reason (record {
+      front = front;
+      next = is_error step.next;
+      rest = map is_error step.rest;
+      is = ap (map is_error) step.is ∙ map-append is_error step.front (step.next ∷ step.rest);
+      why = subst (λ n. IsReason events errors n (errors_among front) (is_error step.next) reason) few
+          (subst (λ n. IsReason events errors (0 + length step.front) n (is_error step.next) reason) wrong step.why);
+      limit = limit;
+    })
+
+module _ (set : TokenSet) (is : (kind : ℕ) → has set kind ≡ is_operator_kind kind) (words : Words) (input : List Entry) where
+  kinds : has set ≡ is_operator_kind
+  kinds = fun_ext is
+
+  pub refusal-tiny : (own : Words) (reason : ParseError)
+      → (reason ≡ parse.OutOfMemory) ⊎ IsRefused (FailsTiny (has set)) (fresh input own 4294967295 2147483648) reason
+      → reason ≢ parse.OutOfMemory → refusal_by by_tiny words input ≡ Some reason
+  refusal-tiny own reason (inl memory) other = absurd (other memory)
+  refusal-tiny own reason (inr refused) other = cases refused.refusal
+    where
+      cases : IsRefusalOf refused.left reason → refusal_by by_tiny words input ≡ Some reason
+      cases (inl first) =
+          refused-first-step input own 4294967295 2147483648 (tiny_in_order is_operator_kind input) reason other
+          (subst (λ kind. IsRefusedStep (fresh input own 4294967295 2147483648) (tiny_in_order kind input) reason) kinds (refused.ran reason first))
+      cases (inr memory) = absurd (other memory.1)
+
+  module _ (output : Walk) (parse : IsParse (IsTiny (has set) input) input output) where
+    run : IsTiny is_operator_kind input parse.draft
+    run = subst (λ kind. IsTiny kind input parse.draft) kinds parse.left
+
+    pub steps-tiny : output.steps ≡ tiny_steps is_operator_kind input
+    steps-tiny = parse.steps ∙ run.items
+
+    pub none-tiny : (output.recorded ≤ 4294967295) × (errors_in output.steps ≤ 2147483648) → refusal_by by_tiny words input ≡ None
+    none-tiny within =
+        let events = tiny_in_order is_operator_kind input in
+        none-refused 4294967295 2147483648 (map is_error events) (
+          omega (arith, within.0, parse.recorded, run.recorded, length-map events is_error),
+          omega (arith, within.1, ap errors_in steps-tiny, errors_among-steps events, tiny-errors is_operator_kind input),
+        )
+
+-- what is told of the small grammar, whose steps no words change, is told of a grammar that is it
+pub tiny-told : {X : Type 0} (result : Result X Fault) (steps : X → List Step) (grammar : ToldGrammar) (input : List Entry) (t : Table) → grammar ≡ by_tiny
+    → MatchResult result (λ x. (words : Words) → ParseTells by_tiny words input t (Ok (steps x))) (λ fault. (words : Words) → ParseTells by_tiny words input t (Err fault))
+    → (words : Words) → MatchResult result (λ x. ParseTells grammar words input t (Ok (steps x))) (λ fault. ParseTells grammar words input t (Err fault))
+tiny-told (Ok x) steps grammar input t is told words = subst (λ g. ParseTells g words input t (Ok (steps x))) (sym is) (told words)
+tiny-told (Err fault) steps grammar input t is told words = subst (λ g. ParseTells g words input t (Err fault)) (sym is) (told words)

@@ -1,0 +1,42 @@
+use Rattle.std.proofs.Common.{◌∙◌, Err, subst, sym}
+use Rattle.squawk_document.specs.DocumentGrammars.{by_calls}
+use Rattle.squawk_table.specs.ParserInput.{input_of}
+use Rattle.squawk_table.specs.Shape.{Fits}
+use Rattle.squawk_document.specs.KeywordAnswers.{answers}
+use Rattle.squawk_answer.specs.Answers.{ParseTells, words_with}
+use Rattle.squawk_answer.specs.Fault.{fault_of_parse}
+use Rattle.squawk_answer.proofs.Answered.{fault-told, limit-told, none-refused, refusal-same, refusal-told, steps-told}
+use Rattle.squawk_answer.proofs.parse.parse_calls.Goals as goal
+
+pub returns-in_err-output-clause-parsed : goal.returns-in_err-output-clause-parsed
+returns-in_err-output-clause-parsed c =
+    let words = words_with c.args.operator_first c.args.names.now in
+    let cs = c.args.calls.items in
+    let input = input_of (answers c.args.vocabulary.now).contextual.kind_of c.args.table.now in
+    let reason = c.in_err-output.field-0.0 in
+    fault-told c.from_residual-in_err-output.result _ (λ fault. ParseTells (by_calls c.args.entry cs) words input c.args.table.now (Err fault)) (fault_of_parse reason)
+    c.from_residual-in_err-output.ensures.1
+    (refusal-told (by_calls c.args.entry cs) words input c.args.table.now reason c.in_ok-script.ensures.accepted
+    (λ other. sym (refusal-same c.args.entry cs words input c.in_ok-script.script c.in_ok-input.input c.in_ok-script.ensures.script c.in_ok-input.ensures.input)
+    ∙ limit-told c.in_ok-script.script _ reason c.in_err-output.ensures.refused other))
+
+pub returns-then-not-fits-clause-parsed : goal.returns-then-not-fits-clause-parsed
+returns-then-not-fits-clause-parsed c =
+    let words = words_with c.args.operator_first c.args.names.now in
+    let cs = c.args.calls.items in
+    let input = input_of (answers c.args.vocabulary.now).contextual.kind_of c.args.table.now in
+    let parse = c.in_ok-output.ensures.output in
+    let steps = steps-told c.args.entry cs words input c.in_ok-script.script c.in_ok-input.input c.in_ok-script.ensures.script c.in_ok-input.ensures.input c.in_ok-output.output parse in
+    let none = none-refused c.args.entry cs words input c.in_ok-script.script c.in_ok-input.input c.in_ok-script.ensures.script c.in_ok-input.ensures.input c.in_ok-output.output parse c.in_ok-output.ensures.within in
+    ((c.in_ok-script.ensures.accepted, none), λ fits. absurd (let yes = c.fits.ensures.fits.1 (rw steps fits) in let no = c.if-not-fits.true in cc))
+
+pub returns-clause-parsed : goal.returns-clause-parsed
+returns-clause-parsed c =
+    let words = words_with c.args.operator_first c.args.names.now in
+    let cs = c.args.calls.items in
+    let input = input_of (answers c.args.vocabulary.now).contextual.kind_of c.args.table.now in
+    let parse = c.in_ok-output.ensures.output in
+    let steps = steps-told c.args.entry cs words input c.in_ok-script.script c.in_ok-input.input c.in_ok-script.ensures.script c.in_ok-input.ensures.input c.in_ok-output.output parse in
+    let none = none-refused c.args.entry cs words input c.in_ok-script.script c.in_ok-input.input c.in_ok-script.ensures.script c.in_ok-input.ensures.input c.in_ok-output.output parse c.in_ok-output.ensures.within in
+    let fits : Fits c.args.table.now c.in_ok-output.output.steps = c.fits.ensures.fits.0 (let p = c.if-not-fits.false in cc) in
+    ((c.in_ok-script.ensures.accepted, none), fits, steps)

@@ -1,0 +1,92 @@
+//! The parse of a table's input by a document's grammar.
+ghost use Rattle.std.specs.Prelude.{◌≡◌, ◌≢◌, Ok, Err, false, IfErr, MatchResult};
+ghost use Rattle.squawk_document.specs.DocumentGrammars.{by_calls, by_tiny, told_grammar};
+ghost use Rattle.squawk_document.specs.KeywordAnswers.{answers};
+ghost use Rattle.squawk_kinds.specs.Kinds.{EOF};
+ghost use Rattle.squawk_kinds.specs.TokenSets.{has};
+ghost use Rattle.squawk_parser.specs.Words.{Words as WordsTold};
+ghost use Rattle.squawk_table.specs.ParserInput.{input_of};
+ghost use Rattle.squawk_answer.specs.Answers.{ParseTells, words_with};
+
+use crate::fault::Fault;
+use squawk_document::DocumentGrammar;
+use squawk_document::keyword_lists::KeywordLists;
+use squawk_parser::{EntryPoint, LexedStr, Output, SyntaxKind, TokenSet, Words};
+use squawk_script::{Call, Script};
+use std::alloc::Global;
+use tiny_grammar::Tiny;
+
+/// The output of a parse by the grammar. It fits the table.
+pub fn parse(
+    alloc: Global,
+    table: &LexedStr<'_>,
+    vocabulary: &KeywordLists,
+    operator_first: TokenSet,
+    names: &[(SyntaxKind, &str)],
+    grammar: DocumentGrammar,
+) -> Result<Output, Fault>
+    requires { has operator_first EOF ≡ false }
+    ensures parsed { let input = input_of (answers vocabulary.now).contextual.kind_of table.now in MatchResult result
+        (λ output. ParseTells (told_grammar grammar) (words_with operator_first names.now) input table.now (Ok output.steps))
+        (λ fault. ParseTells (told_grammar grammar) (words_with operator_first names.now) input table.now (Err fault)) }
+    ensures unwritten { IfErr result (λ fault. fault ≢ Fault.Io) }
+{
+    match grammar {
+        DocumentGrammar::Calls { entry, calls } => {
+            parse_calls(
+                alloc,
+                table,
+                vocabulary,
+                operator_first,
+                names,
+                entry,
+                calls,
+            )
+        }
+        DocumentGrammar::Tiny => parse_tiny(alloc, table, vocabulary),
+    }
+}
+
+/// The output of these calls, from an entry point.
+fn parse_calls(
+    alloc: Global,
+    table: &LexedStr<'_>,
+    vocabulary: &KeywordLists,
+    operator_first: TokenSet,
+    names: &[(SyntaxKind, &str)],
+    entry: EntryPoint,
+    calls: Vec<Call>,
+) -> Result<Output, Fault>
+    requires { has operator_first EOF ≡ false }
+    ensures parsed { let input = input_of (answers vocabulary.now).contextual.kind_of table.now in MatchResult result
+        (λ output. ParseTells (by_calls entry calls.items) (words_with operator_first names.now) input table.now (Ok output.steps))
+        (λ fault. ParseTells (by_calls entry calls.items) (words_with operator_first names.now) input table.now (Err fault)) }
+    ensures unwritten { IfErr result (λ fault. fault ≢ Fault.Io) }
+{
+    let words = Words {
+        operator_first,
+        names,
+    };
+    let script = Script::new(alloc, calls, words)?;
+    let input = table.to_input(alloc, vocabulary)?;
+    let output = entry.parse(alloc, &input, &script)?;
+    if !table.fits(&output) {
+        return Err(Fault::DoesNotFit);
+    }
+    Ok(output)
+}
+
+/// The output of the small grammar, which always fits.
+fn parse_tiny(
+    alloc: Global,
+    table: &LexedStr<'_>,
+    vocabulary: &KeywordLists,
+) -> Result<Output, Fault>
+    ensures parsed { let input = input_of (answers vocabulary.now).contextual.kind_of table.now in MatchResult result
+        (λ output. (words : WordsTold) → ParseTells by_tiny words input table.now (Ok output.steps))
+        (λ fault. (words : WordsTold) → ParseTells by_tiny words input table.now (Err fault)) }
+    ensures unwritten { IfErr result (λ fault. fault ≢ Fault.Io) }
+{
+    let output = Tiny::new().parse(alloc, table, vocabulary, EntryPoint::SourceFile)?;
+    Ok(output)
+}
