@@ -1,5 +1,6 @@
 //! What a run of a document ends in.
 
+use crate::both_ways::assert_both_ways;
 use squawk_answer::{Fault, run};
 use std::alloc::AllocError;
 use std::process::Abort;
@@ -18,7 +19,8 @@ pub fn assert_answer(
     assert_written(rt, document, &wanted)
 }
 
-/// The document has this answer, byte for byte.
+/// The document has this answer, byte for byte, and its steps are the same sent to a list and given one
+/// by one.
 pub fn assert_written(
     rt: &(impl Abort + AllocGlobal),
     document: &str,
@@ -27,7 +29,7 @@ pub fn assert_written(
     let mut written = Vec::new(rt.alloc());
     run(rt.alloc(), &mut document.as_bytes(), &mut written)?;
     assert_eq!(rt; str::from_utf8(&written), Ok(answer), "{document}");
-    Ok(())
+    assert_both_ways(rt, document)
 }
 
 /// The document has this fault instead of an answer, which ends with this status and prints this

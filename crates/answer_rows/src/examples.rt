@@ -99,11 +99,60 @@ exit
 all
 "#;
 
+const OPERATORS: &str = r#"{"text": "a + b <> 1, c",
+ "tokens": [
+  ["ident", 1], ["whitespace", 1], ["plus", 1], ["whitespace", 1], ["ident", 1], ["whitespace", 1],
+  ["lt", 1], ["gt", 1], ["whitespace", 1], ["int", 1, false, 10, 1], ["comma", 1], ["whitespace", 1], ["ident", 1]],
+ "words": {"operator_first": [], "names": []},
+ "vocabulary": {"keywords": [], "contextual": []},
+ "entry": "tiny",
+ "calls": []}
+"#;
+
+const OPERATORS_LINES: &str = r#"enter 720
+enter 721
+enter 721
+enter 722
+token 3 "a"
+exit
+token 639 " "
+enter 664
+token 27 "+"
+exit
+token 639 " "
+enter 722
+token 3 "b"
+exit
+exit
+token 639 " "
+enter 664
+token 22 "<"
+token 23 ">"
+exit
+token 639 " "
+enter 722
+token 33 "1"
+exit
+exit
+enter 2
+error 10 "expected end"
+token 6 ","
+exit
+token 639 " "
+enter 2
+error 12 "expected end"
+token 3 "c"
+exit
+exit
+all
+"#;
+
 #[test]
 fn examples_have_their_answers(rt: HostRuntime) -> Result<(), Fail> {
     assert_written(&rt, EMPTY, EMPTY_LINES)?;
     assert_written(&rt, SELECT, SELECT_LINES)?;
     assert_written(&rt, LEXICAL_ERRORS, LEXICAL_ERRORS_LINES)?;
     assert_written(&rt, MOVED_NODES, MOVED_NODES_LINES)?;
+    assert_written(&rt, OPERATORS, OPERATORS_LINES)?;
     Ok(())
 }

@@ -8,6 +8,8 @@ mod answers;
 #[cfg(test)]
 mod asserts;
 #[cfg(test)]
+mod both_ways;
+#[cfg(test)]
 mod broken;
 #[cfg(test)]
 mod documents;
@@ -35,6 +37,8 @@ mod order;
 mod readers;
 #[cfg(test)]
 mod shapes;
+#[cfg(test)]
+mod small_grammar;
 #[cfg(test)]
 mod step_lines;
 #[cfg(test)]

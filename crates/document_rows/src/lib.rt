@@ -6,6 +6,8 @@
 #[cfg(test)]
 mod calls;
 #[cfg(test)]
+mod grammars;
+#[cfg(test)]
 mod many;
 #[cfg(test)]
 mod members;

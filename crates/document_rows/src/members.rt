@@ -1,8 +1,7 @@
 //! Tests of the members of a document.
 
-use squawk_document::members::{entry, members, text};
+use squawk_document::members::{members, text};
 use squawk_document::{DocumentError, value};
-use squawk_parser::EntryPoint;
 use std::alloc::Global;
 use std::process::Abort;
 use std::test::Fail;
@@ -80,38 +79,6 @@ fn text_is_a_string(rt: HostRuntime) -> Result<(), Fail> {
     assert_eq!(rt; text(&value)?, "select é");
     for other in ["1", "null", "[]", r#"["a"]"#, "{}", "true"] {
         match text(&value::parse(rt.alloc(), other.as_bytes())?) {
-            Ok(_) => assert!(rt; false, "{other}"),
-            Err(error) => assert_eq!(rt; error, DocumentError::Shape, "{other}"),
-        }
-    }
-    Ok(())
-}
-
-#[test]
-fn entry_points_have_two_spellings(rt: HostRuntime) -> Result<(), Fail> {
-    let sql = value::parse(rt.alloc(), br#""sql""#)?;
-    assert_eq!(rt; entry(&sql)?, EntryPoint::SourceFile);
-    let plpgsql = value::parse(rt.alloc(), br#""plpgsql""#)?;
-    assert_eq!(rt; entry(&plpgsql)?, EntryPoint::Plpgsql);
-    Ok(())
-}
-
-#[test]
-fn refuses_other_entry_points(rt: HostRuntime) -> Result<(), Fail> {
-    for other in [
-        r#""SQL""#,
-        r#""sql ""#,
-        r#""sq""#,
-        r#""pgsql""#,
-        r#""PLpgSQL""#,
-        r#""plpgsqls""#,
-        r#""""#,
-        "1",
-        "null",
-        r#"["sql"]"#,
-        "true",
-    ] {
-        match entry(&value::parse(rt.alloc(), other.as_bytes())?) {
             Ok(_) => assert!(rt; false, "{other}"),
             Err(error) => assert_eq!(rt; error, DocumentError::Shape, "{other}"),
         }

@@ -143,6 +143,7 @@ Keeps-twice s t u first second = record {
   input = second.input ∙ first.input;
   words = second.words ∙ first.words;
   limit = second.limit ∙ first.limit;
+  forward = omega (arith, first.forward, second.forward);
   max_events = second.max_events ∙ first.max_events;
   max_errors = second.max_errors ∙ first.max_errors;
   reason = λ failed. second.reason (subst (λ reason. IsSome reason) (sym (first.reason failed)) failed) ∙ first.reason failed;

@@ -4,6 +4,7 @@ pub mod call_list;
 pub mod calls;
 pub mod cases;
 pub mod errors;
+pub mod given;
 pub mod keywords;
 pub mod kinds;
 pub mod lexer;

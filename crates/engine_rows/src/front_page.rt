@@ -9,10 +9,10 @@ ghost use Rattle.squawk_parser.specs.Recorded.{Puts};
 ghost use Rattle.squawk_parser.specs.State.{Keeps, kind_at};
 
 use crate::fixture::lines::line_of;
-use crate::fixture::{NO_KEYWORDS, space, word};
+use crate::fixture::{space, word};
 use squawk_parser::{
-    EntryPoint, Grammar, LexedStr, Parser, StepList, SyntaxKind, Token, TokenKind, TokenSet,
-    Vocabulary, Words,
+    EntryPoint, Grammar, LexedStr, NoKeywords, Parser, StepList, SyntaxKind, Token, TokenKind,
+    TokenSet, Words,
 };
 use std::alloc::{AllocError, Global};
 use std::test::Fail;
@@ -78,15 +78,9 @@ fn name(p: &mut Parser<'_>)
 }
 
 /// Sends the steps of a text with these raw tokens, and tells whether they have all of it.
-fn send<V: Vocabulary>(
-    alloc: Global,
-    text: &str,
-    tokens: &[Token],
-    words: &V,
-    sink: &mut StepList,
-) -> Result<bool, Fail> {
-    let table = LexedStr::new(alloc, text, tokens, words)?;
-    let input = table.to_input(alloc, words)?;
+fn send(alloc: Global, text: &str, tokens: &[Token], sink: &mut StepList) -> Result<bool, Fail> {
+    let table = LexedStr::new(alloc, text, tokens, &NoKeywords)?;
+    let input = table.to_input(alloc, &NoKeywords)?;
     let output = EntryPoint::SourceFile.parse(alloc, &input, &Names)?;
     Ok(table.fits(&output) && table.intersperse_trivia(&output, sink)?)
 }
@@ -100,11 +94,11 @@ fn names_are_nodes_and_the_rest_errors(rt: HostRuntime) -> Result<(), Fail> {
     };
     let text = "one, two";
     let tokens = [word(3), comma, space(1), word(3)];
-    let table = LexedStr::new(rt.alloc(), text, &tokens, &NO_KEYWORDS)?;
+    let table = LexedStr::new(rt.alloc(), text, &tokens, &NoKeywords)?;
     assert!(rt; table.errors().next().is_none());
 
     let mut sink = StepList::new(rt.alloc());
-    assert!(rt; send(rt.alloc(), text, &tokens, &NO_KEYWORDS, &mut sink)?);
+    assert!(rt; send(rt.alloc(), text, &tokens, &mut sink)?);
     let line = line_of(rt.alloc(), sink.steps())?;
     let wanted = "SOURCE_FILE(NAME_REF(one) ERROR(!'expected a name'@3 ,) _ NAME_REF(two))";
     assert_eq!(rt; line.as_str(), wanted);

@@ -71,6 +71,8 @@ mod sinks;
 #[cfg(test)]
 mod statement;
 #[cfg(test)]
+mod str_steps;
+#[cfg(test)]
 mod string_errors;
 #[cfg(test)]
 mod text;

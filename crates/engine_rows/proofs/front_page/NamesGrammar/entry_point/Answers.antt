@@ -1,7 +1,7 @@
-use Rattle.std.proofs.Common.{◌∙◌, ◌++◌, ap, sym, subst}
-use Rattle.squawk_log.specs.Draft.{HasNoHole, plain}
+use Rattle.std.proofs.Common.{◌++◌, subst}
 use Rattle.squawk_parser.specs.Eaten.{node}
 use Rattle.squawk_parser.specs.Recorded.{Puts}
+use Rattle.squawk_parser.proofs.AddedSteps.{Adds-puts, closed-fresh, plain-fresh}
 use Rattle.squawk_parser.proofs.RecordedSteps.{Keeps-then, node_puts, puts-then}
 use Rattle.engine_rows.proofs.front_page.NamesGrammar.entry_point.Goals as goal
 
@@ -25,11 +25,7 @@ file c =
     (node_puts c.start-file.result.id c.from.result start.keeps names.keeps done.keeps start.records start.fresh start.position names.puts done.records done.position)
 
 pub returns-clause-closed : goal.returns-clause-closed
-returns-clause-closed c goes =
-    let put = (file c).draft goes in
-    subst HasNoHole (sym (put.items ∙ ap (λ s. s.draft.items ++ put.made) c.requires.fresh)) put.closed
+returns-clause-closed c = closed-fresh c.requires.fresh (Adds-puts (file c))
 
 pub returns-clause-leaves : goal.returns-clause-leaves
-returns-clause-leaves c goes =
-    let put = (file c).draft goes in
-    (c.loop-p.invariant.steps, ap plain (put.items ∙ ap (λ s. s.draft.items ++ put.made) c.requires.fresh) ∙ put.steps_made)
+returns-clause-leaves c goes = (c.loop-p.invariant.steps, plain-fresh c.requires.fresh (Adds-puts (file c)) goes)

@@ -1,0 +1,87 @@
+//! The iterator over the steps of an output, with the texts of its tokens and with the trivia.
+
+use crate::fixture::kinds::{NAME, ROOT};
+use crate::fixture::{parse_script, space, table, word};
+use squawk_parser::{StrStep, SyntaxKind};
+use std::test::Fail;
+
+fn enter(kind: u16) -> StrStep<'static> {
+    StrStep::Enter {
+        kind: SyntaxKind::from(kind),
+    }
+}
+
+fn token(kind: SyntaxKind, text: &str) -> StrStep<'_> {
+    StrStep::Token { kind, text }
+}
+
+#[test]
+fn steps_come_one_after_another_and_then_none(rt: HostRuntime) -> Result<(), Fail> {
+    let table = table(rt.alloc(), "x ", &[word(1), space(1)])?;
+    let calls = "start, start, bump_any, complete 1 NAME, error e, complete 0 ROOT";
+    let output = parse_script(&rt, &table, calls)?;
+    assert!(rt; table.fits(&output));
+
+    let wanted = [
+        enter(ROOT),
+        enter(NAME),
+        token(SyntaxKind::IDENT, "x"),
+        StrStep::Error { msg: "e", pos: 1 },
+        StrStep::Exit,
+        token(SyntaxKind::WHITESPACE, " "),
+        StrStep::Exit,
+    ];
+    let mut steps = table.str_steps(&output);
+    for step in &wanted {
+        assert_eq!(rt; steps.next().as_ref(), Some(step));
+    }
+    assert_eq!(rt; steps.next(), None);
+    assert_eq!(rt; steps.next(), None);
+    assert!(rt; steps.eaten_all());
+    Ok(())
+}
+
+#[test]
+fn steps_without_a_token_of_the_input_are_not_all(rt: HostRuntime) -> Result<(), Fail> {
+    let table = table(rt.alloc(), "a b", &[word(1), space(1), word(1)])?;
+    let output = parse_script(&rt, &table, "start, bump_any, complete 0 ROOT")?;
+    assert!(rt; table.fits(&output));
+
+    let wanted = [
+        enter(ROOT),
+        token(SyntaxKind::IDENT, "a"),
+        token(SyntaxKind::WHITESPACE, " "),
+        StrStep::Exit,
+    ];
+    let mut steps = table.str_steps(&output);
+    for step in &wanted {
+        assert_eq!(rt; steps.next().as_ref(), Some(step));
+    }
+    assert_eq!(rt; steps.next(), None);
+    assert!(rt; !steps.eaten_all());
+    assert_eq!(rt; steps.next(), None);
+    assert!(rt; !steps.eaten_all());
+    Ok(())
+}
+
+#[test]
+fn bounds_are_the_steps_and_the_raw_tokens_that_are_left(rt: HostRuntime) -> Result<(), Fail> {
+    let table = table(rt.alloc(), "a b", &[word(1), space(1), word(1)])?;
+    let output = parse_script(&rt, &table, "start, bump_any, bump_any, complete 0 ROOT")?;
+    assert!(rt; table.fits(&output));
+
+    let mut steps = table.str_steps(&output);
+    // Four steps of the output and three raw tokens, then one step or one raw token less each time.
+    for hint in [
+        (4, Some(7)),
+        (3, Some(6)),
+        (2, Some(4)),
+        (2, Some(3)),
+        (1, Some(1)),
+        (0, Some(0)),
+    ] {
+        assert_eq!(rt; steps.size_hint(), hint);
+        let _ = steps.next();
+    }
+    Ok(())
+}
