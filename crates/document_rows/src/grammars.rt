@@ -7,11 +7,7 @@ use std::process::Abort;
 use std::test::Fail;
 
 /// What these two members spell.
-fn read(
-    rt: &impl AllocGlobal,
-    entry: &str,
-    calls: &str,
-) -> Result<DocumentGrammar, DocumentError> {
+fn read(rt: &impl AllocGlobal, entry: &str, calls: &str) -> Result<DocumentGrammar, DocumentError> {
     let entry = value::parse(rt.alloc(), entry.as_bytes())?;
     let calls = value::parse(rt.alloc(), calls.as_bytes())?;
     grammar(rt.alloc(), &entry, &calls)
