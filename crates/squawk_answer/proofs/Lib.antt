@@ -1,3 +1,4 @@
 mod Answered
 mod Laws
+mod PlainTexts
 mod TinyAnswered

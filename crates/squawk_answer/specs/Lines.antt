@@ -1,5 +1,5 @@
 -- The lines of an answer.
-use Rattle.std.specs.Prelude.{ℕ, Bool, true, false, Option, Some, None, List, [], ◌++◌, codes, encode_utf8_all}
+use Rattle.std.specs.Prelude.{◌≤◌, ◌≢◌, ℕ, Bool, true, false, Option, Some, None, List, [], ◌++◌, codes, encode_utf8_all}
 use Rattle.std.specs.List.{flat_map}
 use Rattle.std.specs.Fmt.{decimal}
 use Rattle.serde_json.specs.Data.{string}
@@ -11,6 +11,10 @@ use Rattle.squawk_table.specs.declared.shortcuts.str_step.OwnedStep.TheVariants.
 -- the bytes of a text, as a JSON string
 abbrev pub quoted : List ℕ → List ℕ
 quoted bytes = compact_text (string bytes)
+
+-- no control character, no quote and no backslash: it stands in a JSON string as it is
+abbrev pub IsPlain : ℕ → Type 0
+IsPlain byte = (32 ≤ byte) × (byte ≢ 34) × (byte ≢ 92)
 
 -- the characters of a text, as a JSON string
 abbrev pub json_of : List ℕ → List ℕ

@@ -1,8 +1,8 @@
 //! A line for each lexical error, and one for each step.
-ghost use Rattle.std.specs.Prelude.{◌≡◌, ◌++◌, option_map, string_bytes, IfOk, OnOk};
+ghost use Rattle.std.specs.Prelude.{◌≡◌, ◌++◌, ◌↔◌, option_map, string_bytes, All, IfOk, IsTrue, OnOk};
 ghost use Rattle.std.specs.Str.{chars};
 ghost use Rattle.squawk_table.specs.SinkViews.{owned_step_of};
-ghost use Rattle.squawk_answer.specs.Lines.{hint_part, json_of, last_line, lex_line, lex_lines, quoted, step_line, step_lines};
+ghost use Rattle.squawk_answer.specs.Lines.{hint_part, json_of, last_line, lex_line, lex_lines, quoted, step_line, step_lines, IsPlain};
 
 use serde_json::Value;
 use squawk_table::{LexError, LexErrors, StrStep, StrSteps};
@@ -32,8 +32,9 @@ pub fn push_step_line(
     match step {
         StrStep::Token { kind, text } => {
             let kind = u16::from(kind);
-            let quoted = json_text(alloc, text)?;
-            writeln!(lines, "token {kind} {quoted}")
+            write!(lines, "token {kind} ")?;
+            push_json(alloc, lines, text)?;
+            lines.push('\n')
         }
         StrStep::Enter { kind } => {
             let kind = u16::from(kind);
@@ -41,8 +42,9 @@ pub fn push_step_line(
         }
         StrStep::Exit => writeln!(lines, "exit"),
         StrStep::Error { msg, pos } => {
-            let quoted = json_text(alloc, msg)?;
-            writeln!(lines, "error {pos} {quoted}")
+            write!(lines, "error {pos} ")?;
+            push_json(alloc, lines, msg)?;
+            lines.push('\n')
         }
     }
 }
@@ -53,33 +55,48 @@ pub fn error_lines(alloc: Global, errors: LexErrors<'_>) -> Result<String, Alloc
 {
     let mut text = String::new(alloc);
     for error in errors {
-        text.push_str(lex_line(alloc, error)?.as_str())?;
+        push_error_line(alloc, &mut text, error)?;
     }
     Ok(text)
 }
 
-/// The line of a lexical error.
-fn lex_line(alloc: Global, error: &LexError) -> Result<String, AllocError>
-    ensures { IfOk result (λ s. string_bytes s ≡ lex_line error.now) }
+/// Puts the line of a lexical error behind others.
+fn push_error_line(alloc: Global, lines: &mut String, error: &LexError) -> Result<(), AllocError>
+    ensures { OnOk result (string_bytes lines.new ≡ string_bytes lines.old ++ lex_line error.now) }
 {
     let range = error.range();
     let start = range.start;
     let end = range.end;
-    let message = json_text(alloc, error.message())?;
-    let hint = hint_part(alloc, error.hint())?;
-    format!(in alloc; "lex {start}..{end} {message}{hint}\n")
+    write!(lines, "lex {start}..{end} ")?;
+    push_json(alloc, lines, error.message())?;
+    push_hint(alloc, lines, error.hint())?;
+    lines.push('\n')
 }
 
-/// What stands behind a message: the hint, if there is one.
-fn hint_part(alloc: Global, hint: Option<&str>) -> Result<String, AllocError>
-    ensures { IfOk result (λ s. string_bytes s ≡ hint_part (option_map (λ hint. hint.now) hint.entry)) }
+/// Puts the hint behind a message, if there is one.
+fn push_hint(alloc: Global, lines: &mut String, hint: Option<&str>) -> Result<(), AllocError>
+    ensures { OnOk result (string_bytes lines.new ≡ string_bytes lines.old ++ hint_part (option_map (λ hint. hint.now) hint.entry)) }
 {
     match hint {
         Some(hint) => {
-            let quoted = json_text(alloc, hint)?;
-            format!(in alloc; " {quoted}")
+            lines.push(' ')?;
+            push_json(alloc, lines, hint)
         }
-        None => Ok(String::new(alloc)),
+        None => Ok(()),
+    }
+}
+
+/// Puts a text behind others, as a JSON string.
+///
+/// Most texts of tokens are the same there, so that nothing has to be made of them before.
+fn push_json(alloc: Global, lines: &mut String, text: &str) -> Result<(), AllocError>
+    ensures bytes { OnOk result (string_bytes lines.new ≡ string_bytes lines.old ++ quoted text.now) }
+    ensures chars { OnOk result (string_bytes lines.new ≡ string_bytes lines.old ++ json_of (chars text.now)) }
+{
+    if needs_no_escape(text) {
+        write!(lines, "\"{text}\"")
+    } else {
+        lines.push_str(json_text(alloc, text)?.as_str())
     }
 }
 
@@ -90,4 +107,11 @@ fn json_text(alloc: Global, text: &str) -> Result<String, AllocError>
 {
     let value = Value::from(String::from_str(alloc, text)?);
     value.to_string(alloc)
+}
+
+/// Whether a text stands in a JSON string as it is.
+fn needs_no_escape(text: &str) -> bool
+    ensures { IsTrue result ↔ All IsPlain text.now }
+{
+    text.bytes().all(|b| b >= b' ' && b != b'"' && b != b'\\')
 }
