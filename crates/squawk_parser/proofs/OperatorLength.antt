@@ -99,3 +99,22 @@ longest_from-front kinds (kind ∷ rest) =
 -- and reading from the start finds it
 pub longest_from-start : (run : List ℕ) → longest_from 0 false 0 run ≡ longest_name run (length run)
 longest_from-start run = longest_from-front [] run
+
+-- one kind more makes the longest name no shorter, and no longer than what was read
+pub longest_after-bounds : (len : ℕ) (special : Bool) (longest kind : ℕ) → longest ≤ len
+    → (longest ≤ longest_after len special longest kind) × (longest_after len special longest kind ≤ len)
+unfolding longest_after
+longest_after-bounds len special longest kind le = cases (nat_eq len 1 || not (is_sign kind) || special)
+  where
+    cases : (b : Bool) → (longest ≤ (if b then len else longest)) × ((if b then len else longest) ≤ len)
+    cases true = (le, omega arith)
+    cases false = (omega arith, le)
+
+-- so reading on finds no shorter one
+pub longest_from-grows : (rest : List ℕ) (len : ℕ) (special : Bool) (longest : ℕ) → longest ≤ len → longest ≤ longest_from len special longest rest
+unfolding longest_from
+longest_from-grows [] len special longest le = omega arith
+longest_from-grows (kind ∷ rest) len special longest le =
+    let any = special || is_special kind in
+    let after = longest_after-bounds (suc len) any longest kind (omega (arith, le)) in
+    omega (arith, after.0, longest_from-grows rest (suc len) any (longest_after (suc len) any longest kind) after.1)

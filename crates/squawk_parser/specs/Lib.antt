@@ -1,5 +1,6 @@
 pub mod LookAhead
 pub mod Operators
+pub mod OperatorLengths
 pub mod Composites
 pub mod CompositeRows
 pub mod Words

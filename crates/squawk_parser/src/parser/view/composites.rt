@@ -47,7 +47,7 @@ impl View<'_> {
         !(operator_first.contains(self.kind(0))
             && operator_first.contains(self.kind(n))
             && self.touches_next(n - 1))
-            || self.operator_len(operator_first) == n
+            || self.operator_len_up_to(n, operator_first) == n
     }
 
     /// How many tokens the parts of a sequence have at the front, if they stand there.

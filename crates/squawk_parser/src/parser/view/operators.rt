@@ -4,6 +4,7 @@
 //! unless it also has one of ``~ ! @ # % ^ & | ` ?``.
 ghost use Rattle.std.specs.Prelude.{◌≡◌};
 ghost use Rattle.squawk_parser.specs.Operators.{is_sign, is_special, operator_length, is_next_apart};
+ghost use Rattle.squawk_parser.specs.OperatorLengths.{IsLengthUpTo};
 ghost use Rattle.squawk_kinds.specs.TokenSets.{has};
 
 use crate::parser::view::View;
@@ -11,15 +12,31 @@ use squawk_kinds::{SyntaxKind, TokenSet};
 
 impl View<'_> {
     /// How many tokens the operator at the front has; 0 where there is none.
-    ///
-    /// One pass over the tokens that touch: what was read so far is a name or not, and the last
-    /// length at which it was one is the longest.
     pub(in crate::parser) fn operator_len(&self, operator_first: &TokenSet) -> usize
         ensures { result ≡ operator_length (has operator_first.now) self.now }
+    {
+        self.operator_len_up_to(usize::MAX, operator_first)
+    }
+
+    /// How many tokens the operator at the front has, or a number above `most` where it has more than
+    /// that.
+    ///
+    /// One pass over the tokens that touch: what was read so far is a name or not, and the last
+    /// length at which it was one is the longest. It ends where that is above `most`, so that of a
+    /// long run it reads but the signs that follow.
+    pub(in crate::parser) fn operator_len_up_to(
+        &self,
+        most: usize,
+        operator_first: &TokenSet,
+    ) -> usize
+        ensures { IsLengthUpTo most (operator_length (has operator_first.now) self.now) result }
     {
         let mut longest = 0;
         let mut has_special = false;
         for place in self.place..self.limit {
+            if longest > most {
+                break;
+            }
             let kind = self.input.kind(place);
             if !operator_first.contains(kind) {
                 break;
@@ -43,7 +60,7 @@ impl View<'_> {
         !(operator_first.contains(self.kind(0))
             && operator_first.contains(self.kind(1))
             && self.touches_next(0)
-            && self.operator_len(operator_first) != 1)
+            && self.operator_len_up_to(1, operator_first) != 1)
     }
 }
 

@@ -1,31 +1,34 @@
-use Rattle.std.proofs.Common.{◌≡◌, ◌∙◌, ◌+◌, ◌-◌, ◌||◌, false, arith, ap, sym}
+use Rattle.std.proofs.Common.{◌≡◌, ◌∙◌, ◌+◌, ◌-◌, ◌<◌, ◌||◌, false, inl, inr, arith, ap, sym}
 use Rattle.squawk_parser.specs.Operators.{is_special, operator_length}
 use Rattle.squawk_kinds.specs.TokenSets.{has}
-use Rattle.squawk_parser.proofs.OperatorLength.{longest_after, longest_from, longest_from-same, longest_after-one, longest_after-special, longest_after-no_sign, longest_after-sign}
+use Rattle.squawk_parser.proofs.OperatorLength.{longest_after, longest_from, longest_from-same, longest_after-one, longest_after-special, longest_after-no_sign, longest_after-sign, longest_after-bounds, longest_from-grows}
 use Rattle.squawk_parser.proofs.TouchingRun.{run_at, longest_at-start, longest_at-limit, longest_at-other, longest_at-last, longest_at-next}
-use Rattle.squawk_parser.proofs.parser.view.View.operator_len.Goals as goal
-use Rattle.squawk_parser.proofs.parser.view.View.operator_len.Goals.{Joined-len-eq1, Joined-has_special, then-has_special, else-has_special, then-len-eq1, then-len-eq1-via-then-len-eq1, then-len-eq1-via-else-len-eq1+then-has_special-2, then-len-eq1-via-else-len-eq1+else-has_special-2+then-not-is_sign, else-len-eq1+else-has_special-2+else-not-is_sign}
+use Rattle.squawk_parser.proofs.parser.view.View.operator_len_up_to.Goals as goal
+use Rattle.squawk_parser.proofs.parser.view.View.operator_len_up_to.Goals.{Joined-len-eq1, Joined-has_special, then-has_special, else-has_special, then-len-eq1, then-len-eq1-via-then-len-eq1, then-len-eq1-via-else-len-eq1+then-has_special-2, then-len-eq1-via-else-len-eq1+else-has_special-2+then-not-is_sign, else-len-eq1+else-has_special-2+else-not-is_sign}
 
 pub loop-place-init : goal.loop-place-init
 loop-place-init c =
     let view = c.self.inside in
     let operator_kind = has c.args.operator_first.now in
     let none : view.place - view.place ≡ 0 = omega arith in
-    ap (λ len. longest_from len false 0 (run_at operator_kind view.input.now view.limit view.place)) none
-    ∙ (longest_at-start operator_kind view.input.now view.limit view.place ∙ ap (operator_length operator_kind) c.self.view_is)
+    record {
+      all = ap (λ len. longest_from len false 0 (run_at operator_kind view.input.now view.limit view.place)) none
+          ∙ (longest_at-start operator_kind view.input.now view.limit view.place ∙ ap (operator_length operator_kind) c.self.view_is);
+      within = omega arith;
+    }
 
 pub returns-after-loop-place : goal.returns-after-loop-place
 returns-after-loop-place c =
     let view = c.self.inside in
     let l = c.loop-place in
-    sym (longest_at-limit (has c.args.operator_first.now) view.input.now view.limit l.place (l.place - view.place) l.has_special l.longest c.loop-place-test.false) ∙ l.invariant
+    inl (sym (longest_at-limit (has c.args.operator_first.now) view.input.now view.limit l.place (l.place - view.place) l.has_special l.longest c.loop-place-test.false) ∙ l.invariant.all)
 
 pub returns-then-not-contains : goal.returns-then-not-contains
 returns-then-not-contains c =
     let view = c.self.inside in
     let l = c.loop-place in
-    sym (longest_at-other (has c.args.operator_first.now) view.input.now view.limit l.place (l.place - view.place) l.has_special l.longest
-    c.kind-kind.result c.loop-place-test.true c.self.invariant c.kind-kind.ensures (sym c.contains.ensures ∙ c.if-not-contains.true)) ∙ l.invariant
+    inl (sym (longest_at-other (has c.args.operator_first.now) view.input.now view.limit l.place (l.place - view.place) l.has_special l.longest
+    c.kind-kind.result c.loop-place-test.true c.self.invariant c.kind-kind.ensures (sym c.contains.ensures ∙ c.if-not-contains.true)) ∙ l.invariant.all)
 
 -- what the turn makes of the test for a special kind
 special_here : (c : Joined-has_special) → c.if-has_special.has_special ≡ (c.loop-place.has_special || is_special c.kind-kind.result)
@@ -59,21 +62,35 @@ returns-then-not-is_joint c =
     let view = c.self.inside in
     let l = c.loop-place in
     let special = special_here (goal.at.returns-then-not-is_joint c).Joined-has_special in
-    longest_here (goal.at.returns-then-not-is_joint c).Joined-len-eq1
+    inl (longest_here (goal.at.returns-then-not-is_joint c).Joined-len-eq1
     ∙ (ap (λ any. longest_after (l.place - view.place + 1) any l.longest c.kind-kind.result) special
     ∙ (sym (longest_at-last (has c.args.operator_first.now) view.input.now view.limit l.place (l.place - view.place) l.has_special l.longest
     c.kind-kind.result c.loop-place-test.true c.self.invariant c.kind-kind.ensures (sym c.contains.ensures ∙ c.if-not-contains.false)
-    (sym c.is_joint.ensures ∙ c.if-not-is_joint.true)) ∙ l.invariant))
+    (sym c.is_joint.ensures ∙ c.if-not-is_joint.true)) ∙ l.invariant.all)))
+
+-- a longer name was found than is asked for, and the operator has no shorter one
+pub returns-then-longest-most : goal.returns-then-longest-most
+returns-then-longest-most c =
+    let view = c.self.inside in
+    let l = c.loop-place in
+    let run = run_at (has c.args.operator_first.now) view.input.now view.limit l.place in
+    let grows = longest_from-grows run (l.place - view.place) l.has_special l.longest l.invariant.within in
+    let above : c.args.most < operator_length (has c.args.operator_first.now) c.args.self.now = omega (arith, grows, l.invariant.all, c.if-longest-most.true) in
+    inr (c.if-longest-most.true, above)
 
 pub loop-place-preserved : goal.loop-place-preserved
 loop-place-preserved c =
     let view = c.self.inside in
     let l = c.loop-place in
     let special = special_here (goal.at.loop-place-preserved c).Joined-has_special in
-    let longest = longest_here (goal.at.loop-place-preserved c).Joined-len-eq1
-    ∙ ap (λ any. longest_after (l.place - view.place + 1) any l.longest c.kind-kind.result) special in
+    let here = longest_here (goal.at.loop-place-preserved c).Joined-len-eq1 in
+    let longest = here ∙ ap (λ any. longest_after (l.place - view.place + 1) any l.longest c.kind-kind.result) special in
     let len : l.place + 1 - view.place ≡ l.place - view.place + 1 = omega arith in
-    longest_from-same (run_at (has c.args.operator_first.now) view.input.now view.limit (l.place + 1)) len special longest
-    ∙ (sym (longest_at-next (has c.args.operator_first.now) view.input.now view.limit l.place (l.place - view.place) l.has_special l.longest
-    c.kind-kind.result c.loop-place-test.true c.self.invariant c.kind-kind.ensures (sym c.contains.ensures ∙ c.if-not-contains.false)
-    (sym c.is_joint.ensures ∙ c.if-not-is_joint.false)) ∙ l.invariant)
+    let bounds = longest_after-bounds (l.place - view.place + 1) c.if-has_special.has_special l.longest c.kind-kind.result (omega (arith, l.invariant.within)) in
+    record {
+      all = longest_from-same (run_at (has c.args.operator_first.now) view.input.now view.limit (l.place + 1)) len special longest
+          ∙ (sym (longest_at-next (has c.args.operator_first.now) view.input.now view.limit l.place (l.place - view.place) l.has_special l.longest
+          c.kind-kind.result c.loop-place-test.true c.self.invariant c.kind-kind.ensures (sym c.contains.ensures ∙ c.if-not-contains.false)
+          (sym c.is_joint.ensures ∙ c.if-not-is_joint.false)) ∙ l.invariant.all);
+      within = omega (arith, here, bounds.1);
+    }

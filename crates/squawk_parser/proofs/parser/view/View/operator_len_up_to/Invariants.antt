@@ -1,13 +1,16 @@
-use Rattle.std.proofs.Common.{◌≡◌, ◌-◌}
+use Rattle.std.proofs.Common.{◌≡◌, ◌≤◌, ◌-◌}
 use Rattle.squawk_parser.proofs.OperatorLength.{longest_from}
 use Rattle.squawk_parser.proofs.TouchingRun.{run_at}
 use Rattle.squawk_parser.specs.Operators.{operator_length}
 use Rattle.squawk_kinds.specs.TokenSets.{has}
-use Rattle.squawk_parser.proofs.parser.view.View.operator_len.Given as goal
+use Rattle.squawk_parser.proofs.parser.view.View.operator_len_up_to.Given as goal
 
 -- the longest name so far and the tokens from here on give the operator's length
 abbrev pub invariant-loop-place : goal.invariant-loop-place
 invariant-loop-place l =
     let view = l.self-inside in
-    longest_from (l.place - view.place) l.has_special l.longest (run_at (has l.operator_first) view.input.now view.limit l.place)
-    ≡ operator_length (has l.operator_first) l.self
+    record {
+      all : longest_from (l.place - view.place) l.has_special l.longest (run_at (has l.operator_first) view.input.now view.limit l.place)
+          ≡ operator_length (has l.operator_first) l.self;
+      within : l.longest ≤ l.place - view.place;
+    }
