@@ -59,6 +59,7 @@ impl EventLog {
     }
 
     /// How many events were recorded.
+    #[inline(always)]
     pub fn recorded(&self) -> u32
         ensures { result ≡ self.now.recorded }
     {
@@ -73,6 +74,7 @@ impl EventLog {
     }
 
     /// The id that the next hole will have: as many as there are entries.
+    #[inline(always)]
     pub fn next_id(&self) -> u32
         ensures id { result ≡ self.now.entries }
         ensures above { IsAboveIds result self.now.items }
@@ -81,6 +83,7 @@ impl EventLog {
     }
 
     /// A hole at the end.
+    #[inline(always)]
     pub fn start(&mut self) -> Result<(), AllocError>
         requires { self.old.recorded + 1 < 2 ^ 32 }
         ensures ok { OnOk result (self.new ≡ started self.old self.old.entries) }
@@ -93,6 +96,7 @@ impl EventLog {
     }
 
     /// The hole becomes an opening in its place, and a closing stands at the end.
+    #[inline(always)]
     pub fn complete(&mut self, id: u32, kind: SyntaxKind) -> Result<(), AllocError>
         requires hole { HasHoleOf self.old.items id }
         requires kind { kind ≢ TOMBSTONE }
@@ -113,6 +117,7 @@ impl EventLog {
     }
 
     /// A token at the end.
+    #[inline(always)]
     pub fn token(&mut self, kind: SyntaxKind, n_raw_tokens: u8) -> Result<(), AllocError>
         requires { self.old.recorded + 1 < 2 ^ 32 }
         ensures ok { OnOk result (self.new ≡ with_token self.old kind n_raw_tokens) }
@@ -220,6 +225,7 @@ fn is_last_start(entries: usize, id: u32, made: Made) -> bool
 }
 
 /// One event more, with its mark. Where memory is refused, neither is there.
+#[inline(always)]
 fn grow(
     events: &mut Vec<Event>,
     marks: &mut Vec<bool>,

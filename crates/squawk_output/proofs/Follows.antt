@@ -1,5 +1,5 @@
 -- One link followed.
-use Rattle.std.proofs.Common.{◌≡◌, ◌∙◌, ℕ, zero, suc, ◌+◌, ◌-◌, ◌<◌, ◌≤◌, Some, None, Option, List, [], ◌∷◌, ◌++◌, length, get_or, set, refl, sym, ap, arith, append_assoc}
+use Rattle.std.proofs.Common.{◌≡◌, ◌∙◌, ℕ, zero, suc, ◌+◌, ◌-◌, ◌<◌, ◌≤◌, Some, None, Option, List, [], ◌∷◌, ◌++◌, length, get_or, set, drop, refl, sym, ap, arith, append_assoc}
 use Rattle.std.proofs.Math.Nat.{suc-add}
 use Rattle.std.proofs.lemmas.List.{length-set, append-nil}
 use Rattle.squawk_output.specs.Steps.{Step, Passed}
@@ -58,6 +58,33 @@ LandsAt-start log place kind None d is lt links = tt
 LandsAt-start [] place kind (Some n) d is lt links = absurd (omega arith)
 LandsAt-start (x ∷ xs) zero kind (Some n) d is lt links = let h = rw is at links.0 in rw (one_further n h.0) h.1
 LandsAt-start (x ∷ xs) (suc m) kind (Some n) d is lt links = rw (suc-add m n) (LandsAt-start xs m kind (Some n) d is (omega arith) links.1)
+
+-- ---- the same where the Start stays
+
+pub drop-hop : (log : Log) (place kind : ℕ) (link : Option ℕ) (d : Event) → get_or log place d ≡ Start kind link → place < length log → LinksLead log
+    → drop (suc place) (erased (hop place link) log) ≡ drop (suc place) (erased (Some place) log)
+drop-hop [] place kind link d is lt links = absurd (omega arith)
+drop-hop (x ∷ xs) zero kind None d is lt links = rw is (sym (erased-None xs))
+drop-hop (x ∷ xs) zero kind (Some n) d is lt links = let h = rw is at links.0 in rw (is, one_further n h.0) refl
+drop-hop (x ∷ xs) (suc m) kind None d is lt links =
+    ap (drop (suc m)) (sym (erased-None xs)) ∙ drop-hop xs m kind None d is (omega arith) links.1
+drop-hop (x ∷ xs) (suc m) kind (Some n) d is lt links = rw (suc-add m n) (drop-hop xs m kind (Some n) d is (omega arith) links.1)
+
+pub chain-hop : (log : Log) (place kind : ℕ) (link : Option ℕ) (d : Event) → get_or log place d ≡ Start kind link → place < length log → LinksLead log
+    → chain (Some place) log ≡ kind ∷ chain (hop place link) log
+chain-hop [] place kind link d is lt links = absurd (omega arith)
+chain-hop (x ∷ xs) zero kind None d is lt links = rw is (ap (λ ys. kind ∷ ys) (chain-None xs))
+chain-hop (x ∷ xs) zero kind (Some n) d is lt links = let h = rw is at links.0 in rw (is, one_further n h.0) refl
+chain-hop (x ∷ xs) (suc m) kind None d is lt links =
+    chain-hop xs m kind None d is (omega arith) links.1 ∙ ap (λ ys. kind ∷ ys) (chain-None xs)
+chain-hop (x ∷ xs) (suc m) kind (Some n) d is lt links = rw (suc-add m n) (chain-hop xs m kind (Some n) d is (omega arith) links.1)
+
+pub LandsAt-hop : (log : Log) (place kind : ℕ) (link : Option ℕ) (d : Event) → get_or log place d ≡ Start kind link → place < length log → LinksLead log
+    → LandsAt log (hop place link)
+LandsAt-hop log place kind None d is lt links = tt
+LandsAt-hop [] place kind (Some n) d is lt links = absurd (omega arith)
+LandsAt-hop (x ∷ xs) zero kind (Some n) d is lt links = let h = rw is at links.0 in rw (one_further n h.0) h.1
+LandsAt-hop (x ∷ xs) (suc m) kind (Some n) d is lt links = rw (suc-add m n) (LandsAt-hop xs m kind (Some n) d is (omega arith) links.1)
 
 -- ---- the loop
 

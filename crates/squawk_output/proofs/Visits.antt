@@ -1,7 +1,6 @@
 -- One event visited.
 use Rattle.std.proofs.Common.{◌≡◌, ◌∙◌, ℕ, zero, suc, ◌+◌, ◌*◌, ◌^◌, ◌<◌, ◌≤◌, false, Some, None, Option, List, [], ◌∷◌, ◌++◌, length, get_or, set, drop, refl, sym, ap, arith, append_assoc, add-one}
 use Rattle.std.proofs.Math.Seq.{drop-cons}
-use Rattle.std.proofs.lemmas.List.{length-set}
 use Rattle.squawk_output.specs.Steps as steps
 use Rattle.squawk_output.specs.Steps.{Passed, errors_in}
 use Rattle.squawk_output.specs.declared.event.Event.{Event}
@@ -10,9 +9,9 @@ use Rattle.squawk_output.specs.EventLog.{LinksLead, Log, ahead, entering, has_li
 use Rattle.squawk_output.specs.Chain.{LandsAt, chain, entered_back, erased, hop, tombstone}
 use Rattle.squawk_output.specs.Pass.{Visits}
 use Rattle.squawk_output.proofs.Erased.{length-erased}
-use Rattle.squawk_output.proofs.Follows.{chain-start, erased-None, erased-start, length-chain}
+use Rattle.squawk_output.proofs.Follows.{chain-hop, drop-hop, erased-None, length-chain}
 use Rattle.squawk_output.proofs.LogErrors.{errors-append}
-use Rattle.squawk_output.proofs.Links.{LandsAt-ahead, LinksLead-drop, LinksLead-erased, LinksLead-without}
+use Rattle.squawk_output.proofs.Links.{LandsAt-ahead, LinksLead-drop, LinksLead-erased}
 use Rattle.squawk_output.proofs.LogTurns.{one_if, turns_of-cons}
 use Rattle.squawk_output.proofs.Peel.{entered, list_of-cons}
 
@@ -127,17 +126,17 @@ module _ (log : Log) (place : ℕ) (d : Event) (within : place < length log) whe
 
 -- ---- visits
 
--- a Start: the kinds of its chain are entered, and the chain is taken out
+-- a Start: the kinds of its chain are entered, and the chain behind it is taken out
 Visits-chain : (log after : Log) (output made : Passed) (place kind : ℕ) (link : Option ℕ) (d : Event) (kinds : List ℕ) → place < length log → LinksLead log
-    → get_or log place d ≡ Start kind link → after ≡ erased (Some place) log → kinds ≡ chain (Some place) log
-    → made.steps ≡ output.steps ++ entered_back kinds → made.turns ≡ output.turns + 2 * length kinds
+    → get_or log place d ≡ Start kind link → length after ≡ length log → LinksLead after → drop (suc place) after ≡ drop (suc place) (erased (Some place) log)
+    → kinds ≡ chain (Some place) log → made.steps ≡ output.steps ++ entered_back kinds → made.turns ≡ output.turns + 2 * length kinds
     → Visits log output after made place
-Visits-chain log after output made place kind link d kinds within links is gone found steps turns =
+Visits-chain log after output made place kind link d kinds within links is same links_after gone found steps turns =
     let left = drop (suc place) (erased (Some place) log) in
     let rest : drop (place + 1) after ≡ left = rw (add-one, gone) refl in
     record {
-      same_length = ap length gone ∙ length-erased (Some place) log;
-      links = rw gone (LinksLead-erased (Some place) log links);
+      same_length = same;
+      links = links_after;
       steps =
           ap (λ ys. ys ++ list_of (drop (place + 1) after)) (steps ∙ ap (λ ks. output.steps ++ entered_back ks) found)
           ∙ (append_assoc output.steps (entered_back (chain (Some place) log)) (list_of (drop (place + 1) after))
@@ -151,69 +150,73 @@ entered-None : (log : Log) → entered None log ≡ []
 entered-None [] = refl
 entered-None (x ∷ xs) = refl
 
-drop-set : (log : Log) (place : ℕ) (event : Event) → drop (suc place) (set log place event) ≡ drop (suc place) log
+pub drop-set : (log : Log) (place : ℕ) (event : Event) → drop (suc place) (set log place event) ≡ drop (suc place) log
 drop-set [] place event = refl
 drop-set (x ∷ xs) zero event = refl
 drop-set (x ∷ xs) (suc n) event = drop-set xs n event
 
+-- what the code finds at a place begins the rest of the log
+pub begins-with : (log : Log) (place : ℕ) (x d event : Event) → place < length log → x ≡ get_or log place d → x ≡ event
+    → drop place log ≡ event ∷ drop (place + 1) log
+begins-with log place x d event within got is = rw add-one (drop-cons log place d within ∙ ap (λ y. y ∷ drop (suc place) log) (sym got ∙ is))
+
 -- as the code has it
-module _ (log : Log) (output turned : Passed) (place : ℕ) (x d t : Event) (within : place < length log) (links : LinksLead log) (got : x ≡ get_or log place d)
-    (gone : t ≡ tombstone)
-    (turn : turned ≡ record output { turns = output.turns + 1 }) where
-  -- any other event begins the list of the log with its step
-  list-other : (event : Event) → ahead event ≡ None → x ≡ event → list_of (drop place log) ≡ steps_of event ++ list_of (drop (suc place) log)
-  list-other event alone is =
-      let begins : drop place log ≡ event ∷ drop (suc place) log = drop-cons log place d within ∙ ap (λ y. y ∷ drop (suc place) log) (sym got ∙ is) in
-      ap list_of begins
-      ∙ (list_of-cons event (drop (suc place) log)
-      ∙ (ap (λ from. (entered from (drop (suc place) log) ++ steps_of event) ++ list_of (erased from (drop (suc place) log))) alone
-      ∙ rw (entered-None (drop (suc place) log), erased-None (drop (suc place) log)) refl))
+module _ (log : Log) (output turned : Passed) (place : ℕ) (turn : turned ≡ record output { turns = output.turns + 1 }) where
+  module _ (event : Event) (begins : drop place log ≡ event ∷ drop (place + 1) log) (alone : ahead event ≡ None) where
+    -- an event without a link begins the list of the log with its step
+    list-alone : list_of (drop place log) ≡ steps_of event ++ list_of (drop (place + 1) log)
+    list-alone =
+        let behind = drop (place + 1) log in
+        ap list_of begins
+        ∙ (list_of-cons event behind
+        ∙ (ap (λ from. (entered from behind ++ steps_of event) ++ list_of (erased from behind)) alone
+        ∙ rw (entered-None behind, erased-None behind) refl))
+
+    -- and it gives that step
+    pub Visits-alone : (after : Log) (made : Passed) → length after ≡ length log → LinksLead after → drop (suc place) after ≡ drop (suc place) log
+        → has_link event ≡ false → made.steps ≡ turned.steps ++ steps_of event → made.turns ≡ turned.turns + one_if (is_start event)
+        → Visits log output after made place
+    Visits-alone after made same links behind unlinked put turns =
+        let rest : drop (place + 1) after ≡ drop (place + 1) log = rw add-one behind in
+        let steps : made.steps ≡ output.steps ++ steps_of event = rw (put, turn) refl in
+        record {
+          same_length = same;
+          links = links;
+          steps =
+              ap (λ ys. ys ++ list_of (drop (place + 1) after)) steps
+              ∙ (append_assoc output.steps (steps_of event) (list_of (drop (place + 1) after))
+              ∙ ap (λ ys. output.steps ++ ys) (ap (λ ys. steps_of event ++ list_of ys) rest ∙ sym list-alone));
+          turns =
+              omega (
+                arith,
+                ap turns_of begins,
+                turns_of-cons event (drop (place + 1) log),
+                ap turns_of rest,
+                ap one_if unlinked,
+                ap (λ w. w.turns) turn,
+                turns,
+              );
+        }
 
   -- an error finds a number, where the list has no more errors than there are numbers
-  pub error_fits : (text : List ℕ) → x ≡ Error text → errors_in (output.steps ++ list_of (drop place log)) ≤ 2147483648 → errors_in turned.steps < 2147483648
-  error_fits text is few =
-      let rest = list_of (drop (suc place) log) in
+  pub error_fits : (text : List ℕ) → drop place log ≡ Error text ∷ drop (place + 1) log → errors_in (output.steps ++ list_of (drop place log)) ≤ 2147483648
+      → errors_in turned.steps < 2147483648
+  error_fits text begins few =
+      let rest = list_of (drop (place + 1) log) in
       omega (
         arith,
-        ap (λ steps. errors_in (output.steps ++ steps)) (list-other (Error text) refl is),
+        ap (λ steps. errors_in (output.steps ++ steps)) (list-alone (Error text) begins refl),
         errors-append output.steps (steps.Error text ∷ rest),
         errors-append (steps.Error text ∷ []) rest,
         ap (λ w. errors_in w.steps) turn,
         few,
       )
 
-  -- and it gives that step
-  pub Visits-other : (made : Passed) (event : Event) → is_start event ≡ false → ahead event ≡ None → has_link event ≡ false → x ≡ event
-      → made ≡ record turned { steps = turned.steps ++ steps_of event } → Visits log output (set log place t) made place
-  Visits-other made event other alone unlinked is put =
-      let begins : drop place log ≡ event ∷ drop (suc place) log = drop-cons log place d within ∙ ap (λ y. y ∷ drop (suc place) log) (sym got ∙ is) in
-      let rest : drop (place + 1) (set log place t) ≡ drop (suc place) log = rw add-one (drop-set log place t) in
-      let list = list-other event alone is in
-      let steps : made.steps ≡ output.steps ++ steps_of event = rw (put, turn) refl in
-      record {
-        same_length = length-set log place t;
-        links = rw gone (LinksLead-without log place links);
-        steps =
-            ap (λ ys. ys ++ list_of (drop (place + 1) (set log place t))) steps
-            ∙ (append_assoc output.steps (steps_of event) (list_of (drop (place + 1) (set log place t)))
-            ∙ ap (λ ys. output.steps ++ ys) (ap (λ ys. steps_of event ++ list_of ys) rest ∙ sym list));
-        turns =
-            omega (
-              arith,
-              ap turns_of begins,
-              turns_of-cons event (drop (suc place) log),
-              ap turns_of rest,
-              ap one_if other,
-              ap one_if unlinked,
-              ap (λ w. w.turns) put,
-              ap (λ w. w.turns) turn,
-            );
-      }
-
-  -- a Start: its kind and those of the chain behind it
-  module _ (kind : ℕ) (link : Option ℕ) (is : x ≡ Start kind link) (none pushed kinds : List ℕ) (empty : none ≡ []) (push : pushed ≡ none ++ kind ∷ [])
-      (found : kinds ≡ pushed ++ chain (hop place link) (set log place t)) (followed : Passed) (follow : followed ≡ record turned { turns = turned.turns + length (chain (hop place link) (set log place t)) }) where
-    all_kinds : kinds ≡ kind ∷ chain (hop place link) (set log place t)
+  -- a Start with a link: its kind and those of the chain behind it
+  module _ (x d : Event) (within : place < length log) (links : LinksLead log) (got : x ≡ get_or log place d) (kind : ℕ) (link : Option ℕ) (is : x ≡ Start kind link)
+      (none pushed kinds : List ℕ) (empty : none ≡ []) (push : pushed ≡ none ++ kind ∷ []) (found : kinds ≡ pushed ++ chain (hop place link) log)
+      (followed : Passed) (follow : followed ≡ record turned { turns = turned.turns + length (chain (hop place link) log) }) where
+    all_kinds : kinds ≡ kind ∷ chain (hop place link) log
     all_kinds = rw (found, push, empty) refl
 
     pub kinds_fit : length log < 2 ^ 32 → output.turns < 2 ^ 35 → followed.turns + length kinds < 2 ^ 64
@@ -223,17 +226,15 @@ module _ (log : Log) (output turned : Passed) (place : ℕ) (x d t : Event) (wit
           ap length all_kinds,
           ap (λ w. w.turns) turn,
           ap (λ w. w.turns) follow,
-          length-chain (hop place link) (set log place t),
-          length-set log place t,
+          length-chain (hop place link) log,
         )
 
-    pub Visits-start : (after : Log) (made : Passed) → after ≡ erased (hop place link) (set log place t)
+    pub Visits-start : (after : Log) (made : Passed) → after ≡ erased (hop place link) log
         → made ≡ record followed { steps = followed.steps ++ entered_back kinds; turns = followed.turns + length kinds } → Visits log output after made place
     Visits-start after made left enter =
         let whole = sym got ∙ is in
-        let taken : after ≡ erased (Some place) log =
-        left ∙ (ap (λ y. erased (hop place link) (set log place y)) gone ∙ sym (erased-start log place kind link d whole within links)) in
-        let chained : kinds ≡ chain (Some place) log =
-        all_kinds ∙ (ap (λ y. kind ∷ chain (hop place link) (set log place y)) gone ∙ sym (chain-start log place kind link d whole within links)) in
-        Visits-chain log after output made place kind link d kinds within links whole taken chained (rw (enter, follow, turn) refl)
+        let chained : kinds ≡ chain (Some place) log = all_kinds ∙ sym (chain-hop log place kind link d whole within links) in
+        Visits-chain log after output made place kind link d kinds within links whole (ap length left ∙ length-erased (hop place link) log)
+        (rw left (LinksLead-erased (hop place link) log links))
+        (ap (drop (suc place)) left ∙ drop-hop log place kind link d whole within links) chained (rw (enter, follow, turn) refl)
         (omega (arith, ap length all_kinds, ap (λ w. w.turns) turn, ap (λ w. w.turns) follow, ap (λ w. w.turns) enter))

@@ -1,5 +1,5 @@
 //! Events, and the one pass that makes an output of them.
-ghost use Rattle.std.specs.Prelude.{◌≡◌, ◌<◌, ◌≤◌, ◌+◌, ◌^◌, drop, length, IfOk, ◌++◌, []};
+ghost use Rattle.std.specs.Prelude.{◌≡◌, ◌<◌, ◌≤◌, ◌+◌, ◌^◌, ℕ, List, drop, length, set, IfOk, ◌++◌, ◌∷◌, []};
 ghost use Rattle.squawk_output.specs.Chain.{LandsAt, chain, entered_back, erased, hop, tombstone};
 ghost use Rattle.squawk_output.specs.EventLog.{LinksLead, entering, errors_of, list_of, turns_of};
 ghost use Rattle.squawk_output.specs.Pass.{Visits};
@@ -92,7 +92,8 @@ pub fn process(alloc: Global, mut events: Vec<Event>, recorded: u32) -> Result<O
     Ok(Output::new(passed, recorded))
 }
 
-/// Visits the event at a place. It is taken out, and so is all to which its links lead.
+/// Visits the event at a place. An error is taken out, and so is all to which links lead from there;
+/// any other event stays, since nothing comes back to it.
 fn visit(
     events: &mut Vec<Event>,
     kinds: &mut Vec<SyntaxKind>,
@@ -109,18 +110,34 @@ fn visit(
     ensures none { IfOk result (λ _. kinds.new.items ≡ []) }
 {
     passed.turn();
-    match mem::replace(&mut events[place], Event::tombstone()) {
+    match &events[place] {
         Event::Start {
             kind,
             forward_parent,
         } => {
+            let (kind, link) = (*kind, *forward_parent);
+            if link.is_none() {
+                return enter(passed, kind);
+            }
             kinds.push(kind)?;
-            follow(events, kinds, passed, place, forward_parent)?;
+            follow(events, kinds, passed, place, link)?;
             enter_all(passed, kinds)
         }
         Event::Finish => passed.leave_node(),
-        Event::Token { kind, n_raw_tokens } => passed.token(kind, n_raw_tokens),
-        Event::Error { msg } => passed.error(msg),
+        Event::Token { kind, n_raw_tokens } => passed.token(*kind, *n_raw_tokens),
+        Event::Error { .. } => passed.error(take_text(events, place)),
+    }
+}
+
+/// The text of the error at a place, which is taken out.
+fn take_text(events: &mut Vec<Event>, place: usize) -> Text
+    requires { (text : List ℕ) × (drop place events.old.items ≡ Event.Error text ∷ drop (place + 1) events.old.items) }
+    ensures text { drop place events.old.items ≡ Event.Error result ∷ drop (place + 1) events.old.items }
+    ensures taken { events.new.items ≡ set events.old.items place tombstone }
+{
+    match mem::replace(&mut events[place], Event::tombstone()) {
+        Event::Error { msg } => msg,
+        _ => unreachable!(),
     }
 }
 

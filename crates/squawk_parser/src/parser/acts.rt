@@ -18,6 +18,7 @@ use squawk_log::Made;
 
 impl Parser<'_> {
     /// Begins a node: all that is recorded until its marker is completed will stand in it.
+    #[inline(always)]
     pub fn start(&mut self) -> Marker
         ensures made { result.made ≡ ByStart self.old.draft.entries }
         ensures fresh { HasNotFailed self.new → IsAboveIds result.id self.old.draft.items }
@@ -35,6 +36,7 @@ impl Parser<'_> {
     }
 
     /// Eats the current token. At the end nothing happens.
+    #[inline(always)]
     pub fn bump_any(&mut self)
         ensures end { kind_at self.old 0 ≡ EOF → self.new ≡ self.old }
         ensures keeps { Keeps self.old self.new }

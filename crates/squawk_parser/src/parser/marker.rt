@@ -49,6 +49,7 @@ impl Marker {
     /// All that was recorded since the marker was started stands in the node. The kind isn't
     /// [`SyntaxKind::TOMBSTONE`], and the marker's hole is in the parser's draft or the parser has
     /// failed.
+    #[inline(always)]
     pub fn complete(self, p: &mut Parser<'_>, kind: SyntaxKind) -> CompletedMarker
         requires hole { HasHole p.old self }
         requires kind { kind ≢ TOMBSTONE }

@@ -16,6 +16,7 @@ use squawk_output::Text;
 use std::alloc::AllocError;
 
 /// Notes a refused growth as the first reason of a parser that had not failed.
+#[inline(always)]
 pub(super) fn note(first_reason: &mut Option<ParseError>, grown: Result<(), AllocError>)
     ensures ok { IsOk grown → first_reason.new ≡ first_reason.old }
     ensures err { IsErr grown → first_reason.new ≡ Some OutOfMemory }
@@ -27,6 +28,7 @@ pub(super) fn note(first_reason: &mut Option<ParseError>, grown: Result<(), Allo
 
 impl Parser<'_> {
     /// Eats the next `n` tokens of the input, which touch one another, as one token of this kind.
+    #[inline(always)]
     pub(super) fn do_bump(&mut self, kind: SyntaxKind, n_input_tokens: u8)
         requires { AreOneToken n_input_tokens (ahead self.old 0) }
         ensures keeps { Keeps self.old self.new }
@@ -55,6 +57,7 @@ impl Parser<'_> {
     }
 
     /// Whether one more event may be recorded. Where the limit is reached, the parser fails.
+    #[inline(always)]
     pub(super) fn has_room(&mut self) -> bool
         ensures keeps { Keeps self.old self.new }
         ensures position { self.new.position ≡ self.old.position }

@@ -4,7 +4,7 @@ ghost use Rattle.squawk_kinds.specs.Keywords.{Keywords};
 ghost use Rattle.squawk_table.specs.ParserInput.{input_of};
 ghost use Rattle.squawk_table.specs.RawTable.{raw_after};
 ghost use Rattle.squawk_table.specs.Sent.{past_trivia, HasNoTrivia};
-ghost use Rattle.squawk_table.specs.Shape.{StandsInOneRoot, IsOver, Fits, no_keywords};
+ghost use Rattle.squawk_table.specs.Shape.{StandsInOneRoot, IsOver, Fits};
 ghost use Rattle.squawk_output.specs.Steps.{without_errors};
 
 use crate::lexed_str::LexedStr;
@@ -22,24 +22,37 @@ impl LexedStr<'_> {
         ensures own { (contextual : Keywords) → IsOver output.now.steps (input_of contextual self.now)
             → IsTrue result ↔ StandsInOneRoot (without_errors output.now.steps) }
     {
-        stands_in_one_root(output.iter()) && self.is_under(output.iter())
+        self.fits_steps(output.iter())
     }
 
-    /// Whether each token of the steps has the next raw tokens that aren't trivia, at least one, and
-    /// they touch one another.
-    fn is_under(&self, steps: Steps<'_>) -> bool
-        ensures { IsTrue result ↔ IsOver steps.entry (input_of no_keywords self.now) }
+    /// Whether the steps fit, told in one pass: in how many nodes the next step stands, and before
+    /// which raw token.
+    fn fits_steps(&self, steps: Steps<'_>) -> bool
+        requires { length steps < 2 ^ 64 }
+        ensures { IsTrue result ↔ Fits self.now steps.entry }
     {
+        let mut depth = 0usize;
+        let mut has_root = false;
         let mut place = 0;
         for step in steps {
-            if let Step::Token { n_input_tokens, .. } = step {
-                match self.one_token(self.past_trivia(place), n_input_tokens) {
-                    Some(end) => place = end,
-                    None => return false,
+            match step {
+                Step::Error { .. } => {}
+                Step::Enter { .. } if depth > 0 => depth += 1,
+                Step::Enter { .. } if !has_root => {
+                    depth = 1;
+                    has_root = true;
                 }
+                Step::Exit if depth > 0 => depth -= 1,
+                Step::Token { n_input_tokens, .. } if depth > 0 => {
+                    match self.one_token(self.past_trivia(place), n_input_tokens) {
+                        Some(end) => place = end,
+                        None => return false,
+                    }
+                }
+                _ => return false,
             }
         }
-        true
+        has_root && depth == 0
     }
 
     /// The place behind the trivia that stands from a raw place on.
@@ -70,27 +83,4 @@ impl LexedStr<'_> {
         }
         Some(end)
     }
-}
-
-/// Whether the steps, errors aside, are one node with all that it holds.
-fn stands_in_one_root(steps: Steps<'_>) -> bool
-    requires { length steps < 2 ^ 64 }
-    ensures { IsTrue result ↔ StandsInOneRoot (without_errors steps.entry) }
-{
-    let mut depth = 0usize;
-    let mut has_root = false;
-    for step in steps {
-        match step {
-            Step::Error { .. } => {}
-            Step::Enter { .. } if depth > 0 => depth += 1,
-            Step::Enter { .. } if !has_root => {
-                depth = 1;
-                has_root = true;
-            }
-            Step::Exit if depth > 0 => depth -= 1,
-            Step::Token { .. } if depth > 0 => {}
-            _ => return false,
-        }
-    }
-    has_root && depth == 0
 }
