@@ -46,7 +46,7 @@ pub(crate) fn write_indentation(out: &mut String, depth: usize) -> Result<(), Al
     Ok(())
 }
 
-/// Writes the name of a kind and two bytes.
+/// Writes the name of a kind, and from which byte to which it goes.
 fn write_span(
     out: &mut String,
     names: &[(SyntaxKind, &str)],

@@ -13,12 +13,25 @@ use squawk_table::{StepSink, StrStep};
 use std::alloc::{AllocError, Global};
 use std::marker::Model;
 
-/// A sink that writes a tree as indented text. It refuses a step only for want of memory.
+/// A sink that writes a tree as indented text, a line for each step but a closing:
+///
+/// ```text
+/// SOURCE@0..3
+///   OPERAND@0..1
+///     IDENT@0..1 "a"
+///   639@1..2 " "
+///   27@2..3 "+"
+///   error@3 "expected operand"
+/// ```
+///
+/// It refuses a step only for want of memory.
 #[derive(Drop)]
 pub struct TreeText {
     alloc: Global,
     lines: Vec<Line>,
+    /// The places of the lines whose nodes are open.
     open_lines: Vec<usize>,
+    /// The texts of all tokens, joined.
     texts: String,
 }
 
@@ -39,7 +52,7 @@ impl TreeText {
     ghost use Rattle.squawk_table.specs.declared.shortcuts.str_step.OwnedStep.TheVariants.{Token, Enter, Exit, Error};
     ghost use Rattle.squawk_tree.specs.Drawing.{StandsAfter};
 
-    /// The text of no tree.
+    /// A tree without steps.
     pub fn new(alloc: Global) -> TreeText
         ensures { StandsAfter result [] }
     {
@@ -51,7 +64,9 @@ impl TreeText {
         }
     }
 
-    /// The text of the tree so far, with these names of kinds.
+    /// The text of the tree so far.
+    ///
+    /// A kind is shown by the name of its first pair, else by its number.
     pub fn finish(&self, alloc: Global, names: &[(SyntaxKind, &str)]) -> Result<String, AllocError>
         ensures text { IfOk result (λ text. (steps : List OwnedStep) → StandsAfter self.now steps
             → string_bytes text ≡ tree_text (map (λ pair. (pair.0, pair.1.now)) names.now) steps) }
