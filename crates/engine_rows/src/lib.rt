@@ -79,4 +79,6 @@ mod text;
 #[cfg(test)]
 mod token_kinds;
 #[cfg(test)]
+mod tree_texts;
+#[cfg(test)]
 mod trivia;

@@ -1,0 +1,81 @@
+-- The lines that a sink keeps of a tree, and what steps they stand for.
+use Rattle.std.specs.Prelude.{◌≡◌, ℕ, suc, ◌+◌, ◌≤◌, List, [], ◌∷◌, ◌++◌, All, Some, None, length, slice_range, unwrap_or, IsCharBoundary}
+use Rattle.std.specs.Str.{chars}
+use Rattle.squawk_table.specs.declared.shortcuts.str_step.OwnedStep.{OwnedStep}
+use Rattle.squawk_tree.specs.TreeText.{Names, bytes_left, error_shown, line, span, text_from, token_shown, tree_text}
+use Rattle.squawk_tree.specs.declared.line.Line.{Line}
+use Rattle.squawk_tree.specs.declared.line.Shown.{Shown}
+use Rattle.squawk_tree.specs.declared.line.Shown.TheVariants.{Node, Token, Error}
+
+-- the lines so far, the places of those whose nodes are open, and the texts of all tokens, joined
+pub record Drawing : Type 0 where
+  pub lines : List Line
+  pub open_lines : List ℕ
+  pub texts : List ℕ
+
+-- ---- open nodes
+
+-- 1 for a node without an end, else 0
+abbrev pub openings_in : Shown → ℕ
+openings_in (Node kind start None) = 1
+openings_in (Node kind start (Some end)) = 0
+openings_in (Token kind start end) = 0
+openings_in (Error text pos) = 0
+
+-- how many lines have open nodes
+abbrev pub open_count : List Line → ℕ
+open_count [] = 0
+open_count (line ∷ lines) = openings_in line.shown + open_count lines
+
+-- a place, if what stands there is an open node, before others
+abbrev pub before_places : ℕ → Shown → List ℕ → List ℕ
+before_places place (Node kind start None) places = place ∷ places
+before_places place (Node kind start (Some end)) places = places
+before_places place (Token kind start end) places = places
+before_places place (Error text pos) places = places
+
+-- the places of the lines that have open nodes, counted from a number
+abbrev pub open_places : ℕ → List Line → List ℕ
+open_places place [] = []
+open_places place (line ∷ lines) = before_places place line.shown (open_places (suc place) lines)
+
+-- what is shown, with this end if it is a node
+abbrev pub closed : ℕ → Shown → Shown
+closed at (Node kind start end) = Node kind start (Some at)
+closed at (Token kind start end) = Token kind start end
+closed at (Error text pos) = Error text pos
+
+abbrev pub closed_line : ℕ → Line → Line
+closed_line at line = record line { shown = closed at line.shown }
+
+-- ---- sound drawings
+
+-- a token's text is a part of the texts
+abbrev pub IsPart : List ℕ → Shown → Type 0
+IsPart texts (Node kind start end) = Unit {0}
+IsPart texts (Token kind start end) = (start ≤ end) × IsCharBoundary texts start × IsCharBoundary texts end
+IsPart texts (Error text pos) = Unit {0}
+
+pub record IsSound (drawing : Drawing) : Type 0 where
+  pub places : drawing.open_lines ≡ open_places 0 drawing.lines
+  pub parts : All (λ line. IsPart drawing.texts line.shown) drawing.lines
+
+-- ---- what a drawing stands for
+
+-- what is shown, where an open node ends at a byte
+abbrev pub shown_until : Names → List ℕ → ℕ → Shown → List ℕ
+shown_until names texts at (Node kind start end) = span names kind start (unwrap_or end at)
+shown_until names texts at (Token kind start end) = token_shown names kind start end (chars (slice_range texts start end))
+shown_until names texts at (Error text pos) = error_shown text pos
+
+-- the text of lines before further steps, at which their open nodes end
+abbrev pub lines_text : Names → List ℕ → List OwnedStep → List Line → List ℕ
+lines_text names texts further [] = []
+lines_text names texts further (l ∷ lines) =
+    line l.depth (shown_until names texts (length texts + bytes_left further (open_count lines)) l.shown) ++ lines_text names texts further lines
+
+-- A drawing stands after steps if with any further steps it has the text of all.
+abbrev pub StandsAfter : Drawing → List OwnedStep → Type 0
+StandsAfter drawing steps = (names : Names) (further : List OwnedStep) →
+    lines_text names drawing.texts further drawing.lines ++ text_from names (length drawing.open_lines) (length drawing.texts) further
+    ≡ tree_text names (steps ++ further)

@@ -1,0 +1,8 @@
+//! A sink that writes the tree which it is sent as indented text.
+#![tactic(auto)]
+
+mod line;
+mod shown;
+pub mod tree_text;
+
+pub use tree_text::TreeText;

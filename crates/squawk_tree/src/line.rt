@@ -1,0 +1,45 @@
+//! The lines of a tree, before their text is written.
+
+use squawk_kinds::SyntaxKind;
+use squawk_output::Text;
+
+/// A line, inside of so many nodes.
+#[derive(Drop)]
+pub(crate) struct Line {
+    pub(crate) depth: usize,
+    pub(crate) shown: Shown,
+}
+
+/// What a line shows. Starts and ends are bytes of the texts of all tokens.
+#[derive(Drop)]
+pub(crate) enum Shown {
+    /// A node, which has no end before it is closed.
+    Node {
+        kind: SyntaxKind,
+        start: usize,
+        end: Option<usize>,
+    },
+    Token {
+        kind: SyntaxKind,
+        start: usize,
+        end: usize,
+    },
+    Error {
+        msg: Text,
+        pos: usize,
+    },
+}
+
+impl Line {
+    ghost use Rattle.std.specs.Prelude.{◌≡◌};
+    ghost use Rattle.squawk_tree.specs.Drawing.{closed_line};
+
+    /// Gives the line's node its end, if it shows a node.
+    pub(crate) fn close(&mut self, at: usize)
+        ensures { self.new ≡ closed_line at self.old }
+    {
+        if let Shown::Node { end, .. } = &mut self.shown {
+            *end = Some(at);
+        }
+    }
+}
