@@ -59,7 +59,6 @@ impl EventLog {
     }
 
     /// How many events were recorded.
-    #[inline(always)]
     pub fn recorded(&self) -> u32
         ensures { result ≡ self.now.recorded }
     {
@@ -74,7 +73,6 @@ impl EventLog {
     }
 
     /// The id that the next hole will have: as many as there are entries.
-    #[inline(always)]
     pub fn next_id(&self) -> u32
         ensures id { result ≡ self.now.entries }
         ensures above { IsAboveIds result self.now.items }

@@ -14,7 +14,6 @@ use squawk_kinds::{SyntaxKind, TokenSet};
 
 impl Parser<'_> {
     /// The kind of the current token.
-    #[inline(always)]
     pub fn current(&self) -> SyntaxKind
         ensures { result ≡ kind_at self.now 0 }
     {

@@ -16,7 +16,6 @@ use squawk_output::Text;
 use std::alloc::AllocError;
 
 /// Notes a refused growth as the first reason of a parser that had not failed.
-#[inline(always)]
 pub(super) fn note(first_reason: &mut Option<ParseError>, grown: Result<(), AllocError>)
     ensures ok { IsOk grown → first_reason.new ≡ first_reason.old }
     ensures err { IsErr grown → first_reason.new ≡ Some OutOfMemory }

@@ -61,7 +61,6 @@ impl<'t> View<'t> {
     }
 
     /// Whether nothing stands between token `i` and the next one that is seen.
-    #[inline(always)]
     pub(super) fn touches_next(&self, i: usize) -> bool
         ensures { result ≡ touches_next (drop i self.now) }
     {
