@@ -1,1 +1,2 @@
 pub mod TokenSetLemmas
+pub mod TokenKinds

@@ -35,3 +35,5 @@ pub mod JoinedItems
 pub mod AddedSteps
 pub mod StepsInOrder
 pub mod WholeSteps
+pub mod Holes
+pub mod MovedHoles

@@ -1,5 +1,5 @@
 use Rattle.std.proofs.Common.{◌∙◌, [], ap, sym}
-use Rattle.engine_rows.proofs.Holes.{HasNoHole-none_open, HasHoles-fresh, HasHoles-part, HasHoles-closed}
+use Rattle.squawk_parser.proofs.Holes.{HasNoHole-none_open, HasHoles-fresh, HasHoles-part, HasHoles-closed}
 use Rattle.engine_rows.proofs.limits.LimitingGrammar.entry_point.Goals as goal
 
 pub returns-clause-closed : goal.returns-clause-closed

@@ -1,4 +1,4 @@
-use Rattle.engine_rows.proofs.Holes.{HasNoHole-none_open, HasHoles-fresh, HasHoles-closed}
+use Rattle.squawk_parser.proofs.Holes.{HasNoHole-none_open, HasHoles-fresh, HasHoles-closed}
 use Rattle.engine_rows.proofs.looks.AheadGrammar.entry_point.Goals as goal
 
 pub returns-clause-closed : goal.returns-clause-closed

@@ -1,5 +1,5 @@
 use Rattle.std.proofs.Common.{[]}
-use Rattle.engine_rows.proofs.Holes.{HasNoHole-none_open, HasHoles-fresh, HasHoles-bump, HasHoles-closed}
+use Rattle.squawk_parser.proofs.Holes.{HasNoHole-none_open, HasHoles-fresh, HasHoles-bump, HasHoles-closed}
 use Rattle.engine_rows.proofs.parser.LooksGrammar.entry_point.Goals as goal
 
 pub returns-clause-closed : goal.returns-clause-closed

@@ -8,7 +8,7 @@ use Rattle.squawk_log.specs.Edits.{completed, preceded, abandoned, extended, rep
 use Rattle.squawk_parser.specs.State.{State, HasNotFailed, Keeps, Records, Changes}
 use Rattle.squawk_parser.proofs.Markers.{holes-abandoned, holes-extended, node-completed, went-changed}
 use Rattle.squawk_parser.proofs.TailHoles.{went-kept}
-use Rattle.engine_rows.proofs.Holes.{without, IsBelow, all_below, HasHoles, HasHoles-complete, Contains-hole, below-hole, without-last, open_inside, holes-around}
+use Rattle.squawk_parser.proofs.Holes.{without, IsBelow, all_below, HasHoles, HasHoles-complete, Contains-hole, below-hole, without-last, open_inside, holes-around}
 
 -- ---- a marker in front of a node
 

@@ -11,6 +11,7 @@ use Rattle.squawk_parser.specs.Eaten.{EatsWith}
 use Rattle.squawk_parser.specs.Recorded.{Puts}
 use Rattle.squawk_parser.specs.State.{State, HasNotFailed, Keeps, Records, IsFresh, kind_at}
 use Rattle.squawk_output.specs.Steps.{Step}
+use Rattle.squawk_parser.proofs.RecordedSteps.{Keeps-then}
 use Rattle.squawk_parser.proofs.TailHoles.{went-kept}
 
 -- a list of them without one
@@ -137,18 +138,6 @@ pub HasHoles-part : (s t : State) (open_ones : List Item) → HasHoles s open_on
     → HasHoles t open_ones
 HasHoles-part s t open_ones has went same goes = same goes ∙ has (went goes)
 
--- what stays over two calls
-pub Keeps-twice : (s t u : State) → Keeps s t → Keeps t u → Keeps s u
-Keeps-twice s t u first second = record {
-  input = second.input ∙ first.input;
-  words = second.words ∙ first.words;
-  limit = second.limit ∙ first.limit;
-  forward = omega (arith, first.forward, second.forward);
-  max_events = second.max_events ∙ first.max_events;
-  max_errors = second.max_errors ∙ first.max_errors;
-  reason = λ failed. second.reason (subst (λ reason. IsSome reason) (sym (first.reason failed)) failed) ∙ first.reason failed;
-}
-
 -- ---- steps at the end, and a node around calls
 
 -- steps that are put at the end open no marker and close none
@@ -212,7 +201,7 @@ holes-with does kind s t (id, e) goes =
     let tail = e.goes_on.goes_on.does_so in
     let closing = e.goes_on.goes_on.goes_on.does_so in
     let completes = e.goes_on.goes_on.goes_on.goes_on in
-    let keeps = Keeps-twice begun eaten closed elements.keeps (Keeps-twice eaten ran closed tail.keeps closing.keeps) in
+    let keeps = Keeps-then elements.keeps (Keeps-then tail.keeps closing.keeps) in
     let same : HasNotFailed closed → holes_of closed.draft.items ≡ holes_of begun.draft.items =
     λ goes_closed.
     let goes_ran = closing.puts.went goes_closed in
