@@ -163,3 +163,30 @@ fn output_is_sent_as_text(rt: HostRuntime) -> Result<(), Fail> {
     assert_eq!(rt; text.as_str(), wanted);
     Ok(())
 }
+
+/// Hands a name to a tree.
+fn take_name(tree: &mut TreeText, text: &str) -> Result<(), AllocError> {
+    tree.step(StrStep::Token {
+        kind: SyntaxKind::IDENT,
+        text,
+    })
+}
+
+/// Ends the test unless the tree has the text, or memory is wanting for it.
+fn assert_text_if_made(rt: &(impl Abort + AllocGlobal), tree: &TreeText, wanted: &str) {
+    if let Ok(text) = tree.finish(rt.alloc(), &names()) {
+        assert_eq!(rt; text.as_str(), wanted);
+    }
+}
+
+#[test]
+fn refused_step_leaves_a_tree_as_it_was(rt: HostRuntime) {
+    let mut tree = TreeText::new(rt.alloc());
+    for (text, text_before) in [("a", ""), ("bc", "IDENT@0..1 \"a\"\n")] {
+        if take_name(&mut tree, text).is_err() {
+            assert_text_if_made(&rt, &tree, text_before);
+            return;
+        }
+    }
+    assert_text_if_made(&rt, &tree, "IDENT@0..1 \"a\"\nIDENT@1..3 \"bc\"\n");
+}
