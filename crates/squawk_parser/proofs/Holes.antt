@@ -1,6 +1,6 @@
 -- The open markers of a draft, over the calls of a grammar.
 use Rattle.std.proofs.Common.{◌≡◌, ◌≢◌, ◌∙◌, ℕ, ◌<◌, ◌==◌, Bool, true, false, not, List, [], ◌∷◌, ◌++◌, arith, ap, sym, refl, subst}
-use Rattle.std.specs.Prelude.{All, Contains, IsSome, IsTrue, filter}
+use Rattle.std.specs.Prelude.{All, Contains, IsTrue, filter}
 use Rattle.std.proofs.lemmas.Bool.{eqb-true, eqb-false, eq-eqb, ne_eqb}
 use Rattle.std.proofs.lemmas.List.{append-nil}
 use Rattle.std.proofs.lemmas.List.Elements.{All-nil, All-cons, All-head, All-tail, All-filter, All-contains, All-contains_itself, Contains-push, filter-append}
