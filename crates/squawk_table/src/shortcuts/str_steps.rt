@@ -142,6 +142,7 @@ impl<'s> Iterator for StrSteps<'s> {
 
     ghost remaining = { item_count (λ s. s.steps) };
 
+    #[inline(always)]
     fn next(&mut self) -> Option<StrStep<'s>> {
         let step = match self.waiting.take() {
             Some(step) => step,
