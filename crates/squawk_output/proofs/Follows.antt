@@ -91,9 +91,9 @@ LandsAt-hop (x ∷ xs) (suc m) kind (Some n) d is lt links = rw (suc-add m n) (L
 pub next_within : (log : Log) (at : ℕ) (next : Option ℕ) (distance : ℕ) → next ≡ Some distance → LandsAt log (hop at next) → at + distance < length log
 next_within log at next distance is lands = is_start_at-within log (at + distance) (rw is at lands)
 
-passed_is : (output : Passed) (steps : List Step) (turns : ℕ) → output.steps ≡ steps → output.turns ≡ turns
-    → output ≡ record { steps = steps; turns = turns }
-passed_is output steps turns p q = rw (← p, ← q) refl
+passed_is : (output : Passed) (steps : List Step) (texts : List (List ℕ)) (turns : ℕ) → output.steps ≡ steps → output.texts ≡ texts → output.turns ≡ turns
+    → output ≡ record { steps = steps; texts = texts; turns = turns }
+passed_is output steps texts turns p q r = rw (← p, ← q, ← r) refl
 
 module _ (log : Log) (kinds : List ℕ) (output : Passed) (from : Option ℕ) where
   followed : (left : Log) (found : List ℕ) (made : Passed) (place kind : ℕ) (link : Option ℕ) (d : Event) → get_or left place d ≡ Start kind link
@@ -111,6 +111,7 @@ module _ (log : Log) (kinds : List ℕ) (output : Passed) (from : Option ℕ) wh
         finds = append_assoc found (kind ∷ []) rest ∙ (ap (λ ys. found ++ ys) (sym here) ∙ follows.finds);
         turns = omega (arith, ap length here, follows.turns);
         steps = follows.steps;
+        texts = follows.texts;
       }
 
   module _ (left : Log) (found : List ℕ) (made : Passed) (at distance : ℕ) (next : Option ℕ) (some : next ≡ Some distance)
@@ -155,4 +156,4 @@ module _ (log : Log) (kinds : List ℕ) (output : Passed) (from : Option ℕ) wh
     ends-passed (Some distance) none follows = absurd (none distance refl)
     ends-passed None none follows =
         let turns : made.turns ≡ output.turns + length (chain from log) = omega (arith, ap length (chain-None left), follows.turns) in
-        passed_is made output.steps (output.turns + length (chain from log)) follows.steps turns
+        passed_is made output.steps output.texts (output.turns + length (chain from log)) follows.steps follows.texts turns

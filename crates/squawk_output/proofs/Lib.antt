@@ -9,5 +9,7 @@ pub mod Follows
 pub mod LogTurns
 pub mod LogErrors
 pub mod Visits
+pub mod StoredVisits
 pub mod Examples
 pub mod StoredSteps
+pub mod StoredEvents

@@ -130,8 +130,8 @@ module _ (log : Log) (place : ℕ) (d : Event) (within : place < length log) whe
 Visits-chain : (log after : Log) (output made : Passed) (place kind : ℕ) (link : Option ℕ) (d : Event) (kinds : List ℕ) → place < length log → LinksLead log
     → get_or log place d ≡ Start kind link → length after ≡ length log → LinksLead after → drop (suc place) after ≡ drop (suc place) (erased (Some place) log)
     → kinds ≡ chain (Some place) log → made.steps ≡ output.steps ++ entered_back kinds → made.turns ≡ output.turns + 2 * length kinds
-    → Visits log output after made place
-Visits-chain log after output made place kind link d kinds within links is same links_after gone found steps turns =
+    → made.texts ≡ output.texts → Visits log output after made place
+Visits-chain log after output made place kind link d kinds within links is same links_after gone found steps turns same_texts =
     let left = drop (suc place) (erased (Some place) log) in
     let rest : drop (place + 1) after ≡ left = rw (add-one, gone) refl in
     record {
@@ -144,6 +144,7 @@ Visits-chain log after output made place kind link d kinds within links is same 
           (ap (λ ys. entered_back (chain (Some place) log) ++ list_of ys) rest
           ∙ (ap (λ ys. ys ++ list_of left) (sym (entered-here log place d within links kind link is)) ∙ sym (list-here log place d within))));
       turns = omega (arith, turns-here log place d within links kind link is, ap turns_of rest, ap length found, turns);
+      texts = same_texts;
     }
 
 entered-None : (log : Log) → entered None log ≡ []
@@ -175,8 +176,8 @@ module _ (log : Log) (output turned : Passed) (place : ℕ) (turn : turned ≡ r
     -- and it gives that step
     pub Visits-alone : (after : Log) (made : Passed) → length after ≡ length log → LinksLead after → drop (suc place) after ≡ drop (suc place) log
         → has_link event ≡ false → made.steps ≡ turned.steps ++ steps_of event → made.turns ≡ turned.turns + one_if (is_start event)
-        → Visits log output after made place
-    Visits-alone after made same links behind unlinked put turns =
+        → made.texts ≡ turned.texts → Visits log output after made place
+    Visits-alone after made same links behind unlinked put turns same_texts =
         let rest : drop (place + 1) after ≡ drop (place + 1) log = rw add-one behind in
         let steps : made.steps ≡ output.steps ++ steps_of event = rw (put, turn) refl in
         record {
@@ -196,21 +197,8 @@ module _ (log : Log) (output turned : Passed) (place : ℕ) (turn : turned ≡ r
                 ap (λ w. w.turns) turn,
                 turns,
               );
+          texts = same_texts ∙ ap (λ w. w.texts) turn;
         }
-
-  -- an error finds a number, where the list has no more errors than there are numbers
-  pub error_fits : (text : List ℕ) → drop place log ≡ Error text ∷ drop (place + 1) log → errors_in (output.steps ++ list_of (drop place log)) ≤ 2147483648
-      → errors_in turned.steps < 2147483648
-  error_fits text begins few =
-      let rest = list_of (drop (place + 1) log) in
-      omega (
-        arith,
-        ap (λ steps. errors_in (output.steps ++ steps)) (list-alone (Error text) begins refl),
-        errors-append output.steps (steps.Error text ∷ rest),
-        errors-append (steps.Error text ∷ []) rest,
-        ap (λ w. errors_in w.steps) turn,
-        few,
-      )
 
   -- a Start with a link: its kind and those of the chain behind it
   module _ (x d : Event) (within : place < length log) (links : LinksLead log) (got : x ≡ get_or log place d) (kind : ℕ) (link : Option ℕ) (is : x ≡ Start kind link)
@@ -238,3 +226,4 @@ module _ (log : Log) (output turned : Passed) (place : ℕ) (turn : turned ≡ r
         (rw left (LinksLead-erased (hop place link) log links))
         (ap (drop (suc place)) left ∙ drop-hop log place kind link d whole within links) chained (rw (enter, follow, turn) refl)
         (omega (arith, ap length all_kinds, ap (λ w. w.turns) turn, ap (λ w. w.turns) follow, ap (λ w. w.turns) enter))
+        (rw (enter, follow, turn) refl)

@@ -24,6 +24,11 @@ abbrev pub kind_of : Event → ℕ
 kind_of (Start kind link) = kind
 kind_of event = TOMBSTONE
 
+-- the link of an event, if it has one
+abbrev pub forward_parent : Event → Option ℕ
+forward_parent (Start kind link) = link
+forward_parent event = None
+
 -- the kinds of the events along the chain from a place
 abbrev pub chain : Option ℕ → Log → List ℕ
 chain place [] = []

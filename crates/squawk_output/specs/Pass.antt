@@ -3,6 +3,8 @@ use Rattle.std.specs.Prelude.{◌≡◌, ℕ, ◌+◌, Option, List, [], ◌++�
 use Rattle.squawk_output.specs.Steps.{Passed}
 use Rattle.squawk_output.specs.EventLog.{Log, LinksLead, list_of, turns_of}
 use Rattle.squawk_output.specs.Chain.{LandsAt, chain, entered_back, erased}
+use Rattle.squawk_output.specs.StoredEvents.{HaveTexts, log_in}
+use Rattle.squawk_output.specs.declared.event_list.stored_event.StoredEvent.{StoredEvent}
 
 -- A chain is followed from a place: what is left of it, and what it has found so far, are what it finds in all.
 pub record Follows (log : Log) (kinds : List ℕ) (output : Passed) (from : Option ℕ) (log' : Log) (kinds' : List ℕ) (output' : Passed) (next : Option ℕ) : Type 0 where
@@ -13,11 +15,13 @@ pub record Follows (log : Log) (kinds : List ℕ) (output : Passed) (from : Opti
   pub finds : kinds' ++ chain next log' ≡ kinds ++ chain from log
   pub turns : output'.turns + length (chain next log') ≡ output.turns + length (chain from log)
   pub steps : output'.steps ≡ output.steps
+  pub texts : output'.texts ≡ output.texts
 
 -- Kinds are entered from the last to the first: those that are left are still to be entered.
 pub record Enters (kinds : List ℕ) (output : Passed) (kinds' : List ℕ) (output' : Passed) : Type 0 where
   pub turns : output'.turns + length kinds' ≡ output.turns + length kinds
   pub steps : output'.steps ++ entered_back kinds' ≡ output.steps ++ entered_back kinds
+  pub texts : output'.texts ≡ output.texts
 
 -- An event is visited: what is left behind it is a log, whose list and turns are still to come.
 pub record Visits (log : Log) (output : Passed) (log' : Log) (output' : Passed) (place : ℕ) : Type 0 where
@@ -25,6 +29,7 @@ pub record Visits (log : Log) (output : Passed) (log' : Log) (output' : Passed) 
   pub links : LinksLead log'
   pub steps : output'.steps ++ list_of (drop (place + 1) log') ≡ output.steps ++ list_of (drop place log)
   pub turns : output'.turns + turns_of (drop (place + 1) log') ≡ output.turns + turns_of (drop place log)
+  pub texts : output'.texts ≡ output.texts
 
 -- The events before a place were visited.
 pub record Passes (log : Log) (log' : Log) (output : Passed) (kinds : List ℕ) (place : ℕ) : Type 0 where
@@ -33,3 +38,9 @@ pub record Passes (log : Log) (log' : Log) (output : Passed) (kinds : List ℕ) 
   pub steps : output.steps ++ list_of (drop place log') ≡ list_of log
   pub turns : output.turns + turns_of (drop place log') ≡ turns_of log
   pub none : kinds ≡ []
+
+-- The same of a list of events, beside the texts of its errors.
+pub record PassesList (events : List StoredEvent) (texts : List (List ℕ)) (events' : List StoredEvent) (output : Passed) (kinds : List ℕ) (place : ℕ) : Type 0 where
+  pub passes : Passes (log_in texts events) (log_in texts events') output kinds place
+  pub have_texts : HaveTexts texts events'
+  pub same_texts : output.texts ≡ texts

@@ -1,6 +1,6 @@
 //! The steps that a pass makes.
-ghost use Rattle.std.specs.Prelude.{◌≡◌, [], ◌∷◌, ◌++◌, ◌+◌, ◌<◌, ◌^◌, IfOk, length};
-ghost use Rattle.squawk_output.specs.Steps.{Token, Enter, Exit, Error, errors_in};
+ghost use Rattle.std.specs.Prelude.{◌≡◌, [], ◌∷◌, ◌++◌, ◌+◌, ◌<◌, ◌^◌, IfOk, length, slice_index_or};
+ghost use Rattle.squawk_output.specs.Steps.{Token, Enter, Exit, Error};
 
 use crate::output::steps::Steps;
 use crate::output::stored::StoredStep;
@@ -11,7 +11,8 @@ use std::marker::Model;
 
 /// The steps that a pass has made so far, and how many turns it took.
 ///
-/// Each step is a word, and the text of each error stands in a list of its own, at the error's number.
+/// Each step is a word. The text of each error stands in a list of its own, at the error's number, from
+/// the beginning of the pass on.
 #[derive(Drop)]
 pub(crate) struct PassedSteps {
     words: Vec<u32>,
@@ -24,19 +25,18 @@ impl Model for PassedSteps {
 
     ghost Value = { Passed };
 
-    ghost use Rattle.std.specs.Prelude.{◌≡◌, map, length};
-    ghost use Rattle.squawk_output.specs.Steps.{errors_in};
+    ghost use Rattle.std.specs.Prelude.{map};
     ghost use Rattle.squawk_output.specs.StoredSteps.{HaveTexts, step_in};
 
-    ghost view = { λ p. record { steps = map (step_in p.errors.items) p.words.items; turns = p.turns } };
+    ghost view = { λ p. record { steps = map (step_in p.errors.items) p.words.items; texts = p.errors.items; turns = p.turns } };
 
-    ghost invariant = { λ p. HaveTexts p.errors.items p.words.items × (length p.errors.items ≡ errors_in (map (step_in p.errors.items) p.words.items)) };
+    ghost invariant = { λ p. HaveTexts p.errors.items p.words.items };
 }
 
 impl PassedSteps {
     /// No steps.
     pub(crate) fn empty(alloc: Global) -> PassedSteps
-        ensures { result ≡ record { steps = []; turns = 0 } }
+        ensures { result ≡ record { steps = []; texts = []; turns = 0 } }
     {
         PassedSteps {
             words: Vec::new(alloc),
@@ -45,13 +45,17 @@ impl PassedSteps {
         }
     }
 
-    /// No steps, and room for so many.
-    pub(crate) fn with_capacity(alloc: Global, steps: usize) -> Result<PassedSteps, AllocError>
-        ensures { IfOk result (λ p. p ≡ record { steps = []; turns = 0 }) }
+    /// No steps, and room for so many. These are the texts of the errors to come.
+    pub(crate) fn with_capacity(
+        alloc: Global,
+        steps: usize,
+        errors: Vec<Text>,
+    ) -> Result<PassedSteps, AllocError>
+        ensures { IfOk result (λ p. p ≡ record { steps = []; texts = errors.items; turns = 0 }) }
     {
         Ok(PassedSteps {
             words: Vec::with_capacity(alloc, steps)?,
-            errors: Vec::new(alloc),
+            errors,
             turns: 0,
         })
     }
@@ -92,16 +96,13 @@ impl PassedSteps {
         Ok(())
     }
 
-    /// Puts an error at the end. Numbers of errors have 31 bits.
-    pub(crate) fn error(&mut self, msg: Text) -> Result<(), AllocError>
-        requires { errors_in self.old.steps < 2147483648 }
-        ensures { IfOk result (λ _. self.new ≡ record self.old { steps = self.old.steps ++ Error msg ∷ [] }) }
+    /// Puts the error of this number at the end. Numbers of errors have 31 bits.
+    pub(crate) fn error(&mut self, number: u32) -> Result<(), AllocError>
+        requires text { number < length self.old.texts }
+        requires fits { number < 2147483648 }
+        ensures { IfOk result (λ _. self.new ≡ record self.old { steps = self.old.steps ++ Error (slice_index_or self.old.texts number []) ∷ [] }) }
     {
-        self.words.reserve(1)?;
-        let number = self.errors.len() as u32;
-        self.errors.push(msg)?;
-        self.words
-            .push_reserved(StoredStep::Error { number }.pack());
+        self.words.push(StoredStep::Error { number }.pack())?;
         Ok(())
     }
 

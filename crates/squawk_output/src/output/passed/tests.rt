@@ -29,14 +29,17 @@ fn each_step_has_its_word(rt: HostRuntime) {
 
 #[test]
 fn an_output_has_a_word_for_each_step(rt: HostRuntime) -> Result<(), Fail> {
-    let mut passed = PassedSteps::with_capacity(rt.alloc(), 7)?;
+    let mut errors = Vec::new(rt.alloc());
+    errors.push(Text::new(String::from_str(rt.alloc(), "first")?))?;
+    errors.push(Text::new(String::from_str(rt.alloc(), "second")?))?;
+    let mut passed = PassedSteps::with_capacity(rt.alloc(), 7, errors)?;
     passed.enter_node(SyntaxKind::from(700u16))?;
     passed.enter_node(SyntaxKind::from(701u16))?;
     passed.token(SyntaxKind::IDENT, 1)?;
     passed.leave_node()?;
-    passed.error(Text::new(String::from_str(rt.alloc(), "first")?))?;
+    passed.error(0)?;
     passed.leave_node()?;
-    passed.error(Text::new(String::from_str(rt.alloc(), "second")?))?;
+    passed.error(1)?;
     let words = [
         0x02bc0011, 0x02bd0011, 0x00030101, 0x00000021, 0x00000000, 0x00000021, 0x00000002,
     ];

@@ -1,6 +1,6 @@
 use Rattle.std.proofs.Common.{length}
 use Rattle.squawk_output.specs.Pass.{Enters}
-use Rattle.squawk_output.proofs.event.enter_all.Given as goal
+use Rattle.squawk_output.proofs.pass.enter_all.Given as goal
 
 abbrev pub invariant-loop-kind : goal.invariant-loop-kind
 invariant-loop-kind l = Enters l.initial.kinds.items l.initial.passed l.kinds.items l.passed

@@ -1,0 +1,76 @@
+-- Events of a list visited.
+use Rattle.std.proofs.Common.{◌≡◌, ◌∙◌, ℕ, ◌+◌, ◌<◌, ◌≤◌, ◌++◌, ◌∷◌, [], false, None, List, length, get_or, drop, refl, sym, ap, subst, arith}
+use Rattle.std.proofs.Math.ListN.{drop_of_length-le}
+use Rattle.std.proofs.lemmas.List.{append-nil}
+use Rattle.squawk_output.specs.Steps as steps
+use Rattle.squawk_output.specs.Steps.{Passed, Walk}
+use Rattle.squawk_output.specs.declared.event.Event.TheVariants as event
+use Rattle.squawk_output.specs.declared.event_list.stored_event.StoredEvent.{StoredEvent}
+use Rattle.squawk_output.specs.declared.event_list.stored_event.StoredEvent.TheVariants.{Error}
+use Rattle.squawk_output.specs.EventLog.{LinksLead, ahead, has_link, is_start, list_of, steps_of, turns_of}
+use Rattle.squawk_output.specs.Pass.{PassesList, Visits}
+use Rattle.squawk_output.specs.StoredEvents.{HaveTexts, event_of, log_in}
+use Rattle.squawk_output.proofs.LogTurns.{one_if}
+use Rattle.squawk_output.proofs.StoredEvents.{event_at, length-log_in}
+use Rattle.squawk_output.proofs.Visits.{Visits-alone, begins-with}
+
+module _ (texts : List (List ℕ)) (events : List StoredEvent) (place : ℕ) (within : place < length events) (x e : StoredEvent) (got : x ≡ get_or events place e) where
+  pub log_within : place < length (log_in texts events)
+  log_within = omega (arith, within, length-log_in texts events)
+
+  -- what the log has there
+  pub found : event_of texts x ≡ get_or (log_in texts events) place event.Finish
+  found = event_at texts events place x e event.Finish within got
+
+  -- an event without a link gives its step
+  pub visits-alone : (output turned : Passed) → turned ≡ record output { turns = output.turns + 1 } → LinksLead (log_in texts events)
+      → (y : StoredEvent) → x ≡ y → ahead (event_of texts y) ≡ None → has_link (event_of texts y) ≡ false
+      → (made : Passed) → made.steps ≡ turned.steps ++ steps_of (event_of texts y) → made.turns ≡ turned.turns + one_if (is_start (event_of texts y))
+      → made.texts ≡ turned.texts → Visits (log_in texts events) output (log_in texts events) made place
+  visits-alone output turned turn links y is alone unlinked made put turns same =
+      let log = log_in texts events in
+      Visits-alone log output turned place turn (event_of texts y)
+      (begins-with log place (event_of texts x) event.Finish (event_of texts y) log_within found (ap (event_of texts) is)) alone log made refl links refl unlinked put turns
+      same
+
+  -- an error has the text of its number
+  pub visits-error : (output turned : Passed) → turned ≡ record output { turns = output.turns + 1 } → turned.texts ≡ texts → LinksLead (log_in texts events)
+      → (number : ℕ) → x ≡ Error number → (made : Passed) → made ≡ record turned { steps = turned.steps ++ steps.Error (get_or turned.texts number []) ∷ [] }
+      → Visits (log_in texts events) output (log_in texts events) made place
+  visits-error output turned turn same links number is made put =
+      visits-alone output turned turn links (Error number) is refl refl made
+      (ap (λ w. w.steps) put ∙ ap (λ (ts : List (List ℕ)). turned.steps ++ steps.Error (get_or ts number []) ∷ []) same)
+      (omega (arith, ap (λ w. w.turns) put)) (ap (λ w. w.texts) put)
+
+-- ---- the loop over a list
+
+module _ (events : List StoredEvent) (texts : List (List ℕ)) (before : List StoredEvent) (output : Passed) (kinds : List ℕ) (place : ℕ)
+    (list : PassesList events texts before output kinds place) where
+  pub passes-next : (after : List StoredEvent) (made : Passed) (kinds' : List ℕ) → Visits (log_in output.texts before) output (log_in output.texts after) made place
+      → HaveTexts output.texts after → kinds' ≡ [] → PassesList events texts after made kinds' (place + 1)
+  passes-next after made kinds' visits have none =
+      let visit : Visits (log_in texts before) output (log_in texts after) made place = subst (λ (ts : List (List ℕ)). Visits (log_in ts before) output (log_in ts after) made place) list.same_texts visits in
+      record {
+        passes = record {
+          same_length = visit.same_length ∙ list.passes.same_length;
+          links = visit.links;
+          steps = visit.steps ∙ list.passes.steps;
+          turns = visit.turns ∙ list.passes.turns;
+          none = none;
+        };
+        have_texts = rw list.same_texts at have;
+        same_texts = visit.texts ∙ list.same_texts;
+      }
+
+  -- behind the last place
+  module _ (ends : length before ≤ place) where
+    nothing_left : drop place (log_in texts before) ≡ []
+    nothing_left = drop_of_length-le (log_in texts before) (omega (arith, ends, length-log_in texts before))
+
+    pub passes-end : (errors : List (List ℕ)) (recorded : ℕ) (made : Walk) → texts ≡ errors → made ≡ record { steps = output.steps; recorded = recorded; turns = output.turns }
+        → made ≡ record { steps = list_of (log_in errors events); recorded = recorded; turns = turns_of (log_in errors events) }
+    passes-end errors recorded made own is =
+        let steps : output.steps ≡ list_of (log_in texts events) =
+        sym (append-nil output.steps) ∙ (ap (λ ys. output.steps ++ list_of ys) (sym nothing_left) ∙ list.passes.steps) in
+        let turns : output.turns ≡ turns_of (log_in texts events) = omega (arith, ap turns_of nothing_left, list.passes.turns) in
+        rw (is, steps, turns, own) refl

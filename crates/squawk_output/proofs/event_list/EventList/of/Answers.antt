@@ -1,0 +1,19 @@
+use Rattle.std.proofs.Common.{arith, subst}
+use Rattle.squawk_output.proofs.StoredEvents.{errors_of-most, leads_on}
+use Rattle.squawk_output.specs.EventLog.{LinksLead, Log}
+use Rattle.squawk_output.proofs.event_list.EventList.of.Goals as goal
+
+pub push-requires-clause-leads : goal.push-requires-clause-leads
+push-requires-clause-leads c =
+    let links = subst (λ (log : Log). LinksLead log) (c.in-Some.ensures).steps.0 c.loop-event.invariant.links in
+    leads_on c.in-Some.event c.next.new.self.rest.items links.0
+
+pub push-requires-clause-errors : goal.push-requires-clause-errors
+push-requires-clause-errors c =
+    omega (
+      arith,
+      c.loop-event.invariant.errors,
+      errors_of-most c.loop-event.yielded,
+      c.loop-event.invariant.whole,
+      c.requires.few,
+    )

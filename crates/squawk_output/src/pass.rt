@@ -1,0 +1,126 @@
+//! The one pass that makes an output of a log of events.
+ghost use Rattle.std.specs.Prelude.{◌≡◌, ◌<◌, ◌≤◌, ◌+◌, ◌^◌, length, IfOk, ◌++◌, []};
+ghost use Rattle.squawk_output.specs.Chain.{LandsAt, chain, entered_back, erased, hop};
+ghost use Rattle.squawk_output.specs.EventLog.{LinksLead, entering, list_of, turns_of};
+ghost use Rattle.squawk_output.specs.Pass.{Visits};
+ghost use Rattle.squawk_output.specs.StoredEvents.{HaveTexts, link_of, log_in};
+
+use crate::event_list::stored_event::StoredEvent;
+use crate::output::passed::PassedSteps;
+use crate::output::{Output, Text};
+use squawk_kinds::SyntaxKind;
+use std::alloc::{AllocError, Global};
+
+/// The output of events whose errors have these texts.
+///
+/// The errors keep their numbers: the texts are the output's, as they stand.
+pub(crate) fn pass(
+    alloc: Global,
+    mut events: Vec<StoredEvent>,
+    errors: Vec<Text>,
+    recorded: u32,
+) -> Result<Output, AllocError>
+    requires few { length events.items < 2 ^ 32 }
+    requires links { LinksLead (log_in errors.items events.items) }
+    requires texts { HaveTexts errors.items events.items }
+    requires errors { length errors.items ≤ 2147483648 }
+    ensures { IfOk result (λ output. output ≡ record { steps = list_of (log_in errors.items events.items); recorded = recorded; turns = turns_of (log_in errors.items events.items) }) }
+{
+    let mut passed = PassedSteps::with_capacity(alloc, events.len(), errors)?;
+    let mut kinds = Vec::new(alloc);
+    for place in 0..events.len() {
+        visit(&mut events, &mut kinds, &mut passed, place)?;
+    }
+    Ok(Output::new(passed, recorded))
+}
+
+/// Visits the event at a place. All to which links lead from there is taken out; the event itself
+/// stays, since nothing comes back to it.
+fn visit(
+    events: &mut Vec<StoredEvent>,
+    kinds: &mut Vec<SyntaxKind>,
+    passed: &mut PassedSteps,
+    place: usize,
+) -> Result<(), AllocError>
+    requires few { length events.old.items < 2 ^ 32 }
+    requires turns { passed.old.turns < 2 ^ 35 }
+    requires within { place < length events.old.items }
+    requires links { LinksLead (log_in passed.old.texts events.old.items) }
+    requires texts { HaveTexts passed.old.texts events.old.items }
+    requires errors { length passed.old.texts ≤ 2147483648 }
+    requires none { kinds.old.items ≡ [] }
+    ensures visits { IfOk result (λ _. Visits (log_in passed.old.texts events.old.items) passed.old (log_in passed.old.texts events.new.items) passed.new place) }
+    ensures texts { IfOk result (λ _. HaveTexts passed.old.texts events.new.items) }
+    ensures none { IfOk result (λ _. kinds.new.items ≡ []) }
+{
+    passed.turn();
+    match events[place] {
+        StoredEvent::Hole => enter(passed, SyntaxKind::TOMBSTONE),
+        StoredEvent::Start { kind, link } => {
+            if link == 0 {
+                return enter(passed, kind);
+            }
+            kinds.push(kind)?;
+            follow(events, kinds, passed, place, link)?;
+            enter_all(passed, kinds)
+        }
+        StoredEvent::Finish => passed.leave_node(),
+        StoredEvent::Token { kind, n_raw_tokens } => passed.token(kind, n_raw_tokens),
+        StoredEvent::Error { number } => passed.error(number),
+    }
+}
+
+/// Follows the links from a place, and pushes the kinds that they lead to. Each link is a turn.
+fn follow(
+    events: &mut Vec<StoredEvent>,
+    kinds: &mut Vec<SyntaxKind>,
+    passed: &mut PassedSteps,
+    place: usize,
+    link: u32,
+) -> Result<(), AllocError>
+    requires few { length events.old.items < 2 ^ 32 }
+    requires turns { passed.old.turns + length events.old.items < 2 ^ 64 }
+    requires links { LinksLead (log_in passed.old.texts events.old.items) }
+    requires texts { HaveTexts passed.old.texts events.old.items }
+    requires lands { LandsAt (log_in passed.old.texts events.old.items) (hop place (link_of link)) }
+    ensures events { IfOk result (λ _. log_in passed.old.texts events.new.items ≡ erased (hop place (link_of link)) (log_in passed.old.texts events.old.items)) }
+    ensures texts { IfOk result (λ _. HaveTexts passed.old.texts events.new.items) }
+    ensures kinds { IfOk result (λ _. kinds.new.items ≡ kinds.old.items ++ chain (hop place (link_of link)) (log_in passed.old.texts events.old.items)) }
+    ensures passed { IfOk result (λ _. passed.new ≡ record passed.old { turns = passed.old.turns + length (chain (hop place (link_of link)) (log_in passed.old.texts events.old.items)) }) }
+{
+    let mut at = place;
+    let mut next = link;
+    while next > 0 {
+        passed.turn();
+        at += next as usize;
+        let event = events[at];
+        events[at] = StoredEvent::tombstone();
+        kinds.push(event.kind())?;
+        next = event.link();
+    }
+    Ok(())
+}
+
+/// Enters the kinds from the last to the first, until none is left.
+fn enter_all(passed: &mut PassedSteps, kinds: &mut Vec<SyntaxKind>) -> Result<(), AllocError>
+    requires { passed.old.turns + length kinds.old.items < 2 ^ 64 }
+    ensures kinds { IfOk result (λ _. kinds.new.items ≡ []) }
+    ensures passed { IfOk result (λ _. passed.new ≡ record passed.old { steps = passed.old.steps ++ entered_back kinds.old.items; turns = passed.old.turns + length kinds.old.items }) }
+{
+    while let Some(kind) = kinds.pop() {
+        enter(passed, kind)?;
+    }
+    Ok(())
+}
+
+/// Enters a node of the kind, unless it is no node's. This is a turn.
+fn enter(passed: &mut PassedSteps, kind: SyntaxKind) -> Result<(), AllocError>
+    requires { passed.old.turns + 1 < 2 ^ 64 }
+    ensures { IfOk result (λ _. passed.new ≡ record passed.old { steps = passed.old.steps ++ entering kind; turns = passed.old.turns + 1 }) }
+{
+    passed.turn();
+    if kind == SyntaxKind::TOMBSTONE {
+        return Ok(());
+    }
+    passed.enter_node(kind)
+}
