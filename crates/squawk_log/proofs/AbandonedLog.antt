@@ -5,7 +5,7 @@ use Rattle.std.proofs.Math.ListN.{get_or-append}
 use Rattle.std.proofs.lemmas.Bool.{eq-eqb, eqb-true, ne_eqb}
 use Rattle.std.proofs.lemmas.Bool.Decides.{eqb_tells}
 use Rattle.std.proofs.lemmas.Grind.{flat_map-append}
-use Rattle.std.proofs.lemmas.List.{append-nil, length-set}
+use Rattle.std.proofs.lemmas.List.{append-nil, length-set, set-get_or}
 use Rattle.std.proofs.lemmas.List.Sums.{sum_by-append}
 use Rattle.squawk_kinds.specs.Kinds.{TOMBSTONE}
 use Rattle.squawk_output.specs.declared.event.Event.{Event}
@@ -43,24 +43,23 @@ and-false false c e = refl
 
 -- ---- the mark is taken away
 
-set-same : (log : Log) (place : ℕ) (d : Event) → set log place (get_or log place d) ≡ log
-set-same [] place d = refl
-set-same (x ∷ xs) zero d = refl
-set-same (x ∷ xs) (suc n) d = ap (λ ys. x ∷ ys) (set-same xs n d)
-
 module _ (log : Log) (marks : List Bool) (recorded errors : ℕ) (is : IsRecord log marks recorded errors) (id : ℕ) (made : Made)
     (here : IsHoleAt log marks id made) where
   empty_here : get_or log id Finish ≡ tombstone
   empty_here = is.holes id here.within here.marked
 
+  -- the hole's event is a tombstone already
+  pub still-tombstone : set log id tombstone ≡ log
+  still-tombstone = ap (set log id) (sym empty_here) ∙ set-get_or log id Finish
+
   items-cleared : draft_items log (set marks id false) ≡ without_hole id (draft_items log marks)
   items-cleared =
-      ap (λ events. draft_items events (set marks id false)) (sym (ap (set log id) (sym empty_here) ∙ set-same log id Finish))
+      ap (λ events. draft_items events (set marks id false)) (sym still-tombstone)
       ∙ draft_items-filled log marks id TOMBSTONE tombstone (λ item. []) here.within is.same_length empty_here here.marked refl (λ how. refl)
 
   holes-cleared : HaveHoles log (set marks id false)
   holes-cleared =
-      subst (λ events. HaveHoles events (set marks id false)) (set-same log id Finish)
+      subst (λ events. HaveHoles events (set marks id false)) (set-get_or log id Finish)
       (holes-unmarked log marks id (get_or log id Finish) is.same_length here.within is.holes)
 
   pub IsRecord-cleared : IsRecord log (set marks id false) recorded errors

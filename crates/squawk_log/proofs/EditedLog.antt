@@ -5,7 +5,7 @@ use Rattle.std.proofs.Math.Seq.{get_or-append_seam}
 use Rattle.std.proofs.lemmas.Bool.{ne_eqb}
 use Rattle.std.proofs.lemmas.Bool.Decides.{eqb_tells}
 use Rattle.std.proofs.lemmas.Grind.{flat_map-append}
-use Rattle.std.proofs.lemmas.List.{length-set, get_or-set_same, get_or-set_other}
+use Rattle.std.proofs.lemmas.List.{length-set, get_or-set_same, get_or-set_other, set-get_or}
 use Rattle.squawk_kinds.specs.Kinds.{TOMBSTONE}
 use Rattle.squawk_output.specs.declared.event.Event.{Event}
 use Rattle.squawk_output.specs.declared.event.Event.TheVariants.{Start, Finish}
@@ -166,6 +166,13 @@ module _ (log : Log) (marks : List Bool) (recorded errors : ℕ) (is : IsRecord 
 
   gap : length log - node ≡ suc (length log - node - 1)
   gap = omega (arith, here.within)
+
+  -- a node has no mark
+  pub still-unmarked : set (marks ++ true ∷ []) node false ≡ marks ++ true ∷ []
+  still-unmarked =
+      let unmarked : get_or (marks ++ true ∷ []) node false ≡ false =
+      get_or-append marks (true ∷ []) false node (omega (arith, here.within, is.same_length)) ∙ here.unmarked in
+      ap (set (marks ++ true ∷ []) node) (sym unmarked) ∙ set-get_or (marks ++ true ∷ []) node false
 
   pub node-within : node < length more
   node-within = omega (arith, here.within, length-push log tombstone)

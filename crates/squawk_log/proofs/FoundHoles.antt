@@ -30,12 +30,6 @@ module _ (log : Log) (marks : List Bool) (recorded : ℕ) (d : Draft) (seen : dr
 
 -- ---- the last event, of a hole that was made by a start
 
--- what a list has lost at its end
-pub popped : {X : Type 0} (xs front : List X) (last : Option X) (m n : ℕ) → xs ≡ front ++ option_to_list last → MatchOption last ((n ≡ 0) × (m ≡ 0)) (λ x. m + 1 ≡ n) → 0 < n
-    → (x : X) × (xs ≡ front ++ x ∷ [])
-popped xs front None m n is cases lt = absurd (omega (arith, cases.0, lt))
-popped xs front (Some x) m n is cases lt = (x, is)
-
 -- a test of the number of entries
 pub tested-last : (m n id : ℕ) (made : Made) (b : Bool) → m ≡ n → b ≡ is_last_start m (Hole id made) → is_last_start n (Hole id made) ≡ b
 tested-last m n id made b same is = subst (λ k. is_last_start k (Hole id made) ≡ b) same (sym is)

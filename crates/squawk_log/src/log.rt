@@ -1,5 +1,5 @@
 //! The log of events in which a parser records.
-ghost use Rattle.std.specs.Prelude.{ℕ, ◌≡◌, ◌≢◌, ◌+◌, ◌<◌, ◌≤◌, ◌*◌, ◌^◌, ◌++◌, ◌∷◌, [], true, Contains, IfOk, OnOk, OnErr};
+ghost use Rattle.std.specs.Prelude.{ℕ, ◌≡◌, ◌≢◌, ◌+◌, ◌<◌, ◌≤◌, ◌*◌, ◌^◌, true, Contains, IfOk, OnOk, OnErr};
 ghost use Rattle.squawk_kinds.specs.Kinds.{TOMBSTONE};
 ghost use Rattle.squawk_log.specs.Draft.{Hole, IsAboveIds, Open, errors_of, nothing, plain};
 ghost use Rattle.squawk_log.specs.Edits as spec;
@@ -7,7 +7,7 @@ ghost use Rattle.squawk_log.specs.Edits.{abandoned, completed, extended, precede
 ghost use Rattle.squawk_log.specs.LogDraft.{HasHoleOf, HasNodeOf, made_of};
 
 use squawk_kinds::SyntaxKind;
-use squawk_output::{Event, Output, Text, process};
+use squawk_output::{EventList, Output, Text};
 use std::alloc::{AllocError, Global};
 use std::marker::Model;
 
@@ -24,14 +24,11 @@ pub enum Made {
 /// Contracts see it as a draft, in which every node begins where it will begin in the output. An id
 /// is the place of an event; the place of one that was taken out again is used anew.
 ///
-/// Beside each event stands a mark, set while the event is the hole of an open marker. No code asks
-/// for it: contracts tell by it an open marker from one that was given up, whose event is the same.
+/// The events tell an open marker from one that was given up. No code asks for that, but contracts do.
 #[derive(Drop)]
 pub struct EventLog {
-    events: Vec<Event>,
-    marks: Vec<bool>,
+    list: EventList,
     recorded: u32,
-    errors: u32,
 }
 
 impl Model for EventLog {
@@ -40,9 +37,9 @@ impl Model for EventLog {
 
     ghost Value = { Draft };
 
-    ghost view = { λ log. draft_of log.events.items log.marks.items log.recorded };
+    ghost view = { λ log. draft_of log.list.events log.list.marks log.recorded };
 
-    ghost invariant = { λ log. IsRecord log.events.items log.marks.items log.recorded log.errors };
+    ghost invariant = { λ log. IsRecord log.list.events log.list.marks log.recorded log.list.errors };
 }
 
 impl EventLog {
@@ -51,10 +48,8 @@ impl EventLog {
         ensures { result ≡ nothing }
     {
         EventLog {
-            events: Vec::new(alloc),
-            marks: Vec::new(alloc),
+            list: EventList::new(alloc),
             recorded: 0,
-            errors: 0,
         }
     }
 
@@ -69,7 +64,7 @@ impl EventLog {
     pub fn errors(&self) -> u32
         ensures { result ≡ errors_of self.now.items }
     {
-        self.errors
+        self.list.errors() as u32
     }
 
     /// The id that the next hole will have: as many as there are entries.
@@ -77,7 +72,7 @@ impl EventLog {
         ensures id { result ≡ self.now.entries }
         ensures above { IsAboveIds result self.now.items }
     {
-        self.events.len() as u32
+        self.list.len() as u32
     }
 
     /// A hole at the end.
@@ -88,7 +83,7 @@ impl EventLog {
         ensures err { OnErr result (self.new ≡ self.old) }
         ensures turns { self.new.turns_due ≤ 4 * self.new.recorded }
     {
-        grow(&mut self.events, &mut self.marks, Event::tombstone(), true)?;
+        self.list.push_hole()?;
         self.recorded += 1;
         Ok(())
     }
@@ -103,13 +98,8 @@ impl EventLog {
         ensures err { OnErr result (self.new ≡ self.old) }
         ensures turns { self.new.turns_due ≤ 4 * self.new.recorded }
     {
-        grow(&mut self.events, &mut self.marks, Event::Finish, false)?;
-        let place = id as usize;
-        self.events[place] = Event::Start {
-            kind,
-            forward_parent: None,
-        };
-        self.marks[place] = false;
+        self.list.push_finish()?;
+        self.list.set_start(id as usize, kind, 0);
         self.recorded += 1;
         Ok(())
     }
@@ -122,8 +112,7 @@ impl EventLog {
         ensures err { OnErr result (self.new ≡ self.old) }
         ensures turns { self.new.turns_due ≤ 4 * self.new.recorded }
     {
-        let token = Event::Token { kind, n_raw_tokens };
-        grow(&mut self.events, &mut self.marks, token, false)?;
+        self.list.push_token(kind, n_raw_tokens)?;
         self.recorded += 1;
         Ok(())
     }
@@ -136,14 +125,8 @@ impl EventLog {
         ensures err { OnErr result (self.new ≡ self.old) }
         ensures turns { self.new.turns_due ≤ 4 * self.new.recorded }
     {
-        grow(
-            &mut self.events,
-            &mut self.marks,
-            Event::Error { msg },
-            false,
-        )?;
+        self.list.push_error(msg)?;
         self.recorded += 1;
-        self.errors += 1;
         Ok(())
     }
 
@@ -156,11 +139,8 @@ impl EventLog {
         ensures turns { self.new.turns_due ≤ 4 * self.new.recorded }
     {
         let distance = self.next_id() - node;
-        grow(&mut self.events, &mut self.marks, Event::tombstone(), true)?;
-        self.events[node as usize] = Event::Start {
-            kind,
-            forward_parent: Some(distance),
-        };
+        self.list.push_hole()?;
+        self.list.set_start(node as usize, kind, distance);
         self.recorded += 1;
         Ok(())
     }
@@ -171,11 +151,10 @@ impl EventLog {
         ensures abandoned { self.new ≡ abandoned self.old id }
         ensures turns { self.new.turns_due ≤ 4 * self.new.recorded }
     {
-        if is_last_start(self.events.len(), id, made) {
-            let _ = self.events.pop();
-            let _ = self.marks.pop();
+        if is_last_start(self.list.len(), id, made) {
+            self.list.pop();
         } else {
-            self.marks[id as usize] = false;
+            self.list.set_start(id as usize, SyntaxKind::TOMBSTONE, 0);
         }
     }
 
@@ -188,12 +167,8 @@ impl EventLog {
         ensures extended { (kind : ℕ) → Contains self.old.items (Open node kind true) → self.new ≡ extended self.old (record { id = node; kind = kind }) id }
         ensures turns { self.new.turns_due ≤ 4 * self.new.recorded }
     {
-        let place = id as usize;
-        self.events[place] = Event::Start {
-            kind: SyntaxKind::TOMBSTONE,
-            forward_parent: Some(node - id),
-        };
-        self.marks[place] = false;
+        self.list
+            .set_start(id as usize, SyntaxKind::TOMBSTONE, node - id);
     }
 
     /// The items as an output; holes are left out. It is made in one pass.
@@ -202,13 +177,8 @@ impl EventLog {
         ensures output { IfOk result (λ o. o ≡ record { steps = plain self.items; recorded = self.recorded; turns = self.turns_due }) }
         ensures bound { self.turns_due ≤ 4 * self.recorded }
     {
-        let EventLog {
-            events,
-            marks: _,
-            recorded,
-            errors: _,
-        } = self;
-        process(alloc, events, recorded)
+        let EventLog { list, recorded } = self;
+        list.pass(alloc, recorded)
     }
 }
 
@@ -219,28 +189,5 @@ fn is_last_start(entries: usize, id: u32, made: Made) -> bool
     match made {
         Made::ByStart => id as usize + 1 == entries,
         Made::ByPrecede => false,
-    }
-}
-
-/// One event more, with its mark. Where memory is refused, neither is there.
-#[inline(always)]
-fn grow(
-    events: &mut Vec<Event>,
-    marks: &mut Vec<bool>,
-    event: Event,
-    mark: bool,
-) -> Result<(), AllocError>
-    ensures events { OnOk result (events.new.items ≡ events.old.items ++ event ∷ []) }
-    ensures marks { OnOk result (marks.new.items ≡ marks.old.items ++ mark ∷ []) }
-    ensures same_events { OnErr result (events.new.items ≡ events.old.items) }
-    ensures same_marks { OnErr result (marks.new.items ≡ marks.old.items) }
-{
-    marks.push(mark)?;
-    match events.push(event) {
-        Ok(()) => Ok(()),
-        Err(_) => {
-            let _ = marks.pop();
-            Err(AllocError)
-        }
     }
 }

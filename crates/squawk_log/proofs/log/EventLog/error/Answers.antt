@@ -6,10 +6,10 @@ use Rattle.squawk_log.proofs.log.EventLog.error.Goals as goal
 
 pub invariant_of-self-2 : goal.invariant_of-self-2
 invariant_of-self-2 c =
-    rw (c.in_ok-grow.ensures.events, c.in_ok-grow.ensures.marks)
-    (IsRecord-put _ _ _ _ c.self.invariant (Error c.args.msg) false tt (λ marked. absurd (cc)) (omega (arith, c.requires.room, ap (λ d. d.recorded) c.self.view_is)) (c.self.inside.errors + 1) (omega arith))
+    rw c.in_ok-push_error.ensures.ok
+    (IsRecord-put _ _ _ _ c.self.invariant (Error c.args.msg) false tt (λ marked. absurd (cc)) (omega (arith, c.requires.room, ap (λ d. d.recorded) c.self.view_is)) (c.self.inside.list.errors + 1) (omega arith))
 
 pub returns-clause-ok : goal.returns-clause-ok
 returns-clause-ok c =
-    rw (c.in_ok-grow.ensures.events, c.in_ok-grow.ensures.marks)
+    rw c.in_ok-push_error.ensures.ok
     (draft_of-put _ _ _ _ c.self.invariant (Error c.args.msg) false tt (λ marked. absurd (cc)) ∙ ap (λ d. with_error d c.args.msg) c.self.view_is)

@@ -6,10 +6,10 @@ use Rattle.squawk_log.proofs.log.EventLog.finish.Goals as goal
 
 pub returns-clause-output : goal.returns-clause-output
 returns-clause-output c =
-    IfOk-weaker c.process.result _ _
-    (λ o is. rw (← c.self.view_is) (rw (plain-draft_items c.self.inside.events.items c.self.inside.marks.items c.self.invariant.holes) is))
-    c.process.ensures
+    IfOk-weaker c.pass.result _ _
+    (λ o is. rw (← c.self.view_is) (rw (plain-draft_items c.self.inside.list.events c.self.inside.list.marks c.self.invariant.holes) is))
+    c.pass.ensures
 
-pub process-requires-clause-errors : goal.process-requires-clause-errors
-process-requires-clause-errors c =
-    omega (arith, errors-log c.self.inside.events.items c.self.inside.marks.items c.self.inside.recorded c.self.inside.errors c.self.invariant, ap (λ d. errors_of d.items) c.self.view_is, c.requires)
+pub pass-requires-clause-errors : goal.pass-requires-clause-errors
+pass-requires-clause-errors c =
+    omega (arith, errors-log c.self.inside.list.events c.self.inside.list.marks c.self.inside.recorded c.self.inside.list.errors c.self.invariant, ap (λ d. errors_of d.items) c.self.view_is, c.requires)

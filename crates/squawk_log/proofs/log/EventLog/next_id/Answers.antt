@@ -7,5 +7,5 @@ overflow_cast-result c = omega (arith, c.self.invariant.few, c.self.invariant.sm
 
 pub returns-clause-above : goal.returns-clause-above
 returns-clause-above c =
-    let entries : c.len.result ≡ length c.self.inside.events.items = omega (arith, c.len.ensures) in
-    rw (entries, ← c.self.view_is) (IsAboveIds-entries c.self.inside.events.items c.self.inside.marks.items)
+    let entries : c.len.result ≡ length c.self.inside.list.events = omega (arith, c.len.ensures) in
+    rw (entries, ← c.self.view_is) (IsAboveIds-entries c.self.inside.list.events c.self.inside.list.marks)

@@ -6,10 +6,10 @@ use Rattle.squawk_log.proofs.log.EventLog.start.Goals as goal
 
 pub invariant_of-self-2 : goal.invariant_of-self-2
 invariant_of-self-2 c =
-    rw (c.in_ok-grow.ensures.events, c.in_ok-grow.ensures.marks, c.tombstone.ensures)
-    (IsRecord-put _ _ _ _ c.self.invariant tombstone true tt (λ marked. refl) (omega (arith, c.requires, ap (λ d. d.recorded) c.self.view_is)) c.self.inside.errors (omega arith))
+    rw c.in_ok-push_hole.ensures.ok
+    (IsRecord-put _ _ _ _ c.self.invariant tombstone true tt (λ marked. refl) (omega (arith, c.requires, ap (λ d. d.recorded) c.self.view_is)) c.self.inside.list.errors (omega arith))
 
 pub returns-clause-ok : goal.returns-clause-ok
 returns-clause-ok c =
-    rw (c.in_ok-grow.ensures.events, c.in_ok-grow.ensures.marks, c.tombstone.ensures)
+    rw c.in_ok-push_hole.ensures.ok
     (draft_of-put _ _ _ _ c.self.invariant tombstone true tt (λ marked. refl) ∙ ap (λ d. started d d.entries) c.self.view_is)

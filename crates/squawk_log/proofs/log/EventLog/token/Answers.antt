@@ -6,11 +6,11 @@ use Rattle.squawk_log.proofs.log.EventLog.token.Goals as goal
 
 pub invariant_of-self-2 : goal.invariant_of-self-2
 invariant_of-self-2 c =
-    rw (c.in_ok-grow.ensures.events, c.in_ok-grow.ensures.marks)
-    (IsRecord-put _ _ _ _ c.self.invariant (Token c.args.kind c.args.n_raw_tokens) false tt (λ marked. absurd (cc)) (omega (arith, c.requires, ap (λ d. d.recorded) c.self.view_is)) c.self.inside.errors (omega arith))
+    rw c.in_ok-push_token.ensures.ok
+    (IsRecord-put _ _ _ _ c.self.invariant (Token c.args.kind c.args.n_raw_tokens) false tt (λ marked. absurd (cc)) (omega (arith, c.requires, ap (λ d. d.recorded) c.self.view_is)) c.self.inside.list.errors (omega arith))
 
 pub returns-clause-ok : goal.returns-clause-ok
 returns-clause-ok c =
-    rw (c.in_ok-grow.ensures.events, c.in_ok-grow.ensures.marks)
+    rw c.in_ok-push_token.ensures.ok
     (draft_of-put _ _ _ _ c.self.invariant (Token c.args.kind c.args.n_raw_tokens) false tt (λ marked. absurd (cc))
     ∙ ap (λ d. with_token d c.args.kind c.args.n_raw_tokens) c.self.view_is)
