@@ -36,6 +36,24 @@ fn tokens_that_are_not_eaten_are_a_rest(rt: HostRuntime) -> Result<(), Fail> {
 }
 
 #[test]
+fn three_signs_that_touch_are_one_token(rt: HostRuntime) -> Result<(), Fail> {
+    let document =
+        r#"{"text":"a->>b","tokens":[["ident",1],["minus",1],["gt",1],["gt",1],["ident",1]],
+"words":{"operator_first":[],"names":[]},"vocabulary":{"keywords":[],"contextual":[]},"entry":"sql",
+"calls":[["start"],["bump_any"],["eat",53],["bump_any"],["complete",0,700]]}"#;
+    let lines = [
+        "enter 700",
+        r#"token 3 "a""#,
+        r#"token 53 "->>""#,
+        r#"token 3 "b""#,
+        "exit",
+        "all",
+    ];
+    assert_answer(&rt, document, &lines)?;
+    Ok(())
+}
+
+#[test]
 fn short_escape_is_a_lexical_error_with_a_hint(rt: HostRuntime) -> Result<(), Fail> {
     assert_written(&rt, ESCAPE, ESCAPE_LINES)?;
     Ok(())

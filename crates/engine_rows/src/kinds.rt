@@ -52,9 +52,10 @@ const LITERALS: [SyntaxKind; 12] = [
 ];
 
 #[rattlefmt::skip]
-const GLUED: [SyntaxKind; 8] = [
+const GLUED: [SyntaxKind; 9] = [
     SyntaxKind::COLON_EQ, SyntaxKind::NEQ, SyntaxKind::NEQB, SyntaxKind::LTEQ,
     SyntaxKind::FAT_ARROW, SyntaxKind::LESS_LESS, SyntaxKind::GREATER_GREATER, SyntaxKind::GTEQ,
+    SyntaxKind::LONG_ARROW,
 ];
 
 #[rattlefmt::skip]

@@ -77,6 +77,8 @@ mod string_errors;
 #[cfg(test)]
 mod text;
 #[cfg(test)]
+mod three_signs;
+#[cfg(test)]
 mod token_kinds;
 #[cfg(test)]
 mod tree_texts;

@@ -66,6 +66,7 @@ fn glued_kinds_are_one_event(rt: HostRuntime) -> Result<(), Fail> {
         ("LESS_LESS", "<<"),
         ("GREATER_GREATER", ">>"),
         ("GTEQ", ">="),
+        ("LONG_ARROW", "->>"),
     ] {
         assert_events(&rt, Kinds::Plain, name, text, 2 + 1)?;
     }

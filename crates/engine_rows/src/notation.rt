@@ -215,7 +215,7 @@ fn each_name_is_that_of_one_kind(rt: HostRuntime) {
         }
     }
     // As many as there are rows in the two tables of names.
-    assert_eq!(rt; named, 79 + 19);
+    assert_eq!(rt; named, 80 + 19);
     assert_eq!(rt; kind_named("SyntaxKind"), None);
 }
 

@@ -188,6 +188,9 @@ GREATER_GREATER = 51
 abbrev pub GTEQ : ℕ
 GTEQ = 52
 
+abbrev pub LONG_ARROW : ℕ
+LONG_ARROW = 53
+
 -- ---- keywords of composite kinds
 
 abbrev pub SIMILAR_KW : ℕ

@@ -7,7 +7,7 @@ use crate::SyntaxKind;
 impl SyntaxKind {
     /// Each kind that has a constant, once, in the order of their numbers.
     #[rattlefmt::skip]
-    pub fn constants() -> [SyntaxKind; 104]
+    pub fn constants() -> [SyntaxKind; 105]
         ensures { result ≡ constants }
     {
         [
@@ -26,6 +26,7 @@ impl SyntaxKind {
             SyntaxKind::PSQL_COMMAND_TEXT, SyntaxKind::PSQL_TERMINATOR_TEXT, SyntaxKind::COLON_EQ,
             SyntaxKind::NEQ, SyntaxKind::NEQB, SyntaxKind::LTEQ, SyntaxKind::FAT_ARROW,
             SyntaxKind::LESS_LESS, SyntaxKind::GREATER_GREATER, SyntaxKind::GTEQ,
+            SyntaxKind::LONG_ARROW,
             SyntaxKind::SIMILAR_KW, SyntaxKind::TO_KW, SyntaxKind::AT_KW, SyntaxKind::TIME_KW,
             SyntaxKind::ZONE_KW, SyntaxKind::LOCAL_KW, SyntaxKind::IS_KW, SyntaxKind::NOT_KW,
             SyntaxKind::NFC_KW, SyntaxKind::NFD_KW, SyntaxKind::NFKC_KW, SyntaxKind::NFKD_KW,

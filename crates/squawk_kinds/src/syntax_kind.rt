@@ -116,7 +116,7 @@ impl SyntaxKind {
 
     pub const PSQL_TERMINATOR_TEXT: SyntaxKind = SyntaxKind(44);
 
-    // Signs of two raw tokens.
+    // Signs of several raw tokens.
     pub const COLON_EQ: SyntaxKind = SyntaxKind(45);
 
     pub const NEQ: SyntaxKind = SyntaxKind(46);
@@ -132,6 +132,8 @@ impl SyntaxKind {
     pub const GREATER_GREATER: SyntaxKind = SyntaxKind(51);
 
     pub const GTEQ: SyntaxKind = SyntaxKind(52);
+
+    pub const LONG_ARROW: SyntaxKind = SyntaxKind(53);
 
     // The keywords that composite kinds are made of.
     pub const SIMILAR_KW: SyntaxKind = SyntaxKind(64);

@@ -2,7 +2,7 @@
 use Rattle.std.proofs.Common.{◌≡◌, ℕ, Bool, true, false, [], ◌∷◌, refl}
 use Rattle.std.specs.Prelude.{codes}
 use Rattle.std.specs.Fmt as fmt
-use Rattle.squawk_kinds.specs.Kinds.{EOF, IDENT, COLON, EQ, PLUS, MINUS, AT, COLON_EQ, COLON_COLON, IS_KW, NFC_KW, NORMALIZED_KW, IS_NORMALIZED, IS_JSON, OPERATOR_CALL, CUSTOM_OP, R_PAREN, UNICODE_NORMAL_FORM, ERROR}
+use Rattle.squawk_kinds.specs.Kinds.{EOF, IDENT, COLON, EQ, R_ANGLE, PLUS, MINUS, AT, COLON_EQ, LONG_ARROW, COLON_COLON, IS_KW, NFC_KW, NORMALIZED_KW, IS_NORMALIZED, IS_JSON, OPERATOR_CALL, CUSTOM_OP, R_PAREN, UNICODE_NORMAL_FORM, ERROR}
 use Rattle.squawk_table.specs.ParserInput.{Entry}
 use Rattle.squawk_output.specs.Steps.{Token, Enter, Exit, Error}
 use Rattle.squawk_parser.specs.Composites.{NoTail, Open, ClosedBy}
@@ -22,6 +22,9 @@ none kind = false
 
 pair_is_one_token : eaten_as none COLON_EQ (row_of COLON_EQ) (entry COLON true ∷ entry EQ false ∷ []) ≡ Token COLON_EQ 2 ∷ []
 pair_is_one_token = refl
+
+three_signs_are_one_token : eaten_as none LONG_ARROW (row_of LONG_ARROW) (entry MINUS true ∷ entry R_ANGLE true ∷ entry R_ANGLE false ∷ []) ≡ Token LONG_ARROW 3 ∷ []
+three_signs_are_one_token = refl
 
 two_colons_are_a_node : eaten_as none COLON_COLON (row_of COLON_COLON) (entry COLON true ∷ entry COLON false ∷ [])
     ≡ Enter COLON_COLON ∷ Token COLON 1 ∷ Token COLON 1 ∷ Exit ∷ []
@@ -50,6 +53,9 @@ plain_kind_has_none = refl
 
 pair_has_none : tail_of_kind COLON_EQ ≡ NoTail
 pair_has_none = refl
+
+three_signs_have_none : tail_of_kind LONG_ARROW ≡ NoTail
+three_signs_have_none = refl
 
 json_has_one : tail_of_kind IS_JSON ≡ Open
 json_has_one = refl

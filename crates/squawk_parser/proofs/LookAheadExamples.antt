@@ -1,8 +1,8 @@
 -- Operators and composite kinds at the front of small inputs: what stands there was worked out by hand.
-use Rattle.std.proofs.Common.{◌≡◌, ℕ, Bool, true, false, [], ◌∷◌, refl}
+use Rattle.std.proofs.Common.{◌≡◌, ℕ, Bool, true, false, List, [], ◌∷◌, refl}
 use Rattle.std.specs.List.{list_any}
 use Rattle.std.specs.Prelude.{◌==◌}
-use Rattle.squawk_kinds.specs.Kinds.{IDENT, AT, BANG, COLON, EQ, L_ANGLE, R_ANGLE, MINUS, PLUS, STAR, COLON_EQ, NEQ, LTEQ, FAT_ARROW, IS_KW, NFC_KW, NORMALIZED_KW, DISTINCT_KW, FROM_KW, COLON_COLON, IS_DISTINCT_FROM, IS_NORMALIZED, CUSTOM_OP}
+use Rattle.squawk_kinds.specs.Kinds.{IDENT, AT, BANG, COLON, EQ, L_ANGLE, R_ANGLE, MINUS, PLUS, STAR, COLON_EQ, NEQ, LTEQ, FAT_ARROW, GREATER_GREATER, LONG_ARROW, IS_KW, NFC_KW, NORMALIZED_KW, DISTINCT_KW, FROM_KW, COLON_COLON, IS_DISTINCT_FROM, IS_NORMALIZED, CUSTOM_OP}
 use Rattle.squawk_parser.specs.LookAhead.{seen_from}
 use Rattle.squawk_parser.specs.Operators.{operator_length, is_next_apart}
 use Rattle.squawk_parser.specs.Composites.{stands_at}
@@ -77,6 +77,56 @@ three_colons = refl
 
 last_colon : stands_at operator_kind COLON_COLON (alone COLON ∷ []) ≡ false
 last_colon = refl
+
+-- ---- three signs
+
+-- a minus sign and two angles that touch, with these tokens behind them
+abbrev long_arrow : List Entry → List Entry
+long_arrow behind = joined MINUS ∷ joined R_ANGLE ∷ joined R_ANGLE ∷ behind
+
+-- no kind is one of an operator
+abbrev no_operator_kind : ℕ → Bool
+no_operator_kind kind = false
+
+arrow_of_three : stands_at operator_kind LONG_ARROW (long_arrow []) ≡ true
+arrow_of_three = refl
+
+-- `->>-` is no name, so the operator is `->>`
+three_before_sign : stands_at operator_kind LONG_ARROW (long_arrow (joined MINUS ∷ number ∷ [])) ≡ true
+three_before_sign = refl
+
+three_across_first_space : stands_at operator_kind LONG_ARROW (alone MINUS ∷ joined R_ANGLE ∷ alone R_ANGLE ∷ []) ≡ false
+three_across_first_space = refl
+
+three_across_second_space : stands_at operator_kind LONG_ARROW (joined MINUS ∷ alone R_ANGLE ∷ alone R_ANGLE ∷ []) ≡ false
+three_across_second_space = refl
+
+three_past_limit : stands_at operator_kind LONG_ARROW (seen_from (long_arrow []) 2 0) ≡ false
+three_past_limit = refl
+
+three_before_equal : stands_at operator_kind LONG_ARROW (long_arrow (alone EQ ∷ [])) ≡ false
+three_before_equal = refl
+
+-- `->>@` has a special kind
+three_before_at : stands_at operator_kind LONG_ARROW (long_arrow (alone AT ∷ [])) ≡ false
+three_before_at = refl
+
+three_without_operators : stands_at no_operator_kind LONG_ARROW (long_arrow (alone EQ ∷ [])) ≡ true
+three_without_operators = refl
+
+-- the fourth is apart
+three_before_space : stands_at operator_kind LONG_ARROW (joined MINUS ∷ joined R_ANGLE ∷ alone R_ANGLE ∷ alone EQ ∷ []) ≡ true
+three_before_space = refl
+
+-- the last two are a pair of their own, and all of them an operator
+pair_in_three : stands_at operator_kind GREATER_GREATER (seen_from (long_arrow []) 3 1) ≡ true
+pair_in_three = refl
+
+three_are_an_operator : stands_at operator_kind CUSTOM_OP (long_arrow []) ≡ true
+three_are_an_operator = refl
+
+three_are_as_long : operator_length operator_kind (long_arrow []) ≡ 3
+three_are_as_long = refl
 
 -- ---- sequences
 

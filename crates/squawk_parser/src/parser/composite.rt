@@ -72,6 +72,11 @@ pub(super) fn composite(kind: SyntaxKind) -> Option<Form>
         SyntaxKind::LESS_LESS => glued(two(SyntaxKind::L_ANGLE, SyntaxKind::L_ANGLE)),
         SyntaxKind::GREATER_GREATER => glued(two(SyntaxKind::R_ANGLE, SyntaxKind::R_ANGLE)),
         SyntaxKind::GTEQ => glued(two(SyntaxKind::R_ANGLE, SyntaxKind::EQ)),
+        SyntaxKind::LONG_ARROW => glued(three(
+            SyntaxKind::MINUS,
+            SyntaxKind::R_ANGLE,
+            SyntaxKind::R_ANGLE,
+        )),
         SyntaxKind::COLON_COLON => touching(two(SyntaxKind::COLON, SyntaxKind::COLON)),
         SyntaxKind::SIMILAR_TO => sequence(two(SyntaxKind::SIMILAR_KW, SyntaxKind::TO_KW)),
         SyntaxKind::NOT_SIMILAR_TO => sequence(three(

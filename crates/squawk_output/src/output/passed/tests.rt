@@ -28,6 +28,15 @@ fn each_step_has_its_word(rt: HostRuntime) {
 }
 
 #[test]
+fn token_of_three_has_its_word(rt: HostRuntime) {
+    let long_arrow = StoredStep::Token {
+        kind: SyntaxKind::LONG_ARROW,
+        n_input_tokens: 3,
+    };
+    assert_eq!(rt; long_arrow.pack(), 0x00350301);
+}
+
+#[test]
 fn an_output_has_a_word_for_each_step(rt: HostRuntime) -> Result<(), Fail> {
     let mut errors = Vec::new(rt.alloc());
     errors.push(Text::new(String::from_str(rt.alloc(), "first")?))?;
