@@ -15,7 +15,7 @@ use squawk_kinds::{SyntaxKind, TokenSet};
 use squawk_table::Input;
 use std::alloc::Global;
 
-/// How many tokens may have numbers of their own.
+/// How many tokens an input may have for places of 32 bits.
 const MOST: usize = 4294967295;
 
 /// The tokens of an input, and where one of their operators may be long, what tells how long each
