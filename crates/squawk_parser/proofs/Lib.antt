@@ -21,6 +21,11 @@ pub mod ParserViews
 pub mod Examples
 pub mod LookAheadExamples
 pub mod OperatorLength
+pub mod OperatorNames
+pub mod LimitedRuns
+pub mod RunLengths
+pub mod RunEnds
+pub mod LongRuns
 pub mod OneToken
 pub mod PlainKinds
 pub mod RefusedError

@@ -50,7 +50,7 @@ special-push : (kinds : List ℕ) (kind : ℕ) → list_any is_special (kinds ++
 special-push kinds kind = list_any-append is_special kinds (kind ∷ []) ∙ ap (λ last. list_any is_special kinds || last) (or-false (is_special kind))
 
 -- so the two and the length tell whether the run is a name
-name-push : (kinds : List ℕ) (kind : ℕ)
+pub name-push : (kinds : List ℕ) (kind : ℕ)
     → is_operator_name (kinds ++ kind ∷ []) ≡ (nat_eq (suc (length kinds)) 1 || not (is_sign kind) || (list_any is_special kinds || is_special kind))
 name-push kinds kind =
     let len : length (kinds ++ kind ∷ []) ≡ suc (length kinds) = omega (arith, length_push kinds kind) in

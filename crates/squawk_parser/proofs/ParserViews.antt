@@ -9,7 +9,7 @@ use Rattle.squawk_parser.specs.State.{State, HasNotFailed, Keeps, Changes, IsSou
 use Rattle.squawk_parser.proofs.Soundness.{IsKept, not_failed}
 
 abbrev pub seen : Inside → State
-seen p = record { input = p.input.now; words = words_of (record { operator_first = p.operator_first; names = p.names }); position = p.position; limit = p.limit; draft = p.log; max_events = p.limits.events; max_errors = p.limits.errors; first_reason = p.first_reason }
+seen p = record { input = p.tokens.input.now; words = words_of (record { operator_first = p.operator_first; names = p.names }); position = p.position; limit = p.limit; draft = p.log; max_events = p.limits.events; max_errors = p.limits.errors; first_reason = p.first_reason }
 
 -- the invariant of a parser, as one record
 pub kept : (p : Inside) → IsSound (seen p) → IsKept (seen p)

@@ -7,17 +7,17 @@ use Rattle.squawk_parser.proofs.OperatorLength.{longest_after, longest_from, lon
 use Rattle.squawk_parser.proofs.SeenTokens.{seen_next, seen_from-end}
 
 -- the kinds of an operator at a place
-pub run_at : (operator_kind : ℕ → Bool) (input : List Entry) (limit place : ℕ) → List ℕ
+unfoldable pub run_at : (operator_kind : ℕ → Bool) (input : List Entry) (limit place : ℕ) → List ℕ
 run_at operator_kind input limit place = touching_run operator_kind (seen_from input limit place)
 
 module _ (operator_kind : ℕ → Bool) (input : List Entry) (limit place : ℕ) where
   -- there is none at the limit
-  run_at-limit : limit ≤ place → run_at operator_kind input limit place ≡ []
+  pub run_at-limit : limit ≤ place → run_at operator_kind input limit place ≡ []
   unfolding run_at
   run_at-limit end = ap (touching_run operator_kind) (seen_from-end input limit place end)
 
   -- before it the first kind and whether it touches the next one tell what there is
-  run_at-first : (kind : ℕ) (touches : Bool) → place < limit → limit ≤ length input → kind_in input place ≡ kind → touches_in input place ≡ touches
+  pub run_at-first : (kind : ℕ) (touches : Bool) → place < limit → limit ≤ length input → kind_in input place ≡ kind → touches_in input place ≡ touches
       → run_at operator_kind input limit place
       ≡ (if operator_kind kind then kind ∷ (if touches then run_at operator_kind input limit (suc place) else []) else [])
   unfolding run_at

@@ -1,6 +1,7 @@
 pub mod LookAhead
 pub mod Operators
 pub mod OperatorLengths
+pub mod OperatorRuns
 pub mod Composites
 pub mod CompositeRows
 pub mod Words

@@ -12,10 +12,12 @@ pub mod grammar;
 pub mod limits;
 mod look_ahead;
 pub mod marker;
+mod operator_names;
 pub mod parse_error;
 pub mod part;
 mod recording;
 pub mod tails;
+mod tokens;
 mod view;
 pub mod words;
 
@@ -27,10 +29,10 @@ pub use part::Part;
 use squawk_kinds::{SyntaxKind, TokenSet};
 use squawk_log::EventLog;
 use squawk_output::Output;
-use squawk_table::Input;
 use std::alloc::{AllocError, Global};
 use std::marker::Model;
 pub use tails::has_tail;
+use tokens::Tokens;
 pub use words::Words;
 
 /// A parse that is going on: an input, a position in it, and a log of what was recorded, which
@@ -41,7 +43,7 @@ pub use words::Words;
 /// it records nothing more, and its position and its looks go on as if it had not failed.
 #[derive(Drop)]
 pub struct Parser<'t> {
-    input: &'t Input,
+    tokens: Tokens<'t>,
     operator_first: TokenSet,
     names: &'t [(SyntaxKind, &'t str)],
     alloc: Global,
@@ -58,29 +60,30 @@ impl<'t> Model for Parser<'t> {
 
     ghost Value = { State };
 
-    ghost view = { λ p. record { input = p.input.now; words = words_of (record { operator_first = p.operator_first; names = p.names }); position = p.position; limit = p.limit; draft = p.log; max_events = p.limits.events; max_errors = p.limits.errors; first_reason = p.first_reason } };
+    ghost view = { λ p. record { input = p.tokens.input.now; words = words_of (record { operator_first = p.operator_first; names = p.names }); position = p.position; limit = p.limit; draft = p.log; max_events = p.limits.events; max_errors = p.limits.errors; first_reason = p.first_reason } };
 
-    ghost invariant = { λ p. IsSound (record { input = p.input.now; words = words_of (record { operator_first = p.operator_first; names = p.names }); position = p.position; limit = p.limit; draft = p.log; max_events = p.limits.events; max_errors = p.limits.errors; first_reason = p.first_reason }) };
+    ghost invariant = { λ p. IsSound (record { input = p.tokens.input.now; words = words_of (record { operator_first = p.operator_first; names = p.names }); position = p.position; limit = p.limit; draft = p.log; max_events = p.limits.events; max_errors = p.limits.errors; first_reason = p.first_reason }) };
 }
 
 impl<'t> Parser<'t> {
     /// A parser at the beginning of an input.
-    fn new(alloc: Global, input: &'t Input, words: Words<'t>, limits: Limits) -> Parser<'t>
+    fn new(alloc: Global, tokens: Tokens<'t>, words: Words<'t>, limits: Limits) -> Parser<'t>
         requires { HasNoEnd (words_of words) }
-        ensures begins { result ≡ fresh input.now (words_of words.entry) limits.events limits.errors }
+        ensures begins { result ≡ fresh tokens.entry.input.now (words_of words.entry) limits.events limits.errors }
         ensures sound { IsSound result }
     {
         let Words {
             operator_first,
             names,
         } = words;
+        let limit = tokens.len();
         Parser {
-            input,
+            tokens,
             operator_first,
             names,
             alloc,
             position: 0,
-            limit: input.len(),
+            limit,
             log: EventLog::new(alloc),
             limits,
             first_reason: None,
@@ -117,7 +120,7 @@ impl<'t> Parser<'t> {
         ensures refused { IfErr result (IsRefusalOf self.entry) }
     {
         let Parser {
-            input: _,
+            tokens: _,
             operator_first: _,
             names: _,
             alloc,

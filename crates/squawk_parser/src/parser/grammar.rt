@@ -7,6 +7,7 @@ ghost use Rattle.squawk_parser.specs.Parse.{IsParse, IsRefused};
 use crate::parser::Parser;
 use crate::parser::limits::Limits;
 use crate::parser::parse_error::ParseError;
+use crate::parser::tokens::Tokens;
 use crate::parser::words::Words;
 use squawk_output::Output;
 use squawk_table::Input;
@@ -112,7 +113,9 @@ impl EntryPoint {
         ensures within { IfOk result (λ o. (o.recorded ≤ limits.events) × (errors_in o.steps ≤ limits.errors)) }
         ensures refused { IfErr result (IsRefused (G.runs grammar.now self.now) (fresh input.now (G.meaning grammar.now) limits.events limits.errors)) }
     {
-        let mut p = Parser::new(alloc, input, grammar.words(), limits);
+        let words = grammar.words();
+        let tokens = Tokens::new(alloc, input, &words.operator_first);
+        let mut p = Parser::new(alloc, tokens, words, limits);
         let run = match self {
             EntryPoint::SourceFile => grammar.entry_point(&mut p),
             EntryPoint::Plpgsql => grammar.plpgsql_entry_point(&mut p),

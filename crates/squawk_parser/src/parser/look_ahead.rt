@@ -26,7 +26,7 @@ impl Parser<'_> {
         ensures { result ≡ kind_at self.now n }
     {
         match self.seen(n) {
-            Some(place) => self.input.kind(place),
+            Some(place) => self.tokens.kind(place),
             None => SyntaxKind::EOF,
         }
     }
@@ -36,7 +36,7 @@ impl Parser<'_> {
         ensures { result ≡ contextual_kind_at self.now n }
     {
         match self.seen(n) {
-            Some(place) => self.input.contextual_kind(place),
+            Some(place) => self.tokens.contextual_kind(place),
             None => SyntaxKind::EOF,
         }
     }
@@ -114,7 +114,7 @@ impl Parser<'_> {
     pub(super) fn view(&self, n: usize) -> View<'_>
         ensures { result ≡ ahead self.now n }
     {
-        View::new(self.input, self.position.saturating_add(n), self.limit)
+        View::new(&self.tokens, self.position.saturating_add(n), self.limit)
     }
 
     /// The place in the input of the token `n` places ahead, if it is seen.

@@ -6,8 +6,8 @@ ghost use Rattle.squawk_table.specs.ParserInput.{kind_in};
 pub(super) mod composites;
 mod operators;
 
+use crate::parser::tokens::Tokens;
 use squawk_kinds::SyntaxKind;
-use squawk_table::Input;
 use std::marker::Model;
 
 /// The tokens of an input from a place on, as far as they stand before a limit.
@@ -16,7 +16,7 @@ use std::marker::Model;
 /// [`SyntaxKind::EOF`].
 #[derive(Drop)]
 pub(super) struct View<'t> {
-    input: &'t Input,
+    tokens: &'t Tokens<'t>,
     place: usize,
     limit: usize,
 }
@@ -28,20 +28,20 @@ impl<'t> Model for View<'t> {
 
     ghost Value = { List Entry };
 
-    ghost view = { λ v. seen_from v.input.now v.limit v.place };
+    ghost view = { λ v. seen_from v.tokens.now.input.now v.limit v.place };
 
-    ghost invariant = { λ v. v.limit ≤ length v.input.now };
+    ghost invariant = { λ v. v.limit ≤ length v.tokens.now.input.now };
 }
 
 impl<'t> View<'t> {
     /// The view from token `place` of the input to token `limit`.
     #[inline(always)]
-    pub(super) fn new(input: &'t Input, place: usize, limit: usize) -> View<'t>
-        requires { limit ≤ length input.now }
-        ensures { result ≡ seen_from input.now limit place }
+    pub(super) fn new(tokens: &'t Tokens<'t>, place: usize, limit: usize) -> View<'t>
+        requires { limit ≤ length tokens.now.input.now }
+        ensures { result ≡ seen_from tokens.now.input.now limit place }
     {
         View {
-            input,
+            tokens,
             place,
             limit,
         }
@@ -54,7 +54,7 @@ impl<'t> View<'t> {
     {
         let place = self.place.saturating_add(i);
         if place < self.limit {
-            self.input.kind(place)
+            self.tokens.kind(place)
         } else {
             SyntaxKind::EOF
         }
@@ -65,6 +65,6 @@ impl<'t> View<'t> {
         ensures { result ≡ touches_next (drop i self.now) }
     {
         let next = self.place.saturating_add(i).saturating_add(1);
-        next < self.limit && self.input.is_joint(next - 1)
+        next < self.limit && self.tokens.is_joint(next - 1)
     }
 }

@@ -1,14 +1,12 @@
 //! How long the operator at the front of a view is.
-//!
-//! After PostgreSQL's CREATE OPERATOR: a name of several characters can't end in `+` or `-`,
-//! unless it also has one of ``~ ! @ # % ^ & | ` ?``.
 ghost use Rattle.std.specs.Prelude.{◌≡◌};
-ghost use Rattle.squawk_parser.specs.Operators.{is_sign, is_special, operator_length, is_next_apart};
+ghost use Rattle.squawk_parser.specs.Operators.{operator_length, is_next_apart};
 ghost use Rattle.squawk_parser.specs.OperatorLengths.{IsLengthUpTo};
 ghost use Rattle.squawk_kinds.specs.TokenSets.{has};
 
+use crate::parser::operator_names::{is_sign, is_special};
 use crate::parser::view::View;
-use squawk_kinds::{SyntaxKind, TokenSet};
+use squawk_kinds::TokenSet;
 
 impl View<'_> {
     /// How many tokens the operator at the front has; 0 where there is none.
@@ -21,9 +19,9 @@ impl View<'_> {
     /// How many tokens the operator at the front has, or a number above `most` where it has more than
     /// that.
     ///
-    /// One pass over the tokens that touch: what was read so far is a name or not, and the last
-    /// length at which it was one is the longest. It ends where that is above `most`, so that of a
-    /// long run it reads but the signs that follow.
+    /// Where no run is long: one pass over the tokens that touch. What was read so far is a name or
+    /// not, and the last length at which it was one is the longest. It ends where that is above
+    /// `most`.
     pub(in crate::parser) fn operator_len_up_to(
         &self,
         most: usize,
@@ -31,13 +29,19 @@ impl View<'_> {
     ) -> usize
         ensures { IsLengthUpTo most (operator_length (has operator_first.now) self.now) result }
     {
+        if let Some(len) = self
+            .tokens
+            .operator_len(self.place, self.limit, operator_first)
+        {
+            return len;
+        }
         let mut longest = 0;
         let mut has_special = false;
         for place in self.place..self.limit {
             if longest > most {
                 break;
             }
-            let kind = self.input.kind(place);
+            let kind = self.tokens.kind(place);
             if !operator_first.contains(kind) {
                 break;
             }
@@ -46,7 +50,7 @@ impl View<'_> {
             if len == 1 || has_special || !is_sign(kind) {
                 longest = len;
             }
-            if !self.input.is_joint(place) {
+            if !self.tokens.is_joint(place) {
                 break;
             }
         }
@@ -62,30 +66,4 @@ impl View<'_> {
             && self.touches_next(0)
             && self.operator_len_up_to(1, operator_first) != 1)
     }
-}
-
-/// Whether a name of several characters may not end in the kind.
-fn is_sign(kind: SyntaxKind) -> bool
-    ensures { result ≡ is_sign kind }
-{
-    kind == SyntaxKind::PLUS || kind == SyntaxKind::MINUS
-}
-
-/// Whether a name that has the kind may end in a sign.
-fn is_special(kind: SyntaxKind) -> bool
-    ensures { result ≡ is_special kind }
-{
-    matches!(
-        kind,
-        SyntaxKind::TILDE
-            | SyntaxKind::BANG
-            | SyntaxKind::AT
-            | SyntaxKind::POUND
-            | SyntaxKind::PERCENT
-            | SyntaxKind::CARET
-            | SyntaxKind::AMP
-            | SyntaxKind::PIPE
-            | SyntaxKind::BACKTICK
-            | SyntaxKind::QUESTION
-    )
 }

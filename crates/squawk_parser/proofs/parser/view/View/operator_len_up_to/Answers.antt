@@ -12,8 +12,8 @@ loop-place-init c =
     let operator_kind = has c.args.operator_first.now in
     let none : view.place - view.place ≡ 0 = omega arith in
     record {
-      all = ap (λ len. longest_from len false 0 (run_at operator_kind view.input.now view.limit view.place)) none
-          ∙ (longest_at-start operator_kind view.input.now view.limit view.place ∙ ap (operator_length operator_kind) c.self.view_is);
+      all = ap (λ len. longest_from len false 0 (run_at operator_kind view.tokens.now.input.now view.limit view.place)) none
+          ∙ (longest_at-start operator_kind view.tokens.now.input.now view.limit view.place ∙ ap (operator_length operator_kind) c.self.view_is);
       within = omega arith;
     }
 
@@ -21,13 +21,13 @@ pub returns-after-loop-place : goal.returns-after-loop-place
 returns-after-loop-place c =
     let view = c.self.inside in
     let l = c.loop-place in
-    inl (sym (longest_at-limit (has c.args.operator_first.now) view.input.now view.limit l.place (l.place - view.place) l.has_special l.longest c.loop-place-test.false) ∙ l.invariant.all)
+    inl (sym (longest_at-limit (has c.args.operator_first.now) view.tokens.now.input.now view.limit l.place (l.place - view.place) l.has_special l.longest c.loop-place-test.false) ∙ l.invariant.all)
 
 pub returns-then-not-contains : goal.returns-then-not-contains
 returns-then-not-contains c =
     let view = c.self.inside in
     let l = c.loop-place in
-    inl (sym (longest_at-other (has c.args.operator_first.now) view.input.now view.limit l.place (l.place - view.place) l.has_special l.longest
+    inl (sym (longest_at-other (has c.args.operator_first.now) view.tokens.now.input.now view.limit l.place (l.place - view.place) l.has_special l.longest
     c.kind-kind.result c.loop-place-test.true c.self.invariant c.kind-kind.ensures (sym c.contains.ensures ∙ c.if-not-contains.true)) ∙ l.invariant.all)
 
 -- what the turn makes of the test for a special kind
@@ -64,7 +64,7 @@ returns-then-not-is_joint c =
     let special = special_here (goal.at.returns-then-not-is_joint c).Joined-has_special in
     inl (longest_here (goal.at.returns-then-not-is_joint c).Joined-len-eq1
     ∙ (ap (λ any. longest_after (l.place - view.place + 1) any l.longest c.kind-kind.result) special
-    ∙ (sym (longest_at-last (has c.args.operator_first.now) view.input.now view.limit l.place (l.place - view.place) l.has_special l.longest
+    ∙ (sym (longest_at-last (has c.args.operator_first.now) view.tokens.now.input.now view.limit l.place (l.place - view.place) l.has_special l.longest
     c.kind-kind.result c.loop-place-test.true c.self.invariant c.kind-kind.ensures (sym c.contains.ensures ∙ c.if-not-contains.false)
     (sym c.is_joint.ensures ∙ c.if-not-is_joint.true)) ∙ l.invariant.all)))
 
@@ -73,7 +73,7 @@ pub returns-then-longest-most : goal.returns-then-longest-most
 returns-then-longest-most c =
     let view = c.self.inside in
     let l = c.loop-place in
-    let run = run_at (has c.args.operator_first.now) view.input.now view.limit l.place in
+    let run = run_at (has c.args.operator_first.now) view.tokens.now.input.now view.limit l.place in
     let grows = longest_from-grows run (l.place - view.place) l.has_special l.longest l.invariant.within in
     let above : c.args.most < operator_length (has c.args.operator_first.now) c.args.self.now = omega (arith, grows, l.invariant.all, c.if-longest-most.true) in
     inr (c.if-longest-most.true, above)
@@ -88,8 +88,8 @@ loop-place-preserved c =
     let len : l.place + 1 - view.place ≡ l.place - view.place + 1 = omega arith in
     let bounds = longest_after-bounds (l.place - view.place + 1) c.if-has_special.has_special l.longest c.kind-kind.result (omega (arith, l.invariant.within)) in
     record {
-      all = longest_from-same (run_at (has c.args.operator_first.now) view.input.now view.limit (l.place + 1)) len special longest
-          ∙ (sym (longest_at-next (has c.args.operator_first.now) view.input.now view.limit l.place (l.place - view.place) l.has_special l.longest
+      all = longest_from-same (run_at (has c.args.operator_first.now) view.tokens.now.input.now view.limit (l.place + 1)) len special longest
+          ∙ (sym (longest_at-next (has c.args.operator_first.now) view.tokens.now.input.now view.limit l.place (l.place - view.place) l.has_special l.longest
           c.kind-kind.result c.loop-place-test.true c.self.invariant c.kind-kind.ensures (sym c.contains.ensures ∙ c.if-not-contains.false)
           (sym c.is_joint.ensures ∙ c.if-not-is_joint.false)) ∙ l.invariant.all);
       within = omega (arith, here, bounds.1);

@@ -10,7 +10,7 @@ abbrev pub invariant-loop-place : goal.invariant-loop-place
 invariant-loop-place l =
     let view = l.self-inside in
     record {
-      all : longest_from (l.place - view.place) l.has_special l.longest (run_at (has l.operator_first) view.input.now view.limit l.place)
+      all : longest_from (l.place - view.place) l.has_special l.longest (run_at (has l.operator_first) view.tokens.now.input.now view.limit l.place)
           ≡ operator_length (has l.operator_first) l.self;
       within : l.longest ≤ l.place - view.place;
     }

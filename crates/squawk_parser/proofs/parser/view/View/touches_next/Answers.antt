@@ -7,11 +7,11 @@ pub returns-then-next-self : goal.returns-then-next-self
 returns-then-next-self c =
     let view = c.self.inside in
     let at : c.saturating_add-next.result - 1 ≡ view.place + c.args.i = omega arith in
-    let same = touches_next-drop view.input.now view.limit view.place c.args.i c.args.self.now c.self.view_is (omega arith) c.self.invariant in
-    c.is_joint.ensures ∙ (ap (touches_in view.input.now) at ∙ sym same)
+    let same = touches_next-drop view.tokens.now.input.now view.limit view.place c.args.i c.args.self.now c.self.view_is (omega arith) c.self.invariant in
+    c.is_joint.ensures ∙ (ap (touches_in view.tokens.now.input.now) at ∙ sym same)
 
 pub returns-else-next-self : goal.returns-else-next-self
 returns-else-next-self c =
     let view = c.self.inside in
     let test : nat_lt c.saturating_add-next.result view.limit ≡ false = grind arith in
-    test ∙ sym (touches_next-drop-last view.input.now view.limit view.place c.args.i c.args.self.now c.self.view_is (omega arith))
+    test ∙ sym (touches_next-drop-last view.tokens.now.input.now view.limit view.place c.args.i c.args.self.now c.self.view_is (omega arith))

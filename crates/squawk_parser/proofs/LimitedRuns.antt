@@ -1,0 +1,61 @@
+-- The operator kinds at a place under a limit: how many there are, and which.
+use Rattle.std.proofs.Common.{◌≡◌, ◌∙◌, ℕ, zero, suc, ◌+◌, ◌-◌, ◌<◌, ◌≤◌, min, Bool, true, false, List, [], ◌∷◌, length, get_or, if◌then◌else◌, add-zero, arith, ap, sym, refl, inl, inr}
+use Rattle.std.proofs.lemmas.Bool.{cases_lt}
+use Rattle.squawk_table.specs.ParserInput.{Entry, kind_in, touches_in}
+use Rattle.squawk_parser.proofs.TouchingRun.{run_at, run_at-limit, run_at-first}
+
+module _ (operator_kind : ℕ → Bool) (input : List Entry) (limit : ℕ) (within : limit ≤ length input) where
+  -- a limit cuts the run
+  cut_by : (room place : ℕ) → place + room ≡ limit
+      → length (run_at operator_kind input limit place) ≡ min room (length (run_at operator_kind input (length input) place))
+  cut_by zero place at = ap length (run_at-limit operator_kind input limit place (omega arith)) ∙ omega arith
+  cut_by (suc room) place at =
+      let kind = kind_in input place in
+      let touches = touches_in input place in
+      let more = cut_by room (suc place) (omega arith) in
+      ap length (run_at-first operator_kind input limit place kind touches (omega arith) within refl refl)
+      ∙ (here kind (operator_kind kind) touches _ _ more
+      ∙ ap (λ run. min (suc room) (length run)) (sym (run_at-first operator_kind input (length input) place kind touches (omega arith) (omega arith) refl refl)))
+    where
+      here : (kind : ℕ) (b touches : Bool) (cut all : List ℕ) → length cut ≡ min room (length all)
+          → length (if b then kind ∷ (if touches then cut else []) else []) ≡ min (suc room) (length (if b then kind ∷ (if touches then all else []) else []))
+      here kind true true cut all more = omega arith
+      here kind true false cut all more = omega arith
+      here kind false touches cut all more = omega arith
+
+  pub length-run_at : (place : ℕ) → place ≤ limit
+      → length (run_at operator_kind input limit place) ≡ min (limit - place) (length (run_at operator_kind input (length input) place))
+  length-run_at place le = cut_by (limit - place) place (omega arith)
+
+  -- at the limit there is none
+  pub before_limit : (k place : ℕ) → k < length (run_at operator_kind input limit place) → place < limit
+  before_limit k place lt = elim (cases_lt place limit) [
+    | inl before ↦ before
+    | inr end ↦ absurd (omega (arith, ap length (run_at-limit operator_kind input limit place end)))
+  ]
+
+  first_kind : (kind : ℕ) (b touches : Bool) (rest : List ℕ) → 0 < length (if b then kind ∷ (if touches then rest else []) else [])
+      → get_or (if b then kind ∷ (if touches then rest else []) else []) 0 0 ≡ kind
+  first_kind kind true touches rest lt = refl
+  first_kind kind false touches rest lt = absurd (omega arith)
+
+  next_kind : (k kind other : ℕ) (b touches : Bool) (rest : List ℕ) → (k < length rest → get_or rest k 0 ≡ other)
+      → suc k < length (if b then kind ∷ (if touches then rest else []) else []) → get_or (if b then kind ∷ (if touches then rest else []) else []) (suc k) 0 ≡ other
+  next_kind k kind other true true rest same lt = same (omega arith)
+  next_kind k kind other true false rest same lt = absurd (omega arith)
+  next_kind k kind other false touches rest same lt = absurd (omega arith)
+
+  -- its kinds are those of the tokens from the place on
+  pub kind_at-run : (k place : ℕ) → k < length (run_at operator_kind input limit place) → get_or (run_at operator_kind input limit place) k 0 ≡ kind_in input (place + k)
+  kind_at-run zero place lt =
+      let kind = kind_in input place in
+      let first = run_at-first operator_kind input limit place kind (touches_in input place) (before_limit zero place lt) within refl refl in
+      ap (λ run. get_or run 0 0) first
+      ∙ (first_kind kind (operator_kind kind) (touches_in input place) _ (omega (arith, ap length first)) ∙ ap (kind_in input) (sym (add-zero place)))
+  kind_at-run (suc k) place lt =
+      let kind = kind_in input place in
+      let first = run_at-first operator_kind input limit place kind (touches_in input place) (before_limit (suc k) place lt) within refl refl in
+      let at : suc place + k ≡ place + suc k = omega arith in
+      ap (λ run. get_or run (suc k) 0) first
+      ∙ next_kind k kind (kind_in input (place + suc k)) (operator_kind kind) (touches_in input place) _
+      (λ below. kind_at-run k (suc place) below ∙ ap (kind_in input) at) (omega (arith, ap length first))

@@ -1,0 +1,50 @@
+-- A long run of an operator's kinds has a block of tokens in it.
+use Rattle.std.proofs.Common.{◌≡◌, ◌∙◌, ℕ, zero, suc, ◌+◌, ◌-◌, ◌*◌, ◌/◌, ◌<◌, ◌≤◌, ◌&&◌, Bool, true, false, List, [], ◌∷◌, length, if◌then◌else◌, add-zero, arith, ap, sym, refl, inl, inr}
+use Rattle.std.specs.Prelude.{IsTrue}
+use Rattle.std.proofs.lemmas.Bool.{cases_lt}
+use Rattle.squawk_table.specs.ParserInput.{Entry, kind_in, touches_in}
+use Rattle.squawk_parser.specs.LookAhead.{seen_from}
+use Rattle.squawk_parser.specs.Operators.{touching_run}
+use Rattle.squawk_parser.specs.OperatorRuns.{IsInRun}
+use Rattle.squawk_parser.proofs.LimitedRuns.{before_limit, length-run_at}
+use Rattle.squawk_parser.proofs.TouchingRun.{run_at, run_at-first}
+
+module _ (operator_kind : ℕ → Bool) (input : List Entry) (limit : ℕ) (within : limit ≤ length input) where
+  first_joins : (kind : ℕ) (b touches : Bool) (rest : List ℕ) → 1 < length (if b then kind ∷ (if touches then rest else []) else []) → IsTrue (touches && b)
+  first_joins kind true true rest lt = refl
+  first_joins kind true false rest lt = absurd (omega arith)
+  first_joins kind false touches rest lt = absurd (omega arith)
+
+  rest_longer : (k kind : ℕ) (b touches : Bool) (rest : List ℕ) → suc k < length (if b then kind ∷ (if touches then rest else []) else []) → k < length rest
+  rest_longer k kind true true rest lt = omega arith
+  rest_longer k kind true false rest lt = absurd (omega arith)
+  rest_longer k kind false touches rest lt = absurd (omega arith)
+
+  -- each token of a run but the last touches the next, and has an operator's kind
+  joins : (k place : ℕ) → suc k < length (run_at operator_kind input limit place) → IsTrue (touches_in input (place + k) && operator_kind (kind_in input (place + k)))
+  joins zero place lt =
+      let kind = kind_in input place in
+      let first = run_at-first operator_kind input limit place kind (touches_in input place) (before_limit operator_kind input limit within 1 place lt) within refl refl in
+      rw (add-zero place) (first_joins kind (operator_kind kind) (touches_in input place) (run_at operator_kind input limit (suc place)) (omega (arith, ap length first)))
+  joins (suc k) place lt =
+      let kind = kind_in input place in
+      let first = run_at-first operator_kind input limit place kind (touches_in input place) (before_limit operator_kind input limit within (suc (suc k)) place lt) within refl refl in
+      let at : suc place + k ≡ place + suc k = omega arith in
+      let longer = rest_longer (suc k) kind (operator_kind kind) (touches_in input place) (run_at operator_kind input limit (suc place)) (omega (arith, ap length first)) in
+      rw at at (joins k (suc place) longer)
+
+  -- so where no block of 16 tokens is in a run, no run has 32
+  pub no_long_run : (place : ℕ) → ((block : ℕ) → block < length input / 16 → IsInRun operator_kind input (block * 16) → ⊥)
+      → length (touching_run operator_kind (seen_from input limit place)) < 32
+  unfolding run_at
+  no_long_run place none = elim (cases_lt (length (run_at operator_kind input limit place)) 32) [
+    | inl short ↦ short
+    | inr long ↦
+        let block = (place + 15) / 16 in
+        let before = before_limit operator_kind input limit within 0 place (omega arith) in
+        let all = length-run_at operator_kind input limit within place (omega arith) in
+        let there : IsInRun operator_kind input (block * 16) = λ i from to.
+        let at : place + (i - place) ≡ i = omega arith in
+        rw at at (joins (i - place) place (omega arith)) in
+        absurd (none block (omega (arith, all)) there)
+  ]

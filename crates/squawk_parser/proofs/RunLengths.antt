@@ -1,0 +1,86 @@
+-- An operator's length by where its run ends, the last special kind before that, and the last kind that is no sign.
+use Rattle.std.proofs.Common.{◌≡◌, ◌∙◌, ℕ, zero, suc, ◌+◌, ◌-◌, ◌<◌, ◌≤◌, min, Bool, true, false, not, List, length, get_or, arith, ap, sym, refl, inl, inr}
+use Rattle.squawk_table.specs.ParserInput.{Entry, kind_in}
+use Rattle.squawk_parser.specs.LookAhead.{seen_from}
+use Rattle.squawk_parser.specs.Operators.{is_sign, is_special, longest_name, operator_length, touching_run}
+use Rattle.squawk_parser.specs.OperatorRuns.{IsPastLast, is_no_sign}
+use Rattle.squawk_parser.proofs.LimitedRuns.{kind_at-run, length-run_at}
+use Rattle.squawk_parser.proofs.OperatorNames.{longest-special, longest-other}
+use Rattle.squawk_parser.proofs.TouchingRun.{run_at, run_at-limit}
+
+sign-true : (kind : ℕ) → is_no_sign kind ≡ false → is_sign kind ≡ true
+sign-true kind fails = cases (is_sign kind) fails
+  where
+    cases : (b : Bool) → not b ≡ false → b ≡ true
+    cases b fails = grind arith
+
+sign-false : (kind : ℕ) → is_no_sign kind ≡ true → is_sign kind ≡ false
+sign-false kind passes = cases (is_sign kind) passes
+  where
+    cases : (b : Bool) → not b ≡ true → b ≡ false
+    cases b passes = grind arith
+
+module _ (operator_kind : ℕ → Bool) (input : List Entry) (limit place : ℕ) where
+  abbrev seen : List Entry
+  seen = seen_from input limit place
+
+  abbrev run : List ℕ
+  run = run_at operator_kind input limit place
+
+  by_run : operator_length operator_kind seen ≡ longest_name run (length run)
+  unfolding run_at
+  by_run = refl
+
+  -- at the limit none stands
+  pub length-limit : limit ≤ place → operator_length operator_kind seen ≡ 0
+  length-limit end = by_run ∙ ap (λ kinds. longest_name kinds (length kinds)) (run_at-limit operator_kind input limit place end)
+
+  module _ (within : limit ≤ length input) (end : ℕ) (before : place ≤ limit)
+      (ends : end ≡ min limit (place + length (touching_run operator_kind (seen_from input (length input) place)))) where
+    length-run : length run ≡ end - place
+    unfolding run_at
+    length-run = length-run_at operator_kind input limit within place before ∙ omega arith
+
+    kind_at : (k : ℕ) → place ≤ k → k < end → get_or run (k - place) 0 ≡ kind_in input k
+    kind_at k from to =
+        let at : place + (k - place) ≡ k = omega arith in
+        kind_at-run operator_kind input limit within (k - place) place (omega (arith, length-run)) ∙ ap (kind_in input) at
+
+    -- nor does one where the run ends at once
+    pub length-none : end ≤ place → operator_length operator_kind seen ≡ 0
+    length-none none = let empty : length run ≡ 0 = omega (arith, length-run) in by_run ∙ ap (longest_name run) empty
+
+    -- with a special kind all of the run is one
+    pub length-special : (past : ℕ) → IsPastLast is_special input end past → place < past → operator_length operator_kind seen ≡ end - place
+    length-special past special some =
+        let k = past - 1 in
+        let is : is_special (get_or run (k - place) 0) ≡ true =
+        ap is_special (kind_at k (omega arith) (omega (arith, special.within))) ∙ special.last (omega arith) in
+        by_run ∙ (longest-special run (k - place) (omega (arith, length-run, special.within)) is ∙ length-run)
+
+    module _ (special : ℕ) (lasts : IsPastLast is_special input end special) (none : special ≤ place) (some : place < end) where
+      no_special : (k : ℕ) → k < length run → is_special (get_or run k 0) ≡ false
+      no_special k lt =
+          let at : place + k - place ≡ k = omega arith in
+          ap (λ i. is_special (get_or run i 0)) (sym at)
+          ∙ (ap is_special (kind_at (place + k) (omega arith) (omega (arith, length-run))) ∙ lasts.none (place + k) (omega arith) (omega (arith, length-run)))
+
+      module _ (other : ℕ) (others : IsPastLast is_no_sign input end other) where
+        sign_behind : (n k : ℕ) → other ≤ place + suc n → n < k → k < length run → is_sign (get_or run k 0) ≡ true
+        sign_behind n k past above lt =
+            let at : place + k - place ≡ k = omega arith in
+            let here = ap (λ i. is_sign (get_or run i 0)) (sym at) ∙ ap is_sign (kind_at (place + k) (omega arith) (omega (arith, length-run))) in
+            here ∙ sign-true (kind_in input (place + k)) (others.none (place + k) (omega arith) (omega (arith, length-run)))
+
+        -- without one it ends behind the last kind that is no sign
+        pub length-other : place < other → operator_length operator_kind seen ≡ other - place
+        length-other has =
+            let n = other - 1 - place in
+            let len : suc n ≡ other - place = omega arith in
+            let last : is_sign (get_or run n 0) ≡ false =
+            ap is_sign (kind_at (other - 1) (omega arith) (omega (arith, others.within))) ∙ sign-false (kind_in input (other - 1)) (others.last (omega arith)) in
+            by_run ∙ (longest-other run no_special n (inr last) (omega (arith, length-run, others.within)) (λ k above lt. sign_behind n k (omega arith) above lt) ∙ len)
+
+        -- and where all are signs it is the first of them
+        pub length-sign : other ≤ place → operator_length operator_kind seen ≡ 1
+        length-sign all = by_run ∙ longest-other run no_special 0 (inl refl) (omega (arith, length-run)) (λ k above lt. sign_behind 0 k (omega arith) above lt)
