@@ -3,7 +3,8 @@
 
 Prints for both the size of the document, the processor time (the least of three runs; of one, where a run takes more than 20 seconds) and the
 most memory, and how many times as much the larger one takes: ten where it grows with the size. The lines of each answer are counted, and must
-be those that the shape says. With no SHAPE all are run, at sizes that want up to a gigabyte. A run is ended after 300 seconds.
+be those that the shape says. With no SHAPE all are run, at sizes that want up to 1.2 gigabytes; those of OTHERS, whose time
+isn't linear, at small ones. A run is ended after 300 seconds.
 Memory below 20 MB isn't told apart: the system counts what this process had."""
 import os
 import subprocess
@@ -237,12 +238,11 @@ def expects(n):
     return Shape("a", [WORD], in_node([BUMP] + ['["expect",5]'] * n), lines, names=names)
 
 
-SHAPES = {
-    words: 1000000, nodes: 1000000, precedes: 100000, errors: 100000, nesting: 100000, abandoned: 100000, extended: 100000,
-    extended_newest: 100000, crossing: 100000, strings: 100000, comments: 1000000, operator: 1000000, signs: 100000, signs_of_tiny: 100000,
-    arrow_looks: 100000, arrows: 1000000, escapes: 1000000, controls: 1000000, digits: 1000000, number: 1000000, great_number: 1000000,
-    members: 100000, unspent: 1000000, operators: 100000, keywords: 100000,
-    colliding: 20000, expects: 100000}
+LINEAR = (
+    words, nodes, precedes, errors, nesting, abandoned, extended, extended_newest, crossing, strings, comments, escapes, controls, digits,
+    number, great_number, members, unspent, operator, arrows, operators, keywords)
+OTHERS = (signs, signs_of_tiny, arrow_looks, expects, colliding)
+SIZES = {**{shape.__name__: 1000000 for shape in LINEAR}, **{shape.__name__: 20000 for shape in OTHERS}}
 SECONDS = 300
 
 
@@ -295,12 +295,11 @@ def shown(one):
 
 
 def main(program, wanted):
-    by_name = {shape.__name__: n for shape, n in SHAPES.items()}
-    chosen = [(name, int(n) if n else by_name[name]) for name, _, n in (word.partition("=") for word in wanted)]
+    chosen = [(name, int(n or SIZES[name])) for name, _, n in (word.partition("=") for word in wanted)]
     wrong = 0
     print("| shape | elements | document | time | most memory | times as much |\n|---|---|---|---|---|---|")
     with tempfile.TemporaryDirectory() as folder:
-        for name, n in chosen or by_name.items():
+        for name, n in chosen or SIZES.items():
             tenth, is_tenth_right = measure(program, name, n // 10, folder)
             whole, is_right = measure(program, name, n, folder)
             print(f"| {name} | {n // 10:,} | {shown(tenth)} | |")
