@@ -2,7 +2,7 @@
 //!
 //! These tests also pass where an allocation is refused.
 
-use crate::fixture::cases::{EXPECTED_NAME, EXPECTED_NUMBER, SKIPPED_TOKEN};
+use crate::fixture::cases::{EXPECTED_NAME, EXPECTED_NUMBER, SKIPPED_TOKEN, STATEMENT};
 use crate::fixture::kinds::{
     LITERAL, ROOT, SELECT, SELECT_CLAUSE, SOURCE_FILE, TARGET, TARGET_LIST,
 };
@@ -44,14 +44,7 @@ fn statement_has_its_nodes(rt: HostRuntime) {
         &rt,
         Kinds::Select,
         node(SOURCE_FILE, node(SELECT, then(clause, Act::BumpAny))),
-        Case {
-            calls: "start, start, start, bump_any, start, start, start, bump_any, \
-                    complete 5 LITERAL, complete 4 TARGET, complete 3 TARGET_LIST, \
-                    complete 2 SELECT_CLAUSE, bump_any, complete 1 SELECT, complete 0 SOURCE_FILE",
-            text: "\u{feff}select 1;",
-            line: "SOURCE_FILE(WHITESPACE'\\u{feff}' SELECT(SELECT_CLAUSE(SELECT_KW'select' _ \
-                   TARGET_LIST(TARGET(LITERAL(1)))) ;))",
-        },
+        STATEMENT,
     );
 }
 
