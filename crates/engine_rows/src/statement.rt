@@ -7,7 +7,7 @@ use crate::fixture::kinds::{
     LITERAL, ROOT, SELECT, SELECT_CLAUSE, SOURCE_FILE, TARGET, TARGET_LIST,
 };
 use crate::fixture::memory::{
-    assert_script_if_made, assert_sent_if_made, output_if_made, table_if_made,
+    assert_script_if_made, assert_sent_if_made, input_of, output_if_made, table_if_made,
 };
 use crate::fixture::parts::{Act, Message, PartGrammar, node, then};
 use crate::fixture::rows::{Case, Kinds, names};
@@ -25,9 +25,7 @@ fn assert_whole<F: Part<Answer = ()> + Copy>(
     let Some(table) = table_if_made(rt, case.text, kinds) else {
         return;
     };
-    let Ok(input) = table.to_input(rt.alloc(), &kinds.keywords()) else {
-        return;
-    };
+    let input = input_of(rt, &table, kinds);
     let names = names();
     let grammar = PartGrammar::new(kinds.words(&names), part);
     if let Some(output) = output_if_made(rt, &input, &grammar) {
