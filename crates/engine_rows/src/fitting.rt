@@ -1,5 +1,7 @@
 //! Which outputs can be sent over a table.
 
+use crate::fixture::rows::{Kinds, assert_sent};
+use crate::fixture::scripts::script_output_of;
 use crate::fixture::{Calls, parse, parse_script, space, table, word};
 use squawk_parser::Output;
 use std::process::Abort;
@@ -63,5 +65,19 @@ fn output_fits_a_table_with_enough_tokens(rt: HostRuntime) -> Result<(), Fail> {
         &rt,
         &parse_script(&rt, &words, one.list())?,
         &parse_script(&rt, &words, two.list())?,
+    )
+}
+
+#[test]
+fn output_is_sent_over_another_text(rt: HostRuntime) -> Result<(), Fail> {
+    let calls = "start, start, bump_any, complete 1 NAME, error e, complete 0 ROOT";
+    let output = script_output_of(&rt, "x ", Kinds::Plain, calls)?;
+    assert!(rt; !table(rt.alloc(), "", &[])?.fits(&output));
+    assert_sent(&rt, &output, "x y", "ROOT(NAME(x !'e'@1) _) ...")?;
+    assert_sent(
+        &rt,
+        &output,
+        "/*x*/ long, 1",
+        "ROOT(COMMENT'/*x*/' _ NAME(long !'e'@10)) ...",
     )
 }

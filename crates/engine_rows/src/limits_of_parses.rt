@@ -1,8 +1,9 @@
 //! Limits of the events and errors of a parse.
 
+use crate::fixture::cases::EXTENDED_IN_FRONT;
 use crate::fixture::kinds::ROOT;
 use crate::fixture::parts::{Act, Message, Nothing, node, then};
-use crate::fixture::rows::{Kinds, answer_within};
+use crate::fixture::rows::{Case, Kinds, answer_within};
 use crate::fixture::scripts::script_answer_within;
 use squawk_parser::{Limits, ParseError, Part, SyntaxKind};
 use std::process::Abort;
@@ -46,24 +47,26 @@ fn one_event_more_than_may_be_is_refused(rt: HostRuntime) -> Result<(), Fail> {
     Ok(())
 }
 
+const ERROR: Act = Act::Error(Message::E);
+
+const THREE_ERRORS: &str = "start, error e, error e, error e, complete 0 ROOT";
+
 #[test]
 fn one_error_more_than_may_be_is_refused(rt: HostRuntime) -> Result<(), Fail> {
     for (errors, wanted) in [
         (0, Err(ParseError::TooManyErrors)),
         (1, Err(ParseError::TooManyErrors)),
-        (2, Ok(4)),
-        (3, Ok(4)),
-        (2147483648, Ok(4)),
+        (2, Err(ParseError::TooManyErrors)),
+        (3, Ok(5)),
+        (4, Ok(5)),
+        (2147483648, Ok(5)),
     ] {
-        let two = then(Act::Error(Message::E), Act::Error(Message::F));
-        let calls = "start, error e, error f, complete 0 ROOT";
+        let part = node(ROOT, then(ERROR, then(ERROR, ERROR)));
         let limits = Limits { events: 9, errors };
-        assert_within(&rt, "", node(ROOT, two), calls, limits, wanted)?;
+        assert_within(&rt, "", part, THREE_ERRORS, limits, wanted)?;
     }
     Ok(())
 }
-
-const ERROR: Act = Act::Error(Message::E);
 
 #[test]
 fn limit_of_events_comes_first(rt: HostRuntime) -> Result<(), Fail> {
@@ -82,7 +85,14 @@ fn limit_of_events_comes_first(rt: HostRuntime) -> Result<(), Fail> {
     // The first reason stays: the error is refused before the limit of events is reached.
     let both = then(ERROR, node(ROOT, Nothing));
     let calls = "error e, start, complete 0 ROOT";
-    assert_within(&rt, "", both, calls, one, errors)
+    assert_within(&rt, "", both, calls, one, errors)?;
+    // The second error finds no room for an event, and would find none for an error.
+    let two = Limits {
+        events: 2,
+        errors: 1,
+    };
+    let part = node(ROOT, then(ERROR, then(ERROR, ERROR)));
+    assert_within(&rt, "", part, THREE_ERRORS, two, events)
 }
 
 #[test]
@@ -96,6 +106,26 @@ fn each_event_of_a_node_counts(rt: HostRuntime) -> Result<(), Fail> {
         let calls = "start, eat COLON_COLON, complete 0 ROOT";
         let limits = Limits { events, errors: 0 };
         assert_within(&rt, "::", part, calls, limits, wanted)?;
+    }
+    Ok(())
+}
+
+#[test]
+fn each_event_of_nodes_that_move_counts(rt: HostRuntime) -> Result<(), Fail> {
+    // Four nodes, one of which is preceded and one given up to the one in front, and a token.
+    let Case { calls, text, .. } = EXTENDED_IN_FRONT;
+    for events in 0..=8 {
+        let limits = Limits { events, errors: 0 };
+        match script_answer_within(&rt, text, Kinds::Plain, calls, limits)? {
+            Ok(output) => {
+                assert_eq!(rt; events, 8);
+                assert_eq!(rt; output.recorded(), 8);
+            }
+            Err(error) => {
+                assert!(rt; events < 8);
+                assert_eq!(rt; error, ParseError::TooManyEvents);
+            }
+        }
     }
     Ok(())
 }

@@ -2,9 +2,8 @@
 //!
 //! These tests also pass where an allocation is refused.
 
-use crate::fixture::NO_KEYWORDS;
 use crate::fixture::cases::{EXTENDED_IN_FRONT, EXTENDED_TWICE};
-use crate::fixture::memory::{assert_script_if_made, table_if_made};
+use crate::fixture::memory::{assert_script_if_made, input_of, table_if_made};
 use crate::fixture::rows::{Case, Kinds};
 use std::process::Abort;
 
@@ -13,9 +12,8 @@ fn assert_whole(rt: &(impl Abort + AllocGlobal), case: Case<'_>) {
     let Some(table) = table_if_made(rt, case.text, Kinds::Plain) else {
         return;
     };
-    if let Ok(input) = table.to_input(rt.alloc(), &NO_KEYWORDS) {
-        assert_script_if_made(rt, &table, &input, Kinds::Plain, case);
-    }
+    let input = input_of(rt, &table, Kinds::Plain);
+    assert_script_if_made(rt, &table, &input, Kinds::Plain, case);
 }
 
 #[test]

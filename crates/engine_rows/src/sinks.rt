@@ -1,9 +1,13 @@
 //! Sinks that refuse a step.
 
-use crate::fixture::lines::line_of;
-use crate::fixture::{Calls, parse, space, table, word};
-use squawk_parser::{StepList, StepSink, StrStep};
+use crate::fixture::cases::STATEMENT;
+use crate::fixture::lexer::tokens_of;
+use crate::fixture::lines::{is_beginning, line_of};
+use crate::fixture::rows::{Case, Kinds};
+use crate::fixture::scripts::script_output_of;
+use squawk_parser::{LexedStr, StepList, StepSink, StrStep};
 use std::alloc::AllocError;
+use std::process::Abort;
 use std::test::Fail;
 
 /// Why a step was refused.
@@ -53,33 +57,46 @@ impl StepSink for RefusingList {
     }
 }
 
-#[test]
-fn nothing_is_sent_after_a_refusal(rt: HostRuntime) -> Result<(), Fail> {
-    let table = table(rt.alloc(), "a b", &[word(1), space(1), word(1)])?;
-    let output = parse(rt.alloc(), &table, Calls::NodeAroundTwoTokens)?;
+/// Ends the test unless a list that refuses one of the steps on purpose holds those before it, whichever
+/// it is, and the refusal is handed on. There are so many steps, and a list that takes all has the line.
+fn assert_refused_at_each_step(
+    rt: &(impl Abort + AllocGlobal),
+    kinds: Kinds,
+    case: Case<'_>,
+    steps: usize,
+) -> Result<(), Fail> {
+    let tokens = tokens_of(rt.alloc(), case.text)?;
+    let table = LexedStr::new(rt.alloc(), case.text, &tokens, &kinds.keywords())?;
+    let output = script_output_of(rt, case.text, kinds, case.calls)?;
     assert!(rt; table.fits(&output));
-
-    for (taken, line) in ["", "ROOT(", "ROOT(a", "ROOT(a _", "ROOT(a _ b"]
-        .into_iter()
-        .enumerate()
-    {
+    for taken in 0..steps {
         let mut sink = RefusingList {
             list: StepList::new(rt.alloc()),
             before_refusal: Some(taken),
         };
         let answer = table.intersperse_trivia(&output, &mut sink);
         assert_eq!(rt; answer, Err(Refusal::OnPurpose), "after {taken} steps");
-        assert_eq!(rt; line_of(rt.alloc(), sink.list.steps())?.as_str(), line);
+        assert_eq!(rt; sink.list.steps().len(), taken);
+        let line = line_of(rt.alloc(), sink.list.steps())?;
+        assert!(rt; is_beginning(line.as_str(), case.line), "{line}");
     }
-
     let mut sink = RefusingList {
         list: StepList::new(rt.alloc()),
-        before_refusal: Some(5),
+        before_refusal: Some(steps),
     };
     assert_eq!(rt; table.intersperse_trivia(&output, &mut sink), Ok(true));
-    assert_eq!(rt;
-        line_of(rt.alloc(), sink.list.steps())?.as_str(),
-        "ROOT(a _ b)"
-    );
+    let line = line_of(rt.alloc(), sink.list.steps())?;
+    assert_eq!(rt; line.as_str(), case.line);
     Ok(())
+}
+
+#[test]
+fn nothing_is_sent_after_a_refusal(rt: HostRuntime) -> Result<(), Fail> {
+    let plain = Case {
+        calls: "start, start, bump_any, complete 1 NAME, error e, complete 0 ROOT",
+        text: "x ",
+        line: "ROOT(NAME(x !'e'@1) _)",
+    };
+    assert_refused_at_each_step(&rt, Kinds::Plain, plain, 7)?;
+    assert_refused_at_each_step(&rt, Kinds::Select, STATEMENT, 17)
 }

@@ -2,12 +2,12 @@
 //!
 //! These tests also pass where an allocation is refused.
 
-use crate::fixture::cases::{EXPECTED_NAME, EXPECTED_NUMBER, SKIPPED_TOKEN};
+use crate::fixture::cases::{EXPECTED_NAME, EXPECTED_NUMBER, SKIPPED_TOKEN, STATEMENT};
 use crate::fixture::kinds::{
     LITERAL, ROOT, SELECT, SELECT_CLAUSE, SOURCE_FILE, TARGET, TARGET_LIST,
 };
 use crate::fixture::memory::{
-    assert_script_if_made, assert_sent_if_made, output_if_made, table_if_made,
+    assert_script_if_made, assert_sent_if_made, input_of, output_if_made, table_if_made,
 };
 use crate::fixture::parts::{Act, Message, PartGrammar, node, then};
 use crate::fixture::rows::{Case, Kinds, names};
@@ -25,9 +25,7 @@ fn assert_whole<F: Part<Answer = ()> + Copy>(
     let Some(table) = table_if_made(rt, case.text, kinds) else {
         return;
     };
-    let Ok(input) = table.to_input(rt.alloc(), &kinds.keywords()) else {
-        return;
-    };
+    let input = input_of(rt, &table, kinds);
     let names = names();
     let grammar = PartGrammar::new(kinds.words(&names), part);
     if let Some(output) = output_if_made(rt, &input, &grammar) {
@@ -44,14 +42,7 @@ fn statement_has_its_nodes(rt: HostRuntime) {
         &rt,
         Kinds::Select,
         node(SOURCE_FILE, node(SELECT, then(clause, Act::BumpAny))),
-        Case {
-            calls: "start, start, start, bump_any, start, start, start, bump_any, \
-                    complete 5 LITERAL, complete 4 TARGET, complete 3 TARGET_LIST, \
-                    complete 2 SELECT_CLAUSE, bump_any, complete 1 SELECT, complete 0 SOURCE_FILE",
-            text: "\u{feff}select 1;",
-            line: "SOURCE_FILE(WHITESPACE'\\u{feff}' SELECT(SELECT_CLAUSE(SELECT_KW'select' _ \
-                   TARGET_LIST(TARGET(LITERAL(1)))) ;))",
-        },
+        STATEMENT,
     );
 }
 
