@@ -66,3 +66,16 @@ fn error_between_crossing_nodes_stays_behind_its_token(rt: HostRuntime) -> Resul
         },
     )
 }
+
+#[test]
+fn first_end_is_that_of_the_node_inside(rt: HostRuntime) -> Result<(), Fail> {
+    assert_script(
+        &rt,
+        Kinds::Plain,
+        Case {
+            calls: "start, start, complete 0 NAME, bump_any, complete 1 NAME_REF",
+            text: "a",
+            line: "NAME(NAME_REF() a)",
+        },
+    )
+}
