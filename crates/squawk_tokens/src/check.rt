@@ -64,6 +64,7 @@ impl<T: Drop> From<AllocFailed<T>> for TableError {
 }
 
 /// Whether a token that starts at byte `start` is good.
+#[inline(always)]
 fn is_good(text: &str, start: usize, token: Token) -> bool
     requires { IsCharBoundary text.now start }
     ensures { IsTrue result ↔ IsGood text.now start token }

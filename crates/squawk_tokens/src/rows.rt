@@ -6,7 +6,8 @@ ghost use Rattle.squawk_tokens.specs.TokenRows.{IsQuoted, IsParam, IsLiteral, Me
 
 use crate::token::{Base, LiteralKind, TokenKind};
 
-/// Whether a token with this text is what its kind says.
+/// Whether a token with this text is what its kind says. Of most kinds nothing of the text is asked.
+#[inline(always)]
 pub(crate) fn meets_kind(text: &str, kind: TokenKind) -> bool
     requires { 0 < length text.now }
     ensures { IsTrue result ↔ MeetsKind text.now kind }
@@ -22,6 +23,7 @@ pub(crate) fn meets_kind(text: &str, kind: TokenKind) -> bool
 }
 
 /// Whether a literal is what its kind says.
+#[inline(never)]
 fn is_literal(text: &str, kind: LiteralKind) -> bool
     requires { 0 < length text.now }
     ensures { IsTrue result ↔ IsLiteral text.now kind }
@@ -75,6 +77,7 @@ fn is_quoted(text: &str, prefix: usize) -> bool
 }
 
 /// Whether a dollar sign stands first, and digits up to the junk.
+#[inline(never)]
 fn is_param(text: &str, junk: usize) -> bool
     requires { 0 < length text.now }
     ensures { IsTrue result ↔ IsParam text.now junk }
