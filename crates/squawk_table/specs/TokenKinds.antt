@@ -60,3 +60,10 @@ kind_of keyword Caret text = CARET
 kind_of keyword Percent text = PERCENT
 kind_of keyword Backtick text = BACKTICK
 kind_of keyword Eof text = EOF
+
+-- the kind alone says the syntax kind, without the text and a command's or a literal's own fields
+abbrev pub IsConstant : TokenKind → Type 0
+IsConstant Ident = ⊥
+IsConstant (PsqlCommand ends_query) = ⊥
+IsConstant (Literal kind) = ⊥
+IsConstant kind = Unit {0}
