@@ -1,5 +1,5 @@
 //! The input of a parser.
-ghost use Rattle.std.specs.Prelude.{◌≡◌, ◌<◌, ◌≤◌, [], length, IfOk, IsTrue};
+ghost use Rattle.std.specs.Prelude.{◌≡◌, ◌<◌, ◌+◌, [], length, IfOk, IsTrue};
 ghost use Rattle.squawk_table.specs.ParserInput.{HasNoEndToken, input_of, kind_in, contextual_kind_in, contextual_kind_of, touches_in, is_followed};
 ghost use Rattle.squawk_table.specs.RawTable.{raw_at, raw_after};
 
@@ -56,7 +56,6 @@ impl Input {
     }
 
     /// The kind of token `i`, and [`SyntaxKind::EOF`] past the end.
-    #[inline(always)]
     pub fn kind(&self, i: usize) -> SyntaxKind
         ensures { result ≡ kind_in self.now i }
     {
@@ -68,7 +67,6 @@ impl Input {
 
     /// For an identifier the contextual keyword that it is, or [`SyntaxKind::IDENT`]; for every
     /// other token, and past the end, [`SyntaxKind::EOF`].
-    #[inline(always)]
     pub fn contextual_kind(&self, i: usize) -> SyntaxKind
         ensures { result ≡ contextual_kind_in self.now i }
     {
@@ -80,7 +78,6 @@ impl Input {
 
     /// Whether nothing, not even trivia, stands between token `i` and the next. The last token
     /// has no next one.
-    #[inline(always)]
     pub fn is_joint(&self, i: usize) -> bool
         requires { i < length self.now }
         ensures { result ≡ touches_in self.now i }
@@ -103,15 +100,13 @@ impl LexedStr<'_> {
         let mut kinds = Vec::with_capacity(alloc, len)?;
         let mut contextual_kinds = Vec::with_capacity(alloc, len)?;
         let mut joints = Joints::with_capacity(alloc, len)?;
-        let mut is_token = self.is_token(0);
         for i in 0..len {
-            let is_followed = self.is_token(i + 1);
-            if is_token {
-                kinds.push_reserved(self.kind(i));
+            let kind = self.kind(i);
+            if !kind.is_trivia() {
+                kinds.push_reserved(kind);
                 contextual_kinds.push_reserved(self.contextual_kind(i, vocabulary));
-                joints.push(is_followed);
+                joints.push(self.is_followed(i));
             }
-            is_token = is_followed;
         }
         Ok(Input {
             kinds,
@@ -121,7 +116,6 @@ impl LexedStr<'_> {
     }
 
     /// The contextual kind of raw token `i`.
-    #[inline(always)]
     fn contextual_kind<V: Vocabulary>(&self, i: usize, vocabulary: &V) -> SyntaxKind
         requires { i < length self.now.kinds }
         ensures { result ≡ contextual_kind_of (V.contextual_keyword vocabulary.now) (raw_at self.now i) }
@@ -135,12 +129,12 @@ impl LexedStr<'_> {
         }
     }
 
-    /// Whether raw token `i` is there and isn't trivia.
-    #[inline(always)]
-    fn is_token(&self, i: usize) -> bool
-        requires { i ≤ length self.now.kinds }
-        ensures { result ≡ is_followed (raw_after self.now i) }
+    /// Whether the raw token after `i` is there and isn't trivia.
+    fn is_followed(&self, i: usize) -> bool
+        requires { i < length self.now.kinds }
+        ensures { result ≡ is_followed (raw_after self.now (i + 1)) }
     {
-        i < self.len() && !self.kind(i).is_trivia()
+        let len = self.len();
+        i + 1 < len && !self.kind(i + 1).is_trivia()
     }
 }

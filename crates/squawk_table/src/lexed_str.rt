@@ -61,8 +61,8 @@ impl<'a> LexedStr<'a> {
             let end = at + token.len;
             let piece = &text[at as usize..end as usize];
             starts.push_reserved(at);
-            kinds.push_reserved(syntax_kind(token.kind, piece, vocabulary));
-            converter.extend_token(*token)?;
+            kinds.push_reserved(syntax_kind(&token.kind, piece, vocabulary));
+            converter.extend_token(token)?;
             at = end;
         }
         starts.push(at)?;

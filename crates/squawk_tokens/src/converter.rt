@@ -62,12 +62,12 @@ impl<'a> Converter<'a> {
 
     /// Reads a token more. Where memory is refused, the converter is good for nothing.
     #[inline(always)]
-    pub fn extend_token(&mut self, token: Token) -> Result<(), AllocError>
+    pub fn extend_token(&mut self, token: &Token) -> Result<(), AllocError>
         requires short { length self.old.text < 2 ^ 32 }
         requires start { IsCharBoundary self.old.text self.old.at }
-        requires good { IsGood self.old.text self.old.at token }
+        requires good { IsGood self.old.text self.old.at token.now }
         ensures text { self.new.text ≡ self.old.text }
-        ensures read { OnOk result ((tokens : List RawToken) → HasRead tokens self.old → HasRead (tokens ++ token ∷ []) self.new) }
+        ensures read { OnOk result ((tokens : List RawToken) → HasRead tokens self.old → HasRead (tokens ++ token.now ∷ []) self.new) }
     {
         let continued = self.continued;
         add_errors(&mut self.found, self.text, token, continued)?;
@@ -93,31 +93,31 @@ impl<'a> Converter<'a> {
 fn add_errors(
     found: &mut Found,
     text: &str,
-    token: Token,
+    token: &Token,
     continued: Option<Prefix>,
 ) -> Result<(), AllocError>
     requires short { length text.now < 2 ^ 32 }
     requires start { IsCharBoundary text.now found.old.at }
-    requires good { IsGood text.now found.old.at token }
+    requires good { IsGood text.now found.old.at token.now }
     ensures { OnOk result (found.new ≡ with_errors found.old
-        (token_errors token.kind (slice_range text.now found.old.at (found.old.at + token.len)) continued)) }
+        (token_errors token.now.kind (slice_range text.now found.old.at (found.old.at + token.now.len)) continued)) }
 {
-    if !may_have_errors(token.kind) {
+    if !may_have_errors(&token.kind) {
         return Ok(());
     }
     let start = found.at();
     let end = start + token.len;
     let piece = &text[start as usize..end as usize];
-    token_errors(found, token.kind, piece, continued)
+    token_errors(found, &token.kind, piece, continued)
 }
 
 /// Whether a token of this kind can have errors. Most can't, whatever their text is.
 #[inline(always)]
-fn may_have_errors(kind: TokenKind) -> bool
-    ensures { IsFalse result → (text : List ℕ) → (continued : Option StringPrefix) → token_errors kind text continued ≡ [] }
+fn may_have_errors(kind: &TokenKind) -> bool
+    ensures { IsFalse result → (text : List ℕ) → (continued : Option StringPrefix) → token_errors kind.now text continued ≡ [] }
 {
     matches!(
-        kind,
+        *kind,
         TokenKind::BlockComment { terminated: false }
             | TokenKind::QuotedIdent { .. }
             | TokenKind::PositionalParam { .. }
@@ -129,15 +129,15 @@ fn may_have_errors(kind: TokenKind) -> bool
 #[inline(never)]
 fn token_errors(
     found: &mut Found,
-    kind: TokenKind,
+    kind: &TokenKind,
     text: &str,
     continued: Option<Prefix>,
 ) -> Result<(), AllocError>
     requires room { found.old.at + length text.now < 2 ^ 32 }
-    requires kind { MeetsKind text.now kind }
-    ensures { OnOk result (found.new ≡ with_errors found.old (token_errors kind text.now continued)) }
+    requires kind { MeetsKind text.now kind.now }
+    ensures { OnOk result (found.new ≡ with_errors found.old (token_errors kind.now text.now continued)) }
 {
-    match kind {
+    match *kind {
         TokenKind::BlockComment { terminated: false } => whole_token(
             found,
             text,

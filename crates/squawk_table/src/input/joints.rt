@@ -50,7 +50,6 @@ impl Joints {
     }
 
     /// One bit more, for which there is room.
-    #[inline(always)]
     pub fn push(&mut self, bit: bool)
         requires room { length self.old.bits < self.old.room }
         requires fits { length self.old.bits < usize.MAX }
@@ -66,7 +65,6 @@ impl Joints {
     }
 
     /// Bit `k`.
-    #[inline(always)]
     pub fn get(&self, k: usize) -> bool
         requires { k < length self.now.bits }
         ensures { result ≡ slice_index_or self.now.bits k false }

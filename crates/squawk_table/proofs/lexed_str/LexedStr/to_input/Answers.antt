@@ -1,5 +1,4 @@
-use Rattle.std.proofs.Common.{◌≡◌, ◌++◌, ◌∷◌, [], ◌+◌, ◌<◌, ◌∙◌, List, ℕ, Bool, true, false, not, length, refl, slice_index, sym, ap, arith, append_assoc, subst}
-use Rattle.std.proofs.lemmas.List.{append-nil}
+use Rattle.std.proofs.Common.{◌≡◌, ◌++◌, ◌∷◌, [], ◌+◌, ◌<◌, ◌∙◌, List, ℕ, Bool, false, length, slice_index, sym, ap, arith, append_assoc, subst}
 use Rattle.squawk_kinds.specs.Kinds.{is_trivia}
 use Rattle.squawk_kinds.specs.Keywords.{Keywords}
 use Rattle.squawk_table.specs.InputView.{IsEven, entries_in}
@@ -7,9 +6,9 @@ use Rattle.squawk_table.specs.ParserInput.{Entry, HasNoEndToken, contextual_kind
 use Rattle.squawk_table.specs.RawTable.{Table, raw_at, raw_after}
 use Rattle.squawk_table.proofs.InputEntries.{entries_in-push, IsEven-push}
 use Rattle.squawk_table.proofs.NoEnd.{front-no_end, input-no_end}
-use Rattle.squawk_table.proofs.RawTokens.{entries_of-token, entries_of-trivia, raw_after-next, raw_after-end}
+use Rattle.squawk_table.proofs.RawTokens.{entries_of-token, entries_of-trivia}
 use Rattle.squawk_table.proofs.lexed_str.LexedStr.to_input.Goals as goal
-use Rattle.squawk_table.proofs.lexed_str.LexedStr.to_input.Goals.{then-is_token, else-is_token}
+use Rattle.squawk_table.proofs.lexed_str.LexedStr.to_input.Goals.{then-not-is_trivia, else-not-is_trivia}
 
 module _ (contextual : Keywords) (t : Table) (i : ℕ) (lt : i < length t.kinds) (kinds contextual_kinds : List ℕ) (touches : List Bool) (all : List Entry) where
   pushed : is_trivia (slice_index t.kinds i) ≡ false → IsEven kinds contextual_kinds touches
@@ -23,45 +22,35 @@ module _ (contextual : Keywords) (t : Table) (i : ℕ) (lt : i < length t.kinds)
       ap (λ xs. xs ++ rest) (entries_in-push kinds contextual_kinds touches _ _ _ even)
       ∙ (append_assoc made (entry ∷ []) rest ∙ (ap (λ xs. made ++ xs) (sym (entries_of-token contextual t i lt input)) ∙ done))
 
-not_true : (b : Bool) → not b ≡ true → b ≡ false
-not_true true e = sym e
-not_true false e = refl
-
-not_false : (b : Bool) → not b ≡ false → b ≡ true
-not_false true e = refl
-not_false false e = sym e
-
 pub loop-i-preserved : goal.loop-i-preserved
 loop-i-preserved g c =
     let contextual = g.V.Vocabulary.contextual_keyword c.args.vocabulary.now in
     let t = c.args.self.now in
     let i = c.loop-i.i in
     let lt : i < length t.kinds = omega arith in
-    let trivia : c.loop-i.is_token ≡ not (is_trivia (slice_index t.kinds i)) = c.loop-i.invariant.here ∙ ap is_followed (raw_after-next t i lt) in
+    let trivia : is_trivia (slice_index t.kinds i) ≡ c.is_trivia.result = sym (ap is_trivia c.kind-kind.ensures) ∙ sym c.is_trivia.ensures in
     let kinds = c.loop-i.kinds.items in
     let contextual_kinds = c.loop-i.contextual_kinds.items in
     let touches = c.loop-i.joints.bits in
     let before = c.loop-i.invariant in
-    elim c.if-is_token.branch [
-      | then-is_token w ↦
-          let kinds_more : c.if-is_token.kinds.items ≡ kinds ++ slice_index t.kinds i ∷ [] = rw (w.kinds-is, ← w.kind.ensures) w.push_reserved.ensures.items in
-          let contextual_kinds_more : c.if-is_token.contextual_kinds.items ≡ contextual_kinds ++ contextual_kind_of contextual (raw_at t i) ∷ [] =
-          rw (w.contextual_kinds-is, ← w.contextual_kind.ensures) w.push_reserved-then-is_token.ensures.items in
-          let touches_more : c.if-is_token.joints.bits ≡ touches ++ is_followed (raw_after t (i + 1)) ∷ [] =
-          rw (w.joints-is, ← c.is_token-is_followed.ensures) w.push.ensures.bits in
+    elim c.if-not-is_trivia.branch [
+      | then-not-is_trivia w ↦
+          let kinds_more : c.if-not-is_trivia.kinds.items ≡ kinds ++ slice_index t.kinds i ∷ [] = rw (w.kinds-is, ← c.kind-kind.ensures) w.push_reserved.ensures.items in
+          let contextual_kinds_more : c.if-not-is_trivia.contextual_kinds.items ≡ contextual_kinds ++ contextual_kind_of contextual (raw_at t i) ∷ [] =
+          rw (w.contextual_kinds-is, ← w.contextual_kind.ensures) w.push_reserved-then-not-is_trivia.ensures.items in
+          let touches_more : c.if-not-is_trivia.joints.bits ≡ touches ++ is_followed (raw_after t (i + 1)) ∷ [] =
+          rw (w.joints-is, ← w.is_followed.ensures) w.push.ensures.bits in
           record {
-            here = c.is_token-is_followed.ensures;
-            done = rw (kinds_more, contextual_kinds_more, touches_more) (pushed contextual t i lt kinds contextual_kinds touches _ (not_true _ (sym trivia ∙ w.if-is_token.true)) before.even before.done);
+            done = rw (kinds_more, contextual_kinds_more, touches_more) (pushed contextual t i lt kinds contextual_kinds touches _ (trivia ∙ w.if-not-is_trivia.true) before.even before.done);
             even = rw (kinds_more, contextual_kinds_more, touches_more) (IsEven-push kinds contextual_kinds touches _ _ _ before.even);
             len = rw w.kinds-is (omega (arith, w.push_reserved.ensures.len, before.len));
             kinds = rw w.kinds-is (w.push_reserved.ensures.capacity ∙ before.kinds);
-            contextual_kinds = rw w.contextual_kinds-is (w.push_reserved-then-is_token.ensures.capacity ∙ before.contextual_kinds);
+            contextual_kinds = rw w.contextual_kinds-is (w.push_reserved-then-not-is_trivia.ensures.capacity ∙ before.contextual_kinds);
             joints = rw w.joints-is (omega (arith, w.push.ensures.room, before.joints));
           }
-      | else-is_token w ↦
-          let same = entries_of-trivia contextual t i lt (not_false _ (sym trivia ∙ w.if-is_token.false)) in
+      | else-not-is_trivia w ↦
+          let same = entries_of-trivia contextual t i lt (trivia ∙ w.if-not-is_trivia.false) in
           record {
-            here = c.is_token-is_followed.ensures;
             done = rw (w.kinds-is, w.contextual_kinds-is, w.joints-is, ← same) before.done;
             even = rw (w.kinds-is, w.contextual_kinds-is, w.joints-is) before.even;
             len = rw w.kinds-is (omega (arith, before.len));
@@ -70,13 +59,6 @@ loop-i-preserved g c =
             joints = rw w.joints-is before.joints;
           }
     ]
-
-pub returns-clause-input : goal.returns-clause-input
-returns-clause-input g c =
-    let contextual = g.V.Vocabulary.contextual_keyword c.args.vocabulary.now in
-    let made = entries_in c.loop-i.kinds.items c.loop-i.contextual_kinds.items c.loop-i.joints.bits in
-    let none_left = raw_after-end c.args.self.now c.loop-i.i (omega arith) in
-    sym (append-nil made) ∙ (ap (λ raw. made ++ entries_of contextual raw) (sym none_left) ∙ c.loop-i.invariant.done)
 
 pub returns-clause-no_end : goal.returns-clause-no_end
 returns-clause-no_end g c =

@@ -1,13 +1,12 @@
 use Rattle.std.specs.Prelude.{vec_len, vec_capacity}
 use Rattle.std.proofs.Common.{◌≤◌, length, ◌≡◌, ◌++◌}
 use Rattle.squawk_table.specs.InputView.{IsEven, entries_in}
-use Rattle.squawk_table.specs.ParserInput.{entries_of, input_of, is_followed}
+use Rattle.squawk_table.specs.ParserInput.{entries_of, input_of}
 use Rattle.squawk_table.specs.RawTable.{raw_after}
 use Rattle.squawk_table.proofs.lexed_str.LexedStr.to_input.Given as goal
 
 abbrev pub invariant-loop-i : goal.invariant-loop-i
 invariant-loop-i g l = record {
-  here : l.is_token ≡ is_followed (raw_after l.self l.i);
   done : entries_in l.kinds.items l.contextual_kinds.items l.joints.bits ++ entries_of (g.V.Vocabulary.contextual_keyword l.vocabulary) (raw_after l.self l.i)
       ≡ input_of (g.V.Vocabulary.contextual_keyword l.vocabulary) l.self;
   even : IsEven l.kinds.items l.contextual_kinds.items l.joints.bits;

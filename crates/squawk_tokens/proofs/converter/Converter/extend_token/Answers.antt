@@ -6,7 +6,7 @@ use Rattle.squawk_tokens.proofs.converter.Converter.extend_token.Goals as goal
 
 pub returns-clause-read : goal.returns-clause-read
 returns-clause-read c = λ tokens has.
-    let token = c.args.token in
+    let token = c.args.token.now in
     let inside = c.self.inside in
     let found = c.advance.new.self in
     let told = c.in_ok-add_errors.ensures in
