@@ -60,3 +60,15 @@ kind_of keyword Caret text = CARET
 kind_of keyword Percent text = PERCENT
 kind_of keyword Backtick text = BACKTICK
 kind_of keyword Eof text = EOF
+
+-- the kind says the syntax kind without the text
+abbrev pub IsNoIdent : TokenKind → Type 0
+IsNoIdent Ident = ⊥
+IsNoIdent kind = Unit {0}
+
+-- and without fields of its own
+abbrev pub IsConstant : TokenKind → Type 0
+IsConstant Ident = ⊥
+IsConstant (PsqlCommand ends_query) = ⊥
+IsConstant (Literal kind) = ⊥
+IsConstant kind = Unit {0}

@@ -10,7 +10,7 @@ pub mod lex_errors;
 use crate::lexed_str::kind::syntax_kind;
 pub use lex_errors::LexErrors;
 use squawk_kinds::{SyntaxKind, Vocabulary};
-use squawk_tokens::lexical_errors;
+use squawk_tokens::Converter;
 pub use squawk_tokens::{Base, LexError, LiteralKind, TableError, Token, TokenKind, check_tokens};
 use std::alloc::Global;
 use std::marker::Model;
@@ -53,15 +53,16 @@ impl<'a> LexedStr<'a> {
         ensures refused { IfErr result (Refuses text.now tokens.now) }
     {
         check_tokens(text, tokens)?;
-        let errors = lexical_errors(alloc, text, tokens)?;
         let mut kinds = Vec::with_capacity(alloc, tokens.len())?;
         let mut starts = Vec::with_capacity(alloc, tokens.len().saturating_add(1))?;
+        let mut converter = Converter::new(alloc, text);
         let mut at = 0u32;
         for token in tokens {
             let end = at + token.len;
             let piece = &text[at as usize..end as usize];
-            kinds.push_reserved(syntax_kind(token.kind, piece, vocabulary));
             starts.push_reserved(at);
+            kinds.push_reserved(syntax_kind(&token.kind, piece, vocabulary));
+            converter.extend_token(token)?;
             at = end;
         }
         starts.push(at)?;
@@ -69,7 +70,7 @@ impl<'a> LexedStr<'a> {
             text,
             kinds,
             starts,
-            errors,
+            errors: converter.into_errors(),
         })
     }
 
@@ -83,6 +84,7 @@ impl<'a> LexedStr<'a> {
     }
 
     /// The syntax kind of raw token `i`.
+    #[inline(always)]
     pub fn kind(&self, i: usize) -> SyntaxKind
         requires { i < length self.now.kinds }
         ensures { result ≡ slice_index self.now.kinds i }
@@ -91,6 +93,7 @@ impl<'a> LexedStr<'a> {
     }
 
     /// The text of raw token `i`.
+    #[inline(always)]
     pub fn text(&self, i: usize) -> &'a str
         requires { i < length self.now.kinds }
         ensures { result.now ≡ piece self.now i }

@@ -1,10 +1,13 @@
 //! The lexical errors of raw tokens.
-ghost use Rattle.std.specs.Prelude.{◌≡◌, ◌+◌, ◌^◌, ◌<◌, length, IfOk, OnOk};
-ghost use Rattle.squawk_tokens.specs.AcceptedTokens.{IsAccepted, start_of};
+ghost use Rattle.std.specs.Prelude.{◌≡◌, ◌+◌, ◌^◌, ◌<◌, ◌++◌, [], ◌∷◌, length, ℕ, List, Option, IsCharBoundary, IsFalse, OnOk, slice_range};
+ghost use Rattle.squawk_tokens.specs.AcceptedTokens.{IsAccepted, IsGood, start_of};
+ghost use Rattle.squawk_tokens.specs.Conversion.{HasRead};
 ghost use Rattle.squawk_tokens.specs.ErrorRanges.{StandApart};
 ghost use Rattle.squawk_tokens.specs.Found.{with_errors};
-ghost use Rattle.squawk_tokens.specs.LexicalErrors.{is_empty_ident, lexical_errors, token_errors};
+ghost use Rattle.squawk_tokens.specs.LexicalErrors.{is_empty_ident, token_errors};
 ghost use Rattle.squawk_tokens.specs.TokenRows.{MeetsKind};
+ghost use Rattle.squawk_tokens.specs.declared.prefix.Prefix.{Prefix as StringPrefix};
+ghost use Rattle.squawk_tokens.specs.declared.token.Token.{Token as RawToken};
 
 mod alphabet;
 mod contents;
@@ -20,46 +23,121 @@ use crate::lex_error::LexError;
 use crate::prefix::Prefix;
 use crate::token::{Token, TokenKind};
 use std::alloc::{AllocError, Global};
+use std::marker::Model;
 
-/// The lexical errors of a text whose tokens [`check_tokens`](crate::check_tokens) accepts, in the
-/// order of their places, in one pass over the tokens.
+/// Reads the raw tokens of a text one after another, and keeps their lexical errors.
 ///
-/// The pass carries the prefix that a plain string would continue, so that no step goes back over
-/// earlier tokens.
-pub fn lexical_errors(
-    alloc: Global,
-    text: &str,
-    tokens: &[Token],
-) -> Result<Vec<LexError>, AllocError>
-    requires { IsAccepted text.now tokens.now }
-    ensures errors { IfOk result (λ errors. errors.items ≡ lexical_errors text.now tokens.now) }
-    // Their ranges ascend without overlapping, and each lies in one raw token.
-    ensures apart { IfOk result (λ errors. StandApart (start_of tokens.now) (length tokens.now) errors.items) }
-{
-    let mut found = Found::new(alloc);
-    let mut continued = None;
-    for token in tokens {
-        let end = found.at + token.len;
-        let piece = &text[found.at as usize..end as usize];
-        token_errors(&mut found, token.kind, piece, continued)?;
-        continued = Prefix::continued_behind(token.kind, continued);
-        found.at = end;
+/// It carries the prefix that a plain string would continue, so that no step goes back over earlier
+/// tokens.
+#[derive(Drop)]
+pub struct Converter<'a> {
+    text: &'a str,
+    found: Found,
+    continued: Option<Prefix>,
+}
+
+impl<'a> Model for Converter<'a> {
+    ghost use Rattle.std.specs.Prelude.{IsUtf8};
+    ghost use Rattle.squawk_tokens.specs.Conversion.{Conversion};
+
+    ghost Value = { Conversion };
+
+    ghost view = { λ c. record { text = c.text.now; at = c.found.at; prefix = c.continued; errors = c.found.errors } };
+
+    ghost invariant = { λ c. IsUtf8 c.text.now };
+}
+
+impl<'a> Converter<'a> {
+    /// A converter that has read no token.
+    pub fn new(alloc: Global, text: &'a str) -> Converter<'a>
+        ensures text { result.text ≡ text.now }
+        ensures read { HasRead [] result }
+    {
+        Converter {
+            text,
+            found: Found::new(alloc),
+            continued: None,
+        }
     }
-    Ok(found.errors)
+
+    /// Reads a token more. Where memory is refused, the converter is good for nothing.
+    #[inline(always)]
+    pub fn extend_token(&mut self, token: &Token) -> Result<(), AllocError>
+        requires short { length self.old.text < 2 ^ 32 }
+        requires start { IsCharBoundary self.old.text self.old.at }
+        requires good { IsGood self.old.text self.old.at token.now }
+        ensures text { self.new.text ≡ self.old.text }
+        ensures read { OnOk result ((tokens : List RawToken) → HasRead tokens self.old → HasRead (tokens ++ token.now ∷ []) self.new) }
+    {
+        let continued = self.continued;
+        add_errors(&mut self.found, self.text, token, continued)?;
+        self.continued = Prefix::continued_behind(token.kind, continued);
+        self.found.advance(token.len);
+        Ok(())
+    }
+
+    /// The errors of the tokens that were read, in the order of their places.
+    pub fn into_errors(self) -> Vec<LexError>
+        ensures errors { result.items ≡ self.entry.errors }
+        // Their ranges ascend without overlapping, and each lies in one raw token.
+        ensures apart { (tokens : List RawToken) → IsAccepted self.entry.text tokens → HasRead tokens self.entry
+            → StandApart (start_of tokens) (length tokens) result.items }
+    {
+        self.found.into_errors()
+    }
+}
+
+/// Adds the errors of the token at hand of a text, if it continues this prefix.
+#[inline(always)]
+#[tactic(auto, using(crate::proofs::FoundErrors::with_none))]
+fn add_errors(
+    found: &mut Found,
+    text: &str,
+    token: &Token,
+    continued: Option<Prefix>,
+) -> Result<(), AllocError>
+    requires short { length text.now < 2 ^ 32 }
+    requires start { IsCharBoundary text.now found.old.at }
+    requires good { IsGood text.now found.old.at token.now }
+    ensures { OnOk result (found.new ≡ with_errors found.old
+        (token_errors token.now.kind (slice_range text.now found.old.at (found.old.at + token.now.len)) continued)) }
+{
+    if !may_have_errors(&token.kind) {
+        return Ok(());
+    }
+    let start = found.at();
+    let end = start + token.len;
+    let piece = &text[start as usize..end as usize];
+    token_errors(found, &token.kind, piece, continued)
+}
+
+/// Whether a token of this kind can have errors. Most can't, whatever their text is.
+#[inline(always)]
+fn may_have_errors(kind: &TokenKind) -> bool
+    ensures { IsFalse result → (text : List ℕ) → (continued : Option StringPrefix) → token_errors kind.now text continued ≡ [] }
+{
+    matches!(
+        *kind,
+        TokenKind::BlockComment { terminated: false }
+            | TokenKind::QuotedIdent { .. }
+            | TokenKind::PositionalParam { .. }
+            | TokenKind::Literal { .. }
+    )
 }
 
 /// Adds the errors of the token at hand, whose text this is, if it continues this prefix.
+#[inline(never)]
 fn token_errors(
     found: &mut Found,
-    kind: TokenKind,
+    kind: &TokenKind,
     text: &str,
     continued: Option<Prefix>,
 ) -> Result<(), AllocError>
     requires room { found.old.at + length text.now < 2 ^ 32 }
-    requires kind { MeetsKind text.now kind }
-    ensures { OnOk result (found.new ≡ with_errors found.old (token_errors kind text.now continued)) }
+    requires kind { MeetsKind text.now kind.now }
+    ensures { OnOk result (found.new ≡ with_errors found.old (token_errors kind.now text.now continued)) }
 {
-    match kind {
+    match *kind {
         TokenKind::BlockComment { terminated: false } => whole_token(
             found,
             text,

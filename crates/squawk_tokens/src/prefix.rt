@@ -18,6 +18,7 @@ pub(crate) enum Prefix {
 impl Prefix {
     /// What a plain string behind a token continues, where one in the token's place would continue
     /// `earlier`.
+    #[inline(always)]
     pub(crate) fn continued_behind(kind: TokenKind, earlier: Option<Prefix>) -> Option<Prefix>
         ensures { result ≡ (if is_passed_over kind then earlier else prefix_of kind) }
     {

@@ -1,5 +1,5 @@
 //! What a raw token's kind says of its text.
-ghost use Rattle.std.specs.Prelude.{◌+◌, ◌<◌, ◌≤◌, ◌↔◌, false, length, All, IsTrue};
+ghost use Rattle.std.specs.Prelude.{ℕ, ◌+◌, ◌<◌, ◌≤◌, ◌↔◌, false, List, length, All, IsTrue};
 ghost use Rattle.std.specs.Char.{IsAsciiDigit};
 ghost use Rattle.squawk_tokens.specs.declared.token.LiteralKind.TheVariants.{Int};
 ghost use Rattle.squawk_tokens.specs.TokenRows.{IsQuoted, IsParam, IsLiteral, MeetsKind};
@@ -7,11 +7,35 @@ ghost use Rattle.squawk_tokens.specs.TokenRows.{IsQuoted, IsParam, IsLiteral, Me
 use crate::token::{Base, LiteralKind, TokenKind};
 
 /// Whether a token with this text is what its kind says.
-pub(crate) fn meets_kind(text: &str, kind: TokenKind) -> bool
+#[inline(always)]
+pub(crate) fn meets_kind(text: &str, kind: &TokenKind) -> bool
     requires { 0 < length text.now }
-    ensures { IsTrue result ↔ MeetsKind text.now kind }
+    ensures { IsTrue result ↔ MeetsKind text.now kind.now }
 {
-    match kind {
+    if asks_nothing(kind) {
+        return true;
+    }
+    meets_row(text, kind)
+}
+
+/// Whether a kind asks nothing of its token's text, as most do.
+#[inline(always)]
+fn asks_nothing(kind: &TokenKind) -> bool
+    ensures { IsTrue result → (text : List ℕ) → MeetsKind text kind.now }
+{
+    !matches!(
+        *kind,
+        TokenKind::PositionalParam { .. } | TokenKind::Literal { .. } | TokenKind::Eof
+    )
+}
+
+/// The same of a kind that asks something.
+#[inline(never)]
+fn meets_row(text: &str, kind: &TokenKind) -> bool
+    requires { 0 < length text.now }
+    ensures { IsTrue result ↔ MeetsKind text.now kind.now }
+{
+    match *kind {
         TokenKind::PositionalParam {
             trailing_junk_start,
         } => is_param(text, trailing_junk_start as usize),

@@ -1,24 +1,52 @@
 //! The syntax kinds of raw tokens.
-ghost use Rattle.std.specs.Prelude.{◌≡◌};
-ghost use Rattle.squawk_table.specs.TokenKinds.{kind_of, literal_kind_of};
+ghost use Rattle.std.specs.Prelude.{◌≡◌, ℕ, List};
+ghost use Rattle.squawk_kinds.specs.Keywords.{Keywords};
+ghost use Rattle.squawk_table.specs.TokenKinds.{IsConstant, IsNoIdent, kind_of, literal_kind_of};
 
 use squawk_kinds::{SyntaxKind, Vocabulary};
 use squawk_tokens::{LiteralKind, TokenKind};
 
 /// The syntax kind of a raw token with this text.
-pub(super) fn syntax_kind<V: Vocabulary>(kind: TokenKind, text: &str, vocabulary: &V) -> SyntaxKind
-    ensures { result ≡ kind_of (V.keyword vocabulary.now) kind text.now }
+#[inline(always)]
+pub(super) fn syntax_kind<V: Vocabulary>(kind: &TokenKind, text: &str, vocabulary: &V) -> SyntaxKind
+    ensures { result ≡ kind_of (V.keyword vocabulary.now) kind.now text.now }
 {
-    match kind {
+    match *kind {
+        TokenKind::Whitespace => SyntaxKind::WHITESPACE,
+        TokenKind::Ident => vocabulary.from_keyword(text).unwrap_or(SyntaxKind::IDENT),
+        _ => kind_alone(kind),
+    }
+}
+
+/// The syntax kind of a raw token that is no identifier.
+#[inline(never)]
+fn kind_alone(kind: &TokenKind) -> SyntaxKind
+    requires { IsNoIdent kind.now }
+    ensures { (keyword : Keywords) → (text : List ℕ) → result ≡ kind_of keyword kind.now text }
+{
+    match *kind {
+        TokenKind::PsqlCommand { ends_query: true } => SyntaxKind::PSQL_TERMINATOR_TEXT,
+        TokenKind::PsqlCommand { ends_query: false } => SyntaxKind::PSQL_COMMAND_TEXT,
+        TokenKind::Literal { kind } => literal_kind(kind),
+        _ => constant_kind(kind),
+    }
+}
+
+/// The syntax kind of a raw token which its kind says without its fields.
+///
+/// All arms are constants and the function isn't inlined, so that it is a look-up in a table and no
+/// jump that is hard to foresee.
+#[inline(never)]
+fn constant_kind(kind: &TokenKind) -> SyntaxKind
+    requires { IsConstant kind.now }
+    ensures { (keyword : Keywords) → (text : List ℕ) → result ≡ kind_of keyword kind.now text }
+{
+    match *kind {
         TokenKind::Unknown => SyntaxKind::ERROR,
         TokenKind::LineComment | TokenKind::BlockComment { .. } => SyntaxKind::COMMENT,
         TokenKind::Whitespace => SyntaxKind::WHITESPACE,
-        TokenKind::Ident => vocabulary.from_keyword(text).unwrap_or(SyntaxKind::IDENT),
         TokenKind::QuotedIdent { .. } => SyntaxKind::IDENT,
-        TokenKind::PsqlCommand { ends_query: true } => SyntaxKind::PSQL_TERMINATOR_TEXT,
-        TokenKind::PsqlCommand { ends_query: false } => SyntaxKind::PSQL_COMMAND_TEXT,
         TokenKind::PositionalParam { .. } => SyntaxKind::POSITIONAL_PARAM,
-        TokenKind::Literal { kind } => literal_kind(kind),
         TokenKind::Semi => SyntaxKind::SEMICOLON,
         TokenKind::Comma => SyntaxKind::COMMA,
         TokenKind::Dot => SyntaxKind::DOT,
@@ -48,6 +76,10 @@ pub(super) fn syntax_kind<V: Vocabulary>(kind: TokenKind, text: &str, vocabulary
         TokenKind::Percent => SyntaxKind::PERCENT,
         TokenKind::Backtick => SyntaxKind::BACKTICK,
         TokenKind::Eof => SyntaxKind::EOF,
+        // These don't come; a constant keeps the table whole.
+        TokenKind::Ident | TokenKind::PsqlCommand { .. } | TokenKind::Literal { .. } => {
+            SyntaxKind::EOF
+        }
     }
 }
 

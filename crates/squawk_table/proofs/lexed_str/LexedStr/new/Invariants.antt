@@ -1,12 +1,15 @@
 use Rattle.std.specs.Prelude.{vec_len, vec_capacity}
-use Rattle.std.proofs.Common.{◌≤◌, length, ◌≡◌, ◌++◌, drop}
+use Rattle.std.proofs.Common.{◌≤◌, length, ◌≡◌, ◌++◌, drop, take}
 use Rattle.squawk_tokens.specs.AcceptedTokens.{start_of}
+use Rattle.squawk_tokens.specs.Conversion.{HasRead}
 use Rattle.squawk_table.specs.RawTable.{kinds_from, starts_from}
 use Rattle.squawk_table.proofs.lexed_str.LexedStr.new.Given as goal
 
 abbrev pub invariant-loop-token : goal.invariant-loop-token
 invariant-loop-token g l = record {
   sum : l.at ≡ start_of l.tokens l.token-index;
+  text : l.converter.text ≡ l.text;
+  read : HasRead (take l.token-index l.tokens) l.converter;
   kinds : l.kinds.items ++ kinds_from (g.V.Vocabulary.keyword l.vocabulary) l.text l.at (drop l.token-index l.tokens)
       ≡ kinds_from (g.V.Vocabulary.keyword l.vocabulary) l.text 0 l.tokens;
   kinds_len : vec_len l.kinds ≡ l.token-index;
