@@ -39,6 +39,8 @@ mod limits_of_kinds;
 #[cfg(test)]
 mod limits_of_parses;
 #[cfg(test)]
+mod long_operators;
+#[cfg(test)]
 mod looks;
 #[cfg(test)]
 mod many;
