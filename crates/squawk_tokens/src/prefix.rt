@@ -1,6 +1,6 @@
 //! Which prefixed string a plain string continues.
 ghost use Rattle.std.specs.Prelude.{◌≡◌, if◌then◌else◌};
-ghost use Rattle.squawk_tokens.specs.Continuation.{is_passed_over, prefix_of};
+ghost use Rattle.squawk_tokens.specs.Continuation.{IsNoLiteral, is_passed_over, prefix_of};
 
 use crate::token::{LiteralKind, TokenKind};
 
@@ -35,5 +35,21 @@ impl Prefix {
             },
             _ => None,
         }
+    }
+
+    /// The same behind a token that is no literal, by one test of its kind.
+    #[inline(always)]
+    pub(crate) fn continued_behind_plain(
+        kind: &TokenKind,
+        earlier: Option<Prefix>,
+    ) -> Option<Prefix>
+        requires { IsNoLiteral kind.now }
+        ensures { result ≡ (if is_passed_over kind.now then earlier else prefix_of kind.now) }
+    {
+        let passed_over = matches!(
+            *kind,
+            TokenKind::Whitespace | TokenKind::LineComment | TokenKind::BlockComment { .. }
+        );
+        if passed_over { earlier } else { None }
     }
 }

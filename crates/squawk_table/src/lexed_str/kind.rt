@@ -1,5 +1,6 @@
 //! The syntax kinds of raw tokens.
-ghost use Rattle.std.specs.Prelude.{◌≡◌, ℕ, List};
+ghost use Rattle.std.specs.Prelude.{◌≡◌, ◌≢◌, ℕ, List};
+ghost use Rattle.squawk_kinds.specs.Kinds.{EOF};
 ghost use Rattle.squawk_kinds.specs.Keywords.{Keywords};
 ghost use Rattle.squawk_table.specs.TokenKinds.{IsConstant, IsNoIdent, kind_of, literal_kind_of};
 
@@ -12,15 +13,27 @@ pub(super) fn syntax_kind<V: Vocabulary>(kind: &TokenKind, text: &str, vocabular
     ensures { result ≡ kind_of (V.keyword vocabulary.now) kind.now text.now }
 {
     match *kind {
-        TokenKind::Whitespace => SyntaxKind::WHITESPACE,
         TokenKind::Ident => vocabulary.from_keyword(text).unwrap_or(SyntaxKind::IDENT),
         _ => kind_alone(kind),
     }
 }
 
 /// The syntax kind of a raw token that is no identifier.
-#[inline(never)]
+#[inline(always)]
 fn kind_alone(kind: &TokenKind) -> SyntaxKind
+    requires { IsNoIdent kind.now }
+    ensures { (keyword : Keywords) → (text : List ℕ) → result ≡ kind_of keyword kind.now text }
+{
+    let constant = constant_kind(kind);
+    if constant == SyntaxKind::EOF {
+        return kind_by_fields(kind);
+    }
+    constant
+}
+
+/// The same, for the few whose fields may say it.
+#[inline(never)]
+fn kind_by_fields(kind: &TokenKind) -> SyntaxKind
     requires { IsNoIdent kind.now }
     ensures { (keyword : Keywords) → (text : List ℕ) → result ≡ kind_of keyword kind.now text }
 {
@@ -32,14 +45,14 @@ fn kind_alone(kind: &TokenKind) -> SyntaxKind
     }
 }
 
-/// The syntax kind of a raw token which its kind says without its fields.
+/// The syntax kind of a raw token which its kind says without its fields, and else the end's.
 ///
 /// All arms are constants and the function isn't inlined, so that it is a look-up in a table and no
 /// jump that is hard to foresee.
 #[inline(never)]
 fn constant_kind(kind: &TokenKind) -> SyntaxKind
-    requires { IsConstant kind.now }
-    ensures { (keyword : Keywords) → (text : List ℕ) → result ≡ kind_of keyword kind.now text }
+    ensures constant { IsConstant kind.now → (keyword : Keywords) → (text : List ℕ) → result ≡ kind_of keyword kind.now text }
+    ensures others { result ≢ EOF → IsConstant kind.now }
 {
     match *kind {
         TokenKind::Unknown => SyntaxKind::ERROR,
@@ -76,7 +89,6 @@ fn constant_kind(kind: &TokenKind) -> SyntaxKind
         TokenKind::Percent => SyntaxKind::PERCENT,
         TokenKind::Backtick => SyntaxKind::BACKTICK,
         TokenKind::Eof => SyntaxKind::EOF,
-        // These don't come; a constant keeps the table whole.
         TokenKind::Ident | TokenKind::PsqlCommand { .. } | TokenKind::Literal { .. } => {
             SyntaxKind::EOF
         }
