@@ -5,3 +5,4 @@ mod WrittenValues
 mod WrittenTokens
 mod WrittenCalls
 mod KeywordPairLemmas
+mod WordPlaceLemmas

@@ -10,3 +10,4 @@ pub mod Calls
 pub mod WrittenCalls
 pub mod DocumentGrammars
 pub mod Documents
+pub mod WordPlaces

@@ -8,9 +8,11 @@ ghost use Rattle.squawk_kinds.specs.Kinds.{IsKeyword};
 ghost use Rattle.squawk_kinds.specs.TokenSets.{has};
 ghost use Rattle.squawk_document.specs.Values.{Gives, GivesExactly};
 ghost use Rattle.squawk_document.specs.KeywordPairs.{AreKeywords, ListAnswers, has_kind, keyword_in, keyword_kind_in, list_answered, keyword_list_in};
+ghost use Rattle.squawk_document.specs.WordPlaces.{HaveTaken};
 
 use crate::document_error::DocumentError;
 use crate::value;
+use crate::word_places::WordPlaces;
 use serde_json::Value;
 use squawk_kinds::{SyntaxKind, TokenSet};
 use std::alloc::{AllocError, Global};
@@ -21,7 +23,9 @@ use std::collections::HashMap;
 pub struct KeywordList {
     kinds: HashMap<String, SyntaxKind>,
     set: TokenSet,
+    places: WordPlaces,
     ghost keywords: { AreKeywords (get_by_text kinds) },
+    ghost taken: { HaveTaken (get_by_text kinds) places },
 }
 
 impl KeywordList {
@@ -34,6 +38,7 @@ impl KeywordList {
         Ok(KeywordList {
             kinds,
             set: TokenSet::EMPTY,
+            places: WordPlaces::FREE,
         })
     }
 
@@ -44,13 +49,26 @@ impl KeywordList {
             ≡ option_or (get_by_text self.old.kinds text) (if bytes_eq word.now text then Some kind else None)) }
         ensures set { OnOk result ((one : ℕ) → has self.new.set one ≡ (has self.old.set one || has_kind ((word.now, kind) ∷ []) one)) }
     {
+        self.places.take(word);
         put_first(&mut self.kinds, alloc, word, kind)?;
         self.set = self.set.union(TokenSet::new(&[kind]));
         Ok(())
     }
 
     /// The kind of a word.
+    #[inline(always)]
     pub fn kind_of(&self, word: &str) -> Option<SyntaxKind>
+        ensures { result ≡ get_by_text self.now.kinds word.now }
+    {
+        if !self.places.is_taken(word) {
+            return None;
+        }
+        self.looked_up(word)
+    }
+
+    /// The same by the map.
+    #[inline(never)]
+    fn looked_up(&self, word: &str) -> Option<SyntaxKind>
         ensures { result ≡ get_by_text self.now.kinds word.now }
     {
         self.kinds.get(word).copied()

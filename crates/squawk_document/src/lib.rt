@@ -19,6 +19,7 @@ pub mod kind_set;
 pub mod members;
 pub mod token;
 pub mod value;
+mod word_places;
 pub mod words;
 
 pub use document::Document;
