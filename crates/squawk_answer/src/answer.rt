@@ -1,6 +1,8 @@
 //! From a document to the lines of its answer.
-ghost use Rattle.std.specs.Prelude.{◌≡◌, ◌≢◌, Ok, Err, false, IfErr, MatchResult};
+ghost use Rattle.std.specs.Prelude.{◌≡◌, ◌≢◌, ℕ, List, Ok, Err, false, IfErr, MatchResult};
+ghost use Rattle.serde_json.specs.View.{view};
 ghost use Rattle.squawk_document.specs.Documents.{told};
+ghost use Rattle.squawk_document.specs.Values.{value_of};
 ghost use Rattle.squawk_kinds.specs.Kinds.{EOF};
 ghost use Rattle.squawk_kinds.specs.TokenSets.{has};
 ghost use Rattle.squawk_answer.specs.AnswerLines.{texts_of};
@@ -9,6 +11,7 @@ ghost use Rattle.squawk_answer.specs.Answers.{IsTheAnswer, Tells};
 use crate::fault::Fault;
 use crate::lines::{error_lines, step_lines};
 use crate::parse::parse;
+use serde_json::Value;
 use squawk_document::{Document, value};
 use squawk_parser::LexedStr;
 use std::alloc::Global;
@@ -31,7 +34,29 @@ impl Answer {
         ensures unwritten { IfErr result (λ fault. fault ≢ Fault.Io) }
     {
         let value = value::parse(alloc, input)?;
-        Answer::to_document(alloc, Document::from_value(alloc, &value)?)
+        Answer::to_value(alloc, &value)
+    }
+
+    /// The same, of bytes that are let go as soon as they are read.
+    pub fn of_bytes(alloc: Global, input: Vec<u8>) -> Result<Answer, Fault>
+        ensures answer { MatchResult result
+            (λ a. IsTheAnswer input.items (Ok (texts_of a)))
+            (λ fault. IsTheAnswer input.items (Err fault)) }
+        ensures unwritten { IfErr result (λ fault. fault ≢ Fault.Io) }
+    {
+        let value = value::parse(alloc, &input)?;
+        drop(input);
+        Answer::to_value(alloc, &value)
+    }
+
+    /// The answer to bytes of which this value was read.
+    fn to_value(alloc: Global, value: &Value) -> Result<Answer, Fault>
+        ensures answer { (input : List ℕ) → value_of input ≡ Ok (view value.now) → MatchResult result
+            (λ a. IsTheAnswer input (Ok (texts_of a)))
+            (λ fault. IsTheAnswer input (Err fault)) }
+        ensures unwritten { IfErr result (λ fault. fault ≢ Fault.Io) }
+    {
+        Answer::to_document(alloc, Document::from_value(alloc, value)?)
     }
 
     /// The answer to a document.

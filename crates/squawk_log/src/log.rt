@@ -43,12 +43,12 @@ impl Model for EventLog {
 }
 
 impl EventLog {
-    /// Nothing.
-    pub fn new(alloc: Global) -> EventLog
+    /// Nothing, and room for so many events where memory is found for it.
+    pub fn with_room(alloc: Global, events: usize) -> EventLog
         ensures { result ≡ nothing }
     {
         EventLog {
-            list: EventList::new(alloc),
+            list: EventList::with_room(alloc, events),
             recorded: 0,
         }
     }

@@ -36,12 +36,16 @@ impl Model for EventList {
 }
 
 impl EventList {
-    /// No events.
-    pub fn new(alloc: Global) -> EventList
+    /// No events, and room for so many where memory is found for it.
+    pub fn with_room(alloc: Global, events: usize) -> EventList
         ensures { result ≡ record { events = []; marks = []; errors = 0 } }
     {
+        let events = match Vec::with_capacity(alloc, events) {
+            Ok(events) => events,
+            Err(AllocError) => Vec::new(alloc),
+        };
         EventList {
-            events: Vec::new(alloc),
+            events,
             errors: Vec::new(alloc),
         }
     }

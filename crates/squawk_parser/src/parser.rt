@@ -35,6 +35,9 @@ pub use tails::has_tail;
 use tokens::Tokens;
 pub use words::Words;
 
+/// For how many events there is room at first, a token of the input: about what a grammar records.
+const EVENTS_A_TOKEN: usize = 4;
+
 /// A parse that is going on: an input, a position in it, and a log of what was recorded, which
 /// contracts see as a draft.
 ///
@@ -77,6 +80,7 @@ impl<'t> Parser<'t> {
             names,
         } = words;
         let limit = tokens.len();
+        let room = limit.saturating_mul(EVENTS_A_TOKEN);
         Parser {
             tokens,
             operator_first,
@@ -84,7 +88,7 @@ impl<'t> Parser<'t> {
             alloc,
             position: 0,
             limit,
-            log: EventLog::new(alloc),
+            log: EventLog::with_room(alloc, room.min(limits.events as usize)),
             limits,
             first_reason: None,
         }

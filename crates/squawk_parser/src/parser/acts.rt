@@ -63,6 +63,7 @@ impl Parser<'_> {
     }
 
     /// Records an error. Its text is copied.
+    #[inline(never)]
     pub fn error(&mut self, msg: &str)
         ensures keeps { Keeps self.old self.new }
         ensures puts { Puts (Error (chars msg.now) ∷ []) self.old self.new }
@@ -75,6 +76,7 @@ impl Parser<'_> {
 
     /// Records an error. Unless the current token is one to go on from, the error and that token, if
     /// there is one, stand in a node [`SyntaxKind::ERROR`].
+    #[inline(never)]
     pub fn err_recover(&mut self, msg: &str, recovery: TokenSet)
         ensures keeps { Keeps self.old self.new }
         ensures puts { Puts (recovery_steps (chars msg.now) (has recovery) (ahead self.old 0)) self.old self.new }
@@ -92,6 +94,7 @@ impl Parser<'_> {
 
     /// Records an error and eats the current token, if there is one, in a node
     /// [`SyntaxKind::ERROR`].
+    #[inline(never)]
     pub fn err_and_bump(&mut self, msg: &str)
         ensures keeps { Keeps self.old self.new }
         ensures puts { Puts (recovery_steps (chars msg.now) no_recovery (ahead self.old 0)) self.old self.new }

@@ -1,5 +1,6 @@
 //! The test whether an output can be sent over a table.
-ghost use Rattle.std.specs.Prelude.{◌≡◌, ◌+◌, ◌<◌, ◌≤◌, ◌^◌, ◌↔◌, IsTrue, SomeIff, length, take};
+ghost use Rattle.std.specs.Prelude.{◌≡◌, ◌+◌, ◌<◌, ◌≤◌, ◌^◌, ◌↔◌, true, false, IsTrue, SomeIff, length, slice_index, take};
+ghost use Rattle.squawk_kinds.specs.Kinds.{is_trivia};
 ghost use Rattle.squawk_kinds.specs.Keywords.{Keywords};
 ghost use Rattle.squawk_table.specs.ParserInput.{input_of};
 ghost use Rattle.squawk_table.specs.RawTable.{raw_after};
@@ -58,25 +59,33 @@ impl LexedStr<'_> {
     /// The place behind the trivia that stands from a raw place on.
     fn past_trivia(&self, from: usize) -> usize
         requires { from ≤ length self.now.kinds }
-        ensures { (result ≤ length self.now.kinds) × (raw_after self.now result ≡ past_trivia (raw_after self.now from)) }
+        ensures within { result ≤ length self.now.kinds }
+        ensures past { raw_after self.now result ≡ past_trivia (raw_after self.now from) }
+        ensures no_trivia { result < length self.now.kinds → is_trivia (slice_index self.now.kinds result) ≡ false }
     {
-        let mut place = from;
-        while place < self.len() && self.kind(place).is_trivia() {
+        // Mostly one raw token of trivia stands there or none, and which can't be foreseen: so the
+        // first is counted, and the loop has hardly ever a turn.
+        let len = self.len();
+        let first = from < len && self.kind(from).is_trivia();
+        let mut place = from + usize::from(first);
+        while place < len && self.kind(place).is_trivia() {
             place += 1;
         }
         place
     }
 
     /// The place behind `n` raw tokens, if they stand from this place on and none of them is trivia.
+    /// The first of them is none.
     fn one_token(&self, place: usize, n: u8) -> Option<usize>
-        requires { place ≤ length self.now.kinds }
+        requires within { place ≤ length self.now.kinds }
+        requires first { place < length self.now.kinds → is_trivia (slice_index self.now.kinds place) ≡ false }
         ensures { SomeIff result (HasNoTrivia (take n (raw_after self.now place)) × (1 ≤ n) × (place + n ≤ length self.now.kinds)) (place + n) }
     {
         if n == 0 || n as usize > self.len() - place {
             return None;
         }
         let end = place + n as usize;
-        for i in place..end {
+        for i in place + 1..end {
             if self.kind(i).is_trivia() {
                 return None;
             }

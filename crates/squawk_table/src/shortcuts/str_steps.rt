@@ -78,7 +78,7 @@ impl LexedStr<'_> {
     fn has_trivia_before(&self, step: &Step<'_>, place: usize, depth: usize) -> bool
         ensures { IsTrue result ↔ ((place < length self.now.kinds) × (is_trivia (slice_index self.now.kinds place) ≡ true) × (receives_at depth (step_of step.now) ≡ true)) }
     {
-        place < self.len() && self.kind(place).is_trivia() && receives_trivia(step, depth)
+        receives_trivia(step, depth) && place < self.len() && self.kind(place).is_trivia()
     }
 
     /// A raw token by itself.

@@ -88,9 +88,9 @@ loop-step-preserved c =
           c.loop-step.depth c.loop-step.has_root (λ _. open_now) (λ e. absurd (omega (arith, before.root.before.below))) (omega arith) (omega arith)
           (λ e. omega (arith, before.root.rootless e, before.root.before.below));
       within = found.0.2;
-      to_rest = λ over. over_rest t rest place c.past_trivia.result kind n past.0 past.1 found.0.0 found.0.1 found.0.2 (subst (λ xs. IsOver xs input) next (before.to_rest over));
+      to_rest = λ over. over_rest t rest place c.past_trivia.result kind n past.within past.past found.0.0 found.0.1 found.0.2 (subst (λ xs. IsOver xs input) next (before.to_rest over));
       from_rest = λ over.
-          before.from_rest (subst (λ xs. IsOver xs input) (sym next) (over_all t rest place c.past_trivia.result kind n past.0 past.1 found.0.0 found.0.1 found.0.2 over));
+          before.from_rest (subst (λ xs. IsOver xs input) (sym next) (over_all t rest place c.past_trivia.result kind n past.within past.past found.0.0 found.0.1 found.0.2 over));
     })
 
 pub returns-in-None-one_token : goal.returns-in-None-one_token
@@ -103,7 +103,7 @@ returns-in-None-one_token c =
       λ fits.
           absurd
           (c.in-None-one_token.ensures
-          (front_there c.args.self.now c.next.new.self c.loop-step.place c.past_trivia.result c.in-Token.kind c.in-Token.n_input_tokens past.0 past.1
+          (front_there c.args.self.now c.next.new.self c.loop-step.place c.past_trivia.result c.in-Token.kind c.in-Token.n_input_tokens past.within past.past
           (subst (λ xs. IsOver xs input) next (before.to_rest fits.over)))),
     )
 

@@ -2,8 +2,8 @@ use Rattle.std.proofs.Common.{rules}
 use Rattle.squawk_document.specs.Documents.{told}
 use Rattle.squawk_answer.specs.AnswerLines.{texts_of}
 use Rattle.squawk_answer.proofs.Laws.{the_answer-read}
-use Rattle.squawk_answer.proofs.answer.Answer.new.Goals as goal
+use Rattle.squawk_answer.proofs.answer.Answer.to_value.Goals as goal
 
 pub returns-clause-answer : goal.returns-clause-answer
-returns-clause-answer c =
-    the_answer-read c.args.input.now (told c.in_ok-from_value.field-0) texts_of c.to_document.result (search rules) c.to_document.ensures.answer
+returns-clause-answer c = λ input is.
+    the_answer-read input (told c.in_ok.field-0) texts_of c.to_document.result (search rules) c.to_document.ensures.answer
