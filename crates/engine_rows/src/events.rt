@@ -1,8 +1,8 @@
 //! Logs of events, and the outputs that the one pass makes of them.
 ghost use Rattle.std.specs.Prelude.{◌≡◌};
 
-use crate::fixture::kinds::{CALL, NAME, NAME_REF, PAREN, ROOT};
 use crate::fixture::output::assert_output;
+use row_fixtures::kinds::{CALL, NAME, NAME_REF, PAREN, ROOT};
 use squawk_parser::{Event, SyntaxKind, Text, process};
 use std::test::Fail;
 

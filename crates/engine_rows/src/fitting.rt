@@ -1,8 +1,10 @@
 //! Which outputs can be sent over a table.
 
-use crate::fixture::rows::{Kinds, assert_sent};
-use crate::fixture::scripts::script_output_of;
-use crate::fixture::{Calls, parse, parse_script, space, table, word};
+use crate::fixture::sent::assert_sent;
+use row_fixtures::calls::{Calls, parse};
+use row_fixtures::rows::Kinds;
+use row_fixtures::scripts::{parse_script, script_output_of};
+use row_fixtures::tokens::{space, table, word};
 use squawk_parser::Output;
 use std::process::Abort;
 use std::test::Fail;
@@ -12,7 +14,7 @@ fn output_without_steps_fits_no_table(rt: HostRuntime) -> Result<(), Fail> {
     let empty = table(rt.alloc(), "", &[])?;
     let words = table(rt.alloc(), "a b", &[word(1), space(1), word(1)])?;
     let no_calls = parse(rt.alloc(), &words, Calls::Nothing)?;
-    let no_lines = parse_script(&rt, &words, Calls::Nothing.list())?;
+    let no_lines = parse_script(rt.alloc(), &words, Calls::Nothing.list())?;
     for output in [&Output::empty(rt.alloc()), &no_calls, &no_lines] {
         assert!(rt; !empty.fits(output));
         assert!(rt; !words.fits(output));
@@ -25,7 +27,7 @@ fn output_with_more_than_one_node_at_the_top_does_not_fit(rt: HostRuntime) -> Re
     let words = table(rt.alloc(), "a b", &[word(1), space(1), word(1)])?;
     for calls in [Calls::TwoNodes, Calls::NodeBeforeToken] {
         assert!(rt; !words.fits(&parse(rt.alloc(), &words, calls)?));
-        assert!(rt; !words.fits(&parse_script(&rt, &words, calls.list())?));
+        assert!(rt; !words.fits(&parse_script(rt.alloc(), &words, calls.list())?));
     }
     Ok(())
 }
@@ -63,15 +65,15 @@ fn output_fits_a_table_with_enough_tokens(rt: HostRuntime) -> Result<(), Fail> {
     )?;
     assert_fit(
         &rt,
-        &parse_script(&rt, &words, one.list())?,
-        &parse_script(&rt, &words, two.list())?,
+        &parse_script(rt.alloc(), &words, one.list())?,
+        &parse_script(rt.alloc(), &words, two.list())?,
     )
 }
 
 #[test]
 fn output_is_sent_over_another_text(rt: HostRuntime) -> Result<(), Fail> {
     let calls = "start, start, bump_any, complete 1 NAME, error e, complete 0 ROOT";
-    let output = script_output_of(&rt, "x ", Kinds::Plain, calls)?;
+    let output = script_output_of(rt.alloc(), "x ", Kinds::Plain, calls)?;
     assert!(rt; !table(rt.alloc(), "", &[])?.fits(&output));
     assert_sent(&rt, &output, "x y", "ROOT(NAME(x !'e'@1) _) ...")?;
     assert_sent(

@@ -1,8 +1,8 @@
 //! Thousands of calls, markers, links and events.
 
-use crate::fixture::kinds::ROOT;
-use crate::fixture::rows::{Kinds, parse_within};
-use crate::fixture::words::no_words;
+use row_fixtures::kinds::ROOT;
+use row_fixtures::rows::{Kinds, parse_within};
+use row_fixtures::words::no_words;
 use squawk_parser::{Limits, Output, Step, Steps, SyntaxKind};
 use squawk_script::{Call, Script};
 use std::process::Abort;

@@ -2,18 +2,16 @@
 //!
 //! These tests also pass where an allocation is refused.
 
-use crate::fixture::errors::{
-    BAD_STRINGS, FOUR_DIGITS, Wanted, assert_table, bad_strings, errors_of_bad_strings, escapes,
-    incomplete, string,
-};
-use crate::fixture::kinds::MESSAGE_KW;
-use crate::fixture::lines::line_of;
 use crate::fixture::memory::assert_sent_if_made;
 use crate::fixture::output::assert_output;
-use crate::fixture::{Calls, FixedGrammar, Keywords, NO_KEYWORDS, space, word};
+use row_fixtures::calls::{Calls, FixedGrammar};
+use row_fixtures::keywords::{Keywords, NO_KEYWORDS};
+use row_fixtures::kinds::MESSAGE_KW;
+use row_fixtures::lines::line_of;
+use row_fixtures::tokens::{space, word};
 use squawk_parser::{
     EntryPoint, Input, LexedStr, Output, OwnedStep, ParseError, StepList, StepSink, StrStep,
-    SyntaxKind, TableError, Token,
+    SyntaxKind, TableError,
 };
 use std::alloc::AllocError;
 use std::process::Abort;
@@ -137,32 +135,4 @@ fn list_that_refuses_a_step_holds_those_before_it(rt: HostRuntime) {
         return
     };
     assert_sent_if_made(&rt, &table, &output, "ROOT(a _ message)");
-}
-
-/// Ends the test unless the text has exactly the wanted errors, or memory is wanting.
-fn assert_errors_if_made(
-    rt: &(impl Abort + AllocGlobal),
-    text: &str,
-    tokens: &[Token],
-    wanted: &[Wanted],
-) {
-    match LexedStr::new(rt.alloc(), text, tokens, &NO_KEYWORDS) {
-        Ok(table) => assert_table(rt, text, &table, wanted),
-        Err(error) => assert_eq!(rt; error, TableError::OutOfMemory, "{text:?}"),
-    }
-}
-
-#[test]
-fn errors_of_three_strings_are_whole(rt: HostRuntime) {
-    assert_errors_if_made(&rt, BAD_STRINGS, &bad_strings(), &errors_of_bad_strings());
-}
-
-#[test]
-fn error_of_a_continued_string_is_whole(rt: HostRuntime) {
-    assert_errors_if_made(
-        &rt,
-        "E'ok'\n'\\u0'",
-        &[escapes(5), space(1), string(5)],
-        &[incomplete(7, 10, FOUR_DIGITS)],
-    );
 }

@@ -1,12 +1,14 @@
 //! Scripts as grammars.
 
-use crate::fixture::kinds::{NAME, ROOT};
-use crate::fixture::lexer::tokens_of;
-use crate::fixture::output::{assert_output, enter};
-use crate::fixture::rows::{Kinds, LIMITS, parse_within};
-use crate::fixture::scripts::script_of;
-use crate::fixture::words::no_words;
-use crate::fixture::{NO_KEYWORDS, parse_script, table};
+use crate::fixture::output::assert_output;
+use row_fixtures::keywords::NO_KEYWORDS;
+use row_fixtures::kinds::{NAME, ROOT};
+use row_fixtures::lexer::tokens_of;
+use row_fixtures::output::enter;
+use row_fixtures::rows::{Kinds, LIMITS, parse_within};
+use row_fixtures::scripts::{parse_script, script_of};
+use row_fixtures::tokens::table;
+use row_fixtures::words::no_words;
 use squawk_parser::{EntryPoint, Step, SyntaxKind};
 use squawk_script::{Call, Script};
 use std::alloc::{AllocError, Global};
@@ -17,7 +19,7 @@ fn script_without_calls_records_nothing(rt: HostRuntime) -> Result<(), Fail> {
     for text in ["", " ", "a b"] {
         let tokens = tokens_of(rt.alloc(), text)?;
         let table = table(rt.alloc(), text, &tokens)?;
-        let output = parse_script(&rt, &table, "")?;
+        let output = parse_script(rt.alloc(), &table, "")?;
         assert_output(&rt, &output, "")?;
         assert_eq!(rt; output.recorded(), 0, "{text:?}");
         assert!(rt; !table.fits(&output), "{text:?}");
@@ -29,7 +31,11 @@ fn script_without_calls_records_nothing(rt: HostRuntime) -> Result<(), Fail> {
 fn token_may_stand_outside_of_all_nodes(rt: HostRuntime) -> Result<(), Fail> {
     let tokens = tokens_of(rt.alloc(), "a")?;
     let table = table(rt.alloc(), "a", &tokens)?;
-    let output = parse_script(&rt, &table, "start, start, bump_any, abandon 0, abandon 1")?;
+    let output = parse_script(
+        rt.alloc(),
+        &table,
+        "start, start, bump_any, abandon 0, abandon 1",
+    )?;
     assert_output(&rt, &output, "IDENT")?;
     assert_eq!(rt; output.recorded(), 3);
     assert!(rt; !table.fits(&output));
@@ -41,7 +47,7 @@ fn each_entry_point_makes_the_calls(rt: HostRuntime) -> Result<(), Fail> {
     let tokens = tokens_of(rt.alloc(), "a b")?;
     let input = table(rt.alloc(), "a b", &tokens)?.to_input(rt.alloc(), &NO_KEYWORDS)?;
     let script = script_of(
-        &rt,
+        rt.alloc(),
         "start, start, bump_any, start, bump_any, complete 2 NAME, extend_to 2 1, complete 0 ROOT",
     )?;
     for entry_point in [EntryPoint::SourceFile, EntryPoint::Plpgsql] {

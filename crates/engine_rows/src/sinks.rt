@@ -1,10 +1,10 @@
 //! Sinks that refuse a step.
 
-use crate::fixture::cases::STATEMENT;
-use crate::fixture::lexer::tokens_of;
-use crate::fixture::lines::{is_beginning, line_of};
-use crate::fixture::rows::{Case, Kinds};
-use crate::fixture::scripts::script_output_of;
+use row_fixtures::cases::STATEMENT;
+use row_fixtures::lexer::tokens_of;
+use row_fixtures::lines::{is_beginning, line_of};
+use row_fixtures::rows::{Case, Kinds};
+use row_fixtures::scripts::script_output_of;
 use squawk_parser::{LexedStr, StepList, StepSink, StrStep};
 use std::alloc::AllocError;
 use std::process::Abort;
@@ -67,7 +67,7 @@ fn assert_refused_at_each_step(
 ) -> Result<(), Fail> {
     let tokens = tokens_of(rt.alloc(), case.text)?;
     let table = LexedStr::new(rt.alloc(), case.text, &tokens, &kinds.keywords())?;
-    let output = script_output_of(rt, case.text, kinds, case.calls)?;
+    let output = script_output_of(rt.alloc(), case.text, kinds, case.calls)?;
     assert!(rt; table.fits(&output));
     for taken in 0..steps {
         let mut sink = RefusingList {

@@ -2,15 +2,13 @@
 //!
 //! These tests also pass where an allocation is refused.
 
-use crate::fixture::cases::{EXPECTED_NAME, EXPECTED_NUMBER, SKIPPED_TOKEN, STATEMENT};
-use crate::fixture::kinds::{
-    LITERAL, ROOT, SELECT, SELECT_CLAUSE, SOURCE_FILE, TARGET, TARGET_LIST,
-};
 use crate::fixture::memory::{
     assert_script_if_made, assert_sent_if_made, input_of, output_if_made, table_if_made,
 };
-use crate::fixture::parts::{Act, Message, PartGrammar, node, then};
-use crate::fixture::rows::{Case, Kinds, names};
+use row_fixtures::cases::{EXPECTED_NAME, EXPECTED_NUMBER, SKIPPED_TOKEN, STATEMENT};
+use row_fixtures::kinds::{LITERAL, ROOT, SELECT, SELECT_CLAUSE, SOURCE_FILE, TARGET, TARGET_LIST};
+use row_fixtures::parts::{Act, Message, PartGrammar, node, then};
+use row_fixtures::rows::{Case, Kinds, names};
 use squawk_parser::{Part, SyntaxKind};
 use std::process::Abort;
 

@@ -1,7 +1,8 @@
 //! The iterator over the steps of an output, with the texts of its tokens and with the trivia.
 
-use crate::fixture::kinds::{NAME, ROOT};
-use crate::fixture::{parse_script, space, table, word};
+use row_fixtures::kinds::{NAME, ROOT};
+use row_fixtures::scripts::parse_script;
+use row_fixtures::tokens::{space, table, word};
 use squawk_parser::{StrStep, SyntaxKind};
 use std::test::Fail;
 
@@ -19,7 +20,7 @@ fn token(kind: SyntaxKind, text: &str) -> StrStep<'_> {
 fn steps_come_one_after_another_and_then_none(rt: HostRuntime) -> Result<(), Fail> {
     let table = table(rt.alloc(), "x ", &[word(1), space(1)])?;
     let calls = "start, start, bump_any, complete 1 NAME, error e, complete 0 ROOT";
-    let output = parse_script(&rt, &table, calls)?;
+    let output = parse_script(rt.alloc(), &table, calls)?;
     assert!(rt; table.fits(&output));
 
     let wanted = [
@@ -44,7 +45,7 @@ fn steps_come_one_after_another_and_then_none(rt: HostRuntime) -> Result<(), Fai
 #[test]
 fn steps_without_a_token_of_the_input_are_not_all(rt: HostRuntime) -> Result<(), Fail> {
     let table = table(rt.alloc(), "a b", &[word(1), space(1), word(1)])?;
-    let output = parse_script(&rt, &table, "start, bump_any, complete 0 ROOT")?;
+    let output = parse_script(rt.alloc(), &table, "start, bump_any, complete 0 ROOT")?;
     assert!(rt; table.fits(&output));
 
     let wanted = [
@@ -67,7 +68,11 @@ fn steps_without_a_token_of_the_input_are_not_all(rt: HostRuntime) -> Result<(),
 #[test]
 fn bounds_are_the_steps_and_the_raw_tokens_that_are_left(rt: HostRuntime) -> Result<(), Fail> {
     let table = table(rt.alloc(), "a b", &[word(1), space(1), word(1)])?;
-    let output = parse_script(&rt, &table, "start, bump_any, bump_any, complete 0 ROOT")?;
+    let output = parse_script(
+        rt.alloc(),
+        &table,
+        "start, bump_any, bump_any, complete 0 ROOT",
+    )?;
     assert!(rt; table.fits(&output));
 
     let mut steps = table.str_steps(&output);

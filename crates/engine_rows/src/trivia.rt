@@ -1,8 +1,10 @@
 //! Outputs with the trivia of their texts put back.
 
-use crate::fixture::lexer::tokens_of;
-use crate::fixture::rows::assert_sent;
-use crate::fixture::{Calls, parse, parse_script, table};
+use crate::fixture::sent::assert_sent;
+use row_fixtures::calls::{Calls, parse};
+use row_fixtures::lexer::tokens_of;
+use row_fixtures::scripts::parse_script;
+use row_fixtures::tokens::table;
 use std::process::Abort;
 use std::test::Fail;
 
@@ -17,7 +19,7 @@ fn assert_calls(
     let tokens = tokens_of(rt.alloc(), text)?;
     let table = table(rt.alloc(), text, &tokens)?;
     let by_grammar = parse(rt.alloc(), &table, calls)?;
-    let by_script = parse_script(rt, &table, calls.list())?;
+    let by_script = parse_script(rt.alloc(), &table, calls.list())?;
     assert_sent(rt, &by_grammar, text, line)?;
     assert_sent(rt, &by_script, text, line)?;
     assert_eq!(rt; by_grammar.recorded(), by_script.recorded());
