@@ -2,7 +2,7 @@
 //!
 //! No node moves here, so the turns are one for each event and one more for each start.
 
-use crate::fixture::rows::assert_counts;
+use crate::fixture::rows::{assert_counted, assert_counts};
 use row_fixtures::kinds::ROOT;
 use row_fixtures::parts::{Act, node};
 use row_fixtures::rows::{Kinds, output_of};
@@ -119,8 +119,7 @@ fn tail_stands_in_a_node(rt: HostRuntime) -> Result<(), Fail> {
     ] {
         let part = node(ROOT, Act::EatWith(kind));
         let output = output_of(rt.alloc(), text, Kinds::Keywords, part)?;
-        assert_eq!(rt; output.recorded(), recorded, "{text}");
-        assert_eq!(rt; output.turns(), turns, "{text}");
+        assert_counted(&rt, &output, recorded, turns, text);
     }
     Ok(())
 }

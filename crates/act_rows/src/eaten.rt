@@ -1,9 +1,9 @@
 //! What eating a kind records, where it stands and where it doesn't.
 
 use crate::fixture::output::assert_output;
-use crate::fixture::rows::assert_row;
+use crate::fixture::rows::{assert_row, part_that_eats, script_that_eats};
 use row_fixtures::cases::{EXPECTED_NAME, EXPECTED_NUMBER};
-use row_fixtures::kinds::{MESSAGE_KW, RAISE_KW, ROOT, kind_named};
+use row_fixtures::kinds::{MESSAGE_KW, RAISE_KW, ROOT};
 use row_fixtures::parts::{Act, node, then};
 use row_fixtures::rows::{Case, Kinds, output_of};
 use row_fixtures::scripts::script_output_of;
@@ -52,32 +52,38 @@ fn assert_eaten(
     line: &str,
     recorded: u32,
 ) -> Result<(), Fail> {
-    let kind = kind_named(name).ok_or("no kind")?;
-    let calls = format!(in rt.alloc(); "start, eat {name}, complete 0 ROOT")?;
-    let by_part = output_of(rt.alloc(), text, Kinds::Plain, node(ROOT, Act::Eat(kind)))?;
-    let by_script = script_output_of(rt.alloc(), text, Kinds::Plain, &calls)?;
-    for output in [&by_part, &by_script] {
-        assert_output(rt, output, line)?;
-        assert_eq!(rt; output.recorded(), recorded, "{text}");
-    }
+    let by_part = part_that_eats(rt.alloc(), Kinds::Plain, name, text)?;
+    assert_recorded(rt, &by_part, line, recorded)?;
+    let by_script = script_that_eats(rt.alloc(), Kinds::Plain, name, text)?;
+    assert_recorded(rt, &by_script, line, recorded)
+}
+
+/// Ends the test unless the steps of the output have the line, and so many events were recorded.
+fn assert_recorded(
+    rt: &(impl Abort + AllocGlobal),
+    output: &Output,
+    line: &str,
+    recorded: u32,
+) -> Result<(), Fail> {
+    assert_output(rt, output, line)?;
+    assert_eq!(rt; output.recorded(), recorded, "{line}");
     Ok(())
 }
 
 #[test]
 fn each_pair_is_glued_where_it_touches(rt: HostRuntime) -> Result<(), Fail> {
-    for (name, touching, apart) in [
-        ("COLON_EQ", ":=", ": ="),
-        ("NEQ", "!=", "! ="),
-        ("NEQB", "<>", "< >"),
-        ("LTEQ", "<=", "< ="),
-        ("FAT_ARROW", "=>", "= >"),
-        ("LESS_LESS", "<<", "< <"),
-        ("GREATER_GREATER", ">>", "> >"),
-        ("GTEQ", ">=", "> ="),
+    // Two signs that touch are one event.
+    for (name, touching, glued, apart) in [
+        ("COLON_EQ", ":=", "ROOT(COLON_EQ*2)", ": ="),
+        ("NEQ", "!=", "ROOT(NEQ*2)", "! ="),
+        ("NEQB", "<>", "ROOT(NEQB*2)", "< >"),
+        ("LTEQ", "<=", "ROOT(LTEQ*2)", "< ="),
+        ("FAT_ARROW", "=>", "ROOT(FAT_ARROW*2)", "= >"),
+        ("LESS_LESS", "<<", "ROOT(LESS_LESS*2)", "< <"),
+        ("GREATER_GREATER", ">>", "ROOT(GREATER_GREATER*2)", "> >"),
+        ("GTEQ", ">=", "ROOT(GTEQ*2)", "> ="),
     ] {
-        // The two signs are one event.
-        let glued = format!(in rt.alloc(); "ROOT({name}*2)")?;
-        assert_eaten(&rt, name, touching, &glued, 3)?;
+        assert_eaten(&rt, name, touching, glued, 3)?;
         assert_eaten(&rt, name, apart, "ROOT()", 2)?;
     }
     Ok(())

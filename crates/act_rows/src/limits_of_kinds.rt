@@ -2,35 +2,25 @@
 //!
 //! A node is two events, a token one and an error one. The root is two besides.
 
+use crate::fixture::rows::assert_answer;
 use row_fixtures::kinds::{ROOT, kind_named};
 use row_fixtures::parts::{Act, node};
 use row_fixtures::rows::{Kinds, answer_within};
 use row_fixtures::scripts::script_answer_within;
-use squawk_parser::{Limits, Output, ParseError};
+use squawk_parser::{Limits, ParseError};
 use std::process::Abort;
 use std::test::Fail;
 
 /// More than any of these kinds records in a root.
 const ENOUGH: u32 = 12;
 
-/// Ends the test unless so many events were recorded under a limit of events, or it was too low.
-fn assert_limited(
-    rt: &impl Abort,
-    answer: Result<Output, ParseError>,
-    limit: u32,
-    recorded: u32,
-    name: &str,
-) {
-    let told = match answer {
-        Ok(output) => Ok(output.recorded()),
-        Err(error) => Err(error),
-    };
-    let wanted = if limit < recorded {
+/// The answer under a limit of events, where so many are recorded.
+fn limited(limit: u32, recorded: u32) -> Result<u32, ParseError> {
+    if limit < recorded {
         Err(ParseError::TooManyEvents)
     } else {
         Ok(recorded)
-    };
-    assert_eq!(rt; told, wanted, "{name} under {limit}");
+    }
 }
 
 /// Ends the test unless a root in which the kind is eaten records so many events, by calls and by
@@ -48,9 +38,10 @@ fn assert_events(
         let limits = Limits { events, errors: 0 };
         let part = node(ROOT, Act::Eat(kind));
         let by_part = answer_within(rt.alloc(), text, kinds, part, limits)?;
-        assert_limited(rt, by_part, events, recorded, name);
+        let wanted = limited(events, recorded);
+        assert_answer(rt, by_part, wanted, limits, name);
         let by_script = script_answer_within(rt.alloc(), text, kinds, &calls, limits)?;
-        assert_limited(rt, by_script, events, recorded, name);
+        assert_answer(rt, by_script, wanted, limits, name);
     }
     Ok(())
 }
@@ -124,7 +115,7 @@ fn tails_are_events_of_the_node_of_their_kind(rt: HostRuntime) -> Result<(), Fai
             let limits = Limits { events, errors: 0 };
             let part = node(ROOT, Act::EatWith(kind));
             let answer = answer_within(rt.alloc(), text, Kinds::Keywords, part, limits)?;
-            assert_limited(&rt, answer, events, recorded, name);
+            assert_answer(&rt, answer, limited(events, recorded), limits, name);
         }
     }
     Ok(())
@@ -144,11 +135,12 @@ fn missing_parenthesis_is_refused_for_the_limit_that_is_reached(
         (6, 1, ParseError::TooManyEvents),
         (7, 1, ParseError::TooManyEvents),
     ] {
+        let text = "operator(x";
         let kind = kind_named("OPERATOR_CALL").ok_or("no kind")?;
         let limits = Limits { events, errors };
         let part = node(ROOT, Act::EatWith(kind));
-        let answer = answer_within(rt.alloc(), "operator(x", Kinds::Keywords, part, limits)?;
-        assert_eq!(rt; answer.err(), Some(wanted), "{limits:?}");
+        let answer = answer_within(rt.alloc(), text, Kinds::Keywords, part, limits)?;
+        assert_answer(&rt, answer, Err(wanted), limits, text);
     }
     Ok(())
 }

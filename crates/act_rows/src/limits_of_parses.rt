@@ -1,5 +1,6 @@
 //! Limits of the events and errors of a parse.
 
+use crate::fixture::rows::assert_answer;
 use row_fixtures::cases::EXTENDED_IN_FRONT;
 use row_fixtures::kinds::ROOT;
 use row_fixtures::parts::{Act, Message, Nothing, node, then};
@@ -21,12 +22,8 @@ fn assert_within<F: Part<Answer = ()> + Copy>(
 ) -> Result<(), Fail> {
     let by_part = answer_within(rt.alloc(), text, Kinds::Plain, part, limits)?;
     let by_script = script_answer_within(rt.alloc(), text, Kinds::Plain, calls, limits)?;
-    for answer in [by_part, by_script] {
-        match answer {
-            Ok(output) => assert_eq!(rt; Ok(output.recorded()), wanted, "{limits:?}"),
-            Err(error) => assert_eq!(rt; Err(error), wanted, "{limits:?}"),
-        }
-    }
+    assert_answer(rt, by_part, wanted, limits, calls);
+    assert_answer(rt, by_script, wanted, limits, calls);
     Ok(())
 }
 
@@ -116,16 +113,13 @@ fn each_event_of_nodes_that_move_counts(rt: HostRuntime) -> Result<(), Fail> {
     let Case { calls, text, .. } = EXTENDED_IN_FRONT;
     for events in 0..=8 {
         let limits = Limits { events, errors: 0 };
-        match script_answer_within(rt.alloc(), text, Kinds::Plain, calls, limits)? {
-            Ok(output) => {
-                assert_eq!(rt; events, 8);
-                assert_eq!(rt; output.recorded(), 8);
-            }
-            Err(error) => {
-                assert!(rt; events < 8);
-                assert_eq!(rt; error, ParseError::TooManyEvents);
-            }
-        }
+        let answer = script_answer_within(rt.alloc(), text, Kinds::Plain, calls, limits)?;
+        let wanted = if events < 8 {
+            Err(ParseError::TooManyEvents)
+        } else {
+            Ok(8)
+        };
+        assert_answer(&rt, answer, wanted, limits, calls);
     }
     Ok(())
 }

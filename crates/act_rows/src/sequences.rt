@@ -1,12 +1,12 @@
 //! Sequences of keywords and their tails: what eating them records.
 
 use crate::fixture::output::assert_output;
-use crate::fixture::rows::{assert_part, assert_row};
+use crate::fixture::rows::{assert_part, assert_row, part_that_eats, script_that_eats};
 use row_fixtures::kinds::{ROOT, kind_named};
 use row_fixtures::parts::{Act, node, then};
 use row_fixtures::rows::{Case, Kinds, output_of};
-use row_fixtures::scripts::script_output_of;
 use squawk_parser::SyntaxKind;
+use std::process::Abort;
 use std::test::Fail;
 
 #[test]
@@ -41,16 +41,25 @@ const SEQUENCES: [(&str, &str, &str); 12] = [
     ("IS_NOT_NORMALIZED", "is not normalized", "IS_KW NOT_KW NORMALIZED_KW"),
 ];
 
+/// Ends the test unless a root in which the kind of this name is eaten has this line over the text.
+fn assert_sequence(
+    rt: &(impl Abort + AllocGlobal),
+    name: &str,
+    text: &str,
+    line: &str,
+) -> Result<(), Fail> {
+    let by_part = part_that_eats(rt.alloc(), Kinds::Keywords, name, text)?;
+    assert_output(rt, &by_part, line)?;
+    let by_script = script_that_eats(rt.alloc(), Kinds::Keywords, name, text)?;
+    assert_output(rt, &by_script, line)?;
+    Ok(())
+}
+
 #[test]
 fn each_sequence_is_a_node(rt: HostRuntime) -> Result<(), Fail> {
     for (name, text, tokens) in SEQUENCES {
         let line = format!(in rt.alloc(); "ROOT({name}({tokens}))")?;
-        let part = node(ROOT, Act::Eat(kind_named(name).ok_or("no kind")?));
-        let by_part = output_of(rt.alloc(), text, Kinds::Keywords, part)?;
-        assert_output(&rt, &by_part, &line)?;
-        let calls = format!(in rt.alloc(); "start, eat {name}, complete 0 ROOT")?;
-        let by_script = script_output_of(rt.alloc(), text, Kinds::Keywords, &calls)?;
-        assert_output(&rt, &by_script, &line)?;
+        assert_sequence(&rt, name, text, &line)?;
     }
     Ok(())
 }
@@ -110,14 +119,26 @@ const WITH_TAIL: [(&str, &str, &str); 10] = [
     ("IS_JSON_SCALAR", "is json scalar x y", "IS_KW JSON_KW SCALAR_KW"),
 ];
 
+/// Ends the test unless a root in which the kind of this name is eaten, with its tail, has this line over
+/// the text.
+fn assert_tail(
+    rt: &(impl Abort + AllocGlobal),
+    name: &str,
+    text: &str,
+    line: &str,
+) -> Result<(), Fail> {
+    let part = node(ROOT, Act::EatWith(kind_named(name).ok_or("no kind")?));
+    let output = output_of(rt.alloc(), text, Kinds::Keywords, part)?;
+    assert_output(rt, &output, line)?;
+    Ok(())
+}
+
 #[test]
 fn each_kind_with_a_tail_runs_it_once(rt: HostRuntime) -> Result<(), Fail> {
     for (name, text, tokens) in WITH_TAIL {
-        let part = node(ROOT, Act::EatWith(kind_named(name).ok_or("no kind")?));
-        let output = output_of(rt.alloc(), text, Kinds::Keywords, part)?;
         // The tail is `x`.
         let line = format!(in rt.alloc(); "ROOT({name}({tokens} IDENT))")?;
-        assert_output(&rt, &output, &line)?;
+        assert_tail(&rt, name, text, &line)?;
     }
     Ok(())
 }

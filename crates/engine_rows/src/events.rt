@@ -3,7 +3,8 @@ ghost use Rattle.std.specs.Prelude.{◌≡◌};
 
 use crate::fixture::output::assert_output;
 use row_fixtures::kinds::{CALL, NAME, NAME_REF, PAREN, ROOT};
-use squawk_parser::{Event, SyntaxKind, Text, process};
+use squawk_parser::{Event, Output, SyntaxKind, Text, process};
+use std::process::Abort;
 use std::test::Fail;
 
 /// The start of a node of this kind, whose forward parent is so many places on.
@@ -16,13 +17,28 @@ fn start(kind: u16, forward_parent: Option<u32>) -> Event
     }
 }
 
+/// Ends the test unless the output of the log, for which so many events were recorded, has the line, and
+/// was made in so many turns.
+fn assert_passed(
+    rt: &(impl Abort + AllocGlobal),
+    events: Vec<Event>,
+    recorded: u32,
+    wanted: &str,
+    turns: u64,
+) -> Result<(), Fail> {
+    let output = process(rt.alloc(), events, recorded)?;
+    assert_output(rt, &output, wanted)?;
+    assert_counted(rt, &output, recorded, turns);
+    Ok(())
+}
+
+fn assert_counted(rt: &impl Abort, output: &Output, recorded: u32, turns: u64) {
+    assert_eq!(rt; (output.recorded(), output.turns()), (recorded, turns));
+}
+
 #[test]
 fn empty_log_has_no_steps(rt: HostRuntime) -> Result<(), Fail> {
-    let output = process(rt.alloc(), Vec::new(rt.alloc()), 0)?;
-    assert_output(&rt, &output, "")?;
-    assert_eq!(rt; output.recorded(), 0);
-    assert_eq!(rt; output.turns(), 0);
-    Ok(())
+    assert_passed(&rt, Vec::new(rt.alloc()), 0, "", 0)
 }
 
 #[test]
@@ -33,12 +49,8 @@ fn links_from_two_places_lead_to_one_node(rt: HostRuntime) -> Result<(), Fail> {
     events.push(Event::Finish)?;
     events.push(start(NAME_REF, None))?;
     events.push(Event::Finish)?;
-    let output = process(rt.alloc(), events, 5)?;
-    assert_output(&rt, &output, "NAME_REF(NAME())")?;
-    assert_eq!(rt; output.recorded(), 5);
     // Five events, three of them a start, and two links.
-    assert_eq!(rt; output.turns(), 12);
-    Ok(())
+    assert_passed(&rt, events, 5, "NAME_REF(NAME())", 12)
 }
 
 #[test]
@@ -54,11 +66,8 @@ fn chain_begins_with_its_last_node(rt: HostRuntime) -> Result<(), Fail> {
     events.push(Event::Finish)?;
     events.push(start(PAREN, None))?;
     events.push(Event::Finish)?;
-    let output = process(rt.alloc(), events, 7)?;
-    assert_output(&rt, &output, "PAREN(NAME_REF(NAME(IDENT)))")?;
     // Seven events, three of them a start, and two links.
-    assert_eq!(rt; output.turns(), 14);
-    Ok(())
+    assert_passed(&rt, events, 7, "PAREN(NAME_REF(NAME(IDENT)))", 14)
 }
 
 #[test]
@@ -68,11 +77,8 @@ fn first_link_to_a_node_takes_what_lies_beyond(rt: HostRuntime) -> Result<(), Fa
     events.push(start(NAME, Some(1)))?;
     events.push(start(NAME_REF, Some(1)))?;
     events.push(start(CALL, None))?;
-    let output = process(rt.alloc(), events, 4)?;
-    assert_output(&rt, &output, "CALL(NAME_REF(ROOT(NAME(")?;
     // Four events, each a start, and three links.
-    assert_eq!(rt; output.turns(), 14);
-    Ok(())
+    assert_passed(&rt, events, 4, "CALL(NAME_REF(ROOT(NAME(", 14)
 }
 
 #[test]
@@ -82,11 +88,6 @@ fn start_without_a_kind_begins_no_node(rt: HostRuntime) -> Result<(), Fail> {
     events.push(Event::Error {
         msg: Text::new(String::from_str(rt.alloc(), "e")?),
     })?;
-    let output = process(rt.alloc(), events, 9)?;
-    assert_output(&rt, &output, "!'e'")?;
-    // What was recorded is handed in.
-    assert_eq!(rt; output.recorded(), 9);
-    // Two events, one of them a start.
-    assert_eq!(rt; output.turns(), 3);
-    Ok(())
+    // What was recorded is handed in. Two events, one of them a start.
+    assert_passed(&rt, events, 9, "!'e'", 3)
 }

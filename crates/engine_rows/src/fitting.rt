@@ -5,9 +5,14 @@ use row_fixtures::calls::{Calls, parse};
 use row_fixtures::rows::Kinds;
 use row_fixtures::scripts::{parse_script, script_output_of};
 use row_fixtures::tokens::{space, table, word};
-use squawk_parser::Output;
+use squawk_parser::{LexedStr, Output};
 use std::process::Abort;
 use std::test::Fail;
+
+/// Ends the test unless the output fits the table, or doesn't.
+fn assert_fits(rt: &impl Abort, table: &LexedStr<'_>, output: &Output, fits: bool) {
+    assert_eq!(rt; table.fits(output), fits);
+}
 
 #[test]
 fn output_without_steps_fits_no_table(rt: HostRuntime) -> Result<(), Fail> {
@@ -16,8 +21,8 @@ fn output_without_steps_fits_no_table(rt: HostRuntime) -> Result<(), Fail> {
     let no_calls = parse(rt.alloc(), &words, Calls::Nothing)?;
     let no_lines = parse_script(rt.alloc(), &words, Calls::Nothing.list())?;
     for output in [&Output::empty(rt.alloc()), &no_calls, &no_lines] {
-        assert!(rt; !empty.fits(output));
-        assert!(rt; !words.fits(output));
+        assert_fits(&rt, &empty, output, false);
+        assert_fits(&rt, &words, output, false);
     }
     Ok(())
 }
@@ -26,8 +31,13 @@ fn output_without_steps_fits_no_table(rt: HostRuntime) -> Result<(), Fail> {
 fn output_with_more_than_one_node_at_the_top_does_not_fit(rt: HostRuntime) -> Result<(), Fail> {
     let words = table(rt.alloc(), "a b", &[word(1), space(1), word(1)])?;
     for calls in [Calls::TwoNodes, Calls::NodeBeforeToken] {
-        assert!(rt; !words.fits(&parse(rt.alloc(), &words, calls)?));
-        assert!(rt; !words.fits(&parse_script(rt.alloc(), &words, calls.list())?));
+        assert_fits(&rt, &words, &parse(rt.alloc(), &words, calls)?, false);
+        assert_fits(
+            &rt,
+            &words,
+            &parse_script(rt.alloc(), &words, calls.list())?,
+            false,
+        );
     }
     Ok(())
 }
@@ -39,17 +49,17 @@ fn assert_fit(
     two_tokens: &Output,
 ) -> Result<(), Fail> {
     let empty = table(rt.alloc(), "", &[])?;
-    assert!(rt; !empty.fits(one_token));
-    assert!(rt; !empty.fits(two_tokens));
+    assert_fits(rt, &empty, one_token, false);
+    assert_fits(rt, &empty, two_tokens, false);
 
     // White space counts for nothing.
     let word_and_spaces = table(rt.alloc(), " x ", &[space(1), word(1), space(1)])?;
-    assert!(rt; word_and_spaces.fits(one_token));
-    assert!(rt; !word_and_spaces.fits(two_tokens));
+    assert_fits(rt, &word_and_spaces, one_token, true);
+    assert_fits(rt, &word_and_spaces, two_tokens, false);
 
     let other_words = table(rt.alloc(), "x y", &[word(1), space(1), word(1)])?;
-    assert!(rt; other_words.fits(one_token));
-    assert!(rt; other_words.fits(two_tokens));
+    assert_fits(&rt, &other_words, one_token, true);
+    assert_fits(&rt, &other_words, two_tokens, true);
     Ok(())
 }
 

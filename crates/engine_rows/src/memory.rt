@@ -2,7 +2,7 @@
 //!
 //! These tests also pass where an allocation is refused.
 
-use crate::fixture::memory::assert_sent_if_made;
+use crate::fixture::memory::{assert_sent_if_made, output_if_made, table_if_made};
 use crate::fixture::output::assert_output;
 use row_fixtures::calls::{Calls, FixedGrammar};
 use row_fixtures::keywords::{Keywords, NO_KEYWORDS};
@@ -10,8 +10,7 @@ use row_fixtures::kinds::MESSAGE_KW;
 use row_fixtures::lines::line_of;
 use row_fixtures::tokens::{space, word};
 use squawk_parser::{
-    EntryPoint, Input, LexedStr, Output, OwnedStep, ParseError, StepList, StepSink, StrStep,
-    SyntaxKind, TableError,
+    EntryPoint, Input, LexedStr, Output, OwnedStep, StepList, StepSink, StrStep, SyntaxKind,
 };
 use std::alloc::AllocError;
 use std::process::Abort;
@@ -24,13 +23,8 @@ const WORDS: Keywords<'static> = Keywords {
 /// The table of `a message`, unless memory is wanting.
 fn table(rt: &(impl Abort + AllocGlobal)) -> Option<LexedStr<'static>> {
     let tokens = [word(1), space(1), word(7)];
-    match LexedStr::new(rt.alloc(), "a message", &tokens, &WORDS) {
-        Ok(table) => Some(table),
-        Err(error) => {
-            assert_eq!(rt; error, TableError::OutOfMemory);
-            None
-        }
-    }
+    let made = LexedStr::new(rt.alloc(), "a message", &tokens, &WORDS);
+    table_if_made(rt, made)
 }
 
 /// The input of a table, unless memory is wanting, which is the one error that there is.
@@ -44,13 +38,10 @@ fn output(rt: &(impl Abort + AllocGlobal), input: &Input) -> Option<Output> {
         source_file: Calls::NodeAroundTwoTokens,
         plpgsql: Calls::Nothing,
     };
-    match EntryPoint::SourceFile.parse(rt.alloc(), input, &grammar) {
-        Ok(output) => Some(output),
-        Err(error) => {
-            assert_eq!(rt; error, ParseError::OutOfMemory);
-            None
-        }
-    }
+    output_if_made(
+        rt,
+        EntryPoint::SourceFile.parse(rt.alloc(), input, &grammar),
+    )
 }
 
 #[test]

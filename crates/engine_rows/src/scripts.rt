@@ -1,6 +1,6 @@
 //! Scripts as grammars.
 
-use crate::fixture::output::assert_output;
+use crate::fixture::output::assert_recorded;
 use row_fixtures::keywords::NO_KEYWORDS;
 use row_fixtures::kinds::{NAME, ROOT};
 use row_fixtures::lexer::tokens_of;
@@ -9,10 +9,16 @@ use row_fixtures::rows::{Kinds, LIMITS, parse_within};
 use row_fixtures::scripts::{parse_script, script_of};
 use row_fixtures::tokens::table;
 use row_fixtures::words::no_words;
-use squawk_parser::{EntryPoint, Step, SyntaxKind};
+use squawk_parser::{EntryPoint, LexedStr, Output, Step, SyntaxKind};
 use squawk_script::{Call, Script};
 use std::alloc::{AllocError, Global};
+use std::process::Abort;
 use std::test::Fail;
+
+/// Ends the test if the output fits the table.
+fn assert_unfit(rt: &impl Abort, table: &LexedStr<'_>, output: &Output) {
+    assert!(rt; !table.fits(output));
+}
 
 #[test]
 fn script_without_calls_records_nothing(rt: HostRuntime) -> Result<(), Fail> {
@@ -20,9 +26,8 @@ fn script_without_calls_records_nothing(rt: HostRuntime) -> Result<(), Fail> {
         let tokens = tokens_of(rt.alloc(), text)?;
         let table = table(rt.alloc(), text, &tokens)?;
         let output = parse_script(rt.alloc(), &table, "")?;
-        assert_output(&rt, &output, "")?;
-        assert_eq!(rt; output.recorded(), 0, "{text:?}");
-        assert!(rt; !table.fits(&output), "{text:?}");
+        assert_recorded(&rt, &output, "", 0)?;
+        assert_unfit(&rt, &table, &output);
     }
     Ok(())
 }
@@ -36,9 +41,8 @@ fn token_may_stand_outside_of_all_nodes(rt: HostRuntime) -> Result<(), Fail> {
         &table,
         "start, start, bump_any, abandon 0, abandon 1",
     )?;
-    assert_output(&rt, &output, "IDENT")?;
-    assert_eq!(rt; output.recorded(), 3);
-    assert!(rt; !table.fits(&output));
+    assert_recorded(&rt, &output, "IDENT", 3)?;
+    assert_unfit(&rt, &table, &output);
     Ok(())
 }
 
@@ -52,8 +56,7 @@ fn each_entry_point_makes_the_calls(rt: HostRuntime) -> Result<(), Fail> {
     )?;
     for entry_point in [EntryPoint::SourceFile, EntryPoint::Plpgsql] {
         let output = entry_point.parse(rt.alloc(), &input, &script)?;
-        assert_output(&rt, &output, "ROOT(NAME(IDENT IDENT))")?;
-        assert_eq!(rt; output.recorded(), 7);
+        assert_recorded(&rt, &output, "ROOT(NAME(IDENT IDENT))", 7)?;
     }
     Ok(())
 }
@@ -80,15 +83,18 @@ fn many_nodes(alloc: Global, count: u32) -> Result<Vec<Call>, AllocError> {
 fn each_of_many_markers_has_its_node(rt: HostRuntime) -> Result<(), Fail> {
     let script = Script::new(rt.alloc(), many_nodes(rt.alloc(), 1999)?, no_words())?;
     let output = parse_within(rt.alloc(), "", Kinds::Plain, &script, LIMITS)??;
-    assert_eq!(rt; output.recorded(), 4000);
-    assert_eq!(rt; output.turns(), 6000);
+    assert_many(&rt, &output);
+    Ok(())
+}
+
+/// Ends the test unless the output has a root around 1999 other nodes.
+fn assert_many(rt: &impl Abort, output: &Output) {
+    assert_eq!(rt; (output.recorded(), output.turns()), (4000, 6000));
     let mut steps = output.iter();
     assert_eq!(rt; steps.next(), Some(enter(ROOT)));
     for i in 0..1999 {
-        assert_eq!(rt; steps.next(), Some(enter(NAME)), "node {i}");
-        assert_eq!(rt; steps.next(), Some(Step::Exit), "node {i}");
+        let node = [steps.next(), steps.next()];
+        assert_eq!(rt; node, [Some(enter(NAME)), Some(Step::Exit)], "node {i}");
     }
-    assert_eq!(rt; steps.next(), Some(Step::Exit));
-    assert_eq!(rt; steps.next(), None);
-    Ok(())
+    assert_eq!(rt; [steps.next(), steps.next()], [Some(Step::Exit), None]);
 }

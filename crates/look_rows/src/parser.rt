@@ -9,7 +9,9 @@ use row_fixtures::keywords::{Keywords, NO_KEYWORDS};
 use row_fixtures::scripts::{parse_script, script_of};
 use row_fixtures::tokens::{space, table, word};
 use row_fixtures::words::no_words;
-use squawk_parser::{EntryPoint, Grammar, Input, LexedStr, ParseError, Parser, SyntaxKind, Words};
+use squawk_parser::{
+    EntryPoint, Grammar, Input, LexedStr, Output, ParseError, Parser, SyntaxKind, Words,
+};
 use std::alloc::AllocError;
 use std::process::Abort;
 use std::test::Fail;
@@ -43,10 +45,19 @@ fn assert_entry_point(
     let by_grammar = entry_point.parse(rt.alloc(), &input, &grammar)?;
     let script = script_of(rt.alloc(), calls.list())?;
     let by_script = entry_point.parse(rt.alloc(), &input, &script)?;
-    for output in [&by_grammar, &by_script] {
-        assert_output(rt, output, line)?;
-        assert_eq!(rt; output.recorded(), recorded, "{line}");
-    }
+    assert_recorded(rt, &by_grammar, line, recorded)?;
+    assert_recorded(rt, &by_script, line, recorded)
+}
+
+/// Ends the test unless the steps of the output have the line, and so many events were recorded.
+fn assert_recorded(
+    rt: &(impl Abort + AllocGlobal),
+    output: &Output,
+    line: &str,
+    recorded: u32,
+) -> Result<(), Fail> {
+    assert_output(rt, output, line)?;
+    assert_eq!(rt; output.recorded(), recorded, "{line}");
     Ok(())
 }
 
@@ -134,10 +145,8 @@ fn parser_stays_at_the_end(rt: HostRuntime) -> Result<(), Fail> {
     let output = EntryPoint::SourceFile.parse(rt.alloc(), &input, &Looks)?;
     // At `select`, at the end, and still there after one more try to eat.
     let line = "720() 731() 740() SELECT_KW 721() 730() 740() 721() 730() 740()";
-    assert_output(&rt, &output, line)?;
-    // Two for each of nine nodes, and one for the token.
-    assert_eq!(rt; output.recorded(), 19);
-    Ok(())
+    // Two events for each of nine nodes, and one for the token.
+    assert_recorded(&rt, &output, line, 19)
 }
 
 /// A grammar to which memory is refused.

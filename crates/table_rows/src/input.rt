@@ -74,21 +74,18 @@ fn empty_input_is_at_its_end(rt: HostRuntime) {
     assert_kinds(&rt, &Input::empty(rt.alloc()), &[]);
 }
 
+/// Ends the test unless the input has two tokens, of which the first touches the second, or doesn't.
+fn assert_joint(rt: &impl Abort, input: &Input, is_joint: bool) {
+    assert_eq!(rt; input.len(), 2);
+    assert_eq!(rt; [input.is_joint(0), input.is_joint(1)], [is_joint, false]);
+}
+
 #[test]
 fn words_that_touch_are_joint(rt: HostRuntime) -> Result<(), Fail> {
     let touching = input_of(rt.alloc(), "ab", &[word(1), word(1)], &NO_KEYWORDS)?;
-    assert_eq!(rt; touching.len(), 2);
-    assert!(rt; touching.is_joint(0));
-    assert!(rt; !touching.is_joint(1));
-
-    let apart = input_of(
-        rt.alloc(),
-        "a b",
-        &[word(1), space(1), word(1)],
-        &NO_KEYWORDS,
-    )?;
-    assert_eq!(rt; apart.len(), 2);
-    assert!(rt; !apart.is_joint(0));
-    assert!(rt; !apart.is_joint(1));
+    assert_joint(&rt, &touching, true);
+    let tokens = [word(1), space(1), word(1)];
+    let apart = input_of(rt.alloc(), "a b", &tokens, &NO_KEYWORDS)?;
+    assert_joint(&rt, &apart, false);
     Ok(())
 }
