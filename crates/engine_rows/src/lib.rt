@@ -2,9 +2,11 @@
 //! sent of these.
 //!
 //! The values that they want were worked out by hand. Calls are written as lists and steps as lines, in
-//! the notations of `row_fixtures`; `notation` has the tests of both.
+//! the notations of `row_fixtures`; `call_lists` and `notation` have the tests of both.
 #![tactic(auto)]
 
+#[cfg(test)]
+mod call_lists;
 #[cfg(test)]
 mod events;
 #[cfg(test)]
