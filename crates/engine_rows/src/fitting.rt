@@ -42,42 +42,32 @@ fn output_with_more_than_one_node_at_the_top_does_not_fit(rt: HostRuntime) -> Re
     Ok(())
 }
 
-/// Ends the test unless these outputs, of nodes that have so many tokens, fit where there are enough.
-fn assert_fit(
+/// Ends the test unless the output, of a node that has so many tokens, fits where there are enough.
+fn assert_fits_enough(
     rt: &(impl Abort + AllocGlobal),
-    one_token: &Output,
-    two_tokens: &Output,
+    output: &Output,
+    count: u32,
 ) -> Result<(), Fail> {
     let empty = table(rt.alloc(), "", &[])?;
-    assert_fits(rt, &empty, one_token, false);
-    assert_fits(rt, &empty, two_tokens, false);
-
+    assert_fits(rt, &empty, output, false);
     // White space counts for nothing.
     let word_and_spaces = table(rt.alloc(), " x ", &[space(1), word(1), space(1)])?;
-    assert_fits(rt, &word_and_spaces, one_token, true);
-    assert_fits(rt, &word_and_spaces, two_tokens, false);
-
+    assert_fits(rt, &word_and_spaces, output, count == 1);
     let other_words = table(rt.alloc(), "x y", &[word(1), space(1), word(1)])?;
-    assert_fits(&rt, &other_words, one_token, true);
-    assert_fits(&rt, &other_words, two_tokens, true);
+    assert_fits(rt, &other_words, output, true);
     Ok(())
 }
 
 #[test]
 fn output_fits_a_table_with_enough_tokens(rt: HostRuntime) -> Result<(), Fail> {
     let words = table(rt.alloc(), "a b", &[word(1), space(1), word(1)])?;
-    let one = Calls::NodeAroundToken;
-    let two = Calls::NodeAroundTwoTokens;
-    assert_fit(
-        &rt,
-        &parse(rt.alloc(), &words, one)?,
-        &parse(rt.alloc(), &words, two)?,
-    )?;
-    assert_fit(
-        &rt,
-        &parse_script(rt.alloc(), &words, one.list())?,
-        &parse_script(rt.alloc(), &words, two.list())?,
-    )
+    for (calls, count) in [(Calls::NodeAroundToken, 1), (Calls::NodeAroundTwoTokens, 2)] {
+        let by_grammar = parse(rt.alloc(), &words, calls)?;
+        assert_fits_enough(&rt, &by_grammar, count)?;
+        let by_script = parse_script(rt.alloc(), &words, calls.list())?;
+        assert_fits_enough(&rt, &by_script, count)?;
+    }
+    Ok(())
 }
 
 #[test]

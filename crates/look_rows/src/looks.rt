@@ -1,12 +1,11 @@
 //! What a parser sees ahead of its position.
 
 use crate::fixture::notes::{note_three, yes_or_no};
+use crate::fixture::output::assert_output;
 use row_fixtures::keywords::Keywords;
-use row_fixtures::kinds::{NO, YES};
-use row_fixtures::output::enter;
 use row_fixtures::tokens::{space, word};
 use row_fixtures::words::no_words;
-use squawk_parser::{EntryPoint, Grammar, LexedStr, Parser, Step, SyntaxKind, TokenSet, Words};
+use squawk_parser::{EntryPoint, Grammar, LexedStr, Parser, SyntaxKind, TokenSet, Words};
 use std::alloc::AllocError;
 use std::test::Fail;
 
@@ -80,14 +79,7 @@ fn looks_see_the_kinds_ahead(rt: HostRuntime) -> Result<(), Fail> {
         raise: TokenSet::new(&[SyntaxKind::from(RAISE)]),
     };
     let output = EntryPoint::SourceFile.parse(rt.alloc(), &input, &grammar)?;
-    let mut steps = output.iter();
-    for (i, answer) in [YES, YES, YES, YES, YES, YES, YES, NO, YES, YES, NO, NO]
-        .into_iter()
-        .enumerate()
-    {
-        assert_eq!(rt; steps.next(), Some(enter(answer)), "answer {i}");
-        assert_eq!(rt; steps.next(), Some(Step::Exit), "answer {i}");
-    }
-    assert_eq!(rt; steps.next(), None);
+    let line = "YES() YES() YES() YES() YES() YES() YES() NO() YES() YES() NO() NO()";
+    assert_output(&rt, &output, line)?;
     Ok(())
 }
