@@ -17,28 +17,28 @@ fn start(kind: u16, forward_parent: Option<u32>) -> Event
     }
 }
 
-/// Ends the test unless the output of the log, for which so many events were recorded, has the line, and
-/// was made in so many turns.
+/// Ends the test unless the steps of the output have the line, so many events were recorded for it, and
+/// it was made in so many turns.
 fn assert_passed(
     rt: &(impl Abort + AllocGlobal),
-    events: Vec<Event>,
-    recorded: u32,
+    output: &Output,
     wanted: &str,
+    recorded: u32,
     turns: u64,
 ) -> Result<(), Fail> {
-    let output = process(rt.alloc(), events, recorded)?;
-    assert_output(rt, &output, wanted)?;
-    assert_counted(rt, &output, recorded, turns);
+    assert_output(rt, output, wanted)?;
+    assert_eq!(rt;
+        (output.recorded(), output.turns()),
+        (recorded, turns),
+        "{wanted}"
+    );
     Ok(())
-}
-
-fn assert_counted(rt: &impl Abort, output: &Output, recorded: u32, turns: u64) {
-    assert_eq!(rt; (output.recorded(), output.turns()), (recorded, turns));
 }
 
 #[test]
 fn empty_log_has_no_steps(rt: HostRuntime) -> Result<(), Fail> {
-    assert_passed(&rt, Vec::new(rt.alloc()), 0, "", 0)
+    let output = process(rt.alloc(), Vec::new(rt.alloc()), 0)?;
+    assert_passed(&rt, &output, "", 0, 0)
 }
 
 #[test]
@@ -50,7 +50,8 @@ fn links_from_two_places_lead_to_one_node(rt: HostRuntime) -> Result<(), Fail> {
     events.push(start(NAME_REF, None))?;
     events.push(Event::Finish)?;
     // Five events, three of them a start, and two links.
-    assert_passed(&rt, events, 5, "NAME_REF(NAME())", 12)
+    let output = process(rt.alloc(), events, 5)?;
+    assert_passed(&rt, &output, "NAME_REF(NAME())", 5, 12)
 }
 
 #[test]
@@ -67,7 +68,8 @@ fn chain_begins_with_its_last_node(rt: HostRuntime) -> Result<(), Fail> {
     events.push(start(PAREN, None))?;
     events.push(Event::Finish)?;
     // Seven events, three of them a start, and two links.
-    assert_passed(&rt, events, 7, "PAREN(NAME_REF(NAME(IDENT)))", 14)
+    let output = process(rt.alloc(), events, 7)?;
+    assert_passed(&rt, &output, "PAREN(NAME_REF(NAME(IDENT)))", 7, 14)
 }
 
 #[test]
@@ -78,7 +80,8 @@ fn first_link_to_a_node_takes_what_lies_beyond(rt: HostRuntime) -> Result<(), Fa
     events.push(start(NAME_REF, Some(1)))?;
     events.push(start(CALL, None))?;
     // Four events, each a start, and three links.
-    assert_passed(&rt, events, 4, "CALL(NAME_REF(ROOT(NAME(", 14)
+    let output = process(rt.alloc(), events, 4)?;
+    assert_passed(&rt, &output, "CALL(NAME_REF(ROOT(NAME(", 4, 14)
 }
 
 #[test]
@@ -89,5 +92,6 @@ fn start_without_a_kind_begins_no_node(rt: HostRuntime) -> Result<(), Fail> {
         msg: Text::new(String::from_str(rt.alloc(), "e")?),
     })?;
     // What was recorded is handed in. Two events, one of them a start.
-    assert_passed(&rt, events, 9, "!'e'", 3)
+    let output = process(rt.alloc(), events, 9)?;
+    assert_passed(&rt, &output, "!'e'", 9, 3)
 }

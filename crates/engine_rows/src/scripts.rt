@@ -93,8 +93,9 @@ fn assert_many(rt: &impl Abort, output: &Output) {
     let mut steps = output.iter();
     assert_eq!(rt; steps.next(), Some(enter(ROOT)));
     for i in 0..1999 {
-        let node = [steps.next(), steps.next()];
-        assert_eq!(rt; node, [Some(enter(NAME)), Some(Step::Exit)], "node {i}");
+        assert_eq!(rt; steps.next(), Some(enter(NAME)), "node {i}");
+        assert_eq!(rt; steps.next(), Some(Step::Exit), "node {i}");
     }
-    assert_eq!(rt; [steps.next(), steps.next()], [Some(Step::Exit), None]);
+    assert_eq!(rt; steps.next(), Some(Step::Exit));
+    assert_eq!(rt; steps.next(), None);
 }
