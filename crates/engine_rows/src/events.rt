@@ -1,9 +1,10 @@
 //! Logs of events, and the outputs that the one pass makes of them.
 ghost use Rattle.std.specs.Prelude.{◌≡◌};
 
-use crate::fixture::kinds::{CALL, NAME, NAME_REF, PAREN, ROOT};
 use crate::fixture::output::assert_output;
-use squawk_parser::{Event, SyntaxKind, Text, process};
+use row_fixtures::kinds::{CALL, NAME, NAME_REF, PAREN, ROOT};
+use squawk_parser::{Event, Output, SyntaxKind, Text, process};
+use std::process::Abort;
 use std::test::Fail;
 
 /// The start of a node of this kind, whose forward parent is so many places on.
@@ -16,13 +17,28 @@ fn start(kind: u16, forward_parent: Option<u32>) -> Event
     }
 }
 
+/// Ends the test unless the steps of the output have the line, so many events were recorded for it, and
+/// it was made in so many turns.
+fn assert_passed(
+    rt: &(impl Abort + AllocGlobal),
+    output: &Output,
+    wanted: &str,
+    recorded: u32,
+    turns: u64,
+) -> Result<(), Fail> {
+    assert_output(rt, output, wanted)?;
+    assert_eq!(rt;
+        (output.recorded(), output.turns()),
+        (recorded, turns),
+        "{wanted}"
+    );
+    Ok(())
+}
+
 #[test]
 fn empty_log_has_no_steps(rt: HostRuntime) -> Result<(), Fail> {
     let output = process(rt.alloc(), Vec::new(rt.alloc()), 0)?;
-    assert_output(&rt, &output, "")?;
-    assert_eq!(rt; output.recorded(), 0);
-    assert_eq!(rt; output.turns(), 0);
-    Ok(())
+    assert_passed(&rt, &output, "", 0, 0)
 }
 
 #[test]
@@ -33,12 +49,9 @@ fn links_from_two_places_lead_to_one_node(rt: HostRuntime) -> Result<(), Fail> {
     events.push(Event::Finish)?;
     events.push(start(NAME_REF, None))?;
     events.push(Event::Finish)?;
-    let output = process(rt.alloc(), events, 5)?;
-    assert_output(&rt, &output, "NAME_REF(NAME())")?;
-    assert_eq!(rt; output.recorded(), 5);
     // Five events, three of them a start, and two links.
-    assert_eq!(rt; output.turns(), 12);
-    Ok(())
+    let output = process(rt.alloc(), events, 5)?;
+    assert_passed(&rt, &output, "NAME_REF(NAME())", 5, 12)
 }
 
 #[test]
@@ -54,11 +67,9 @@ fn chain_begins_with_its_last_node(rt: HostRuntime) -> Result<(), Fail> {
     events.push(Event::Finish)?;
     events.push(start(PAREN, None))?;
     events.push(Event::Finish)?;
-    let output = process(rt.alloc(), events, 7)?;
-    assert_output(&rt, &output, "PAREN(NAME_REF(NAME(IDENT)))")?;
     // Seven events, three of them a start, and two links.
-    assert_eq!(rt; output.turns(), 14);
-    Ok(())
+    let output = process(rt.alloc(), events, 7)?;
+    assert_passed(&rt, &output, "PAREN(NAME_REF(NAME(IDENT)))", 7, 14)
 }
 
 #[test]
@@ -68,11 +79,9 @@ fn first_link_to_a_node_takes_what_lies_beyond(rt: HostRuntime) -> Result<(), Fa
     events.push(start(NAME, Some(1)))?;
     events.push(start(NAME_REF, Some(1)))?;
     events.push(start(CALL, None))?;
-    let output = process(rt.alloc(), events, 4)?;
-    assert_output(&rt, &output, "CALL(NAME_REF(ROOT(NAME(")?;
     // Four events, each a start, and three links.
-    assert_eq!(rt; output.turns(), 14);
-    Ok(())
+    let output = process(rt.alloc(), events, 4)?;
+    assert_passed(&rt, &output, "CALL(NAME_REF(ROOT(NAME(", 4, 14)
 }
 
 #[test]
@@ -82,11 +91,7 @@ fn start_without_a_kind_begins_no_node(rt: HostRuntime) -> Result<(), Fail> {
     events.push(Event::Error {
         msg: Text::new(String::from_str(rt.alloc(), "e")?),
     })?;
+    // What was recorded is handed in. Two events, one of them a start.
     let output = process(rt.alloc(), events, 9)?;
-    assert_output(&rt, &output, "!'e'")?;
-    // What was recorded is handed in.
-    assert_eq!(rt; output.recorded(), 9);
-    // Two events, one of them a start.
-    assert_eq!(rt; output.turns(), 3);
-    Ok(())
+    assert_passed(&rt, &output, "!'e'", 9, 3)
 }

@@ -8,8 +8,8 @@ ghost use Rattle.squawk_output.specs.Steps.{Step};
 ghost use Rattle.squawk_parser.specs.Recorded.{Puts};
 ghost use Rattle.squawk_parser.specs.State.{Keeps, kind_at};
 
-use crate::fixture::lines::line_of;
-use crate::fixture::{space, word};
+use row_fixtures::lines::line_of;
+use row_fixtures::tokens::{space, word};
 use squawk_parser::{
     EntryPoint, Grammar, LexedStr, NoKeywords, Parser, StepList, SyntaxKind, Token, TokenKind,
     TokenSet, Words,

@@ -1,8 +1,8 @@
 //! Thousands of calls, markers, links and events.
 
-use crate::fixture::kinds::ROOT;
-use crate::fixture::rows::{Kinds, parse_within};
-use crate::fixture::words::no_words;
+use row_fixtures::kinds::ROOT;
+use row_fixtures::rows::{Kinds, parse_within};
+use row_fixtures::words::no_words;
 use squawk_parser::{Limits, Output, Step, Steps, SyntaxKind};
 use squawk_script::{Call, Script};
 use std::process::Abort;
@@ -66,6 +66,23 @@ fn assert_next(rt: &impl Abort, steps: &mut Steps<'_>, count: u32, wanted: Wante
     }
 }
 
+/// Ends the test unless so many events were recorded for the output, it was made in so many turns, and
+/// its steps are so many of these, one after another.
+fn assert_runs(
+    rt: &impl Abort,
+    output: &Output,
+    recorded: u32,
+    turns: u64,
+    runs: &[(u32, Wanted)],
+) {
+    assert_eq!(rt; (output.recorded(), output.turns()), (recorded, turns));
+    let mut steps = output.iter();
+    for (count, wanted) in runs {
+        assert_next(rt, &mut steps, *count, *wanted);
+    }
+    assert!(rt; steps.next().is_none());
+}
+
 #[test]
 fn hundreds_of_markers_stand_open_over_thousands_of_tokens(rt: HostRuntime) -> Result<(), Fail> {
     let mut calls = Vec::new(rt.alloc());
@@ -80,14 +97,13 @@ fn hundreds_of_markers_stand_open_over_thousands_of_tokens(rt: HostRuntime) -> R
         calls.push(Call::Complete { marker, kind })?;
     }
     let output = output_over(&rt, TOKENS, calls)?;
-    assert_eq!(rt; output.recorded(), 2 * 300 + 4000);
-    // One more for each start.
-    assert_eq!(rt; output.turns(), 2 * 300 + 4000 + 300);
-    let mut steps = output.iter();
-    assert_next(&rt, &mut steps, MARKERS, Wanted::Root);
-    assert_next(&rt, &mut steps, TOKENS, Wanted::Word);
-    assert_next(&rt, &mut steps, MARKERS, Wanted::Exit);
-    assert!(rt; steps.next().is_none());
+    let runs = [
+        (MARKERS, Wanted::Root),
+        (TOKENS, Wanted::Word),
+        (MARKERS, Wanted::Exit),
+    ];
+    // One turn more for each start.
+    assert_runs(&rt, &output, 2 * 300 + 4000, 2 * 300 + 4000 + 300, &runs);
     Ok(())
 }
 
@@ -104,17 +120,22 @@ fn thousands_of_nodes_are_preceded(rt: HostRuntime) -> Result<(), Fail> {
         calls.push(Call::Complete { marker, kind })?;
     }
     let output = output_over(&rt, 1, calls)?;
-    // Two events for each node, and the token.
-    assert_eq!(rt; output.recorded(), 2 * 5001 + 1);
-    // One more for each start, and two for each link.
-    assert_eq!(rt; output.turns(), 2 * 5001 + 1 + 5001 + 2 * 5000);
-    let mut steps = output.iter();
-    assert_next(&rt, &mut steps, NODES, Wanted::Root);
-    assert_next(&rt, &mut steps, 1, Wanted::Root);
-    assert_next(&rt, &mut steps, 1, Wanted::Word);
-    assert_next(&rt, &mut steps, NODES, Wanted::Exit);
-    assert_next(&rt, &mut steps, 1, Wanted::Exit);
-    assert!(rt; steps.next().is_none());
+    let runs = [
+        (NODES, Wanted::Root),
+        (1, Wanted::Root),
+        (1, Wanted::Word),
+        (NODES, Wanted::Exit),
+        (1, Wanted::Exit),
+    ];
+    // Two events for each node, and the token. One turn more for each start, and two for each link.
+    let recorded = 2 * 5001 + 1;
+    assert_runs(
+        &rt,
+        &output,
+        recorded,
+        2 * 5001 + 1 + 5001 + 2 * 5000,
+        &runs,
+    );
     Ok(())
 }
 
@@ -125,10 +146,6 @@ fn log_of_thousands_of_events_is_passed(rt: HostRuntime) -> Result<(), Fail> {
         calls.push(Call::BumpAny)?;
     }
     let output = output_over(&rt, EVENTS, calls)?;
-    assert_eq!(rt; output.recorded(), 20000);
-    assert_eq!(rt; output.turns(), 20000);
-    let mut steps = output.iter();
-    assert_next(&rt, &mut steps, EVENTS, Wanted::Word);
-    assert!(rt; steps.next().is_none());
+    assert_runs(&rt, &output, 20000, 20000, &[(EVENTS, Wanted::Word)]);
     Ok(())
 }

@@ -2,18 +2,15 @@
 //!
 //! These tests also pass where an allocation is refused.
 
-use crate::fixture::errors::{
-    BAD_STRINGS, FOUR_DIGITS, Wanted, assert_table, bad_strings, errors_of_bad_strings, escapes,
-    incomplete, string,
-};
-use crate::fixture::kinds::MESSAGE_KW;
-use crate::fixture::lines::line_of;
-use crate::fixture::memory::assert_sent_if_made;
+use crate::fixture::memory::{assert_sent_if_made, output_if_made, table_if_made};
 use crate::fixture::output::assert_output;
-use crate::fixture::{Calls, FixedGrammar, Keywords, NO_KEYWORDS, space, word};
+use row_fixtures::calls::{Calls, FixedGrammar};
+use row_fixtures::keywords::{Keywords, NO_KEYWORDS};
+use row_fixtures::kinds::MESSAGE_KW;
+use row_fixtures::lines::line_of;
+use row_fixtures::tokens::{space, word};
 use squawk_parser::{
-    EntryPoint, Input, LexedStr, Output, OwnedStep, ParseError, StepList, StepSink, StrStep,
-    SyntaxKind, TableError, Token,
+    EntryPoint, Input, LexedStr, Output, OwnedStep, StepList, StepSink, StrStep, SyntaxKind,
 };
 use std::alloc::AllocError;
 use std::process::Abort;
@@ -26,13 +23,8 @@ const WORDS: Keywords<'static> = Keywords {
 /// The table of `a message`, unless memory is wanting.
 fn table(rt: &(impl Abort + AllocGlobal)) -> Option<LexedStr<'static>> {
     let tokens = [word(1), space(1), word(7)];
-    match LexedStr::new(rt.alloc(), "a message", &tokens, &WORDS) {
-        Ok(table) => Some(table),
-        Err(error) => {
-            assert_eq!(rt; error, TableError::OutOfMemory);
-            None
-        }
-    }
+    let made = LexedStr::new(rt.alloc(), "a message", &tokens, &WORDS);
+    table_if_made(rt, made)
 }
 
 /// The input of a table, unless memory is wanting, which is the one error that there is.
@@ -46,18 +38,21 @@ fn output(rt: &(impl Abort + AllocGlobal), input: &Input) -> Option<Output> {
         source_file: Calls::NodeAroundTwoTokens,
         plpgsql: Calls::Nothing,
     };
-    match EntryPoint::SourceFile.parse(rt.alloc(), input, &grammar) {
-        Ok(output) => Some(output),
-        Err(error) => {
-            assert_eq!(rt; error, ParseError::OutOfMemory);
-            None
-        }
-    }
+    output_if_made(
+        rt,
+        EntryPoint::SourceFile.parse(rt.alloc(), input, &grammar),
+    )
 }
 
 #[test]
 fn table_is_whole(rt: HostRuntime) {
-    let Some(table) = table(&rt) else { return };
+    if let Some(table) = table(&rt) {
+        assert_table(&rt, &table);
+    }
+}
+
+/// Ends the test unless the table is that of `a message`.
+fn assert_table(rt: &impl Abort, table: &LexedStr<'_>) {
     assert_eq!(rt; table.len(), 3);
     for (i, (kind, text)) in [(3, "a"), (639, " "), (3, "message")]
         .into_iter()
@@ -71,9 +66,13 @@ fn table_is_whole(rt: HostRuntime) {
 #[test]
 fn input_is_whole(rt: HostRuntime) {
     let Some(table) = table(&rt) else { return };
-    let Some(input) = input(&rt, &table) else {
-        return
-    };
+    if let Some(input) = input(&rt, &table) {
+        assert_input(&rt, &input);
+    }
+}
+
+/// Ends the test unless the input is that of `a message`.
+fn assert_input(rt: &impl Abort, input: &Input) {
     assert_eq!(rt; input.len(), 2);
     for (i, contextual_kind) in [3, MESSAGE_KW].into_iter().enumerate() {
         assert_eq!(rt; input.kind(i), SyntaxKind::IDENT, "token {i}");
@@ -95,9 +94,14 @@ fn output_is_whole(rt: HostRuntime) {
     let Some(output) = output(&rt, &input) else {
         return
     };
-    assert_eq!(rt; output.recorded(), 4);
     // Memory may be wanting for the line.
     let _ = assert_output(&rt, &output, "ROOT(IDENT IDENT)");
+    assert_four(&rt, &output);
+}
+
+/// Ends the test unless four events were recorded.
+fn assert_four(rt: &impl Abort, output: &Output) {
+    assert_eq!(rt; output.recorded(), 4);
 }
 
 /// Ends the test unless the steps have the line, or memory is wanting for it.
@@ -137,32 +141,4 @@ fn list_that_refuses_a_step_holds_those_before_it(rt: HostRuntime) {
         return
     };
     assert_sent_if_made(&rt, &table, &output, "ROOT(a _ message)");
-}
-
-/// Ends the test unless the text has exactly the wanted errors, or memory is wanting.
-fn assert_errors_if_made(
-    rt: &(impl Abort + AllocGlobal),
-    text: &str,
-    tokens: &[Token],
-    wanted: &[Wanted],
-) {
-    match LexedStr::new(rt.alloc(), text, tokens, &NO_KEYWORDS) {
-        Ok(table) => assert_table(rt, text, &table, wanted),
-        Err(error) => assert_eq!(rt; error, TableError::OutOfMemory, "{text:?}"),
-    }
-}
-
-#[test]
-fn errors_of_three_strings_are_whole(rt: HostRuntime) {
-    assert_errors_if_made(&rt, BAD_STRINGS, &bad_strings(), &errors_of_bad_strings());
-}
-
-#[test]
-fn error_of_a_continued_string_is_whole(rt: HostRuntime) {
-    assert_errors_if_made(
-        &rt,
-        "E'ok'\n'\\u0'",
-        &[escapes(5), space(1), string(5)],
-        &[incomplete(7, 10, FOUR_DIGITS)],
-    );
 }

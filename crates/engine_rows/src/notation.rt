@@ -1,14 +1,11 @@
-//! The notations of the tests: what is different is written differently.
+//! The notation of steps, and the raw tokens of texts: what is different is written differently.
 
-use crate::fixture::call_list::calls_of;
-use crate::fixture::errors::{int, token};
-use crate::fixture::kinds::{MESSAGE_KW, NAME, NAME_REF, ROOT, SELECT_KW, kind_named, name_of};
-use crate::fixture::lexer::tokens_of;
-use crate::fixture::lines::{is_beginning, line_of, push_step, whole_line_of};
-use crate::fixture::signs::{COLON, COMMA, EQ};
-use crate::fixture::{space, word};
+use row_fixtures::kinds::{NAME, NAME_REF, ROOT, SELECT_KW, kind_named, name_of};
+use row_fixtures::lexer::tokens_of;
+use row_fixtures::lines::{is_beginning, line_of, push_step, whole_line_of};
+use row_fixtures::signs::{COLON, COMMA, EQ};
+use row_fixtures::tokens::{int, space, token, word};
 use squawk_parser::{Base, OwnedStep, Step, SyntaxKind, Text, Token, TokenKind};
-use squawk_script::Call;
 use std::alloc::{AllocError, Global};
 use std::process::Abort;
 use std::test::Fail;
@@ -239,50 +236,5 @@ fn texts_have_their_raw_tokens(rt: HostRuntime) -> Result<(), Fail> {
         let tokens = tokens_of(rt.alloc(), text)?;
         assert_eq!(rt; tokens.as_slice(), wanted, "{text:?}");
     }
-    Ok(())
-}
-
-#[test]
-fn texts_have_their_calls(rt: HostRuntime) -> Result<(), Fail> {
-    let markers = calls_of(
-        &rt,
-        "start, complete 1 ROOT, abandon 2, precede 3, extend_to 4 5",
-    )?;
-    assert_eq!(rt; markers.len(), 5);
-    assert!(rt; matches!(&markers[0], Call::Start));
-    let root = SyntaxKind::from(ROOT);
-    assert!(rt; matches!(&markers[1], Call::Complete { marker: 1, kind } if *kind == root));
-    assert!(rt; matches!(&markers[2], Call::Abandon { marker: 2 }));
-    assert!(rt; matches!(&markers[3], Call::Precede { node: 3 }));
-    assert!(rt; matches!(&markers[4], Call::ExtendTo { node: 4, marker: 5 }));
-
-    let eaten = calls_of(
-        &rt,
-        "eat COLON_EQ, bump_any, bump_remap MESSAGE_KW, expect SEMICOLON",
-    )?;
-    assert_eq!(rt; eaten.len(), 4);
-    assert!(rt; matches!(&eaten[0], Call::Eat { kind } if *kind == SyntaxKind::COLON_EQ));
-    assert!(rt; matches!(&eaten[1], Call::BumpAny));
-    let message = SyntaxKind::from(MESSAGE_KW);
-    assert!(rt; matches!(&eaten[2], Call::BumpRemap { kind } if *kind == message));
-    assert!(rt; matches!(&eaten[3], Call::Expect { kind } if *kind == SyntaxKind::SEMICOLON));
-    Ok(())
-}
-
-#[test]
-fn texts_have_their_calls_with_errors(rt: HostRuntime) -> Result<(), Fail> {
-    let calls = calls_of(&rt, "error e, err_recover f SEMICOLON, err_and_bump m")?;
-    assert_eq!(rt; calls.len(), 3);
-    assert!(rt; matches!(&calls[0], Call::Error { message } if message.as_str() == "e"));
-    let semicolon = SyntaxKind::SEMICOLON;
-    assert!(rt;
-        matches!(
-            &calls[1],
-            Call::ErrRecover { message, recovery }
-                if message.as_str() == "f" && recovery.contains(semicolon)
-        )
-    );
-    assert!(rt; matches!(&calls[2], Call::ErrAndBump { message } if message.as_str() == "m"));
-    assert_eq!(rt; calls_of(&rt, "")?.len(), 0);
     Ok(())
 }

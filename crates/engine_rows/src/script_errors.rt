@@ -1,7 +1,7 @@
 //! Calls of which there is no script.
 
-use crate::fixture::call_list::calls_of;
-use crate::fixture::words::no_words;
+use row_fixtures::call_list::calls_of;
+use row_fixtures::words::no_words;
 use squawk_script::{Script, ScriptError};
 use std::process::Abort;
 use std::test::Fail;
@@ -12,7 +12,7 @@ fn assert_refused(
     calls: &str,
     wanted: ScriptError,
 ) -> Result<(), Fail> {
-    match Script::new(rt.alloc(), calls_of(rt, calls)?, no_words()) {
+    match Script::new(rt.alloc(), calls_of(rt.alloc(), calls)?, no_words()) {
         Ok(_) => panic!(rt; "{calls:?} is a script"),
         Err(error) => assert_eq!(rt; error, wanted, "{calls:?}"),
     }

@@ -2,14 +2,14 @@
 //!
 //! These tests also pass where an allocation is refused.
 
-use crate::fixture::cases::{EXTENDED_IN_FRONT, EXTENDED_TWICE};
-use crate::fixture::memory::{assert_script_if_made, input_of, table_if_made};
-use crate::fixture::rows::{Case, Kinds};
+use crate::fixture::memory::{assert_script_if_made, input_of, table_of};
+use row_fixtures::cases::{EXTENDED_IN_FRONT, EXTENDED_TWICE};
+use row_fixtures::rows::{Case, Kinds};
 use std::process::Abort;
 
 /// Ends the test unless the script of the calls has the line, or memory is wanting.
 fn assert_whole(rt: &(impl Abort + AllocGlobal), case: Case<'_>) {
-    let Some(table) = table_if_made(rt, case.text, Kinds::Plain) else {
+    let Some(table) = table_of(rt, case.text, Kinds::Plain) else {
         return;
     };
     let input = input_of(rt, &table, Kinds::Plain);

@@ -1,26 +1,33 @@
 //! Scripts as grammars.
 
-use crate::fixture::kinds::{NAME, ROOT};
-use crate::fixture::lexer::tokens_of;
-use crate::fixture::output::{assert_output, enter};
-use crate::fixture::rows::{Kinds, LIMITS, parse_within};
-use crate::fixture::scripts::script_of;
-use crate::fixture::words::no_words;
-use crate::fixture::{NO_KEYWORDS, parse_script, table};
-use squawk_parser::{EntryPoint, Step, SyntaxKind};
+use crate::fixture::output::assert_recorded;
+use row_fixtures::keywords::NO_KEYWORDS;
+use row_fixtures::kinds::{NAME, ROOT};
+use row_fixtures::lexer::tokens_of;
+use row_fixtures::output::enter;
+use row_fixtures::rows::{Kinds, LIMITS, parse_within};
+use row_fixtures::scripts::{parse_script, script_of};
+use row_fixtures::tokens::table;
+use row_fixtures::words::no_words;
+use squawk_parser::{EntryPoint, LexedStr, Output, Step, SyntaxKind};
 use squawk_script::{Call, Script};
 use std::alloc::{AllocError, Global};
+use std::process::Abort;
 use std::test::Fail;
+
+/// Ends the test if the output fits the table.
+fn assert_unfit(rt: &impl Abort, table: &LexedStr<'_>, output: &Output) {
+    assert!(rt; !table.fits(output));
+}
 
 #[test]
 fn script_without_calls_records_nothing(rt: HostRuntime) -> Result<(), Fail> {
     for text in ["", " ", "a b"] {
         let tokens = tokens_of(rt.alloc(), text)?;
         let table = table(rt.alloc(), text, &tokens)?;
-        let output = parse_script(&rt, &table, "")?;
-        assert_output(&rt, &output, "")?;
-        assert_eq!(rt; output.recorded(), 0, "{text:?}");
-        assert!(rt; !table.fits(&output), "{text:?}");
+        let output = parse_script(rt.alloc(), &table, "")?;
+        assert_recorded(&rt, &output, "", 0)?;
+        assert_unfit(&rt, &table, &output);
     }
     Ok(())
 }
@@ -29,10 +36,13 @@ fn script_without_calls_records_nothing(rt: HostRuntime) -> Result<(), Fail> {
 fn token_may_stand_outside_of_all_nodes(rt: HostRuntime) -> Result<(), Fail> {
     let tokens = tokens_of(rt.alloc(), "a")?;
     let table = table(rt.alloc(), "a", &tokens)?;
-    let output = parse_script(&rt, &table, "start, start, bump_any, abandon 0, abandon 1")?;
-    assert_output(&rt, &output, "IDENT")?;
-    assert_eq!(rt; output.recorded(), 3);
-    assert!(rt; !table.fits(&output));
+    let output = parse_script(
+        rt.alloc(),
+        &table,
+        "start, start, bump_any, abandon 0, abandon 1",
+    )?;
+    assert_recorded(&rt, &output, "IDENT", 3)?;
+    assert_unfit(&rt, &table, &output);
     Ok(())
 }
 
@@ -41,13 +51,12 @@ fn each_entry_point_makes_the_calls(rt: HostRuntime) -> Result<(), Fail> {
     let tokens = tokens_of(rt.alloc(), "a b")?;
     let input = table(rt.alloc(), "a b", &tokens)?.to_input(rt.alloc(), &NO_KEYWORDS)?;
     let script = script_of(
-        &rt,
+        rt.alloc(),
         "start, start, bump_any, start, bump_any, complete 2 NAME, extend_to 2 1, complete 0 ROOT",
     )?;
     for entry_point in [EntryPoint::SourceFile, EntryPoint::Plpgsql] {
         let output = entry_point.parse(rt.alloc(), &input, &script)?;
-        assert_output(&rt, &output, "ROOT(NAME(IDENT IDENT))")?;
-        assert_eq!(rt; output.recorded(), 7);
+        assert_recorded(&rt, &output, "ROOT(NAME(IDENT IDENT))", 7)?;
     }
     Ok(())
 }
@@ -74,8 +83,13 @@ fn many_nodes(alloc: Global, count: u32) -> Result<Vec<Call>, AllocError> {
 fn each_of_many_markers_has_its_node(rt: HostRuntime) -> Result<(), Fail> {
     let script = Script::new(rt.alloc(), many_nodes(rt.alloc(), 1999)?, no_words())?;
     let output = parse_within(rt.alloc(), "", Kinds::Plain, &script, LIMITS)??;
-    assert_eq!(rt; output.recorded(), 4000);
-    assert_eq!(rt; output.turns(), 6000);
+    assert_many(&rt, &output);
+    Ok(())
+}
+
+/// Ends the test unless the output has a root around 1999 other nodes.
+fn assert_many(rt: &impl Abort, output: &Output) {
+    assert_eq!(rt; (output.recorded(), output.turns()), (4000, 6000));
     let mut steps = output.iter();
     assert_eq!(rt; steps.next(), Some(enter(ROOT)));
     for i in 0..1999 {
@@ -84,5 +98,4 @@ fn each_of_many_markers_has_its_node(rt: HostRuntime) -> Result<(), Fail> {
     }
     assert_eq!(rt; steps.next(), Some(Step::Exit));
     assert_eq!(rt; steps.next(), None);
-    Ok(())
 }

@@ -1,12 +1,12 @@
 //! Sinks that refuse a step.
 
-use crate::fixture::cases::STATEMENT;
-use crate::fixture::lexer::tokens_of;
-use crate::fixture::lines::{is_beginning, line_of};
-use crate::fixture::rows::{Case, Kinds};
-use crate::fixture::scripts::script_output_of;
-use squawk_parser::{LexedStr, StepList, StepSink, StrStep};
-use std::alloc::AllocError;
+use row_fixtures::cases::STATEMENT;
+use row_fixtures::lexer::tokens_of;
+use row_fixtures::lines::{is_beginning, line_of};
+use row_fixtures::rows::{Case, Kinds};
+use row_fixtures::scripts::script_output_of;
+use squawk_parser::{LexedStr, Output, StepList, StepSink, StrStep};
+use std::alloc::{AllocError, Global};
 use std::process::Abort;
 use std::test::Fail;
 
@@ -57,6 +57,56 @@ impl StepSink for RefusingList {
     }
 }
 
+/// What a list received that refuses a step on purpose.
+#[derive(Drop)]
+struct Received {
+    answer: Result<bool, Refusal>,
+    count: usize,
+    line: String,
+}
+
+/// What a list receives that refuses the step behind so many, if the output fits.
+fn refused_behind(
+    alloc: Global,
+    table: &LexedStr<'_>,
+    output: &Output,
+    taken: usize,
+) -> Result<Option<Received>, AllocError> {
+    if !table.fits(output) {
+        return Ok(None);
+    }
+    let mut sink = RefusingList {
+        list: StepList::new(alloc),
+        before_refusal: Some(taken),
+    };
+    let answer = table.intersperse_trivia(output, &mut sink);
+    let steps = sink.list.steps();
+    Ok(Some(Received {
+        answer,
+        count: steps.len(),
+        line: line_of(alloc, steps)?,
+    }))
+}
+
+/// Ends the test unless a list that refuses the step behind so many holds those before it, a beginning of
+/// the line, and the refusal is handed on.
+fn assert_refused(rt: &impl Abort, received: &Received, taken: usize, line: &str) {
+    assert_eq!(rt;
+        received.answer,
+        Err(Refusal::OnPurpose),
+        "after {taken} steps"
+    );
+    assert_eq!(rt; received.count, taken, "{line}");
+    let beginning = received.line.as_str();
+    assert!(rt; is_beginning(beginning, line), "{beginning}");
+}
+
+/// Ends the test unless a list that takes all steps has the line.
+fn assert_taken(rt: &impl Abort, received: &Received, line: &str) {
+    assert_eq!(rt; received.answer, Ok(true), "{line}");
+    assert_eq!(rt; received.line.as_str(), line);
+}
+
 /// Ends the test unless a list that refuses one of the steps on purpose holds those before it, whichever
 /// it is, and the refusal is handed on. There are so many steps, and a list that takes all has the line.
 fn assert_refused_at_each_step(
@@ -67,26 +117,13 @@ fn assert_refused_at_each_step(
 ) -> Result<(), Fail> {
     let tokens = tokens_of(rt.alloc(), case.text)?;
     let table = LexedStr::new(rt.alloc(), case.text, &tokens, &kinds.keywords())?;
-    let output = script_output_of(rt, case.text, kinds, case.calls)?;
-    assert!(rt; table.fits(&output));
+    let output = script_output_of(rt.alloc(), case.text, kinds, case.calls)?;
     for taken in 0..steps {
-        let mut sink = RefusingList {
-            list: StepList::new(rt.alloc()),
-            before_refusal: Some(taken),
-        };
-        let answer = table.intersperse_trivia(&output, &mut sink);
-        assert_eq!(rt; answer, Err(Refusal::OnPurpose), "after {taken} steps");
-        assert_eq!(rt; sink.list.steps().len(), taken);
-        let line = line_of(rt.alloc(), sink.list.steps())?;
-        assert!(rt; is_beginning(line.as_str(), case.line), "{line}");
+        let received = refused_behind(rt.alloc(), &table, &output, taken)?.ok_or("it doesn't fit")?;
+        assert_refused(rt, &received, taken, case.line);
     }
-    let mut sink = RefusingList {
-        list: StepList::new(rt.alloc()),
-        before_refusal: Some(steps),
-    };
-    assert_eq!(rt; table.intersperse_trivia(&output, &mut sink), Ok(true));
-    let line = line_of(rt.alloc(), sink.list.steps())?;
-    assert_eq!(rt; line.as_str(), case.line);
+    let received = refused_behind(rt.alloc(), &table, &output, steps)?.ok_or("it doesn't fit")?;
+    assert_taken(rt, &received, case.line);
     Ok(())
 }
 

@@ -2,16 +2,14 @@
 //!
 //! These tests also pass where an allocation is refused.
 
-use crate::fixture::cases::{EXPECTED_NAME, EXPECTED_NUMBER, SKIPPED_TOKEN, STATEMENT};
-use crate::fixture::kinds::{
-    LITERAL, ROOT, SELECT, SELECT_CLAUSE, SOURCE_FILE, TARGET, TARGET_LIST,
-};
 use crate::fixture::memory::{
-    assert_script_if_made, assert_sent_if_made, input_of, output_if_made, table_if_made,
+    assert_script_if_made, assert_sent_if_made, input_of, output_if_made, table_of,
 };
-use crate::fixture::parts::{Act, Message, PartGrammar, node, then};
-use crate::fixture::rows::{Case, Kinds, names};
-use squawk_parser::{Part, SyntaxKind};
+use row_fixtures::cases::{EXPECTED_NAME, EXPECTED_NUMBER, SKIPPED_TOKEN, STATEMENT};
+use row_fixtures::kinds::{LITERAL, ROOT, SELECT, SELECT_CLAUSE, SOURCE_FILE, TARGET, TARGET_LIST};
+use row_fixtures::parts::{Act, Message, PartGrammar, node, then};
+use row_fixtures::rows::{Case, Kinds, names};
+use squawk_parser::{EntryPoint, Part, SyntaxKind};
 use std::process::Abort;
 
 /// Ends the test unless the part that makes the calls, and their script, each have the line, or
@@ -22,13 +20,14 @@ fn assert_whole<F: Part<Answer = ()> + Copy>(
     part: F,
     case: Case<'_>,
 ) {
-    let Some(table) = table_if_made(rt, case.text, kinds) else {
+    let Some(table) = table_of(rt, case.text, kinds) else {
         return;
     };
     let input = input_of(rt, &table, kinds);
     let names = names();
     let grammar = PartGrammar::new(kinds.words(&names), part);
-    if let Some(output) = output_if_made(rt, &input, &grammar) {
+    let made = EntryPoint::SourceFile.parse(rt.alloc(), &input, &grammar);
+    if let Some(output) = output_if_made(rt, made) {
         assert_sent_if_made(rt, &table, &output, case.line);
     }
     assert_script_if_made(rt, &table, &input, kinds, case);

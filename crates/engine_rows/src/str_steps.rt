@@ -1,8 +1,10 @@
 //! The iterator over the steps of an output, with the texts of its tokens and with the trivia.
 
-use crate::fixture::kinds::{NAME, ROOT};
-use crate::fixture::{parse_script, space, table, word};
-use squawk_parser::{StrStep, SyntaxKind};
+use row_fixtures::kinds::{NAME, ROOT};
+use row_fixtures::scripts::parse_script;
+use row_fixtures::tokens::{space, table, word};
+use squawk_parser::{LexedStr, Output, StrStep, SyntaxKind};
+use std::process::Abort;
 use std::test::Fail;
 
 fn enter(kind: u16) -> StrStep<'static> {
@@ -15,13 +17,31 @@ fn token(kind: SyntaxKind, text: &str) -> StrStep<'_> {
     StrStep::Token { kind, text }
 }
 
+/// Ends the test unless the iterator over the output gives these steps and then none any more, and
+/// answers this at its end.
+fn assert_given(
+    rt: &impl Abort,
+    table: &LexedStr<'_>,
+    output: &Output,
+    wanted: &[StrStep<'_>],
+    is_whole: bool,
+) {
+    assert!(rt; table.fits(output));
+    let mut steps = table.str_steps(output);
+    for step in wanted {
+        assert_eq!(rt; steps.next().as_ref(), Some(step));
+    }
+    assert_eq!(rt; steps.next(), None);
+    assert_eq!(rt; steps.eaten_all(), is_whole);
+    assert_eq!(rt; steps.next(), None);
+    assert_eq!(rt; steps.eaten_all(), is_whole);
+}
+
 #[test]
 fn steps_come_one_after_another_and_then_none(rt: HostRuntime) -> Result<(), Fail> {
     let table = table(rt.alloc(), "x ", &[word(1), space(1)])?;
     let calls = "start, start, bump_any, complete 1 NAME, error e, complete 0 ROOT";
-    let output = parse_script(&rt, &table, calls)?;
-    assert!(rt; table.fits(&output));
-
+    let output = parse_script(rt.alloc(), &table, calls)?;
     let wanted = [
         enter(ROOT),
         enter(NAME),
@@ -31,43 +51,32 @@ fn steps_come_one_after_another_and_then_none(rt: HostRuntime) -> Result<(), Fai
         token(SyntaxKind::WHITESPACE, " "),
         StrStep::Exit,
     ];
-    let mut steps = table.str_steps(&output);
-    for step in &wanted {
-        assert_eq!(rt; steps.next().as_ref(), Some(step));
-    }
-    assert_eq!(rt; steps.next(), None);
-    assert_eq!(rt; steps.next(), None);
-    assert!(rt; steps.eaten_all());
+    assert_given(&rt, &table, &output, &wanted, true);
     Ok(())
 }
 
 #[test]
 fn steps_without_a_token_of_the_input_are_not_all(rt: HostRuntime) -> Result<(), Fail> {
     let table = table(rt.alloc(), "a b", &[word(1), space(1), word(1)])?;
-    let output = parse_script(&rt, &table, "start, bump_any, complete 0 ROOT")?;
-    assert!(rt; table.fits(&output));
-
+    let output = parse_script(rt.alloc(), &table, "start, bump_any, complete 0 ROOT")?;
     let wanted = [
         enter(ROOT),
         token(SyntaxKind::IDENT, "a"),
         token(SyntaxKind::WHITESPACE, " "),
         StrStep::Exit,
     ];
-    let mut steps = table.str_steps(&output);
-    for step in &wanted {
-        assert_eq!(rt; steps.next().as_ref(), Some(step));
-    }
-    assert_eq!(rt; steps.next(), None);
-    assert!(rt; !steps.eaten_all());
-    assert_eq!(rt; steps.next(), None);
-    assert!(rt; !steps.eaten_all());
+    assert_given(&rt, &table, &output, &wanted, false);
     Ok(())
 }
 
 #[test]
 fn bounds_are_the_steps_and_the_raw_tokens_that_are_left(rt: HostRuntime) -> Result<(), Fail> {
     let table = table(rt.alloc(), "a b", &[word(1), space(1), word(1)])?;
-    let output = parse_script(&rt, &table, "start, bump_any, bump_any, complete 0 ROOT")?;
+    let output = parse_script(
+        rt.alloc(),
+        &table,
+        "start, bump_any, bump_any, complete 0 ROOT",
+    )?;
     assert!(rt; table.fits(&output));
 
     let mut steps = table.str_steps(&output);

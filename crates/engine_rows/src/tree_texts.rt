@@ -1,7 +1,8 @@
 //! Trees as indented text.
 
-use crate::fixture::kinds::ROOT;
-use crate::fixture::{Calls, parse, space, table, word};
+use row_fixtures::calls::{Calls, parse};
+use row_fixtures::kinds::ROOT;
+use row_fixtures::tokens::{space, table, word};
 use squawk_parser::{StepSink, StrStep, SyntaxKind};
 use squawk_tree::TreeText;
 use std::alloc::{AllocError, Global};

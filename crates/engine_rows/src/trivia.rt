@@ -1,8 +1,10 @@
 //! Outputs with the trivia of their texts put back.
 
-use crate::fixture::lexer::tokens_of;
-use crate::fixture::rows::assert_sent;
-use crate::fixture::{Calls, parse, parse_script, table};
+use crate::fixture::sent::assert_sent;
+use row_fixtures::calls::{Calls, parse};
+use row_fixtures::lexer::tokens_of;
+use row_fixtures::scripts::parse_script;
+use row_fixtures::tokens::table;
 use std::process::Abort;
 use std::test::Fail;
 
@@ -17,45 +19,36 @@ fn assert_calls(
     let tokens = tokens_of(rt.alloc(), text)?;
     let table = table(rt.alloc(), text, &tokens)?;
     let by_grammar = parse(rt.alloc(), &table, calls)?;
-    let by_script = parse_script(rt, &table, calls.list())?;
+    let by_script = parse_script(rt.alloc(), &table, calls.list())?;
     assert_sent(rt, &by_grammar, text, line)?;
     assert_sent(rt, &by_script, text, line)?;
-    assert_eq!(rt; by_grammar.recorded(), by_script.recorded());
-    assert_eq!(rt; by_grammar.turns(), by_script.turns());
+    assert_eq!(rt; by_grammar.recorded(), by_script.recorded(), "{line}");
+    assert_eq!(rt; by_grammar.turns(), by_script.turns(), "{line}");
     Ok(())
 }
 
 #[test]
-fn empty_text_has_a_node_alone(rt: HostRuntime) -> Result<(), Fail> {
-    assert_calls(&rt, Calls::Node, "", "ROOT()")
-}
-
-#[test]
-fn nodes_that_cross_in_the_calls_nest_in_the_steps(rt: HostRuntime) -> Result<(), Fail> {
-    assert_calls(
-        &rt,
-        Calls::CrossingNodes,
-        "a b c",
-        "ROOT(CALL(a _ FIELD(b) _ c))",
-    )
-}
-
-#[test]
-fn token_that_was_not_eaten_is_left_out(rt: HostRuntime) -> Result<(), Fail> {
-    assert_calls(&rt, Calls::NodeAroundToken, "a b", "ROOT(a _) ...")
-}
-
-#[test]
-fn byte_order_mark_goes_into_the_node(rt: HostRuntime) -> Result<(), Fail> {
-    assert_calls(
-        &rt,
-        Calls::NodeAroundToken,
-        "\u{feff}a",
-        "ROOT(WHITESPACE'\\u{feff}' a)",
-    )
-}
-
-#[test]
-fn white_space_stands_between_two_words(rt: HostRuntime) -> Result<(), Fail> {
-    assert_calls(&rt, Calls::NodeAroundTwoTokens, "a b", "ROOT(a _ b)")
+fn trivia_stands_where_the_calls_leave_it(rt: HostRuntime) -> Result<(), Fail> {
+    for (calls, text, line) in [
+        // An empty text has a node alone.
+        (Calls::Node, "", "ROOT()"),
+        // Nodes that cross in the calls nest in the steps.
+        (
+            Calls::CrossingNodes,
+            "a b c",
+            "ROOT(CALL(a _ FIELD(b) _ c))",
+        ),
+        // A token that was not eaten is left out.
+        (Calls::NodeAroundToken, "a b", "ROOT(a _) ..."),
+        // A byte order mark goes into the node.
+        (
+            Calls::NodeAroundToken,
+            "\u{feff}a",
+            "ROOT(WHITESPACE'\\u{feff}' a)",
+        ),
+        (Calls::NodeAroundTwoTokens, "a b", "ROOT(a _ b)"),
+    ] {
+        assert_calls(&rt, calls, text, line)?;
+    }
+    Ok(())
 }

@@ -1,0 +1,5 @@
+//! What the tests share.
+
+pub mod moves;
+pub mod output;
+pub mod rows;

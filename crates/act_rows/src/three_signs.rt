@@ -1,0 +1,98 @@
+//! Three signs as one kind: what eating them records, and which tables that fits.
+
+use crate::fixture::rows::{assert_counts, assert_row};
+use row_fixtures::kinds::ROOT;
+use row_fixtures::parts::{Act, node, then};
+use row_fixtures::rows::{Case, Kinds, output_of};
+use row_fixtures::scripts::script_output_of;
+use row_fixtures::signs::{GT, MINUS};
+use row_fixtures::tokens::{space, table, word};
+use squawk_parser::{Output, SyntaxKind};
+use std::process::Abort;
+use std::test::Fail;
+
+#[test]
+fn three_signs_are_eaten_as_one_token(rt: HostRuntime) -> Result<(), Fail> {
+    let eat = Act::Eat(SyntaxKind::LONG_ARROW);
+    assert_row(
+        &rt,
+        Kinds::Operators,
+        node(ROOT, then(Act::BumpAny, then(eat, Act::BumpAny))),
+        Case {
+            calls: "start, bump_any, eat LONG_ARROW, bump_any, complete 0 ROOT",
+            text: "a->>b",
+            line: "ROOT(a LONG_ARROW'->>' b)",
+        },
+    )
+}
+
+#[test]
+fn three_signs_are_one_event(rt: HostRuntime) -> Result<(), Fail> {
+    let calls = "start, bump_any, eat LONG_ARROW, bump_any, complete 0 ROOT";
+    assert_counts(&rt, Kinds::Plain, "a->>b", calls, 5, 5 + 1)
+}
+
+#[test]
+fn three_signs_of_which_one_is_apart_are_not_eaten(rt: HostRuntime) -> Result<(), Fail> {
+    assert_row(
+        &rt,
+        Kinds::Operators,
+        node(ROOT, then(Act::Eat(SyntaxKind::LONG_ARROW), Act::BumpAny)),
+        Case {
+            calls: "start, eat LONG_ARROW, bump_any, complete 0 ROOT",
+            text: "-> >",
+            line: "ROOT(-) ...",
+        },
+    )
+}
+
+#[test]
+fn expected_arrow_is_eaten(rt: HostRuntime) -> Result<(), Fail> {
+    assert_row(
+        &rt,
+        Kinds::Operators,
+        node(ROOT, Act::Expect(SyntaxKind::LONG_ARROW)),
+        Case {
+            calls: "start, expect LONG_ARROW, complete 0 ROOT",
+            text: "->>",
+            line: "ROOT(LONG_ARROW'->>')",
+        },
+    )
+}
+
+#[test]
+fn expected_arrow_that_is_apart_is_an_error(rt: HostRuntime) -> Result<(), Fail> {
+    assert_row(
+        &rt,
+        Kinds::Operators,
+        node(ROOT, Act::Expect(SyntaxKind::LONG_ARROW)),
+        Case {
+            calls: "start, expect LONG_ARROW, complete 0 ROOT",
+            text: "- >>",
+            line: "ROOT(!'expected 53'@0) ...",
+        },
+    )
+}
+
+/// Ends the test unless the output, of three signs that are glued, fits where three tokens touch.
+fn assert_fits_three(rt: &(impl Abort + AllocGlobal), output: &Output) -> Result<(), Fail> {
+    let others = [word(1), word(1), word(1)];
+    assert!(rt; table(rt.alloc(), "abc", &others)?.fits(output));
+    let third_apart = [MINUS, GT, space(1), GT];
+    assert!(rt; !table(rt.alloc(), "-> >", &third_apart)?.fits(output));
+    let first_apart = [MINUS, space(1), GT, GT];
+    assert!(rt; !table(rt.alloc(), "- >>", &first_apart)?.fits(output));
+    assert!(rt; !table(rt.alloc(), "->", &[MINUS, GT])?.fits(output));
+    Ok(())
+}
+
+#[test]
+fn three_glued_signs_fit_where_three_tokens_touch(rt: HostRuntime) -> Result<(), Fail> {
+    let part = node(ROOT, Act::Eat(SyntaxKind::LONG_ARROW));
+    assert_fits_three(&rt, &output_of(rt.alloc(), "->>", Kinds::Plain, part)?)?;
+    let calls = "start, eat LONG_ARROW, complete 0 ROOT";
+    assert_fits_three(
+        &rt,
+        &script_output_of(rt.alloc(), "->>", Kinds::Plain, calls)?,
+    )
+}

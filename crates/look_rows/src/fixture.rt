@@ -1,0 +1,5 @@
+//! What the tests share.
+
+pub mod looks;
+pub mod notes;
+pub mod output;

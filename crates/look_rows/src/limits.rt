@@ -1,0 +1,111 @@
+//! Parts of a grammar that see only so many tokens.
+ghost use Rattle.squawk_parser.specs.State.{HasNotFailed};
+
+use crate::fixture::looks::{Look, ask, ask_under, assert_answers, at_under, length};
+use crate::fixture::notes::{note, yes_or_no};
+use crate::fixture::output::assert_output;
+use row_fixtures::keywords::NO_KEYWORDS;
+use row_fixtures::kinds::{NO, YES};
+use row_fixtures::tokens::{space, table, word};
+use row_fixtures::words::no_words;
+use squawk_parser::{EntryPoint, Grammar, Parser, Part, SyntaxKind, TokenSet, Words};
+use std::alloc::AllocError;
+use std::test::Fail;
+
+#[test]
+fn limit_hides_what_stands_behind_it(rt: HostRuntime) -> Result<(), Fail> {
+    let input = table(rt.alloc(), "a", &[word(1)])?.to_input(rt.alloc(), &NO_KEYWORDS)?;
+    let questions = [
+        ask(Look::Kind(usize::MAX, 0)),
+        at_under(0, SyntaxKind::EOF),
+        ask_under(usize::MAX, Look::Kind(0, 3)),
+        // The limit doesn't stay.
+        ask_under(0, Look::Kind(0, 3)),
+        ask(Look::Kind(0, 3)),
+    ];
+    assert_answers(
+        &rt,
+        &input,
+        TokenSet::EMPTY,
+        &questions,
+        &[YES, YES, YES, NO, YES],
+    )
+}
+
+/// Tries to eat two tokens, and answers the position.
+struct EatTwo;
+
+impl Part for EatTwo {
+    ghost use Rattle.squawk_parser.specs.State.{HasNotFailed};
+
+    type Answer = usize;
+
+    ghost does = { λ _ before after _. HasNotFailed after → HasNotFailed before };
+
+    fn run(self, p: &mut Parser<'_>) -> usize {
+        let EatTwo = self;
+        p.bump_any();
+        p.bump_any();
+        p.position()
+    }
+}
+
+/// Looks two places ahead under the greatest limit.
+struct LookFar;
+
+impl Part for LookFar {
+    ghost use Rattle.std.specs.Prelude.{◌≡◌};
+
+    type Answer = bool;
+
+    ghost does = { λ _ before after _. after ≡ before };
+
+    fn run(self, p: &mut Parser<'_>) -> bool {
+        let LookFar = self;
+        p.with_limit(usize::MAX, Look::Kind(1, 3)) == YES
+    }
+}
+
+/// A grammar that eats under limits.
+#[derive(Clone, Copy)]
+struct Limiting;
+
+impl Grammar for Limiting {
+    ghost use Rattle.squawk_parser.specs.Words.{no_words};
+
+    ghost leaves = { λ _ _ _ _. Unit {0} };
+
+    ghost runs = { λ _ _ _ _. Unit {0} };
+
+    ghost meaning = { λ _. no_words };
+
+    fn words(&self) -> Words<'_> {
+        no_words()
+    }
+
+    fn entry_point(&self, p: &mut Parser<'_>) -> Result<(), AllocError> {
+        let one = p.with_limit(1, LookFar);
+        note(p, yes_or_no(one));
+        let two = p.with_limit(2, LookFar);
+        note(p, yes_or_no(two));
+        let position = p.with_limit(1, EatTwo);
+        note(p, length(position));
+        let position = p.with_limit(usize::MAX, EatTwo);
+        note(p, length(position));
+        Ok(())
+    }
+
+    fn plpgsql_entry_point(&self, p: &mut Parser<'_>) -> Result<(), AllocError> {
+        self.entry_point(p)
+    }
+}
+
+#[test]
+fn limit_inside_a_limit_is_the_smaller(rt: HostRuntime) -> Result<(), Fail> {
+    let tokens = [word(1), space(1), word(1), space(1), word(1)];
+    let input = table(rt.alloc(), "a b c", &tokens)?.to_input(rt.alloc(), &NO_KEYWORDS)?;
+    let output = EntryPoint::SourceFile.parse(rt.alloc(), &input, &Limiting)?;
+    // One token is eaten under the limit of one, then the other two.
+    assert_output(&rt, &output, "NO() YES() IDENT 721() IDENT IDENT 723()")?;
+    Ok(())
+}

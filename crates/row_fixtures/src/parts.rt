@@ -1,0 +1,229 @@
+//! Parts of grammars that make calls, and grammars that are put together from them.
+ghost use Rattle.std.specs.Prelude.{◌≡◌};
+ghost use Rattle.squawk_log.specs.Draft.{holes_of};
+ghost use Rattle.squawk_parser.specs.State.{HasNotFailed, Keeps};
+
+use crate::kinds::ROOT;
+use squawk_parser::{Grammar, Parser, Part, SyntaxKind, TokenSet, Words, has_tail};
+use std::alloc::AllocError;
+
+/// A call without a marker. A kind that the call doesn't take makes it do nothing.
+#[derive(Clone, Copy)]
+pub enum Act {
+    BumpAny,
+    BumpRemap(SyntaxKind),
+    Eat(SyntaxKind),
+    /// With the current token as its tail.
+    EatWith(SyntaxKind),
+    Expect(SyntaxKind),
+    /// An error with this text: `e`, `f` or `m`.
+    Error(Message),
+    /// The same, and one kind to go on from.
+    ErrRecover(Message, SyntaxKind),
+    ErrAndBump(Message),
+}
+
+/// The text of an error.
+#[derive(Clone, Copy)]
+pub enum Message {
+    E,
+    F,
+    M,
+}
+
+impl Message {
+    fn text(self) -> &'static str {
+        match self {
+            Message::E => "e",
+            Message::F => "f",
+            Message::M => "m",
+        }
+    }
+}
+
+impl Part for Act {
+    type Answer = ();
+
+    ghost does = { λ _ _ _ _. Unit {0} };
+
+    fn run(self, p: &mut Parser<'_>) {
+        match self {
+            Act::BumpAny => p.bump_any(),
+            Act::BumpRemap(kind) => p.bump_remap(kind),
+            Act::Eat(kind) => eat(p, kind),
+            Act::EatWith(kind) => eat_with(p, kind),
+            Act::Expect(kind) => expect(p, kind),
+            Act::Error(msg) => p.error(msg.text()),
+            Act::ErrRecover(msg, kind) => err_recover(p, msg, kind),
+            Act::ErrAndBump(msg) => p.err_and_bump(msg.text()),
+        }
+    }
+}
+
+fn eat(p: &mut Parser<'_>, kind: SyntaxKind)
+    ensures keeps { Keeps p.old p.new }
+    ensures holes { HasNotFailed p.new → holes_of p.new.draft.items ≡ holes_of p.old.draft.items }
+{
+    if kind != SyntaxKind::EOF && !has_tail(kind) {
+        p.eat(kind);
+    }
+}
+
+fn eat_with(p: &mut Parser<'_>, kind: SyntaxKind)
+    ensures keeps { Keeps p.old p.new }
+    ensures holes { HasNotFailed p.new → holes_of p.new.draft.items ≡ holes_of p.old.draft.items }
+{
+    if has_tail(kind) {
+        p.eat_with(kind, CurrentToken);
+    }
+}
+
+fn expect(p: &mut Parser<'_>, kind: SyntaxKind)
+    ensures keeps { Keeps p.old p.new }
+    ensures holes { HasNotFailed p.new → holes_of p.new.draft.items ≡ holes_of p.old.draft.items }
+{
+    if kind != SyntaxKind::EOF && !has_tail(kind) {
+        p.expect(kind);
+    }
+}
+
+fn err_recover(p: &mut Parser<'_>, msg: Message, kind: SyntaxKind)
+    ensures keeps { Keeps p.old p.new }
+    ensures holes { HasNotFailed p.new → holes_of p.new.draft.items ≡ holes_of p.old.draft.items }
+{
+    if u16::from(kind) < 640 {
+        p.err_recover(msg.text(), TokenSet::new(&[kind]));
+    }
+}
+
+/// The current token.
+#[derive(Clone, Copy)]
+struct CurrentToken;
+
+impl Part for CurrentToken {
+    type Answer = ();
+
+    ghost does = { λ _ _ _ _. Unit {0} };
+
+    fn run(self, p: &mut Parser<'_>) {
+        p.bump_any();
+    }
+}
+
+/// A node around a part. A kind that no node may have counts as `ROOT`.
+#[derive(Clone, Copy)]
+pub struct Around<F> {
+    kind: u16,
+    inner: F,
+}
+
+pub fn node<F>(kind: u16, inner: F) -> Around<F> {
+    Around { kind, inner }
+}
+
+impl<F: Part<Answer = ()>> Part for Around<F> {
+    type Answer = ();
+
+    ghost does = { λ _ _ _ _. Unit {0} };
+
+    fn run(self, p: &mut Parser<'_>) {
+        let Around { kind, inner } = self;
+        let kind = if kind == 1 { ROOT } else { kind };
+        let marker = p.start();
+        inner.run(p);
+        let _ = marker.complete(p, SyntaxKind::from(kind));
+    }
+}
+
+/// A part, and then another.
+#[derive(Clone, Copy)]
+pub struct InOrder<F, G> {
+    first: F,
+    second: G,
+}
+
+pub fn then<F, G>(first: F, second: G) -> InOrder<F, G> {
+    InOrder { first, second }
+}
+
+impl<F: Part<Answer = ()>, G: Part<Answer = ()>> Part for InOrder<F, G> {
+    type Answer = ();
+
+    ghost does = { λ _ _ _ _. Unit {0} };
+
+    fn run(self, p: &mut Parser<'_>) {
+        let InOrder { first, second } = self;
+        first.run(p);
+        second.run(p);
+    }
+}
+
+/// No call.
+#[derive(Clone, Copy)]
+pub struct Nothing;
+
+impl Part for Nothing {
+    type Answer = ();
+
+    ghost does = { λ _ _ _ _. Unit {0} };
+
+    fn run(self, _p: &mut Parser<'_>) {}
+}
+
+/// A grammar whose entry points run a part. A set of operators' kinds that has the end counts as the
+/// empty one.
+#[derive(Clone, Copy)]
+pub struct PartGrammar<'t, F> {
+    operator_first: TokenSet,
+    names: &'t [(SyntaxKind, &'t str)],
+    part: F,
+}
+
+impl<'t, F> PartGrammar<'t, F> {
+    pub fn new(words: Words<'t>, part: F) -> PartGrammar<'t, F> {
+        let Words {
+            operator_first,
+            names,
+        } = words;
+        PartGrammar {
+            operator_first,
+            names,
+            part,
+        }
+    }
+}
+
+impl<'t, F: Part<Answer = ()> + Copy> Grammar for PartGrammar<'t, F> {
+    ghost use Rattle.std.specs.Prelude.{if◌then◌else◌, map};
+    ghost use Rattle.squawk_kinds.specs.Kinds.{EOF};
+    ghost use Rattle.squawk_kinds.specs.TokenSets.{has, no_kinds};
+
+    ghost leaves = { λ _ _ _ _. Unit {0} };
+
+    ghost runs = { λ _ _ _ _. Unit {0} };
+
+    ghost meaning = { λ g. record { operator_first = if has g.operator_first EOF then no_kinds else g.operator_first; names = map (λ pair. (pair.0, pair.1.now)) g.names.now } };
+
+    #[tactic(auto, using(squawk_parser::specs::Words::no_words_has_no_end))]
+    fn words(&self) -> Words<'_> {
+        let has_end = self.operator_first.contains(SyntaxKind::EOF);
+        Words {
+            operator_first: if has_end {
+                TokenSet::EMPTY
+            } else {
+                self.operator_first
+            },
+            names: self.names,
+        }
+    }
+
+    fn entry_point(&self, p: &mut Parser<'_>) -> Result<(), AllocError> {
+        self.part.run(p);
+        Ok(())
+    }
+
+    fn plpgsql_entry_point(&self, p: &mut Parser<'_>) -> Result<(), AllocError> {
+        self.part.run(p);
+        Ok(())
+    }
+}
