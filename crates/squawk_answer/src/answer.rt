@@ -26,19 +26,8 @@ pub struct Answer {
 }
 
 impl Answer {
-    /// The answer to what was read.
-    pub fn new(alloc: Global, input: &[u8]) -> Result<Answer, Fault>
-        ensures answer { MatchResult result
-            (λ a. IsTheAnswer input.now (Ok (texts_of a)))
-            (λ fault. IsTheAnswer input.now (Err fault)) }
-        ensures unwritten { IfErr result (λ fault. fault ≢ Fault.Io) }
-    {
-        let value = value::parse(alloc, input)?;
-        Answer::to_value(alloc, &value)
-    }
-
-    /// The same, of bytes that are let go as soon as they are read.
-    pub fn of_bytes(alloc: Global, input: Vec<u8>) -> Result<Answer, Fault>
+    /// The answer to what was read, which is let go as soon as its value is made.
+    pub fn new(alloc: Global, input: Vec<u8>) -> Result<Answer, Fault>
         ensures answer { MatchResult result
             (λ a. IsTheAnswer input.items (Ok (texts_of a)))
             (λ fault. IsTheAnswer input.items (Err fault)) }

@@ -49,7 +49,7 @@ pub fn run_watched<R: Read, W: Write>(
     ensures unfailed { result ≢ Err Fault.Io → watch.new.failed ≡ false }
 {
     let input = read_all(alloc, watch, reader)?;
-    let answer = Answer::of_bytes(alloc, input)?;
+    let answer = Answer::new(alloc, input)?;
     write(&answer, watch, writer)
 }
 

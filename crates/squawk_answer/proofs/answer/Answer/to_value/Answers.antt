@@ -6,4 +6,4 @@ use Rattle.squawk_answer.proofs.answer.Answer.to_value.Goals as goal
 
 pub returns-clause-answer : goal.returns-clause-answer
 returns-clause-answer c = λ input is.
-    the_answer-read input (told c.in_ok.field-0) texts_of c.to_document.result (search rules) c.to_document.ensures.answer
+    the_answer-read input (told c.in_ok-from_value.field-0) texts_of c.to_document.result (search rules) c.to_document.ensures.answer
