@@ -75,7 +75,7 @@ impl LexedStr<'_> {
     }
 
     /// The place behind `n` raw tokens, if they stand from this place on and none of them is trivia.
-    /// The first of them is none.
+    /// What stands at the place itself is none.
     fn one_token(&self, place: usize, n: u8) -> Option<usize>
         requires within { place ≤ length self.now.kinds }
         requires first { place < length self.now.kinds → is_trivia (slice_index self.now.kinds place) ≡ false }
