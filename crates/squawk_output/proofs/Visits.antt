@@ -1,8 +1,7 @@
 -- One event visited.
-use Rattle.std.proofs.Common.{◌≡◌, ◌∙◌, ℕ, zero, suc, ◌+◌, ◌*◌, ◌^◌, ◌<◌, ◌≤◌, false, Some, None, Option, List, [], ◌∷◌, ◌++◌, length, get_or, set, drop, refl, sym, ap, arith, append_assoc, add-one}
+use Rattle.std.proofs.Common.{◌≡◌, ◌∙◌, ℕ, zero, suc, ◌+◌, ◌*◌, ◌^◌, ◌<◌, false, Some, None, Option, List, [], ◌∷◌, ◌++◌, length, get_or, set, drop, refl, sym, ap, arith, append_assoc, add-one}
 use Rattle.std.proofs.Math.Seq.{drop-cons}
-use Rattle.squawk_output.specs.Steps as steps
-use Rattle.squawk_output.specs.Steps.{Passed, errors_in}
+use Rattle.squawk_output.specs.Steps.{Passed}
 use Rattle.squawk_output.specs.declared.event.Event.{Event}
 use Rattle.squawk_output.specs.declared.event.Event.TheVariants.{Start, Finish, Token, Error}
 use Rattle.squawk_output.specs.EventLog.{LinksLead, Log, ahead, entering, has_link, is_start, list_of, steps_of, turns_of}
@@ -10,7 +9,6 @@ use Rattle.squawk_output.specs.Chain.{LandsAt, chain, entered_back, erased, hop,
 use Rattle.squawk_output.specs.Pass.{Visits}
 use Rattle.squawk_output.proofs.Erased.{length-erased}
 use Rattle.squawk_output.proofs.Follows.{chain-hop, drop-hop, erased-None, length-chain}
-use Rattle.squawk_output.proofs.LogErrors.{errors-append}
 use Rattle.squawk_output.proofs.Links.{LandsAt-ahead, LinksLead-drop, LinksLead-erased}
 use Rattle.squawk_output.proofs.LogTurns.{one_if, turns_of-cons}
 use Rattle.squawk_output.proofs.Peel.{entered, list_of-cons}

@@ -1,6 +1,5 @@
 -- The events of a log as a list keeps them.
-use Rattle.std.specs.Prelude.{◌≡◌, ℕ, ◌==◌, ◌<◌, ◌+◌, Bool, true, false, Option, Some, None, All, List, [], ◌∷◌, length, map, slice_index_or, if◌then◌else◌}
-use Rattle.squawk_kinds.specs.Kinds.{TOMBSTONE}
+use Rattle.std.specs.Prelude.{◌≡◌, ℕ, ◌==◌, ◌<◌, ◌+◌, Bool, true, false, Option, Some, None, All, List, [], length, map, slice_index_or, if◌then◌else◌}
 use Rattle.squawk_output.specs.Chain.{tombstone}
 use Rattle.squawk_output.specs.EventLog.{LinksLead, Log, errors_of}
 use Rattle.squawk_output.specs.declared.event.Event.{Event}

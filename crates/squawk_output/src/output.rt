@@ -10,7 +10,7 @@ pub mod text;
 use passed::PassedSteps;
 use std::alloc::Global;
 use std::marker::Model;
-pub use step::Step;
+pub use step::{Step, StepCounts};
 pub use steps::Steps;
 pub use text::Text;
 

@@ -1,5 +1,4 @@
-use Rattle.std.proofs.Common.{◌≡◌, ◌∙◌, ◌+◌, ℕ, Some, ap, arith, length, refl}
-use Rattle.squawk_output.specs.Chain.{hop, tombstone}
+use Rattle.std.proofs.Common.{◌+◌, ap, arith}
 use Rattle.squawk_output.specs.StoredEvents.{event_of, link_of, log_in}
 use Rattle.squawk_output.specs.declared.event.Event.TheVariants.{Finish}
 use Rattle.squawk_output.proofs.Follows.{Follows-next, chain-shorter, ends-events, ends-kinds, ends-passed, turn_fits}

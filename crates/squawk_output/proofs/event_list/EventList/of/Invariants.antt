@@ -1,5 +1,3 @@
-use Rattle.std.proofs.Common.{◌≡◌, ◌+◌, length}
-use Rattle.squawk_output.specs.EventLog.{LinksLead, errors_of}
 use Rattle.squawk_output.specs.StoredEvents.{Copies}
 use Rattle.squawk_output.proofs.event_list.EventList.of.Given as goal
 
