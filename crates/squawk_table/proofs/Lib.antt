@@ -3,6 +3,7 @@ pub mod RawTokens
 pub mod Examples
 pub mod AllSent
 pub mod ByPlace
+pub mod CountedSteps
 pub mod ErrorsMoved
 pub mod FrontTokens
 pub mod InputEntries

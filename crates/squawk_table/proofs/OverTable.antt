@@ -24,7 +24,7 @@ module _ (t : Table) (steps : List Step) (place begin kind n : ℕ) (within : be
     front : FrontTokens n (raw_after t begin)
     front = record { some = some; there = omega (arith, length-raw_after t (length t.kinds - begin) begin (omega arith)); input = input }
 
-    rest : drop n (entries_after t place) ≡ entries_after t (begin + n)
+    pub rest : drop n (entries_after t place) ≡ entries_after t (begin + n)
     rest =
         ap (drop n) (sym (entries_of-past_trivia no_keywords (raw_after t place)) ∙ ap (entries_of no_keywords) (sym past))
         ∙ (drop-entries_of no_keywords n (raw_after t begin) front.there input ∙ ap (entries_of no_keywords) (sym (raw_after-add t n begin room)))

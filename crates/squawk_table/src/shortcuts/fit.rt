@@ -1,15 +1,17 @@
 //! The test whether an output can be sent over a table.
-ghost use Rattle.std.specs.Prelude.{◌≡◌, ◌+◌, ◌<◌, ◌≤◌, ◌^◌, ◌↔◌, true, false, IsTrue, SomeIff, length, slice_index, take};
+ghost use Rattle.std.specs.Prelude.{◌≡◌, ◌+◌, ◌<◌, ◌≤◌, ◌^◌, ◌↔◌, true, false, IfSome, IsSome, IsTrue, SomeIff, drop, length, slice_index, take};
 ghost use Rattle.squawk_kinds.specs.Kinds.{is_trivia};
 ghost use Rattle.squawk_kinds.specs.Keywords.{Keywords};
-ghost use Rattle.squawk_table.specs.ParserInput.{input_of};
+ghost use Rattle.squawk_table.specs.ParserInput.{entries_of, input_of};
 ghost use Rattle.squawk_table.specs.RawTable.{raw_after};
 ghost use Rattle.squawk_table.specs.Sent.{past_trivia, HasNoTrivia};
-ghost use Rattle.squawk_table.specs.Shape.{StandsInOneRoot, IsOver, Fits};
-ghost use Rattle.squawk_output.specs.Steps.{without_errors};
+ghost use Rattle.squawk_table.specs.Shape.{AreOneToken, StandsInOneRoot, IsOver, Fits, no_keywords};
+ghost use Rattle.squawk_output.specs.StepViews.{counts_of};
+ghost use Rattle.squawk_output.specs.Steps as plain;
+ghost use Rattle.squawk_output.specs.Steps.{is_error, without_errors};
 
 use crate::lexed_str::LexedStr;
-use squawk_output::{Output, Step, Steps};
+use squawk_output::{Output, StepCounts, Steps};
 
 impl LexedStr<'_> {
     /// Whether the output can be sent over this table: errors aside, it is one node with all that
@@ -26,34 +28,72 @@ impl LexedStr<'_> {
         self.fits_steps(output.iter())
     }
 
-    /// Whether the steps fit, told in one pass: in how many nodes the next step stands, and before
-    /// which raw token.
-    fn fits_steps(&self, steps: Steps<'_>) -> bool
+    /// Whether the steps fit, told in one pass: in how many nodes the next step stands, before which
+    /// raw token, and how many tokens of one raw token each are due from there on.
+    ///
+    /// Which step comes next and where trivia stands can't be foreseen. So steps are told by what they
+    /// count for, and the raw tokens are gone over where several are one token, and at the end.
+    fn fits_steps(&self, mut steps: Steps<'_>) -> bool
         requires { length steps < 2 ^ 64 }
         ensures { IsTrue result ↔ Fits self.now steps.entry }
     {
         let mut depth = 0usize;
         let mut has_root = false;
         let mut place = 0;
-        for step in steps {
-            match step {
-                Step::Error { .. } => {}
-                Step::Enter { .. } if depth > 0 => depth += 1,
-                Step::Enter { .. } if !has_root => {
-                    depth = 1;
-                    has_root = true;
-                }
-                Step::Exit if depth > 0 => depth -= 1,
-                Step::Token { n_input_tokens, .. } if depth > 0 => {
-                    match self.one_token(self.past_trivia(place), n_input_tokens) {
-                        Some(end) => place = end,
+        let mut due = 0usize;
+        while let Some(counts) = steps.next_counts() {
+            if depth > 0 {
+                if counts.input_tokens == counts.tokens {
+                    depth = depth + usize::from(counts.entered) - usize::from(counts.left);
+                    due += usize::from(counts.tokens);
+                } else {
+                    match self.behind_token(place, due, counts.input_tokens) {
+                        Some(end) => {
+                            place = end;
+                            due = 0;
+                        }
                         None => return false,
                     }
                 }
-                _ => return false,
+            } else if counts.entered == 1 && !has_root {
+                depth = 1;
+                has_root = true;
+            } else if !is_error(counts) {
+                return false;
             }
         }
-        has_root && depth == 0
+        has_root && depth == 0 && self.past_tokens(place, due).is_some()
+    }
+
+    /// The place behind a token of `n` raw tokens, before which so many tokens of one are due from a
+    /// raw place on, if all of these are there.
+    fn behind_token(&self, from: usize, due: usize, n: u8) -> Option<usize>
+        requires { from ≤ length self.now.kinds }
+        ensures some { let input = entries_of no_keywords (raw_after self.now from) in IsSome result ↔ ((due ≤ length input) × AreOneToken n (drop due input)) }
+        ensures place { let input = entries_of no_keywords (raw_after self.now from) in IfSome result (λ place. (place ≤ length self.now.kinds)
+            × (entries_of no_keywords (raw_after self.now place) ≡ drop n (drop due input))) }
+    {
+        let place = self.past_tokens(from, due)?;
+        self.one_token(self.past_trivia(place), n)
+    }
+
+    /// The place behind the next `n` raw tokens that aren't trivia, if so many stand from a raw place on.
+    fn past_tokens(&self, from: usize, n: usize) -> Option<usize>
+        requires { from ≤ length self.now.kinds }
+        ensures some { IsSome result ↔ (n ≤ length (entries_of no_keywords (raw_after self.now from))) }
+        ensures place { IfSome result (λ place. (place ≤ length self.now.kinds)
+            × (entries_of no_keywords (raw_after self.now place) ≡ drop n (entries_of no_keywords (raw_after self.now from)))) }
+    {
+        let mut left = n;
+        let mut place = from;
+        while left > 0 {
+            if place == self.len() {
+                return None;
+            }
+            left -= usize::from(!self.kind(place).is_trivia());
+            place += 1;
+        }
+        Some(place)
     }
 
     /// The place behind the trivia that stands from a raw place on.
@@ -63,11 +103,8 @@ impl LexedStr<'_> {
         ensures past { raw_after self.now result ≡ past_trivia (raw_after self.now from) }
         ensures no_trivia { result < length self.now.kinds → is_trivia (slice_index self.now.kinds result) ≡ false }
     {
-        // Mostly one raw token of trivia stands there or none, and which can't be foreseen: so the
-        // first is counted, and the loop has hardly ever a turn.
         let len = self.len();
-        let first = from < len && self.kind(from).is_trivia();
-        let mut place = from + usize::from(first);
+        let mut place = from;
         while place < len && self.kind(place).is_trivia() {
             place += 1;
         }
@@ -92,4 +129,11 @@ impl LexedStr<'_> {
         }
         Some(end)
     }
+}
+
+/// Whether what counts so is an error, which counts for nothing.
+fn is_error(counts: StepCounts) -> bool
+    ensures { (step : plain.Step) → counts ≡ counts_of step → result ≡ is_error step }
+{
+    counts.entered == 0 && counts.left == 0 && counts.tokens == 0
 }
