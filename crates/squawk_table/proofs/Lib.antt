@@ -6,6 +6,7 @@ pub mod ByPlace
 pub mod ErrorsMoved
 pub mod FrontTokens
 pub mod InputEntries
+pub mod InputSoFar
 pub mod InputTokens
 pub mod JointLemmas
 pub mod NextStep

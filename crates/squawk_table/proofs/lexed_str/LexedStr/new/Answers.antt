@@ -1,5 +1,5 @@
 use Rattle.std.proofs.Common.{◌≡◌, ◌∙◌, length, take, ap, arith, subst, sym}
-use Rattle.std.specs.Prelude.{IsCharBoundary, sum_by}
+use Rattle.std.specs.Prelude.{sum_by}
 use Rattle.std.proofs.Math.Seq.{take-length}
 use Rattle.std.proofs.lemmas.List.{take_all}
 use Rattle.squawk_tokens.specs.declared.token.Token.{Token}
