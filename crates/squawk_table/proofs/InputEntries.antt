@@ -1,5 +1,5 @@
 -- An input's tokens, by the lists of what they have.
-use Rattle.std.proofs.Common.{◌≡◌, ◌∙◌, ℕ, ◌+◌, ◌<◌, ◌≤◌, Bool, false, Some, None, List, [], ◌∷◌, ◌++◌, length, get_or, arith, ap, sym, refl, inl, inr}
+use Rattle.std.proofs.Common.{◌≡◌, ◌∙◌, ℕ, ◌<◌, ◌≤◌, Bool, false, Some, None, List, [], ◌∷◌, ◌++◌, length, get_or, arith, ap, sym, refl, inl, inr}
 use Rattle.std.specs.List.{slice_get}
 use Rattle.std.proofs.Math.ListN.{get_or-eq_default}
 use Rattle.std.proofs.lemmas.List.FromFn.{length-map-range_with_len}
@@ -73,9 +73,3 @@ module _ (kinds contextual_kinds : List ℕ) (touches : List Bool) where
     entries_in-push =
         rw (length_push kinds kind)
         (map_more entry (entry_in kinds_more contextual_kinds_more touches_more) (length kinds) kept ∙ ap (λ e. entries ++ e ∷ []) last)
-
-    pub IsEven-push : IsEven kinds_more contextual_kinds_more touches_more
-    IsEven-push = record {
-      contextual = length_push contextual_kinds contextual_kind ∙ (ap (λ n. n + 1) even.contextual ∙ sym (length_push kinds kind));
-      joint = length_push touches touch ∙ (ap (λ n. n + 1) even.joint ∙ sym (length_push kinds kind));
-    }

@@ -1,29 +1,44 @@
--- Bits in words of 64 bits, and one bit more.
-use Rattle.std.proofs.Common.{◌≡◌, ◌∙◌, ℕ, zero, suc, ◌+◌, ◌*◌, ◌/◌, ◌%◌, ◌^◌, ◌<◌, ◌==◌, ◌≢◌, Bool, true, false, List, [], ◌∷◌, ◌++◌, length, get_or, set, bit_or, bit_and, arith, ap, sym, refl, inl, inr, zero-add, zero-mul, get_or-set_same, get_or-set_other, length-append, length-set}
-use Rattle.std.specs.Int.{bit_at, from_bool, w64}
+-- Bits in words of 64 bits: none set, one more set, and the first of them.
+use Rattle.std.proofs.Common.{◌≡◌, ◌∙◌, ℕ, ◌*◌, ◌/◌, ◌%◌, ◌^◌, ◌<◌, ◌≤◌, ◌==◌, ◌≢◌, Bool, true, false, List, length, get_or, set, take, replicate, bit_or, bit_and, arith, ap, sym, refl, inl, inr, zero-add, zero-mul, get_or-set_same, get_or-set_other, length-set}
+use Rattle.std.specs.Int.{bit_at, div_ceil, from_bool, w64}
 use Rattle.std.specs.Int.Bits.{or_zero_r}
-use Rattle.std.proofs.lemmas.Bool.{cases_eq}
-use Rattle.std.proofs.lemmas.List.{set-get_or, get_or_read_under}
-use Rattle.std.proofs.lemmas.List.FromFn.{length-map-range_with_len, get_or-map-range_with_len}
-use Rattle.std.proofs.lemmas.Nat.Bits.{shr_and_one, bit_at_set_same, bit_at_set_other}
+use Rattle.std.proofs.Math.ListN.{get_or-eq_default}
+use Rattle.std.proofs.lemmas.Bool.{cases_eq, cases_lt}
+use Rattle.std.proofs.lemmas.List.{set-get_or, get_or_read_under, get_or-replicate, get_or-take, length-replicate, length-take-le}
+use Rattle.std.proofs.lemmas.List.FromFn.{fill_by_all, length-map-range_with_len, get_or-map-range_with_len}
+use Rattle.std.proofs.lemmas.Nat.Bits.{shr_and_one, bit_at-zero, bit_at_set_same, bit_at_set_other}
 use Rattle.squawk_table.specs.JointBits.{IsPacked, bits_of, is_set}
-use Rattle.squawk_table.proofs.ByPlace.{map_more}
 
 pub length-bits_of : (words : List ℕ) (n : ℕ) → length (bits_of words n) ≡ n
 length-bits_of words n = length-map-range_with_len (is_set words) 0 n
+
+get_or-bits_of : (words : List ℕ) (n k : ℕ) → k < n → get_or (bits_of words n) k false ≡ is_set words k
+get_or-bits_of words n k lt = get_or-map-range_with_len (is_set words) 0 n k k false lt (zero-add k)
 
 -- what the code tests
 pub shifted_bit : (words : List ℕ) (n k : ℕ) → k < n → (bit_and (get_or words (k / 64) 0 / 2 ^ (k % 64)) 1 == 1) ≡ get_or (bits_of words n) k false
 shifted_bit words n k lt =
     ap (λ bit. bit == 1) (shr_and_one (get_or words (k / 64) 0) (k % 64))
-    ∙ sym (get_or-map-range_with_len (is_set words) 0 n k k false lt (zero-add k))
+    ∙ sym (get_or-bits_of words n k lt)
 
--- a word of zeros at the end sets no bit
-zero_word : (words : List ℕ) (k : ℕ) → get_or (words ++ 0 ∷ []) k 0 ≡ get_or words k 0
-zero_word [] zero = refl
-zero_word [] (suc k) = refl
-zero_word (word ∷ words) zero = refl
-zero_word (word ∷ words) (suc k) = zero_word words k
+zero_unset : (words : List ℕ) (k : ℕ) → get_or words (k / 64) 0 ≡ 0 → is_set words k ≡ false
+zero_unset words k zero = ap (λ word. bit_at word (k % 64) == 1) zero ∙ ap (λ bit. bit == 1) (bit_at-zero (k % 64))
+
+past_unset : (words : List ℕ) (k : ℕ) → length words ≤ k / 64 → is_set words k ≡ false
+past_unset words k le = zero_unset words k (get_or-eq_default words 0 le)
+
+-- words of zeros have no bit set
+zeros_unset : (m k : ℕ) → is_set (replicate m 0) k ≡ false
+zeros_unset m k =
+    elim (cases_lt (k / 64) m) [
+      | inl lt ↦ zero_unset (replicate m 0) k (get_or-replicate m (k / 64) 0 0 lt)
+      | inr le ↦ past_unset (replicate m 0) k (omega (arith, length-replicate {A = ℕ}, le))
+    ]
+
+pub zeros_bits : (m n : ℕ) → bits_of (replicate m 0) n ≡ replicate n false
+zeros_bits m n =
+    sym (fill_by_all (is_set (replicate m 0)) (replicate n false) n false (length-replicate n false)
+    (λ k lt. get_or-replicate n k false false lt ∙ sym (zeros_unset m k)))
 
 -- the words with bit n set, or as they are
 abbrev pub with_bit : Bool → List ℕ → ℕ → List ℕ
@@ -51,51 +66,74 @@ with_bit-other true words n k lt ne =
     ]
 with_bit-other false words n k lt ne = ap (λ words. is_set words k) (with_bit-false words n)
 
--- the words that a bit is put into: those of n bits, and one of zeros where these fill theirs
-pub record HasRoom (old : List ℕ) (n : ℕ) (words : List ℕ) : Type 0 where
-  pub count : length words ≡ n / 64 + 1
-  pub same : (k : ℕ) → is_set words k ≡ is_set old k
+module _ (words : List ℕ) (n k : ℕ) (packed : IsPacked words n) (lt : k < n) (free : get_or (bits_of words n) k false ≡ false) (bit : Bool) where
+  within : k / 64 < length words
+  within = omega (arith, packed.count, lt)
 
-pub room_more : (old words : List ℕ) (n : ℕ) → IsPacked old n → n % 64 ≡ 0 → words ≡ old ++ 0 ∷ [] → HasRoom old n words
-room_more old words n packed full more = record {
-  count = omega (arith, ap length more, length-append old (0 ∷ []), packed.count);
-  same = λ k. ap (λ words. is_set words k) more ∙ ap (λ word. bit_at word (k % 64) == 1) (zero_word old (k / 64));
-}
-
-pub room_left : (old words : List ℕ) (n : ℕ) → IsPacked old n → n % 64 ≢ 0 → words ≡ old → HasRoom old n words
-room_left old words n packed begun same = record {
-  count = omega (arith, ap length same, packed.count);
-  same = λ k. ap (λ words. is_set words k) same;
-}
-
-module _ (old : List ℕ) (n : ℕ) (words : List ℕ) (packed : IsPacked old n) (room : HasRoom old n words) (bit : Bool) where
-  kept : (k : ℕ) → k ≢ n → is_set (with_bit bit words n) k ≡ is_set old k
-  kept k ne = with_bit-other bit words n k (omega (arith, room.count)) ne ∙ room.same k
-
-  with_bit-packed : IsPacked (with_bit bit words n) (n + 1)
+  with_bit-packed : IsPacked (with_bit bit words k) n
   with_bit-packed = record {
-    count = omega (arith, length-set {A = ℕ}, room.count);
-    unused = λ k le. kept k (λ e. absurd (omega arith)) ∙ packed.unused k (omega arith);
+    count = length-set words _ _ ∙ packed.count;
+    unused = λ j le. with_bit-other bit words k j within (λ e. absurd (omega arith)) ∙ packed.unused j le;
   }
 
-  with_bit-bits : bits_of (with_bit bit words n) (n + 1) ≡ bits_of old n ++ bit ∷ []
+  with_bit-bits : bits_of (with_bit bit words k) n ≡ set (bits_of words n) k bit
   with_bit-bits =
-      let free = room.same n ∙ packed.unused n (omega arith) in
-      map_more (is_set old) (is_set (with_bit bit words n)) n (λ k lt. kept k (omega arith))
-      ∙ ap (λ bit. bits_of old n ++ bit ∷ []) (with_bit-same bit words n (omega (arith, room.count)) free)
+      let bits = bits_of words n in
+      let len = length-bits_of words n in
+      let before : is_set words k ≡ false = sym (get_or-bits_of words n k lt) ∙ free in
+      let at : (j : ℕ) → j < n → get_or (set bits k bit) j false ≡ is_set (with_bit bit words k) j = λ j below.
+      elim (cases_eq j k) [
+        | inl e ↦ rw (e, get_or-set_same bits k bit false (omega (arith, len, lt))) (sym (with_bit-same bit words k within before))
+        | inr ne ↦ get_or-set_other bits k j bit false ne ∙ (get_or-bits_of words n j below ∙ sym (with_bit-other bit words k j within ne))
+      ] in
+      sym (fill_by_all (is_set (with_bit bit words k)) (set bits k bit) n false (length-set bits k bit ∙ len) at)
 
   -- the code's `|=`, at the word that it reads and the number that it makes of the bit
-  module _ (word number : ℕ) (here : word ≡ get_or words (n / 64) word) (from : number ≡ from_bool bit) where
+  module _ (word number : ℕ) (here : word ≡ get_or words (k / 64) word) (from : number ≡ from_bool bit) where
     abbrev written : List ℕ
-    written = set words (n / 64) (bit_or word (number * 2 ^ (n % 64) % 18446744073709551616))
+    written = set words (k / 64) (bit_or word (number * 2 ^ (k % 64) % 18446744073709551616))
 
-    is_with_bit : written ≡ with_bit bit words n
+    is_with_bit : written ≡ with_bit bit words k
     is_with_bit =
-        let read = get_or_read_under words (n / 64) (length words) word 0 here (omega (arith, room.count)) refl in
+        let read = get_or_read_under words (k / 64) (length words) word 0 here within refl in
         rw (read, from) refl
 
-    pub pushed_packed : IsPacked written (n + 1)
-    pushed_packed = rw is_with_bit with_bit-packed
+    pub written_packed : IsPacked written n
+    written_packed = rw is_with_bit with_bit-packed
 
-    pub pushed_bits : bits_of written (n + 1) ≡ bits_of old n ++ bit ∷ []
-    pushed_bits = rw is_with_bit with_bit-bits
+    pub written_bits : bits_of written n ≡ set (bits_of words n) k bit
+    written_bits = rw is_with_bit with_bit-bits
+
+-- the words that m of n bits need, where none of the rest is set
+module _ (words : List ℕ) (n m : ℕ) (packed : IsPacked words n) (le : m ≤ n) (rest : (k : ℕ) → m ≤ k → get_or (bits_of words n) k false ≡ false) where
+  abbrev front : List ℕ
+  front = take (div_ceil m 64) words
+
+  length-front : length front ≡ div_ceil m 64
+  length-front = length-take-le (div_ceil m 64) words (omega (arith, packed.count, le))
+
+  front-inside : (k : ℕ) → k / 64 < div_ceil m 64 → is_set front k ≡ is_set words k
+  front-inside k lt = ap (λ word. bit_at word (k % 64) == 1) (get_or-take (div_ceil m 64) words (k / 64) 0 lt)
+
+  unset : (k : ℕ) → m ≤ k → is_set words k ≡ false
+  unset k from =
+      elim (cases_lt k n) [
+        | inl lt ↦ sym (get_or-bits_of words n k lt) ∙ rest k from
+        | inr past ↦ packed.unused k past
+      ]
+
+  front-unset : (k : ℕ) → m ≤ k → is_set front k ≡ false
+  front-unset k from =
+      elim (cases_lt (k / 64) (div_ceil m 64)) [
+        | inl lt ↦ front-inside k lt ∙ unset k from
+        | inr past ↦ past_unset front k (omega (arith, length-front, past))
+      ]
+
+  pub front_packed : IsPacked front m
+  front_packed = record { count = length-front; unused = front-unset }
+
+  pub front_bits : bits_of front m ≡ take m (bits_of words n)
+  front_bits =
+      let bits = bits_of words n in
+      let at : (k : ℕ) → k < m → get_or (take m bits) k false ≡ is_set front k = λ k lt. get_or-take m bits k false lt ∙ (get_or-bits_of words n k (omega (arith, lt, le)) ∙ sym (front-inside k (omega (arith, lt)))) in
+      sym (fill_by_all (is_set front) (take m bits) m false (length-take-le m bits (omega (arith, length-bits_of words n, le))) at)

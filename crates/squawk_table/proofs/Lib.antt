@@ -7,6 +7,7 @@ pub mod CountedSteps
 pub mod ErrorsMoved
 pub mod FrontTokens
 pub mod InputEntries
+pub mod InputSoFar
 pub mod InputTokens
 pub mod JointLemmas
 pub mod NextStep

@@ -1,5 +1,5 @@
 -- No raw token of a table is the end, and no token of its input.
-use Rattle.std.proofs.Common.{◌≢◌, ℕ, zero, suc, ◌+◌, ◌≤◌, Bool, true, false, Option, Some, None, List, [], ◌∷◌, ◌++◌, length, if◌then◌else◌, arith}
+use Rattle.std.proofs.Common.{◌≢◌, ℕ, zero, suc, ◌+◌, ◌≤◌, Bool, true, false, Option, Some, None, List, [], ◌∷◌, length, if◌then◌else◌, arith}
 use Rattle.std.specs.Prelude.{All, IfSome, slice_range, unwrap_or}
 use Rattle.std.proofs.lemmas.List.Elements.{All-nil, All-cons, All-get_or, All-head, All-tail}
 use Rattle.squawk_kinds.specs.Keywords.{Keywords}
@@ -11,7 +11,7 @@ use Rattle.squawk_tokens.specs.declared.token.TokenKind.{TokenKind}
 use Rattle.squawk_tokens.specs.declared.token.TokenKind.TheVariants.{Ident, PsqlCommand, Literal, Eof}
 use Rattle.squawk_tokens.specs.declared.token.LiteralKind.{LiteralKind}
 use Rattle.squawk_tokens.specs.declared.token.LiteralKind.TheVariants.{Int}
-use Rattle.squawk_table.specs.ParserInput.{Entry, HasNoEndToken, entries_of, entry_for, input_of}
+use Rattle.squawk_table.specs.ParserInput.{HasNoEndToken, entries_of, entry_for, input_of}
 use Rattle.squawk_table.specs.RawTable.{RawToken, Table, kinds_from, raw_from, raw_tokens}
 use Rattle.squawk_table.specs.TokenKinds.{kind_of, literal_kind_of}
 
@@ -70,9 +70,3 @@ entries-no_end k (r ∷ raw) some =
 -- nor has its input
 pub input-no_end : (k : Keywords) (table : Table) → All (λ kind. kind ≢ EOF) table.kinds → HasNoEndToken (input_of k table)
 input-no_end k table some = entries-no_end k (raw_tokens table) (raw-no_end table 0 (length table.kinds) (omega arith) some)
-
--- what holds of an input holds of its front
-pub front-no_end : (xs ys : List Entry) → HasNoEndToken (xs ++ ys) → HasNoEndToken xs
-front-no_end [] ys some = All-nil (λ e. e.kind ≢ EOF)
-front-no_end (x ∷ xs) ys some =
-    All-cons (λ e. e.kind ≢ EOF) x xs (All-head (λ e. e.kind ≢ EOF) x (xs ++ ys) some) (front-no_end xs ys (All-tail (λ e. e.kind ≢ EOF) x (xs ++ ys) some))

@@ -3,11 +3,6 @@ use Rattle.std.specs.Prelude.{◌≡◌, ℕ, ◌/◌, ◌%◌, ◌≤◌, ◌==
 use Rattle.std.specs.Int.{bit_at, div_ceil}
 use Rattle.std.specs.List.{range_with_len}
 
--- bits in order, and how many there is room for
-pub record Bits : Type 0 where
-  pub bits : List Bool
-  pub room : ℕ
-
 -- whether bit k is set: in word k / 64 the bit of value 2 ^ (k % 64)
 abbrev pub is_set : List ℕ → ℕ → Bool
 is_set words k = bit_at (slice_index words (k / 64)) (k % 64) == 1

@@ -31,9 +31,9 @@ impl Model for Input {
 
     ghost use Rattle.squawk_table.specs.InputView.{IsEven, entries_in};
 
-    ghost view = { λ input. entries_in input.kinds.items input.contextual_kinds.items input.joints.bits };
+    ghost view = { λ input. entries_in input.kinds.items input.contextual_kinds.items input.joints };
 
-    ghost invariant = { λ input. IsEven input.kinds.items input.contextual_kinds.items input.joints.bits };
+    ghost invariant = { λ input. IsEven input.kinds.items input.contextual_kinds.items input.joints };
 }
 
 impl Input {
@@ -97,17 +97,23 @@ impl LexedStr<'_> {
         ensures no_end { IfOk result HasNoEndToken }
     {
         let len = self.len();
-        let mut kinds = Vec::with_capacity(alloc, len)?;
-        let mut contextual_kinds = Vec::with_capacity(alloc, len)?;
-        let mut joints = Joints::with_capacity(alloc, len)?;
+        let mut kinds = vec![in alloc; SyntaxKind::EOF; len]?;
+        let mut contextual_kinds = vec![in alloc; SyntaxKind::EOF; len]?;
+        let mut joints = Joints::with_len(alloc, len)?;
+        // The first `count` items are the input so far. Trivia is written behind them, too, and the
+        // next raw token over it: a jump on what is trivia can't be foreseen.
+        let mut count = 0;
         for i in 0..len {
             let kind = self.kind(i);
-            if !kind.is_trivia() {
-                kinds.push_reserved(kind);
-                contextual_kinds.push_reserved(self.contextual_kind(i, vocabulary));
-                joints.push(self.is_followed(i));
-            }
+            let is_token = !kind.is_trivia();
+            kinds[count] = kind;
+            contextual_kinds[count] = self.contextual_kind(i, vocabulary);
+            joints.set(count, is_token & self.is_followed(i));
+            count += usize::from(is_token);
         }
+        kinds.truncate(count);
+        contextual_kinds.truncate(count);
+        joints.truncate(count);
         Ok(Input {
             kinds,
             contextual_kinds,

@@ -1,5 +1,5 @@
 //! Whether tokens touch, as bits in words.
-ghost use Rattle.std.specs.Prelude.{◌≡◌, ◌+◌, ◌<◌, ◌≤◌, ◌++◌, [], ◌∷◌, false, length, IfOk};
+ghost use Rattle.std.specs.Prelude.{◌≡◌, ℕ, ◌<◌, ◌≤◌, [], false, length, take, replicate, slice_set, IfOk};
 ghost use Rattle.std.specs.List.{slice_index_or};
 
 #[cfg(test)]
@@ -17,12 +17,12 @@ pub struct Joints {
 }
 
 impl Model for Joints {
-    ghost use Rattle.std.specs.Prelude.{◌*◌, vec_capacity};
-    ghost use Rattle.squawk_table.specs.JointBits.{Bits, IsPacked, bits_of};
+    ghost use Rattle.std.specs.Prelude.{Bool, List};
+    ghost use Rattle.squawk_table.specs.JointBits.{IsPacked, bits_of};
 
-    ghost Value = { Bits };
+    ghost Value = { List Bool };
 
-    ghost view = { λ joints. record { bits = bits_of joints.words.items joints.len; room = 64 * vec_capacity joints.words } };
+    ghost view = { λ joints. bits_of joints.words.items joints.len };
 
     ghost invariant = { λ joints. IsPacked joints.words.items joints.len };
 }
@@ -30,7 +30,7 @@ impl Model for Joints {
 impl Joints {
     /// No bits.
     pub fn new(alloc: Global) -> Joints
-        ensures { result.bits ≡ [] }
+        ensures { result ≡ [] }
     {
         Joints {
             words: Vec::new(alloc),
@@ -38,36 +38,39 @@ impl Joints {
         }
     }
 
-    /// No bits, with room for `len` of them.
-    pub fn with_capacity(alloc: Global, len: usize) -> Result<Joints, AllocError>
-        ensures empty { IfOk result (λ joints. joints.bits ≡ []) }
-        ensures room { IfOk result (λ joints. len ≤ joints.room) }
+    /// `len` bits, none of which is set.
+    pub fn with_len(alloc: Global, len: usize) -> Result<Joints, AllocError>
+        ensures { IfOk result (λ joints. joints ≡ replicate len false) }
     {
         Ok(Joints {
-            words: Vec::with_capacity(alloc, len.div_ceil(64))?,
-            len: 0,
+            words: vec![in alloc; 0; len.div_ceil(64)]?,
+            len,
         })
     }
 
-    /// One bit more, for which there is room.
-    pub fn push(&mut self, bit: bool)
-        requires room { length self.old.bits < self.old.room }
-        requires fits { length self.old.bits < usize.MAX }
-        ensures bits { self.new.bits ≡ self.old.bits ++ bit ∷ [] }
-        ensures room { self.new.room ≡ self.old.room }
+    /// Makes `bit` of bit `k`, which isn't set, without a jump.
+    pub fn set(&mut self, k: usize, bit: bool)
+        requires within { k < length self.old }
+        requires unset { slice_index_or self.old k false ≡ false }
+        ensures { self.new ≡ slice_set self.old k bit }
     {
-        let k = self.len;
-        if k % 64 == 0 {
-            self.words.push_reserved(0);
-        }
         self.words[k / 64] |= u64::from(bit) << (k % 64);
-        self.len = k + 1;
+    }
+
+    /// The first `len` bits, where none is set past them.
+    pub fn truncate(&mut self, len: usize)
+        requires within { len ≤ length self.old }
+        requires unset { (k : ℕ) → len ≤ k → slice_index_or self.old k false ≡ false }
+        ensures { self.new ≡ take len self.old }
+    {
+        self.words.truncate(len.div_ceil(64));
+        self.len = len;
     }
 
     /// Bit `k`.
     pub fn get(&self, k: usize) -> bool
-        requires { k < length self.now.bits }
-        ensures { result ≡ slice_index_or self.now.bits k false }
+        requires { k < length self.now }
+        ensures { result ≡ slice_index_or self.now k false }
     {
         (self.words[k / 64] >> (k % 64)) & 1 == 1
     }

@@ -5,14 +5,14 @@ use Rattle.squawk_table.proofs.input.Input.is_joint.Goals as goal
 
 pub get-requires : goal.get-requires
 get-requires c =
-    let all = length-entries_in c.self.inside.kinds.items c.self.inside.contextual_kinds.items c.self.inside.joints.bits in
+    let all = length-entries_in c.self.inside.kinds.items c.self.inside.contextual_kinds.items c.self.inside.joints in
     omega (arith, all, ap length c.self.view_is, c.requires, c.self.invariant.joint)
 
 pub returns : goal.returns
 returns c =
     let kinds = c.self.inside.kinds.items in
     let contextual_kinds = c.self.inside.contextual_kinds.items in
-    let touches = c.self.inside.joints.bits in
+    let touches = c.self.inside.joints in
     let all = length-entries_in kinds contextual_kinds touches in
     let told = touches_in-entries kinds contextual_kinds touches c.args.i (omega (arith, all, ap length c.self.view_is, c.requires)) in
     c.get.ensures ∙ (sym told ∙ ap (λ input. touches_in input c.args.i) c.self.view_is)

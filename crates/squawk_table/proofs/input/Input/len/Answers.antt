@@ -4,5 +4,5 @@ use Rattle.squawk_table.proofs.input.Input.len.Goals as goal
 
 pub returns : goal.returns
 returns c =
-    let all = length-entries_in c.self.inside.kinds.items c.self.inside.contextual_kinds.items c.self.inside.joints.bits in
+    let all = length-entries_in c.self.inside.kinds.items c.self.inside.contextual_kinds.items c.self.inside.joints in
     omega (arith, c.len.ensures, all, ap length c.self.view_is)

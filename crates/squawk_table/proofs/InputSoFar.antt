@@ -1,0 +1,58 @@
+-- The lists of an input in the making: its tokens so far, and what is written behind them.
+use Rattle.std.proofs.Common.{◌≡◌, ◌∙◌, ℕ, ◌+◌, ◌<◌, ◌≤◌, Bool, true, false, not, ◌&&◌, List, [], ◌∷◌, ◌++◌, length, slice_index, get_or, set, take, arith, ap, sym, inl, inr, add-zero, append_assoc, append-nil, get_or-set_same, get_or-set_other}
+use Rattle.std.specs.Int.{from_bool}
+use Rattle.std.proofs.lemmas.Bool.{cases_eq}
+use Rattle.std.proofs.lemmas.List.{length-take-le, take-set, take_more_set}
+use Rattle.squawk_kinds.specs.Kinds.{is_trivia}
+use Rattle.squawk_kinds.specs.Keywords.{Keywords}
+use Rattle.squawk_table.specs.InputView.{IsEven, entries_in}
+use Rattle.squawk_table.specs.ParserInput.{Entry, contextual_kind_of, entries_of, entry_for, is_followed}
+use Rattle.squawk_table.specs.RawTable.{Table, raw_at, raw_after}
+use Rattle.squawk_table.proofs.InputEntries.{entries_in-push}
+use Rattle.squawk_table.proofs.RawTokens.{entries_of-token, entries_of-trivia, raw_after-end}
+
+-- there are no more tokens than raw tokens that were seen
+pub within_next : (n i : ℕ) (trivia : Bool) → n ≤ i → n + from_bool (not trivia) ≤ i + 1
+within_next n i false le = omega (arith, le)
+within_next n i true le = omega (arith, le)
+
+-- behind the tokens no bit is set, also where trivia was written there
+pub unset_next : (touches : List Bool) (n : ℕ) (trivia followed : Bool) → n < length touches → ((k : ℕ) → n ≤ k → get_or touches k false ≡ false)
+    → (k : ℕ) → n + from_bool (not trivia) ≤ k → get_or (set touches n (not trivia && followed)) k false ≡ false
+unset_next touches n false followed lt unset k le =
+    get_or-set_other touches n k followed false (λ e. absurd (omega (arith, le))) ∙ unset k (omega (arith, le))
+unset_next touches n true followed lt unset k le =
+    elim (cases_eq k n) [
+      | inl e ↦ rw e (get_or-set_same touches n false false lt)
+      | inr ne ↦ get_or-set_other touches n k false false ne ∙ unset k (omega (arith, le))
+    ]
+
+module _ (contextual : Keywords) (t : Table) (i : ℕ) (kinds contextual_kinds : List ℕ) (touches : List Bool) (all : List Entry) where
+  -- one raw token more: a token is the next one of the input, and trivia isn't
+  pub entries_next : i < length t.kinds → (n : ℕ) → n < length kinds → n < length contextual_kinds → n < length touches
+      → (trivia : Bool) → is_trivia (slice_index t.kinds i) ≡ trivia
+      → entries_in (take n kinds) (take n contextual_kinds) (take n touches) ++ entries_of contextual (raw_after t i) ≡ all
+      → entries_in
+      (take (n + from_bool (not trivia)) (set kinds n (slice_index t.kinds i)))
+      (take (n + from_bool (not trivia)) (set contextual_kinds n (contextual_kind_of contextual (raw_at t i))))
+      (take (n + from_bool (not trivia)) (set touches n (not trivia && is_followed (raw_after t (i + 1)))))
+      ++ entries_of contextual (raw_after t (i + 1)) ≡ all
+  entries_next lt n in_kinds in_contextual in_touches false token done =
+      let rest = entries_of contextual (raw_after t (i + 1)) in
+      let entry = entry_for contextual (raw_at t i) (raw_after t (i + 1)) in
+      let made = entries_in (take n kinds) (take n contextual_kinds) (take n touches) in
+      let len : length (take n kinds) ≡ n = length-take-le n kinds (omega (arith, in_kinds)) in
+      let even : IsEven (take n kinds) (take n contextual_kinds) (take n touches) = record {
+        contextual = length-take-le n contextual_kinds (omega (arith, in_contextual)) ∙ sym len;
+        joint = length-take-le n touches (omega (arith, in_touches)) ∙ sym len;
+      } in
+      rw (take_more_set kinds n _ in_kinds, take_more_set contextual_kinds n _ in_contextual, take_more_set touches n _ in_touches)
+      (ap (λ xs. xs ++ rest) (entries_in-push (take n kinds) (take n contextual_kinds) (take n touches) _ _ _ even)
+      ∙ (append_assoc made (entry ∷ []) rest ∙ (ap (λ xs. made ++ xs) (sym (entries_of-token contextual t i lt token)) ∙ done)))
+  entries_next lt n in_kinds in_contextual in_touches true trivia done =
+      rw (add-zero n, take-set kinds n _, take-set contextual_kinds n _, take-set touches n _, ← entries_of-trivia contextual t i lt trivia) done
+
+-- past the last raw token they are all
+pub entries_all : (contextual : Keywords) (t : Table) (i : ℕ) (made all : List Entry) → length t.kinds ≤ i → made ++ entries_of contextual (raw_after t i) ≡ all → made ≡ all
+entries_all contextual t i made all past done =
+    sym (append-nil made) ∙ (ap (λ raw. made ++ entries_of contextual raw) (sym (raw_after-end t i past)) ∙ done)
