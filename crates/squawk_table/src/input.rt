@@ -106,9 +106,10 @@ impl LexedStr<'_> {
         for i in 0..len {
             let kind = self.kind(i);
             let is_token = !kind.is_trivia();
-            kinds[count] = kind;
-            contextual_kinds[count] = self.contextual_kind(i, vocabulary);
+            let contextual_kind = self.contextual_kind(i, vocabulary);
             joints.set(count, is_token & self.is_followed(i));
+            kinds[count] = kind;
+            contextual_kinds[count] = contextual_kind;
             count += usize::from(is_token);
         }
         kinds.truncate(count);

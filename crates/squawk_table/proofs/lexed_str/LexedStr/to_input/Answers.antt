@@ -17,12 +17,12 @@ loop-i-preserved g c =
     sym (ap is_trivia c.kind-kind.ensures) ∙ sym c.is_trivia-is_token.ensures in
     let in_touches : loop.count < length loop.joints = omega (arith, before.joints, before.within) in
     record {
-      done = rw (c.set.ensures, c.from-count.ensures, c.kind-kind.ensures, c.contextual_kind.ensures, c.is_followed.ensures)
+      done = rw (c.set.ensures, c.from-count.ensures, c.kind-kind.ensures, c.contextual_kind-contextual_kind.ensures, c.is_followed.ensures)
           (entries_next contextual t loop.i loop.kinds.items loop.contextual_kinds.items loop.joints _ lt loop.count (omega (arith, before.kinds, before.within)) (omega (arith, before.contextual_kinds, before.within)) in_touches
           c.is_trivia-is_token.result trivia before.done);
       within = rw c.from-count.ensures (within_next loop.count loop.i c.is_trivia-is_token.result before.within);
       kinds = length-set loop.kinds.items loop.count c.kind-kind.result ∙ before.kinds;
-      contextual_kinds = length-set loop.contextual_kinds.items loop.count c.contextual_kind.result ∙ before.contextual_kinds;
+      contextual_kinds = length-set loop.contextual_kinds.items loop.count c.contextual_kind-contextual_kind.result ∙ before.contextual_kinds;
       joints = ap length c.set.ensures ∙ (length-set loop.joints loop.count _ ∙ before.joints);
       unset = rw (c.set.ensures, c.from-count.ensures) (unset_next loop.joints loop.count c.is_trivia-is_token.result c.is_followed.result in_touches before.unset);
     }
