@@ -86,12 +86,6 @@ module _ (t : Table) (place begin n : ℕ) (within : begin ≤ length t.kinds) (
   found_place (Some end) told = rw told.1 (told.0.2, sym (rest t [] place begin 0 n within past told.0.0 told.0.1 told.0.2) ∙ ap (drop n) here)
 
 -- what each step counts for
-pub entered_le : (step : Step) → (counts_of step).entered ≤ 1
-entered_le (Token kind n) = omega arith
-entered_le (Enter kind) = omega arith
-entered_le Exit = omega arith
-entered_le (Error text) = omega arith
-
 pub left_le : (step : Step) → (counts_of step).left ≤ 1
 left_le (Token kind n) = omega arith
 left_le (Enter kind) = omega arith

@@ -1,6 +1,5 @@
 -- Walks that stand in one root, step by step.
-use Rattle.std.proofs.Common.{◌≡◌, ℕ, ◌+◌, ◌<◌, ◌≤◌, List, [], ◌∷◌, cond, length, take, get_or, arith, ap, sym, subst, ◌⊎◌, inl, inr}
-use Rattle.std.proofs.lemmas.List.{take_all}
+use Rattle.std.proofs.Common.{◌≡◌, ℕ, ◌+◌, ◌<◌, ◌≤◌, List, [], ◌∷◌, cond, length, take, get_or, arith, sym, subst, ◌⊎◌, inl, inr}
 use Rattle.squawk_table.specs.Shape.{BeginsWithEnter, StandsInOneRoot}
 use Rattle.squawk_output.specs.Steps.{Step, Token, Enter, Exit, Error, is_enter, is_exit, openings, closings}
 use Rattle.squawk_table.proofs.StepPlaces.{openings-take_more, closings-take_more}
@@ -62,25 +61,9 @@ module _ (steps : List Step) (i depth after : ℕ) (step : Step) (lt : i < lengt
     open_now = omega (arith, before.open_now, openings-take_more steps i step lt at, closings-take_more steps i step lt at);
   }
 
--- after all steps they do
-pub StandsInOneRoot-all : (steps : List Step) (i : ℕ) → length steps ≤ i → i ≤ length steps → 0 < length steps → RootBefore steps i 0 → StandsInOneRoot steps
-StandsInOneRoot-all steps i past within nonempty before =
-    let whole : take i steps ≡ steps = take_all i steps past in
-    record {
-      begins = before.begins (omega arith);
-      inside = λ k positive lower. before.inside k positive (omega arith);
-      closed = omega (arith, before.open_now, ap closings whole, ap openings whole);
-    }
-
 -- inside of a walk that stands in one root a node is open
 pub open_inside : (steps : List Step) (i depth : ℕ) → StandsInOneRoot steps → RootBefore steps i depth → 0 < i → i < length steps → 0 < depth
 open_inside steps i depth root before positive lt = omega (arith, root.inside i positive lt, before.open_now)
-
--- and after it none
-pub closed_after : (steps : List Step) (i depth : ℕ) → StandsInOneRoot steps → RootBefore steps i depth → length steps ≤ i → depth ≡ 0
-closed_after steps i depth root before past =
-    let whole : take i steps ≡ steps = take_all i steps past in
-    omega (arith, root.closed, before.open_now, ap closings whole, ap openings whole)
 
 pub length-root : (steps : List Step) → BeginsWithEnter steps → 0 < length steps
 length-root [] begins = absurd begins

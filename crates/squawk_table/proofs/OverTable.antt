@@ -29,9 +29,6 @@ module _ (t : Table) (steps : List Step) (place begin kind n : ℕ) (within : be
         ap (drop n) (sym (entries_of-past_trivia no_keywords (raw_after t place)) ∙ ap (entries_of no_keywords) (sym past))
         ∙ (drop-entries_of no_keywords n (raw_after t begin) front.there input ∙ ap (entries_of no_keywords) (sym (raw_after-add t n begin room)))
 
-    pub over_rest : IsOver (Token kind n ∷ steps) (entries_after t place) → IsOver steps (entries_after t (begin + n))
-    over_rest over = subst (IsOver steps) rest over.1
-
     pub over_all : IsOver steps (entries_after t (begin + n)) → IsOver (Token kind n ∷ steps) (entries_after t place)
     over_all over = (one-FrontTokens no_keywords n (raw_after t place) (subst (FrontTokens n) past front), subst (IsOver steps) (sym rest) over)
 

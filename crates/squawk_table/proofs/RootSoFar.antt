@@ -1,9 +1,8 @@
 -- Walks that stand in one root, errors aside, step by step.
-use Rattle.std.proofs.Common.{◌≡◌, ℕ, ◌+◌, ◌<◌, ◌≤◌, Bool, true, false, List, [], ◌∷◌, cond, length, drop, get_or, arith, ap, sym, subst, ◌∙◌}
-use Rattle.std.proofs.lemmas.List.{length-drop, take_all}
+use Rattle.std.proofs.Common.{◌≡◌, ℕ, ◌+◌, ◌<◌, ◌≤◌, Bool, true, false, List, ◌∷◌, cond, length, drop, get_or, arith, sym, subst}
 use Rattle.squawk_table.specs.Shape.{StandsInOneRoot}
 use Rattle.squawk_output.specs.Steps.{Step, is_enter, is_exit, is_error, without_errors}
-use Rattle.squawk_table.proofs.OneRoot.{RootBefore, MayBegin, RootBefore-more, StandsInOneRoot-all, open_inside, closed_after, first_step}
+use Rattle.squawk_table.proofs.OneRoot.{RootBefore, MayBegin, RootBefore-more, open_inside, first_step}
 use Rattle.squawk_table.proofs.WithoutErrors.{kept, kept-error, kept-more, kept-at, kept-lt}
 use Rattle.squawk_table.proofs.StepPlaces.{hand_at, hand_behind, hand_lt}
 
@@ -62,19 +61,3 @@ module _ (steps left behind : List Step) (depth : ℕ) (has_root : Bool) (step :
         let lower = kept-lt steps so_far.i step lt at other in
         let first : kept steps so_far.i ≡ 0 = grind (arith, inside) in
         may first (first_step (without_errors steps) step (subst (λ k. get_or (without_errors steps) k step ≡ step) first (kept-at steps so_far.i step lt at other)) root.begins)
-
-module _ (steps left : List Step) (depth : ℕ) (has_root : Bool) (none : left ≡ []) (so_far : RootSoFar steps left depth has_root) where
-  past : length steps ≤ so_far.i
-  past = omega (arith, ap length (sym so_far.rest ∙ none), length-drop so_far.i steps)
-
-  all_kept : kept steps so_far.i ≡ length (without_errors steps)
-  all_kept = ap (λ xs. length (without_errors xs)) (take_all so_far.i steps past)
-
-  pub StandsInOneRoot-so_far : has_root ≡ true → depth ≡ 0 → StandsInOneRoot (without_errors steps)
-  StandsInOneRoot-so_far rooted closed =
-      let some = so_far.rooted rooted in
-      StandsInOneRoot-all (without_errors steps) (kept steps so_far.i) (omega (arith, all_kept)) (omega (arith, all_kept)) (omega (arith, all_kept))
-      (subst (RootBefore (without_errors steps) (kept steps so_far.i)) closed so_far.before)
-
-  pub closed_at_end : StandsInOneRoot (without_errors steps) → depth ≡ 0
-  closed_at_end root = closed_after (without_errors steps) (kept steps so_far.i) depth root so_far.before (omega (arith, all_kept))
