@@ -85,7 +85,7 @@ module _ (t : Table) (place begin n : ℕ) (within : begin ≤ length t.kinds) (
   found_place None told = tt
   found_place (Some end) told = rw told.1 (told.0.2, sym (rest t [] place begin 0 n within past told.0.0 told.0.1 told.0.2) ∙ ap (drop n) here)
 
--- what each step counts for
+-- a step leaves one node at most, and is one token at most
 pub left_le : (step : Step) → (counts_of step).left ≤ 1
 left_le (Token kind n) = omega arith
 left_le (Enter kind) = omega arith
@@ -135,7 +135,7 @@ refuted_outside steps left behind depth has_root (Token kind n) next so_far none
 refuted_outside steps left behind depth has_root Exit next so_far none other rooted = refuted steps left behind depth has_root Exit next so_far refl none (λ _ may. may)
 refuted_outside steps left behind depth has_root (Error text) next so_far none other rooted = absurd (true≢false other)
 
--- a step that doesn't count for as many tokens of the input as it is tokens is a token, which no node begins or ends with
+-- a step that doesn't count for as many tokens of the input as it is tokens is a token, so the nodes that are open stay
 pub RootSoFar-token : (steps left behind : List Step) (depth : ℕ) (has_root : Bool) (step : Step) → left ≡ step ∷ behind → RootSoFar steps left depth has_root
     → 0 < depth → (counts_of step).input_tokens ≢ (counts_of step).tokens → RootSoFar steps behind depth has_root
 RootSoFar-token steps left behind depth has_root (Token kind n) next so_far open_now several =
@@ -144,7 +144,7 @@ RootSoFar-token steps left behind depth has_root (Enter kind) next so_far open_n
 RootSoFar-token steps left behind depth has_root Exit next so_far open_now several = absurd (several refl)
 RootSoFar-token steps left behind depth has_root (Error text) next so_far open_now several = absurd (several refl)
 
--- the walk over its tokens
+-- and it has its tokens behind those that are due
 pub token_over : (step : Step) (due : ℕ) (steps : List Step) (input : List Entry) → (counts_of step).input_tokens ≢ (counts_of step).tokens
     → IsOverBehind due (step ∷ steps) input
     → (due ≤ length input) × AreOneToken (counts_of step).input_tokens (drop due input) × IsOver steps (drop (counts_of step).input_tokens (drop due input))
@@ -161,7 +161,7 @@ over_token (Enter kind) due steps input several there token over = absurd (sever
 over_token Exit due steps input several there token over = absurd (several refl)
 over_token (Error text) due steps input several there token over = absurd (several refl)
 
--- a step outside of the root that counts for no token has none
+-- a step that counts for no token changes neither what is due nor what is left
 pub over_other : (step : Step) (due : ℕ) (steps : List Step) (input : List Entry) → (counts_of step).tokens ≡ 0
     → (IsOverBehind due (step ∷ steps) input → IsOverBehind due steps input) × (IsOverBehind due steps input → IsOverBehind due (step ∷ steps) input)
 over_other (Token kind n) due steps input none = absurd (omega (arith, none))

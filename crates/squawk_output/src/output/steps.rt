@@ -58,8 +58,8 @@ impl<'a> Steps<'a> {
 
     /// Takes the next step and tells what it counts for, as [`Iterator::next`] tells the step.
     ///
-    /// Which step comes next can't be foreseen, so that a match on each of a walk costs; here
-    /// nothing is asked of it.
+    /// Which step comes next can't be foreseen, so a match on each step of a walk costs time. These
+    /// numbers are made without one.
     #[inline(always)]
     pub fn next_counts(&mut self) -> Option<StepCounts>
         ensures { MatchOption result ((self.old ≡ []) × (self.new ≡ [])) (λ counts. (step : plain.Step) × (self.old ≡ step ∷ self.new) × (counts ≡ counts_of step)) }

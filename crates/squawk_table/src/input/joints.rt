@@ -48,7 +48,7 @@ impl Joints {
         })
     }
 
-    /// Makes `bit` of bit `k`, which isn't set, without a jump.
+    /// Gives bit `k`, which isn't set, this value, without a jump.
     pub fn set(&mut self, k: usize, bit: bool)
         requires within { k < length self.old }
         requires unset { slice_index_or self.old k false ≡ false }
@@ -57,7 +57,7 @@ impl Joints {
         self.words[k / 64] |= u64::from(bit) << (k % 64);
     }
 
-    /// The first `len` bits, where none is set past them.
+    /// Cuts the bits to the first `len`, past which none is set.
     pub fn truncate(&mut self, len: usize)
         requires within { len ≤ length self.old }
         requires unset { (k : ℕ) → len ≤ k → slice_index_or self.old k false ≡ false }
