@@ -18,11 +18,20 @@ impl View<'_> {
         match composite(kind) {
             None => self.kind(0) == kind,
             Some(Form::Glued(parts) | Form::Touching(parts)) => {
-                self.do_touch(&parts) && self.are_apart(parts.as_slice().len(), operator_first)
+                let n = parts.as_slice().len();
+                self.do_touch(&parts) && self.again().are_apart(n, operator_first)
             }
             Some(Form::Sequence { parts, tail: _ }) => self.sequence_len(&parts).is_some(),
             Some(Form::Operator) => operator_first.contains(self.kind(0)),
         }
+    }
+
+    /// The same view, made anew: so a look that ends before it asks has none in memory.
+    #[inline(always)]
+    fn again(&self) -> View<'_>
+        ensures { result ≡ self.now }
+    {
+        View::new(self.tokens, self.place, self.limit)
     }
 
     /// Whether the parts stand at the front, each touching the next.
@@ -40,6 +49,7 @@ impl View<'_> {
     }
 
     /// Whether the first `n` tokens, which touch, are no part of another operator.
+    #[cold]
     fn are_apart(&self, n: usize, operator_first: &TokenSet) -> bool
         requires { 1 ≤ n }
         ensures { result ≡ are_apart (has operator_first.now) n self.now }
