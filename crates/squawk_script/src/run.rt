@@ -1,7 +1,11 @@
 //! A run of calls.
 ghost use Rattle.std.specs.Prelude.{◌≡◌, ◌<◌, IsTrue, OnOk, vec_len, vec_capacity};
+ghost use Rattle.std.specs.Str.{chars};
+ghost use Rattle.squawk_kinds.specs.TokenSets.{has};
 ghost use Rattle.squawk_log.specs.Draft.{HasNoHole};
-ghost use Rattle.squawk_parser.specs.State.{HasNotFailed, IsFresh, Keeps};
+ghost use Rattle.squawk_parser.specs.Eaten.{recovery_steps};
+ghost use Rattle.squawk_parser.specs.Recorded.{Puts};
+ghost use Rattle.squawk_parser.specs.State.{HasNotFailed, IsFresh, Keeps, ahead};
 ghost use Rattle.squawk_script.specs.Accepted.{IsAccepted, makes_marker, markers_of};
 ghost use Rattle.squawk_script.specs.Events.{FailsByLimits, IsRunOf};
 ghost use Rattle.squawk_script.specs.Slots.{IsTied, Performs, is_admitted, statuses_of};
@@ -9,7 +13,7 @@ ghost use Rattle.squawk_script.specs.declared.call.Call.TheVariants as calls;
 
 use crate::call::Call;
 use crate::slot::{Slot, keep_node, let_go, take_marker, take_node};
-use squawk_parser::{Parser, SyntaxKind};
+use squawk_parser::{Parser, SyntaxKind, TokenSet};
 use std::alloc::{AllocError, Global};
 
 /// Begins a node, and keeps its marker.
@@ -73,6 +77,16 @@ fn extend_to(slots: &mut Vec<Slot>, node: u32, marker: u32, p: &mut Parser<'_>)
     keep_node(slots, node, extended);
 }
 
+/// Records an error, and what is skipped with it. The set is copied here and not in the frame of every call.
+#[cold]
+#[inline(never)]
+fn err_recover(message: &str, recovery: &TokenSet, p: &mut Parser<'_>)
+    ensures keeps { Keeps p.old p.new }
+    ensures puts { Puts (recovery_steps (chars message.now) (has recovery.now) (ahead p.old 0)) p.old p.new }
+{
+    p.err_recover(message, *recovery);
+}
+
 /// Makes one call.
 fn perform(call: &Call, slots: &mut Vec<Slot>, p: &mut Parser<'_>)
     requires tied { IsTied p.old slots.old.items }
@@ -97,7 +111,7 @@ fn perform(call: &Call, slots: &mut Vec<Slot>, p: &mut Parser<'_>)
             p.expect(*kind);
         }
         Call::Error { message } => p.error(message.as_str()),
-        Call::ErrRecover { message, recovery } => p.err_recover(message.as_str(), *recovery),
+        Call::ErrRecover { message, recovery } => err_recover(message.as_str(), recovery, p),
         Call::ErrAndBump { message } => p.err_and_bump(message.as_str()),
     }
 }

@@ -63,6 +63,7 @@ impl Parser<'_> {
     }
 
     /// Records an error. Its text is copied.
+    #[cold]
     #[inline(never)]
     pub fn error(&mut self, msg: &str)
         ensures keeps { Keeps self.old self.new }
@@ -76,6 +77,7 @@ impl Parser<'_> {
 
     /// Records an error. Unless the current token is one to go on from, the error and that token, if
     /// there is one, stand in a node [`SyntaxKind::ERROR`].
+    #[cold]
     #[inline(never)]
     pub fn err_recover(&mut self, msg: &str, recovery: TokenSet)
         ensures keeps { Keeps self.old self.new }
@@ -94,6 +96,7 @@ impl Parser<'_> {
 
     /// Records an error and eats the current token, if there is one, in a node
     /// [`SyntaxKind::ERROR`].
+    #[cold]
     #[inline(never)]
     pub fn err_and_bump(&mut self, msg: &str)
         ensures keeps { Keeps self.old self.new }

@@ -194,6 +194,7 @@ impl Parser<'_> {
 }
 
 /// The text of the error where a kind is expected.
+#[cold]
 fn expected(
     alloc: Global,
     names: &[(SyntaxKind, &str)],
