@@ -1,9 +1,9 @@
 -- The raw tokens that are left from a place on.
-use Rattle.std.proofs.Common.{◌≡◌, ℕ, suc, ◌+◌, ◌-◌, ◌<◌, ◌≤◌, Bool, true, false, not, [], ◌∷◌, length, slice_index, arith, ap, sym, refl, nat_lt, ◌&&◌}
+use Rattle.std.proofs.Common.{◌≡◌, ℕ, suc, ◌+◌, ◌-◌, ◌<◌, ◌≤◌, true, false, [], ◌∷◌, length, slice_index, arith, ap, refl}
 use Rattle.squawk_kinds.specs.Kinds.{is_trivia}
 use Rattle.squawk_table.specs.RawTable.{Table, raw_at, raw_from, raw_after, raw_tokens}
 use Rattle.squawk_kinds.specs.Keywords.{Keywords}
-use Rattle.squawk_table.specs.ParserInput.{entry_for, entries_of, is_followed}
+use Rattle.squawk_table.specs.ParserInput.{entry_for, entries_of}
 
 pub raw_after-next : (t : Table) (i : ℕ) → i < length t.kinds → raw_after t i ≡ raw_at t i ∷ raw_after t (i + 1)
 raw_after-next t i lt =
@@ -20,10 +20,6 @@ pub raw_after-start : (t : Table) → raw_after t 0 ≡ raw_tokens t
 raw_after-start t =
     let left : length t.kinds - 0 ≡ length t.kinds = omega arith in
     ap (λ n. raw_from t 0 n) left
-
-followed_cases : (t : Table) (i : ℕ) (b : Bool) → b ≡ nat_lt i (length t.kinds) → is_followed (raw_after t i) ≡ (b && not (is_trivia (slice_index t.kinds i)))
-followed_cases t i true e = ap is_followed (raw_after-next t i (grind (arith, sym e)))
-followed_cases t i false e = ap is_followed (raw_after-end t i (grind (arith, sym e)))
 
 -- one more raw token: one that isn't trivia is the next entry
 pub entries_of-token : (contextual : Keywords) (t : Table) (i : ℕ) → i < length t.kinds → is_trivia (slice_index t.kinds i) ≡ false

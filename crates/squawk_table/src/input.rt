@@ -1,7 +1,7 @@
 //! The input of a parser.
 ghost use Rattle.std.specs.Prelude.{◌≡◌, ◌<◌, ◌+◌, [], length, IfOk, IsTrue};
-ghost use Rattle.squawk_table.specs.ParserInput.{HasNoEndToken, input_of, kind_in, contextual_kind_in, contextual_kind_of, touches_in, is_followed};
-ghost use Rattle.squawk_table.specs.RawTable.{raw_at, raw_after};
+ghost use Rattle.squawk_table.specs.ParserInput.{HasNoEndToken, input_of, kind_in, contextual_kind_in, contextual_kind_of, touches_in};
+ghost use Rattle.squawk_table.specs.RawTable.{raw_at};
 
 mod joints;
 
@@ -103,14 +103,20 @@ impl LexedStr<'_> {
         // The first `count` items are the input so far. Trivia is written behind them, too, and the
         // next raw token over it: a jump on what is trivia can't be foreseen.
         let mut count = 0;
+        // Where the raw token before was written, and whether the input has it: then it touches this
+        // one, if the input has this one too.
+        let mut last = 0;
+        let mut was_token = false;
         for i in 0..len {
             let kind = self.kind(i);
             let is_token = !kind.is_trivia();
             let contextual_kind = self.contextual_kind(i, vocabulary);
-            joints.set(count, is_token & self.is_followed(i));
+            joints.set(last, was_token & is_token);
             kinds[count] = kind;
             contextual_kinds[count] = contextual_kind;
+            last = count;
             count += usize::from(is_token);
+            was_token = is_token;
         }
         kinds.truncate(count);
         contextual_kinds.truncate(count);
@@ -134,14 +140,5 @@ impl LexedStr<'_> {
         } else {
             SyntaxKind::EOF
         }
-    }
-
-    /// Whether the raw token after `i` is there and isn't trivia.
-    fn is_followed(&self, i: usize) -> bool
-        requires { i < length self.now.kinds }
-        ensures { result ≡ is_followed (raw_after self.now (i + 1)) }
-    {
-        let len = self.len();
-        i + 1 < len && !self.kind(i + 1).is_trivia()
     }
 }

@@ -1,8 +1,9 @@
-use Rattle.std.proofs.Common.{◌≡◌, ◌<◌, ◌∙◌, length, slice_index, take, sym, ap, arith, subst, length-set}
+use Rattle.std.proofs.Common.{◌≡◌, ◌<◌, ◌≤◌, ◌+◌, ◌∙◌, ◌&&◌, ◌++◌, Bool, not, length, slice_index, set, take, sym, ap, arith, subst, length-set}
 use Rattle.squawk_kinds.specs.Kinds.{is_trivia}
 use Rattle.squawk_table.specs.InputView.{entries_in}
-use Rattle.squawk_table.specs.ParserInput.{HasNoEndToken, input_of}
-use Rattle.squawk_table.proofs.InputSoFar.{within_next, unset_next, entries_next, entries_all}
+use Rattle.squawk_table.specs.ParserInput.{HasNoEndToken, entries_of, input_of}
+use Rattle.squawk_table.specs.RawTable.{raw_after}
+use Rattle.squawk_table.proofs.InputSoFar.{within_next, unset_next, entries_next, entries_end, followed_at}
 use Rattle.squawk_table.proofs.NoEnd.{input-no_end}
 use Rattle.squawk_table.proofs.lexed_str.LexedStr.to_input.Goals as goal
 
@@ -15,31 +16,38 @@ loop-i-preserved g c =
     let lt : loop.i < length t.kinds = omega arith in
     let trivia : is_trivia (slice_index t.kinds loop.i) ≡ c.is_trivia-is_token.result =
     sym (ap is_trivia c.kind-kind.ensures) ∙ sym c.is_trivia-is_token.ensures in
-    let in_touches : loop.count < length loop.joints = omega (arith, before.joints, before.within) in
+    let in_joints : loop.last < length loop.joints = omega (arith, before.joints, before.within, before.next) in
+    let touches = set loop.joints loop.last (loop.was_token && not c.is_trivia-is_token.result) in
+    let many : length touches ≡ length t.kinds = length-set loop.joints loop.last _ ∙ before.joints in
+    let settled = subst
+    (λ (followed : Bool). entries_in (take loop.count loop.kinds.items) (take loop.count loop.contextual_kinds.items) (take loop.count (set loop.joints loop.last (loop.was_token && followed)))
+    ++ entries_of contextual (raw_after t loop.i) ≡ input_of contextual t)
+    (followed_at t loop.i c.is_trivia-is_token.result lt trivia) before.done in
     record {
-      done = rw (c.set.ensures, c.from-count.ensures, c.kind-kind.ensures, c.contextual_kind-contextual_kind.ensures, c.is_followed.ensures)
-          (entries_next contextual t loop.i loop.kinds.items loop.contextual_kinds.items loop.joints _ lt loop.count (omega (arith, before.kinds, before.within)) (omega (arith, before.contextual_kinds, before.within)) in_touches
-          c.is_trivia-is_token.result trivia before.done);
+      done = rw (c.set.ensures, c.from-count.ensures, c.kind-kind.ensures, c.contextual_kind-contextual_kind.ensures)
+          (entries_next contextual t loop.i loop.kinds.items loop.contextual_kinds.items touches _ lt loop.count (omega (arith, before.kinds, before.within)) (omega (arith, before.contextual_kinds, before.within)) (omega (arith, many, before.within))
+          c.is_trivia-is_token.result trivia settled);
+      next = ap (λ n. loop.count + n) c.from-count.ensures;
       within = rw c.from-count.ensures (within_next loop.count loop.i c.is_trivia-is_token.result before.within);
       kinds = length-set loop.kinds.items loop.count c.kind-kind.result ∙ before.kinds;
       contextual_kinds = length-set loop.contextual_kinds.items loop.count c.contextual_kind-contextual_kind.result ∙ before.contextual_kinds;
-      joints = ap length c.set.ensures ∙ (length-set loop.joints loop.count _ ∙ before.joints);
-      unset = rw (c.set.ensures, c.from-count.ensures) (unset_next loop.joints loop.count c.is_trivia-is_token.result c.is_followed.result in_touches before.unset);
+      joints = ap length c.set.ensures ∙ many;
+      unset = rw c.set.ensures (λ k le. unset_next loop.joints loop.last loop.was_token _ in_joints before.unset k (subst (λ n. n ≤ k) before.next le));
     }
 
 pub returns-clause-input : goal.returns-clause-input
 returns-clause-input g c =
     let contextual = g.V.Vocabulary.contextual_keyword c.args.vocabulary.now in
     let loop = c.loop-i in
-    let made = entries_in (take loop.count loop.kinds.items) (take loop.count loop.contextual_kinds.items) (take loop.count loop.joints) in
     rw (c.truncate.ensures.items, c.truncate-2.ensures.items, c.truncate-3.ensures)
-    (entries_all contextual c.args.self.now loop.i made _ (omega arith) loop.invariant.done)
+    (entries_end contextual c.args.self.now loop.i loop.kinds.items loop.contextual_kinds.items loop.joints _ loop.count loop.last loop.was_token (omega arith) (loop.invariant.unset loop.last (omega arith)) loop.invariant.done)
 
 pub returns-clause-no_end : goal.returns-clause-no_end
 returns-clause-no_end g c =
     let contextual = g.V.Vocabulary.contextual_keyword c.args.vocabulary.now in
     let loop = c.loop-i in
     let made = entries_in (take loop.count loop.kinds.items) (take loop.count loop.contextual_kinds.items) (take loop.count loop.joints) in
-    let all : made ≡ input_of contextual c.args.self.now = entries_all contextual c.args.self.now loop.i made _ (omega arith) loop.invariant.done in
+    let all : made ≡ input_of contextual c.args.self.now =
+    entries_end contextual c.args.self.now loop.i loop.kinds.items loop.contextual_kinds.items loop.joints _ loop.count loop.last loop.was_token (omega arith) (loop.invariant.unset loop.last (omega arith)) loop.invariant.done in
     rw (c.truncate.ensures.items, c.truncate-2.ensures.items, c.truncate-3.ensures)
     (subst HasNoEndToken (sym all) (input-no_end contextual c.args.self.now c.len-len.ensures.table.no_end))
