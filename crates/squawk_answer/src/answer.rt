@@ -65,6 +65,7 @@ impl Answer {
             grammar,
         } = document;
         let table = LexedStr::new(alloc, text, &tokens, &vocabulary)?;
+        drop(tokens);
         let output = parse(alloc, &table, &vocabulary, operator_first, &names, grammar)?;
         let errors = error_lines(alloc, table.errors())?;
         let steps = step_lines(alloc, table.str_steps(&output))?;
