@@ -1,9 +1,12 @@
 -- A text without characters that need an escape stands in a JSON string as it is.
-use Rattle.std.proofs.Common.{◌≡◌, ◌++◌, ℕ, suc, List, [], ◌∷◌, All, IsUtf8, chars, arith, ap, refl}
+use Rattle.std.proofs.Common.{◌≡◌, ◌++◌, ℕ, suc, List, [], ◌∷◌, All, IsUtf8, chars, append_assoc, arith, ap, refl}
+use Rattle.std.specs.Prelude.{codes}
+use Rattle.std.specs.Fmt.{decimal}
 use Rattle.std.proofs.lemmas.Bool.{ne_eqb, le-ltb}
 use Rattle.std.proofs.lemmas.Str.{encodes-chars}
 use Rattle.json.specs.Print.{escape_byte, escape}
-use Rattle.squawk_answer.specs.Lines.{json_of, quoted, IsPlain}
+use Rattle.squawk_table.specs.declared.shortcuts.str_step.OwnedStep.TheVariants.{Token}
+use Rattle.squawk_answer.specs.Lines.{json_of, quoted, step_line, IsPlain}
 
 escape-plain : (byte : ℕ) → IsPlain byte → escape_byte byte ≡ byte ∷ []
 unfolding escape_byte
@@ -32,3 +35,11 @@ quoted-plain bytes plain = λ i. 34 ∷ (escape-all bytes plain i ++ 34 ∷ [])
 -- a text's characters are written as the text is
 pub json_of-chars : (bytes : List ℕ) → IsUtf8 bytes → json_of (chars bytes) ≡ quoted bytes
 json_of-chars bytes utf8 = ap quoted (encodes-chars bytes utf8)
+
+between : (number bytes : List ℕ) → number ++ codes " " ++ (34 ∷ (bytes ++ 34 ∷ [])) ++ codes "\n" ≡ number ++ (32 ∷ 34 ∷ []) ++ bytes ++ (34 ∷ 10 ∷ [])
+between number bytes = simp append_assoc
+
+-- the line of a token, of which nothing needs an escape
+pub token_line-plain : (kind : ℕ) (bytes : List ℕ) → IsUtf8 bytes → All IsPlain bytes
+    → step_line (Token kind (chars bytes)) ≡ codes "token " ++ (decimal kind ++ (32 ∷ 34 ∷ []) ++ bytes ++ (34 ∷ 10 ∷ []))
+token_line-plain kind bytes utf8 plain = rw (json_of-chars bytes utf8, quoted-plain bytes plain) (ap (λ line. codes "token " ++ line) (between (decimal kind) bytes))

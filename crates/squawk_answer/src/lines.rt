@@ -2,6 +2,7 @@
 ghost use Rattle.std.specs.Prelude.{◌≡◌, ◌++◌, ◌↔◌, option_map, string_bytes, All, IfOk, IsTrue, OnOk};
 ghost use Rattle.std.specs.Str.{chars};
 ghost use Rattle.squawk_table.specs.SinkViews.{owned_step_of};
+ghost use Rattle.squawk_table.specs.declared.shortcuts.str_step.OwnedStep.TheVariants.{Token};
 ghost use Rattle.squawk_answer.specs.Lines.{hint_part, json_of, last_line, lex_line, lex_lines, quoted, step_line, step_lines, IsPlain};
 
 use serde_json::Value;
@@ -30,12 +31,7 @@ pub fn push_step_line(
     ensures { OnOk result (string_bytes lines.new ≡ string_bytes lines.old ++ step_line (owned_step_of step.entry)) }
 {
     match step {
-        StrStep::Token { kind, text } => {
-            let kind = u16::from(kind);
-            write!(lines, "token {kind} ")?;
-            push_json(alloc, lines, text)?;
-            lines.push('\n')
-        }
+        StrStep::Token { kind, text } => push_token_line(alloc, lines, u16::from(kind), text),
         StrStep::Enter { kind } => {
             let kind = u16::from(kind);
             writeln!(lines, "enter {kind}")
@@ -46,6 +42,25 @@ pub fn push_step_line(
             push_json(alloc, lines, msg)?;
             lines.push('\n')
         }
+    }
+}
+
+/// Puts the line of a token behind others.
+///
+/// Most texts of tokens are the same in a JSON string, so that nothing has to be made of them before.
+fn push_token_line(
+    alloc: Global,
+    lines: &mut String,
+    kind: u16,
+    text: &str,
+) -> Result<(), AllocError>
+    ensures { OnOk result (string_bytes lines.new ≡ string_bytes lines.old ++ step_line (Token kind (chars text.now))) }
+{
+    if needs_no_escape(text) {
+        writeln!(lines, "token {kind} \"{text}\"")
+    } else {
+        let text = json_text(alloc, text)?;
+        writeln!(lines, "token {kind} {text}")
     }
 }
 
@@ -87,8 +102,6 @@ fn push_hint(alloc: Global, lines: &mut String, hint: Option<&str>) -> Result<()
 }
 
 /// Puts a text behind others, as a JSON string.
-///
-/// Most texts of tokens are the same there, so that nothing has to be made of them before.
 fn push_json(alloc: Global, lines: &mut String, text: &str) -> Result<(), AllocError>
     ensures bytes { OnOk result (string_bytes lines.new ≡ string_bytes lines.old ++ quoted text.now) }
     ensures chars { OnOk result (string_bytes lines.new ≡ string_bytes lines.old ++ json_of (chars text.now)) }
