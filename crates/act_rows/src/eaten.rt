@@ -14,27 +14,22 @@ use std::process::Abort;
 use std::test::Fail;
 
 #[test]
-fn two_signs_are_one_token(rt: HostRuntime) -> Result<(), Fail> {
-    let eat = Act::Eat(SyntaxKind::COLON_EQ);
+fn two_signs_are_one_token_where_they_touch(rt: HostRuntime) -> Result<(), Fail> {
+    let acts = [Act::BumpAny, Act::Eat(SyntaxKind::COLON_EQ), Act::BumpAny];
     assert_acts(
         &rt,
         Kinds::Plain,
-        &[Act::BumpAny, eat, Act::BumpAny],
+        &acts,
         Case {
             calls: "start, bump_any, eat COLON_EQ, bump_any, complete 0 ROOT",
             text: "a:=b",
             line: "ROOT(a COLON_EQ':=' b)",
         },
-    )
-}
-
-#[test]
-fn two_signs_that_are_apart_are_none(rt: HostRuntime) -> Result<(), Fail> {
-    let eat = Act::Eat(SyntaxKind::COLON_EQ);
+    )?;
     assert_acts(
         &rt,
         Kinds::Plain,
-        &[Act::BumpAny, eat, Act::BumpAny],
+        &acts,
         Case {
             calls: "start, bump_any, eat COLON_EQ, bump_any, complete 0 ROOT",
             text: "a: =b",
@@ -93,7 +88,7 @@ fn each_pair_is_glued_where_it_touches(rt: HostRuntime) -> Result<(), Fail> {
 }
 
 #[test]
-fn two_colons_are_a_node(rt: HostRuntime) -> Result<(), Fail> {
+fn touching_signs_may_be_a_node(rt: HostRuntime) -> Result<(), Fail> {
     assert_acts(
         &rt,
         Kinds::Plain,
@@ -103,11 +98,7 @@ fn two_colons_are_a_node(rt: HostRuntime) -> Result<(), Fail> {
             text: "::",
             line: "ROOT(COLON_COLON(: :))",
         },
-    )
-}
-
-#[test]
-fn operator_is_a_node_of_its_signs(rt: HostRuntime) -> Result<(), Fail> {
+    )?;
     assert_acts(
         &rt,
         Kinds::Operators,
@@ -121,19 +112,14 @@ fn operator_is_a_node_of_its_signs(rt: HostRuntime) -> Result<(), Fail> {
 }
 
 #[test]
-fn expected_kind_is_named(rt: HostRuntime) -> Result<(), Fail> {
+fn expected_kind_is_named_or_has_its_number(rt: HostRuntime) -> Result<(), Fail> {
     let acts = [Act::BumpAny, Act::Expect(SyntaxKind::SEMICOLON)];
-    assert_acts(&rt, Kinds::Named, &acts, EXPECTED_NAME)
-}
-
-#[test]
-fn expected_kind_without_a_name_has_its_number(rt: HostRuntime) -> Result<(), Fail> {
-    let acts = [Act::BumpAny, Act::Expect(SyntaxKind::SEMICOLON)];
+    assert_acts(&rt, Kinds::Named, &acts, EXPECTED_NAME)?;
     assert_acts(&rt, Kinds::Plain, &acts, EXPECTED_NUMBER)
 }
 
 #[test]
-fn expected_pair_must_touch(rt: HostRuntime) -> Result<(), Fail> {
+fn expected_pair_is_eaten_where_it_touches(rt: HostRuntime) -> Result<(), Fail> {
     assert_acts(
         &rt,
         Kinds::Plain,
@@ -143,11 +129,7 @@ fn expected_pair_must_touch(rt: HostRuntime) -> Result<(), Fail> {
             text: ": =",
             line: "ROOT(!'expected 45'@0) ...",
         },
-    )
-}
-
-#[test]
-fn expected_pair_that_touches_is_eaten(rt: HostRuntime) -> Result<(), Fail> {
+    )?;
     assert_acts(
         &rt,
         Kinds::Plain,

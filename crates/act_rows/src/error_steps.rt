@@ -93,11 +93,21 @@ fn skipped_token_stands_in_a_node_with_its_error(rt: HostRuntime) -> Result<(), 
         Kinds::Plain,
         &[Act::ErrAndBump(Message::M)],
         SKIPPED_TOKEN,
+    )?;
+    assert_acts(
+        &rt,
+        Kinds::Plain,
+        &[RECOVER],
+        Case {
+            calls: "start, err_recover m SEMICOLON, complete 0 ROOT",
+            text: ",;",
+            line: "ROOT(ERROR(!'m'@0 ,)) ...",
+        },
     )
 }
 
 #[test]
-fn nothing_is_skipped_at_the_end(rt: HostRuntime) -> Result<(), Fail> {
+fn neither_the_end_nor_a_token_to_go_on_from_is_skipped(rt: HostRuntime) -> Result<(), Fail> {
     assert_acts(
         &rt,
         Kinds::Plain,
@@ -117,11 +127,7 @@ fn nothing_is_skipped_at_the_end(rt: HostRuntime) -> Result<(), Fail> {
             text: "",
             line: "ROOT(ERROR(!'m'@0))",
         },
-    )
-}
-
-#[test]
-fn token_to_go_on_from_is_not_skipped(rt: HostRuntime) -> Result<(), Fail> {
+    )?;
     assert_acts(
         &rt,
         Kinds::Plain,
@@ -130,20 +136,6 @@ fn token_to_go_on_from_is_not_skipped(rt: HostRuntime) -> Result<(), Fail> {
             calls: "start, err_recover m SEMICOLON, complete 0 ROOT",
             text: ";",
             line: "ROOT(!'m'@0) ...",
-        },
-    )
-}
-
-#[test]
-fn other_token_is_skipped(rt: HostRuntime) -> Result<(), Fail> {
-    assert_acts(
-        &rt,
-        Kinds::Plain,
-        &[RECOVER],
-        Case {
-            calls: "start, err_recover m SEMICOLON, complete 0 ROOT",
-            text: ",;",
-            line: "ROOT(ERROR(!'m'@0 ,)) ...",
         },
     )
 }

@@ -81,18 +81,14 @@ fn normal_form_stands_in_a_node_of_its_own(rt: HostRuntime) -> Result<(), Fail> 
 }
 
 #[test]
-fn tail_stands_in_the_node_of_its_kind(rt: HostRuntime) -> Result<(), Fail> {
+fn tail_stands_in_the_node_of_its_kind_where_that_stands(rt: HostRuntime) -> Result<(), Fail> {
     assert_part(
         &rt,
         Kinds::Keywords,
         node(ROOT, Act::EatWith(SyntaxKind::IS_JSON)),
         "is json x",
         "ROOT(IS_JSON(IS_KW'is' _ JSON_KW'json' _ x))",
-    )
-}
-
-#[test]
-fn kind_that_does_not_stand_runs_no_tail(rt: HostRuntime) -> Result<(), Fail> {
+    )?;
     assert_part(
         &rt,
         Kinds::Keywords,
@@ -149,11 +145,7 @@ fn call_of_an_operator_is_closed(rt: HostRuntime) -> Result<(), Fail> {
         node(ROOT, Act::EatWith(SyntaxKind::OPERATOR_CALL)),
         "operator(+",
         "ROOT(OPERATOR_CALL(OPERATOR_KW'operator' L_PAREN'(' + !'expected 10'@10))",
-    )
-}
-
-#[test]
-fn closed_call_of_an_operator_has_its_parenthesis(rt: HostRuntime) -> Result<(), Fail> {
+    )?;
     assert_part(
         &rt,
         Kinds::Keywords,

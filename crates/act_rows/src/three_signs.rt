@@ -12,7 +12,7 @@ use std::process::Abort;
 use std::test::Fail;
 
 #[test]
-fn three_signs_are_eaten_as_one_token(rt: HostRuntime) -> Result<(), Fail> {
+fn three_signs_are_eaten_as_one_token_where_they_touch(rt: HostRuntime) -> Result<(), Fail> {
     let eat = Act::Eat(SyntaxKind::LONG_ARROW);
     assert_acts(
         &rt,
@@ -23,17 +23,7 @@ fn three_signs_are_eaten_as_one_token(rt: HostRuntime) -> Result<(), Fail> {
             text: "a->>b",
             line: "ROOT(a LONG_ARROW'->>' b)",
         },
-    )
-}
-
-#[test]
-fn three_signs_are_one_event(rt: HostRuntime) -> Result<(), Fail> {
-    let calls = "start, bump_any, eat LONG_ARROW, bump_any, complete 0 ROOT";
-    assert_counts(&rt, Kinds::Plain, "a->>b", calls, 5, 5 + 1)
-}
-
-#[test]
-fn three_signs_of_which_one_is_apart_are_not_eaten(rt: HostRuntime) -> Result<(), Fail> {
+    )?;
     assert_acts(
         &rt,
         Kinds::Operators,
@@ -47,7 +37,13 @@ fn three_signs_of_which_one_is_apart_are_not_eaten(rt: HostRuntime) -> Result<()
 }
 
 #[test]
-fn expected_arrow_is_eaten(rt: HostRuntime) -> Result<(), Fail> {
+fn three_signs_are_one_event(rt: HostRuntime) -> Result<(), Fail> {
+    let calls = "start, bump_any, eat LONG_ARROW, bump_any, complete 0 ROOT";
+    assert_counts(&rt, Kinds::Plain, "a->>b", calls, 5, 5 + 1)
+}
+
+#[test]
+fn expected_arrow_is_eaten_where_it_touches(rt: HostRuntime) -> Result<(), Fail> {
     assert_acts(
         &rt,
         Kinds::Operators,
@@ -57,11 +53,7 @@ fn expected_arrow_is_eaten(rt: HostRuntime) -> Result<(), Fail> {
             text: "->>",
             line: "ROOT(LONG_ARROW'->>')",
         },
-    )
-}
-
-#[test]
-fn expected_arrow_that_is_apart_is_an_error(rt: HostRuntime) -> Result<(), Fail> {
+    )?;
     assert_acts(
         &rt,
         Kinds::Operators,
