@@ -33,19 +33,13 @@ fn assert_open(rt: &(impl Abort + AllocGlobal), rows: &[(&str, u32)]) -> Result<
     Ok(())
 }
 
-const ABSENT: [(&str, usize); 4] = [
+const BAD: [(&str, usize); 19] = [
+    // A marker must be there.
     ("complete 0 ROOT", 0),
     ("start, abandon 1, complete 0 ROOT", 1),
     ("start, complete 0 NAME, extend_to 0 1", 2),
     ("precede 0", 0),
-];
-
-#[test]
-fn marker_must_be_there(rt: HostRuntime) -> Result<(), Fail> {
-    assert_bad(&rt, &ABSENT)
-}
-
-const SPENT: [(&str, usize); 4] = [
+    // It is spent once.
     ("start, complete 0 ROOT, complete 0 ROOT", 2),
     ("start, complete 0 ROOT, abandon 0", 2),
     ("start, abandon 0, abandon 0", 2),
@@ -54,49 +48,28 @@ const SPENT: [(&str, usize); 4] = [
         "start, start, complete 1 NAME, extend_to 1 0, complete 0 ROOT",
         4,
     ),
-];
-
-#[test]
-fn marker_is_spent_once(rt: HostRuntime) -> Result<(), Fail> {
-    assert_bad(&rt, &SPENT)
-}
-
-const NOT_COMPLETE: [(&str, usize); 3] = [
+    // A node must be complete.
     ("start, precede 0", 1),
     ("start, abandon 0, precede 0", 2),
     ("start, start, extend_to 1 0", 2),
-];
-
-#[test]
-fn node_must_be_complete(rt: HostRuntime) -> Result<(), Fail> {
-    assert_bad(&rt, &NOT_COMPLETE)
-}
-
-const PRECEDED: [(&str, usize); 3] = [
+    // It is preceded once.
     ("start, complete 0 NAME, precede 0, precede 0", 3),
     ("start, complete 0 NAME, precede 0, abandon 1, precede 0", 4),
     // Nor is it extended then.
     ("start, start, complete 1 NAME, precede 1, extend_to 1 0", 4),
-];
-
-#[test]
-fn node_is_preceded_once(rt: HostRuntime) -> Result<(), Fail> {
-    assert_bad(&rt, &PRECEDED)
-}
-
-const NOT_OLDER: [(&str, usize); 2] = [
+    // It is extended to an older marker.
     ("start, complete 0 NAME, start, extend_to 0 1", 3),
     ("start, complete 0 NAME, extend_to 0 0", 2),
+    // It has a kind.
+    ("start, complete 0 TOMBSTONE", 1),
+    // Markers are left open, too.
+    ("complete 3 ROOT, eat EOF", 0),
+    ("start, start, complete 5 NAME", 2),
 ];
 
 #[test]
-fn node_is_extended_to_an_older_marker(rt: HostRuntime) -> Result<(), Fail> {
-    assert_bad(&rt, &NOT_OLDER)
-}
-
-#[test]
-fn node_has_a_kind(rt: HostRuntime) -> Result<(), Fail> {
-    assert_bad(&rt, &[("start, complete 0 TOMBSTONE", 1)])
+fn first_call_that_cannot_be_made_is_told(rt: HostRuntime) -> Result<(), Fail> {
+    assert_bad(&rt, &BAD)
 }
 
 /// Ends the test unless the kind of this name is neither eaten nor expected.
@@ -137,14 +110,4 @@ const OPEN: [(&str, u32); 5] = [
 #[test]
 fn each_marker_is_spent(rt: HostRuntime) -> Result<(), Fail> {
     assert_open(&rt, &OPEN)
-}
-
-const BAD_AND_OPEN: [(&str, usize); 2] = [
-    ("complete 3 ROOT, eat EOF", 0),
-    ("start, start, complete 5 NAME", 2),
-];
-
-#[test]
-fn first_bad_call_is_told_before_open_markers(rt: HostRuntime) -> Result<(), Fail> {
-    assert_bad(&rt, &BAD_AND_OPEN)
 }

@@ -107,7 +107,8 @@ fn assert_taken(rt: &impl Abort, received: &Received, line: &str) {
     assert_eq!(rt; received.line.as_str(), line);
 }
 
-/// What a list that refuses the step behind so many receives is to be: a refusal, or the whole line.
+/// Ends the test unless a list that refuses the step behind so many holds those before it, and hands the
+/// refusal on. One that takes all the steps has the line.
 fn assert_received(
     rt: &(impl Abort + AllocGlobal),
     table: &LexedStr<'_>,

@@ -45,17 +45,21 @@ fn token(kind: SyntaxKind, text: &str) -> StrStep<'_> {
     StrStep::Token { kind, text }
 }
 
+/// Hands a step to a tree: taken apart, since the check doesn't cover a step that is handed on whole.
+fn hand(tree: &mut TreeText, step: &StrStep<'_>) -> Result<(), AllocError> {
+    match *step {
+        StrStep::Token { kind, text } => tree.step(StrStep::Token { kind, text }),
+        StrStep::Enter { kind } => tree.step(StrStep::Enter { kind }),
+        StrStep::Exit => tree.step(StrStep::Exit),
+        StrStep::Error { msg, pos } => tree.step(StrStep::Error { msg, pos }),
+    }
+}
+
 /// The text of a tree that was sent these steps.
 fn text_of(alloc: Global, steps: &[StrStep<'_>]) -> Result<String, AllocError> {
     let mut tree = TreeText::new(alloc);
     for step in steps {
-        // Taken apart, since the check doesn't cover a step that is handed on whole.
-        match *step {
-            StrStep::Token { kind, text } => tree.step(StrStep::Token { kind, text })?,
-            StrStep::Enter { kind } => tree.step(StrStep::Enter { kind })?,
-            StrStep::Exit => tree.step(StrStep::Exit)?,
-            StrStep::Error { msg, pos } => tree.step(StrStep::Error { msg, pos })?,
-        }
+        hand(&mut tree, step)?;
     }
     tree.finish(alloc, &names())
 }
