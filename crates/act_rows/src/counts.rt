@@ -8,36 +8,27 @@
 //! link from a start to a later one: so nodes are linked to the nodes in front of them, and markers
 //! to the nodes that were extended to them. The sums below are of these, in this order.
 
-use crate::fixture::rows::assert_counts;
+use crate::fixture::rows::{Counts, assert_all_counts, assert_counts};
 use row_fixtures::rows::Kinds;
 use std::test::Fail;
 
+#[rattlefmt::skip]
+const NODES: [Counts; 5] = [
+    ("", "start, complete 0 ROOT", 2, 2 + 1),
+    // A token, whether another is left or trivia stands before it.
+    ("a b", "start, bump_any, complete 0 ROOT", 3, 3 + 1),
+    ("\u{feff}a", "start, bump_any, complete 0 ROOT", 3, 3 + 1),
+    // Two tokens.
+    ("a b", "start, bump_any, bump_any, complete 0 ROOT", 4, 4 + 1),
+    // Three nodes, two of which cross, and three tokens.
+    ("a b c", "start, start, bump_any, start, bump_any, complete 1 CALL, bump_any, complete 2 FIELD, \
+               complete 0 ROOT",
+     9, 9 + 3),
+];
+
 #[test]
 fn node_is_two_events_and_three_turns(rt: HostRuntime) -> Result<(), Fail> {
-    for (text, calls, recorded, turns) in [
-        ("", "start, complete 0 ROOT", 2, 2 + 1),
-        // A token, whether another is left or trivia stands before it.
-        ("a b", "start, bump_any, complete 0 ROOT", 3, 3 + 1),
-        ("\u{feff}a", "start, bump_any, complete 0 ROOT", 3, 3 + 1),
-        // Two tokens.
-        (
-            "a b",
-            "start, bump_any, bump_any, complete 0 ROOT",
-            4,
-            4 + 1,
-        ),
-        // Three nodes, two of which cross, and three tokens.
-        (
-            "a b c",
-            "start, start, bump_any, start, bump_any, complete 1 CALL, bump_any, \
-             complete 2 FIELD, complete 0 ROOT",
-            9,
-            9 + 3,
-        ),
-    ] {
-        assert_counts(&rt, Kinds::Plain, text, calls, recorded, turns)?;
-    }
-    Ok(())
+    assert_all_counts(&rt, &NODES)
 }
 
 #[test]
@@ -50,18 +41,30 @@ fn statement_of_six_nodes_is_fifteen_events(rt: HostRuntime) -> Result<(), Fail>
     assert_counts(&rt, Kinds::Select, text, calls, 15, 15 + 6)
 }
 
+const GIVEN_UP: [Counts; 2] = [
+    // A token stands behind the start: both starts are in the log.
+    (
+        "a",
+        "start, start, bump_any, abandon 1, complete 0 ROOT",
+        4,
+        4 + 2,
+    ),
+    // The start was last, and is taken from the log: that has three events, one a start.
+    (
+        "a",
+        "start, start, abandon 1, bump_any, complete 0 ROOT",
+        4,
+        3 + 1,
+    ),
+];
+
 #[test]
 fn start_that_is_given_up_is_a_turn_unless_it_was_last(rt: HostRuntime) -> Result<(), Fail> {
-    // A token stands behind the start: both starts are in the log.
-    let behind_a_token = "start, start, bump_any, abandon 1, complete 0 ROOT";
-    assert_counts(&rt, Kinds::Plain, "a", behind_a_token, 4, 4 + 2)?;
-    // The start was last, and is taken from the log: that has three events, one a start.
-    let at_once = "start, start, abandon 1, bump_any, complete 0 ROOT";
-    assert_counts(&rt, Kinds::Plain, "a", at_once, 4, 3 + 1)
+    assert_all_counts(&rt, &GIVEN_UP)
 }
 
 #[rattlefmt::skip]
-const PRECEDED: [(&str, &str, u32, u64); 5] = [
+const PRECEDED: [Counts; 5] = [
     // Two nodes and three tokens.
     ("foo.bar", "start, bump_any, complete 0 PATH, precede 0, bump_any, bump_any, complete 1 PATH",
      7, 7 + 2 + 2),
@@ -81,43 +84,30 @@ const PRECEDED: [(&str, &str, u32, u64); 5] = [
 
 #[test]
 fn node_in_front_is_a_link(rt: HostRuntime) -> Result<(), Fail> {
-    for (text, calls, recorded, turns) in PRECEDED {
-        assert_counts(&rt, Kinds::Plain, text, calls, recorded, turns)?;
-    }
-    Ok(())
-}
-
-#[test]
-fn marker_in_front_that_is_given_up_stays_a_link(rt: HostRuntime) -> Result<(), Fail> {
-    for (calls, recorded, turns) in [
-        // Three nodes, two tokens, and the marker, which is a fourth start.
-        (
-            "start, start, bump_any, complete 1 NAME, precede 1, abandon 2, start, bump_any, \
-             complete 3 NAME_REF, complete 0 ROOT",
-            9,
-            9 + 4 + 2,
-        ),
-        (
-            "start, start, bump_any, complete 1 NAME, precede 1, abandon 2, start, bump_any, \
-             complete 3 CALL, complete 0 ROOT",
-            9,
-            9 + 4 + 2,
-        ),
-        // Two nodes, two tokens, and the marker, which is a third start.
-        (
-            "start, start, bump_any, complete 1 NAME, precede 1, abandon 2, bump_any, \
-             complete 0 ROOT",
-            7,
-            7 + 3 + 2,
-        ),
-    ] {
-        assert_counts(&rt, Kinds::Plain, "a b", calls, recorded, turns)?;
-    }
-    Ok(())
+    assert_all_counts(&rt, &PRECEDED)
 }
 
 #[rattlefmt::skip]
-const EXTENDED: [(&str, &str, u32, u64); 6] = [
+const PRECEDED_IN_VAIN: [Counts; 3] = [
+    // Three nodes, two tokens, and the marker, which is a fourth start.
+    ("a b", "start, start, bump_any, complete 1 NAME, precede 1, abandon 2, start, bump_any, \
+             complete 3 NAME_REF, complete 0 ROOT",
+     9, 9 + 4 + 2),
+    ("a b", "start, start, bump_any, complete 1 NAME, precede 1, abandon 2, start, bump_any, \
+             complete 3 CALL, complete 0 ROOT",
+     9, 9 + 4 + 2),
+    // Two nodes, two tokens, and the marker, which is a third start.
+    ("a b", "start, start, bump_any, complete 1 NAME, precede 1, abandon 2, bump_any, complete 0 ROOT",
+     7, 7 + 3 + 2),
+];
+
+#[test]
+fn marker_in_front_that_is_given_up_stays_a_link(rt: HostRuntime) -> Result<(), Fail> {
+    assert_all_counts(&rt, &PRECEDED_IN_VAIN)
+}
+
+#[rattlefmt::skip]
+const EXTENDED: [Counts; 6] = [
     // Two nodes, a marker and two tokens.
     ("a b", "start, start, bump_any, start, bump_any, complete 2 NAME, extend_to 2 1, complete 0 ROOT",
      7, 7 + 3 + 2),
@@ -143,8 +133,5 @@ const EXTENDED: [(&str, &str, u32, u64); 6] = [
 
 #[test]
 fn marker_that_a_node_is_extended_to_is_a_link(rt: HostRuntime) -> Result<(), Fail> {
-    for (text, calls, recorded, turns) in EXTENDED {
-        assert_counts(&rt, Kinds::Plain, text, calls, recorded, turns)?;
-    }
-    Ok(())
+    assert_all_counts(&rt, &EXTENDED)
 }

@@ -1,6 +1,6 @@
 //! Errors in outputs, and where they are sent.
 
-use crate::fixture::rows::assert_row;
+use crate::fixture::rows::{assert_acts, assert_row};
 use row_fixtures::cases::SKIPPED_TOKEN;
 use row_fixtures::kinds::{NAME, NAME_REF, ROOT};
 use row_fixtures::parts::{Act, Message, node, then};
@@ -56,11 +56,10 @@ fn two_errors_behind_two_closings_go_before_the_last_of_them(rt: HostRuntime) ->
 
 #[test]
 fn error_stands_before_the_trivia_behind_it(rt: HostRuntime) -> Result<(), Fail> {
-    let behind = then(Act::Error(Message::M), Act::BumpAny);
-    assert_row(
+    assert_acts(
         &rt,
         Kinds::Plain,
-        node(ROOT, then(Act::BumpAny, behind)),
+        &[Act::BumpAny, Act::Error(Message::M), Act::BumpAny],
         Case {
             calls: "start, bump_any, error m, bump_any, complete 0 ROOT",
             text: "a /*x*/ b",
@@ -84,58 +83,59 @@ fn position_of_an_error_counts_bytes(rt: HostRuntime) -> Result<(), Fail> {
     )
 }
 
+/// Goes on from a semicolon.
+const RECOVER: Act = Act::ErrRecover(Message::M, SyntaxKind::SEMICOLON);
+
 #[test]
 fn skipped_token_stands_in_a_node_with_its_error(rt: HostRuntime) -> Result<(), Fail> {
-    let part = node(ROOT, Act::ErrAndBump(Message::M));
-    assert_row(&rt, Kinds::Plain, part, SKIPPED_TOKEN)
-}
-
-#[test]
-fn nothing_is_skipped_at_the_end(rt: HostRuntime) -> Result<(), Fail> {
-    for (act, calls) in [
-        (
-            Act::ErrAndBump(Message::M),
-            "start, err_and_bump m, complete 0 ROOT",
-        ),
-        (
-            Act::ErrRecover(Message::M, SyntaxKind::SEMICOLON),
-            "start, err_recover m SEMICOLON, complete 0 ROOT",
-        ),
-    ] {
-        let case = Case {
-            calls,
-            text: "",
-            line: "ROOT(ERROR(!'m'@0))",
-        };
-        assert_row(&rt, Kinds::Plain, node(ROOT, act), case)?;
-    }
-    Ok(())
-}
-
-#[test]
-fn token_to_go_on_from_is_not_skipped(rt: HostRuntime) -> Result<(), Fail> {
-    assert_row(
+    assert_acts(
         &rt,
         Kinds::Plain,
-        node(ROOT, Act::ErrRecover(Message::M, SyntaxKind::SEMICOLON)),
+        &[Act::ErrAndBump(Message::M)],
+        SKIPPED_TOKEN,
+    )?;
+    assert_acts(
+        &rt,
+        Kinds::Plain,
+        &[RECOVER],
         Case {
             calls: "start, err_recover m SEMICOLON, complete 0 ROOT",
-            text: ";",
-            line: "ROOT(!'m'@0) ...",
+            text: ",;",
+            line: "ROOT(ERROR(!'m'@0 ,)) ...",
         },
     )
 }
 
 #[test]
-fn other_token_is_skipped(rt: HostRuntime) -> Result<(), Fail> {
-    assert_row(
+fn neither_the_end_nor_a_token_to_go_on_from_is_skipped(rt: HostRuntime) -> Result<(), Fail> {
+    assert_acts(
         &rt,
         Kinds::Plain,
-        node(ROOT, Act::ErrRecover(Message::M, SyntaxKind::SEMICOLON)),
+        &[Act::ErrAndBump(Message::M)],
+        Case {
+            calls: "start, err_and_bump m, complete 0 ROOT",
+            text: "",
+            line: "ROOT(ERROR(!'m'@0))",
+        },
+    )?;
+    assert_acts(
+        &rt,
+        Kinds::Plain,
+        &[RECOVER],
         Case {
             calls: "start, err_recover m SEMICOLON, complete 0 ROOT",
-            text: ",;",
-            line: "ROOT(ERROR(!'m'@0 ,)) ...",
+            text: "",
+            line: "ROOT(ERROR(!'m'@0))",
+        },
+    )?;
+    assert_acts(
+        &rt,
+        Kinds::Plain,
+        &[RECOVER],
+        Case {
+            calls: "start, err_recover m SEMICOLON, complete 0 ROOT",
+            text: ";",
+            line: "ROOT(!'m'@0) ...",
         },
     )
 }

@@ -1,8 +1,8 @@
 //! Scripts that extend nodes to older markers.
 
-use crate::fixture::rows::assert_script;
+use crate::fixture::rows::assert_scripts;
 use row_fixtures::cases::{EXTENDED_IN_FRONT, EXTENDED_TWICE};
-use row_fixtures::rows::{Case, Kinds};
+use row_fixtures::rows::Case;
 use std::test::Fail;
 
 #[rattlefmt::skip]
@@ -45,12 +45,7 @@ const EXTENDED: [Case<'static>; 5] = [
 
 #[test]
 fn extended_node_begins_at_the_oldest_of_its_markers(rt: HostRuntime) -> Result<(), Fail> {
-    for case in EXTENDED {
-        assert_script(&rt, Kinds::Plain, case)?;
-    }
+    assert_scripts(&rt, &EXTENDED)?;
     // A node that begins before an older marker stays there.
-    for case in [EXTENDED_TWICE, EXTENDED_IN_FRONT] {
-        assert_script(&rt, Kinds::Plain, case)?;
-    }
-    Ok(())
+    assert_scripts(&rt, &[EXTENDED_TWICE, EXTENDED_IN_FRONT])
 }

@@ -1,5 +1,6 @@
 //! What the tests share.
 
+pub mod acts;
 pub mod moves;
 pub mod output;
 pub mod rows;

@@ -49,11 +49,7 @@ fn abandoned_node_leaves_what_stood_in_it(rt: HostRuntime) -> Result<(), Fail> {
             text: "a",
             line: "ROOT(a)",
         },
-    )
-}
-
-#[test]
-fn marker_may_be_abandoned_at_once(rt: HostRuntime) -> Result<(), Fail> {
+    )?;
     assert_row(
         &rt,
         Kinds::Plain,

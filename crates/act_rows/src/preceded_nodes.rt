@@ -1,7 +1,7 @@
 //! Scripts that put nodes in front of nodes.
 
-use crate::fixture::rows::assert_script;
-use row_fixtures::rows::{Case, Kinds};
+use crate::fixture::rows::assert_scripts;
+use row_fixtures::rows::Case;
 use std::test::Fail;
 
 #[rattlefmt::skip]
@@ -46,8 +46,5 @@ const PRECEDED: [Case<'static>; 6] = [
 
 #[test]
 fn preceding_node_has_the_node_behind_it(rt: HostRuntime) -> Result<(), Fail> {
-    for case in PRECEDED {
-        assert_script(&rt, Kinds::Plain, case)?;
-    }
-    Ok(())
+    assert_scripts(&rt, &PRECEDED)
 }

@@ -1,9 +1,9 @@
 //! Sequences of keywords and their tails: what eating them records.
 
 use crate::fixture::output::assert_output;
-use crate::fixture::rows::{assert_part, assert_row, part_that_eats, script_that_eats};
+use crate::fixture::rows::{assert_acts, assert_part, part_that_eats, script_that_eats};
 use row_fixtures::kinds::{ROOT, kind_named};
-use row_fixtures::parts::{Act, node, then};
+use row_fixtures::parts::{Act, node};
 use row_fixtures::rows::{Case, Kinds, output_of};
 use squawk_parser::SyntaxKind;
 use std::process::Abort;
@@ -11,10 +11,10 @@ use std::test::Fail;
 
 #[test]
 fn trivia_stands_between_the_tokens_of_a_sequence(rt: HostRuntime) -> Result<(), Fail> {
-    assert_row(
+    assert_acts(
         &rt,
         Kinds::Keywords,
-        node(ROOT, Act::Eat(SyntaxKind::IS_DISTINCT_FROM)),
+        &[Act::Eat(SyntaxKind::IS_DISTINCT_FROM)],
         Case {
             calls: "start, eat IS_DISTINCT_FROM, complete 0 ROOT",
             text: "is /*x*/ distinct from",
@@ -41,38 +41,36 @@ const SEQUENCES: [(&str, &str, &str); 12] = [
     ("IS_NOT_NORMALIZED", "is not normalized", "IS_KW NOT_KW NORMALIZED_KW"),
 ];
 
-/// Ends the test unless a root in which the kind of this name is eaten has this line over the text.
+/// Ends the test unless a root in which the kind of this name is eaten has a node of these tokens over the
+/// text.
 fn assert_sequence(
     rt: &(impl Abort + AllocGlobal),
     name: &str,
     text: &str,
-    line: &str,
+    tokens: &str,
 ) -> Result<(), Fail> {
+    let line = format!(in rt.alloc(); "ROOT({name}({tokens}))")?;
     let by_part = part_that_eats(rt.alloc(), Kinds::Keywords, name, text)?;
-    assert_output(rt, &by_part, line)?;
+    assert_output(rt, &by_part, &line)?;
     let by_script = script_that_eats(rt.alloc(), Kinds::Keywords, name, text)?;
-    assert_output(rt, &by_script, line)?;
+    assert_output(rt, &by_script, &line)?;
     Ok(())
 }
 
 #[test]
 fn each_sequence_is_a_node(rt: HostRuntime) -> Result<(), Fail> {
-    for (name, text, tokens) in SEQUENCES {
-        let line = format!(in rt.alloc(); "ROOT({name}({tokens}))")?;
-        assert_sequence(&rt, name, text, &line)?;
+    for (name, text, tokens) in &SEQUENCES {
+        assert_sequence(&rt, name, text, tokens)?;
     }
     Ok(())
 }
 
 #[test]
 fn normal_form_stands_in_a_node_of_its_own(rt: HostRuntime) -> Result<(), Fail> {
-    assert_row(
+    assert_acts(
         &rt,
         Kinds::Keywords,
-        node(
-            ROOT,
-            then(Act::BumpAny, Act::Eat(SyntaxKind::IS_NORMALIZED)),
-        ),
+        &[Act::BumpAny, Act::Eat(SyntaxKind::IS_NORMALIZED)],
         Case {
             calls: "start, bump_any, eat IS_NORMALIZED, complete 0 ROOT",
             text: "x is nfc normalized",
@@ -83,18 +81,14 @@ fn normal_form_stands_in_a_node_of_its_own(rt: HostRuntime) -> Result<(), Fail> 
 }
 
 #[test]
-fn tail_stands_in_the_node_of_its_kind(rt: HostRuntime) -> Result<(), Fail> {
+fn tail_stands_in_the_node_of_its_kind_where_that_stands(rt: HostRuntime) -> Result<(), Fail> {
     assert_part(
         &rt,
         Kinds::Keywords,
         node(ROOT, Act::EatWith(SyntaxKind::IS_JSON)),
         "is json x",
         "ROOT(IS_JSON(IS_KW'is' _ JSON_KW'json' _ x))",
-    )
-}
-
-#[test]
-fn kind_that_does_not_stand_runs_no_tail(rt: HostRuntime) -> Result<(), Fail> {
+    )?;
     assert_part(
         &rt,
         Kinds::Keywords,
@@ -119,26 +113,26 @@ const WITH_TAIL: [(&str, &str, &str); 10] = [
     ("IS_JSON_SCALAR", "is json scalar x y", "IS_KW JSON_KW SCALAR_KW"),
 ];
 
-/// Ends the test unless a root in which the kind of this name is eaten, with its tail, has this line over
-/// the text.
+/// Ends the test unless a root in which the kind of this name is eaten, with its tail, has a node of these
+/// tokens and the tail's over the text.
 fn assert_tail(
     rt: &(impl Abort + AllocGlobal),
     name: &str,
     text: &str,
-    line: &str,
+    tokens: &str,
 ) -> Result<(), Fail> {
+    // The tail is `x`.
+    let line = format!(in rt.alloc(); "ROOT({name}({tokens} IDENT))")?;
     let part = node(ROOT, Act::EatWith(kind_named(name).ok_or("no kind")?));
     let output = output_of(rt.alloc(), text, Kinds::Keywords, part)?;
-    assert_output(rt, &output, line)?;
+    assert_output(rt, &output, &line)?;
     Ok(())
 }
 
 #[test]
 fn each_kind_with_a_tail_runs_it_once(rt: HostRuntime) -> Result<(), Fail> {
-    for (name, text, tokens) in WITH_TAIL {
-        // The tail is `x`.
-        let line = format!(in rt.alloc(); "ROOT({name}({tokens} IDENT))")?;
-        assert_tail(&rt, name, text, &line)?;
+    for (name, text, tokens) in &WITH_TAIL {
+        assert_tail(&rt, name, text, tokens)?;
     }
     Ok(())
 }
@@ -151,11 +145,7 @@ fn call_of_an_operator_is_closed(rt: HostRuntime) -> Result<(), Fail> {
         node(ROOT, Act::EatWith(SyntaxKind::OPERATOR_CALL)),
         "operator(+",
         "ROOT(OPERATOR_CALL(OPERATOR_KW'operator' L_PAREN'(' + !'expected 10'@10))",
-    )
-}
-
-#[test]
-fn closed_call_of_an_operator_has_its_parenthesis(rt: HostRuntime) -> Result<(), Fail> {
+    )?;
     assert_part(
         &rt,
         Kinds::Keywords,

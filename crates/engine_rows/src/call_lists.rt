@@ -4,6 +4,7 @@ use row_fixtures::call_list::{CallListError, calls_of};
 use row_fixtures::kinds::{MESSAGE_KW, ROOT};
 use squawk_parser::SyntaxKind;
 use squawk_script::Call;
+use std::alloc::Global;
 use std::process::Abort;
 use std::test::Fail;
 
@@ -58,24 +59,47 @@ fn are_of_errors(calls: &[Call]) -> bool {
     }
 }
 
-/// Ends the test unless the calls are the wanted ones.
-fn assert_are(rt: &impl Abort, text: &str, are_wanted: bool) {
-    assert!(rt; are_wanted, "{text}");
+/// Which calls a text has.
+#[derive(Clone, Copy)]
+enum Wanted {
+    None,
+    OfMarkers,
+    OfTokens,
+    OfErrors,
 }
+
+/// Whether the calls of the text are the wanted ones.
+fn has(alloc: Global, text: &str, wanted: Wanted) -> Result<bool, CallListError> {
+    let calls = calls_of(alloc, text)?;
+    Ok(match wanted {
+        Wanted::None => calls.is_empty(),
+        Wanted::OfMarkers => are_of_markers(&calls),
+        Wanted::OfTokens => are_of_tokens(&calls),
+        Wanted::OfErrors => are_of_errors(&calls),
+    })
+}
+
+const TEXTS: [(&str, Wanted); 4] = [
+    (
+        "start, complete 1 ROOT, abandon 2, precede 3, extend_to 4 5",
+        Wanted::OfMarkers,
+    ),
+    (
+        "eat COLON_EQ, bump_any, bump_remap MESSAGE_KW, expect SEMICOLON",
+        Wanted::OfTokens,
+    ),
+    (
+        "error e, err_recover f SEMICOLON, err_and_bump m",
+        Wanted::OfErrors,
+    ),
+    ("", Wanted::None),
+];
 
 #[test]
 fn texts_have_their_calls(rt: HostRuntime) -> Result<(), Fail> {
-    let markers = "start, complete 1 ROOT, abandon 2, precede 3, extend_to 4 5";
-    let calls = calls_of(rt.alloc(), markers)?;
-    assert_are(&rt, markers, are_of_markers(&calls));
-    let tokens = "eat COLON_EQ, bump_any, bump_remap MESSAGE_KW, expect SEMICOLON";
-    let calls = calls_of(rt.alloc(), tokens)?;
-    assert_are(&rt, tokens, are_of_tokens(&calls));
-    let errors = "error e, err_recover f SEMICOLON, err_and_bump m";
-    let calls = calls_of(rt.alloc(), errors)?;
-    assert_are(&rt, errors, are_of_errors(&calls));
-    let calls = calls_of(rt.alloc(), "")?;
-    assert_are(&rt, "no calls", calls.is_empty());
+    for (text, wanted) in &TEXTS {
+        assert!(rt; has(rt.alloc(), text, *wanted)?, "{text:?}");
+    }
     Ok(())
 }
 

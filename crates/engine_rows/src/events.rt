@@ -43,12 +43,13 @@ fn empty_log_has_no_steps(rt: HostRuntime) -> Result<(), Fail> {
 
 #[test]
 fn links_from_two_places_lead_to_one_node(rt: HostRuntime) -> Result<(), Fail> {
-    let mut events = Vec::new(rt.alloc());
-    events.push(start(NAME, Some(3)))?;
-    events.push(start(1, Some(2)))?;
-    events.push(Event::Finish)?;
-    events.push(start(NAME_REF, None))?;
-    events.push(Event::Finish)?;
+    let events = vec![in rt.alloc();
+        start(NAME, Some(3)),
+        start(1, Some(2)),
+        Event::Finish,
+        start(NAME_REF, None),
+        Event::Finish,
+    ]?;
     // Five events, three of them a start, and two links.
     let output = process(rt.alloc(), events, 5)?;
     assert_passed(&rt, &output, "NAME_REF(NAME())", 5, 12)
@@ -56,17 +57,18 @@ fn links_from_two_places_lead_to_one_node(rt: HostRuntime) -> Result<(), Fail> {
 
 #[test]
 fn chain_begins_with_its_last_node(rt: HostRuntime) -> Result<(), Fail> {
-    let mut events = Vec::new(rt.alloc());
-    events.push(start(NAME, Some(3)))?;
-    events.push(Event::Token {
-        kind: SyntaxKind::IDENT,
-        n_raw_tokens: 1,
-    })?;
-    events.push(Event::Finish)?;
-    events.push(start(NAME_REF, Some(2)))?;
-    events.push(Event::Finish)?;
-    events.push(start(PAREN, None))?;
-    events.push(Event::Finish)?;
+    let events = vec![in rt.alloc();
+        start(NAME, Some(3)),
+        Event::Token {
+            kind: SyntaxKind::IDENT,
+            n_raw_tokens: 1,
+        },
+        Event::Finish,
+        start(NAME_REF, Some(2)),
+        Event::Finish,
+        start(PAREN, None),
+        Event::Finish,
+    ]?;
     // Seven events, three of them a start, and two links.
     let output = process(rt.alloc(), events, 7)?;
     assert_passed(&rt, &output, "PAREN(NAME_REF(NAME(IDENT)))", 7, 14)
@@ -74,11 +76,12 @@ fn chain_begins_with_its_last_node(rt: HostRuntime) -> Result<(), Fail> {
 
 #[test]
 fn first_link_to_a_node_takes_what_lies_beyond(rt: HostRuntime) -> Result<(), Fail> {
-    let mut events = Vec::new(rt.alloc());
-    events.push(start(ROOT, Some(2)))?;
-    events.push(start(NAME, Some(1)))?;
-    events.push(start(NAME_REF, Some(1)))?;
-    events.push(start(CALL, None))?;
+    let events = vec![in rt.alloc();
+        start(ROOT, Some(2)),
+        start(NAME, Some(1)),
+        start(NAME_REF, Some(1)),
+        start(CALL, None),
+    ]?;
     // Four events, each a start, and three links.
     let output = process(rt.alloc(), events, 4)?;
     assert_passed(&rt, &output, "CALL(NAME_REF(ROOT(NAME(", 4, 14)
@@ -86,11 +89,8 @@ fn first_link_to_a_node_takes_what_lies_beyond(rt: HostRuntime) -> Result<(), Fa
 
 #[test]
 fn start_without_a_kind_begins_no_node(rt: HostRuntime) -> Result<(), Fail> {
-    let mut events = Vec::new(rt.alloc());
-    events.push(start(1, None))?;
-    events.push(Event::Error {
-        msg: Text::new(String::from_str(rt.alloc(), "e")?),
-    })?;
+    let msg = Text::new(String::from_str(rt.alloc(), "e")?);
+    let events = vec![in rt.alloc(); start(1, None), Event::Error { msg }]?;
     // What was recorded is handed in. Two events, one of them a start.
     let output = process(rt.alloc(), events, 9)?;
     assert_passed(&rt, &output, "!'e'", 9, 3)

@@ -2,7 +2,8 @@
 //! sent of these.
 //!
 //! The values that they want were worked out by hand. Calls are written as lists and steps as lines, in
-//! the notations of `row_fixtures`; `call_lists` and `notation` have the tests of both.
+//! the notations of `row_fixtures`; `call_lists` and `notation` have the tests of both, and `raw_tokens` those
+//! of the raw tokens of texts.
 #![tactic(auto)]
 
 #[cfg(test)]
@@ -21,6 +22,8 @@ mod many;
 mod memory;
 #[cfg(test)]
 mod notation;
+#[cfg(test)]
+mod raw_tokens;
 #[cfg(test)]
 mod script_errors;
 #[cfg(test)]

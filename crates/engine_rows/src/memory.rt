@@ -3,7 +3,7 @@
 //! These tests also pass where an allocation is refused.
 
 use crate::fixture::memory::{assert_sent_if_made, output_if_made, table_if_made};
-use crate::fixture::output::assert_output;
+use crate::fixture::output::{assert_output, assert_text};
 use row_fixtures::calls::{Calls, FixedGrammar};
 use row_fixtures::keywords::{Keywords, NO_KEYWORDS};
 use row_fixtures::kinds::MESSAGE_KW;
@@ -107,7 +107,7 @@ fn assert_four(rt: &impl Abort, output: &Output) {
 /// Ends the test unless the steps have the line, or memory is wanting for it.
 fn assert_line_if_made(rt: &(impl Abort + AllocGlobal), steps: &[OwnedStep], wanted: &str) {
     if let Ok(line) = line_of(rt.alloc(), steps) {
-        assert_eq!(rt; line.as_str(), wanted);
+        assert_text(rt, line.as_str(), wanted);
     }
 }
 

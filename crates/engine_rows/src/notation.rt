@@ -1,162 +1,217 @@
-//! The notation of steps, and the raw tokens of texts: what is different is written differently.
+//! The notation of steps: what is different is written differently.
 
+use crate::fixture::output::assert_text;
 use row_fixtures::kinds::{NAME, NAME_REF, ROOT, SELECT_KW, kind_named, name_of};
-use row_fixtures::lexer::tokens_of;
 use row_fixtures::lines::{is_beginning, line_of, push_step, whole_line_of};
-use row_fixtures::signs::{COLON, COMMA, EQ};
-use row_fixtures::tokens::{int, space, token, word};
-use squawk_parser::{Base, OwnedStep, Step, SyntaxKind, Text, Token, TokenKind};
+use squawk_parser::{OwnedStep, Step, SyntaxKind, Text};
 use std::alloc::{AllocError, Global};
 use std::process::Abort;
 use std::test::Fail;
 
-fn enter(kind: u16) -> OwnedStep {
-    OwnedStep::Enter {
-        kind: SyntaxKind::from(kind),
+/// A step that is sent.
+#[derive(Clone, Copy)]
+enum Sent {
+    Enter(u16),
+    Exit,
+    Ident(&'static str),
+    /// With its position.
+    Error(&'static str, usize),
+}
+
+fn token_of(alloc: Global, kind: SyntaxKind, text: &str) -> Result<OwnedStep, AllocError> {
+    Ok(OwnedStep::Token {
+        kind,
+        text: Text::new(String::from_str(alloc, text)?),
+    })
+}
+
+fn error_of(alloc: Global, msg: &str, pos: usize) -> Result<OwnedStep, AllocError> {
+    Ok(OwnedStep::Error {
+        msg: Text::new(String::from_str(alloc, msg)?),
+        pos,
+    })
+}
+
+fn step_of(alloc: Global, sent: Sent) -> Result<OwnedStep, AllocError> {
+    match sent {
+        Sent::Enter(kind) => Ok(OwnedStep::Enter {
+            kind: SyntaxKind::from(kind),
+        }),
+        Sent::Exit => Ok(OwnedStep::Exit),
+        Sent::Ident(text) => token_of(alloc, SyntaxKind::IDENT, text),
+        Sent::Error(msg, pos) => error_of(alloc, msg, pos),
     }
 }
 
-fn text(alloc: Global, text: &str) -> Result<Text, AllocError> {
-    Ok(Text::new(String::from_str(alloc, text)?))
+fn steps_of(alloc: Global, sent: &[Sent]) -> Result<Vec<OwnedStep>, AllocError> {
+    let mut steps = Vec::new(alloc);
+    for step in sent {
+        steps.push(step_of(alloc, *step)?)?;
+    }
+    Ok(steps)
 }
 
-fn token_of(alloc: Global, kind: SyntaxKind, of: &str) -> Result<OwnedStep, AllocError> {
-    Ok(OwnedStep::Token {
-        kind,
-        text: text(alloc, of)?,
-    })
-}
-
-fn ident(alloc: Global, of: &str) -> Result<OwnedStep, AllocError> {
-    token_of(alloc, SyntaxKind::IDENT, of)
-}
-
-fn error(alloc: Global, msg: &str, pos: usize) -> Result<OwnedStep, AllocError> {
-    Ok(OwnedStep::Error {
-        msg: text(alloc, msg)?,
-        pos,
-    })
+fn line_sent(alloc: Global, sent: &[Sent]) -> Result<String, AllocError> {
+    line_of(alloc, &steps_of(alloc, sent)?)
 }
 
 /// Ends the test unless the steps have this line.
 fn assert_line(
     rt: &(impl Abort + AllocGlobal),
-    steps: &[OwnedStep],
+    sent: &[Sent],
     wanted: &str,
-) -> Result<(), Fail> {
-    let line = line_of(rt.alloc(), steps)?;
-    assert_eq!(rt; line.as_str(), wanted);
+) -> Result<(), AllocError> {
+    let line = line_sent(rt.alloc(), sent)?;
+    assert_text(rt, line.as_str(), wanted);
     Ok(())
 }
+
+/// Steps, and their line.
+type Row = (&'static [Sent], &'static str);
+
+/// Ends the test unless each row has its line.
+fn assert_lines(rt: &(impl Abort + AllocGlobal), rows: &[Row]) -> Result<(), Fail> {
+    for (sent, wanted) in rows {
+        assert_line(rt, sent, wanted)?;
+    }
+    Ok(())
+}
+
+const ENTER_ROOT: Sent = Sent::Enter(ROOT);
+
+const ENTER_NAME: Sent = Sent::Enter(NAME);
+
+const EXIT: Sent = Sent::Exit;
+
+const A: Sent = Sent::Ident("a");
+
+const B: Sent = Sent::Ident("b");
+
+const NESTED: [Row; 3] = [
+    (
+        &[ENTER_ROOT, ENTER_NAME, A, B, EXIT, EXIT],
+        "ROOT(NAME(a b))",
+    ),
+    (
+        &[ENTER_ROOT, ENTER_NAME, A, EXIT, B, EXIT],
+        "ROOT(NAME(a) b)",
+    ),
+    (
+        &[ENTER_ROOT, ENTER_NAME, EXIT, A, EXIT, B],
+        "ROOT(NAME() a) b",
+    ),
+];
 
 #[test]
 fn nesting_is_written(rt: HostRuntime) -> Result<(), Fail> {
-    let alloc = rt.alloc();
-    let both_in = [
-        enter(ROOT),
-        enter(NAME),
-        ident(alloc, "a")?,
-        ident(alloc, "b")?,
-        OwnedStep::Exit,
-        OwnedStep::Exit,
-    ];
-    assert_line(&rt, &both_in, "ROOT(NAME(a b))")?;
-    let one_in = [
-        enter(ROOT),
-        enter(NAME),
-        ident(alloc, "a")?,
-        OwnedStep::Exit,
-        ident(alloc, "b")?,
-        OwnedStep::Exit,
-    ];
-    assert_line(&rt, &one_in, "ROOT(NAME(a) b)")?;
-    let none_in = [
-        enter(ROOT),
-        enter(NAME),
-        OwnedStep::Exit,
-        ident(alloc, "a")?,
-        OwnedStep::Exit,
-        ident(alloc, "b")?,
-    ];
-    assert_line(&rt, &none_in, "ROOT(NAME() a) b")
+    assert_lines(&rt, &NESTED)
 }
+
+const NODES: [Row; 4] = [
+    (&[ENTER_NAME, EXIT], "NAME()"),
+    (&[Sent::Enter(NAME_REF), EXIT], "NAME_REF()"),
+    (&[Sent::Enter(2), EXIT], "ERROR()"),
+    (&[Sent::Enter(717), EXIT], "717()"),
+];
 
 #[test]
 fn kinds_of_nodes_are_written(rt: HostRuntime) -> Result<(), Fail> {
-    assert_line(&rt, &[enter(NAME), OwnedStep::Exit], "NAME()")?;
-    assert_line(&rt, &[enter(NAME_REF), OwnedStep::Exit], "NAME_REF()")?;
-    assert_line(&rt, &[enter(2), OwnedStep::Exit], "ERROR()")?;
-    assert_line(&rt, &[enter(717), OwnedStep::Exit], "717()")
+    assert_lines(&rt, &NODES)
 }
+
+/// The line of one token that is sent.
+fn line_of_sent(alloc: Global, kind: SyntaxKind, text: &str) -> Result<String, AllocError> {
+    line_of(alloc, &[token_of(alloc, kind, text)?])
+}
+
+/// Ends the test unless a token that is sent has this line.
+fn assert_sent(
+    rt: &(impl Abort + AllocGlobal),
+    kind: SyntaxKind,
+    text: &str,
+    wanted: &str,
+) -> Result<(), Fail> {
+    let line = line_of_sent(rt.alloc(), kind, text)?;
+    assert_text(rt, line.as_str(), wanted);
+    Ok(())
+}
+
+const TOKENS: [(SyntaxKind, &str, &str); 10] = [
+    (SyntaxKind::IDENT, "a", "a"),
+    (SyntaxKind::EQ, "=", "="),
+    (SyntaxKind::COLON, "=", "COLON'='"),
+    (SyntaxKind::COLON_EQ, ":=", "COLON_EQ':='"),
+    (SyntaxKind::INT_NUMBER, "1", "1"),
+    (SyntaxKind::IDENT, "1", "IDENT'1'"),
+    (SyntaxKind::WHITESPACE, " ", "_"),
+    (SyntaxKind::IDENT, " ", "IDENT' '"),
+    (SyntaxKind::WHITESPACE, "\u{feff}", "WHITESPACE'\\u{feff}'"),
+    (SyntaxKind::COMMENT, "/*x*/", "COMMENT'/*x*/'"),
+];
 
 #[test]
 fn kind_of_a_token_is_written_where_its_text_has_another(rt: HostRuntime) -> Result<(), Fail> {
-    for (kind, text, wanted) in [
-        (SyntaxKind::IDENT, "a", "a"),
-        (SyntaxKind::from(SELECT_KW), "a", "SELECT_KW'a'"),
-        (SyntaxKind::EQ, "=", "="),
-        (SyntaxKind::COLON, "=", "COLON'='"),
-        (SyntaxKind::COLON_EQ, ":=", "COLON_EQ':='"),
-        (SyntaxKind::INT_NUMBER, "1", "1"),
-        (SyntaxKind::IDENT, "1", "IDENT'1'"),
-        (SyntaxKind::WHITESPACE, " ", "_"),
-        (SyntaxKind::IDENT, " ", "IDENT' '"),
-        (SyntaxKind::WHITESPACE, "\u{feff}", "WHITESPACE'\\u{feff}'"),
-        (SyntaxKind::COMMENT, "/*x*/", "COMMENT'/*x*/'"),
-    ] {
-        assert_line(&rt, &[token_of(rt.alloc(), kind, text)?], wanted)?;
+    for (kind, text, wanted) in &TOKENS {
+        assert_sent(&rt, *kind, text, wanted)?;
     }
-    Ok(())
+    assert_sent(&rt, SyntaxKind::from(SELECT_KW), "a", "SELECT_KW'a'")
 }
+
+const MARKS: [Row; 9] = [
+    (&[Sent::Ident("")], "IDENT''"),
+    (&[Sent::Ident("(")], "IDENT'('"),
+    (&[Sent::Ident(")")], "IDENT')'"),
+    (&[Sent::Ident("_")], "IDENT'_'"),
+    (&[Sent::Ident("!")], "IDENT'!'"),
+    (&[Sent::Ident("...")], "IDENT'...'"),
+    (&[Sent::Ident("a b")], "IDENT'a b'"),
+    (&[Sent::Ident("a' b")], "IDENT'a\\' b'"),
+    (&[Sent::Ident("NAME(")], "IDENT'NAME('"),
+];
 
 #[test]
 fn text_of_a_token_is_no_mark(rt: HostRuntime) -> Result<(), Fail> {
-    for (text, wanted) in [
-        ("", "IDENT''"),
-        ("(", "IDENT'('"),
-        (")", "IDENT')'"),
-        ("_", "IDENT'_'"),
-        ("!", "IDENT'!'"),
-        ("...", "IDENT'...'"),
-        ("a b", "IDENT'a b'"),
-        ("a' b", "IDENT'a\\' b'"),
-        ("NAME(", "IDENT'NAME('"),
-    ] {
-        assert_line(&rt, &[ident(rt.alloc(), text)?], wanted)?;
-    }
-    Ok(())
+    assert_lines(&rt, &MARKS)
 }
+
+const TEXTS: [Row; 3] = [
+    (&[Sent::Ident("ab")], "ab"),
+    (&[A, B], "a b"),
+    (&[B, A], "b a"),
+];
 
 #[test]
 fn texts_are_written_one_by_one(rt: HostRuntime) -> Result<(), Fail> {
-    let alloc = rt.alloc();
-    assert_line(&rt, &[ident(alloc, "ab")?], "ab")?;
-    assert_line(&rt, &[ident(alloc, "a")?, ident(alloc, "b")?], "a b")?;
-    assert_line(&rt, &[ident(alloc, "b")?, ident(alloc, "a")?], "b a")
+    assert_lines(&rt, &TEXTS)
 }
+
+const ERRORS: [Row; 6] = [
+    (&[Sent::Error("e", 1)], "!'e'@1"),
+    (&[Sent::Error("e", 12)], "!'e'@12"),
+    (&[Sent::Error("f", 1)], "!'f'@1"),
+    // One error whose text looks like two.
+    (&[Sent::Error("e'@1 !'f", 1)], "!'e\\'@1 !\\'f'@1"),
+    (&[ENTER_ROOT, Sent::Error("e", 0), EXIT], "ROOT(!'e'@0)"),
+    (&[ENTER_ROOT, EXIT, Sent::Error("e", 0)], "ROOT() !'e'@0"),
+];
 
 #[test]
 fn error_has_its_text_and_its_position(rt: HostRuntime) -> Result<(), Fail> {
-    let alloc = rt.alloc();
-    assert_line(&rt, &[error(alloc, "e", 1)?], "!'e'@1")?;
-    assert_line(&rt, &[error(alloc, "e", 12)?], "!'e'@12")?;
-    assert_line(&rt, &[error(alloc, "f", 1)?], "!'f'@1")?;
-    let text_of_two = [error(alloc, "e'@1 !'f", 1)?];
-    assert_line(&rt, &text_of_two, "!'e\\'@1 !\\'f'@1")?;
-    let inside = [enter(ROOT), error(alloc, "e", 0)?, OwnedStep::Exit];
-    assert_line(&rt, &inside, "ROOT(!'e'@0)")?;
-    let behind = [enter(ROOT), OwnedStep::Exit, error(alloc, "e", 0)?];
-    assert_line(&rt, &behind, "ROOT() !'e'@0")
+    assert_lines(&rt, &ERRORS)
+}
+
+/// Ends the test unless a root without parts, of a text of which all or not all was sent, has this line.
+fn assert_root(rt: &(impl Abort + AllocGlobal), is_whole: bool, wanted: &str) -> Result<(), Fail> {
+    let steps = steps_of(rt.alloc(), &[ENTER_ROOT, EXIT])?;
+    let line = whole_line_of(rt.alloc(), &steps, is_whole)?;
+    assert_text(rt, line.as_str(), wanted);
+    Ok(())
 }
 
 #[test]
 fn tokens_that_are_left_are_told(rt: HostRuntime) -> Result<(), Fail> {
-    let steps = [enter(ROOT), OwnedStep::Exit];
-    let whole = whole_line_of(rt.alloc(), &steps, true)?;
-    assert_eq!(rt; whole.as_str(), "ROOT()");
-    let not_whole = whole_line_of(rt.alloc(), &steps, false)?;
-    assert_eq!(rt; not_whole.as_str(), "ROOT() ...");
-    Ok(())
+    assert_root(&rt, true, "ROOT()")?;
+    assert_root(&rt, false, "ROOT() ...")
 }
 
 #[test]
@@ -183,22 +238,38 @@ fn beginning_of_a_line_ends_with_a_step(rt: HostRuntime) {
     }
 }
 
+/// The line of a token of an output.
+fn line_of_token(
+    alloc: Global,
+    kind: SyntaxKind,
+    n_input_tokens: u8,
+) -> Result<String, AllocError> {
+    let mut line = String::new(alloc);
+    let token = Step::Token {
+        kind,
+        n_input_tokens,
+    };
+    push_step(&mut line, token)?;
+    Ok(line)
+}
+
+/// Ends the test unless a token of an output has this line.
+fn assert_token(
+    rt: &(impl Abort + AllocGlobal),
+    kind: SyntaxKind,
+    n_input_tokens: u8,
+    wanted: &str,
+) -> Result<(), Fail> {
+    let line = line_of_token(rt.alloc(), kind, n_input_tokens)?;
+    assert_text(rt, line.as_str(), wanted);
+    Ok(())
+}
+
 #[test]
 fn token_of_an_output_has_its_kind_and_its_length(rt: HostRuntime) -> Result<(), Fail> {
-    for (kind, n_input_tokens, wanted) in [
-        (SyntaxKind::IDENT, 1, "IDENT"),
-        (SyntaxKind::COLON_EQ, 2, "COLON_EQ*2"),
-        (SyntaxKind::COLON_EQ, 1, "COLON_EQ"),
-    ] {
-        let mut line = String::new(rt.alloc());
-        let token = Step::Token {
-            kind,
-            n_input_tokens,
-        };
-        push_step(&mut line, token)?;
-        assert_eq!(rt; line.as_str(), wanted);
-    }
-    Ok(())
+    assert_token(&rt, SyntaxKind::IDENT, 1, "IDENT")?;
+    assert_token(&rt, SyntaxKind::COLON_EQ, 2, "COLON_EQ*2")?;
+    assert_token(&rt, SyntaxKind::COLON_EQ, 1, "COLON_EQ")
 }
 
 #[test]
@@ -211,30 +282,7 @@ fn each_name_is_that_of_one_kind(rt: HostRuntime) {
             named = named.saturating_add(1);
         }
     }
-    // As many as there are rows in the two tables of names.
+    // As many as there are rows in the tables of names.
     assert_eq!(rt; named, 80 + 19);
     assert_eq!(rt; kind_named("SyntaxKind"), None);
-}
-
-#[test]
-fn texts_have_their_raw_tokens(rt: HostRuntime) -> Result<(), Fail> {
-    let comment = token(TokenKind::BlockComment { terminated: true }, 5);
-    let digit = token(int(Base::Decimal, 1), 1);
-    let dot = token(TokenKind::Dot, 1);
-    let unknown = token(TokenKind::Unknown, 2);
-    let cases: [(&str, &[Token]); 8] = [
-        ("", &[]),
-        ("ab c", &[word(2), space(1), word(1)]),
-        (" ,", &[space(1), COMMA]),
-        ("foo.bar", &[word(3), dot, word(3)]),
-        ("a /*x*/ ", &[word(1), space(1), comment, space(1)]),
-        ("é a", &[unknown, space(1), word(1)]),
-        ("\u{feff}a1", &[space(3), word(1), digit]),
-        (":=", &[COLON, EQ]),
-    ];
-    for (text, wanted) in cases {
-        let tokens = tokens_of(rt.alloc(), text)?;
-        assert_eq!(rt; tokens.as_slice(), wanted, "{text:?}");
-    }
-    Ok(())
 }

@@ -9,7 +9,7 @@ use row_fixtures::rows::{Kinds, LIMITS, parse_within};
 use row_fixtures::scripts::{parse_script, script_of};
 use row_fixtures::tokens::table;
 use row_fixtures::words::no_words;
-use squawk_parser::{EntryPoint, LexedStr, Output, Step, SyntaxKind};
+use squawk_parser::{EntryPoint, Input, LexedStr, Output, Step, SyntaxKind};
 use squawk_script::{Call, Script};
 use std::alloc::{AllocError, Global};
 use std::process::Abort;
@@ -20,42 +20,61 @@ fn assert_unfit(rt: &impl Abort, table: &LexedStr<'_>, output: &Output) {
     assert!(rt; !table.fits(output));
 }
 
+/// Ends the test unless the script of the calls over the text has these steps and records so many events,
+/// and its output doesn't fit.
+fn assert_loose(
+    rt: &(impl Abort + AllocGlobal),
+    text: &str,
+    calls: &str,
+    line: &str,
+    recorded: u32,
+) -> Result<(), Fail> {
+    let tokens = tokens_of(rt.alloc(), text)?;
+    let table = table(rt.alloc(), text, &tokens)?;
+    let output = parse_script(rt.alloc(), &table, calls)?;
+    assert_recorded(rt, &output, line, recorded)?;
+    assert_unfit(rt, &table, &output);
+    Ok(())
+}
+
 #[test]
 fn script_without_calls_records_nothing(rt: HostRuntime) -> Result<(), Fail> {
     for text in ["", " ", "a b"] {
-        let tokens = tokens_of(rt.alloc(), text)?;
-        let table = table(rt.alloc(), text, &tokens)?;
-        let output = parse_script(rt.alloc(), &table, "")?;
-        assert_recorded(&rt, &output, "", 0)?;
-        assert_unfit(&rt, &table, &output);
+        assert_loose(&rt, text, "", "", 0)?;
     }
     Ok(())
 }
 
 #[test]
 fn token_may_stand_outside_of_all_nodes(rt: HostRuntime) -> Result<(), Fail> {
-    let tokens = tokens_of(rt.alloc(), "a")?;
-    let table = table(rt.alloc(), "a", &tokens)?;
-    let output = parse_script(
-        rt.alloc(),
-        &table,
-        "start, start, bump_any, abandon 0, abandon 1",
-    )?;
-    assert_recorded(&rt, &output, "IDENT", 3)?;
-    assert_unfit(&rt, &table, &output);
-    Ok(())
+    let calls = "start, start, bump_any, abandon 0, abandon 1";
+    assert_loose(&rt, "a", calls, "IDENT", 3)
+}
+
+/// The input of a text of simple tokens.
+fn input_of(alloc: Global, text: &str) -> Result<Input, Fail> {
+    let tokens = tokens_of(alloc, text)?;
+    Ok(table(alloc, text, &tokens)?.to_input(alloc, &NO_KEYWORDS)?)
+}
+
+/// The output of the script of the calls over the text, from the entry point.
+fn output_from(
+    alloc: Global,
+    entry_point: EntryPoint,
+    text: &str,
+    calls: &str,
+) -> Result<Output, Fail> {
+    let input = input_of(alloc, text)?;
+    let script = script_of(alloc, calls)?;
+    Ok(entry_point.parse(alloc, &input, &script)?)
 }
 
 #[test]
 fn each_entry_point_makes_the_calls(rt: HostRuntime) -> Result<(), Fail> {
-    let tokens = tokens_of(rt.alloc(), "a b")?;
-    let input = table(rt.alloc(), "a b", &tokens)?.to_input(rt.alloc(), &NO_KEYWORDS)?;
-    let script = script_of(
-        rt.alloc(),
-        "start, start, bump_any, start, bump_any, complete 2 NAME, extend_to 2 1, complete 0 ROOT",
-    )?;
+    let calls =
+        "start, start, bump_any, start, bump_any, complete 2 NAME, extend_to 2 1, complete 0 ROOT";
     for entry_point in [EntryPoint::SourceFile, EntryPoint::Plpgsql] {
-        let output = entry_point.parse(rt.alloc(), &input, &script)?;
+        let output = output_from(rt.alloc(), entry_point, "a b", calls)?;
         assert_recorded(&rt, &output, "ROOT(NAME(IDENT IDENT))", 7)?;
     }
     Ok(())

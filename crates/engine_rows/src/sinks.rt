@@ -107,6 +107,25 @@ fn assert_taken(rt: &impl Abort, received: &Received, line: &str) {
     assert_eq!(rt; received.line.as_str(), line);
 }
 
+/// Ends the test unless a list that refuses the step behind so many holds those before it, and hands the
+/// refusal on. One that takes all the steps has the line.
+fn assert_received(
+    rt: &(impl Abort + AllocGlobal),
+    table: &LexedStr<'_>,
+    output: &Output,
+    taken: usize,
+    steps: usize,
+    line: &str,
+) -> Result<(), Fail> {
+    let received = refused_behind(rt.alloc(), table, output, taken)?.ok_or("it doesn't fit")?;
+    if taken < steps {
+        assert_refused(rt, &received, taken, line);
+    } else {
+        assert_taken(rt, &received, line);
+    }
+    Ok(())
+}
+
 /// Ends the test unless a list that refuses one of the steps on purpose holds those before it, whichever
 /// it is, and the refusal is handed on. There are so many steps, and a list that takes all has the line.
 fn assert_refused_at_each_step(
@@ -118,12 +137,9 @@ fn assert_refused_at_each_step(
     let tokens = tokens_of(rt.alloc(), case.text)?;
     let table = LexedStr::new(rt.alloc(), case.text, &tokens, &kinds.keywords())?;
     let output = script_output_of(rt.alloc(), case.text, kinds, case.calls)?;
-    for taken in 0..steps {
-        let received = refused_behind(rt.alloc(), &table, &output, taken)?.ok_or("it doesn't fit")?;
-        assert_refused(rt, &received, taken, case.line);
+    for taken in 0..=steps {
+        assert_received(rt, &table, &output, taken, steps, case.line)?;
     }
-    let received = refused_behind(rt.alloc(), &table, &output, steps)?.ok_or("it doesn't fit")?;
-    assert_taken(rt, &received, case.line);
     Ok(())
 }
 

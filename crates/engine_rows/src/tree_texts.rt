@@ -1,5 +1,6 @@
 //! Trees as indented text.
 
+use crate::fixture::output::assert_text;
 use row_fixtures::calls::{Calls, parse};
 use row_fixtures::kinds::ROOT;
 use row_fixtures::tokens::{space, table, word};
@@ -44,29 +45,33 @@ fn token(kind: SyntaxKind, text: &str) -> StrStep<'_> {
     StrStep::Token { kind, text }
 }
 
+/// Hands a step to a tree: taken apart, since the check doesn't cover a step that is handed on whole.
+fn hand(tree: &mut TreeText, step: &StrStep<'_>) -> Result<(), AllocError> {
+    match *step {
+        StrStep::Token { kind, text } => tree.step(StrStep::Token { kind, text }),
+        StrStep::Enter { kind } => tree.step(StrStep::Enter { kind }),
+        StrStep::Exit => tree.step(StrStep::Exit),
+        StrStep::Error { msg, pos } => tree.step(StrStep::Error { msg, pos }),
+    }
+}
+
 /// The text of a tree that was sent these steps.
 fn text_of(alloc: Global, steps: &[StrStep<'_>]) -> Result<String, AllocError> {
     let mut tree = TreeText::new(alloc);
     for step in steps {
-        // Taken apart, since the check doesn't cover a step that is handed on whole.
-        match *step {
-            StrStep::Token { kind, text } => tree.step(StrStep::Token { kind, text })?,
-            StrStep::Enter { kind } => tree.step(StrStep::Enter { kind })?,
-            StrStep::Exit => tree.step(StrStep::Exit)?,
-            StrStep::Error { msg, pos } => tree.step(StrStep::Error { msg, pos })?,
-        }
+        hand(&mut tree, step)?;
     }
     tree.finish(alloc, &names())
 }
 
 /// Ends the test unless the steps have the text.
-fn assert_text(
+fn assert_steps(
     rt: &(impl Abort + AllocGlobal),
     steps: &[StrStep<'_>],
     wanted: &str,
-) -> Result<(), AllocError> {
+) -> Result<(), Fail> {
     let text = text_of(rt.alloc(), steps)?;
-    assert_eq!(rt; text.as_str(), wanted);
+    assert_text(rt, text.as_str(), wanted);
     Ok(())
 }
 
@@ -90,8 +95,7 @@ fn nodes_are_nested_and_an_error_stands_in_its_place(rt: HostRuntime) -> Result<
     let wanted =
         "SOURCE@0..3\n  OPERAND@0..1\n    IDENT@0..1 \"a\"\n  639@1..2 \" \"\n  27@2..3 \"+\"\n  \
                   error@3 \"expected operand\"\n  OPERAND@3..3\n";
-    assert_text(&rt, &steps, wanted)?;
-    Ok(())
+    assert_steps(&rt, &steps, wanted)
 }
 
 #[test]
@@ -108,8 +112,7 @@ fn texts_are_escaped_and_counted_in_bytes(rt: HostRuntime) -> Result<(), Fail> {
     ];
     let wanted = "SOURCE@0..9\n  STRING@0..6 \"'\u{e9}\\\"\\n'\"\n  IDENT@6..9 \"\\\\\\t\\r\"\n  \
                   error@9 \"no \\\"b\\\"\"\n";
-    assert_text(&rt, &steps, wanted)?;
-    Ok(())
+    assert_steps(&rt, &steps, wanted)
 }
 
 #[test]
@@ -123,8 +126,7 @@ fn closing_without_a_node_changes_nothing(rt: HostRuntime) -> Result<(), Fail> {
         name("b"),
     ];
     let wanted = "SOURCE@0..1\n  IDENT@0..1 \"a\"\nIDENT@1..2 \"b\"\n";
-    assert_text(&rt, &steps, wanted)?;
-    Ok(())
+    assert_steps(&rt, &steps, wanted)
 }
 
 #[test]
@@ -140,28 +142,31 @@ fn node_that_is_not_closed_ends_behind_all_texts(rt: HostRuntime) -> Result<(), 
     ];
     let wanted = "SOURCE@0..4\n  IDENT@0..2 \"ab\"\n  OPERAND@2..3\n    IDENT@2..3 \"c\"\n  \
                   OPERAND@3..4\n    IDENT@3..4 \"d\"\n";
-    assert_text(&rt, &steps, wanted)?;
-    Ok(())
+    assert_steps(&rt, &steps, wanted)
 }
 
 #[test]
 fn no_steps_have_no_text(rt: HostRuntime) -> Result<(), Fail> {
-    assert_text(&rt, &[], "")?;
-    assert_text(&rt, &[StrStep::Exit], "")?;
-    Ok(())
+    assert_steps(&rt, &[], "")?;
+    assert_steps(&rt, &[StrStep::Exit], "")
+}
+
+/// The text of the output of the calls over `a b`, if it fits and all is sent.
+fn text_sent(alloc: Global, calls: Calls) -> Result<Option<String>, Fail> {
+    let table = table(alloc, "a b", &[word(1), space(1), word(1)])?;
+    let output = parse(alloc, &table, calls)?;
+    let mut tree = TreeText::new(alloc);
+    if !table.fits(&output) || !table.intersperse_trivia(&output, &mut tree)? {
+        return Ok(None);
+    }
+    Ok(Some(tree.finish(alloc, &[(SyntaxKind::from(ROOT), "ROOT")])?))
 }
 
 #[test]
 fn output_is_sent_as_text(rt: HostRuntime) -> Result<(), Fail> {
-    let table = table(rt.alloc(), "a b", &[word(1), space(1), word(1)])?;
-    let output = parse(rt.alloc(), &table, Calls::NodeAroundTwoTokens)?;
-    assert!(rt; table.fits(&output));
-
-    let mut tree = TreeText::new(rt.alloc());
-    assert!(rt; table.intersperse_trivia(&output, &mut tree)?);
-    let text = tree.finish(rt.alloc(), &[(SyntaxKind::from(ROOT), "ROOT")])?;
+    let text = text_sent(rt.alloc(), Calls::NodeAroundTwoTokens)?.ok_or("not all is sent")?;
     let wanted = "ROOT@0..3\n  3@0..1 \"a\"\n  639@1..2 \" \"\n  3@2..3 \"b\"\n";
-    assert_eq!(rt; text.as_str(), wanted);
+    assert_text(&rt, text.as_str(), wanted);
     Ok(())
 }
 
@@ -176,7 +181,7 @@ fn take_name(tree: &mut TreeText, text: &str) -> Result<(), AllocError> {
 /// Ends the test unless the tree has the text, or memory is wanting for it.
 fn assert_text_if_made(rt: &(impl Abort + AllocGlobal), tree: &TreeText, wanted: &str) {
     if let Ok(text) = tree.finish(rt.alloc(), &names()) {
-        assert_eq!(rt; text.as_str(), wanted);
+        assert_text(rt, text.as_str(), wanted);
     }
 }
 

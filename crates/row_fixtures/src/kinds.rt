@@ -43,6 +43,9 @@ pub const YES: u16 = 750;
 
 pub const NO: u16 = 751;
 
+/// A name and its kind.
+type Named = (&'static str, SyntaxKind);
+
 /// The constants of these names, each with its name.
 macro_rules! constants {
     ($($name:ident)*) => { [$((stringify!($name), SyntaxKind::$name)),*] };
@@ -54,12 +57,20 @@ macro_rules! numbers {
 }
 
 #[rattlefmt::skip]
-const CONSTANTS: [(&str, SyntaxKind); 80] = constants![
+const TOKENS: [Named; 30] = constants![
     EOF TOMBSTONE ERROR IDENT COMMENT WHITESPACE INT_NUMBER
     SEMICOLON COMMA DOT L_PAREN R_PAREN AT COLON EQ BANG L_ANGLE R_ANGLE MINUS PLUS STAR
     COLON_EQ NEQ NEQB LTEQ FAT_ARROW LESS_LESS GREATER_GREATER GTEQ LONG_ARROW
+];
+
+#[rattlefmt::skip]
+const KEYWORDS: [Named; 24] = constants![
     SIMILAR_KW TO_KW AT_KW TIME_KW ZONE_KW LOCAL_KW IS_KW NOT_KW NFC_KW NFD_KW NFKC_KW NFKD_KW NORMALIZED_KW
     JSON_KW OBJECT_KW ARRAY_KW VALUE_KW SCALAR_KW DISTINCT_KW FROM_KW OPERATOR_KW LIKE_KW ILIKE_KW IN_KW
+];
+
+#[rattlefmt::skip]
+const COMPOSITES: [Named; 26] = constants![
     SIMILAR_TO AT_TIME_ZONE AT_LOCAL IS_NOT_NORMALIZED IS_NORMALIZED COLON_COLON
     IS_JSON IS_NOT_JSON IS_NOT_JSON_OBJECT IS_NOT_JSON_ARRAY IS_NOT_JSON_VALUE IS_NOT_JSON_SCALAR
     IS_JSON_OBJECT IS_JSON_ARRAY IS_JSON_VALUE IS_JSON_SCALAR
@@ -68,33 +79,68 @@ const CONSTANTS: [(&str, SyntaxKind); 80] = constants![
 ];
 
 #[rattlefmt::skip]
-const NUMBERS: [(&str, u16); 19] = numbers![
+static NUMBERS: [(&str, u16); 19] = numbers![
     ROOT NAME NAME_REF CALL FIELD BINARY PATH PAREN
     SOURCE_FILE SELECT SELECT_CLAUSE TARGET_LIST TARGET LITERAL
     SELECT_KW MESSAGE_KW RAISE_KW
     YES NO
 ];
 
+// A table is written out in one function alone: wherever it stands, the check takes the square of its
+// length, so there are also several.
+
+fn tokens() -> [Named; 30] {
+    TOKENS
+}
+
+fn keywords() -> [Named; 24] {
+    KEYWORDS
+}
+
+fn composites() -> [Named; 26] {
+    COMPOSITES
+}
+
+fn name_in(table: &[Named], kind: SyntaxKind) -> Option<&'static str> {
+    table
+        .iter()
+        .find(|(_, known)| *known == kind)
+        .map(|(name, _)| *name)
+}
+
+fn kind_in(table: &[Named], name: &str) -> Option<SyntaxKind> {
+    table
+        .iter()
+        .find(|(known, _)| *known == name)
+        .map(|(_, kind)| *kind)
+}
+
 /// The name of a kind that has one here.
 pub fn name_of(kind: SyntaxKind) -> Option<&'static str> {
-    let constant = CONSTANTS.iter().find(|(_, constant)| *constant == kind);
-    match constant {
-        Some((name, _)) => Some(*name),
-        None => NUMBERS
-            .iter()
-            .find(|(_, number)| *number == u16::from(kind))
-            .map(|(name, _)| *name),
-    }
+    name_in(&tokens(), kind)
+        .or_else(|| name_in(&keywords(), kind))
+        .or_else(|| name_in(&composites(), kind))
+        .or_else(|| name_of_number(u16::from(kind)))
+}
+
+fn name_of_number(kind: u16) -> Option<&'static str> {
+    NUMBERS
+        .iter()
+        .find(|(_, number)| *number == kind)
+        .map(|(name, _)| *name)
 }
 
 /// The kind that has the name.
 pub fn kind_named(name: &str) -> Option<SyntaxKind> {
-    let constant = CONSTANTS.iter().find(|(known, _)| *known == name);
-    match constant {
-        Some((_, kind)) => Some(*kind),
-        None => NUMBERS
-            .iter()
-            .find(|(known, _)| *known == name)
-            .map(|(_, number)| SyntaxKind::from(*number)),
-    }
+    kind_in(&tokens(), name)
+        .or_else(|| kind_in(&keywords(), name))
+        .or_else(|| kind_in(&composites(), name))
+        .or_else(|| kind_of_number(name))
+}
+
+fn kind_of_number(name: &str) -> Option<SyntaxKind> {
+    NUMBERS
+        .iter()
+        .find(|(known, _)| *known == name)
+        .map(|(_, number)| SyntaxKind::from(*number))
 }

@@ -88,12 +88,34 @@ fn assert_numbers(rt: &impl Abort, first: u16, kinds: &[SyntaxKind]) {
     }
 }
 
+// One test has one table, since the check takes the square of what one function writes out.
+
 #[test]
-fn constants_have_their_numbers(rt: HostRuntime) {
+fn special_kinds_have_their_numbers(rt: HostRuntime) {
     assert_numbers(&rt, 0, &SPECIAL);
+}
+
+#[test]
+fn kinds_of_signs_have_their_numbers(rt: HostRuntime) {
     assert_numbers(&rt, 5, &SIGNS);
+}
+
+#[test]
+fn kinds_of_literals_have_their_numbers(rt: HostRuntime) {
     assert_numbers(&rt, 33, &LITERALS);
+}
+
+#[test]
+fn kinds_of_glued_signs_have_their_numbers(rt: HostRuntime) {
     assert_numbers(&rt, 45, &GLUED);
+}
+
+#[test]
+fn kinds_of_keywords_have_their_numbers(rt: HostRuntime) {
     assert_numbers(&rt, 64, &KEYWORDS);
+}
+
+#[test]
+fn kinds_of_white_space_and_nodes_have_their_numbers(rt: HostRuntime) {
     assert_numbers(&rt, 639, &WHITE_SPACE_AND_NODES);
 }

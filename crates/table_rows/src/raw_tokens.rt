@@ -35,16 +35,26 @@ fn text_behind_the_last_token_is_left(rt: HostRuntime) {
     assert_refused(&rt, "a", &[], TableError::TextLeft { at: 0 });
 }
 
+/// Ends the test unless the check and the table accept the tokens, and the table has as many.
+fn assert_accepted(
+    rt: &(impl Abort + AllocGlobal),
+    text: &str,
+    tokens: &[Token],
+) -> Result<(), Fail> {
+    assert_eq!(rt; check_tokens(text, tokens), Ok(()), "{text:?}");
+    let table = LexedStr::new(rt.alloc(), text, tokens, &NO_KEYWORDS)?;
+    assert_len(rt, &table, tokens.len(), text);
+    Ok(())
+}
+
+fn assert_len(rt: &impl Abort, table: &LexedStr<'_>, len: usize, text: &str) {
+    assert_eq!(rt; table.len(), len, "{text:?}");
+}
+
 #[test]
 fn tokens_that_fill_the_text_are_accepted(rt: HostRuntime) -> Result<(), Fail> {
-    let words = [word(1), space(1), word(1)];
-    let cases: [(&str, &[Token]); 2] = [("", &[]), ("a b", &words)];
-    for (text, tokens) in cases {
-        assert_eq!(rt; check_tokens(text, tokens), Ok(()), "{text:?}");
-        let table = LexedStr::new(rt.alloc(), text, tokens, &NO_KEYWORDS)?;
-        assert_eq!(rt; table.len(), tokens.len(), "{text:?}");
-    }
-    Ok(())
+    assert_accepted(&rt, "", &[])?;
+    assert_accepted(&rt, "a b", &[word(1), space(1), word(1)])
 }
 
 #[test]
