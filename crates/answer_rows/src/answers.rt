@@ -27,8 +27,7 @@ fn bit_string_goes_on_in_the_next_string(rt: HostRuntime) -> Result<(), Fail> {
         "exit",
         "all",
     ];
-    assert_answer(&rt, document, &lines)?;
-    Ok(())
+    assert_answer(&rt, document, &lines)
 }
 
 #[test]
@@ -59,8 +58,7 @@ fn keyword_has_its_first_kind_and_a_contextual_one_is_a_name(rt: HostRuntime) ->
         "exit",
         "all",
     ];
-    assert_answer(&rt, document, &lines)?;
-    Ok(())
+    assert_answer(&rt, document, &lines)
 }
 
 #[test]
@@ -93,8 +91,7 @@ fn expected_kind_is_told_by_its_first_name_or_its_number(rt: HostRuntime) -> Res
         "exit",
         "all",
     ];
-    assert_answer(&rt, document, &lines)?;
-    Ok(())
+    assert_answer(&rt, document, &lines)
 }
 
 #[test]
@@ -128,8 +125,7 @@ fn moved_nodes_and_errors_of_the_other_entry(rt: HostRuntime) -> Result<(), Fail
         "exit",
         "all",
     ];
-    assert_answer(&rt, document, &lines)?;
-    Ok(())
+    assert_answer(&rt, document, &lines)
 }
 
 #[test]
@@ -153,8 +149,7 @@ fn error_before_any_node_and_at_the_end_of_the_tokens(rt: HostRuntime) -> Result
         "exit",
         "all",
     ];
-    assert_answer(&rt, document, &lines)?;
-    Ok(())
+    assert_answer(&rt, document, &lines)
 }
 
 #[test]
@@ -188,6 +183,5 @@ fn operators_are_eaten_whole(rt: HostRuntime) -> Result<(), Fail> {
         "exit",
         "all",
     ];
-    assert_answer(&rt, document, &lines)?;
-    Ok(())
+    assert_answer(&rt, document, &lines)
 }

@@ -1,5 +1,6 @@
 //! The steps of a document, sent to a list and given by the iterator.
 
+use crate::asserts::assert_same;
 use squawk_answer::Fault;
 use squawk_document::{Document, DocumentGrammar, value};
 use squawk_parser::{EntryPoint, LexedStr, Output, OwnedStep, StepList, StrStep, Words};
@@ -52,10 +53,10 @@ fn assert_same_steps(
     let is_whole = table.intersperse_trivia(output, &mut sent)?;
     let mut given = table.str_steps(output);
     for step in sent.steps() {
-        assert_eq!(rt; given.next(), Some(lent(step)), "{document}");
+        assert_same(rt, &document, &given.next(), &Some(lent(step)));
     }
-    assert_eq!(rt; given.next(), None, "{document}");
-    assert_eq!(rt; given.eaten_all(), is_whole, "{document}");
+    assert_same(rt, &document, &given.next(), &None);
+    assert_same(rt, &document, &given.eaten_all(), &is_whole);
     Ok(())
 }
 

@@ -1,7 +1,8 @@
 //! Documents that break off, or that have a byte that is no text.
 
+use crate::asserts::assert_read;
 use crate::documents::NAME;
-use squawk_answer::{Fault, run};
+use squawk_answer::Fault;
 use std::process::Abort;
 use std::test::Fail;
 
@@ -9,28 +10,28 @@ use std::test::Fail;
 /// place.
 fn assert_broken(rt: &(impl Abort + AllocGlobal), input: &[u8], place: usize) {
     let mut reader = input;
-    let mut written = Vec::new(rt.alloc());
-    let result = run(rt.alloc(), &mut reader, &mut written);
-    assert_eq!(rt; result, Err(Fault::Json), "{place}");
-    assert_eq!(rt; written.len(), 0, "{place}");
+    assert_read(rt, &mut reader, &place, (Err(Fault::Json), ""));
+}
+
+/// The document of a name is broken by a byte that is no text at this place.
+fn assert_no_text(rt: &(impl Abort + AllocGlobal), place: usize) -> Result<(), Fail> {
+    let mut bytes = NAME.as_bytes().to_vec(rt.alloc())?;
+    *bytes.get_mut(place).ok_or("no such place")? = 0xff;
+    assert_broken(rt, &bytes, place);
+    Ok(())
 }
 
 #[test]
 fn each_beginning_of_a_document_is_no_json(rt: HostRuntime) {
-    let document = NAME.as_bytes();
-    for place in 0..document.len() {
-        assert_broken(&rt, &document[..place], place);
+    for place in 0..NAME.len() {
+        assert_broken(&rt, &NAME.as_bytes()[..place], place);
     }
 }
 
 #[test]
 fn byte_that_is_no_text_is_no_json_at_any_place(rt: HostRuntime) -> Result<(), Fail> {
-    let document = NAME.as_bytes();
-    for place in 0..document.len() {
-        let mut bytes = document.to_vec(rt.alloc())?;
-        assert!(rt; place < bytes.len());
-        bytes[place] = 0xff;
-        assert_broken(&rt, &bytes, place);
+    for place in 0..NAME.len() {
+        assert_no_text(&rt, place)?;
     }
     Ok(())
 }

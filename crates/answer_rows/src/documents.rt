@@ -23,6 +23,33 @@ pub const PLAIN: Members<'static> = Members {
     calls: r#"[["start"],["bump_any"],["complete",0,700]]"#,
 };
 
+/// A member of a document.
+#[derive(Clone, Copy)]
+pub enum Member {
+    Text,
+    Tokens,
+    Words,
+    Vocabulary,
+    Entry,
+    Calls,
+}
+
+impl<'a> Members<'a> {
+    /// The plain members, but for this one, which is spelled so.
+    pub fn with(member: Member, spelling: &'a str) -> Members<'a> {
+        let mut members = Members { ..PLAIN };
+        match member {
+            Member::Text => members.text = spelling,
+            Member::Tokens => members.tokens = spelling,
+            Member::Words => members.words = spelling,
+            Member::Vocabulary => members.vocabulary = spelling,
+            Member::Entry => members.entry = spelling,
+            Member::Calls => members.calls = spelling,
+        }
+        members
+    }
+}
+
 /// The answer to [`PLAIN`].
 pub const PLAIN_LINES: [&str; 4] = ["enter 700", r#"token 3 "x""#, "exit", "all"];
 

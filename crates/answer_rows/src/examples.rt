@@ -147,12 +147,19 @@ exit
 all
 "#;
 
+/// The documents, each with its answer.
+const EXAMPLES: [(&str, &str); 5] = [
+    (EMPTY, EMPTY_LINES),
+    (SELECT, SELECT_LINES),
+    (LEXICAL_ERRORS, LEXICAL_ERRORS_LINES),
+    (MOVED_NODES, MOVED_NODES_LINES),
+    (OPERATORS, OPERATORS_LINES),
+];
+
 #[test]
 fn examples_have_their_answers(rt: HostRuntime) -> Result<(), Fail> {
-    assert_written(&rt, EMPTY, EMPTY_LINES)?;
-    assert_written(&rt, SELECT, SELECT_LINES)?;
-    assert_written(&rt, LEXICAL_ERRORS, LEXICAL_ERRORS_LINES)?;
-    assert_written(&rt, MOVED_NODES, MOVED_NODES_LINES)?;
-    assert_written(&rt, OPERATORS, OPERATORS_LINES)?;
+    for (document, lines) in EXAMPLES {
+        assert_written(&rt, document, lines)?;
+    }
     Ok(())
 }

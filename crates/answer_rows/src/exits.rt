@@ -1,64 +1,79 @@
 //! How the program ends: its status, and what it prints of a fault.
 
+use crate::asserts::assert_same;
 use crate::documents::{ESCAPE, ESCAPE_LINES, Members, PLAIN};
 use crate::streams::Takes;
 use squawk_answer::program;
-use std::io::ErrorKind;
-use std::process::ExitCode;
+use std::alloc::Global;
+use std::io::{ErrorKind, Write};
+use std::process::{Abort, ExitCode};
 use std::test::Fail;
 
-#[test]
-fn ends_with_success_and_prints_no_fault(rt: HostRuntime) {
+/// How the program ends. It has no clause, so that the proofs of tests carry none of the program's.
+fn ended<W: Write, E: Write>(
+    alloc: Global,
+    input: &str,
+    writer: &mut W,
+    error_writer: &mut E,
+) -> ExitCode {
+    program(alloc, &mut input.as_bytes(), writer, error_writer)
+}
+
+/// The program ends with the code, and has written this, and printed that.
+fn assert_exit(
+    rt: &(impl Abort + AllocGlobal),
+    input: &str,
+    wanted: ExitCode,
+    answer: &str,
+    line: &str,
+) {
     let mut written = Vec::new(rt.alloc());
     let mut errors = Vec::new(rt.alloc());
-    let code = program(
-        rt.alloc(),
-        &mut ESCAPE.as_bytes(),
-        &mut written,
-        &mut errors,
-    );
-    assert_eq!(rt; code, ExitCode::SUCCESS);
-    assert_eq!(rt; written.as_slice(), ESCAPE_LINES.as_bytes());
-    assert_eq!(rt; errors.len(), 0);
+    let code = ended(rt.alloc(), input, &mut written, &mut errors);
+    assert_same(rt, &input, &code, &wanted);
+    assert_same(rt, &input, &str::from_utf8(&written), &Ok(answer));
+    assert_same(rt, &input, &str::from_utf8(&errors), &Ok(line));
 }
 
 #[test]
+fn ends_with_success_and_prints_no_fault(rt: HostRuntime) {
+    assert_exit(&rt, ESCAPE, ExitCode::SUCCESS, ESCAPE_LINES, "");
+}
+
+/// Members of a document, the line of its fault, and the status.
+const FAULTY: [(Members<'static>, &str, u8); 4] = [
+    (Members { text: "7", ..PLAIN }, "shape\n", 2),
+    (
+        Members {
+            tokens: r#"[["ident",0]]"#,
+            ..PLAIN
+        },
+        "bad token 0\n",
+        3,
+    ),
+    (
+        Members {
+            calls: r#"[["start"],["start"],["complete",1,700]]"#,
+            ..PLAIN
+        },
+        "unspent 0\n",
+        4,
+    ),
+    (
+        Members {
+            calls: "[]",
+            ..PLAIN
+        },
+        "does not fit\n",
+        6,
+    ),
+];
+
+#[test]
 fn ends_with_the_status_of_a_fault_and_prints_its_line(rt: HostRuntime) -> Result<(), Fail> {
-    for (document, line, status) in [
-        (Members { text: "7", ..PLAIN }, "shape\n", 2),
-        (
-            Members {
-                tokens: r#"[["ident",0]]"#,
-                ..PLAIN
-            },
-            "bad token 0\n",
-            3,
-        ),
-        (
-            Members {
-                calls: r#"[["start"],["start"],["complete",1,700]]"#,
-                ..PLAIN
-            },
-            "unspent 0\n",
-            4,
-        ),
-        (
-            Members {
-                calls: "[]",
-                ..PLAIN
-            },
-            "does not fit\n",
-            6,
-        ),
-    ] {
-        let document = document.document(rt.alloc())?;
-        let mut written = Vec::new(rt.alloc());
-        let mut errors = Vec::new(rt.alloc());
-        let mut reader = document.as_bytes();
-        let code = program(rt.alloc(), &mut reader, &mut written, &mut errors);
-        assert_eq!(rt; code, ExitCode::from(status), "{document}");
-        assert_eq!(rt; written.len(), 0, "{document}");
-        assert_eq!(rt; str::from_utf8(&errors), Ok(line), "{document}");
+    for (members, line, status) in FAULTY {
+        let document = members.document(rt.alloc())?;
+        assert_exit(&rt, &document, ExitCode::from(status), "", line);
     }
     Ok(())
 }
@@ -73,8 +88,8 @@ fn ends_with_its_status_where_the_line_cannot_be_printed(rt: HostRuntime) {
         fails_at: 1,
         kind: ErrorKind::BrokenPipe,
     };
-    let code = program(rt.alloc(), &mut b"[".as_slice(), &mut written, &mut errors);
-    assert_eq!(rt; code, ExitCode::from(2));
-    assert_eq!(rt; written.len(), 0);
-    assert_eq!(rt; errors.taken.len(), 0);
+    let code = ended(rt.alloc(), "[", &mut written, &mut errors);
+    assert_same(&rt, &"a code", &code, &ExitCode::from(2));
+    assert_same(&rt, &"the answer", &written.len(), &0);
+    assert_same(&rt, &"the line", &errors.taken.len(), &0);
 }

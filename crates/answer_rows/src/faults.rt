@@ -1,7 +1,8 @@
 //! Small documents without an answer.
 
-use crate::asserts::{assert_fault, assert_no_json};
+use crate::asserts::{assert_refused, assert_told};
 use crate::documents::{Members, PLAIN};
+use crate::tables::{assert_fault, assert_no_json};
 use squawk_answer::Fault;
 use std::test::Fail;
 
@@ -15,13 +16,13 @@ const EMPTY: Members<'static> = Members {
 
 #[test]
 fn part_of_a_document_is_no_json(rt: HostRuntime) -> Result<(), Fail> {
-    assert_fault(&rt, "{", Fault::Json, 2, "json")?;
-    Ok(())
+    assert_refused(&rt, "{", Fault::Json);
+    assert_told(&rt, Fault::Json, 2, "json")
 }
 
 #[test]
 fn byte_that_is_no_text_is_no_json(rt: HostRuntime) {
-    assert_no_json(&rt, b"\xff");
+    assert_no_json(&rt, &[b"\xff".as_slice()]);
 }
 
 #[test]
@@ -30,8 +31,8 @@ fn kind_with_a_fraction_or_a_sign_is_another_shape(rt: HostRuntime) -> Result<()
         r#"[["start"],["complete",0,700.5]]"#,
         r#"[["start"],["complete",0,-1]]"#,
     ] {
-        let document = Members { calls, ..EMPTY }.document(rt.alloc())?;
-        assert_fault(&rt, document.as_str(), Fault::Shape, 2, "shape")?;
+        let members = Members { calls, ..EMPTY };
+        assert_fault(&rt, &members, Fault::Shape, 2, "shape")?;
     }
     Ok(())
 }
@@ -39,9 +40,8 @@ fn kind_with_a_fraction_or_a_sign_is_another_shape(rt: HostRuntime) -> Result<()
 #[test]
 fn unknown_entry_is_another_shape(rt: HostRuntime) -> Result<(), Fail> {
     let entry = r#""pg""#;
-    let document = Members { entry, ..EMPTY }.document(rt.alloc())?;
-    assert_fault(&rt, document.as_str(), Fault::Shape, 2, "shape")?;
-    Ok(())
+    let members = Members { entry, ..EMPTY };
+    assert_fault(&rt, &members, Fault::Shape, 2, "shape")
 }
 
 #[test]
@@ -49,21 +49,24 @@ fn one_more_member_is_another_shape(rt: HostRuntime) -> Result<(), Fail> {
     let document = r#"{"text":"","tokens":[],
 "words":{"operator_first":[],"names":[]},"vocabulary":{"keywords":[],"contextual":[]},"entry":"sql",
 "calls":[["start"],["complete",0,700]],"x":null}"#;
-    assert_fault(&rt, document, Fault::Shape, 2, "shape")?;
-    Ok(())
+    assert_refused(&rt, document, Fault::Shape);
+    assert_told(&rt, Fault::Shape, 2, "shape")
 }
 
 #[test]
 fn bad_token_is_told_before_an_open_marker(rt: HostRuntime) -> Result<(), Fail> {
-    let document = Members {
+    let members = Members {
         tokens: r#"[["ident",0]]"#,
         calls: r#"[["start"]]"#,
         ..EMPTY
-    }
-    .document(rt.alloc())?;
-    let fault = Fault::BadToken { index: 0 };
-    assert_fault(&rt, document.as_str(), fault, 3, "bad token 0")?;
-    Ok(())
+    };
+    assert_fault(
+        &rt,
+        &members,
+        Fault::BadToken { index: 0 },
+        3,
+        "bad token 0",
+    )
 }
 
 #[test]
@@ -91,13 +94,12 @@ fn first_bad_token_is_told(rt: HostRuntime) -> Result<(), Fail> {
             "bad token 1",
         ),
     ] {
-        let document = Members {
+        let members = Members {
             text,
             tokens,
             ..EMPTY
         };
-        let fault = Fault::BadToken { index };
-        assert_fault(&rt, document.document(rt.alloc())?.as_str(), fault, 3, line)?;
+        assert_fault(&rt, &members, Fault::BadToken { index }, 3, line)?;
     }
     Ok(())
 }
@@ -109,13 +111,12 @@ fn text_behind_the_tokens_is_left(rt: HostRuntime) -> Result<(), Fail> {
         (r#""abc""#, "[]", 0, "text left at 0"),
         (r#""éé""#, r#"[["ident",2]]"#, 2, "text left at 2"),
     ] {
-        let document = Members {
+        let members = Members {
             text,
             tokens,
             ..EMPTY
         };
-        let fault = Fault::TextLeft { at };
-        assert_fault(&rt, document.document(rt.alloc())?.as_str(), fault, 3, line)?;
+        assert_fault(&rt, &members, Fault::TextLeft { at }, 3, line)?;
     }
     Ok(())
 }
@@ -143,9 +144,8 @@ fn first_bad_call_is_told(rt: HostRuntime) -> Result<(), Fail> {
         (r#"[["eat",0]]"#, 0, "bad call 0"),
         (r#"[["start"],["expect",658]]"#, 1, "bad call 1"),
     ] {
-        let document = Members { calls, ..EMPTY };
-        let fault = Fault::BadCall { index };
-        assert_fault(&rt, document.document(rt.alloc())?.as_str(), fault, 4, line)?;
+        let members = Members { calls, ..EMPTY };
+        assert_fault(&rt, &members, Fault::BadCall { index }, 4, line)?;
     }
     Ok(())
 }
@@ -170,9 +170,8 @@ fn least_open_marker_is_told(rt: HostRuntime) -> Result<(), Fail> {
             "unspent 1",
         ),
     ] {
-        let document = Members { calls, ..EMPTY };
-        let fault = Fault::Unspent { marker };
-        assert_fault(&rt, document.document(rt.alloc())?.as_str(), fault, 4, line)?;
+        let members = Members { calls, ..EMPTY };
+        assert_fault(&rt, &members, Fault::Unspent { marker }, 4, line)?;
     }
     Ok(())
 }
@@ -183,8 +182,8 @@ fn no_node_and_two_nodes_do_not_fit(rt: HostRuntime) -> Result<(), Fail> {
         "[]",
         r#"[["start"],["complete",0,700],["start"],["complete",1,700]]"#,
     ] {
-        let document = Members { calls, ..EMPTY }.document(rt.alloc())?;
-        assert_fault(&rt, document.as_str(), Fault::DoesNotFit, 6, "does not fit")?;
+        let members = Members { calls, ..EMPTY };
+        assert_fault(&rt, &members, Fault::DoesNotFit, 6, "does not fit")?;
     }
     Ok(())
 }
@@ -197,9 +196,8 @@ fn tokens_outside_the_node_do_not_fit(rt: HostRuntime) -> Result<(), Fail> {
         r#"[["bump_any"],["start"],["complete",0,700]]"#,
         r#"[["start"],["complete",0,700],["bump_any"]]"#,
     ] {
-        let document = Members { calls, ..PLAIN };
-        let document = document.document(rt.alloc())?;
-        assert_fault(&rt, document.as_str(), Fault::DoesNotFit, 6, "does not fit")?;
+        let members = Members { calls, ..PLAIN };
+        assert_fault(&rt, &members, Fault::DoesNotFit, 6, "does not fit")?;
     }
     Ok(())
 }

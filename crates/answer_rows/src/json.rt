@@ -1,123 +1,152 @@
 //! Bytes that are no JSON, and documents that only just are.
 
-use crate::asserts::{assert_answer, assert_no_json, assert_other_shape};
-use crate::documents::{Members, PLAIN, PLAIN_LINES};
+use crate::asserts::{assert_answer, assert_refused};
+use crate::documents::{Member, Members, PLAIN, PLAIN_LINES};
+use crate::tables::{Place, assert_members, assert_no_json, assert_numbers, assert_spellings};
+use squawk_answer::Fault;
 use std::alloc::{AllocError, Global};
+use std::process::Abort;
 use std::test::Fail;
+
+/// So many signs more.
+fn push_signs(text: &mut String, sign: char, times: usize) -> Result<(), AllocError> {
+    for _ in 0..times {
+        text.push(sign)?;
+    }
+    Ok(())
+}
 
 /// A list in a list and so on, this many.
 fn nested(alloc: Global, lists: usize) -> Result<String, AllocError> {
     let mut text = String::new(alloc);
-    for _ in 0..lists {
-        text.push('[')?;
-    }
-    for _ in 0..lists {
-        text.push(']')?;
-    }
+    push_signs(&mut text, '[', lists)?;
+    push_signs(&mut text, ']', lists)?;
     Ok(text)
+}
+
+/// So many lists have this fault.
+fn assert_nested(rt: &(impl Abort + AllocGlobal), lists: usize, fault: Fault) -> Result<(), Fail> {
+    let document = nested(rt.alloc(), lists)?;
+    assert_refused(rt, &document, fault);
+    Ok(())
+}
+
+/// So many lists as the text of the plain document have this fault.
+fn assert_nested_text(
+    rt: &(impl Abort + AllocGlobal),
+    lists: usize,
+    fault: Fault,
+) -> Result<(), Fail> {
+    let text = nested(rt.alloc(), lists)?;
+    assert_members(rt, &Members::with(Member::Text, &text), fault)
+}
+
+/// The plain document with this in front of it and that behind it.
+fn framed(alloc: Global, front: &str, back: &str) -> Result<String, AllocError> {
+    let document = PLAIN.document(alloc)?;
+    format!(in alloc; "{front}{document}{back}")
+}
+
+/// The plain document with this in front of it and that behind it is no JSON.
+fn assert_no_json_framed(
+    rt: &(impl Abort + AllocGlobal),
+    front: &str,
+    back: &str,
+) -> Result<(), Fail> {
+    let document = framed(rt.alloc(), front, back)?;
+    assert_refused(rt, &document, Fault::Json);
+    Ok(())
 }
 
 #[test]
 fn texts_that_are_no_utf_8_are_no_json(rt: HostRuntime) {
-    assert_no_json(&rt, b"\"\xc3\"");
-    assert_no_json(&rt, b"\"\xc0\x80\"");
-    assert_no_json(&rt, b"\"\xed\xa0\x80\"");
-    assert_no_json(&rt, b"\"\xf4\x90\x80\x80\"");
-    assert_no_json(&rt, b"{\"\xa9\":null}");
+    assert_no_json(
+        &rt,
+        &[
+            b"\"\xc3\"".as_slice(),
+            b"\"\xc0\x80\"".as_slice(),
+            b"\"\xed\xa0\x80\"".as_slice(),
+            b"\"\xf4\x90\x80\x80\"".as_slice(),
+            b"{\"\xa9\":null}".as_slice(),
+        ],
+    );
 }
 
 #[test]
 fn nesting_of_127_is_read(rt: HostRuntime) -> Result<(), Fail> {
-    assert_other_shape(&rt, nested(rt.alloc(), 127)?.as_str());
-    let text = nested(rt.alloc(), 126)?;
-    let document = Members {
-        text: text.as_str(),
-        ..PLAIN
-    };
-    assert_other_shape(&rt, document.document(rt.alloc())?.as_str());
-    Ok(())
+    assert_nested(&rt, 127, Fault::Shape)?;
+    assert_nested_text(&rt, 126, Fault::Shape)
 }
 
 #[test]
 fn nesting_of_128_is_no_json(rt: HostRuntime) -> Result<(), Fail> {
-    assert_no_json(&rt, nested(rt.alloc(), 128)?.as_bytes());
-    let text = nested(rt.alloc(), 127)?;
-    let document = Members {
-        text: text.as_str(),
-        ..PLAIN
-    };
-    assert_no_json(&rt, document.document(rt.alloc())?.as_bytes());
-    Ok(())
+    assert_nested(&rt, 128, Fault::Json)?;
+    assert_nested_text(&rt, 127, Fault::Json)
 }
 
 #[test]
 fn bytes_behind_a_document_are_no_json(rt: HostRuntime) -> Result<(), Fail> {
-    let document = PLAIN.document(rt.alloc())?;
     for more in ["x", "{}", "}", ",", "\0", "\u{a0}", "\u{feff}", "//", "0"] {
-        let document = format!(in rt.alloc(); "{document}{more}")?;
-        assert_no_json(&rt, document.as_bytes());
+        assert_no_json_framed(&rt, "", more)?;
     }
     Ok(())
 }
 
 #[test]
 fn white_space_may_stand_round_a_document(rt: HostRuntime) -> Result<(), Fail> {
-    let document = PLAIN.document(rt.alloc())?;
-    let document = format!(in rt.alloc(); " \t\r\n{document}\n\r\t ")?;
-    assert_answer(&rt, document.as_str(), &PLAIN_LINES)?;
-    Ok(())
+    let document = framed(rt.alloc(), " \t\r\n", "\n\r\t ")?;
+    assert_answer(&rt, &document, &PLAIN_LINES)
 }
 
 #[test]
 fn white_space_alone_is_no_json(rt: HostRuntime) {
-    assert_no_json(&rt, b"");
-    assert_no_json(&rt, b" \t\r\n");
+    assert_no_json(&rt, &[b"".as_slice(), b" \t\r\n".as_slice()]);
 }
+
+/// Where a token has its length.
+const LENGTH: Place<'static> = Place {
+    member: Member::Tokens,
+    front: r#"[["ident","#,
+    back: "]]",
+};
 
 #[test]
 fn number_that_is_too_large_is_no_json(rt: HostRuntime) -> Result<(), Fail> {
-    for number in ["1e400", "-1e400", "1E+400", "0.1e401"] {
-        assert_no_json(&rt, number.as_bytes());
-        let tokens = format!(in rt.alloc(); "[[\"ident\",{number}]]")?;
-        let document = Members {
-            tokens: tokens.as_str(),
-            ..PLAIN
-        };
-        assert_no_json(&rt, document.document(rt.alloc())?.as_bytes());
+    let numbers = ["1e400", "-1e400", "1E+400", "0.1e401"];
+    for number in numbers {
+        assert_refused(&rt, number, Fault::Json);
     }
-    Ok(())
+    assert_numbers(&rt, &[LENGTH], &numbers, Fault::Json)
 }
 
 #[test]
 fn words_of_other_notations_are_no_json(rt: HostRuntime) -> Result<(), Fail> {
-    for text in [
-        "'x'",
-        "x",
-        "True",
-        "NaN",
-        "+1",
-        "01",
-        ".5",
-        "1.",
-        "0x1",
-        "[1,]",
-        r#"{"a":1,}"#,
-        r#"{a:1}"#,
-        r#""\x""#,
-        r#""\ud800""#,
-        "\"\n\"",
-        "/**/1",
-    ] {
-        let document = Members { text, ..PLAIN };
-        assert_no_json(&rt, document.document(rt.alloc())?.as_bytes());
-    }
-    Ok(())
+    assert_spellings(
+        &rt,
+        Member::Text,
+        Fault::Json,
+        &[
+            "'x'",
+            "x",
+            "True",
+            "NaN",
+            "+1",
+            "01",
+            ".5",
+            "1.",
+            "0x1",
+            "[1,]",
+            r#"{"a":1,}"#,
+            r#"{a:1}"#,
+            r#""\x""#,
+            r#""\ud800""#,
+            "\"\n\"",
+            "/**/1",
+        ],
+    )
 }
 
 #[test]
 fn byte_order_mark_is_no_json(rt: HostRuntime) -> Result<(), Fail> {
-    let document = PLAIN.document(rt.alloc())?;
-    let document = format!(in rt.alloc(); "\u{feff}{document}")?;
-    assert_no_json(&rt, document.as_bytes());
-    Ok(())
+    assert_no_json_framed(&rt, "\u{feff}", "")
 }

@@ -44,6 +44,8 @@ mod step_lines;
 #[cfg(test)]
 mod streams;
 #[cfg(test)]
+mod tables;
+#[cfg(test)]
 mod watches;
 #[cfg(test)]
 mod writers;

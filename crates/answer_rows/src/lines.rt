@@ -2,6 +2,7 @@
 
 use crate::asserts::{assert_answer, assert_written};
 use crate::documents::{ESCAPE, ESCAPE_LINES, Members, NAME, NAME_LINES, PLAIN, PLAIN_LINES};
+use crate::tables::assert_members_answer;
 use std::test::Fail;
 
 #[test]
@@ -9,14 +10,12 @@ fn empty_text_is_a_node_alone(rt: HostRuntime) -> Result<(), Fail> {
     let document = r#"{"text":"","tokens":[],
 "words":{"operator_first":[],"names":[]},"vocabulary":{"keywords":[],"contextual":[]},"entry":"sql",
 "calls":[["start"],["complete",0,700]]}"#;
-    assert_answer(&rt, document, &["enter 700", "exit", "all"])?;
-    Ok(())
+    assert_answer(&rt, document, &["enter 700", "exit", "all"])
 }
 
 #[test]
 fn error_behind_a_node_stands_in_it_and_space_behind_it(rt: HostRuntime) -> Result<(), Fail> {
-    assert_written(&rt, NAME, NAME_LINES)?;
-    Ok(())
+    assert_written(&rt, NAME, NAME_LINES)
 }
 
 #[test]
@@ -31,8 +30,7 @@ fn tokens_that_are_not_eaten_are_a_rest(rt: HostRuntime) -> Result<(), Fail> {
         "exit",
         "rest",
     ];
-    assert_answer(&rt, document, &lines)?;
-    Ok(())
+    assert_answer(&rt, document, &lines)
 }
 
 #[test]
@@ -49,14 +47,12 @@ fn three_signs_that_touch_are_one_token(rt: HostRuntime) -> Result<(), Fail> {
         "exit",
         "all",
     ];
-    assert_answer(&rt, document, &lines)?;
-    Ok(())
+    assert_answer(&rt, document, &lines)
 }
 
 #[test]
 fn short_escape_is_a_lexical_error_with_a_hint(rt: HostRuntime) -> Result<(), Fail> {
-    assert_written(&rt, ESCAPE, ESCAPE_LINES)?;
-    Ok(())
+    assert_written(&rt, ESCAPE, ESCAPE_LINES)
 }
 
 #[test]
@@ -71,8 +67,7 @@ fn string_without_an_end_is_a_lexical_error(rt: HostRuntime) -> Result<(), Fail>
         "exit",
         "all",
     ];
-    assert_answer(&rt, document, &lines)?;
-    Ok(())
+    assert_answer(&rt, document, &lines)
 }
 
 #[test]
@@ -81,8 +76,7 @@ fn members_may_stand_in_any_order_and_with_spaces(rt: HostRuntime) -> Result<(),
         "entry": "sql", "vocabulary": {"contextual": [], "keywords": []},
         "words": {"names": [], "operator_first": []}, "tokens": [["ident", 1]], "text": "x" }
 "#;
-    assert_answer(&rt, document, &PLAIN_LINES)?;
-    Ok(())
+    assert_answer(&rt, document, &PLAIN_LINES)
 }
 
 #[test]
@@ -105,6 +99,5 @@ fn texts_are_printed_as_json_strings(rt: HostRuntime) -> Result<(), Fail> {
         "exit",
         "all",
     ];
-    assert_answer(&rt, document.document(rt.alloc())?.as_str(), &lines)?;
-    Ok(())
+    assert_members_answer(&rt, &document, &lines)
 }

@@ -1,8 +1,10 @@
 //! Documents with a member too few, one too many, or one of another name.
 
-use crate::asserts::{assert_answer, assert_other_shape};
+use crate::asserts::{assert_answer, assert_refused};
 use crate::documents::{PLAIN, PLAIN_LINES};
+use squawk_answer::Fault;
 use std::alloc::{AllocError, Global};
+use std::process::Abort;
 use std::test::Fail;
 
 /// The members of a document.
@@ -33,40 +35,47 @@ fn document_but(alloc: Global, place: usize, name: Option<&str>) -> Result<Strin
     Ok(text)
 }
 
-#[test]
-fn document_of_all_members_is_read(rt: HostRuntime) -> Result<(), Fail> {
-    let document = document_but(rt.alloc(), MEMBERS, None)?;
-    assert_answer(&rt, document.as_str(), &PLAIN_LINES)?;
-    Ok(())
-}
-
-#[test]
-fn no_member_may_be_left_out(rt: HostRuntime) -> Result<(), Fail> {
+/// The plain document has another shape where any one member has this name, or is left out.
+fn assert_no_member(rt: &(impl Abort + AllocGlobal), name: Option<&str>) -> Result<(), Fail> {
     for place in 0..MEMBERS {
-        let document = document_but(rt.alloc(), place, None)?;
-        assert_other_shape(&rt, document.as_str());
+        let document = document_but(rt.alloc(), place, name)?;
+        assert_refused(rt, &document, Fault::Shape);
     }
     Ok(())
 }
 
+/// The plain document has another shape with one more member, of this name.
+fn assert_no_more(rt: &(impl Abort + AllocGlobal), name: &str) -> Result<(), Fail> {
+    let document = document_but(rt.alloc(), MEMBERS, None)?;
+    let members = document.as_str().strip_prefix("{").ok_or("no object")?;
+    let document = format!(in rt.alloc(); "{{\"{name}\":null,{members}")?;
+    assert_refused(rt, &document, Fault::Shape);
+    Ok(())
+}
+
+#[test]
+fn document_of_all_members_is_read(rt: HostRuntime) -> Result<(), Fail> {
+    let document = document_but(rt.alloc(), MEMBERS, None)?;
+    assert_answer(&rt, &document, &PLAIN_LINES)
+}
+
+#[test]
+fn no_member_may_be_left_out(rt: HostRuntime) -> Result<(), Fail> {
+    assert_no_member(&rt, None)
+}
+
 #[test]
 fn no_member_may_have_another_name(rt: HostRuntime) -> Result<(), Fail> {
-    for place in 0..MEMBERS {
-        for name in ["more", "", "Text", "calls ", "word"] {
-            let document = document_but(rt.alloc(), place, Some(name))?;
-            assert_other_shape(&rt, document.as_str());
-        }
+    for name in ["more", "", "Text", "calls ", "word"] {
+        assert_no_member(&rt, Some(name))?;
     }
     Ok(())
 }
 
 #[test]
 fn there_may_be_no_other_member(rt: HostRuntime) -> Result<(), Fail> {
-    let document = document_but(rt.alloc(), MEMBERS, None)?;
-    let members = document.as_str().strip_prefix("{").ok_or("no object")?;
-    for more in ["more", "", "Text", "operator_first", "keywords"] {
-        let document = format!(in rt.alloc(); "{{\"{more}\":null,{members}")?;
-        assert_other_shape(&rt, document.as_str());
+    for name in ["more", "", "Text", "operator_first", "keywords"] {
+        assert_no_more(&rt, name)?;
     }
     Ok(())
 }

@@ -1,9 +1,10 @@
 //! A run that is refused memory. Each test holds whichever growth is refused, and is to be run with
 //! each of them refused in turn.
 
+use crate::asserts::ended;
 use crate::documents::{ESCAPE, ESCAPE_LINES, NAME, NAME_LINES};
 use crate::streams::Wants;
-use squawk_answer::{Fault, run};
+use squawk_answer::Fault;
 use std::alloc::Global;
 use std::process::Abort;
 
@@ -14,7 +15,7 @@ fn assert_answer_or_memory(rt: &impl Abort, alloc: Global, document: &str, lines
         is_begun: false,
         is_wrong: false,
     };
-    let result = run(alloc, &mut document.as_bytes(), &mut writer);
+    let result = ended(alloc, &mut document.as_bytes(), &mut writer);
     assert!(rt; !writer.is_wrong);
     if result == Ok(()) {
         assert_eq!(rt; writer.rest.len(), 0);

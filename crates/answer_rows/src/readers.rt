@@ -1,10 +1,18 @@
 //! Readers in pieces, readers that are interrupted, and readers that fail.
 
+use crate::asserts::{assert_read, assert_same};
 use crate::documents::{NAME, NAME_LINES};
 use crate::streams::{Interrupted, Pieces};
-use squawk_answer::{Fault, run};
+use squawk_answer::Fault;
 use std::io::ErrorKind;
+use std::process::Abort;
 use std::test::Fail;
+
+/// What a run ends in where the document of a name is read, and what is written.
+const ANSWERED: (Result<(), Fault>, &str) = (Ok(()), NAME_LINES);
+
+/// What a run ends in where a read fails, and what is written.
+const UNREAD: (Result<(), Fault>, &str) = (Err(Fault::Io), "");
 
 /// A reader of the document of a name, in pieces of so many bytes, that doesn't fail.
 fn name_in_pieces(most: usize) -> Pieces<'static> {
@@ -17,66 +25,69 @@ fn name_in_pieces(most: usize) -> Pieces<'static> {
     }
 }
 
-#[test]
-fn document_may_come_in_pieces(rt: HostRuntime) -> Result<(), Fail> {
-    for most in [1, 2, 7, 100, 8192] {
-        let mut reader = name_in_pieces(most);
-        let mut written = Vec::new(rt.alloc());
-        run(rt.alloc(), &mut reader, &mut written)?;
-        assert_eq!(rt; written.as_slice(), NAME_LINES.as_bytes(), "{most}");
-        assert_eq!(rt; reader.rest.len(), 0, "{most}");
+/// The document of a name in pieces of so many bytes has its answer, and is read to its end.
+fn assert_in_pieces(rt: &(impl Abort + AllocGlobal), most: usize) {
+    let mut reader = name_in_pieces(most);
+    assert_read(rt, &mut reader, &most, ANSWERED);
+    assert_same(rt, &most, &reader.rest.len(), &0);
+}
+
+/// Where this read of a byte fails, the run ends in this, after so many reads.
+fn assert_reads(
+    rt: &(impl Abort + AllocGlobal),
+    fails_at: usize,
+    wanted: (Result<(), Fault>, &str),
+    reads: usize,
+) {
+    let mut reader = name_in_pieces(1);
+    reader.fails_at = fails_at;
+    assert_read(rt, &mut reader, &fails_at, wanted);
+    assert_same(rt, &fails_at, &reader.reads, &reads);
+}
+
+/// The document of a name behind so many spaces has its answer.
+fn assert_behind_spaces(rt: &(impl Abort + AllocGlobal), spaces: usize) -> Result<(), Fail> {
+    let mut document = Vec::new(rt.alloc());
+    for _ in 0..spaces {
+        document.push(b' ')?;
     }
+    document.extend_from_slice(NAME.as_bytes())?;
+    assert_read(rt, &mut document.as_slice(), &spaces, ANSWERED);
     Ok(())
+}
+
+#[test]
+fn document_may_come_in_pieces(rt: HostRuntime) {
+    for most in [1, 2, 7, 100, 8192] {
+        assert_in_pieces(&rt, most);
+    }
 }
 
 #[test]
 fn document_may_be_longer_than_a_read(rt: HostRuntime) -> Result<(), Fail> {
-    let mut document = Vec::new(rt.alloc());
-    for _ in 0..20000 {
-        document.push(b' ')?;
-    }
-    document.extend_from_slice(NAME.as_bytes())?;
-    let mut written = Vec::new(rt.alloc());
-    run(rt.alloc(), &mut document.as_slice(), &mut written)?;
-    assert_eq!(rt; written.as_slice(), NAME_LINES.as_bytes());
-    Ok(())
+    assert_behind_spaces(&rt, 20000)
 }
 
 #[test]
-fn interrupted_reads_are_tried_again(rt: HostRuntime) -> Result<(), Fail> {
+fn interrupted_reads_are_tried_again(rt: HostRuntime) {
     for is_next in [true, false] {
         let inner = name_in_pieces(1);
         let mut reader = Interrupted { inner, is_next };
-        let mut written = Vec::new(rt.alloc());
-        run(rt.alloc(), &mut reader, &mut written)?;
-        assert_eq!(rt; written.as_slice(), NAME_LINES.as_bytes());
+        assert_read(&rt, &mut reader, &is_next, ANSWERED);
     }
-    Ok(())
 }
 
 #[test]
 fn says_io_at_each_read_that_fails(rt: HostRuntime) {
     // A read for each byte, and one that finds the end.
     for fails_at in 1..=NAME.len() + 1 {
-        let mut reader = name_in_pieces(1);
-        reader.fails_at = fails_at;
-        let mut written = Vec::new(rt.alloc());
-        let result = run(rt.alloc(), &mut reader, &mut written);
-        assert_eq!(rt; result, Err(Fault::Io), "{fails_at}");
-        assert_eq!(rt; written.len(), 0, "{fails_at}");
-        assert_eq!(rt; reader.reads, fails_at);
+        assert_reads(&rt, fails_at, UNREAD, fails_at);
     }
 }
 
 #[test]
-fn does_not_read_behind_the_end(rt: HostRuntime) -> Result<(), Fail> {
-    let mut reader = name_in_pieces(1);
-    reader.fails_at = NAME.len() + 2;
-    let mut written = Vec::new(rt.alloc());
-    run(rt.alloc(), &mut reader, &mut written)?;
-    assert_eq!(rt; written.as_slice(), NAME_LINES.as_bytes());
-    assert_eq!(rt; reader.reads, NAME.len() + 1);
-    Ok(())
+fn does_not_read_behind_the_end(rt: HostRuntime) {
+    assert_reads(&rt, NAME.len() + 2, ANSWERED, NAME.len() + 1);
 }
 
 #[test]
@@ -92,9 +103,7 @@ fn says_io_whatever_the_error_of_reading_is(rt: HostRuntime) {
         let mut reader = name_in_pieces(100);
         reader.fails_at = 2;
         reader.kind = kind;
-        let mut written = Vec::new(rt.alloc());
-        assert_eq!(rt; run(rt.alloc(), &mut reader, &mut written), Err(Fault::Io));
-        assert_eq!(rt; written.len(), 0);
+        assert_read(&rt, &mut reader, &kind, UNREAD);
     }
 }
 
@@ -107,7 +116,5 @@ fn says_io_before_it_looks_at_what_was_read(rt: HostRuntime) {
         fails_at: 4,
         kind: ErrorKind::Other,
     };
-    let mut written = Vec::new(rt.alloc());
-    assert_eq!(rt; run(rt.alloc(), &mut reader, &mut written), Err(Fault::Io));
-    assert_eq!(rt; written.len(), 0);
+    assert_read(&rt, &mut reader, &"no document", UNREAD);
 }

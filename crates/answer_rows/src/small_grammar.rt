@@ -1,7 +1,8 @@
 //! Documents that are parsed by the small grammar.
 
-use crate::asserts::{assert_answer, assert_other_shape};
 use crate::documents::{Members, PLAIN};
+use crate::tables::{assert_members, assert_members_answer};
+use squawk_answer::Fault;
 use std::test::Fail;
 
 /// A document of this text and these raw tokens, parsed by the small grammar.
@@ -19,10 +20,10 @@ fn small<'a>(text: &'a str, tokens: &'a str) -> Members<'a> {
 #[test]
 fn operators_nest_to_the_left(rt: HostRuntime) -> Result<(), Fail> {
     let tokens = r#"[["ident",1],["plus",1],["ident",1],["star",1],["int",1,false,10,1]]"#;
-    let document = small(r#""a+b*1""#, tokens).document(rt.alloc())?;
-    assert_answer(
+    let members = small(r#""a+b*1""#, tokens);
+    assert_members_answer(
         &rt,
-        &document,
+        &members,
         &[
             "enter 720",
             "enter 721",
@@ -47,16 +48,15 @@ fn operators_nest_to_the_left(rt: HostRuntime) -> Result<(), Fail> {
             "exit",
             "all",
         ],
-    )?;
-    Ok(())
+    )
 }
 
 #[test]
 fn operand_is_expected(rt: HostRuntime) -> Result<(), Fail> {
-    let document = small(r#""""#, "[]").document(rt.alloc())?;
-    assert_answer(
+    let members = small(r#""""#, "[]");
+    assert_members_answer(
         &rt,
-        &document,
+        &members,
         &[
             "enter 720",
             "enter 722",
@@ -65,17 +65,16 @@ fn operand_is_expected(rt: HostRuntime) -> Result<(), Fail> {
             "exit",
             "all",
         ],
-    )?;
-    Ok(())
+    )
 }
 
 #[test]
 fn rest_is_eaten_as_errors(rt: HostRuntime) -> Result<(), Fail> {
     let tokens = r#"[["ident",1],["whitespace",1],["ident",1]]"#;
-    let document = small(r#""a b""#, tokens).document(rt.alloc())?;
-    assert_answer(
+    let members = small(r#""a b""#, tokens);
+    assert_members_answer(
         &rt,
-        &document,
+        &members,
         &[
             "enter 720",
             "enter 722",
@@ -89,20 +88,19 @@ fn rest_is_eaten_as_errors(rt: HostRuntime) -> Result<(), Fail> {
             "exit",
             "all",
         ],
-    )?;
-    Ok(())
+    )
 }
 
 #[test]
 fn words_are_read_and_not_used(rt: HostRuntime) -> Result<(), Fail> {
     // The kind of the comma would be an operator's, and has a name.
-    let document = Members {
+    let members = Members {
         words: r#"{"operator_first":[6],"names":[[6,"COMMA"]]}"#,
         ..small(r#"",""#, r#"[["comma",1]]"#)
     };
-    assert_answer(
+    assert_members_answer(
         &rt,
-        &document.document(rt.alloc())?,
+        &members,
         &[
             "enter 720",
             "enter 722",
@@ -120,16 +118,14 @@ fn words_are_read_and_not_used(rt: HostRuntime) -> Result<(), Fail> {
         words: r#"{"operator_first":[0],"names":[]}"#,
         ..small(r#"",""#, r#"[["comma",1]]"#)
     };
-    assert_other_shape(&rt, &other.document(rt.alloc())?);
-    Ok(())
+    assert_members(&rt, &other, Fault::Shape)
 }
 
 #[test]
 fn small_grammar_has_no_calls(rt: HostRuntime) -> Result<(), Fail> {
-    let document = Members {
+    let members = Members {
         calls: r#"[["start"]]"#,
         ..small(r#""""#, "[]")
     };
-    assert_other_shape(&rt, &document.document(rt.alloc())?);
-    Ok(())
+    assert_members(&rt, &members, Fault::Shape)
 }

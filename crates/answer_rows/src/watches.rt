@@ -1,9 +1,11 @@
 //! What a watch tells of reads and writes, and how often a run reads.
 
+use crate::asserts::{assert_end, assert_same};
 use crate::documents::{NAME, NAME_LINES};
 use crate::streams::{Planned, Takes, Turn};
 use squawk_answer::{Fault, ReadOutcome, Watch, run_watched};
 use std::alloc::{AllocError, Global};
+use std::fmt::Debug;
 use std::io::ErrorKind;
 use std::process::Abort;
 use std::test::Fail;
@@ -27,23 +29,70 @@ fn interrupted_at(
     Ok(plan)
 }
 
+/// The watch tells so many reads, and whether one or a write failed.
+fn assert_tells(rt: &impl Abort, case: &impl Debug, watch: &Watch, wanted: (u64, bool)) {
+    assert_same(rt, case, &(watch.reads(), watch.failed()), &wanted);
+}
+
+/// The document of a name, read by this plan, ends in this after so many reads, as its watch tells too.
+fn assert_watched(
+    rt: &(impl Abort + AllocGlobal),
+    plan: &[Turn],
+    wanted: (Result<(), Fault>, &str),
+    reads: u64,
+) {
+    let mut reader = Planned::new(NAME.as_bytes(), plan);
+    let mut written = Vec::new(rt.alloc());
+    let mut watch = Watch::new();
+    let result = run_watched(rt.alloc(), &mut watch, &mut reader, &mut written);
+    assert_end(rt, &reads, (result, &written), wanted);
+    assert_same(rt, &"reads", &reader.reads, &reads);
+    assert_tells(rt, &reads, &watch, (reads, wanted.0.is_err()));
+}
+
 /// So many interruptions in a row are as many reads more, before any of the reads of a run.
-fn assert_interruptions_are_reads(rt: &(impl Abort + AllocGlobal), times: u8) -> Result<(), Fault> {
+fn assert_interruptions_are_reads(
+    rt: &(impl Abort + AllocGlobal),
+    times: u8,
+) -> Result<(), AllocError> {
     // A read for each byte, and one that finds the end.
     let reads = NAME.len() + 1;
     let turns = reads + usize::from(times);
     for place in 0..reads {
         let plan = interrupted_at(rt.alloc(), turns, place, usize::from(times))?;
-        let mut reader = Planned::new(NAME.as_bytes(), &plan);
-        let mut written = Vec::new(rt.alloc());
-        let mut watch = Watch::new();
-        run_watched(rt.alloc(), &mut watch, &mut reader, &mut written)?;
-        assert_eq!(rt; written.as_slice(), NAME_LINES.as_bytes(), "{place}");
-        assert_eq!(rt; reader.reads, turns as u64, "{place}");
-        assert_eq!(rt; watch.reads(), reader.reads, "{place}");
-        assert!(rt; !watch.failed(), "{place}");
+        assert_watched(rt, &plan, (Ok(()), NAME_LINES), turns as u64);
     }
     Ok(())
+}
+
+/// The watch tells this outcome of a read that does this.
+fn assert_outcome(rt: &impl Abort, turn: Turn, outcome: ReadOutcome) {
+    let plan = [turn];
+    let mut reader = Planned::new(b"four", &plan);
+    let mut watch = Watch::new();
+    let mut buffer = [0; 8];
+    let read = watch.read(&mut reader, &mut buffer);
+    assert!(rt; read == outcome);
+    assert_same(rt, &"reads", &reader.reads, &1);
+    assert_tells(rt, &"one read", &watch, (1, outcome == ReadOutcome::Failed));
+}
+
+/// The bytes are written or not, and the watch then tells whether a write has failed.
+fn assert_write(
+    rt: &impl Abort,
+    watch: &mut Watch,
+    writer: &mut Takes,
+    bytes: &[u8],
+    (is_written, failed): (bool, bool),
+) {
+    assert_same(rt, &bytes, &watch.write_all(writer, bytes), &is_written);
+    assert_tells(rt, &bytes, watch, (0, failed));
+}
+
+/// The writer has taken this, in so many writes.
+fn assert_writer(rt: &impl Abort, writer: &Takes, taken: &[u8], writes: usize) {
+    assert_same(rt, &"taken", &writer.taken.as_slice(), &taken);
+    assert_same(rt, &"writes", &writer.writes, &writes);
 }
 
 #[test]
@@ -71,15 +120,7 @@ fn failure_behind_interruptions_is_the_last_read(rt: HostRuntime) {
             Turn::Refuses(ErrorKind::Interrupted),
             Turn::Refuses(kind),
         ];
-        let mut reader = Planned::new(NAME.as_bytes(), &plan);
-        let mut written = Vec::new(rt.alloc());
-        let mut watch = Watch::new();
-        let result = run_watched(rt.alloc(), &mut watch, &mut reader, &mut written);
-        assert_eq!(rt; result, Err(Fault::Io));
-        assert_eq!(rt; reader.reads, 7);
-        assert_eq!(rt; watch.reads(), 7);
-        assert!(rt; watch.failed());
-        assert_eq!(rt; written.len(), 0);
+        assert_watched(&rt, &plan, (Err(Fault::Io), ""), 7);
     }
 }
 
@@ -97,15 +138,7 @@ fn watch_tells_what_a_read_gave(rt: HostRuntime) {
         (Turn::Refuses(ErrorKind::UnexpectedEof), ReadOutcome::Failed),
         (Turn::Refuses(ErrorKind::Other), ReadOutcome::Failed),
     ] {
-        let plan = [turn];
-        let mut reader = Planned::new(b"four", &plan);
-        let mut watch = Watch::new();
-        let mut buffer = [0; 8];
-        let read = watch.read(&mut reader, &mut buffer);
-        assert!(rt; read == outcome);
-        assert_eq!(rt; reader.reads, 1);
-        assert_eq!(rt; watch.reads(), 1);
-        assert_eq!(rt; watch.failed(), outcome == ReadOutcome::Failed);
+        assert_outcome(&rt, turn, outcome);
     }
 }
 
@@ -119,14 +152,9 @@ fn watch_tells_whether_a_write_failed(rt: HostRuntime) {
         kind: ErrorKind::StorageFull,
     };
     let mut watch = Watch::new();
-    assert!(rt; watch.write_all(&mut writer, b""));
-    assert!(rt; watch.write_all(&mut writer, b"four"));
-    assert!(rt; !watch.failed());
-    assert!(rt; !watch.write_all(&mut writer, b"five"));
-    assert!(rt; watch.failed());
-    assert!(rt; watch.write_all(&mut writer, b""));
-    assert!(rt; watch.failed());
-    assert_eq!(rt; watch.reads(), 0);
-    assert_eq!(rt; writer.taken.as_slice(), b"four".as_slice());
-    assert_eq!(rt; writer.writes, 3);
+    assert_write(&rt, &mut watch, &mut writer, b"", (true, false));
+    assert_write(&rt, &mut watch, &mut writer, b"four", (true, false));
+    assert_write(&rt, &mut watch, &mut writer, b"five", (false, true));
+    assert_write(&rt, &mut watch, &mut writer, b"", (true, true));
+    assert_writer(&rt, &writer, b"four", 3);
 }

@@ -4,7 +4,6 @@ use squawk_document::grammar::{DocumentGrammar, grammar};
 use squawk_document::{DocumentError, value};
 use squawk_parser::EntryPoint;
 use std::process::Abort;
-use std::test::Fail;
 
 /// What these two members spell.
 fn read(rt: &impl AllocGlobal, entry: &str, calls: &str) -> Result<DocumentGrammar, DocumentError> {
@@ -13,40 +12,48 @@ fn read(rt: &impl AllocGlobal, entry: &str, calls: &str) -> Result<DocumentGramm
     grammar(rt.alloc(), &entry, &calls)
 }
 
+/// Why nothing is read of these two members, if nothing is.
+fn refusal(rt: &impl AllocGlobal, entry: &str, calls: &str) -> Option<DocumentError> {
+    read(rt, entry, calls).err()
+}
+
 fn assert_refused(rt: &(impl Abort + AllocGlobal), entry: &str, calls: &str) {
-    match read(rt, entry, calls) {
-        Ok(_) => assert!(rt; false, "{entry} {calls}"),
-        Err(error) => assert_eq!(rt; error, DocumentError::Shape, "{entry} {calls}"),
+    assert_eq!(rt;
+        refusal(rt, entry, calls),
+        Some(DocumentError::Shape),
+        "{entry} {calls}"
+    );
+}
+
+/// The entry point that these two members spell, and how many calls; none for the small grammar.
+fn told(
+    rt: &impl AllocGlobal,
+    entry: &str,
+    calls: &str,
+) -> Result<Option<(EntryPoint, usize)>, DocumentError> {
+    match read(rt, entry, calls)? {
+        DocumentGrammar::Calls { entry, calls } => Ok(Some((entry, calls.len()))),
+        DocumentGrammar::Tiny => Ok(None),
     }
 }
 
 #[test]
-fn entry_points_have_two_spellings(rt: HostRuntime) -> Result<(), Fail> {
+fn entry_points_have_two_spellings(rt: HostRuntime) {
     for (spelling, wanted) in [
         (r#""sql""#, EntryPoint::SourceFile),
         (r#""plpgsql""#, EntryPoint::Plpgsql),
     ] {
-        match read(&rt, spelling, r#"[["start"],["complete",0,700]]"#)? {
-            DocumentGrammar::Calls { entry, calls } => {
-                assert_eq!(rt; entry, wanted);
-                assert_eq!(rt; calls.len(), 2);
-            }
-            DocumentGrammar::Tiny => assert!(rt; false, "{spelling}"),
-        }
+        let told = told(&rt, spelling, r#"[["start"],["complete",0,700]]"#);
+        assert_eq!(rt; told, Ok(Some((wanted, 2))), "{spelling}");
     }
-    Ok(())
 }
 
 #[test]
-fn small_grammar_has_no_calls(rt: HostRuntime) -> Result<(), Fail> {
-    match read(&rt, r#""tiny""#, "[]")? {
-        DocumentGrammar::Calls { .. } => assert!(rt; false),
-        DocumentGrammar::Tiny => {}
-    }
+fn small_grammar_has_no_calls(rt: HostRuntime) {
+    assert_eq!(rt; told(&rt, r#""tiny""#, "[]"), Ok(None));
     for calls in [r#"[["start"]]"#, "[[]]", "[1]", "{}", "null", "0", r#""""#] {
         assert_refused(&rt, r#""tiny""#, calls);
     }
-    Ok(())
 }
 
 #[test]

@@ -8,9 +8,15 @@ mod calls;
 #[cfg(test)]
 mod grammars;
 #[cfg(test)]
+mod kinds;
+#[cfg(test)]
+mod literals;
+#[cfg(test)]
 mod many;
 #[cfg(test)]
 mod members;
+#[cfg(test)]
+mod refused;
 #[cfg(test)]
 mod refused_calls;
 #[cfg(test)]
