@@ -1,5 +1,5 @@
 -- What a parse by the small grammar answers.
-use Rattle.std.proofs.Common.{◌≡◌, ◌≢◌, ◌∙◌, ℕ, ◌+◌, ◌≤◌, Bool, Some, None, Ok, Err, List, [], ◌∷◌, ◌++◌, length, map, arith, ap, refl, sym, subst, inl, inr}
+use Rattle.std.proofs.Common.{◌≡◌, ◌≢◌, ◌∙◌, ℕ, ◌+◌, ◌≤◌, Bool, Some, None, Ok, Err, List, [], ◌∷◌, length, map, arith, ap, refl, sym, subst, inl, inr}
 use Rattle.std.specs.Prelude.{◌⊎◌, MatchResult, Result}
 use Rattle.std.proofs.Math.Path.{fun_ext}
 use Rattle.std.proofs.lemmas.List.{length-map, map-append}

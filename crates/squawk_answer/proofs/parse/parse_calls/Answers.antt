@@ -1,4 +1,4 @@
-use Rattle.std.proofs.Common.{◌∙◌, Err, subst, sym}
+use Rattle.std.proofs.Common.{◌∙◌, Err, sym}
 use Rattle.squawk_document.specs.DocumentGrammars.{by_calls}
 use Rattle.squawk_table.specs.ParserInput.{input_of}
 use Rattle.squawk_table.specs.Shape.{Fits}
