@@ -1,5 +1,5 @@
 //! Parsers, the grammars that work with them, and the outputs that they leave.
-ghost use Rattle.squawk_log.specs.Draft.{HasNoHole};
+ghost use Rattle.squawk_output.specs.Draft.{HasNoHole};
 ghost use Rattle.squawk_parser.specs.State.{HasNotFailed, Keeps};
 
 use crate::fixture::notes::note_three;

@@ -1,5 +1,5 @@
 //! Grammars that look at nothing: their entry points always make the same calls.
-ghost use Rattle.squawk_log.specs.Draft.{HasNoHole};
+ghost use Rattle.squawk_output.specs.Draft.{HasNoHole};
 ghost use Rattle.squawk_parser.specs.State.{HasNotFailed, Keeps, IsFresh};
 
 use crate::keywords::NO_KEYWORDS;

@@ -1,6 +1,6 @@
 //! Parts of grammars that make calls, and grammars that are put together from them.
 ghost use Rattle.std.specs.Prelude.{◌≡◌};
-ghost use Rattle.squawk_log.specs.Draft.{holes_of};
+ghost use Rattle.squawk_output.specs.Draft.{holes_of};
 ghost use Rattle.squawk_parser.specs.State.{HasNotFailed, Keeps};
 
 use crate::kinds::ROOT;

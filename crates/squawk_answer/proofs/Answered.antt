@@ -10,7 +10,7 @@ use Rattle.squawk_table.specs.RawTable.{Table}
 use Rattle.squawk_table.specs.Sent.{sent_list}
 use Rattle.squawk_table.specs.Shape.{no_keywords}
 use Rattle.squawk_output.specs.Steps.{Step, Walk, eaten, errors_in}
-use Rattle.squawk_log.specs.Draft.{plain}
+use Rattle.squawk_output.specs.Draft.{plain}
 use Rattle.squawk_parser.specs.Parse.{IsParse, IsRefusalOf, IsRefused}
 use Rattle.squawk_parser.specs.State.{State}
 use Rattle.squawk_parser.specs.Words.{Words}

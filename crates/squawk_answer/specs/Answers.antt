@@ -14,7 +14,7 @@ use Rattle.squawk_table.specs.RawTable.{Table, table_of}
 use Rattle.squawk_table.specs.Sent.{sent_list}
 use Rattle.squawk_table.specs.Shape.{Fits, no_keywords}
 use Rattle.squawk_output.specs.Steps.{Step, eaten, is_error}
-use Rattle.squawk_log.specs.Draft.{plain}
+use Rattle.squawk_output.specs.Draft.{plain}
 use Rattle.squawk_parser.specs.Words.{Words}
 use Rattle.squawk_parser.specs.declared.parser.parse_error.ParseError.{ParseError}
 use Rattle.squawk_parser.specs.declared.parser.parse_error.ParseError.TheVariants as parse

@@ -7,7 +7,7 @@ use Rattle.std.proofs.lemmas.List.{append-nil}
 use Rattle.squawk_output.specs.Steps.{Step}
 use Rattle.squawk_output.specs.declared.event.Event.{Event}
 use Rattle.squawk_output.specs.declared.event.Event.TheVariants.{Finish}
-use Rattle.squawk_output.specs.EventLog.{Log, in_list_order, list_of, owned, owner, places, reaches, steps_of}
+use Rattle.squawk_output.specs.EventLog.{Log, in_list_order, list_of, owned, owner, places, reaches, steps_of_event}
 
 -- the least number below n that passes a test, or n
 abbrev pub least : (ℕ → Bool) → ℕ → ℕ
@@ -35,7 +35,7 @@ gathered owner_of items n = each (λ i. picked (λ j. owner_of j == i) items n) 
 -- the steps of the event at a place
 abbrev pub steps_at : Log → ℕ → List Step
 steps_at [] j = []
-steps_at (event ∷ log) zero = steps_of event
+steps_at (event ∷ log) zero = steps_of_event event
 steps_at (event ∷ log) (suc j) = steps_at log j
 
 -- ---- owners
@@ -111,11 +111,11 @@ module _ {X : Type 0} where
       (λ j c lt here. let place : c ≡ j = omega (arith, here) in let first : b ≡ i = omega (arith, e) in rw (place, first, owner-least log j lt) refl)
       (λ j c lt here. let place : c ≡ j = omega (arith, here) in rw place (gives j lt)))
 
-pub steps-here : (log : Log) (place : ℕ) (d : Event) → place < length log → steps_of (get_or log place d) ≡ steps_at log place
+pub steps-here : (log : Log) (place : ℕ) (d : Event) → place < length log → steps_of_event (get_or log place d) ≡ steps_at log place
 steps-here [] place d lt = absurd (omega arith)
 steps-here (x ∷ xs) zero d lt = refl
 steps-here (x ∷ xs) (suc n) d lt = steps-here xs n d (omega arith)
 
 -- both are the same list
 pub list_of-gathered : (log : Log) → list_of log ≡ gathered (least_owner log) (steps_at log) (length log)
-list_of-gathered log = in_list_order-gathered (λ (place, event). steps_of event) (steps_at log) log Finish (λ j lt. steps-here log j Finish lt)
+list_of-gathered log = in_list_order-gathered (λ (place, event). steps_of_event event) (steps_at log) log Finish (λ j lt. steps-here log j Finish lt)

@@ -6,7 +6,7 @@ use Rattle.squawk_output.specs.Steps as steps
 use Rattle.squawk_output.specs.Steps.{Step, errors_in}
 use Rattle.squawk_output.specs.declared.event.Event.{Event}
 use Rattle.squawk_output.specs.declared.event.Event.TheVariants.{Start, Finish, Token, Error}
-use Rattle.squawk_output.specs.EventLog.{Log, ahead, errors_of, is_error, list_of, steps_of}
+use Rattle.squawk_output.specs.EventLog.{Log, ahead, errors_logged, is_error_event, list_of, steps_of_event}
 use Rattle.squawk_output.specs.Chain.{erased, tombstone}
 use Rattle.squawk_output.proofs.Erased.{length-erased}
 use Rattle.squawk_output.proofs.Peel.{entered, list_of-cons}
@@ -19,29 +19,29 @@ errors-entering : (b : Bool) (kind : ℕ) → errors_in (if b then [] else steps
 errors-entering true kind = refl
 errors-entering false kind = refl
 
-errors-steps_of : (event : Event) → errors_in (steps_of event) ≡ cond (is_error event) 1 0
-errors-steps_of (Start kind link) = errors-entering (kind == TOMBSTONE) kind
-errors-steps_of Finish = refl
-errors-steps_of (Token kind n) = refl
-errors-steps_of (Error text) = refl
+errors-steps_of_event : (event : Event) → errors_in (steps_of_event event) ≡ cond (is_error_event event) 1 0
+errors-steps_of_event (Start kind link) = errors-entering (kind == TOMBSTONE) kind
+errors-steps_of_event Finish = refl
+errors-steps_of_event (Token kind n) = refl
+errors-steps_of_event (Error text) = refl
 
 -- a chain takes its errors out of the log
-errors-entered : (from : Option ℕ) (log : Log) → errors_in (entered from log) + errors_of (erased from log) ≡ errors_of log
+errors-entered : (from : Option ℕ) (log : Log) → errors_in (entered from log) + errors_logged (erased from log) ≡ errors_logged log
 errors-entered from [] = refl
 errors-entered None (x ∷ xs) = omega arith
 errors-entered (Some zero) (x ∷ xs) =
     omega (
       arith,
-      errors-append (entered (ahead x) xs) (steps_of x),
-      errors-steps_of x,
+      errors-append (entered (ahead x) xs) (steps_of_event x),
+      errors-steps_of_event x,
       errors-entered (ahead x) xs,
-      count_by-cons is_error x xs,
-      count_by-cons is_error tombstone (erased (ahead x) xs),
+      count_by-cons is_error_event x xs,
+      count_by-cons is_error_event tombstone (erased (ahead x) xs),
     )
 errors-entered (Some (suc n)) (x ∷ xs) =
-    omega (arith, errors-entered (Some n) xs, count_by-cons is_error x xs, count_by-cons is_error x (erased (Some n) xs))
+    omega (arith, errors-entered (Some n) xs, count_by-cons is_error_event x xs, count_by-cons is_error_event x (erased (Some n) xs))
 
-errors-list : (n : ℕ) (log : Log) → length log ≡ n → errors_in (list_of log) ≡ errors_of log
+errors-list : (n : ℕ) (log : Log) → length log ≡ n → errors_in (list_of log) ≡ errors_logged log
 errors-list n [] is = refl
 errors-list zero (x ∷ xs) is = absurd (omega arith)
 errors-list (suc n) (x ∷ xs) is =
@@ -49,13 +49,13 @@ errors-list (suc n) (x ∷ xs) is =
     omega (
       arith,
       ap errors_in (list_of-cons x xs),
-      errors-append (entered (ahead x) xs ++ steps_of x) (list_of left),
-      errors-append (entered (ahead x) xs) (steps_of x),
-      errors-steps_of x,
+      errors-append (entered (ahead x) xs ++ steps_of_event x) (list_of left),
+      errors-append (entered (ahead x) xs) (steps_of_event x),
+      errors-steps_of_event x,
       errors-list n left (length-erased (ahead x) xs ∙ (omega arith)),
       errors-entered (ahead x) xs,
-      count_by-cons is_error x xs,
+      count_by-cons is_error_event x xs,
     )
 
-pub errors_in-list_of : (log : Log) → errors_in (list_of log) ≡ errors_of log
+pub errors_in-list_of : (log : Log) → errors_in (list_of log) ≡ errors_logged log
 errors_in-list_of log = errors-list (length log) log refl

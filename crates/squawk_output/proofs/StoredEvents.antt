@@ -11,9 +11,9 @@ use Rattle.squawk_output.specs.declared.event.Event.{Event}
 use Rattle.squawk_output.specs.declared.event.Event.TheVariants as event
 use Rattle.squawk_output.specs.declared.event_list.stored_event.StoredEvent.{StoredEvent}
 use Rattle.squawk_output.specs.declared.event_list.stored_event.StoredEvent.TheVariants.{Hole, Start, Finish, Token, Error}
-use Rattle.squawk_output.specs.Chain.{LandsAt, forward_parent, hop, kind_of}
-use Rattle.squawk_output.specs.EventLog.{Lands, Log, errors_of, is_error, is_start, is_start_at}
-use Rattle.squawk_output.specs.StoredEvents.{HasText, HaveTexts, LeadsOn, Recorded, event_of, is_open, link_of, log_in, recorded_in}
+use Rattle.squawk_output.specs.Chain.{LandsAt, forward_parent, hop, node_kind}
+use Rattle.squawk_output.specs.EventLog.{Lands, Log, errors_logged, is_error_event, is_start, is_start_at}
+use Rattle.squawk_output.specs.StoredEvents.{HasEventText, HaveEventTexts, LeadsOn, Recorded, event_of, is_open, link_of, log_in, recorded_in}
 use Rattle.squawk_output.proofs.Links.{is_start_at-event, is_start_at-within}
 use Rattle.squawk_output.proofs.LogTurns.{one_if}
 use Rattle.squawk_output.proofs.Sums.{count_by-cons}
@@ -27,8 +27,8 @@ pub event_at : (texts : List (List ℕ)) (events : List StoredEvent) (place : �
     → event_of texts x ≡ get_or (log_in texts events) place d
 event_at texts events place x e d within is = ap (event_of texts) is ∙ sym (get_or-map (event_of texts) events place e d within)
 
-pub text_at : (texts : List (List ℕ)) (events : List StoredEvent) (place : ℕ) (x e : StoredEvent) → place < length events → HaveTexts texts events → x ≡ get_or events place e
-    → HasText texts x
+pub text_at : (texts : List (List ℕ)) (events : List StoredEvent) (place : ℕ) (x e : StoredEvent) → place < length events → HaveEventTexts texts events → x ≡ get_or events place e
+    → HasEventText texts x
 text_at texts events place x e within have is = rw is (have place e within)
 
 -- ---- one event more
@@ -36,8 +36,8 @@ text_at texts events place x e within have is = rw is (have place e within)
 pub log_in-push : (texts : List (List ℕ)) (events : List StoredEvent) (x : StoredEvent) → log_in texts (events ++ x ∷ []) ≡ log_in texts events ++ event_of texts x ∷ []
 log_in-push texts events x = map-append (event_of texts) events (x ∷ [])
 
-pub HaveTexts-push : (texts : List (List ℕ)) (events : List StoredEvent) (x : StoredEvent) → HasText texts x → HaveTexts texts events → HaveTexts texts (events ++ x ∷ [])
-HaveTexts-push texts events x has have = All-append (HasText texts) events (x ∷ []) have (All-cons (HasText texts) x [] has (All-nil (HasText texts)))
+pub HaveEventTexts-push : (texts : List (List ℕ)) (events : List StoredEvent) (x : StoredEvent) → HasEventText texts x → HaveEventTexts texts events → HaveEventTexts texts (events ++ x ∷ [])
+HaveEventTexts-push texts events x has have = All-append (HasEventText texts) events (x ∷ []) have (All-cons (HasEventText texts) x [] has (All-nil (HasEventText texts)))
 
 -- ---- one text more
 
@@ -45,46 +45,46 @@ module _ (texts : List (List ℕ)) (text : List ℕ) where
   abbrev more : List (List ℕ)
   more = texts ++ text ∷ []
 
-  event_of-more : (x : StoredEvent) → HasText texts x → event_of more x ≡ event_of texts x
+  event_of-more : (x : StoredEvent) → HasEventText texts x → event_of more x ≡ event_of texts x
   event_of-more Hole has = refl
   event_of-more (Start kind link) has = refl
   event_of-more Finish has = refl
   event_of-more (Token kind n) has = refl
   event_of-more (Error number) has = ap event.Error (get_or-append texts (text ∷ []) [] number has)
 
-  HasText-more : (x : StoredEvent) → HasText texts x → HasText more x
-  HasText-more Hole has = tt
-  HasText-more (Start kind link) has = tt
-  HasText-more Finish has = tt
-  HasText-more (Token kind n) has = tt
-  HasText-more (Error number) has = omega (arith, length-append texts (text ∷ []), has)
+  HasEventText-more : (x : StoredEvent) → HasEventText texts x → HasEventText more x
+  HasEventText-more Hole has = tt
+  HasEventText-more (Start kind link) has = tt
+  HasEventText-more Finish has = tt
+  HasEventText-more (Token kind n) has = tt
+  HasEventText-more (Error number) has = omega (arith, length-append texts (text ∷ []), has)
 
-  log_in-more : (events : List StoredEvent) → HaveTexts texts events → log_in more events ≡ log_in texts events
+  log_in-more : (events : List StoredEvent) → HaveEventTexts texts events → log_in more events ≡ log_in texts events
   log_in-more [] have = refl
   log_in-more (x ∷ xs) have =
       ap (λ y. y ∷ log_in more xs) (event_of-more x (have 0 x (omega arith)))
-      ∙ ap (λ ys. event_of texts x ∷ ys) (log_in-more xs (All-tail (HasText texts) x xs have))
+      ∙ ap (λ ys. event_of texts x ∷ ys) (log_in-more xs (All-tail (HasEventText texts) x xs have))
 
-  HaveTexts-more : (events : List StoredEvent) → HaveTexts texts events → HaveTexts more events
-  HaveTexts-more events have k d lt = HasText-more (get_or events k d) (have k d lt)
+  HaveEventTexts-more : (events : List StoredEvent) → HaveEventTexts texts events → HaveEventTexts more events
+  HaveEventTexts-more events have k d lt = HasEventText-more (get_or events k d) (have k d lt)
 
   -- the error that has it
-  pub log_in-error : (events : List StoredEvent) → HaveTexts texts events → log_in more (events ++ Error (length texts) ∷ []) ≡ log_in texts events ++ event.Error text ∷ []
+  pub log_in-error : (events : List StoredEvent) → HaveEventTexts texts events → log_in more (events ++ Error (length texts) ∷ []) ≡ log_in texts events ++ event.Error text ∷ []
   log_in-error events have =
       log_in-push more events (Error (length texts))
       ∙ (ap (λ y. log_in more events ++ event.Error y ∷ []) (get_or-append_seam texts text [] [])
       ∙ ap (λ ys. ys ++ event.Error text ∷ []) (log_in-more events have))
 
-  pub HaveTexts-error : (events : List StoredEvent) → HaveTexts texts events → HaveTexts more (events ++ Error (length texts) ∷ [])
-  HaveTexts-error events have = HaveTexts-push more events (Error (length texts)) (omega (arith, length-append texts (text ∷ []))) (HaveTexts-more events have)
+  pub HaveEventTexts-error : (events : List StoredEvent) → HaveEventTexts texts events → HaveEventTexts more (events ++ Error (length texts) ∷ [])
+  HaveEventTexts-error events have = HaveEventTexts-push more events (Error (length texts)) (omega (arith, length-append texts (text ∷ []))) (HaveEventTexts-more events have)
 
 -- ---- an event in another's place
 
 pub log_in-set : (texts : List (List ℕ)) (events : List StoredEvent) (place : ℕ) (x : StoredEvent) → log_in texts (set events place x) ≡ set (log_in texts events) place (event_of texts x)
 log_in-set texts events place x = map-set (event_of texts) events place x
 
-pub HaveTexts-set : (texts : List (List ℕ)) (events : List StoredEvent) (place : ℕ) (x : StoredEvent) → HasText texts x → HaveTexts texts events → HaveTexts texts (set events place x)
-HaveTexts-set texts events place x has have = All-set (HasText texts) events place x has have
+pub HaveEventTexts-set : (texts : List (List ℕ)) (events : List StoredEvent) (place : ℕ) (x : StoredEvent) → HasEventText texts x → HaveEventTexts texts events → HaveEventTexts texts (set events place x)
+HaveEventTexts-set texts events place x has have = All-set (HasEventText texts) events place x has have
 
 -- ---- as the code has it
 
@@ -99,7 +99,7 @@ link_of-none zero none distance is = cc
 link_of-none (suc n) none distance is = absurd (omega arith)
 
 -- a Start has its kind and its link
-start-is : (x : Event) → is_start x ≡ true → x ≡ event.Start (kind_of x) (forward_parent x)
+start-is : (x : Event) → is_start x ≡ true → x ≡ event.Start (node_kind x) (forward_parent x)
 start-is (event.Start kind link) is = refl
 start-is event.Finish is = absurd (cc)
 start-is (event.Token kind n) is = absurd (cc)
@@ -113,7 +113,7 @@ module _ (texts : List (List ℕ)) (events : List StoredEvent) (at next : ℕ) (
   pub link_within : at + next < length events
   link_within = omega (arith, is_start_at-within (log_in texts events) (at + next) lands_there, length-log_in texts events)
 
-  pub landed : (kind link : ℕ) (x e : StoredEvent) → x ≡ get_or events (at + next) e → kind_of (event_of texts x) ≡ kind
+  pub landed : (kind link : ℕ) (x e : StoredEvent) → x ≡ get_or events (at + next) e → node_kind (event_of texts x) ≡ kind
       → forward_parent (event_of texts x) ≡ link_of link → event_of texts x ≡ event.Start kind (link_of link)
   landed kind link x e got k l =
       let start : is_start (event_of texts x) ≡ true =
@@ -127,9 +127,9 @@ leads_on event.Finish log lands = tt
 leads_on (event.Token kind n) log lands = tt
 leads_on (event.Error text) log lands = tt
 
-pub errors_of-most : (log : Log) → errors_of log ≤ length log
-errors_of-most [] = omega arith
-errors_of-most (x ∷ xs) = omega (arith, count_by-cons is_error x xs, one_if-most (is_error x), errors_of-most xs)
+pub errors_logged-most : (log : Log) → errors_logged log ≤ length log
+errors_logged-most [] = omega arith
+errors_logged-most (x ∷ xs) = omega (arith, count_by-cons is_error_event x xs, one_if-most (is_error_event x), errors_logged-most xs)
   where
     one_if-most : (b : Bool) → one_if b ≤ 1
     one_if-most true = omega arith
@@ -142,7 +142,7 @@ module _ (texts : List (List ℕ)) (events : List StoredEvent) (old : Recorded)
       ≡ record { events = set old.events place (event.Start kind (link_of link)); marks = set old.marks place false; errors = old.errors }
   set-start place kind link = rw (log_in-set texts events place (Start kind link), map-set is_open events place (Start kind link), ← view) refl
 
-  pub push-error : (texts' : List (List ℕ)) (events' : List StoredEvent) (text : List ℕ) (number : ℕ) → HaveTexts texts events → texts' ≡ texts ++ text ∷ []
+  pub push-error : (texts' : List (List ℕ)) (events' : List StoredEvent) (text : List ℕ) (number : ℕ) → HaveEventTexts texts events → texts' ≡ texts ++ text ∷ []
       → events' ≡ events ++ Error number ∷ [] → number ≡ length texts
       → recorded_in texts' events'
       ≡ record { events = old.events ++ event.Error text ∷ []; marks = old.marks ++ false ∷ []; errors = old.errors + 1 }

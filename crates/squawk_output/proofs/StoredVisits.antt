@@ -7,9 +7,9 @@ use Rattle.squawk_output.specs.Steps.{Passed, Walk}
 use Rattle.squawk_output.specs.declared.event.Event.TheVariants as event
 use Rattle.squawk_output.specs.declared.event_list.stored_event.StoredEvent.{StoredEvent}
 use Rattle.squawk_output.specs.declared.event_list.stored_event.StoredEvent.TheVariants.{Error}
-use Rattle.squawk_output.specs.EventLog.{LinksLead, ahead, has_link, is_start, list_of, steps_of, turns_of}
+use Rattle.squawk_output.specs.EventLog.{LinksLead, ahead, has_link, is_start, list_of, steps_of_event, turns_of}
 use Rattle.squawk_output.specs.Pass.{PassesList, Visits}
-use Rattle.squawk_output.specs.StoredEvents.{HaveTexts, event_of, log_in}
+use Rattle.squawk_output.specs.StoredEvents.{HaveEventTexts, event_of, log_in}
 use Rattle.squawk_output.proofs.LogTurns.{one_if}
 use Rattle.squawk_output.proofs.StoredEvents.{event_at, length-log_in}
 use Rattle.squawk_output.proofs.Visits.{Visits-alone, begins-with}
@@ -25,7 +25,7 @@ module _ (texts : List (List ℕ)) (events : List StoredEvent) (place : ℕ) (wi
   -- an event without a link gives its step
   pub visits-alone : (output turned : Passed) → turned ≡ record output { turns = output.turns + 1 } → LinksLead (log_in texts events)
       → (y : StoredEvent) → x ≡ y → ahead (event_of texts y) ≡ None → has_link (event_of texts y) ≡ false
-      → (made : Passed) → made.steps ≡ turned.steps ++ steps_of (event_of texts y) → made.turns ≡ turned.turns + one_if (is_start (event_of texts y))
+      → (made : Passed) → made.steps ≡ turned.steps ++ steps_of_event (event_of texts y) → made.turns ≡ turned.turns + one_if (is_start (event_of texts y))
       → made.texts ≡ turned.texts → Visits (log_in texts events) output (log_in texts events) made place
   visits-alone output turned turn links y is alone unlinked made put turns same =
       let log = log_in texts events in
@@ -47,7 +47,7 @@ module _ (texts : List (List ℕ)) (events : List StoredEvent) (place : ℕ) (wi
 module _ (events : List StoredEvent) (texts : List (List ℕ)) (before : List StoredEvent) (output : Passed) (kinds : List ℕ) (place : ℕ)
     (list : PassesList events texts before output kinds place) where
   pub passes-next : (after : List StoredEvent) (made : Passed) (kinds' : List ℕ) → Visits (log_in output.texts before) output (log_in output.texts after) made place
-      → HaveTexts output.texts after → kinds' ≡ [] → PassesList events texts after made kinds' (place + 1)
+      → HaveEventTexts output.texts after → kinds' ≡ [] → PassesList events texts after made kinds' (place + 1)
   passes-next after made kinds' visits have none =
       let visit : Visits (log_in texts before) output (log_in texts after) made place = subst (λ (ts : List (List ℕ)). Visits (log_in ts before) output (log_in ts after) made place) list.same_texts visits in
       record {

@@ -4,7 +4,7 @@ use Rattle.std.proofs.Math.Seq.{drop-cons}
 use Rattle.squawk_output.specs.Steps.{Passed}
 use Rattle.squawk_output.specs.declared.event.Event.{Event}
 use Rattle.squawk_output.specs.declared.event.Event.TheVariants.{Start, Finish, Token, Error}
-use Rattle.squawk_output.specs.EventLog.{LinksLead, Log, ahead, entering, has_link, is_start, list_of, steps_of, turns_of}
+use Rattle.squawk_output.specs.EventLog.{LinksLead, Log, ahead, entering, has_link, is_start, list_of, steps_of_event, turns_of}
 use Rattle.squawk_output.specs.Chain.{LandsAt, chain, entered_back, erased, hop, tombstone}
 use Rattle.squawk_output.specs.Pass.{Visits}
 use Rattle.squawk_output.proofs.Erased.{length-erased}
@@ -86,10 +86,10 @@ module _ (log : Log) (place : ℕ) (d : Event) (within : place < length log) whe
   abbrev left : Log
   left = drop (suc place) (erased (Some place) log)
 
-  list-here : list_of (drop place log) ≡ (entered (ahead here) behind ++ steps_of here) ++ list_of left
+  list-here : list_of (drop place log) ≡ (entered (ahead here) behind ++ steps_of_event here) ++ list_of left
   list-here =
       ap list_of (drop-cons log place d within)
-      ∙ (list_of-cons here behind ∙ ap (λ ys. (entered (ahead here) behind ++ steps_of here) ++ list_of ys) (sym (drop-erased log place d within)))
+      ∙ (list_of-cons here behind ∙ ap (λ ys. (entered (ahead here) behind ++ steps_of_event here) ++ list_of ys) (sym (drop-erased log place d within)))
 
   module _ (links : LinksLead log) (kind : ℕ) (link : Option ℕ) (is : here ≡ Start kind link) where
     lands : LandsAt behind (ahead (Start kind link))
@@ -116,9 +116,9 @@ module _ (log : Log) (place : ℕ) (d : Event) (within : place < length log) whe
           link_turns-ahead kind link,
         )
 
-    entered-here : entered (ahead here) behind ++ steps_of here ≡ entered_back (chain (Some place) log)
+    entered-here : entered (ahead here) behind ++ steps_of_event here ≡ entered_back (chain (Some place) log)
     entered-here =
-        ap (λ x. entered (ahead x) behind ++ steps_of x) is
+        ap (λ x. entered (ahead x) behind ++ steps_of_event x) is
         ∙ (ap (λ ys. ys ++ entering kind) (entered-chain (ahead (Start kind link)) behind (LinksLead-drop log (suc place) links) lands)
         ∙ ap entered_back (sym chain-here))
 
@@ -163,28 +163,28 @@ begins-with log place x d event within got is = rw add-one (drop-cons log place 
 module _ (log : Log) (output turned : Passed) (place : ℕ) (turn : turned ≡ record output { turns = output.turns + 1 }) where
   module _ (event : Event) (begins : drop place log ≡ event ∷ drop (place + 1) log) (alone : ahead event ≡ None) where
     -- an event without a link begins the list of the log with its step
-    list-alone : list_of (drop place log) ≡ steps_of event ++ list_of (drop (place + 1) log)
+    list-alone : list_of (drop place log) ≡ steps_of_event event ++ list_of (drop (place + 1) log)
     list-alone =
         let behind = drop (place + 1) log in
         ap list_of begins
         ∙ (list_of-cons event behind
-        ∙ (ap (λ from. (entered from behind ++ steps_of event) ++ list_of (erased from behind)) alone
+        ∙ (ap (λ from. (entered from behind ++ steps_of_event event) ++ list_of (erased from behind)) alone
         ∙ rw (entered-None behind, erased-None behind) refl))
 
     -- and it gives that step
     pub Visits-alone : (after : Log) (made : Passed) → length after ≡ length log → LinksLead after → drop (suc place) after ≡ drop (suc place) log
-        → has_link event ≡ false → made.steps ≡ turned.steps ++ steps_of event → made.turns ≡ turned.turns + one_if (is_start event)
+        → has_link event ≡ false → made.steps ≡ turned.steps ++ steps_of_event event → made.turns ≡ turned.turns + one_if (is_start event)
         → made.texts ≡ turned.texts → Visits log output after made place
     Visits-alone after made same links behind unlinked put turns same_texts =
         let rest : drop (place + 1) after ≡ drop (place + 1) log = rw add-one behind in
-        let steps : made.steps ≡ output.steps ++ steps_of event = rw (put, turn) refl in
+        let steps : made.steps ≡ output.steps ++ steps_of_event event = rw (put, turn) refl in
         record {
           same_length = same;
           links = links;
           steps =
               ap (λ ys. ys ++ list_of (drop (place + 1) after)) steps
-              ∙ (append_assoc output.steps (steps_of event) (list_of (drop (place + 1) after))
-              ∙ ap (λ ys. output.steps ++ ys) (ap (λ ys. steps_of event ++ list_of ys) rest ∙ sym list-alone));
+              ∙ (append_assoc output.steps (steps_of_event event) (list_of (drop (place + 1) after))
+              ∙ ap (λ ys. output.steps ++ ys) (ap (λ ys. steps_of_event event ++ list_of ys) rest ∙ sym list-alone));
           turns =
               omega (
                 arith,

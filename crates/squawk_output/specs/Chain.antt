@@ -20,9 +20,10 @@ abbrev pub LandsAt : Log → Option ℕ → Type 0
 LandsAt log None = Unit {0}
 LandsAt log (Some place) = is_start_at log place ≡ true
 
-abbrev pub kind_of : Event → ℕ
-kind_of (Start kind link) = kind
-kind_of event = TOMBSTONE
+-- the kind of the node that an event begins; TOMBSTONE where it begins none
+abbrev pub node_kind : Event → ℕ
+node_kind (Start kind link) = kind
+node_kind event = TOMBSTONE
 
 -- the link of an event, if it has one
 abbrev pub forward_parent : Event → Option ℕ
@@ -33,7 +34,7 @@ forward_parent event = None
 abbrev pub chain : Option ℕ → Log → List ℕ
 chain place [] = []
 chain None (event ∷ log) = []
-chain (Some zero) (event ∷ log) = kind_of event ∷ chain (ahead event) log
+chain (Some zero) (event ∷ log) = node_kind event ∷ chain (ahead event) log
 chain (Some (suc n)) (event ∷ log) = chain (Some n) log
 
 -- the log with those events taken out

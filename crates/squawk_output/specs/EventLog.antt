@@ -52,15 +52,15 @@ abbrev pub entering : ℕ → List steps.Step
 entering kind = if kind == TOMBSTONE then [] else steps.Enter kind ∷ []
 
 -- the steps of an event
-abbrev pub steps_of : Event → List steps.Step
-steps_of (Start kind link) = entering kind
-steps_of Finish = steps.Exit ∷ []
-steps_of (Token kind n) = steps.Token kind n ∷ []
-steps_of (Error text) = steps.Error text ∷ []
+abbrev pub steps_of_event : Event → List steps.Step
+steps_of_event (Start kind link) = entering kind
+steps_of_event Finish = steps.Exit ∷ []
+steps_of_event (Token kind n) = steps.Token kind n ∷ []
+steps_of_event (Error text) = steps.Error text ∷ []
 
 -- The list of a log: in order, for each place, the steps of the events that it owns, the farthest along the links first.
 abbrev pub list_of : Log → List steps.Step
-list_of log = flat_map (λ (place, event). steps_of event) (in_list_order log)
+list_of log = flat_map (λ (place, event). steps_of_event event) (in_list_order log)
 
 -- ---- the turns of a log
 
@@ -78,13 +78,13 @@ turns_of log = length log + count_by is_start log + 2 * count_by has_link log
 
 -- ---- the errors of a log
 
-abbrev pub is_error : Event → Bool
-is_error (Error text) = true
-is_error event = false
+abbrev pub is_error_event : Event → Bool
+is_error_event (Error text) = true
+is_error_event event = false
 
 -- how many of its events are errors
-abbrev pub errors_of : Log → ℕ
-errors_of log = count_by is_error log
+abbrev pub errors_logged : Log → ℕ
+errors_logged log = count_by is_error_event log
 
 -- ---- logs whose links lead to later Starts
 

@@ -5,3 +5,6 @@ pub mod StoredEvents
 pub mod EventLog
 pub mod Chain
 pub mod Pass
+pub mod Draft
+pub mod Edits
+pub mod LogDraft

@@ -3,7 +3,7 @@ use Rattle.std.specs.Prelude.{◌≡◌, ℕ, ◌+◌, Option, List, [], ◌++�
 use Rattle.squawk_output.specs.Steps.{Passed}
 use Rattle.squawk_output.specs.EventLog.{Log, LinksLead, list_of, turns_of}
 use Rattle.squawk_output.specs.Chain.{LandsAt, chain, entered_back, erased}
-use Rattle.squawk_output.specs.StoredEvents.{HaveTexts, log_in}
+use Rattle.squawk_output.specs.StoredEvents.{HaveEventTexts, log_in}
 use Rattle.squawk_output.specs.declared.event_list.stored_event.StoredEvent.{StoredEvent}
 
 -- A chain is followed from a place: what is left of it, and what it has found so far, are what it finds in all.
@@ -42,5 +42,5 @@ pub record Passes (log : Log) (log' : Log) (output : Passed) (kinds : List ℕ) 
 -- The same of a list of events, beside the texts of its errors.
 pub record PassesList (events : List StoredEvent) (texts : List (List ℕ)) (events' : List StoredEvent) (output : Passed) (kinds : List ℕ) (place : ℕ) : Type 0 where
   pub passes : Passes (log_in texts events) (log_in texts events') output kinds place
-  pub have_texts : HaveTexts texts events'
+  pub have_texts : HaveEventTexts texts events'
   pub same_texts : output.texts ≡ texts

@@ -1,7 +1,7 @@
 -- The events of a log as a list keeps them.
 use Rattle.std.specs.Prelude.{◌≡◌, ℕ, ◌==◌, ◌<◌, ◌+◌, Bool, true, false, Option, Some, None, All, List, [], length, map, slice_index_or, if◌then◌else◌}
 use Rattle.squawk_output.specs.Chain.{tombstone}
-use Rattle.squawk_output.specs.EventLog.{LinksLead, Log, errors_of}
+use Rattle.squawk_output.specs.EventLog.{LinksLead, Log, errors_logged}
 use Rattle.squawk_output.specs.declared.event.Event.{Event}
 use Rattle.squawk_output.specs.declared.event.Event.TheVariants as event
 use Rattle.squawk_output.specs.declared.event_list.stored_event.StoredEvent.{StoredEvent}
@@ -30,17 +30,17 @@ is_open Hole = true
 is_open stored = false
 
 -- the text is there
-abbrev pub HasText : List (List ℕ) → StoredEvent → Type 0
-HasText texts (Error number) = number < length texts
-HasText texts stored = Unit {0}
+abbrev pub HasEventText : List (List ℕ) → StoredEvent → Type 0
+HasEventText texts (Error number) = number < length texts
+HasEventText texts stored = Unit {0}
 
 -- the log that is kept so
 abbrev pub log_in : List (List ℕ) → List StoredEvent → Log
 log_in texts events = map (event_of texts) events
 
 -- the text of every error is there
-abbrev pub HaveTexts : List (List ℕ) → List StoredEvent → Type 0
-HaveTexts texts events = All (HasText texts) events
+abbrev pub HaveEventTexts : List (List ℕ) → List StoredEvent → Type 0
+HaveEventTexts texts events = All (HasEventText texts) events
 
 -- What a list of events is for a log that is recorded in it: the events, which of them are open markers', and how many texts of
 -- errors it has.
@@ -56,6 +56,6 @@ recorded_in texts events = record { events = log_in texts events; marks = map is
 -- A log is copied event by event: so many were, and these are left.
 pub record Copies (log copied left : Log) (list : Recorded) : Type 0 where
   pub events : list.events ≡ copied
-  pub errors : list.errors ≡ errors_of copied
+  pub errors : list.errors ≡ errors_logged copied
   pub links : LinksLead left
   pub whole : length copied + length left ≡ length log

@@ -1,7 +1,7 @@
 //! Events, and the output of a log of them.
 ghost use Rattle.std.specs.Prelude.{◌≡◌, ◌<◌, ◌≤◌, ◌^◌, length, IfOk};
 ghost use Rattle.squawk_output.specs.Chain.{tombstone};
-ghost use Rattle.squawk_output.specs.EventLog.{LinksLead, errors_of, list_of, turns_of};
+ghost use Rattle.squawk_output.specs.EventLog.{LinksLead, errors_logged, list_of, turns_of};
 
 use crate::event_list::EventList;
 use crate::output::{Output, Text};
@@ -78,7 +78,7 @@ impl Event {
 pub fn process(alloc: Global, events: Vec<Event>, recorded: u32) -> Result<Output, AllocError>
     requires few { length events.items < 2 ^ 32 }
     requires links { LinksLead events.items }
-    requires errors { errors_of events.items ≤ 2147483648 }
+    requires errors { errors_logged events.items ≤ 2147483648 }
     ensures { IfOk result (λ output. output ≡ record { steps = list_of events.items; recorded = recorded; turns = turns_of events.items }) }
 {
     EventList::of(alloc, events)?.pass(alloc, recorded)

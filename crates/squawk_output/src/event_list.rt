@@ -1,7 +1,7 @@
 //! The list in which a log keeps its events.
 ghost use Rattle.std.specs.Prelude.{◌≡◌, ◌≢◌, ◌<◌, ◌≤◌, ◌+◌, ◌^◌, ◌++◌, ◌∷◌, [], Bool, false, true, length, set, IfOk, OnOk, OnErr};
 ghost use Rattle.squawk_output.specs.Chain.{tombstone};
-ghost use Rattle.squawk_output.specs.EventLog.{LinksLead, errors_of, list_of, turns_of};
+ghost use Rattle.squawk_output.specs.EventLog.{LinksLead, errors_logged, list_of, turns_of};
 ghost use Rattle.squawk_output.specs.StoredEvents.{LeadsOn, link_of};
 ghost use Rattle.squawk_output.specs.declared.event.Event.{Event};
 
@@ -26,13 +26,13 @@ pub struct EventList {
 }
 
 impl Model for EventList {
-    ghost use Rattle.squawk_output.specs.StoredEvents.{HaveTexts, Recorded, recorded_in};
+    ghost use Rattle.squawk_output.specs.StoredEvents.{HaveEventTexts, Recorded, recorded_in};
 
     ghost Value = { Recorded };
 
     ghost view = { λ l. recorded_in l.errors.items l.events.items };
 
-    ghost invariant = { λ l. HaveTexts l.errors.items l.events.items };
+    ghost invariant = { λ l. HaveEventTexts l.errors.items l.events.items };
 }
 
 impl EventList {
@@ -55,7 +55,7 @@ impl EventList {
         requires few { length log.items < 2 ^ 32 }
         requires links { LinksLead log.items }
         ensures events { IfOk result (λ list. list.events ≡ log.items) }
-        ensures errors { IfOk result (λ list. list.errors ≡ errors_of log.items) }
+        ensures errors { IfOk result (λ list. list.errors ≡ errors_logged log.items) }
     {
         let mut list = EventList {
             events: Vec::with_capacity(alloc, log.len())?,
@@ -139,7 +139,7 @@ impl EventList {
         requires leads { LeadsOn event }
         requires errors { self.old.errors < 2 ^ 32 }
         ensures events { OnOk result (self.new.events ≡ self.old.events ++ event ∷ []) }
-        ensures errors { OnOk result (self.new.errors ≡ self.old.errors + errors_of (event ∷ [])) }
+        ensures errors { OnOk result (self.new.errors ≡ self.old.errors + errors_logged (event ∷ [])) }
     {
         match event {
             Event::Start {

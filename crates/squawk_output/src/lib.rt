@@ -1,15 +1,17 @@
 //! Steps, outputs and events, and the one pass that makes an output of a log of events.
 //!
-//! [`process`] and [`EventList::pass`] end in that pass; they and [`Output::empty`] make outputs, and
-//! nothing else does. `squawk_parser` hands on all that is public here but [`EventList`], in which
-//! `squawk_log` records.
+//! [`process`] and [`EventLog::finish`] end in that pass; they and [`Output::empty`] make outputs, and
+//! nothing else does. `squawk_parser` hands on all that is public here but [`EventLog`], in which it
+//! records.
 #![tactic(auto)]
 
 pub mod event;
 pub mod event_list;
+pub mod log;
 pub mod output;
 mod pass;
 
 pub use event::{Event, process};
 pub use event_list::EventList;
+pub use log::{EventLog, Made};
 pub use output::{Output, Step, StepCounts, Steps, Text};

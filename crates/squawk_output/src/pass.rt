@@ -3,7 +3,7 @@ ghost use Rattle.std.specs.Prelude.{◌≡◌, ◌<◌, ◌≤◌, ◌+◌, ◌^
 ghost use Rattle.squawk_output.specs.Chain.{LandsAt, chain, entered_back, erased, hop};
 ghost use Rattle.squawk_output.specs.EventLog.{LinksLead, entering, list_of, turns_of};
 ghost use Rattle.squawk_output.specs.Pass.{Visits};
-ghost use Rattle.squawk_output.specs.StoredEvents.{HaveTexts, link_of, log_in};
+ghost use Rattle.squawk_output.specs.StoredEvents.{HaveEventTexts, link_of, log_in};
 
 use crate::event_list::stored_event::StoredEvent;
 use crate::output::passed::PassedSteps;
@@ -22,7 +22,7 @@ pub(crate) fn pass(
 ) -> Result<Output, AllocError>
     requires few { length events.items < 2 ^ 32 }
     requires links { LinksLead (log_in errors.items events.items) }
-    requires texts { HaveTexts errors.items events.items }
+    requires texts { HaveEventTexts errors.items events.items }
     requires errors { length errors.items ≤ 2147483648 }
     ensures { IfOk result (λ output. output ≡ record { steps = list_of (log_in errors.items events.items); recorded = recorded; turns = turns_of (log_in errors.items events.items) }) }
 {
@@ -46,11 +46,11 @@ fn visit(
     requires turns { passed.old.turns < 2 ^ 35 }
     requires within { place < length events.old.items }
     requires links { LinksLead (log_in passed.old.texts events.old.items) }
-    requires texts { HaveTexts passed.old.texts events.old.items }
+    requires texts { HaveEventTexts passed.old.texts events.old.items }
     requires errors { length passed.old.texts ≤ 2147483648 }
     requires none { kinds.old.items ≡ [] }
     ensures visits { IfOk result (λ _. Visits (log_in passed.old.texts events.old.items) passed.old (log_in passed.old.texts events.new.items) passed.new place) }
-    ensures texts { IfOk result (λ _. HaveTexts passed.old.texts events.new.items) }
+    ensures texts { IfOk result (λ _. HaveEventTexts passed.old.texts events.new.items) }
     ensures none { IfOk result (λ _. kinds.new.items ≡ []) }
 {
     passed.turn();
@@ -81,10 +81,10 @@ fn follow(
     requires few { length events.old.items < 2 ^ 32 }
     requires turns { passed.old.turns + length events.old.items < 2 ^ 64 }
     requires links { LinksLead (log_in passed.old.texts events.old.items) }
-    requires texts { HaveTexts passed.old.texts events.old.items }
+    requires texts { HaveEventTexts passed.old.texts events.old.items }
     requires lands { LandsAt (log_in passed.old.texts events.old.items) (hop place (link_of link)) }
     ensures events { IfOk result (λ _. log_in passed.old.texts events.new.items ≡ erased (hop place (link_of link)) (log_in passed.old.texts events.old.items)) }
-    ensures texts { IfOk result (λ _. HaveTexts passed.old.texts events.new.items) }
+    ensures texts { IfOk result (λ _. HaveEventTexts passed.old.texts events.new.items) }
     ensures kinds { IfOk result (λ _. kinds.new.items ≡ kinds.old.items ++ chain (hop place (link_of link)) (log_in passed.old.texts events.old.items)) }
     ensures passed { IfOk result (λ _. passed.new ≡ record passed.old { turns = passed.old.turns + length (chain (hop place (link_of link)) (log_in passed.old.texts events.old.items)) }) }
 {

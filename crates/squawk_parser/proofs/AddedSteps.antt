@@ -3,8 +3,8 @@ use Rattle.std.proofs.Common.{◌≡◌, ◌≢◌, ◌∙◌, ℕ, ◌<◌, tru
 use Rattle.std.specs.Prelude.{All, Contains}
 use Rattle.std.proofs.lemmas.List.Elements.{All-nil, All-cons, All-head, All-append, Contains-append_left}
 use Rattle.squawk_output.specs.Steps.{Step, Enter, Exit}
-use Rattle.squawk_log.specs.Draft.{Item, Mark, Node, Hole, Open, Close, ByStart, ByPrecede, HasNoHole, IsAboveIds, ids, is_hole, plain}
-use Rattle.squawk_log.specs.Edits.{completed, filled, is_opening_of, preceded, preceded_item, replaced, started}
+use Rattle.squawk_output.specs.Draft.{Item, Mark, Node, Hole, Open, Close, ByStart, ByPrecede, HasNoHole, IsAboveIds, ids, is_hole, plain}
+use Rattle.squawk_output.specs.Edits.{completed, filled, is_opening_of, preceded, preceded_item, replaced, started}
 use Rattle.squawk_parser.specs.Composed.{Adds, AddsNode}
 use Rattle.squawk_parser.specs.Eaten.{node}
 use Rattle.squawk_parser.specs.Recorded.{Puts}

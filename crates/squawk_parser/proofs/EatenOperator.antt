@@ -4,7 +4,7 @@ use Rattle.std.proofs.lemmas.List.{map-append}
 use Rattle.squawk_kinds.specs.Kinds.{EOF}
 use Rattle.squawk_table.specs.ParserInput.{Entry, kind_in}
 use Rattle.squawk_parser.specs.Eaten.{one}
-use Rattle.squawk_log.specs.Edits.{with_token}
+use Rattle.squawk_output.specs.Edits.{with_token}
 use Rattle.squawk_parser.specs.Operators.{is_operator_name, longest_name, operator_length, touching_run}
 use Rattle.squawk_parser.specs.Recorded.{Puts}
 use Rattle.squawk_parser.specs.State.{State, Keeps, Records, ahead, kind_at}

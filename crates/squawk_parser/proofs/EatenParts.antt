@@ -11,7 +11,7 @@ use Rattle.squawk_output.specs.Steps.{Step, eaten}
 use Rattle.squawk_parser.specs.CompositeRows.{element_of}
 use Rattle.squawk_parser.specs.Composites.{Element, One, HasNoEndKind, do_touch, normal_form, normal_forms, sequence_length}
 use Rattle.squawk_parser.specs.Eaten.{element_steps, one}
-use Rattle.squawk_log.specs.Edits.{with_token}
+use Rattle.squawk_output.specs.Edits.{with_token}
 use Rattle.squawk_parser.specs.LookAhead.{touches_next}
 use Rattle.squawk_parser.specs.Recorded.{Puts}
 use Rattle.squawk_parser.specs.State.{State, Keeps, Records, ahead}

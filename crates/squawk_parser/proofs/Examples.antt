@@ -1,8 +1,8 @@
 -- The definitions of drafts on small ones: what they give is worked out by hand.
 use Rattle.std.proofs.Common.{◌≡◌, true, false, [], ◌∷◌, refl}
-use Rattle.squawk_log.specs.Draft as items
-use Rattle.squawk_log.specs.Draft.{Draft, nothing, errors_of, plain}
-use Rattle.squawk_log.specs.Edits.{abandoned, completed, extended, preceded, started, with_token, with_error}
+use Rattle.squawk_output.specs.Draft as items
+use Rattle.squawk_output.specs.Draft.{Draft, nothing, errors_of, plain}
+use Rattle.squawk_output.specs.Edits.{abandoned, completed, extended, preceded, started, with_token, with_error}
 use Rattle.squawk_output.specs.Steps as steps
 use Rattle.squawk_table.proofs.Examples.{crossing_steps}
 

@@ -4,8 +4,8 @@ use Rattle.std.specs.Prelude.{Contains, count_by, drop}
 use Rattle.std.proofs.lemmas.Bool.{eqb-true, eq-eqb}
 use Rattle.squawk_output.specs.Steps as steps
 use Rattle.squawk_output.specs.Steps.{eaten, count_of}
-use Rattle.squawk_log.specs.Draft.{Made, Item, Hole, Open, Close, Token, Error, ids, ids_of, plain, HasNoIdTwice}
-use Rattle.squawk_log.specs.Edits.{filled, is_hole_of}
+use Rattle.squawk_output.specs.Draft.{Made, Item, Hole, Open, Close, Token, Error, ids, ids_of, plain, HasNoIdTwice}
+use Rattle.squawk_output.specs.Edits.{filled, is_hole_of}
 use Rattle.squawk_table.specs.ParserInput.{Entry}
 use Rattle.squawk_table.specs.Shape.{IsOver}
 use Rattle.std.proofs.lemmas.List.Sums.{sum_by-cons}

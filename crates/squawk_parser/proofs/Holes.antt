@@ -5,8 +5,8 @@ use Rattle.std.proofs.lemmas.Bool.{eqb-true, eqb-false, eq-eqb, ne_eqb}
 use Rattle.std.proofs.lemmas.List.{append-nil}
 use Rattle.std.proofs.lemmas.List.Elements.{All-nil, All-cons, All-head, All-tail, All-filter, All-contains, All-contains_itself, Contains-push, filter-append}
 use Rattle.squawk_kinds.specs.Kinds.{EOF}
-use Rattle.squawk_log.specs.Draft.{Item, Hole, Open, Close, Token, Error, Made, ByStart, is_hole, ids, holes_of, HasNoHole, IsAboveIds}
-use Rattle.squawk_log.specs.Edits.{started, completed, filled, with_token, is_hole_of}
+use Rattle.squawk_output.specs.Draft.{Item, Hole, Open, Close, Token, Error, Made, ByStart, is_hole, ids, holes_of, HasNoHole, IsAboveIds}
+use Rattle.squawk_output.specs.Edits.{started, completed, filled, with_token, is_hole_of}
 use Rattle.squawk_parser.specs.Eaten.{EatsWith}
 use Rattle.squawk_parser.specs.Recorded.{Puts}
 use Rattle.squawk_parser.specs.State.{State, HasNotFailed, Keeps, Records, IsFresh, kind_at}

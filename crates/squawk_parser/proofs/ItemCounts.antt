@@ -1,8 +1,8 @@
 -- How many items there are after an edit.
 use Rattle.std.proofs.Common.{◌≡◌, ◌∙◌, ℕ, ◌+◌, ◌*◌, ◌≤◌, Bool, true, false, List, [], ◌∷◌, ◌++◌, cond, length, arith, ap, refl, length-append}
 use Rattle.std.specs.Prelude.{count_by}
-use Rattle.squawk_log.specs.Draft.{Draft, Made, Node, Item, Hole, Open, Close, Token, Error, HasNoIdTwice, plain, steps_of}
-use Rattle.squawk_log.specs.Edits.{extended_items, filled, is_hole_of, is_opening_of, moved, preceded_item, replaced, stands_before, without_hole}
+use Rattle.squawk_output.specs.Draft.{Draft, Made, Node, Item, Hole, Open, Close, Token, Error, HasNoIdTwice, plain, steps_of_item}
+use Rattle.squawk_output.specs.Edits.{extended_items, filled, is_hole_of, is_opening_of, moved, preceded_item, replaced, stands_before, without_hole}
 use Rattle.squawk_output.proofs.Sums.{count_by-cons}
 use Rattle.squawk_parser.proofs.Splits.{openings-once}
 
@@ -63,7 +63,7 @@ length-preceded node id made items once =
       openings-once node items once,
     )
 
-one_step : (item : Item) → length (steps_of item) ≤ 1
+one_step : (item : Item) → length (steps_of_item item) ≤ 1
 one_step (Hole i made) = omega arith
 one_step (Open i kind free) = omega arith
 one_step Close = omega arith
@@ -73,4 +73,4 @@ one_step (Error text) = omega arith
 -- the plain list has no more steps than there are items
 pub length-plain : (items : List Item) → length (plain items) ≤ length items
 length-plain [] = omega arith
-length-plain (item ∷ items) = omega (arith, length-append (steps_of item) (plain items), one_step item, length-plain items)
+length-plain (item ∷ items) = omega (arith, length-append (steps_of_item item) (plain items), one_step item, length-plain items)

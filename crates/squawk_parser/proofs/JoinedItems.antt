@@ -3,9 +3,9 @@ use Rattle.std.proofs.Common.{◌≡◌, ◌≢◌, ◌∙◌, ℕ, ◌+◌, ◌
 use Rattle.std.specs.Prelude.{All, count_by}
 use Rattle.std.proofs.lemmas.Bool.{ne_eqb}
 use Rattle.std.proofs.lemmas.List.Elements.{All-head, All-tail, All-append, All-weaker}
-use Rattle.squawk_log.specs.Draft.{Item, Made, Hole, Open, Close, Token, Error, HasNoHole, IsAboveIds, ids}
-use Rattle.squawk_log.specs.Edits.{filled, is_opening_of, preceded_item, replaced}
-use Rattle.squawk_log.proofs.Groups.{itself}
+use Rattle.squawk_output.specs.Draft.{Item, Made, Hole, Open, Close, Token, Error, HasNoHole, IsAboveIds, ids}
+use Rattle.squawk_output.specs.Edits.{filled, is_opening_of, preceded_item, replaced}
+use Rattle.squawk_output.proofs.Groups.{itself}
 use Rattle.squawk_output.proofs.Sums.{count_by-cons}
 use Rattle.squawk_parser.proofs.RecordedItems.{ids-append, filled-append, All-front, filled-below, filled-closed, filled-here}
 use Rattle.squawk_parser.proofs.Splits.{All-back, replaced-at}

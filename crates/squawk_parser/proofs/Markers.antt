@@ -3,13 +3,13 @@ use Rattle.std.proofs.Common.{◌≡◌, ◌∙◌, ℕ, ◌==◌, Bool, true, f
 use Rattle.std.specs.Prelude.{Contains, filter, not}
 use Rattle.std.proofs.lemmas.List.Elements.{Contains-append_left, filter-append}
 use Rattle.squawk_output.specs.Steps.{Step}
-use Rattle.squawk_log.specs.Draft.{Draft, Item, Made, Hole, Open, Close, Token, Error, Mark, Node, ByStart, ByPrecede, HasNoIdTwice, holes_of, is_hole}
-use Rattle.squawk_log.specs.Edits.{abandoned, completed, extended, extended_items, filled, is_hole_of, is_opening_of, moved, preceded, replaced, stands_before, started, without_hole}
+use Rattle.squawk_output.specs.Draft.{Draft, Item, Made, Hole, Open, Close, Token, Error, Mark, Node, ByStart, ByPrecede, HasNoIdTwice, holes_of, is_hole}
+use Rattle.squawk_output.specs.Edits.{abandoned, completed, extended, extended_items, filled, is_hole_of, is_opening_of, moved, preceded, replaced, stands_before, started, without_hole}
 use Rattle.squawk_parser.specs.Recorded.{Puts}
 use Rattle.squawk_parser.specs.State.{State, Changes, HasNotFailed, HasHole, HasNode, Records}
 use Rattle.squawk_parser.specs.declared.parser.parse_error.ParseError.{ParseError}
 use Rattle.squawk_parser.proofs.SoundMoves.{preceded-split}
-use Rattle.squawk_log.proofs.Groups.{itself}
+use Rattle.squawk_output.proofs.Groups.{itself}
 use Rattle.squawk_parser.proofs.Splits.{split, Contains-behind, here, replaced-append}
 
 -- ---- items

@@ -3,8 +3,8 @@ use Rattle.std.proofs.Common.{◌≡◌, ◌∙◌, ℕ, zero, suc, ◌<◌, ◌
 use Rattle.std.specs.Prelude.{All, Contains}
 use Rattle.std.proofs.lemmas.Bool.{eq-eqb, ne_eqb}
 use Rattle.std.proofs.lemmas.List.Elements.{All-head, All-tail, Contains-push}
-use Rattle.squawk_log.specs.Draft.{Item, Hole, Open, Close, Token, Error, Made, Node, ByStart, ByPrecede, holes_of, IsAboveIds}
-use Rattle.squawk_log.specs.Edits.{completed, preceded, abandoned, extended, replaced, is_opening_of, preceded_item, started}
+use Rattle.squawk_output.specs.Draft.{Item, Hole, Open, Close, Token, Error, Made, Node, ByStart, ByPrecede, holes_of, IsAboveIds}
+use Rattle.squawk_output.specs.Edits.{completed, preceded, abandoned, extended, replaced, is_opening_of, preceded_item, started}
 use Rattle.squawk_parser.specs.State.{State, HasNotFailed, Keeps, Records, Changes}
 use Rattle.squawk_parser.proofs.Markers.{holes-abandoned, holes-extended, node-completed, went-changed}
 use Rattle.squawk_parser.proofs.TailHoles.{went-kept}

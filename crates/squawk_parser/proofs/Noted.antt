@@ -1,7 +1,7 @@
 -- A parser whose log has grown, or was refused that, and which notes it.
 use Rattle.std.proofs.Common.{◌≡◌, Option, Some, refl, subst}
 use Rattle.std.specs.Prelude.{Result, Ok, Err, IsOk, IsErr, OnOk, OnErr}
-use Rattle.squawk_log.specs.Draft.{Draft}
+use Rattle.squawk_output.specs.Draft.{Draft}
 use Rattle.squawk_parser.specs.State.{State}
 use Rattle.squawk_parser.specs.declared.parser.parse_error.ParseError.{ParseError}
 use Rattle.squawk_parser.specs.declared.parser.parse_error.ParseError.TheVariants.{OutOfMemory}

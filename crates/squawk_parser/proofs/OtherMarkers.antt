@@ -4,8 +4,8 @@ use Rattle.std.proofs.Common.{◌≡◌, ℕ, ◌==◌, Bool, true, false, [], �
 use Rattle.std.specs.Prelude.{Contains}
 use Rattle.std.proofs.lemmas.Bool.{eqb-true}
 use Rattle.std.proofs.lemmas.List.Elements.{Contains-append_left}
-use Rattle.squawk_log.specs.Draft.{Draft, Item, Hole, Open, Close, Mark, Node, ByStart, ByPrecede}
-use Rattle.squawk_log.specs.Edits.{abandoned, completed, filled, is_hole_of, is_opening_of, preceded, preceded_item, started}
+use Rattle.squawk_output.specs.Draft.{Draft, Item, Hole, Open, Close, Mark, Node, ByStart, ByPrecede}
+use Rattle.squawk_output.specs.Edits.{abandoned, completed, filled, is_hole_of, is_opening_of, preceded, preceded_item, started}
 use Rattle.squawk_parser.specs.State.{State, Changes, HasNotFailed, HasHole, HasNode, Records}
 use Rattle.squawk_parser.proofs.Markers.{Contains-others, went-changed, changed}
 

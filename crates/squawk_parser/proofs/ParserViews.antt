@@ -3,7 +3,7 @@ use Rattle.std.proofs.Common.{◌≡◌, ◌∙◌, ◌<◌, ℕ, Option, Some, 
 use Rattle.std.specs.Prelude.{IsSome, is_some}
 use Rattle.squawk_table.specs.Shape.{AreOneToken}
 use Rattle.squawk_parser.specs.declared.parser.Parser.TheInside.{Inside}
-use Rattle.squawk_log.specs.Draft.{Draft, errors_of}
+use Rattle.squawk_output.specs.Draft.{Draft, errors_of}
 use Rattle.squawk_parser.specs.Words.{words_of}
 use Rattle.squawk_parser.specs.State.{State, HasNotFailed, Keeps, Changes, IsSound, ahead}
 use Rattle.squawk_parser.proofs.Soundness.{IsKept, not_failed}

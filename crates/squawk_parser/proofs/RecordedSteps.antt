@@ -7,16 +7,16 @@ use Rattle.std.proofs.lemmas.List.Kept.{AllPairs-cons}
 use Rattle.std.proofs.lemmas.List.Sums.{sum_by-append, sum_by-cons}
 use Rattle.squawk_output.specs.Steps as steps
 use Rattle.squawk_output.specs.Steps.{Step, Enter, Exit, is_error, errors_in}
-use Rattle.squawk_log.specs.Draft.{Draft, Item, Made, Mark, Hole, Open, Close, Token, ByStart, HasNoHole, IsAboveIds, errors_of, ids, is_hole, plain}
+use Rattle.squawk_output.specs.Draft.{Draft, Item, Made, Mark, Hole, Open, Close, Token, ByStart, HasNoHole, IsAboveIds, errors_of, ids, is_hole, plain}
 use Rattle.squawk_parser.specs.Eaten.{node}
-use Rattle.squawk_log.specs.Edits.{completed, filled, started, with_token}
+use Rattle.squawk_output.specs.Edits.{completed, filled, started, with_token}
 use Rattle.squawk_parser.specs.Recorded.{IsPut, IsRefusedStep, Puts, turns_due_of, turns_of_step}
 use Rattle.squawk_parser.specs.State.{State, HasNotFailed, HasHole, IsReason, Keeps, Records}
 use Rattle.squawk_parser.specs.declared.parser.parse_error.ParseError.{ParseError}
 use Rattle.squawk_parser.proofs.Pairs.{AllPairs-nil, AllPairs-append}
-use Rattle.squawk_log.proofs.PlainLog.{errors-plain}
+use Rattle.squawk_output.proofs.PlainLog.{errors-plain}
 use Rattle.squawk_parser.proofs.RecordedItems.{plain-append, ids-append, filled-append, steps_errors-append, eaten-append, All-front, filled-below, filled-closed, filled-here}
-use Rattle.squawk_log.proofs.EditedErrors.{errors-append}
+use Rattle.squawk_output.proofs.EditedErrors.{errors-append}
 use Rattle.squawk_parser.proofs.Splits.{All-back}
 
 -- ---- the turns of steps

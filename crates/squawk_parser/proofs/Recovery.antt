@@ -4,9 +4,9 @@ use Rattle.std.proofs.lemmas.Bool.{eqb-true, ne_eqb}
 use Rattle.squawk_kinds.specs.Kinds.{EOF, ERROR}
 use Rattle.squawk_table.specs.ParserInput.{Entry, kind_in}
 use Rattle.squawk_output.specs.Steps.{Error}
-use Rattle.squawk_log.specs.Draft.{IsAboveIds}
+use Rattle.squawk_output.specs.Draft.{IsAboveIds}
 use Rattle.squawk_parser.specs.Eaten.{current_as, no_recovery, node, one, recovery_steps}
-use Rattle.squawk_log.specs.Edits.{completed, started, with_token}
+use Rattle.squawk_output.specs.Edits.{completed, started, with_token}
 use Rattle.squawk_parser.specs.Recorded.{Puts}
 use Rattle.squawk_parser.specs.State.{State, HasNotFailed, Keeps, Records, ahead, kind_at}
 use Rattle.squawk_parser.proofs.RecordedSteps.{Keeps-then, node_puts, puts-none, puts-then, token_puts}

@@ -2,9 +2,9 @@
 use Rattle.std.proofs.Common.{rules, ◌≡◌, ◌∙◌, ℕ, true, Option, Some, List, [], ◌∷◌, arith, add-zero, refl, subst}
 use Rattle.std.specs.Prelude.{IsSome}
 use Rattle.squawk_output.specs.Steps.{Error}
-use Rattle.squawk_log.specs.Draft.{errors_of}
-use Rattle.squawk_log.specs.Draft as item
-use Rattle.squawk_log.specs.Edits.{with_error}
+use Rattle.squawk_output.specs.Draft.{errors_of}
+use Rattle.squawk_output.specs.Draft as item
+use Rattle.squawk_output.specs.Edits.{with_error}
 use Rattle.squawk_parser.specs.Recorded.{Puts}
 use Rattle.squawk_parser.specs.State.{State, HasNotFailed, IsReason, Records}
 use Rattle.squawk_parser.specs.declared.parser.parse_error.ParseError.{ParseError}

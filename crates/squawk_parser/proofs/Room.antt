@@ -2,7 +2,7 @@
 -- a limit.
 use Rattle.std.proofs.Common.{◌+◌, ◌≤◌, List, length, arith}
 use Rattle.squawk_output.specs.Steps.{Step, errors_in}
-use Rattle.squawk_log.specs.Draft.{errors_of}
+use Rattle.squawk_output.specs.Draft.{errors_of}
 use Rattle.squawk_parser.specs.Recorded.{Puts}
 use Rattle.squawk_parser.specs.State.{State, HasNotFailed, IsSound, Keeps}
 use Rattle.squawk_parser.proofs.RecordedSteps.{counted}

@@ -8,7 +8,7 @@ use Rattle.squawk_table.specs.ParserInput.{Entry, kind_in}
 use Rattle.squawk_table.specs.Shape.{AreOneToken}
 use Rattle.squawk_parser.specs.Composites.{HasNoEndKind, do_touch, normal_form, normal_forms}
 use Rattle.squawk_parser.specs.Eaten.{element_steps, node, one}
-use Rattle.squawk_log.specs.Edits.{with_token}
+use Rattle.squawk_output.specs.Edits.{with_token}
 use Rattle.squawk_parser.specs.Recorded.{Puts}
 use Rattle.squawk_parser.specs.State.{State, IsFresh, Keeps, Records, ahead, kind_at}
 use Rattle.squawk_parser.proofs.CompositeLemmas.{kind_in-drop}

@@ -2,15 +2,15 @@
 use Rattle.std.proofs.Common.{◌≡◌, ◌∙◌, ℕ, ◌+◌, ◌≤◌, ◌==◌, Bool, true, false, List, [], ◌∷◌, ◌++◌, length, cond, arith, ap, sym, refl, subst}
 use Rattle.std.specs.Prelude.{Contains, count_by}
 use Rattle.std.proofs.lemmas.List.{append_assoc}
-use Rattle.squawk_log.specs.Draft.{Draft, Made, Item, Hole, Open, Node, ids, plain, HasNoIdTwice}
-use Rattle.squawk_log.specs.Edits.{is_hole_of, is_opening_of, replaced, abandoned, without_hole, stands_before, moved, extended, extended_items}
+use Rattle.squawk_output.specs.Draft.{Draft, Made, Item, Hole, Open, Node, ids, plain, HasNoIdTwice}
+use Rattle.squawk_output.specs.Edits.{is_hole_of, is_opening_of, replaced, abandoned, without_hole, stands_before, moved, extended, extended_items}
 use Rattle.squawk_parser.specs.State.{State, HasNotFailed}
 use Rattle.squawk_output.proofs.Sums.{count_by-cons}
 use Rattle.squawk_parser.proofs.RecordedItems.{plain-append, ids-append}
 use Rattle.squawk_parser.proofs.ItemCounts.{HasFewTurns, length-extended, length-without_hole}
 use Rattle.squawk_parser.proofs.Soundness.{IsKept}
 use Rattle.squawk_parser.proofs.SoundMoves.{IsMoved, IsMoved-same, IsMoved-earlier, IsKept-moved}
-use Rattle.squawk_log.proofs.Groups.{itself}
+use Rattle.squawk_output.proofs.Groups.{itself}
 use Rattle.squawk_parser.proofs.Splits.{split, count_by-append, count_by-passes, count_by-fails, Contains-passed, replaced-at, first, a_hole, holes-once, openings-once}
 
 -- what stays of items from which a hole is taken

@@ -6,17 +6,17 @@ use Rattle.squawk_output.specs.Steps.{Step, Enter, eaten, errors_in}
 use Rattle.squawk_table.specs.ParserInput.{Entry}
 use Rattle.squawk_table.specs.Shape.{IsOver}
 use Rattle.squawk_table.proofs.Over.{IsOver-append, IsOver-front, IsOver-back, eaten-other}
-use Rattle.squawk_log.specs.Draft.{Draft, Item, Made, Hole, Open, ByPrecede, ids, plain, HasNoIdTwice, IsAboveIds}
-use Rattle.squawk_log.specs.Edits.{is_opening_of, replaced, preceded, preceded_item}
+use Rattle.squawk_output.specs.Draft.{Draft, Item, Made, Hole, Open, ByPrecede, ids, plain, HasNoIdTwice, IsAboveIds}
+use Rattle.squawk_output.specs.Edits.{is_opening_of, replaced, preceded, preceded_item}
 use Rattle.squawk_parser.specs.State.{State, HasNotFailed}
 use Rattle.squawk_parser.specs.declared.parser.parse_error.ParseError.TheVariants.{TooManyEvents, TooManyErrors}
 use Rattle.squawk_output.proofs.Sums.{count_by-cons}
 use Rattle.squawk_parser.proofs.Balance.{depth_after, depth_after-append, depth_after-suc, depth_after-balanced, IsBalanced-depth_after}
-use Rattle.squawk_log.proofs.PlainLog.{errors-plain}
+use Rattle.squawk_output.proofs.PlainLog.{errors-plain}
 use Rattle.squawk_parser.proofs.RecordedItems.{plain-append, ids-append, eaten-append, steps_errors-append}
 use Rattle.squawk_parser.proofs.Soundness.{IsKept, HasNoIdTwice-push, not_refused}
 use Rattle.squawk_parser.proofs.ItemCounts.{HasFewTurns, length-preceded}
-use Rattle.squawk_log.proofs.Groups.{itself}
+use Rattle.squawk_output.proofs.Groups.{itself}
 use Rattle.squawk_parser.proofs.Splits.{Split, split, count_by-append, count_by-passes, count_by-fails, replaced-at, openings-once}
 
 -- ---- the plain list

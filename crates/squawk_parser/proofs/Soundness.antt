@@ -7,14 +7,14 @@ use Rattle.std.proofs.lemmas.List.Sums.{sum_by-append}
 use Rattle.std.proofs.lemmas.List.Elements.{All-head, All-tail}
 use Rattle.squawk_output.specs.Steps as steps
 use Rattle.squawk_output.specs.Steps.{Step, eaten, count_of}
-use Rattle.squawk_log.specs.Draft.{Made, Item, Hole, Close, Token, Error, ByStart, is_error, errors_of, ids, plain, HasNoIdTwice, IsAboveIds}
-use Rattle.squawk_log.specs.Edits.{started, completed, filled, with_token, with_error}
+use Rattle.squawk_output.specs.Draft.{Made, Item, Hole, Close, Token, Error, ByStart, is_error_item, errors_of, ids, plain, HasNoIdTwice, IsAboveIds}
+use Rattle.squawk_output.specs.Edits.{started, completed, filled, with_token, with_error}
 use Rattle.squawk_table.specs.Shape.{AreOneToken}
 use Rattle.squawk_table.proofs.Over.{IsOver-token_last, IsOver-exit_last, IsOver-error_last}
 use Rattle.squawk_parser.specs.State.{State, IsSound, HasNotFailed, ahead}
 use Rattle.squawk_parser.specs.declared.parser.parse_error.ParseError.{ParseError}
 use Rattle.squawk_parser.specs.declared.parser.parse_error.ParseError.TheVariants.{OutOfMemory, TooManyEvents, TooManyErrors}
-use Rattle.squawk_log.proofs.EditedErrors.{errors-filled}
+use Rattle.squawk_output.proofs.EditedErrors.{errors-filled}
 use Rattle.squawk_output.proofs.Sums.{count_by-cons}
 use Rattle.squawk_parser.proofs.RecordedItems.{plain-append, ids-append}
 use Rattle.squawk_parser.proofs.Balance.{depth_after, depth_after-append, depth_after-balanced, IsBalanced-depth_after}
@@ -23,8 +23,8 @@ use Rattle.squawk_parser.proofs.ItemCounts.{HasFewTurns, length-filled}
 use Rattle.squawk_parser.proofs.OneToken.{AreOneToken-seen, AreOneToken-within}
 
 -- one more item has one error more, or none
-errors_of-push : (items : List Item) (item : Item) → errors_of (items ++ item ∷ []) ≡ errors_of items + cond (is_error item) 1 0
-errors_of-push items item = omega (arith, sum_by-append (λ i. cond (is_error i) 1 0) items (item ∷ []))
+errors_of-push : (items : List Item) (item : Item) → errors_of (items ++ item ∷ []) ≡ errors_of items + cond (is_error_item item) 1 0
+errors_of-push items item = omega (arith, sum_by-append (λ i. cond (is_error_item i) 1 0) items (item ∷ []))
 
 -- what a parser keeps
 pub record IsKept (s : State) : Type 0 where

@@ -5,8 +5,8 @@ use Rattle.std.proofs.lemmas.Bool.{eqb-true}
 use Rattle.std.proofs.lemmas.List.Sums.{sum_by-append}
 use Rattle.std.proofs.lemmas.List.Elements.{All-tail}
 use Rattle.std.proofs.lemmas.Grind.{flat_map-append}
-use Rattle.squawk_log.specs.Draft.{Made, Item, Hole, Open, Close, Token, Error, ids, ids_of, HasNoIdTwice}
-use Rattle.squawk_log.specs.Edits.{is_hole_of, is_opening_of, replaced, stands_before}
+use Rattle.squawk_output.specs.Draft.{Made, Item, Hole, Open, Close, Token, Error, ids, ids_of, HasNoIdTwice}
+use Rattle.squawk_output.specs.Edits.{is_hole_of, is_opening_of, replaced, stands_before}
 use Rattle.squawk_output.proofs.Sums.{count_by-cons}
 
 -- an element of a list, and what stands before and behind it

@@ -1,9 +1,9 @@
 -- What grammars may rely on: steps that are recorded one after another, wherever they are put.
 use Rattle.std.proofs.Common.{◌≡◌, ◌∙◌, ℕ, ◌+◌, false, List, [], ◌∷◌, ◌++◌, arith, ap, refl, length-append}
 use Rattle.squawk_output.specs.Steps.{Step, Enter, Exit, is_error, errors_in}
-use Rattle.squawk_log.specs.Draft.{Draft, Hole, Close, ByStart, ByPrecede, errors_of}
-use Rattle.squawk_log.specs.Edits.{completed, filled, preceded, started}
-use Rattle.squawk_log.proofs.EditedErrors.{errors-append, errors-filled, errors-preceded}
+use Rattle.squawk_output.specs.Draft.{Draft, Hole, Close, ByStart, ByPrecede, errors_of}
+use Rattle.squawk_output.specs.Edits.{completed, filled, preceded, started}
+use Rattle.squawk_output.proofs.EditedErrors.{errors-append, errors-filled, errors-preceded}
 use Rattle.squawk_parser.specs.Composed.{RecordsSteps}
 use Rattle.squawk_parser.specs.Eaten.{node}
 use Rattle.squawk_parser.specs.Recorded.{Puts}

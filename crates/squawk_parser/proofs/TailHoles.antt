@@ -3,7 +3,7 @@ use Rattle.std.proofs.Common.{◌≡◌, ◌∙◌, zero, suc, Bool, true, false
 use Rattle.std.specs.Prelude.{Contains, filter}
 use Rattle.std.proofs.lemmas.List.Elements.{Contains-append_left}
 use Rattle.squawk_output.specs.Steps.{Step}
-use Rattle.squawk_log.specs.Draft.{Hole, Item, Mark, holes_of, is_hole}
+use Rattle.squawk_output.specs.Draft.{Hole, Item, Mark, holes_of, is_hole}
 use Rattle.squawk_parser.specs.Recorded.{Puts}
 use Rattle.squawk_parser.specs.State.{State, HasNotFailed, HasHole, Keeps}
 use Rattle.squawk_parser.specs.declared.parser.parse_error.ParseError.{ParseError}

@@ -1,7 +1,7 @@
 -- What parts of a grammar do that are made of several acts.
 use Rattle.std.specs.Prelude.{◌≡◌, ◌≢◌, ◌+◌, true, Some, List, ◌∷◌, ◌++◌, length, All}
 use Rattle.squawk_output.specs.Steps.{Step, Enter, eaten, errors_in}
-use Rattle.squawk_log.specs.Draft.{Draft, Item, Node, Open, HasNoHole, IsAboveIds, errors_of, ids, plain}
+use Rattle.squawk_output.specs.Draft.{Draft, Item, Node, Open, HasNoHole, IsAboveIds, errors_of, ids, plain}
 use Rattle.squawk_parser.specs.Recorded.{IsRefusedStep}
 use Rattle.squawk_parser.specs.State.{State, HasNotFailed}
 use Rattle.squawk_parser.specs.declared.parser.parse_error.ParseError.{ParseError}

@@ -8,8 +8,8 @@ use Rattle.squawk_kinds.specs.TokenSets.{has}
 use Rattle.squawk_table.specs.ParserInput.{Entry, kind_in}
 use Rattle.squawk_output.specs.Steps.{Step, Token, Enter, Exit, Error}
 use Rattle.squawk_parser.specs.Composites.{Element, One, AtMostOne, Tail, NoTail, Open, ClosedBy, Form, Glued, Touching, Sequence, Operator, Composite, composites, stands_at}
-use Rattle.squawk_log.specs.Draft.{IsAboveIds, holes_of}
-use Rattle.squawk_log.specs.Edits.{started, completed}
+use Rattle.squawk_output.specs.Draft.{IsAboveIds, holes_of}
+use Rattle.squawk_output.specs.Edits.{started, completed}
 use Rattle.squawk_parser.specs.Operators.{operator_length}
 use Rattle.squawk_parser.specs.State.{State, HasNotFailed, IsSound, Keeps, Records, ahead}
 use Rattle.squawk_parser.specs.Recorded.{Puts}

@@ -1,7 +1,7 @@
 -- What a parse answers.
 use Rattle.std.specs.Prelude.{◌≡◌, ◌≤◌, ◌*◌, Some, None, List, length, ◌⊎◌}
 use Rattle.squawk_table.specs.ParserInput.{Entry}
-use Rattle.squawk_log.specs.Draft.{Draft, HasNoHole, plain}
+use Rattle.squawk_output.specs.Draft.{Draft, HasNoHole, plain}
 use Rattle.squawk_output.specs.Steps.{Walk}
 use Rattle.squawk_table.specs.Shape.{IsBalanced, IsOver}
 use Rattle.squawk_parser.specs.State.{State, IsSound, Keeps}

@@ -1,7 +1,7 @@
 -- What acts record that put whole steps at the end of a draft.
 use Rattle.std.specs.Prelude.{◌≡◌, ℕ, ◌+◌, ◌<◌, Some, List, ◌∷◌, ◌++◌, length, sum_by, All, AllPairs, IsSome, if◌then◌else◌}
 use Rattle.squawk_output.specs.Steps.{Step, is_enter, is_error, errors_in, eaten}
-use Rattle.squawk_log.specs.Draft.{Draft, Item, HasNoHole, IsAboveIds, errors_of, ids, plain}
+use Rattle.squawk_output.specs.Draft.{Draft, Item, HasNoHole, IsAboveIds, errors_of, ids, plain}
 use Rattle.squawk_parser.specs.State.{State, HasNotFailed, IsReason}
 use Rattle.squawk_parser.specs.declared.parser.parse_error.ParseError.{ParseError}
 

@@ -4,7 +4,7 @@ use Rattle.squawk_kinds.specs.Kinds.{EOF}
 use Rattle.squawk_table.specs.ParserInput.{Entry, kind_in, contextual_kind_in}
 use Rattle.squawk_parser.specs.LookAhead.{seen_from}
 use Rattle.squawk_parser.specs.Words.{Words, HasNoEnd}
-use Rattle.squawk_log.specs.Draft.{Draft, nothing, Hole, Open, Mark, Node, HasNoIdTwice, errors_of, plain}
+use Rattle.squawk_output.specs.Draft.{Draft, nothing, Hole, Open, Mark, Node, HasNoIdTwice, errors_of, plain}
 use Rattle.squawk_output.specs.Steps.{eaten}
 use Rattle.squawk_table.specs.Shape.{IsBalanced, IsOver}
 use Rattle.squawk_parser.specs.declared.parser.limits.Limits.{Limits}

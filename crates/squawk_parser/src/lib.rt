@@ -15,7 +15,7 @@
 //!
 //! impl Grammar for Names {
 //!     ghost use Rattle.std.specs.Prelude.{List, ◌≡◌};
-//!     ghost use Rattle.squawk_log.specs.Draft.{plain};
+//!     ghost use Rattle.squawk_output.specs.Draft.{plain};
 //!     ghost use Rattle.squawk_output.specs.Steps.{Step};
 //!     ghost use Rattle.squawk_parser.specs.Eaten.{node};
 //!     ghost use Rattle.squawk_parser.specs.Words.{no_words};

@@ -1,6 +1,6 @@
 //! The parser that a grammar works with.
 ghost use Rattle.std.specs.Prelude.{◌≡◌, ◌≤◌, ◌*◌, IsOk, IfOk, IfErr, length};
-ghost use Rattle.squawk_log.specs.Draft.{plain};
+ghost use Rattle.squawk_output.specs.Draft.{plain};
 ghost use Rattle.squawk_parser.specs.Parse.{IsRefusalOf};
 ghost use Rattle.squawk_parser.specs.State.{HasNotFailed, IsSound, fresh};
 ghost use Rattle.squawk_parser.specs.Words.{HasNoEnd, words_of};
@@ -27,8 +27,7 @@ pub use marker::{CompletedMarker, Marker};
 pub use parse_error::ParseError;
 pub use part::Part;
 use squawk_kinds::{SyntaxKind, TokenSet};
-use squawk_log::EventLog;
-use squawk_output::Output;
+use squawk_output::{EventLog, Output};
 use std::alloc::{AllocError, Global};
 use std::marker::Model;
 pub use tails::has_tail;

@@ -3,9 +3,9 @@ use Rattle.std.proofs.Common.{◌≡◌, ℕ, zero, suc, ◌<◌, Bool, true, fa
 use Rattle.std.specs.Prelude.{Contains}
 use Rattle.std.specs.List.{flat_map}
 use Rattle.std.proofs.lemmas.List.Elements.{All-contains, Contains-append_left, Contains-append_right, Contains-append_cases}
-use Rattle.squawk_log.specs.Draft.{Item, IsAboveIds, ids, ids_of}
-use Rattle.squawk_log.specs.Edits.{replaced}
-use Rattle.squawk_log.proofs.LogItems.{Contains-only}
+use Rattle.squawk_output.specs.Draft.{Item, IsAboveIds, ids, ids_of}
+use Rattle.squawk_output.specs.Edits.{replaced}
+use Rattle.squawk_output.proofs.LogItems.{Contains-only}
 
 -- ---- lists of lists
 

@@ -6,12 +6,12 @@ use Rattle.std.proofs.lemmas.List.Sums.{sum_by-append}
 use Rattle.squawk_table.specs.ParserInput.{Entry}
 use Rattle.squawk_output.specs.Steps as steps
 use Rattle.squawk_output.specs.Steps.{Step, errors_in, is_error}
-use Rattle.squawk_log.specs.Draft as draft
-use Rattle.squawk_log.specs.Draft.{ByPrecede, ByStart, Draft, Item, errors_of}
+use Rattle.squawk_output.specs.Draft as draft
+use Rattle.squawk_output.specs.Draft.{ByPrecede, ByStart, Draft, Item, errors_of}
 use Rattle.squawk_parser.specs.Words.{Words}
-use Rattle.squawk_log.proofs.EditedErrors.{errors-append, errors-extended, errors-filled, errors-preceded, errors-without_hole}
+use Rattle.squawk_output.proofs.EditedErrors.{errors-append, errors-extended, errors-filled, errors-preceded, errors-without_hole}
 use Rattle.squawk_output.proofs.Sums.{count_by-cons}
-use Rattle.squawk_log.specs.Edits.{filled}
+use Rattle.squawk_output.specs.Edits.{filled}
 use Rattle.squawk_script.specs.Events.{errors_among, events_from, events_made, events_of}
 use Rattle.squawk_script.specs.Meaning.{Run, begin, call_steps, item_for, marker_at, new_id, run_of, seen, stepped, with_step, with_steps}
 use Rattle.squawk_script.specs.declared.call.Call.{Call}

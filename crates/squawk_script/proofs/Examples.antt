@@ -6,7 +6,7 @@ use Rattle.squawk_kinds.specs.TokenSets.{no_kinds}
 use Rattle.squawk_table.specs.ParserInput.{Entry}
 use Rattle.squawk_output.specs.Steps as steps
 use Rattle.squawk_output.specs.Steps.{Step, Enter, Exit, Token}
-use Rattle.squawk_log.specs.Draft.{plain}
+use Rattle.squawk_output.specs.Draft.{plain}
 use Rattle.squawk_parser.specs.Words.{no_words}
 use Rattle.squawk_parser.specs.declared.parser.parse_error.ParseError.TheVariants.{TooManyEvents, TooManyErrors}
 use Rattle.squawk_script.specs.Accepted.{is_at_hand, is_open, may_follow}

@@ -3,16 +3,16 @@ use Rattle.std.proofs.Common.{◌≡◌, ◌≢◌, ℕ, Bool, true, false, inl,
 use Rattle.std.specs.Prelude.{Contains, slice_set}
 use Rattle.std.proofs.lemmas.Bool.{cases_eq}
 use Rattle.std.proofs.lemmas.List.Elements.{All-contains, Contains-append_left, Contains-append_cases, Contains-push, Contains-push_cases}
-use Rattle.squawk_log.specs.Draft as draft
-use Rattle.squawk_log.specs.Draft.{Draft, Item, Made, Mark, Node, ByPrecede, HasNoHole, IsAboveIds, is_hole}
-use Rattle.squawk_log.specs.Edits.{extended_items, filled, is_hole_of, is_opening_of, moved, preceded, preceded_item, replaced, stands_before}
-use Rattle.squawk_log.specs.Edits.{without_hole}
+use Rattle.squawk_output.specs.Draft as draft
+use Rattle.squawk_output.specs.Draft.{Draft, Item, Made, Mark, Node, ByPrecede, HasNoHole, IsAboveIds, is_hole}
+use Rattle.squawk_output.specs.Edits.{extended_items, filled, is_hole_of, is_opening_of, moved, preceded, preceded_item, replaced, stands_before}
+use Rattle.squawk_output.specs.Edits.{without_hole}
 use Rattle.squawk_parser.proofs.Markers.{Contains-others}
-use Rattle.squawk_log.proofs.Groups.{itself}
+use Rattle.squawk_output.proofs.Groups.{itself}
 use Rattle.squawk_script.specs.Slots.{Holds, IsHeld, AreInOrder, slot_at}
 use Rattle.squawk_script.specs.declared.slot.Slot.{Slot}
 use Rattle.squawk_script.specs.declared.slot.Slot.TheVariants.{Open, Done, Spent}
-use Rattle.squawk_log.proofs.LogItems.{Contains-only}
+use Rattle.squawk_output.proofs.LogItems.{Contains-only}
 use Rattle.squawk_script.proofs.EditedItems.{Contains-made, edited-cases}
 use Rattle.squawk_script.proofs.OtherSlots.{before-new, before-spent, done-slot, held-append, held-holes, held-openings, hole-stayed, other-slot, others}
 use Rattle.squawk_script.proofs.OtherSlots.{same-mark}

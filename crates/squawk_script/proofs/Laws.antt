@@ -5,7 +5,7 @@ use Rattle.std.proofs.Math.Seq.{split_at}
 use Rattle.std.proofs.lemmas.List.{length-take, length-take-le, take-append-drop, take_all}
 use Rattle.squawk_table.specs.ParserInput.{Entry}
 use Rattle.squawk_output.specs.Steps.{errors_in}
-use Rattle.squawk_log.specs.Draft.{Draft, plain}
+use Rattle.squawk_output.specs.Draft.{Draft, plain}
 use Rattle.squawk_parser.specs.State.{State, IsReason}
 use Rattle.squawk_parser.specs.Words.{Words}
 use Rattle.squawk_parser.specs.declared.parser.grammar.EntryPoint.{EntryPoint}
@@ -15,7 +15,7 @@ use Rattle.squawk_script.specs.Events.{IsRunOf, LeavesOne, errors_among, events_
 use Rattle.squawk_script.specs.Meaning.{Meaning, run_of}
 use Rattle.squawk_script.specs.declared.call.Call.{Call}
 use Rattle.squawk_script.specs.contracts.script.ScriptGrammar.TheImpl as grammar
-use Rattle.squawk_log.proofs.PlainLog.{errors-plain}
+use Rattle.squawk_output.proofs.PlainLog.{errors-plain}
 use Rattle.squawk_script.proofs.Events.{errors-events, errors_among-append, recorded-events}
 use Rattle.squawk_script.proofs.Refusals.{Tells, error-at, is-none, refused-error, refused-event, tells}
 

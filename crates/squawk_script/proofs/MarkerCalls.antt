@@ -3,9 +3,9 @@ use Rattle.std.proofs.Common.{◌≡◌, ◌∙◌, ℕ, zero, suc, ◌+◌, ◌
 use Rattle.std.specs.Prelude.{Bool, Contains, IsTrue, ◌&&◌, count_by, false, nat_lt}
 use Rattle.std.proofs.lemmas.Bool.{ltb-true}
 use Rattle.std.proofs.lemmas.List.{length-set, map-append, map-set, set-get_or}
-use Rattle.squawk_log.specs.Draft as draft
-use Rattle.squawk_log.specs.Draft.{Draft, Item, Mark, Node, ByStart, ByPrecede, IsAboveIds, ids, ids_of}
-use Rattle.squawk_log.specs.Edits.{abandoned, completed, entries_gone, extended, preceded, started, takes_entry}
+use Rattle.squawk_output.specs.Draft as draft
+use Rattle.squawk_output.specs.Draft.{Draft, Item, Mark, Node, ByStart, ByPrecede, IsAboveIds, ids, ids_of}
+use Rattle.squawk_output.specs.Edits.{abandoned, completed, entries_gone, extended, preceded, started, takes_entry}
 use Rattle.squawk_parser.specs.State.{State, Changes, HasNotFailed, Keeps, Records}
 use Rattle.squawk_parser.specs.declared.parser.parse_error.ParseError.{ParseError}
 use Rattle.squawk_parser.proofs.Markers.{changed, went-changed}

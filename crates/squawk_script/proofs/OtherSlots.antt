@@ -3,9 +3,9 @@ use Rattle.std.proofs.Common.{◌≡◌, ◌≢◌, ◌∙◌, ℕ, ◌<◌, tru
 use Rattle.std.specs.Prelude.{Contains, ⊤}
 use Rattle.std.proofs.lemmas.Bool.{cases_order, eq-eqb}
 use Rattle.std.proofs.lemmas.List.Elements.{Contains-append_left, Contains-push}
-use Rattle.squawk_log.specs.Draft as draft
-use Rattle.squawk_log.specs.Draft.{Item, Mark, Node, IsAboveIds}
-use Rattle.squawk_log.specs.Edits.{is_hole_of, is_opening_of, replaced}
+use Rattle.squawk_output.specs.Draft as draft
+use Rattle.squawk_output.specs.Draft.{Item, Mark, Node, IsAboveIds}
+use Rattle.squawk_output.specs.Edits.{is_hole_of, is_opening_of, replaced}
 use Rattle.squawk_parser.proofs.Markers.{Contains-others}
 use Rattle.squawk_parser.proofs.OtherMarkers.{differ}
 use Rattle.squawk_script.specs.Slots.{IsHeld, IsBelow, AreInOrder, slot_at}

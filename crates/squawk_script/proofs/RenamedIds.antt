@@ -4,8 +4,8 @@ use Rattle.std.proofs.Common.{arith, ap, ap₂, sym, refl, subst}
 use Rattle.std.specs.Prelude.{All, Contains}
 use Rattle.std.proofs.lemmas.List.{map-id}
 use Rattle.std.proofs.lemmas.List.Elements.{All-nil, All-cons, All-head, All-tail, All-append, All-weaker, All-contains_itself}
-use Rattle.squawk_log.specs.Draft.{Item, Made, Node, Hole, Open, Close, Token, Error, ids, ids_of}
-use Rattle.squawk_log.specs.Edits.{extended_items, filled, is_hole_of, is_opening_of, moved, preceded_item, replaced, stands_before, without_hole}
+use Rattle.squawk_output.specs.Draft.{Item, Made, Node, Hole, Open, Close, Token, Error, ids, ids_of}
+use Rattle.squawk_output.specs.Edits.{extended_items, filled, is_hole_of, is_opening_of, moved, preceded_item, replaced, stands_before, without_hole}
 use Rattle.squawk_parser.proofs.RecordedItems.{ids-append, All-front}
 use Rattle.squawk_parser.proofs.Splits.{All-back}
 use Rattle.squawk_script.specs.Meaning.{above_all}

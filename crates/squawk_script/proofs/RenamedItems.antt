@@ -3,8 +3,8 @@ use Rattle.std.proofs.Common.{◌≡◌, ◌∙◌, ℕ, ◌+◌, ◌==◌, Bool
 use Rattle.std.specs.Prelude.{All, ◌&&◌, count_by}
 use Rattle.std.proofs.lemmas.List.{map-append}
 use Rattle.std.proofs.lemmas.List.Elements.{All-head}
-use Rattle.squawk_log.specs.Draft.{Item, Made, Node, Hole, Open, Close, Token, Error, ByPrecede, ByStart, ids, ids_of}
-use Rattle.squawk_log.specs.Edits.{extended_items, filled, is_hole_of, is_last_start, is_opening_of, takes_entry, moved, preceded_item, replaced, stands_before, without_hole}
+use Rattle.squawk_output.specs.Draft.{Item, Made, Node, Hole, Open, Close, Token, Error, ByPrecede, ByStart, ids, ids_of}
+use Rattle.squawk_output.specs.Edits.{extended_items, filled, is_hole_of, is_last_start, is_opening_of, takes_entry, moved, preceded_item, replaced, stands_before, without_hole}
 use Rattle.squawk_parser.proofs.RecordedItems.{All-front}
 use Rattle.squawk_parser.proofs.Splits.{All-back}
 use Rattle.squawk_output.proofs.Sums.{count_by-cons}

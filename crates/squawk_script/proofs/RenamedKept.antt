@@ -3,7 +3,7 @@ use Rattle.std.proofs.Common.{◌≡◌, ◌∙◌, ◌⊎◌, inl, inr, ℕ, �
 use Rattle.std.specs.Prelude.{All}
 use Rattle.std.proofs.lemmas.Bool.{cases_order, eq-eqb, ne_eqb}
 use Rattle.std.proofs.lemmas.List.Elements.{All-weaker, All-contains}
-use Rattle.squawk_log.specs.Draft.{Item, IsAboveIds, ids}
+use Rattle.squawk_output.specs.Draft.{Item, IsAboveIds, ids}
 use Rattle.squawk_script.specs.Slots.{IsRenamed, renamed, same_id}
 use Rattle.squawk_script.proofs.RenamedIds.{All-images, IsIdOf, IsIdOf-all, IsIdOrNew, IsIdOrNew-all, renamed_agree}
 use Rattle.squawk_script.proofs.RenamedItems.{TellsApart}

@@ -1,9 +1,9 @@
 -- Ids are no part of the plain list.
 use Rattle.std.proofs.Common.{◌≡◌, ◌∙◌, ℕ, List, [], ◌∷◌, map, ap, sym, refl}
 use Rattle.squawk_output.specs.Steps.{Enter, Exit, Token, Error, errors_in}
-use Rattle.squawk_log.specs.Draft as draft
-use Rattle.squawk_log.specs.Draft.{Item, errors_of, plain}
-use Rattle.squawk_log.proofs.PlainLog.{errors-plain}
+use Rattle.squawk_output.specs.Draft as draft
+use Rattle.squawk_output.specs.Draft.{Item, errors_of, plain}
+use Rattle.squawk_output.proofs.PlainLog.{errors-plain}
 use Rattle.squawk_script.specs.Slots.{renamed, same_id}
 
 plain-renamed : (f : ℕ → ℕ) (items : List Item) → plain (map (renamed f) items) ≡ plain items

@@ -6,12 +6,12 @@ use Rattle.std.proofs.lemmas.Bool.{ne_eqb}
 use Rattle.std.proofs.lemmas.List.Elements.{All-nil, All-head, All-tail, All-contains, Contains-append_left}
 use Rattle.squawk_output.specs.Steps as steps
 use Rattle.squawk_output.specs.Steps.{Step}
-use Rattle.squawk_log.specs.Draft.{Draft, Item, Made, Node, Hole, Open, Close, Token, Error, HasNoHole, IsAboveIds, ids, ids_of, is_hole, plain, steps_of}
-use Rattle.squawk_log.specs.Edits.{extended_items, filled, takes_entry, without_hole}
+use Rattle.squawk_output.specs.Draft.{Draft, Item, Made, Node, Hole, Open, Close, Token, Error, HasNoHole, IsAboveIds, ids, ids_of, is_hole, plain, steps_of_item}
+use Rattle.squawk_output.specs.Edits.{extended_items, filled, takes_entry, without_hole}
 use Rattle.squawk_parser.specs.Recorded.{turns_due_of}
 use Rattle.squawk_parser.proofs.RecordedSteps.{turns_due_of-cons}
 use Rattle.squawk_parser.proofs.RecordedItems.{ids-append}
-use Rattle.squawk_log.proofs.Groups.{itself}
+use Rattle.squawk_output.proofs.Groups.{itself}
 use Rattle.squawk_script.specs.Meaning.{new_id, with_step, with_steps}
 use Rattle.squawk_script.specs.Slots.{IsRenamed, renamed, same_id}
 use Rattle.squawk_script.proofs.RenamedIds.{All-extended, All-filled, All-one, All-preceded, All-pushed, All-without_hole, above_all-above}
@@ -133,7 +133,7 @@ above-plain items x xs none above =
     above-pushed items x xs above (λ k d lt. subst (All (λ i. i < get_or xs k d)) (sym none) (All-nil (λ i. i < get_or xs k d)))
 
 -- one item more in front
-put-cons : (f g : ℕ → ℕ) (items made : List Item) (d : Draft) (x : Item) (step : Step) → steps_of x ≡ step ∷ [] → ((i : ℕ) → IsIdOf items i → g i ≡ f i)
+put-cons : (f g : ℕ → ℕ) (items made : List Item) (d : Draft) (x : Item) (step : Step) → steps_of_item x ≡ step ∷ [] → ((i : ℕ) → IsIdOf items i → g i ≡ f i)
     → ArePut g (items ++ x ∷ []) made (with_step d step) → ArePut f items (x ∷ made) d
 put-cons f g items made d x step is same put = record {
   g = put.g;

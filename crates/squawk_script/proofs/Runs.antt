@@ -6,8 +6,8 @@ use Rattle.std.proofs.lemmas.List.{get_or_default, take_all}
 use Rattle.std.proofs.lemmas.List.Elements.{All-cons, All-nil, Contains-append_right}
 use Rattle.std.proofs.lemmas.List.Sums.{fold-append}
 use Rattle.squawk_table.specs.ParserInput.{Entry}
-use Rattle.squawk_log.specs.Draft as draft
-use Rattle.squawk_log.specs.Draft.{HasNoHole, Item, Mark, errors_of, is_hole, plain}
+use Rattle.squawk_output.specs.Draft as draft
+use Rattle.squawk_output.specs.Draft.{HasNoHole, Item, Mark, errors_of, is_hole, plain}
 use Rattle.squawk_parser.specs.State.{State, HasNotFailed, IsFresh, Keeps}
 use Rattle.squawk_parser.specs.Words.{Words}
 use Rattle.squawk_parser.specs.declared.parser.parse_error.ParseError.{ParseError}

@@ -5,7 +5,7 @@ use Rattle.squawk_kinds.specs.TokenSets.{has}
 use Rattle.squawk_table.specs.ParserInput.{Entry}
 use Rattle.squawk_output.specs.Steps.{Step, eaten, is_error}
 use Rattle.squawk_parser.specs.Composites.{stands_at}
-use Rattle.squawk_log.specs.Draft.{Item, plain}
+use Rattle.squawk_output.specs.Draft.{Item, plain}
 use Rattle.squawk_parser.specs.Eaten.{eat_steps}
 use Rattle.squawk_parser.specs.LookAhead.{seen_from}
 use Rattle.squawk_parser.specs.Recorded.{Puts, turns_due_of}

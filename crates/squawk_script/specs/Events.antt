@@ -2,7 +2,7 @@
 use Rattle.std.specs.Prelude.{◌≡◌, ◌≢◌, ℕ, Bool, false, Option, Some, None, List, [], ◌∷◌, ◌++◌, count_by, length, map, nat_lt, take, if◌then◌else◌}
 use Rattle.squawk_table.specs.ParserInput.{Entry}
 use Rattle.squawk_output.specs.Steps.{is_error}
-use Rattle.squawk_log.specs.Draft.{Draft, plain}
+use Rattle.squawk_output.specs.Draft.{Draft, plain}
 use Rattle.squawk_parser.specs.State.{State}
 use Rattle.squawk_parser.specs.Words.{Words}
 use Rattle.squawk_parser.specs.declared.parser.parse_error.ParseError.{ParseError}

@@ -5,10 +5,10 @@ use Rattle.squawk_table.specs.ParserInput.{Entry, kind_in}
 use Rattle.squawk_output.specs.Steps as steps
 use Rattle.squawk_output.specs.Steps.{Step, eaten}
 use Rattle.squawk_parser.specs.Composites.{stands_at}
-use Rattle.squawk_log.specs.Draft as draft
-use Rattle.squawk_log.specs.Draft.{Draft, Item, Node, ids, nothing}
+use Rattle.squawk_output.specs.Draft as draft
+use Rattle.squawk_output.specs.Draft.{Draft, Item, Node, ids, nothing}
 use Rattle.squawk_parser.specs.Eaten.{current_as, eat_steps, expect_steps, no_recovery, recovery_steps}
-use Rattle.squawk_log.specs.Edits.{abandoned, completed, extended, preceded, pushed, started}
+use Rattle.squawk_output.specs.Edits.{abandoned, completed, extended, preceded, pushed, started}
 use Rattle.squawk_parser.specs.LookAhead.{seen_from}
 use Rattle.squawk_parser.specs.Recorded.{turns_of_step}
 use Rattle.squawk_parser.specs.Words.{Words}

@@ -1,8 +1,8 @@
 -- Where the markers of a run stand.
 use Rattle.std.specs.Prelude.{◌≡◌, ◌≢◌, ℕ, ◌<◌, ◌==◌, ◌&&◌, Bool, true, false, not, Some, List, [], ◌∷◌, ◌++◌, Contains, length, map, slice_index_or, slice_set, nat_lt, ⊤}
 use Rattle.squawk_kinds.specs.Kinds.{TOMBSTONE}
-use Rattle.squawk_log.specs.Draft as draft
-use Rattle.squawk_log.specs.Draft.{Item, Mark, Node, errors_of, ids, is_hole}
+use Rattle.squawk_output.specs.Draft as draft
+use Rattle.squawk_output.specs.Draft.{Item, Mark, Node, errors_of, ids, is_hole}
 use Rattle.squawk_parser.specs.State.{State, HasNotFailed}
 use Rattle.squawk_parser.specs.declared.parser.parse_error.ParseError.{ParseError}
 use Rattle.squawk_parser.specs.declared.parser.parse_error.ParseError.TheVariants.{OutOfMemory}

@@ -8,8 +8,8 @@ use Rattle.squawk_kinds.specs.Kinds.{EOF, CUSTOM_OP}
 use Rattle.squawk_kinds.specs.TokenSets.{has}
 use Rattle.squawk_table.specs.ParserInput.{Entry, kind_in}
 use Rattle.squawk_output.specs.Steps.{Step, Enter, Exit, eaten}
-use Rattle.squawk_log.specs.Draft.{Node}
-use Rattle.squawk_log.specs.Edits.{completed, preceded}
+use Rattle.squawk_output.specs.Draft.{Node}
+use Rattle.squawk_output.specs.Edits.{completed, preceded}
 use Rattle.squawk_parser.specs.Composed.{Adds, AddsNode, RecordsSteps}
 use Rattle.squawk_parser.specs.Recorded.{Puts}
 use Rattle.squawk_parser.specs.State.{State, Keeps, Records, ahead}

@@ -3,7 +3,7 @@ use Rattle.std.proofs.Common.{◌≡◌, ◌≢◌, ◌∙◌, ◌+◌, true, fa
 use Rattle.squawk_kinds.specs.Kinds.{EOF}
 use Rattle.squawk_table.specs.ParserInput.{kind_in}
 use Rattle.squawk_output.specs.Steps.{Error}
-use Rattle.squawk_log.specs.Edits.{with_token}
+use Rattle.squawk_output.specs.Edits.{with_token}
 use Rattle.squawk_parser.specs.Eaten.{one}
 use Rattle.squawk_parser.specs.Recorded.{Puts}
 use Rattle.squawk_parser.specs.State.{State, Keeps, Records, ahead, kind_at}

@@ -3,7 +3,7 @@ use Rattle.std.proofs.Common.{◌≡◌, ◌∙◌, ℕ, Bool, List, ◌++◌, a
 use Rattle.squawk_kinds.specs.TokenSets.{has}
 use Rattle.squawk_kinds.specs.declared.token_set.TokenSet.{TokenSet}
 use Rattle.squawk_table.specs.ParserInput.{Entry}
-use Rattle.squawk_log.specs.Draft.{Node, HasNoHole}
+use Rattle.squawk_output.specs.Draft.{Node, HasNoHole}
 use Rattle.squawk_parser.specs.Composed.{Adds, AddsNode, RecordsSteps}
 use Rattle.squawk_parser.specs.Recorded.{Puts}
 use Rattle.squawk_parser.specs.State.{State, HasNotFailed, IsFresh, Keeps, ahead}

@@ -5,7 +5,7 @@ use Rattle.std.specs.Str.{chars}
 use Rattle.squawk_kinds.specs.Kinds.{EOF, ERROR, IDENT, INT_NUMBER, CUSTOM_OP, PLUS, MINUS, STAR, SLASH, L_ANGLE, R_ANGLE, EQ}
 use Rattle.squawk_table.specs.ParserInput.{Entry, kind_in}
 use Rattle.squawk_output.specs.Steps.{Step, Enter, Exit, Error, eaten}
-use Rattle.squawk_log.specs.Draft.{Draft, plain}
+use Rattle.squawk_output.specs.Draft.{Draft, plain}
 use Rattle.squawk_parser.specs.Eaten.{node, one}
 use Rattle.squawk_parser.specs.Operators.{operator_length, special_kinds}
 use Rattle.squawk_parser.specs.Recorded.{IsRefusedStep}

@@ -1,7 +1,7 @@
 //! Events as a list keeps them.
 ghost use Rattle.std.specs.Prelude.{◌≡◌, ℕ, List};
 ghost use Rattle.squawk_kinds.specs.Kinds.{TOMBSTONE};
-ghost use Rattle.squawk_output.specs.Chain.{forward_parent, kind_of};
+ghost use Rattle.squawk_output.specs.Chain.{forward_parent, node_kind};
 ghost use Rattle.squawk_output.specs.StoredEvents.{event_of, link_of};
 
 use squawk_kinds::SyntaxKind;
@@ -34,7 +34,7 @@ impl StoredEvent {
     /// The kind of a `Start`; of any other event that of no node.
     #[inline(always)]
     pub(crate) fn kind(&self) -> SyntaxKind
-        ensures { (texts : List (List ℕ)) → kind_of (event_of texts self.now) ≡ result }
+        ensures { (texts : List (List ℕ)) → node_kind (event_of texts self.now) ≡ result }
     {
         match *self {
             StoredEvent::Start { kind, link: _ } => kind,

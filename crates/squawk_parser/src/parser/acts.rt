@@ -4,9 +4,9 @@ ghost use Rattle.std.specs.Str.{chars};
 ghost use Rattle.squawk_kinds.specs.Kinds.{EOF};
 ghost use Rattle.squawk_kinds.specs.TokenSets.{has};
 ghost use Rattle.squawk_output.specs.Steps.{Error};
-ghost use Rattle.squawk_log.specs.Draft.{ByStart, IsAboveIds};
+ghost use Rattle.squawk_output.specs.Draft.{ByStart, IsAboveIds};
 ghost use Rattle.squawk_parser.specs.Eaten.{recovery_steps, no_recovery};
-ghost use Rattle.squawk_log.specs.Edits.{started, with_token};
+ghost use Rattle.squawk_output.specs.Edits.{started, with_token};
 ghost use Rattle.squawk_parser.specs.Recorded.{Puts};
 ghost use Rattle.squawk_parser.specs.State.{HasHole, HasNotFailed, Keeps, Records, ahead, kind_at};
 
@@ -14,7 +14,7 @@ use crate::parser::Parser;
 use crate::parser::marker::Marker;
 use crate::parser::recording::note;
 use squawk_kinds::{SyntaxKind, TokenSet};
-use squawk_log::Made;
+use squawk_output::Made;
 
 impl Parser<'_> {
     /// Begins a node: all that is recorded until its marker is completed will stand in it.

@@ -30,7 +30,7 @@ pub enum EntryPoint {
 pub trait Grammar {
     ghost use Rattle.std.specs.Prelude.{List, ◌≡◌, OnOk};
     ghost use Rattle.squawk_table.specs.ParserInput.{Entry};
-    ghost use Rattle.squawk_log.specs.Draft.{Draft, HasNoHole};
+    ghost use Rattle.squawk_output.specs.Draft.{Draft, HasNoHole};
     ghost use Rattle.squawk_parser.specs.State.{State, HasNotFailed, IsFresh, IsSound, Keeps};
     ghost use Rattle.squawk_parser.specs.Words as spec;
     ghost use Rattle.squawk_parser.specs.declared.parser.grammar.EntryPoint.{EntryPoint};

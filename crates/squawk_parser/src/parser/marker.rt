@@ -1,14 +1,14 @@
 //! Markers: nodes that are begun, and nodes that are complete.
 ghost use Rattle.std.specs.Prelude.{◌≡◌, ◌≢◌, ◌<◌, ◌↔◌, IsTrue};
-ghost use Rattle.squawk_log.specs.Edits.{abandoned, completed, extended, preceded};
+ghost use Rattle.squawk_output.specs.Edits.{abandoned, completed, extended, preceded};
 ghost use Rattle.squawk_kinds.specs.Kinds.{TOMBSTONE};
 ghost use Rattle.squawk_parser.specs.State.{Changes, HasNotFailed, HasHole, HasNode, Keeps, Records};
-ghost use Rattle.squawk_log.specs.Draft.{ByPrecede, IsAboveIds};
+ghost use Rattle.squawk_output.specs.Draft.{ByPrecede, IsAboveIds};
 
 use crate::parser::Parser;
 use crate::parser::recording::note;
 use squawk_kinds::SyntaxKind;
-use squawk_log::Made;
+use squawk_output::Made;
 use std::marker::Model;
 
 /// A node that [`Parser::start`] began and that has no kind yet.
@@ -20,8 +20,8 @@ pub struct Marker {
 }
 
 impl Model for Marker {
-    ghost use Rattle.squawk_log.specs.Draft.{Mark};
-    ghost use Rattle.squawk_log.specs.LogDraft.{made_of};
+    ghost use Rattle.squawk_output.specs.Draft.{Mark};
+    ghost use Rattle.squawk_output.specs.LogDraft.{made_of};
 
     ghost Value = { Mark };
 
@@ -36,7 +36,7 @@ pub struct CompletedMarker {
 }
 
 impl Model for CompletedMarker {
-    ghost use Rattle.squawk_log.specs.Draft.{Node};
+    ghost use Rattle.squawk_output.specs.Draft.{Node};
 
     ghost Value = { Node };
 

@@ -1,6 +1,6 @@
 //! Parts of a grammar that a parser is asked to run.
 ghost use Rattle.std.specs.Prelude.{◌≡◌};
-ghost use Rattle.squawk_log.specs.Draft.{holes_of};
+ghost use Rattle.squawk_output.specs.Draft.{holes_of};
 ghost use Rattle.squawk_parser.specs.State.{HasNotFailed, Keeps, limited, with_limit_of};
 
 use crate::parser::Parser;
@@ -10,7 +10,7 @@ use crate::parser::Parser;
 /// It leaves open the markers that it found open, and no others.
 pub trait Part: Sized {
     ghost use Rattle.std.specs.Prelude.{◌≡◌};
-    ghost use Rattle.squawk_log.specs.Draft.{holes_of};
+    ghost use Rattle.squawk_output.specs.Draft.{holes_of};
     ghost use Rattle.squawk_parser.specs.State.{State, HasNotFailed, Keeps};
 
     /// What a run answers.

@@ -3,8 +3,8 @@ ghost use Rattle.std.specs.Prelude.{◌≡◌, ◌+◌, ◌<◌, ◌∷◌, [], 
 ghost use Rattle.std.specs.Str.{chars};
 ghost use Rattle.squawk_table.specs.Shape.{AreOneToken};
 ghost use Rattle.squawk_output.specs.Steps.{Error};
-ghost use Rattle.squawk_log.specs.Draft.{errors_of};
-ghost use Rattle.squawk_log.specs.Edits.{with_token};
+ghost use Rattle.squawk_output.specs.Draft.{errors_of};
+ghost use Rattle.squawk_output.specs.Edits.{with_token};
 ghost use Rattle.squawk_parser.specs.Recorded.{Puts};
 ghost use Rattle.squawk_parser.specs.State.{HasNotFailed, Keeps, Records, ahead};
 ghost use Rattle.squawk_parser.specs.declared.parser.parse_error.ParseError.TheVariants.{OutOfMemory, TooManyEvents};

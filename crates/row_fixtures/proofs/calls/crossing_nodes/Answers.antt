@@ -1,8 +1,8 @@
 use Rattle.std.proofs.Common.{◌≡◌, ◌≢◌, ◌∙◌, ℕ, ◌<◌, [], ◌∷◌, ap, refl, arith, lit<}
 use Rattle.std.proofs.lemmas.Bool.{eq-eqb, ne_eqb}
 use Rattle.squawk_kinds.specs.Kinds.{EOF}
-use Rattle.squawk_log.specs.Draft.{Made, Hole, ByStart, IsAboveIds, holes_of}
-use Rattle.squawk_log.specs.Edits.{started, completed, with_token}
+use Rattle.squawk_output.specs.Draft.{Made, Hole, ByStart, IsAboveIds, holes_of}
+use Rattle.squawk_output.specs.Edits.{started, completed, with_token}
 use Rattle.squawk_parser.specs.State.{State, HasNotFailed, Records, IsFresh, kind_at}
 use Rattle.squawk_parser.proofs.Holes.{without, without-one, HasNoHole-none_open, Contains-hole, below-hole, HasHoles-fresh, HasHoles-start, HasHoles-bump, HasHoles-complete, went-bump}
 use Rattle.row_fixtures.proofs.calls.crossing_nodes.Goals as goal

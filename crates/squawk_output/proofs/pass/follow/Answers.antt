@@ -2,7 +2,7 @@ use Rattle.std.proofs.Common.{◌+◌, ap, arith}
 use Rattle.squawk_output.specs.StoredEvents.{event_of, link_of, log_in}
 use Rattle.squawk_output.specs.declared.event.Event.TheVariants.{Finish}
 use Rattle.squawk_output.proofs.Follows.{Follows-next, chain-shorter, ends-events, ends-kinds, ends-passed, turn_fits}
-use Rattle.squawk_output.proofs.StoredEvents.{HaveTexts-set, event_at, landed, length-log_in, link_of-none, link_of-some, link_within, log_in-set}
+use Rattle.squawk_output.proofs.StoredEvents.{HaveEventTexts-set, event_at, landed, length-log_in, link_of-none, link_of-some, link_within, log_in-set}
 use Rattle.squawk_output.proofs.pass.follow.Goals as goal
 
 pub turn-requires : goal.turn-requires
@@ -61,7 +61,7 @@ loop-next-preserved c =
           (event_at texts events (c.loop-next.at + next) c.index.result.now _ Finish (link_within texts events c.loop-next.at next more lands) c.index.ensures)
           (landed texts events c.loop-next.at next more lands c.kind.result c.link-next.result c.index.result.now _ c.index.ensures (c.kind.ensures texts) (c.link-next.ensures texts))
           (ap (event_of texts) c.tombstone.ensures) c.push.new.self.items c.turn.new.self c.in_ok-push.ensures.items c.turn.ensures),
-      HaveTexts-set texts events (c.loop-next.at + next) c.tombstone.result (rw c.tombstone.ensures tt) c.loop-next.invariant.1,
+      HaveEventTexts-set texts events (c.loop-next.at + next) c.tombstone.result (rw c.tombstone.ensures tt) c.loop-next.invariant.1,
     )
 
 pub returns-clause-events : goal.returns-clause-events

@@ -1,14 +1,14 @@
 use Rattle.std.proofs.Common.{length}
 use Rattle.squawk_output.specs.Chain.{chain, hop}
 use Rattle.squawk_output.specs.Pass.{Follows}
-use Rattle.squawk_output.specs.StoredEvents.{HaveTexts, link_of, log_in}
+use Rattle.squawk_output.specs.StoredEvents.{HaveEventTexts, link_of, log_in}
 use Rattle.squawk_output.proofs.pass.follow.Given as goal
 
 abbrev pub invariant-loop-next : goal.invariant-loop-next
 invariant-loop-next l =
     Follows (log_in l.initial.passed.texts l.initial.events.items) l.initial.kinds.items l.initial.passed (hop l.initial.at (link_of l.initial.next))
     (log_in l.initial.passed.texts l.events.items) l.kinds.items l.passed (hop l.at (link_of l.next))
-    × HaveTexts l.initial.passed.texts l.events.items
+    × HaveEventTexts l.initial.passed.texts l.events.items
 
 abbrev pub decreases-loop-next : goal.decreases-loop-next
 decreases-loop-next l = length (chain (hop l.at (link_of l.next)) (log_in l.initial.passed.texts l.events.items))

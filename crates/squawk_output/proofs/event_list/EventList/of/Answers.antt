@@ -1,5 +1,5 @@
 use Rattle.std.proofs.Common.{arith, subst}
-use Rattle.squawk_output.proofs.StoredEvents.{errors_of-most, leads_on}
+use Rattle.squawk_output.proofs.StoredEvents.{errors_logged-most, leads_on}
 use Rattle.squawk_output.specs.EventLog.{LinksLead, Log}
 use Rattle.squawk_output.proofs.event_list.EventList.of.Goals as goal
 
@@ -13,7 +13,7 @@ push-requires-clause-errors c =
     omega (
       arith,
       c.loop-event.invariant.errors,
-      errors_of-most c.loop-event.yielded,
+      errors_logged-most c.loop-event.yielded,
       c.loop-event.invariant.whole,
       c.requires.few,
     )

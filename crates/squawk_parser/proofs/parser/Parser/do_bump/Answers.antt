@@ -1,6 +1,6 @@
 use Rattle.std.proofs.Common.{◌+◌, ◌∙◌, refl, sym, subst}
 use Rattle.std.specs.Prelude.{IsSome}
-use Rattle.squawk_log.specs.Edits.{with_token}
+use Rattle.squawk_output.specs.Edits.{with_token}
 use Rattle.squawk_table.specs.Shape.{AreOneToken}
 use Rattle.squawk_parser.specs.declared.parser.Parser.TheInside.{Inside}
 use Rattle.squawk_parser.specs.State.{IsSound, ahead}

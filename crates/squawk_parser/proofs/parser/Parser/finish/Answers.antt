@@ -1,5 +1,5 @@
 use Rattle.std.proofs.Common.{◌≤◌, arith, length}
-use Rattle.squawk_log.specs.Draft.{plain}
+use Rattle.squawk_output.specs.Draft.{plain}
 use Rattle.squawk_parser.proofs.ItemCounts.{length-plain}
 use Rattle.squawk_parser.proofs.parser.Parser.finish.Goals as goal
 

@@ -1,6 +1,6 @@
 use Rattle.std.proofs.Common.{◌≡◌, ◌∙◌, refl, sym}
 use Rattle.squawk_parser.specs.declared.parser.parse_error.ParseError.TheVariants.{TooManyErrors}
-use Rattle.squawk_log.specs.Draft.{errors_of}
+use Rattle.squawk_output.specs.Draft.{errors_of}
 use Rattle.squawk_parser.proofs.ParserViews.{seen}
 use Rattle.squawk_parser.proofs.RefusedError.{Puts-refused, Puts-full}
 use Rattle.squawk_parser.proofs.parser.Parser.has_room_for_error.Goals as goal

@@ -1,7 +1,7 @@
 use Rattle.std.proofs.Common.{◌≡◌, ◌∙◌, ◌∷◌, [], arith, refl, subst}
 use Rattle.std.specs.Prelude.{IfOk, string_bytes}
 use Rattle.std.specs.Str.{chars}
-use Rattle.squawk_log.specs.Edits.{with_error}
+use Rattle.squawk_output.specs.Edits.{with_error}
 use Rattle.squawk_output.specs.Steps.{Error}
 use Rattle.squawk_parser.specs.Recorded.{Puts}
 use Rattle.squawk_parser.specs.State.{IsSound}

@@ -1,6 +1,6 @@
 use Rattle.std.proofs.Common.{◌≡◌, ◌∙◌, ap, sym, refl, subst}
-use Rattle.squawk_log.specs.Draft.{IsAboveIds}
-use Rattle.squawk_log.specs.Edits.{started}
+use Rattle.squawk_output.specs.Draft.{IsAboveIds}
+use Rattle.squawk_output.specs.Edits.{started}
 use Rattle.squawk_parser.specs.State.{IsSound}
 use Rattle.squawk_parser.proofs.Noted.{noted}
 use Rattle.squawk_parser.proofs.ItemCounts.{HasFewTurns}

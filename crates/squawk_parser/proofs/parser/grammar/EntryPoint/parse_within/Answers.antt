@@ -1,9 +1,9 @@
 use Rattle.std.proofs.Common.{◌≡◌, ◌∙◌, ◌≤◌, ap, sym, subst, arith}
 use Rattle.std.proofs.lemmas.Result.{IfOk-weaker}
 use Rattle.squawk_output.specs.Steps.{Walk, errors_in}
-use Rattle.squawk_log.specs.Draft.{plain}
+use Rattle.squawk_output.specs.Draft.{plain}
 use Rattle.squawk_parser.specs.State.{State, Keeps, IsSound}
-use Rattle.squawk_log.proofs.PlainLog.{errors-plain}
+use Rattle.squawk_output.proofs.PlainLog.{errors-plain}
 use Rattle.squawk_parser.proofs.parser.grammar.EntryPoint.parse_within.Goals as goal
 use Rattle.squawk_parser.proofs.parser.grammar.EntryPoint.parse_within.Goals.{in-SourceFile, in-Plpgsql}
 

@@ -1,8 +1,8 @@
 use Rattle.std.proofs.Common.{◌≡◌, ◌∙◌, ap, sym, subst}
 use Rattle.std.specs.Prelude.{true, Contains}
-use Rattle.squawk_log.specs.Draft.{Draft, Hole, Open, Mark, Node}
-use Rattle.squawk_log.specs.LogDraft.{made_of}
-use Rattle.squawk_log.specs.Edits.{extended}
+use Rattle.squawk_output.specs.Draft.{Draft, Hole, Open, Mark, Node}
+use Rattle.squawk_output.specs.LogDraft.{made_of}
+use Rattle.squawk_output.specs.Edits.{extended}
 use Rattle.squawk_parser.specs.State.{State, HasNode, HasNotFailed}
 use Rattle.squawk_parser.proofs.ItemCounts.{HasFewTurns}
 use Rattle.squawk_parser.proofs.SoundExtended.{IsKept-extended}

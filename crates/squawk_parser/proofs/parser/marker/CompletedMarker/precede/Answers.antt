@@ -1,7 +1,7 @@
 use Rattle.std.proofs.Common.{rules, ◌≡◌, ◌∙◌, ap, sym, refl, subst}
 use Rattle.std.specs.Prelude.{true, Contains}
-use Rattle.squawk_log.specs.Draft.{ByPrecede, IsAboveIds, Node, Open}
-use Rattle.squawk_log.specs.Edits.{preceded}
+use Rattle.squawk_output.specs.Draft.{ByPrecede, IsAboveIds, Node, Open}
+use Rattle.squawk_output.specs.Edits.{preceded}
 use Rattle.squawk_parser.specs.State.{State, HasHole, HasNode, IsSound, Records}
 use Rattle.squawk_parser.proofs.Noted.{noted}
 use Rattle.squawk_parser.proofs.ItemCounts.{HasFewTurns}

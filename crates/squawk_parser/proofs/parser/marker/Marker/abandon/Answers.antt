@@ -1,7 +1,7 @@
 use Rattle.std.proofs.Common.{sym, subst}
 use Rattle.std.specs.Prelude.{Contains}
-use Rattle.squawk_log.specs.Draft.{Hole, Mark}
-use Rattle.squawk_log.specs.LogDraft.{made_of}
+use Rattle.squawk_output.specs.Draft.{Hole, Mark}
+use Rattle.squawk_output.specs.LogDraft.{made_of}
 use Rattle.squawk_parser.specs.State.{State, HasNotFailed}
 use Rattle.squawk_parser.proofs.ItemCounts.{HasFewTurns}
 use Rattle.squawk_parser.proofs.SoundExtended.{IsKept-abandoned}

@@ -1,8 +1,8 @@
 use Rattle.std.proofs.Common.{rules, ◌≡◌, ◌∙◌, ℕ, sym, refl, subst}
 use Rattle.std.specs.Prelude.{Contains}
-use Rattle.squawk_log.specs.Draft.{Hole, Made, Mark}
-use Rattle.squawk_log.specs.Edits.{completed}
-use Rattle.squawk_log.specs.LogDraft.{made_of}
+use Rattle.squawk_output.specs.Draft.{Hole, Made, Mark}
+use Rattle.squawk_output.specs.Edits.{completed}
+use Rattle.squawk_output.specs.LogDraft.{made_of}
 use Rattle.squawk_parser.specs.State.{State, HasHole, IsSound, Records}
 use Rattle.squawk_parser.proofs.Noted.{noted}
 use Rattle.squawk_parser.proofs.ItemCounts.{HasFewTurns}

@@ -1,3 +1,0 @@
-pub mod Draft
-pub mod Edits
-pub mod LogDraft

@@ -1,0 +1,71 @@
+-- The links and the turns of a log of which one event is put in, changed or taken out.
+use Rattle.std.proofs.Common.{◌≡◌, ◌≢◌, ℕ, zero, suc, ◌+◌, ◌-◌, ◌<◌, true, false, Some, None, [], ◌∷◌, ◌++◌, length, length-append, get_or, set, refl, ap, arith}
+use Rattle.squawk_output.specs.declared.event.Event.{Event}
+use Rattle.squawk_output.specs.declared.event.Event.TheVariants.{Start, Finish, Token, Error}
+use Rattle.squawk_output.specs.EventLog.{Lands, LinksLead, Log, ahead, is_start_at, leads, reaches, turns_of}
+use Rattle.squawk_output.proofs.Links.{Lands-still, start-set}
+use Rattle.squawk_output.proofs.LogTurns.{turns_at, turns_of-cons}
+use Rattle.squawk_output.proofs.Owners.{not_both}
+use Rattle.squawk_output.proofs.Gathered.{reaches-itself}
+
+-- ---- turns
+
+pub turns_of-push : (log : Log) (event : Event) → turns_of (log ++ event ∷ []) ≡ turns_of log + turns_at event
+turns_of-push [] event = omega (arith, turns_of-cons event [])
+turns_of-push (x ∷ xs) event = omega (arith, turns_of-cons x (xs ++ event ∷ []), turns_of-cons x xs, turns_of-push xs event)
+
+pub turns_of-set : (log : Log) (place : ℕ) (event d : Event) → place < length log
+    → turns_of (set log place event) + turns_at (get_or log place d) ≡ turns_of log + turns_at event
+turns_of-set [] place event d lt = absurd (omega arith)
+turns_of-set (x ∷ xs) zero event d lt = omega (arith, turns_of-cons event xs, turns_of-cons x xs)
+turns_of-set (x ∷ xs) (suc n) event d lt =
+    omega (arith, turns_of-cons x (set xs n event), turns_of-cons x xs, turns_of-set xs n event d (omega arith))
+
+-- ---- an event at the end
+
+start-push : (log : Log) (event : Event) (place : ℕ) → is_start_at log place ≡ true → is_start_at (log ++ event ∷ []) place ≡ true
+start-push [] event place h = absurd (cc)
+start-push (x ∷ xs) event zero h = h
+start-push (x ∷ xs) event (suc n) h = start-push xs event n h
+
+pub LinksLead-push : (log : Log) (event : Event) → LinksLead log → Lands event [] → LinksLead (log ++ event ∷ [])
+LinksLead-push [] event links lands = (lands, tt)
+LinksLead-push (x ∷ xs) event links lands = (Lands-still x xs (xs ++ event ∷ []) (start-push xs event) links.0, LinksLead-push xs event links.1 lands)
+
+-- ---- a Start in an event's place
+
+pub LinksLead-linked : (log : Log) (place to d kind : ℕ) → LinksLead log → to ≡ place + suc d → is_start_at log to ≡ true
+    → LinksLead (set log place (Start kind (Some (suc d))))
+LinksLead-linked [] place to d kind links far start = links
+LinksLead-linked (x ∷ xs) zero zero d kind links far start = absurd (omega arith)
+LinksLead-linked (x ∷ xs) zero (suc to) d kind links far start = let there : suc d - 1 ≡ to = omega arith in ((omega arith, rw there start), links.1)
+LinksLead-linked (x ∷ xs) (suc n) zero d kind links far start = absurd (omega arith)
+LinksLead-linked (x ∷ xs) (suc n) (suc to) d kind links far start = (
+  Lands-still x xs (set xs n (Start kind (Some (suc d)))) (start-set xs n kind (Some (suc d))) links.0,
+  LinksLead-linked xs n to d kind links.1 (omega arith) start,
+)
+
+-- ---- the last event taken out, where no link leads there
+
+start-front : (log : Log) (event : Event) (place : ℕ) → place ≢ length log → is_start_at (log ++ event ∷ []) place ≡ true → is_start_at log place ≡ true
+start-front [] event zero ne h = absurd (ne refl)
+start-front [] event (suc n) ne h = absurd (cc)
+start-front (x ∷ xs) event zero ne h = h
+start-front (x ∷ xs) event (suc n) ne h = start-front xs event n (λ e. ne (ap suc e)) h
+
+Lands-front : (x : Event) (log : Log) (event : Event) → Lands x (log ++ event ∷ []) → leads (ahead x) (λ place. reaches (log ++ event ∷ []) place (length log)) ≡ false
+    → Lands x log
+Lands-front (Start kind None) log event lands away = tt
+Lands-front (Start kind (Some distance)) log event lands away =
+    let whole = log ++ event ∷ [] in
+    let last : reaches whole (length log) (length log) ≡ true = reaches-itself whole (length log) (omega (arith, length-append log (event ∷ []))) in
+    (lands.0, start-front log event (distance - 1) (λ e. not_both (reaches whole (distance - 1) (length log)) (rw e last) away) lands.1)
+Lands-front Finish log event lands away = tt
+Lands-front (Token kind n) log event lands away = tt
+Lands-front (Error text) log event lands away = tt
+
+pub LinksLead-front : (log : Log) (event : Event) → LinksLead (log ++ event ∷ []) → ((i : ℕ) → i < length log → reaches (log ++ event ∷ []) i (length log) ≡ false)
+    → LinksLead log
+LinksLead-front [] event links away = tt
+LinksLead-front (x ∷ xs) event links away =
+    (Lands-front x xs event links.0 (away 0 (omega arith)), LinksLead-front xs event links.1 (λ i lt. away (suc i) (omega arith)))

@@ -1,0 +1,94 @@
+-- Which of two places has its items first in a gathered list.
+use Rattle.std.proofs.Common.{◌≡◌, ◌≢◌, ◌∙◌, ◌⊎◌, ℕ, zero, suc, ◌==◌, ◌<◌, ◌||◌, Bool, true, false, List, [], ◌∷◌, ◌++◌, sym, refl, ap, arith, if◌then◌else◌, inl, inr}
+use Rattle.std.specs.List.{list_any}
+use Rattle.std.proofs.Math.Bool.{or-true}
+use Rattle.std.proofs.lemmas.Bool.{ne_eqb}
+use Rattle.std.proofs.lemmas.Bool.Decides.{eqb_tells}
+use Rattle.std.proofs.lemmas.List.Folds.{list_any-append}
+use Rattle.squawk_output.specs.Draft.{Item}
+use Rattle.squawk_output.specs.Edits.{stands_before}
+use Rattle.squawk_output.proofs.Gathered.{each, picked}
+use Rattle.squawk_output.proofs.Groups.{down, itself, picked-down}
+
+any-down_none : (p : Item → Bool) (f : ℕ → List Item) (n : ℕ) → ((j : ℕ) → j < n → list_any p (f j) ≡ false) → list_any p (down f n) ≡ false
+any-down_none p f zero none = refl
+any-down_none p f (suc n) none = list_any-append p (f n) (down f n) ∙ rw (none n (omega arith)) (any-down_none p f n (λ j h. none j (omega arith)))
+
+any-down : (p : Item → Bool) (f : ℕ → List Item) (n k : ℕ) → k < n → list_any p (f k) ≡ true → list_any p (down f n) ≡ true
+any-down p f zero k lt has = absurd (omega arith)
+any-down p f (suc n) k lt has =
+    list_any-append p (f n) (down f n)
+    ∙ elim (eqb_tells n k) [
+      | inl e ↦ rw (e.1, has) refl
+      | inr e ↦ let ne = e.1 in rw (any-down p f n k (omega (arith, lt, ne)) has) (or-true (list_any p (f n)))
+    ]
+
+module _ (p q : Item → Bool) where
+  -- items that pass neither test say nothing
+  neither_cases : (a b : Bool) (r s t u : Bool) → (a || s) ≡ false → (b || t) ≡ false → (s ≡ false → t ≡ false → r ≡ u)
+      → (if a then true else if b then false else r) ≡ u
+  neither_cases true b r s t u h k go = absurd (cc)
+  neither_cases false true r s t u h k go = absurd (cc)
+  neither_cases false false r s t u h k go = go h k
+
+  neither : (xs ys : List Item) → list_any p xs ≡ false → list_any q xs ≡ false → stands_before p q (xs ++ ys) ≡ stands_before p q ys
+  neither [] ys h k = refl
+  neither (x ∷ xs) ys h k = neither_cases (p x) (q x) (stands_before p q (xs ++ ys)) (list_any p xs) (list_any q xs) (stands_before p q ys) h k (neither xs ys)
+
+  first_cases : (a b r s t : Bool) → (a || s) ≡ true → (b || t) ≡ false → (s ≡ true → t ≡ false → r ≡ true)
+      → (if a then true else if b then false else r) ≡ true
+  first_cases true b r s t h k go = refl
+  first_cases false true r s t h k go = absurd (cc)
+  first_cases false false r s t h k go = go h k
+
+  first_here : (xs ys : List Item) → list_any p xs ≡ true → list_any q xs ≡ false → stands_before p q (xs ++ ys) ≡ true
+  first_here [] ys h k = absurd (cc)
+  first_here (x ∷ xs) ys h k = first_cases (p x) (q x) (stands_before p q (xs ++ ys)) (list_any p xs) (list_any q xs) h k (first_here xs ys)
+
+  other_cases : (a b r s t : Bool) → (a || s) ≡ false → (b || t) ≡ true → (s ≡ false → t ≡ true → r ≡ false)
+      → (if a then true else if b then false else r) ≡ false
+  other_cases true b r s t h k go = absurd (cc)
+  other_cases false true r s t h k go = refl
+  other_cases false false r s t h k go = go h k
+
+  other_here : (xs ys : List Item) → list_any p xs ≡ false → list_any q xs ≡ true → stands_before p q (xs ++ ys) ≡ false
+  other_here [] ys h k = absurd (cc)
+  other_here (x ∷ xs) ys h k = other_cases (p x) (q x) (stands_before p q (xs ++ ys)) (list_any p xs) (list_any q xs) h k (other_here xs ys)
+
+  -- the one test is passed at place a alone, the other at place b alone
+  pub each-before : (items : ℕ → List Item) (n a b : ℕ) → a < b → a < n → ((i : ℕ) → i ≢ a → list_any p (items i) ≡ false) → ((i : ℕ) → i ≢ b → list_any q (items i) ≡ false)
+      → list_any p (items a) ≡ true → stands_before p q (each items n) ≡ true
+  each-before items zero a b lt within ps qs has = absurd (omega arith)
+  each-before items (suc n) zero b lt within ps qs has = first_here (items 0) (each (λ i. items (suc i)) n) has (qs 0 (omega (arith, lt)))
+  each-before items (suc n) (suc a) zero lt within ps qs has = absurd (omega arith)
+  each-before items (suc n) (suc a) (suc b) lt within ps qs has =
+      neither (items 0) (each (λ i. items (suc i)) n) (ps 0 (omega arith)) (qs 0 (omega arith))
+      ∙ each-before (λ i. items (suc i)) n a b (omega arith) (omega arith) (λ i ne. ps (suc i) (omega (arith, ne))) (λ i ne. qs (suc i) (omega (arith, ne))) has
+
+  pub each-behind : (items : ℕ → List Item) (n a b : ℕ) → b < a → b < n → ((i : ℕ) → i ≢ a → list_any p (items i) ≡ false) → ((i : ℕ) → i ≢ b → list_any q (items i) ≡ false)
+      → list_any q (items b) ≡ true → stands_before p q (each items n) ≡ false
+  each-behind items zero a b lt within ps qs has = absurd (omega arith)
+  each-behind items (suc n) a zero lt within ps qs has = other_here (items 0) (each (λ i. items (suc i)) n) (ps 0 (omega (arith, lt))) has
+  each-behind items (suc n) zero (suc b) lt within ps qs has = absurd (omega arith)
+  each-behind items (suc n) (suc a) (suc b) lt within ps qs has =
+      neither (items 0) (each (λ i. items (suc i)) n) (ps 0 (omega arith)) (qs 0 (omega arith))
+      ∙ each-behind (λ i. items (suc i)) n a b (omega arith) (omega arith) (λ i ne. ps (suc i) (omega (arith, ne))) (λ i ne. qs (suc i) (omega (arith, ne))) has
+
+-- a test that is passed at one place alone is passed in the group of its owner alone
+module _ (own : ℕ → ℕ) (items : ℕ → List Item) (n place : ℕ) (p : Item → Bool) (only : (j : ℕ) → j ≢ place → list_any p (items j) ≡ false) where
+  some-if : (b : Bool) (v : List Item) → list_any p v ≡ false → list_any p (if b then v else []) ≡ false
+  some-if true v e = e
+  some-if false v e = refl
+
+  pub group-none : (i : ℕ) → i ≢ own place → list_any p (picked (λ j. own j == i) items n) ≡ false
+  group-none i ne =
+      ap (list_any p) (picked-down (λ j. own j == i) items n) ∙ any-down_none p (λ j. if own j == i then items j else []) n (λ j lt. cases j (eqb_tells j place))
+    where
+      cases : (j : ℕ) → (((j == place) ≡ true) × (j ≡ place)) ⊎ (((j == place) ≡ false) × (j ≢ place)) → list_any p (if own j == i then items j else []) ≡ false
+      cases j (inl e) = rw (e.1, ne_eqb (own place) i (λ y. ne (sym y))) refl
+      cases j (inr e) = some-if (own j == i) (items j) (only j e.1)
+
+  pub group-some : place < n → list_any p (items place) ≡ true → list_any p (picked (λ j. own j == own place) items n) ≡ true
+  group-some lt has =
+      ap (list_any p) (picked-down (λ j. own j == own place) items n)
+      ∙ any-down p (λ j. if own j == own place then items j else []) n place lt (rw (itself (own place)) has)

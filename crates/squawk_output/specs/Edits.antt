@@ -1,0 +1,102 @@
+-- What the acts of a parser make of its draft. Each edit is one recorded event, but for those of a marker that is abandoned or that a
+-- node is extended to, and changes nothing else.
+use Rattle.std.specs.Prelude.{ℕ, ◌==◌, ◌+◌, ◌-◌, ◌*◌, ◌&&◌, Bool, true, false, List, [], ◌∷◌, ◌++◌, count_by, if◌then◌else◌}
+use Rattle.std.specs.List.{flat_map}
+use Rattle.squawk_output.specs.Draft.{Draft, Item, Hole, Open, Close, Token, Error, Node, ByStart, ByPrecede}
+
+-- the hole of a marker
+abbrev pub is_hole_of : ℕ → Item → Bool
+is_hole_of id (Hole i made) = i == id
+is_hole_of id item = false
+
+-- the opening of a node
+abbrev pub is_opening_of : ℕ → Item → Bool
+is_opening_of id (Open i kind free) = i == id
+is_opening_of id item = false
+
+-- the items that pass a test give place to these
+abbrev pub replaced : (Item → Bool) → (Item → List Item) → List Item → List Item
+replaced p f items = flat_map (λ item. if p item then f item else item ∷ []) items
+
+-- an item at the end is one more event and one more entry, which takes so many turns
+abbrev pub pushed : Draft → Item → ℕ → Draft
+pushed d item turns = record { items = d.items ++ item ∷ []; recorded = d.recorded + 1; entries = d.entries + 1; turns_due = d.turns_due + turns }
+
+-- a hole at the end
+abbrev pub started : Draft → ℕ → Draft
+started d id = pushed d (Hole id (ByStart d.entries)) 2
+
+-- the hole becomes a free opening in its place
+abbrev pub filled : List Item → ℕ → ℕ → List Item
+filled items id kind = replaced (is_hole_of id) (λ item. Open id kind true ∷ []) items
+
+-- and a closing stands at the end
+abbrev pub completed : Draft → ℕ → ℕ → Draft
+completed d id kind = pushed (record d { items = filled d.items id kind }) Close 1
+
+-- a token at the end
+abbrev pub with_token : Draft → ℕ → ℕ → Draft
+with_token d kind n = pushed d (Token kind n) 1
+
+-- an error at the end
+abbrev pub with_error : Draft → List ℕ → Draft
+with_error d text = pushed d (Error text) 1
+
+-- an opening that can't be preceded again
+abbrev pub preceded_item : Item → Item
+preceded_item (Open i kind free) = Open i kind false
+preceded_item item = item
+
+-- a hole directly before the opening of a node, which can't be preceded again
+abbrev pub preceded : Draft → ℕ → ℕ → Draft
+preceded d node id = record {
+  items = replaced (is_opening_of node) (λ item. Hole id (ByPrecede d.entries) ∷ preceded_item item ∷ []) d.items;
+  recorded = d.recorded + 1;
+  entries = d.entries + 1;
+  turns_due = d.turns_due + 4;
+}
+
+-- the hole of a marker goes
+abbrev pub without_hole : ℕ → List Item → List Item
+without_hole id items = replaced (is_hole_of id) (λ item. []) items
+
+-- whether a hole was made by a start and is the last of so many entries
+abbrev pub is_last_start : ℕ → Item → Bool
+is_last_start entries (Hole i (ByStart at)) = at + 1 == entries
+is_last_start entries item = false
+
+-- whether an item is a marker's hole and such a one, so that its entry goes with it
+abbrev pub takes_entry : ℕ → ℕ → Item → Bool
+takes_entry id entries item = is_hole_of id item && is_last_start entries item
+
+-- how many entries go with a marker's hole: one or none
+abbrev pub entries_gone : Draft → ℕ → ℕ
+entries_gone d id = count_by (takes_entry id d.entries) d.items
+
+-- That takes no recorded event away. An entry that goes takes its two turns away.
+abbrev pub abandoned : Draft → ℕ → Draft
+abandoned d id = record {
+  items = without_hole id d.items;
+  recorded = d.recorded;
+  entries = d.entries - entries_gone d id;
+  turns_due = d.turns_due - 2 * entries_gone d id;
+}
+
+-- whether an item that passes the first test stands before all that pass the second
+abbrev pub stands_before : (Item → Bool) → (Item → Bool) → List Item → Bool
+stands_before p q [] = false
+stands_before p q (item ∷ items) = if p item then true else if q item then false else stands_before p q items
+
+-- the opening of a node goes to the hole's place
+abbrev pub moved : Node → ℕ → List Item → List Item
+moved node id items =
+    replaced (is_hole_of id) (λ item. Open node.id node.kind true ∷ []) (replaced (is_opening_of node.id) (λ item. []) items)
+
+-- the opening moves to the hole's place if that stands before it, and the hole goes
+abbrev pub extended_items : Node → ℕ → List Item → List Item
+extended_items node id items =
+    if stands_before (is_hole_of id) (is_opening_of node.id) items then moved node id items else without_hole id items
+
+-- that takes no recorded event and no entry away; a link is made, which takes two turns
+abbrev pub extended : Draft → Node → ℕ → Draft
+extended d node id = record d { items = extended_items node id d.items; turns_due = d.turns_due + 2 }
