@@ -11,7 +11,9 @@ use Rattle.squawk_kinds.specs.Kinds.{TOMBSTONE}
 use Rattle.squawk_output.specs.declared.event.Event.{Event}
 use Rattle.squawk_output.specs.declared.event.Event.TheVariants.{Finish}
 use Rattle.squawk_output.specs.Chain.{tombstone}
-use Rattle.squawk_output.specs.Draft.{ByPrecede, ByStart, Close, Error, Hole, Item, Made, Open, Token, errors_of}
+use Rattle.squawk_output.specs.Draft.{Close, Error, Hole, Item, Open, Token, errors_of}
+use Rattle.squawk_output.specs.declared.log.Made.{Made}
+use Rattle.squawk_output.specs.declared.log.Made.TheVariants.{ByPrecede, ByStart}
 use Rattle.squawk_output.specs.Edits.{abandoned, entries_gone, takes_entry, is_hole_of, is_last_start, without_hole}
 use Rattle.squawk_output.specs.EventLog.{LinksLead, Log, reaches, turns_of}
 use Rattle.squawk_output.proofs.Gathered.{least_owner}
@@ -79,7 +81,8 @@ module _ (log : Log) (marks : List Bool) (recorded errors : ℕ) (is : IsRecord 
         elim (eqb_tells i id) [
           | inl e ↦
               let same_made : how ≡ made = sym found.how ∙ (ap (made_by log) e.1 ∙ here.how) in
-              and-false (i == id) (is_last_start (length log) (Hole i how)) (rw same_made stays)
+              let same : Hole i how ≡ Hole id made = rw (e.1, same_made) refl in
+              and-false (i == id) (is_last_start (length log) (Hole i how)) (ap (is_last_start (length log)) same ∙ stays)
           | inr e ↦ rw (ne_eqb i id e.1) refl
         ]
     none_goes (Open i kind free) there = refl
@@ -95,16 +98,16 @@ module _ (log : Log) (marks : List Bool) (recorded errors : ℕ) (is : IsRecord 
 
 -- ---- the event is taken out
 
-owns_itself : (log : Log) (id : ℕ) → made_by log id ≡ ByStart id → least_owner log id ≡ id
+owns_itself : (log : Log) (id : ℕ) → made_by log id ≡ ByStart → least_owner log id ≡ id
 owns_itself log id made = cases (least_owner log id == id) refl made
   where
-    cases : (b : Bool) → (least_owner log id == id) ≡ b → (if b then ByStart id else ByPrecede id) ≡ ByStart id → least_owner log id ≡ id
+    cases : (b : Bool) → (least_owner log id == id) ≡ b → (if b then ByStart else ByPrecede) ≡ ByStart → least_owner log id ≡ id
     cases true e h = eqb-true (least_owner log id) id e
     cases false e h = absurd (cc)
 
 module _ (log : Log) (marks : List Bool) (recorded errors : ℕ) (is : IsRecord (log ++ tombstone ∷ []) (marks ++ true ∷ []) recorded errors)
     (same : length marks ≡ length log)
-    (made : made_by (log ++ tombstone ∷ []) (length log) ≡ ByStart (length log)) where
+    (made : made_by (log ++ tombstone ∷ []) (length log) ≡ ByStart) where
   abbrev whole : Log
   whole = log ++ tombstone ∷ []
 
@@ -117,7 +120,7 @@ module _ (log : Log) (marks : List Bool) (recorded errors : ℕ) (is : IsRecord 
   links-popped : LinksLead log
   links-popped = LinksLead-front log tombstone is.links not_reached
 
-  items-whole : draft_items whole whole_marks ≡ draft_items log marks ++ Hole (length log) (ByStart (length log)) ∷ []
+  items-whole : draft_items whole whole_marks ≡ draft_items log marks ++ Hole (length log) ByStart ∷ []
   items-whole = draft_items-push log marks tombstone true links-popped same
 
   none_there : without_hole (length log) (draft_items log marks) ≡ draft_items log marks
@@ -130,10 +133,10 @@ module _ (log : Log) (marks : List Bool) (recorded errors : ℕ) (is : IsRecord 
 
   items-popped : draft_items log marks ≡ without_hole (length log) (draft_items whole whole_marks)
   items-popped =
-      let gone : without_hole (length log) (Hole (length log) (ByStart (length log)) ∷ []) ≡ [] = rw (itself (length log)) refl in
+      let gone : without_hole (length log) (Hole (length log) ByStart ∷ []) ≡ [] = rw (itself (length log)) refl in
       sym
       (ap (without_hole (length log)) items-whole
-      ∙ (flat_map-append _ (draft_items log marks) (Hole (length log) (ByStart (length log)) ∷ [])
+      ∙ (flat_map-append _ (draft_items log marks) (Hole (length log) ByStart ∷ [])
       ∙ (ap (λ ys. without_hole (length log) (draft_items log marks) ++ ys) gone ∙ (append-nil (without_hole (length log) (draft_items log marks)) ∙ none_there))))
 
   none_below : (item : Item) → Contains (draft_items log marks) item → takes_entry (length log) (length whole) item ≡ false
@@ -147,7 +150,7 @@ module _ (log : Log) (marks : List Bool) (recorded errors : ℕ) (is : IsRecord 
   one_goes : entries_gone (draft_of whole whole_marks recorded) (length log) ≡ 1
   one_goes =
       let p = takes_entry (length log) (length whole) in
-      let hole = Hole (length log) (ByStart (length log)) in
+      let hole = Hole (length log) ByStart in
       let last : p hole ≡ true = rw (itself (length log)) (eq-eqb (length log + 1) (length whole) (omega (arith, length-push log tombstone))) in
       let below : count_by p (draft_items log marks) ≡ 0 = count-none p (draft_items log marks) none_below in
       omega (

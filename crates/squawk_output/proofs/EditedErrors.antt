@@ -1,7 +1,9 @@
 -- The errors of a draft stay where holes and openings are edited.
 use Rattle.std.proofs.Common.{◌≡◌, ℕ, ◌+◌, ◌==◌, Bool, true, false, List, [], ◌∷◌, ◌++◌, cond, if◌then◌else◌, refl, sym, ap, ◌∙◌}
 use Rattle.std.proofs.lemmas.List.Sums.{sum_by-append}
-use Rattle.squawk_output.specs.Draft.{Item, Hole, Open, Close, Token, Error, errors_of, is_error_item, ByStart, Made, Node}
+use Rattle.squawk_output.specs.Draft.{Item, Hole, Open, Close, Token, Error, errors_of, is_error_item, Node}
+use Rattle.squawk_output.specs.declared.log.Made.{Made}
+use Rattle.squawk_output.specs.declared.log.Made.TheVariants.{ByStart}
 use Rattle.squawk_output.specs.Edits.{filled, is_hole_of, is_opening_of, replaced, preceded_item, without_hole, stands_before, moved, extended_items}
 
 pub errors-append : (xs ys : List Item) → errors_of (xs ++ ys) ≡ errors_of xs + errors_of ys
@@ -61,7 +63,7 @@ module _ (node id : ℕ) (made : Made) where
 module _ (node : Node) (id : ℕ) (items : List Item) where
   errors-moved : errors_of (moved node id items) ≡ errors_of items
   errors-moved =
-      errors-at_hole id (Open node.id node.kind true ∷ []) refl (replaced (is_opening_of node.id) (λ item. []) items) ∙ errors-gone node.id id (ByStart 0) items
+      errors-at_hole id (Open node.id node.kind true ∷ []) refl (replaced (is_opening_of node.id) (λ item. []) items) ∙ errors-gone node.id id ByStart items
 
   extended_cases : (b : Bool) → errors_of (if b then moved node id items else without_hole id items) ≡ errors_of items
   extended_cases true = errors-moved

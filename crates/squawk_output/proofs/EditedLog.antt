@@ -10,7 +10,9 @@ use Rattle.squawk_kinds.specs.Kinds.{TOMBSTONE}
 use Rattle.squawk_output.specs.declared.event.Event.{Event}
 use Rattle.squawk_output.specs.declared.event.Event.TheVariants.{Start, Finish}
 use Rattle.squawk_output.specs.Chain.{tombstone}
-use Rattle.squawk_output.specs.Draft.{ByPrecede, ByStart, Close, Draft, Item, Made, Hole, Open, errors_of}
+use Rattle.squawk_output.specs.Draft.{Close, Draft, Item, Hole, Open, errors_of}
+use Rattle.squawk_output.specs.declared.log.Made.{Made}
+use Rattle.squawk_output.specs.declared.log.Made.TheVariants.{ByPrecede, ByStart}
 use Rattle.squawk_output.specs.Edits.{completed, extended, extended_items, filled, is_opening_of, preceded, preceded_item, replaced}
 use Rattle.squawk_output.specs.EventLog.{Lands, Log, is_start_at, turns_of}
 use Rattle.squawk_output.specs.LogDraft.{IsRecord, draft_items, draft_of, items_of}
@@ -35,7 +37,7 @@ draft_is items recorded entries turns d p q r s = rw (p, q, r, s) refl
 module _ (log : Log) (marks : List Bool) (recorded errors : ℕ) (is : IsRecord log marks recorded errors) (event : Event) (mark : Bool) (lands : Lands event [])
     (empty : mark ≡ true → event ≡ tombstone) where
   abbrev put : List Item
-  put = items_of (length log) (ByStart (length log)) event mark
+  put = items_of (length log) ByStart event mark
 
   holes-put : HaveHoles (log ++ event ∷ []) (marks ++ mark ∷ [])
   holes-put place lt marked =
@@ -192,7 +194,7 @@ module _ (log : Log) (marks : List Bool) (recorded errors : ℕ) (is : IsRecord 
       ]
 
   items-preceded : draft_items (set more node link) (marks ++ true ∷ [])
-      ≡ replaced (is_opening_of node) (λ item. Hole (length log) (ByPrecede (length log)) ∷ preceded_item item ∷ []) (draft_items log marks)
+      ≡ replaced (is_opening_of node) (λ item. Hole (length log) ByPrecede ∷ preceded_item item ∷ []) (draft_items log marks)
   items-preceded =
       ap (λ n. draft_items (set more node (Start kind (Some n))) (marks ++ true ∷ [])) gap
       ∙ draft_items-preceded log marks node kind (length log - node - 1) is.links is.same_length far here
@@ -204,13 +206,13 @@ module _ (log : Log) (marks : List Bool) (recorded errors : ℕ) (is : IsRecord 
     holes = holes-preceded;
     few = omega (arith, is.few, length-push log tombstone, length-set more node link);
     small = room;
-    errors = is.errors ∙ (sym (errors-preceded node (length log) (ByPrecede (length log)) (draft_items log marks)) ∙ ap errors_of (sym items-preceded));
+    errors = is.errors ∙ (sym (errors-preceded node (length log) ByPrecede (draft_items log marks)) ∙ ap errors_of (sym items-preceded));
   }
 
-  pub draft_of-preceded : draft_of (set more node link) (marks ++ true ∷ []) (recorded + 1) ≡ preceded (draft_of log marks recorded) node (length log)
+  pub draft_of-preceded : draft_of (set more node link) (marks ++ true ∷ []) (recorded + 1) ≡ preceded (draft_of log marks recorded) node
   draft_of-preceded =
       draft_is (draft_items (set more node link) (marks ++ true ∷ [])) (recorded + 1) (length (set more node link)) (turns_of (set more node link))
-      (preceded (draft_of log marks recorded) node (length log)) items-preceded refl (omega (arith, length-set more node link, length-push log tombstone))
+      (preceded (draft_of log marks recorded) node) items-preceded refl (omega (arith, length-set more node link, length-push log tombstone))
       (omega (
         arith,
         turns_of-set more node link Finish node-within,

@@ -9,7 +9,8 @@ use Rattle.squawk_kinds.specs.Kinds.{TOMBSTONE}
 use Rattle.squawk_output.specs.declared.event.Event.{Event}
 use Rattle.squawk_output.specs.declared.event.Event.TheVariants.{Start, Finish, Token, Error}
 use Rattle.squawk_output.specs.Chain.{tombstone}
-use Rattle.squawk_output.specs.Draft.{Item, Made, Hole, Open}
+use Rattle.squawk_output.specs.Draft.{Item, Hole, Open}
+use Rattle.squawk_output.specs.declared.log.Made.{Made}
 use Rattle.squawk_output.specs.Edits.{extended_items, is_hole_of, is_opening_of, moved, replaced, stands_before, without_hole}
 use Rattle.squawk_output.specs.EventLog.{Log, ahead, has_link}
 use Rattle.squawk_output.proofs.Gathered.{gathered, least_owner, picked}

@@ -7,13 +7,13 @@ use Rattle.std.proofs.lemmas.Bool.{eqb-true}
 use Rattle.squawk_output.specs.declared.event.Event.{Event}
 use Rattle.squawk_output.specs.declared.event.Event.TheVariants.{Finish}
 use Rattle.squawk_output.specs.Chain.{tombstone}
-use Rattle.squawk_output.specs.Draft.{ByStart, Draft, Hole, Made, Open}
+use Rattle.squawk_output.specs.Draft.{Draft, Hole, Open}
+use Rattle.squawk_output.specs.declared.log.Made.{Made}
+use Rattle.squawk_output.specs.declared.log.Made.TheVariants.{ByPrecede, ByStart}
 use Rattle.squawk_output.specs.Edits.{abandoned, is_last_start}
 use Rattle.squawk_output.specs.EventLog.{Log}
-use Rattle.squawk_output.specs.LogDraft.{HasHoleOf, IsRecord, draft_of, made_of}
+use Rattle.squawk_output.specs.LogDraft.{HasHoleOf, IsRecord, draft_of}
 use Rattle.squawk_output.proofs.GatheredItems.{made_by}
-use Rattle.squawk_output.specs.declared.log.Made.{Made as Given}
-use Rattle.squawk_output.specs.declared.log.Made.TheVariants as given
 use Rattle.squawk_output.proofs.AbandonedLog.{IsRecord-popped, draft_of-popped}
 use Rattle.squawk_output.proofs.LogEdits.{length-push}
 use Rattle.squawk_output.proofs.LogItems.{IsHoleAt, IsHoleAt-found, IsNodeAt, IsNodeAt-found}
@@ -34,13 +34,13 @@ module _ (log : Log) (marks : List Bool) (recorded : ℕ) (d : Draft) (seen : dr
 pub tested-last : (m n id : ℕ) (made : Made) (b : Bool) → m ≡ n → b ≡ is_last_start m (Hole id made) → is_last_start n (Hole id made) ≡ b
 tested-last m n id made b same is = subst (λ k. is_last_start k (Hole id made) ≡ b) same (sym is)
 
-last_start : (entries id : ℕ) (how : Given) → is_last_start entries (Hole id (made_of how id)) ≡ true → (made_of how id ≡ ByStart id) × (id + 1 ≡ entries)
-last_start entries id given.ByStart e = (refl, eqb-true (id + 1) entries e)
-last_start entries id given.ByPrecede e = absurd (cc)
+last_start : (entries id : ℕ) (how : Made) → is_last_start entries (Hole id how) ≡ true → (how ≡ ByStart) × (id + 1 ≡ entries)
+last_start entries id ByStart e = (refl, eqb-true (id + 1) entries e)
+last_start entries id ByPrecede e = absurd (cc)
 
-module _ (log front : Log) (marks front_marks : List Bool) (event : Event) (mark : Bool) (recorded errors id : ℕ) (how : Given)
+module _ (log front : Log) (marks front_marks : List Bool) (event : Event) (mark : Bool) (recorded errors id : ℕ) (how : Made)
     (is : IsRecord log marks recorded errors)
-    (here : IsHoleAt log marks id (made_of how id)) (last : is_last_start (length log) (Hole id (made_of how id)) ≡ true) (split : log ≡ front ++ event ∷ []) (split_marks : marks ≡ front_marks ++ mark ∷ []) where
+    (here : IsHoleAt log marks id how) (last : is_last_start (length log) (Hole id how) ≡ true) (split : log ≡ front ++ event ∷ []) (split_marks : marks ≡ front_marks ++ mark ∷ []) where
   at_end : id ≡ length front
   at_end = omega (arith, (last_start (length log) id how last).1, ap length split, length-push front event)
 
@@ -66,7 +66,7 @@ module _ (log front : Log) (marks front_marks : List Bool) (event : Event) (mark
   record_whole : IsRecord (front ++ tombstone ∷ []) (front_marks ++ true ∷ []) recorded errors
   record_whole = rw (← whole, ← whole_marks) is
 
-  started_last : made_by (front ++ tombstone ∷ []) (length front) ≡ ByStart (length front)
+  started_last : made_by (front ++ tombstone ∷ []) (length front) ≡ ByStart
   started_last = rw (← whole, ← at_end) (here.how ∙ (last_start (length log) id how last).0)
 
   pub IsRecord-front : IsRecord front front_marks recorded errors

@@ -3,12 +3,14 @@ use Rattle.std.proofs.Common.{◌≡◌, ℕ, ◌==◌, Bool, false, List, lengt
 use Rattle.squawk_output.specs.declared.event.Event.TheVariants.{Finish}
 use Rattle.squawk_output.specs.EventLog.{Log}
 use Rattle.squawk_output.proofs.Gathered.{gathered, in_list_order-gathered, least_owner, owner-least}
-use Rattle.squawk_output.specs.Draft.{ByPrecede, ByStart, Item, Made}
+use Rattle.squawk_output.specs.Draft.{Item}
+use Rattle.squawk_output.specs.declared.log.Made.{Made}
+use Rattle.squawk_output.specs.declared.log.Made.TheVariants.{ByPrecede, ByStart}
 use Rattle.squawk_output.specs.LogDraft.{draft_items, items_at, items_of}
 
 -- how a hole at a place was made
 abbrev pub made_by : Log → ℕ → Made
-made_by log place = if least_owner log place == place then ByStart place else ByPrecede place
+made_by log place = if least_owner log place == place then ByStart else ByPrecede
 
 -- the items of the event at a place
 abbrev pub place_items : Log → List Bool → ℕ → List Item

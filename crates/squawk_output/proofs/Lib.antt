@@ -26,6 +26,8 @@ pub mod GrownLog
 pub mod EditedErrors
 pub mod EditedLog
 pub mod AbandonedLog
-pub mod IdsBelow
+pub mod Sizes
+pub mod LoggedDraft
 pub mod FoundHoles
+pub mod KeptLog
 pub mod DraftExamples

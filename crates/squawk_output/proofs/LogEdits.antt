@@ -8,7 +8,9 @@ use Rattle.std.proofs.lemmas.List.{append-nil, length-set, get_or-set_same, get_
 use Rattle.squawk_output.specs.declared.event.Event.{Event}
 use Rattle.squawk_output.specs.declared.event.Event.TheVariants.{Start, Finish}
 use Rattle.squawk_output.specs.Chain.{tombstone}
-use Rattle.squawk_output.specs.Draft.{ByPrecede, ByStart, Item, Made, Hole, Open}
+use Rattle.squawk_output.specs.Draft.{Item, Hole, Open}
+use Rattle.squawk_output.specs.declared.log.Made.{Made}
+use Rattle.squawk_output.specs.declared.log.Made.TheVariants.{ByPrecede, ByStart}
 use Rattle.squawk_output.specs.Edits.{is_hole_of, is_opening_of, preceded_item, replaced}
 use Rattle.squawk_output.specs.EventLog.{LinksLead, Log, ahead}
 use Rattle.squawk_output.proofs.Gathered.{gathered, least_owner}
@@ -32,17 +34,17 @@ module _ (log : Log) (marks : List Bool) (event : Event) (mark : Bool) (links : 
   last_mark : get_or (marks ++ mark ∷ []) (length log) false ≡ mark
   last_mark = ap (λ i. get_or (marks ++ mark ∷ []) i false) (sym same) ∙ get_or-append_seam marks mark [] false
 
-  pushed-last : place_items (log ++ event ∷ []) (marks ++ mark ∷ []) (length log) ≡ items_of (length log) (ByStart (length log)) event mark
+  pushed-last : place_items (log ++ event ∷ []) (marks ++ mark ∷ []) (length log) ≡ items_of (length log) ByStart event mark
   pushed-last = rw (owner-last log event links, itself (length log), get_or-append_seam log event [] Finish, last_mark) refl
 
-  pub draft_items-push : draft_items (log ++ event ∷ []) (marks ++ mark ∷ []) ≡ draft_items log marks ++ items_of (length log) (ByStart (length log)) event mark
+  pub draft_items-push : draft_items (log ++ event ∷ []) (marks ++ mark ∷ []) ≡ draft_items log marks ++ items_of (length log) ByStart event mark
   draft_items-push =
       draft_items-gathered (log ++ event ∷ []) (marks ++ mark ∷ [])
       ∙ (ap (gathered (least_owner (log ++ event ∷ [])) (place_items (log ++ event ∷ []) (marks ++ mark ∷ []))) (length-push log event)
       ∙ (gathered-push (least_owner log) (least_owner (log ++ event ∷ [])) (place_items log marks) (place_items (log ++ event ∷ []) (marks ++ mark ∷ [])) (length log) (owner-push log event)
       pushed-below (λ j lt. omega (arith, owner-most log j, lt)) (owner-last log event links)
       ∙ (ap (λ ys. gathered (least_owner log) (place_items log marks) (length log) ++ ys) pushed-last
-      ∙ ap (λ ys. ys ++ items_of (length log) (ByStart (length log)) event mark) (sym (draft_items-gathered log marks)))))
+      ∙ ap (λ ys. ys ++ items_of (length log) ByStart event mark) (sym (draft_items-gathered log marks)))))
 
 -- a hole's event changed to one without a link, and its mark taken away: the hole gives place to what the event then stands for
 pub draft_items-filled : (log : Log) (marks : List Bool) (id kind : ℕ) (event : Event) (f : Item → List Item) → id < length log → length marks ≡ length log
@@ -84,7 +86,7 @@ module _ (log : Log) (marks : List Bool) (node kind d : ℕ) (links : LinksLead 
   new_marks = marks ++ true ∷ []
 
   abbrev edit : Item → List Item
-  edit item = Hole n (ByPrecede n) ∷ preceded_item item ∷ []
+  edit item = Hole n ByPrecede ∷ preceded_item item ∷ []
 
   -- the items of a place as the edit has them, and none of the new one, which stand at the node's
   abbrev edited : ℕ → List Item
@@ -124,7 +126,7 @@ module _ (log : Log) (marks : List Bool) (node kind d : ℕ) (links : LinksLead 
   marks_below : (j : ℕ) → j < n → get_or new_marks j false ≡ get_or marks j false
   marks_below j lt = get_or-append marks (true ∷ []) false j (omega (arith, lt, same))
 
-  new_last : place_items new new_marks n ≡ Hole n (ByPrecede n) ∷ []
+  new_last : place_items new new_marks n ≡ Hole n ByPrecede ∷ []
   new_last =
       let event : get_or new n Finish ≡ tombstone =
       get_or-set_other more node n linked Finish (λ e. absurd (omega (arith, e, is.within))) ∙ get_or-append_seam log tombstone [] Finish in
@@ -139,7 +141,7 @@ module _ (log : Log) (marks : List Bool) (node kind d : ℕ) (links : LinksLead 
       let mark : get_or new_marks node false ≡ false = marks_below node is.within ∙ is.unmarked in
       rw (event, mark, is.whole) refl
 
-  old_node : replaced (is_opening_of node) edit (place_items log marks node) ≡ Hole n (ByPrecede n) ∷ Open node kind false ∷ []
+  old_node : replaced (is_opening_of node) edit (place_items log marks node) ≡ Hole n ByPrecede ∷ Open node kind false ∷ []
   old_node = rw (is.event, is.unmarked, is.whole, itself node) refl
 
   elsewhere : (j : ℕ) → j < n → j ≢ node → place_items new new_marks j ≡ place_items log marks j
@@ -154,7 +156,7 @@ module _ (log : Log) (marks : List Bool) (node kind d : ℕ) (links : LinksLead 
   edited_node : edited node ≡ place_items new new_marks n ++ place_items new new_marks node
   edited_node =
       edited_below node is.within
-      ∙ (old_node ∙ sym (ap (λ ys. ys ++ place_items new new_marks node) new_last ∙ ap (λ ys. Hole n (ByPrecede n) ∷ ys) new_node))
+      ∙ (old_node ∙ sym (ap (λ ys. ys ++ place_items new new_marks node) new_last ∙ ap (λ ys. Hole n ByPrecede ∷ ys) new_node))
 
   edited_elsewhere : (j : ℕ) → j < suc n → j ≢ n → j ≢ node → edited j ≡ place_items new new_marks j
   edited_elsewhere j h ne not_node =
@@ -172,7 +174,7 @@ module _ (log : Log) (marks : List Bool) (node kind d : ℕ) (links : LinksLead 
       ∙ ap (replaced (is_opening_of node) edit) (sym (draft_items-gathered log marks)))))
 
   pub draft_items-preceded : draft_items (set (log ++ tombstone ∷ []) node (Start kind (Some (suc d)))) (marks ++ true ∷ [])
-      ≡ replaced (is_opening_of node) (λ item. Hole (length log) (ByPrecede (length log)) ∷ preceded_item item ∷ []) (draft_items log marks)
+      ≡ replaced (is_opening_of node) (λ item. Hole (length log) ByPrecede ∷ preceded_item item ∷ []) (draft_items log marks)
   draft_items-preceded =
       draft_items-gathered new new_marks
       ∙ (ap (gathered (least_owner new) (place_items new new_marks)) (length-set more node linked)

@@ -7,7 +7,8 @@ use Rattle.squawk_kinds.specs.Kinds.{TOMBSTONE}
 use Rattle.squawk_output.specs.declared.event.Event.{Event}
 use Rattle.squawk_output.specs.declared.event.Event.TheVariants.{Start, Finish, Token, Error}
 use Rattle.squawk_output.specs.Draft as draft
-use Rattle.squawk_output.specs.Draft.{Item, Made, Hole, Open, Close}
+use Rattle.squawk_output.specs.Draft.{Item, Hole, Open, Close}
+use Rattle.squawk_output.specs.declared.log.Made.{Made}
 use Rattle.squawk_output.specs.Edits.{is_hole_of, is_opening_of, replaced}
 use Rattle.squawk_output.specs.EventLog.{Log, has_link}
 use Rattle.squawk_output.proofs.Gathered.{each, gathered, least_owner, picked}

@@ -1,4 +1,4 @@
--- The list of a log is the plain list of its draft, with its errors, and its turns are at most four times what was recorded.
+-- The list of a log is the plain list of its draft, with its errors.
 use Rattle.std.proofs.Common.{◌≡◌, ◌∙◌, ℕ, ◌+◌, ◌*◌, ◌==◌, ◌<◌, ◌≤◌, Bool, true, false, not, List, [], ◌∷◌, length, get_or, refl, sym, ap, arith, if◌then◌else◌}
 use Rattle.squawk_kinds.specs.Kinds.{TOMBSTONE}
 use Rattle.squawk_output.specs.Steps as steps
@@ -7,12 +7,12 @@ use Rattle.squawk_output.specs.declared.event.Event.{Event}
 use Rattle.squawk_output.specs.declared.event.Event.TheVariants.{Start, Finish, Token, Error}
 use Rattle.squawk_output.specs.Chain.{tombstone}
 use Rattle.squawk_output.specs.Draft as draft
-use Rattle.squawk_output.specs.Draft.{Item, Made, plain}
-use Rattle.squawk_output.specs.EventLog.{Log, errors_logged, has_link, list_of, steps_of_event, turns_of}
+use Rattle.squawk_output.specs.Draft.{Item, plain}
+use Rattle.squawk_output.specs.declared.log.Made.{Made}
+use Rattle.squawk_output.specs.EventLog.{Log, errors_logged, has_link, list_of, steps_of_event}
 use Rattle.squawk_output.proofs.Gathered.{least_owner, list_of-gathered, steps-here, steps_at}
 use Rattle.squawk_output.proofs.LogErrors.{errors_in-list_of}
 use Rattle.squawk_output.proofs.Sums.{count_by-cons}
-use Rattle.squawk_output.proofs.LogTurns.{turns_of-most}
 use Rattle.squawk_output.specs.LogDraft.{IsRecord, draft_items, items_of}
 use Rattle.squawk_output.proofs.GatheredItems.{draft_items-gathered, made_by, place_items}
 use Rattle.squawk_output.proofs.Groups.{flat_map-gathered, gathered-same}
@@ -54,6 +54,3 @@ errors-plain (draft.Error text ∷ items) =
 pub errors-log : (log : Log) (marks : List Bool) (recorded errors : ℕ) → IsRecord log marks recorded errors → errors_logged log ≡ draft.errors_of (draft_items log marks)
 errors-log log marks recorded errors is =
     sym (errors_in-list_of log) ∙ (ap errors_in (sym (plain-draft_items log marks is.holes)) ∙ sym (errors-plain (draft_items log marks)))
-
-pub turns-most : (log : Log) (marks : List Bool) (recorded errors : ℕ) → IsRecord log marks recorded errors → turns_of log ≤ 4 * recorded
-turns-most log marks recorded errors is = omega (arith, turns_of-most log, is.few)

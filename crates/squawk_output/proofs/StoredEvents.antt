@@ -1,7 +1,5 @@
 -- Events as a list keeps them.
-use Rattle.std.proofs.Common.{◌≡◌, ◌∙◌, ℕ, zero, suc, ◌+◌, ◌<◌, ◌≤◌, Bool, true, false, Option, Some, None, List, [], ◌∷◌, ◌++◌, length, length-append, get_or, set, refl, sym, ap, arith}
-use Rattle.std.specs.Prelude.{MatchOption}
-use Rattle.std.specs.Option.{option_to_list}
+use Rattle.std.proofs.Common.{◌≡◌, ◌∙◌, ℕ, zero, suc, ◌+◌, ◌<◌, ◌≤◌, Bool, true, false, Option, Some, None, List, [], ◌∷◌, ◌++◌, length, length-append, get_or, set, refl, subst, sym, ap, arith}
 use Rattle.std.proofs.Math.Dec.{eqb-suc-zero}
 use Rattle.std.proofs.Math.ListN.{get_or-append}
 use Rattle.std.proofs.Math.Seq.{get_or-append_seam}
@@ -9,11 +7,11 @@ use Rattle.std.proofs.lemmas.List.{get_or-map, length-map, map-append, map-set}
 use Rattle.std.proofs.lemmas.List.Elements.{All-append, All-cons, All-nil, All-set, All-tail}
 use Rattle.squawk_output.specs.declared.event.Event.{Event}
 use Rattle.squawk_output.specs.declared.event.Event.TheVariants as event
-use Rattle.squawk_output.specs.declared.event_list.stored_event.StoredEvent.{StoredEvent}
-use Rattle.squawk_output.specs.declared.event_list.stored_event.StoredEvent.TheVariants.{Hole, Start, Finish, Token, Error}
+use Rattle.squawk_output.specs.declared.log.stored_event.StoredEvent.{StoredEvent}
+use Rattle.squawk_output.specs.declared.log.stored_event.StoredEvent.TheVariants.{Hole, Start, Finish, Token, Error}
 use Rattle.squawk_output.specs.Chain.{LandsAt, forward_parent, hop, node_kind}
 use Rattle.squawk_output.specs.EventLog.{Lands, Log, errors_logged, is_error_event, is_start, is_start_at}
-use Rattle.squawk_output.specs.StoredEvents.{HasEventText, HaveEventTexts, LeadsOn, Recorded, event_of, is_open, link_of, log_in, recorded_in}
+use Rattle.squawk_output.specs.StoredEvents.{HasEventText, HaveEventTexts, LeadsOn, event_of, link_of, log_in}
 use Rattle.squawk_output.proofs.Links.{is_start_at-event, is_start_at-within}
 use Rattle.squawk_output.proofs.LogTurns.{one_if}
 use Rattle.squawk_output.proofs.Sums.{count_by-cons}
@@ -38,6 +36,10 @@ log_in-push texts events x = map-append (event_of texts) events (x ∷ [])
 
 pub HaveEventTexts-push : (texts : List (List ℕ)) (events : List StoredEvent) (x : StoredEvent) → HasEventText texts x → HaveEventTexts texts events → HaveEventTexts texts (events ++ x ∷ [])
 HaveEventTexts-push texts events x has have = All-append (HasEventText texts) events (x ∷ []) have (All-cons (HasEventText texts) x [] has (All-nil (HasEventText texts)))
+
+pub HaveEventTexts-front : (texts : List (List ℕ)) (events : List StoredEvent) (x : StoredEvent) → HaveEventTexts texts (events ++ x ∷ []) → HaveEventTexts texts events
+HaveEventTexts-front texts events x have k d lt =
+    subst (HasEventText texts) (get_or-append events (x ∷ []) d k lt) (have k d (omega (arith, lt, length-append events (x ∷ []))))
 
 -- ---- one text more
 
@@ -134,24 +136,3 @@ errors_logged-most (x ∷ xs) = omega (arith, count_by-cons is_error_event x xs,
     one_if-most : (b : Bool) → one_if b ≤ 1
     one_if-most true = omega arith
     one_if-most false = omega arith
-
-module _ (texts : List (List ℕ)) (events : List StoredEvent) (old : Recorded)
-    (view : recorded_in texts events ≡ old) where
-  pub set-start : (place kind link : ℕ)
-      → recorded_in texts (set events place (Start kind link))
-      ≡ record { events = set old.events place (event.Start kind (link_of link)); marks = set old.marks place false; errors = old.errors }
-  set-start place kind link = rw (log_in-set texts events place (Start kind link), map-set is_open events place (Start kind link), ← view) refl
-
-  pub push-error : (texts' : List (List ℕ)) (events' : List StoredEvent) (text : List ℕ) (number : ℕ) → HaveEventTexts texts events → texts' ≡ texts ++ text ∷ []
-      → events' ≡ events ++ Error number ∷ [] → number ≡ length texts
-      → recorded_in texts' events'
-      ≡ record { events = old.events ++ event.Error text ∷ []; marks = old.marks ++ false ∷ []; errors = old.errors + 1 }
-  push-error texts' events' text number have told put is =
-      rw (told, put, is, log_in-error texts text events have, map-append is_open events (Error (length texts) ∷ []), length-append texts (text ∷ []), ← view) refl
-
-  -- what is left without the last event
-  pub popped-event : (front : List StoredEvent) (last : Option StoredEvent) (m n : ℕ) → events ≡ front ++ option_to_list last
-      → MatchOption last ((n ≡ 0) × (m ≡ 0)) (λ x. m + 1 ≡ n) → n ≡ length events → 0 < length old.events
-      → (x : Event) × (old.events ≡ log_in texts front ++ x ∷ [])
-  popped-event front None m n is cases len some = absurd (omega (arith, cases.0, len, some, ap (λ r. length r.events) view, length-log_in texts events))
-  popped-event front (Some x) m n is cases len some = (event_of texts x, ap (λ r. r.events) (sym view) ∙ (ap (log_in texts) is ∙ log_in-push texts front x))

@@ -5,8 +5,8 @@ use Rattle.std.proofs.lemmas.List.{append-nil}
 use Rattle.squawk_output.specs.Steps as steps
 use Rattle.squawk_output.specs.Steps.{Passed, Walk}
 use Rattle.squawk_output.specs.declared.event.Event.TheVariants as event
-use Rattle.squawk_output.specs.declared.event_list.stored_event.StoredEvent.{StoredEvent}
-use Rattle.squawk_output.specs.declared.event_list.stored_event.StoredEvent.TheVariants.{Error}
+use Rattle.squawk_output.specs.declared.log.stored_event.StoredEvent.{StoredEvent}
+use Rattle.squawk_output.specs.declared.log.stored_event.StoredEvent.TheVariants.{Error}
 use Rattle.squawk_output.specs.EventLog.{LinksLead, ahead, has_link, is_start, list_of, steps_of_event, turns_of}
 use Rattle.squawk_output.specs.Pass.{PassesList, Visits}
 use Rattle.squawk_output.specs.StoredEvents.{HaveEventTexts, event_of, log_in}

@@ -1,15 +1,11 @@
 -- The record of a parse.
-use Rattle.std.specs.Prelude.{◌≡◌, ℕ, ◌<◌, ◌≤◌, ◌==◌, Bool, true, false, List, [], ◌∷◌, All, count_by, filter}
+use Rattle.std.specs.Prelude.{◌≡◌, ℕ, ◌*◌, ◌<◌, ◌≤◌, ◌==◌, Bool, true, false, List, [], ◌∷◌, All, count_by, filter, length}
 use Rattle.std.specs.List.{flat_map}
 use Rattle.squawk_output.specs.Steps as steps
-
--- how a hole was made: by a start, or in front of a node; and how many entries there were before it
-pub data Made : Type 0 where
-  ByStart : ℕ → Made
-  ByPrecede : ℕ → Made
+use Rattle.squawk_output.specs.declared.log.Made.{Made}
 
 pub data Item : Type 0 where
-  -- an open marker: its id, and how it was made
+  -- an open marker: its id, which is the number of entries when it was made, and how it was made
   Hole : ℕ → Made → Item
   -- the beginning of a node: its id, its kind, and whether it can still be preceded
   Open : ℕ → ℕ → Bool → Item
@@ -32,7 +28,7 @@ pub record Draft : Type 0 where
 abbrev pub nothing : Draft
 nothing = record { items = []; recorded = 0; entries = 0; turns_due = 0 }
 
--- a marker: the id of its hole, and how that was made
+-- a marker: the id of its hole, and how it was made
 pub record Mark : Type 0 where
   pub id : ℕ
   pub made : Made
@@ -79,6 +75,14 @@ HasNoIdTwice items = (id : ℕ) → count_by (λ i. i == id) (ids items) ≤ 1
 -- every id of the items is below this one
 abbrev pub IsAboveIds : ℕ → List Item → Type 0
 IsAboveIds id items = All (λ i. i < id) (ids items)
+
+-- What the draft of every log keeps: an item a recorded event at most, and four turns; every id is below the number of entries, so a new
+-- one is above all, and none occurs twice.
+pub record IsLogged (d : Draft) : Type 0 where
+  pub few : length d.items ≤ d.recorded
+  pub turns : d.turns_due ≤ 4 * d.recorded
+  pub below : IsAboveIds d.entries d.items
+  pub once : HasNoIdTwice d.items
 
 -- what an output has for an item
 abbrev pub steps_of_item : Item → List steps.Step

@@ -2,7 +2,8 @@
 -- node is extended to, and changes nothing else.
 use Rattle.std.specs.Prelude.{ℕ, ◌==◌, ◌+◌, ◌-◌, ◌*◌, ◌&&◌, Bool, true, false, List, [], ◌∷◌, ◌++◌, count_by, if◌then◌else◌}
 use Rattle.std.specs.List.{flat_map}
-use Rattle.squawk_output.specs.Draft.{Draft, Item, Hole, Open, Close, Token, Error, Node, ByStart, ByPrecede}
+use Rattle.squawk_output.specs.Draft.{Draft, Item, Hole, Open, Close, Token, Error, Node}
+use Rattle.squawk_output.specs.declared.log.Made.TheVariants.{ByStart, ByPrecede}
 
 -- the hole of a marker
 abbrev pub is_hole_of : ℕ → Item → Bool
@@ -22,9 +23,9 @@ replaced p f items = flat_map (λ item. if p item then f item else item ∷ []) 
 abbrev pub pushed : Draft → Item → ℕ → Draft
 pushed d item turns = record { items = d.items ++ item ∷ []; recorded = d.recorded + 1; entries = d.entries + 1; turns_due = d.turns_due + turns }
 
--- a hole at the end
-abbrev pub started : Draft → ℕ → Draft
-started d id = pushed d (Hole id (ByStart d.entries)) 2
+-- a hole at the end; its id is the number of entries
+abbrev pub started : Draft → Draft
+started d = pushed d (Hole d.entries ByStart) 2
 
 -- the hole becomes a free opening in its place
 abbrev pub filled : List Item → ℕ → ℕ → List Item
@@ -47,10 +48,10 @@ abbrev pub preceded_item : Item → Item
 preceded_item (Open i kind free) = Open i kind false
 preceded_item item = item
 
--- a hole directly before the opening of a node, which can't be preceded again
-abbrev pub preceded : Draft → ℕ → ℕ → Draft
-preceded d node id = record {
-  items = replaced (is_opening_of node) (λ item. Hole id (ByPrecede d.entries) ∷ preceded_item item ∷ []) d.items;
+-- a hole directly before the opening of a node, which can't be preceded again; its id is the number of entries
+abbrev pub preceded : Draft → ℕ → Draft
+preceded d node = record {
+  items = replaced (is_opening_of node) (λ item. Hole d.entries ByPrecede ∷ preceded_item item ∷ []) d.items;
   recorded = d.recorded + 1;
   entries = d.entries + 1;
   turns_due = d.turns_due + 4;
@@ -62,7 +63,7 @@ without_hole id items = replaced (is_hole_of id) (λ item. []) items
 
 -- whether a hole was made by a start and is the last of so many entries
 abbrev pub is_last_start : ℕ → Item → Bool
-is_last_start entries (Hole i (ByStart at)) = at + 1 == entries
+is_last_start entries (Hole i ByStart) = i + 1 == entries
 is_last_start entries item = false
 
 -- whether an item is a marker's hole and such a one, so that its entry goes with it

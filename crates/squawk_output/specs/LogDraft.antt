@@ -1,20 +1,17 @@
 -- The draft that a log of events and their marks stand for. An id is the place of an event.
-use Rattle.std.specs.Prelude.{◌≡◌, ℕ, ◌==◌, ◌<◌, ◌≤◌, ◌^◌, Bool, true, false, not, List, [], ◌∷◌, length, slice_index_or, Contains, if◌then◌else◌}
+use Rattle.std.specs.Prelude.{◌≡◌, ℕ, ◌==◌, ◌<◌, ◌≤◌, ◌^◌, Bool, true, false, not, List, [], ◌∷◌, length, map, slice_index_or, Contains, if◌then◌else◌}
 use Rattle.std.specs.List.{flat_map}
 use Rattle.squawk_kinds.specs.Kinds.{TOMBSTONE}
 use Rattle.squawk_output.specs.Chain.{tombstone}
 use Rattle.squawk_output.specs.Draft as draft
-use Rattle.squawk_output.specs.Draft.{ByPrecede, ByStart, Draft, Item, Made, errors_of}
+use Rattle.squawk_output.specs.Draft.{Draft, Item, errors_of}
 use Rattle.squawk_output.specs.EventLog.{LinksLead, Log, has_link, in_list_order, owner, turns_of}
 use Rattle.squawk_output.specs.declared.event.Event.{Event}
 use Rattle.squawk_output.specs.declared.event.Event.TheVariants.{Start, Finish, Token, Error}
-use Rattle.squawk_output.specs.declared.log.Made.{Made as Given}
-use Rattle.squawk_output.specs.declared.log.Made.TheVariants as given
-
--- how the hole at a place was made; a place is the number of entries before it
-abbrev pub made_of : Given → ℕ → Made
-made_of given.ByStart place = ByStart place
-made_of given.ByPrecede place = ByPrecede place
+use Rattle.squawk_output.specs.declared.log.Made.{Made}
+use Rattle.squawk_output.specs.declared.log.Made.TheVariants.{ByStart, ByPrecede}
+use Rattle.squawk_output.specs.declared.log.stored_event.StoredEvent.{StoredEvent}
+use Rattle.squawk_output.specs.StoredEvents.{HaveEventTexts, is_open, log_in}
 
 -- What the event at a place stands for. A Start with its mark set is a hole, and without it a node's opening, which is free where no link
 -- goes out; TOMBSTONE is no node's kind.
@@ -27,7 +24,7 @@ items_of place made (Error text) mark = draft.Error text ∷ []
 
 -- what a link leads to was made by a precede
 abbrev pub made_at : Log → ℕ → Made
-made_at log place = if owner log place == place then ByStart place else ByPrecede place
+made_at log place = if owner log place == place then ByStart else ByPrecede
 
 -- the items of an event with its place
 abbrev pub items_at : Log → List Bool → ℕ × Event → List Item
@@ -48,6 +45,15 @@ pub record IsRecord (log : Log) (marks : List Bool) (recorded wrong : ℕ) : Typ
   pub few : length log ≤ recorded
   pub small : recorded < 2 ^ 32
   pub errors : wrong ≡ errors_of (draft_items log marks)
+
+-- the draft of a log as it is kept, beside the texts of its errors
+abbrev pub draft_in : List (List ℕ) → List StoredEvent → ℕ → Draft
+draft_in texts events recorded = draft_of (log_in texts events) (map is_open events) recorded
+
+-- such a log is one in which a parser records, and the text of every error is there
+pub record IsKeptRecord (texts : List (List ℕ)) (events : List StoredEvent) (recorded : ℕ) : Type 0 where
+  pub log : IsRecord (log_in texts events) (map is_open events) recorded (length texts)
+  pub have_texts : HaveEventTexts texts events
 
 -- a node that hasn't been preceded, with this id, is among the items
 abbrev pub HasNodeOf : List Item → ℕ → Type 0

@@ -1,10 +1,10 @@
--- What the loops of the pass keep.
+-- What the loops keep that put events in, and those of the pass.
 use Rattle.std.specs.Prelude.{◌≡◌, ℕ, ◌+◌, Option, List, [], ◌++◌, length, drop}
 use Rattle.squawk_output.specs.Steps.{Passed}
-use Rattle.squawk_output.specs.EventLog.{Log, LinksLead, list_of, turns_of}
+use Rattle.squawk_output.specs.EventLog.{Log, LinksLead, errors_logged, list_of, turns_of}
 use Rattle.squawk_output.specs.Chain.{LandsAt, chain, entered_back, erased}
 use Rattle.squawk_output.specs.StoredEvents.{HaveEventTexts, log_in}
-use Rattle.squawk_output.specs.declared.event_list.stored_event.StoredEvent.{StoredEvent}
+use Rattle.squawk_output.specs.declared.log.stored_event.StoredEvent.{StoredEvent}
 
 -- A chain is followed from a place: what is left of it, and what it has found so far, are what it finds in all.
 pub record Follows (log : Log) (kinds : List ℕ) (output : Passed) (from : Option ℕ) (log' : Log) (kinds' : List ℕ) (output' : Passed) (next : Option ℕ) : Type 0 where
@@ -44,3 +44,11 @@ pub record PassesList (events : List StoredEvent) (texts : List (List ℕ)) (eve
   pub passes : Passes (log_in texts events) (log_in texts events') output kinds place
   pub have_texts : HaveEventTexts texts events'
   pub same_texts : output.texts ≡ texts
+
+-- Events are put into a log one after another: so many of them were, beside the texts of their errors, and these are left.
+pub record Copies (log copied left : Log) (texts : List (List ℕ)) (stored : List StoredEvent) : Type 0 where
+  pub events : log_in texts stored ≡ copied
+  pub have_texts : HaveEventTexts texts stored
+  pub errors : length texts ≡ errors_logged copied
+  pub links : LinksLead left
+  pub whole : length copied + length left ≡ length log

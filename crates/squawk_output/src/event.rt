@@ -1,10 +1,12 @@
 //! Events, and the output of a log of them.
-ghost use Rattle.std.specs.Prelude.{◌≡◌, ◌<◌, ◌≤◌, ◌^◌, length, IfOk};
-ghost use Rattle.squawk_output.specs.Chain.{tombstone};
+ghost use Rattle.std.specs.Prelude.{◌≡◌, ◌+◌, ◌<◌, ◌≤◌, ◌^◌, ◌∷◌, ◌++◌, [], length, IfOk};
 ghost use Rattle.squawk_output.specs.EventLog.{LinksLead, errors_logged, list_of, turns_of};
+ghost use Rattle.squawk_output.specs.StoredEvents.{HaveEventTexts, LeadsOn, log_in};
 
-use crate::event_list::EventList;
+use crate::log::push_error;
+use crate::log::stored_event::StoredEvent;
 use crate::output::{Output, Text};
+use crate::pass::pass;
 use squawk_kinds::SyntaxKind;
 use std::alloc::{AllocError, Global};
 
@@ -53,18 +55,6 @@ pub enum Event {
     },
 }
 
-impl Event {
-    /// The `Start` of no node: of a marker that is open, or that was given up.
-    pub fn tombstone() -> Event
-        ensures { result ≡ tombstone }
-    {
-        Event::Start {
-            kind: SyntaxKind::TOMBSTONE,
-            forward_parent: None,
-        }
-    }
-}
-
 /// The output of a log of events, of which so many were recorded.
 ///
 /// Each event gives its step where it stands; a `Start` of `TOMBSTONE` gives none. Where a `Start`
@@ -81,5 +71,42 @@ pub fn process(alloc: Global, events: Vec<Event>, recorded: u32) -> Result<Outpu
     requires errors { errors_logged events.items ≤ 2147483648 }
     ensures { IfOk result (λ output. output ≡ record { steps = list_of events.items; recorded = recorded; turns = turns_of events.items }) }
 {
-    EventList::of(alloc, events)?.pass(alloc, recorded)
+    let mut stored = Vec::with_capacity(alloc, events.len())?;
+    let mut errors = Vec::new(alloc);
+    for event in events {
+        store(&mut stored, &mut errors, event)?;
+    }
+    pass(alloc, stored, errors, recorded)
+}
+
+/// Puts an event at the end, and its text, if it is an error, at the end of theirs.
+///
+/// A link doesn't lead to its own place.
+fn store(
+    events: &mut Vec<StoredEvent>,
+    errors: &mut Vec<Text>,
+    event: Event,
+) -> Result<(), AllocError>
+    requires leads { LeadsOn event }
+    requires few { length errors.old.items < 2 ^ 32 }
+    requires texts { HaveEventTexts errors.old.items events.old.items }
+    ensures events { IfOk result (λ _. log_in errors.new.items events.new.items ≡ log_in errors.old.items events.old.items ++ event ∷ []) }
+    ensures texts { IfOk result (λ _. HaveEventTexts errors.new.items events.new.items) }
+    ensures errors { IfOk result (λ _. length errors.new.items ≡ length errors.old.items + errors_logged (event ∷ [])) }
+{
+    match event {
+        Event::Start {
+            kind,
+            forward_parent,
+        } => {
+            let link = forward_parent.unwrap_or(0);
+            events.push(StoredEvent::Start { kind, link })?;
+        }
+        Event::Finish => events.push(StoredEvent::Finish)?,
+        Event::Token { kind, n_raw_tokens } => {
+            events.push(StoredEvent::Token { kind, n_raw_tokens })?;
+        }
+        Event::Error { msg } => return push_error(events, errors, msg),
+    }
+    Ok(())
 }

@@ -6,12 +6,10 @@
 #![tactic(auto)]
 
 pub mod event;
-pub mod event_list;
 pub mod log;
 pub mod output;
 mod pass;
 
 pub use event::{Event, process};
-pub use event_list::EventList;
 pub use log::{EventLog, Made};
 pub use output::{Output, Step, StepCounts, Steps, Text};

@@ -1,16 +1,21 @@
 //! The log of events in which a parser records.
-ghost use Rattle.std.specs.Prelude.{ℕ, ◌≡◌, ◌≢◌, ◌+◌, ◌<◌, ◌≤◌, ◌*◌, ◌^◌, true, Contains, IfOk, OnOk, OnErr};
+ghost use Rattle.std.specs.Prelude.{ℕ, ◌≡◌, ◌≢◌, ◌+◌, ◌<◌, ◌≤◌, ◌∷◌, ◌++◌, ◌^◌, [], false, true, map, Contains, IfOk, OnOk, OnErr, length};
 ghost use Rattle.squawk_kinds.specs.Kinds.{TOMBSTONE};
-ghost use Rattle.squawk_output.specs.Draft.{Hole, IsAboveIds, Open, errors_of, nothing, plain};
+ghost use Rattle.squawk_output.specs.Draft.{Hole, IsLogged, Open, errors_of, nothing, plain};
 ghost use Rattle.squawk_output.specs.Edits as spec;
 ghost use Rattle.squawk_output.specs.Edits.{abandoned, completed, extended, preceded, started, with_error, with_token};
-ghost use Rattle.squawk_output.specs.LogDraft.{HasHoleOf, HasNodeOf, made_of};
+ghost use Rattle.squawk_output.specs.LogDraft.{HasHoleOf, HasNodeOf};
+ghost use Rattle.squawk_output.specs.StoredEvents.{HaveEventTexts, is_open, log_in};
+ghost use Rattle.squawk_output.specs.declared.event.Event.{Event};
 
-use crate::event_list::EventList;
+pub(crate) mod stored_event;
+
 use crate::output::{Output, Text};
+use crate::pass::pass;
 use squawk_kinds::SyntaxKind;
 use std::alloc::{AllocError, Global};
 use std::marker::Model;
+use stored_event::StoredEvent;
 
 /// How a hole was made.
 #[derive(Clone, Copy, Debug)]
@@ -20,7 +25,7 @@ pub enum Made {
     ByPrecede,
 }
 
-/// What a parser has recorded, as a log of events.
+/// What a parser has recorded, as a log of events, in eight bytes an event.
 ///
 /// Contracts see it as a draft, in which every node begins where it will begin in the output. An id
 /// is the place of an event; the place of one that was taken out again is used anew.
@@ -28,19 +33,21 @@ pub enum Made {
 /// The events tell an open marker from one that was given up. No code asks for that, but contracts do.
 #[derive(Drop)]
 pub struct EventLog {
-    list: EventList,
+    events: Vec<StoredEvent>,
+    /// The texts of the errors, at their numbers.
+    errors: Vec<Text>,
     recorded: u32,
 }
 
 impl Model for EventLog {
     ghost use Rattle.squawk_output.specs.Draft.{Draft};
-    ghost use Rattle.squawk_output.specs.LogDraft.{IsRecord, draft_of};
+    ghost use Rattle.squawk_output.specs.LogDraft.{IsKeptRecord, draft_in};
 
     ghost Value = { Draft };
 
-    ghost view = { λ log. draft_of log.list.events log.list.marks log.recorded };
+    ghost view = { λ log. draft_in log.errors.items log.events.items log.recorded };
 
-    ghost invariant = { λ log. IsRecord log.list.events log.list.marks log.recorded log.list.errors };
+    ghost invariant = { λ log. IsKeptRecord log.errors.items log.events.items log.recorded };
 }
 
 impl EventLog {
@@ -48,8 +55,13 @@ impl EventLog {
     pub fn with_room(alloc: Global, events: usize) -> EventLog
         ensures { result ≡ nothing }
     {
+        let events = match Vec::with_capacity(alloc, events) {
+            Ok(events) => events,
+            Err(AllocError) => Vec::new(alloc),
+        };
         EventLog {
-            list: EventList::with_room(alloc, events),
+            events,
+            errors: Vec::new(alloc),
             recorded: 0,
         }
     }
@@ -65,26 +77,26 @@ impl EventLog {
     pub fn errors(&self) -> u32
         ensures { result ≡ errors_of self.now.items }
     {
-        self.list.errors() as u32
+        self.errors.len() as u32
     }
 
     /// The id that the next hole will have: as many as there are entries.
     pub fn next_id(&self) -> u32
         ensures id { result ≡ self.now.entries }
-        ensures above { IsAboveIds result self.now.items }
+        ensures logged { IsLogged self.now }
     {
-        self.list.len() as u32
+        self.events.len() as u32
     }
 
     /// A hole at the end.
     #[inline(always)]
     pub fn start(&mut self) -> Result<(), AllocError>
         requires { self.old.recorded + 1 < 2 ^ 32 }
-        ensures ok { OnOk result (self.new ≡ started self.old self.old.entries) }
+        ensures ok { OnOk result (self.new ≡ started self.old) }
         ensures err { OnErr result (self.new ≡ self.old) }
-        ensures turns { self.new.turns_due ≤ 4 * self.new.recorded }
+        ensures logged { IsLogged self.new }
     {
-        self.list.push_hole()?;
+        self.events.push(StoredEvent::Hole)?;
         self.recorded += 1;
         Ok(())
     }
@@ -97,10 +109,10 @@ impl EventLog {
         requires room { self.old.recorded + 1 < 2 ^ 32 }
         ensures ok { OnOk result (self.new ≡ completed self.old id kind) }
         ensures err { OnErr result (self.new ≡ self.old) }
-        ensures turns { self.new.turns_due ≤ 4 * self.new.recorded }
+        ensures logged { IsLogged self.new }
     {
-        self.list.push_finish()?;
-        self.list.set_start(id as usize, kind, 0);
+        self.events.push(StoredEvent::Finish)?;
+        self.events[id as usize] = StoredEvent::Start { kind, link: 0 };
         self.recorded += 1;
         Ok(())
     }
@@ -111,22 +123,21 @@ impl EventLog {
         requires { self.old.recorded + 1 < 2 ^ 32 }
         ensures ok { OnOk result (self.new ≡ with_token self.old kind n_raw_tokens) }
         ensures err { OnErr result (self.new ≡ self.old) }
-        ensures turns { self.new.turns_due ≤ 4 * self.new.recorded }
+        ensures logged { IsLogged self.new }
     {
-        self.list.push_token(kind, n_raw_tokens)?;
+        self.events.push(StoredEvent::Token { kind, n_raw_tokens })?;
         self.recorded += 1;
         Ok(())
     }
 
     /// An error at the end.
     pub fn error(&mut self, msg: Text) -> Result<(), AllocError>
-        requires room { self.old.recorded + 1 < 2 ^ 32 }
-        requires errors { errors_of self.old.items + 1 < 2 ^ 32 }
+        requires { self.old.recorded + 1 < 2 ^ 32 }
         ensures ok { OnOk result (self.new ≡ with_error self.old msg) }
         ensures err { OnErr result (self.new ≡ self.old) }
-        ensures turns { self.new.turns_due ≤ 4 * self.new.recorded }
+        ensures logged { IsLogged self.new }
     {
-        self.list.push_error(msg)?;
+        push_error(&mut self.events, &mut self.errors, msg)?;
         self.recorded += 1;
         Ok(())
     }
@@ -135,27 +146,28 @@ impl EventLog {
     pub fn precede(&mut self, node: u32, kind: SyntaxKind) -> Result<(), AllocError>
         requires node { Contains self.old.items (Open node kind true) }
         requires room { self.old.recorded + 1 < 2 ^ 32 }
-        ensures ok { OnOk result (self.new ≡ preceded self.old node self.old.entries) }
+        ensures ok { OnOk result (self.new ≡ preceded self.old node) }
         ensures err { OnErr result (self.new ≡ self.old) }
-        ensures turns { self.new.turns_due ≤ 4 * self.new.recorded }
+        ensures logged { IsLogged self.new }
     {
-        let distance = self.next_id() - node;
-        self.list.push_hole()?;
-        self.list.set_start(node as usize, kind, distance);
+        let hole = StoredEvent::Hole;
+        let link = (self.events.len() - node as usize) as u32;
+        self.events.push(hole)?;
+        self.events[node as usize] = StoredEvent::Start { kind, link };
         self.recorded += 1;
         Ok(())
     }
 
     /// The hole goes, and its event too, where it is the last one and was made by a start.
     pub fn abandon(&mut self, id: u32, made: Made)
-        requires { Contains self.old.items (Hole id (made_of made id)) }
+        requires { Contains self.old.items (Hole id made) }
         ensures abandoned { self.new ≡ abandoned self.old id }
-        ensures turns { self.new.turns_due ≤ 4 * self.new.recorded }
+        ensures logged { IsLogged self.new }
     {
-        if is_last_start(self.list.len(), id, made) {
-            self.list.pop();
+        if is_last_start(self.events.len(), id, made) {
+            let _ = self.events.pop();
         } else {
-            self.list.set_start(id as usize, SyntaxKind::TOMBSTONE, 0);
+            self.events[id as usize] = StoredEvent::tombstone();
         }
     }
 
@@ -166,29 +178,56 @@ impl EventLog {
         requires hole { HasHoleOf self.old.items id }
         requires older { id < node }
         ensures extended { (kind : ℕ) → Contains self.old.items (Open node kind true) → self.new ≡ extended self.old (record { id = node; kind = kind }) id }
-        ensures turns { self.new.turns_due ≤ 4 * self.new.recorded }
+        ensures logged { IsLogged self.new }
     {
-        self.list
-            .set_start(id as usize, SyntaxKind::TOMBSTONE, node - id);
+        self.events[id as usize] = StoredEvent::Start {
+            kind: SyntaxKind::TOMBSTONE,
+            link: node - id,
+        };
     }
 
     /// The items as an output; holes are left out. It is made in one pass.
     pub fn finish(self, alloc: Global) -> Result<Output, AllocError>
         requires { errors_of self.items ≤ 2147483648 }
         ensures output { IfOk result (λ o. o ≡ record { steps = plain self.items; recorded = self.recorded; turns = self.turns_due }) }
-        ensures bound { self.turns_due ≤ 4 * self.recorded }
+        ensures logged { IsLogged self }
     {
-        let EventLog { list, recorded } = self;
-        list.pass(alloc, recorded)
+        let EventLog {
+            events,
+            errors,
+            recorded,
+        } = self;
+        pass(alloc, events, errors, recorded)
     }
 }
 
 /// Whether the event of a hole is the last of so many, and the hole was made by a start.
 fn is_last_start(entries: usize, id: u32, made: Made) -> bool
-    ensures { result ≡ spec.is_last_start entries (Hole id (made_of made id)) }
+    ensures { result ≡ spec.is_last_start entries (Hole id made) }
 {
     match made {
         Made::ByStart => id as usize + 1 == entries,
         Made::ByPrecede => false,
     }
+}
+
+/// Puts an error at the end of the events, and its text at the end of theirs, or neither.
+pub(crate) fn push_error(
+    events: &mut Vec<StoredEvent>,
+    errors: &mut Vec<Text>,
+    msg: Text,
+) -> Result<(), AllocError>
+    requires few { length errors.old.items < 2 ^ 32 }
+    requires texts { HaveEventTexts errors.old.items events.old.items }
+    ensures events { OnOk result (log_in errors.new.items events.new.items ≡ log_in errors.old.items events.old.items ++ Event.Error msg ∷ []) }
+    ensures marks { OnOk result (map is_open events.new.items ≡ map is_open events.old.items ++ false ∷ []) }
+    ensures texts { HaveEventTexts errors.new.items events.new.items }
+    ensures count { OnOk result (length errors.new.items ≡ length errors.old.items + 1) }
+    ensures err { OnErr result ((events.new.items ≡ events.old.items) × (errors.new.items ≡ errors.old.items)) }
+{
+    events.reserve(1)?;
+    let number = errors.len() as u32;
+    errors.push(msg)?;
+    events.push_reserved(StoredEvent::Error { number });
+    Ok(())
 }

@@ -5,7 +5,7 @@ ghost use Rattle.squawk_output.specs.EventLog.{LinksLead, entering, list_of, tur
 ghost use Rattle.squawk_output.specs.Pass.{Visits};
 ghost use Rattle.squawk_output.specs.StoredEvents.{HaveEventTexts, link_of, log_in};
 
-use crate::event_list::stored_event::StoredEvent;
+use crate::log::stored_event::StoredEvent;
 use crate::output::passed::PassedSteps;
 use crate::output::{Output, Text};
 use squawk_kinds::SyntaxKind;

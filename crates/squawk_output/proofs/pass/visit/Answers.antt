@@ -2,10 +2,10 @@ use Rattle.std.proofs.Common.{◌≡◌, ◌∙◌, ℕ, ◌+◌, List, ap, arit
 use Rattle.std.proofs.lemmas.Result.{IfOk-weaker}
 use Rattle.squawk_output.specs.Chain.{chain, hop}
 use Rattle.squawk_output.specs.Steps.{Passed}
-use Rattle.squawk_output.specs.declared.event_list.stored_event.StoredEvent.{StoredEvent}
+use Rattle.squawk_output.specs.declared.log.stored_event.StoredEvent.{StoredEvent}
 use Rattle.squawk_output.specs.StoredEvents.{event_of, link_of, log_in}
 use Rattle.squawk_output.specs.declared.event.Event.TheVariants as event
-use Rattle.squawk_output.specs.declared.event_list.stored_event.StoredEvent.TheVariants.{Hole, Start, Finish, Token}
+use Rattle.squawk_output.specs.declared.log.stored_event.StoredEvent.TheVariants.{Hole, Start, Finish, Token}
 use Rattle.squawk_output.proofs.Follows.{LandsAt-hop}
 use Rattle.squawk_output.proofs.StoredEvents.{length-log_in}
 use Rattle.squawk_output.proofs.StoredVisits.{found, log_within, visits-alone, visits-error}

@@ -1,25 +1,18 @@
-use Rattle.std.proofs.Common.{◌∙◌, ap, arith, length}
-use Rattle.squawk_output.specs.declared.event.Event.TheVariants.{Finish}
-use Rattle.squawk_output.specs.Edits.{completed}
-use Rattle.squawk_output.proofs.EditedLog.{IsRecord-completed, draft_of-completed}
-use Rattle.squawk_output.proofs.FoundHoles.{found-hole}
-use Rattle.squawk_output.proofs.LogEdits.{length-push}
+use Rattle.std.proofs.Common.{arith, refl}
+use Rattle.squawk_output.proofs.KeptLog.{hole-within, kept-completed, logged_kept}
 use Rattle.squawk_output.proofs.log.EventLog.complete.Goals as goal
 
-pub set_start-requires : goal.set_start-requires
-set_start-requires c =
-    let here = found-hole _ _ _ _ c.self.view_is c.args.id c.requires.hole in
-    omega (arith, here.1.within, ap (λ list. length list.events) c.in_ok-push_finish.ensures.ok, length-push c.self.inside.list.events Finish)
+pub returns-in_err-push-clause-logged : goal.returns-in_err-push-clause-logged
+returns-in_err-push-clause-logged c = rw c.in_err-push.ensures.items (logged_kept _ _ _ c.self.invariant)
 
 pub invariant_of-self-2 : goal.invariant_of-self-2
-invariant_of-self-2 c =
-    let here = found-hole _ _ _ _ c.self.view_is c.args.id c.requires.hole in
-    rw (c.set_start.ensures, c.in_ok-push_finish.ensures.ok)
-    (IsRecord-completed _ _ _ _ c.self.invariant c.args.id here.0 here.1 c.args.kind c.requires.kind (omega (arith, c.requires.room, ap (λ d. d.recorded) c.self.view_is)))
+invariant_of-self-2 c = (kept-completed _ _ _ _ c.self.invariant c.self.view_is c.args.id c.requires.hole c.args.kind c.push.new.self.items _ c.in_ok-push.ensures.items refl c.requires.kind c.requires.room).kept
 
 pub returns-clause-ok : goal.returns-clause-ok
-returns-clause-ok c =
-    let here = found-hole _ _ _ _ c.self.view_is c.args.id c.requires.hole in
-    rw (c.set_start.ensures, c.in_ok-push_finish.ensures.ok)
-    (draft_of-completed _ _ _ _ c.self.invariant c.args.id here.0 here.1 c.args.kind c.requires.kind (omega (arith, c.requires.room, ap (λ d. d.recorded) c.self.view_is))
-    ∙ ap (λ d. completed d c.args.id c.args.kind) c.self.view_is)
+returns-clause-ok c = (kept-completed _ _ _ _ c.self.invariant c.self.view_is c.args.id c.requires.hole c.args.kind c.push.new.self.items _ c.in_ok-push.ensures.items refl c.requires.kind c.requires.room).is
+
+pub returns-clause-logged : goal.returns-clause-logged
+returns-clause-logged c = logged_kept _ _ _ (invariant_of-self-2 c)
+
+pub index_mut-requires : goal.index_mut-requires
+index_mut-requires c = omega (arith, hole-within _ _ _ _ c.self.invariant c.self.view_is c.args.id c.requires.hole, c.in_ok-push.ensures.len)

@@ -1,15 +1,22 @@
-use Rattle.std.proofs.Common.{◌∙◌, ◌+◌, ap, arith, false}
-use Rattle.squawk_output.specs.declared.event.Event.TheVariants.{Error}
-use Rattle.squawk_output.specs.Edits.{with_error}
-use Rattle.squawk_output.proofs.EditedLog.{IsRecord-put, draft_of-put}
+use Rattle.std.proofs.Common.{arith}
+use Rattle.squawk_output.proofs.KeptLog.{few_texts, kept-error, logged_kept}
 use Rattle.squawk_output.proofs.log.EventLog.error.Goals as goal
+
+pub push_error-requires-clause-few : goal.push_error-requires-clause-few
+push_error-requires-clause-few c = few_texts _ _ _ c.self.invariant
+
+pub returns-in_err-push_error-clause-logged : goal.returns-in_err-push_error-clause-logged
+returns-in_err-push_error-clause-logged c = rw (c.in_err-push_error.ensures.err.0, c.in_err-push_error.ensures.err.1) (logged_kept _ _ _ c.self.invariant)
 
 pub invariant_of-self-2 : goal.invariant_of-self-2
 invariant_of-self-2 c =
-    rw c.in_ok-push_error.ensures.ok
-    (IsRecord-put _ _ _ _ c.self.invariant (Error c.args.msg) false tt (λ marked. absurd (cc)) (omega (arith, c.requires.room, ap (λ d. d.recorded) c.self.view_is)) (c.self.inside.list.errors + 1) (omega arith))
+    let put = c.in_ok-push_error.ensures in
+    (kept-error _ _ _ _ c.self.invariant c.self.view_is c.args.msg _ _ put.events put.marks put.texts put.count c.requires).kept
 
 pub returns-clause-ok : goal.returns-clause-ok
 returns-clause-ok c =
-    rw c.in_ok-push_error.ensures.ok
-    (draft_of-put _ _ _ _ c.self.invariant (Error c.args.msg) false tt (λ marked. absurd (cc)) ∙ ap (λ d. with_error d c.args.msg) c.self.view_is)
+    let put = c.in_ok-push_error.ensures in
+    (kept-error _ _ _ _ c.self.invariant c.self.view_is c.args.msg _ _ put.events put.marks put.texts put.count c.requires).is
+
+pub returns-clause-logged : goal.returns-clause-logged
+returns-clause-logged c = logged_kept _ _ _ (invariant_of-self-2 c)

@@ -1,11 +1,7 @@
-use Rattle.std.proofs.Common.{◌≡◌, length, arith}
-use Rattle.squawk_output.proofs.IdsBelow.{IsAboveIds-entries}
+use Rattle.std.proofs.Common.{subst}
+use Rattle.squawk_output.specs.Draft.{IsLogged}
+use Rattle.squawk_output.proofs.KeptLog.{logged_kept}
 use Rattle.squawk_output.proofs.log.EventLog.next_id.Goals as goal
 
-pub overflow_cast-result : goal.overflow_cast-result
-overflow_cast-result c = omega (arith, c.self.invariant.few, c.self.invariant.small)
-
-pub returns-clause-above : goal.returns-clause-above
-returns-clause-above c =
-    let entries : c.len.result ≡ length c.self.inside.list.events = omega (arith, c.len.ensures) in
-    rw (entries, ← c.self.view_is) (IsAboveIds-entries c.self.inside.list.events c.self.inside.list.marks)
+pub returns-clause-logged : goal.returns-clause-logged
+returns-clause-logged c = subst IsLogged c.self.view_is (logged_kept _ _ _ c.self.invariant)

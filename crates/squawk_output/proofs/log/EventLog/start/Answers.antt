@@ -1,15 +1,14 @@
-use Rattle.std.proofs.Common.{◌∙◌, ap, arith, refl, true}
-use Rattle.squawk_output.specs.Chain.{tombstone}
-use Rattle.squawk_output.specs.Edits.{started}
-use Rattle.squawk_output.proofs.EditedLog.{IsRecord-put, draft_of-put}
+use Rattle.squawk_output.proofs.KeptLog.{kept-hole, logged_kept}
 use Rattle.squawk_output.proofs.log.EventLog.start.Goals as goal
 
+pub returns-in_err-push-clause-logged : goal.returns-in_err-push-clause-logged
+returns-in_err-push-clause-logged c = rw c.in_err-push.ensures.items (logged_kept _ _ _ c.self.invariant)
+
 pub invariant_of-self-2 : goal.invariant_of-self-2
-invariant_of-self-2 c =
-    rw c.in_ok-push_hole.ensures.ok
-    (IsRecord-put _ _ _ _ c.self.invariant tombstone true tt (λ marked. refl) (omega (arith, c.requires, ap (λ d. d.recorded) c.self.view_is)) c.self.inside.list.errors (omega arith))
+invariant_of-self-2 c = (kept-hole _ _ _ _ c.self.invariant c.self.view_is _ c.in_ok-push.ensures.items c.requires).kept
 
 pub returns-clause-ok : goal.returns-clause-ok
-returns-clause-ok c =
-    rw c.in_ok-push_hole.ensures.ok
-    (draft_of-put _ _ _ _ c.self.invariant tombstone true tt (λ marked. refl) ∙ ap (λ d. started d d.entries) c.self.view_is)
+returns-clause-ok c = (kept-hole _ _ _ _ c.self.invariant c.self.view_is _ c.in_ok-push.ensures.items c.requires).is
+
+pub returns-clause-logged : goal.returns-clause-logged
+returns-clause-logged c = logged_kept _ _ _ (invariant_of-self-2 c)

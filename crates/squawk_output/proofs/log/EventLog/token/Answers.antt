@@ -1,16 +1,14 @@
-use Rattle.std.proofs.Common.{◌∙◌, ap, arith, false}
-use Rattle.squawk_output.specs.declared.event.Event.TheVariants.{Token}
-use Rattle.squawk_output.specs.Edits.{with_token}
-use Rattle.squawk_output.proofs.EditedLog.{IsRecord-put, draft_of-put}
+use Rattle.squawk_output.proofs.KeptLog.{kept-token, logged_kept}
 use Rattle.squawk_output.proofs.log.EventLog.token.Goals as goal
 
+pub returns-in_err-push-clause-logged : goal.returns-in_err-push-clause-logged
+returns-in_err-push-clause-logged c = rw c.in_err-push.ensures.items (logged_kept _ _ _ c.self.invariant)
+
 pub invariant_of-self-2 : goal.invariant_of-self-2
-invariant_of-self-2 c =
-    rw c.in_ok-push_token.ensures.ok
-    (IsRecord-put _ _ _ _ c.self.invariant (Token c.args.kind c.args.n_raw_tokens) false tt (λ marked. absurd (cc)) (omega (arith, c.requires, ap (λ d. d.recorded) c.self.view_is)) c.self.inside.list.errors (omega arith))
+invariant_of-self-2 c = (kept-token _ _ _ _ c.self.invariant c.self.view_is c.args.kind c.args.n_raw_tokens _ c.in_ok-push.ensures.items c.requires).kept
 
 pub returns-clause-ok : goal.returns-clause-ok
-returns-clause-ok c =
-    rw c.in_ok-push_token.ensures.ok
-    (draft_of-put _ _ _ _ c.self.invariant (Token c.args.kind c.args.n_raw_tokens) false tt (λ marked. absurd (cc))
-    ∙ ap (λ d. with_token d c.args.kind c.args.n_raw_tokens) c.self.view_is)
+returns-clause-ok c = (kept-token _ _ _ _ c.self.invariant c.self.view_is c.args.kind c.args.n_raw_tokens _ c.in_ok-push.ensures.items c.requires).is
+
+pub returns-clause-logged : goal.returns-clause-logged
+returns-clause-logged c = logged_kept _ _ _ (invariant_of-self-2 c)

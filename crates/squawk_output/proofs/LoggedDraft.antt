@@ -1,0 +1,106 @@
+-- What the draft of every log keeps.
+use Rattle.std.proofs.Common.{◌≡◌, ◌∙◌, ℕ, suc, ◌+◌, ◌*◌, ◌==◌, ◌<◌, ◌≤◌, Bool, true, false, not, List, [], ◌∷◌, ◌++◌, length, length-append, get_or, refl, sym, ap, arith, cond, if◌then◌else◌, inl, inr}
+use Rattle.std.specs.Prelude.{All, count_by}
+use Rattle.std.proofs.lemmas.Bool.{cases_lt, ne_eqb}
+use Rattle.std.proofs.lemmas.Bool.Decides.{eqb_tells}
+use Rattle.std.proofs.lemmas.Grind.{flat_map-append}
+use Rattle.std.proofs.lemmas.List.Sums.{sum_by-append}
+use Rattle.std.proofs.lemmas.List.Elements.{All-cons, All-nil}
+use Rattle.squawk_kinds.specs.Kinds.{TOMBSTONE}
+use Rattle.squawk_output.specs.declared.event.Event.{Event}
+use Rattle.squawk_output.specs.declared.event.Event.TheVariants.{Start, Finish, Token, Error}
+use Rattle.squawk_output.specs.declared.log.Made.{Made}
+use Rattle.squawk_output.specs.Draft.{IsLogged, Item, ids, ids_of}
+use Rattle.squawk_output.specs.EventLog.{Log, has_link}
+use Rattle.squawk_output.specs.LogDraft.{IsRecord, draft_items, draft_of, items_of}
+use Rattle.squawk_output.proofs.GatheredItems.{draft_items-gathered, made_by, place_items}
+use Rattle.squawk_output.proofs.Gathered.{least_owner}
+use Rattle.squawk_output.proofs.Groups.{itself}
+use Rattle.squawk_output.proofs.LogItems.{opening_if}
+use Rattle.squawk_output.proofs.LogTurns.{turns_of-most}
+use Rattle.squawk_output.proofs.Sizes.{size-gathered, total, total-most, total-one, total-ones, total-past}
+use Rattle.squawk_output.proofs.Sums.{count_by-cons}
+
+-- ---- an item an event at most
+
+one_item : (place : ℕ) (made : Made) (event : Event) (mark : Bool) → length (items_of place made event mark) ≤ 1
+one_item place made (Start kind link) true = omega arith
+one_item place made (Start kind link) false = cases (kind == TOMBSTONE) (not (has_link (Start kind link)))
+  where
+    cases : (whole free : Bool) → length (opening_if whole place kind free) ≤ 1
+    cases true free = omega arith
+    cases false free = omega arith
+one_item place made Finish mark = omega arith
+one_item place made (Token kind n) mark = omega arith
+one_item place made (Error text) mark = omega arith
+
+length-draft_items : (log : Log) (marks : List Bool) → length (draft_items log marks) ≤ length log
+length-draft_items log marks =
+    omega (
+      arith,
+      ap length (draft_items-gathered log marks),
+      size-gathered length refl length-append (least_owner log) (place_items log marks) (length log),
+      total-most (λ j. length (place_items log marks j)) (λ j. 1) (length log)
+          (λ j. one_item j (made_by log j) (get_or log j Finish) (get_or marks j false)),
+      total-ones (length log),
+    )
+
+-- ---- and its id is the event's place
+
+module _ (id : ℕ) where
+  -- how often items have the id
+  abbrev times : List Item → ℕ
+  times items = count_by (λ i. i == id) (ids items)
+
+  times-append : (xs ys : List Item) → times (xs ++ ys) ≡ times xs + times ys
+  times-append xs ys = ap (count_by (λ i. i == id)) (flat_map-append ids_of xs ys) ∙ sum_by-append (λ i. cond (i == id) 1 0) (ids xs) (ids ys)
+
+  once_there : (place : ℕ) → count_by (λ i. i == id) (place ∷ []) ≤ (if id == place then 1 else 0)
+  once_there place =
+      elim (eqb_tells id place) [
+        | inl e ↦ rw (e.1, itself place) (omega arith)
+        | inr e ↦ let other = ne_eqb place id (λ same. e.1 (sym same)) in rw (other, e.0) (omega arith)
+      ]
+
+  times-items_of : (place : ℕ) (made : Made) (event : Event) (mark : Bool) → times (items_of place made event mark) ≤ (if id == place then 1 else 0)
+  times-items_of place made (Start kind link) true = once_there place
+  times-items_of place made (Start kind link) false = cases (kind == TOMBSTONE) (not (has_link (Start kind link)))
+    where
+      cases : (whole free : Bool) → times (opening_if whole place kind free) ≤ (if id == place then 1 else 0)
+      cases true free = omega arith
+      cases false free = once_there place
+  times-items_of place made Finish mark = omega arith
+  times-items_of place made (Token kind n) mark = omega arith
+  times-items_of place made (Error text) mark = omega arith
+
+  times-draft_items : (log : Log) (marks : List Bool) → times (draft_items log marks) ≤ total (λ j. if id == j then 1 else 0) (length log)
+  times-draft_items log marks =
+      omega (
+        arith,
+        ap times (draft_items-gathered log marks),
+        size-gathered times refl times-append (least_owner log) (place_items log marks) (length log),
+        total-most (λ j. times (place_items log marks j)) (λ j. if id == j then 1 else 0) (length log)
+            (λ j. times-items_of j (made_by log j) (get_or log j Finish) (get_or marks j false)),
+      )
+
+-- numbers that don't occur from n on are below n
+below-counts : (n : ℕ) (is : List ℕ) → ((id : ℕ) → n ≤ id → count_by (λ i. i == id) is ≡ 0) → All (λ i. i < n) is
+below-counts n [] none = All-nil (λ i. i < n)
+below-counts n (i ∷ is) none =
+    All-cons (λ i. i < n) i is first (below-counts n is (λ id past. omega (arith, none id past, count_by-cons (λ i. i == id) i is)))
+  where
+    first : i < n
+    first =
+        elim (cases_lt i n) [
+          | inl lt ↦ lt
+          | inr past ↦ absurd (omega (arith, none i past, count_by-cons (λ j. j == i) i is, ap {B = ℕ} (λ b. cond b 1 0) (itself i)))
+        ]
+
+pub IsLogged-draft_of : (log : Log) (marks : List Bool) (recorded wrong : ℕ) → IsRecord log marks recorded wrong → IsLogged (draft_of log marks recorded)
+IsLogged-draft_of log marks recorded wrong is = record {
+  few = omega (arith, length-draft_items log marks, is.few);
+  turns = omega (arith, turns_of-most log, is.few);
+  below = below-counts (length log) (ids (draft_items log marks))
+      (λ id past. omega (arith, times-draft_items id log marks, total-past id 1 (length log) past));
+  once = λ id. omega (arith, times-draft_items id log marks, total-one id 1 (length log));
+}
