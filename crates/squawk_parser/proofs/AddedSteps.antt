@@ -1,56 +1,65 @@
 -- What grammars may rely on: steps that parts add one after another, and nodes around them and in front of them.
-use Rattle.std.proofs.Common.{◌≡◌, ◌≢◌, ◌∙◌, ℕ, ◌<◌, true, false, List, [], ◌∷◌, ◌++◌, arith, ap, sym, refl, subst, append_assoc}
-use Rattle.std.specs.Prelude.{All, Contains}
-use Rattle.std.proofs.lemmas.List.Elements.{All-nil, All-cons, All-head, All-append, Contains-append_left}
+use Rattle.std.proofs.Common.{◌≡◌, ◌∙◌, ℕ, ◌<◌, false, true, List, [], ◌∷◌, ◌++◌, arith, ap, sym, refl, subst, append_assoc}
+use Rattle.std.specs.Prelude.{All, Contains, count_by}
+use Rattle.std.proofs.lemmas.List.Elements.{All-nil, All-cons, All-append, Contains-append_left}
 use Rattle.squawk_output.specs.Steps.{Step, Enter, Exit}
-use Rattle.squawk_output.specs.Draft.{Item, Mark, Node, Hole, Open, Close, ByStart, ByPrecede, HasNoHole, IsAboveIds, ids, is_hole, plain}
+use Rattle.squawk_output.specs.Draft.{Draft, Item, Mark, Node, Hole, Open, Close, HasNoHole, IsAboveIds, ids, is_hole, plain}
+use Rattle.squawk_output.specs.declared.log.Made.{Made}
+use Rattle.squawk_output.specs.declared.log.Made.TheVariants.{ByPrecede, ByStart}
 use Rattle.squawk_output.specs.Edits.{completed, filled, is_opening_of, preceded, preceded_item, replaced, started}
-use Rattle.squawk_parser.specs.Composed.{Adds, AddsNode}
+use Rattle.squawk_output.proofs.Groups.{itself}
+use Rattle.squawk_parser.specs.Composed.{Adds, AddsNode, IsAdded, IsNodeAdded}
 use Rattle.squawk_parser.specs.Eaten.{node}
-use Rattle.squawk_parser.specs.Recorded.{Puts}
-use Rattle.squawk_parser.specs.State.{State, HasNotFailed, HasHole, HasNode, IsFresh, Records}
-use Rattle.squawk_parser.proofs.JoinedItems.{All-ids, above_back, above_front, below_others, filled-at, ids_back, ids_front, preceded-at}
-use Rattle.squawk_parser.proofs.RecordedItems.{plain-append, eaten-append}
-use Rattle.squawk_parser.proofs.Splits.{Contains-behind}
+use Rattle.squawk_parser.specs.Recorded.{Begins, Completes, Precedes, Puts, items_for}
+use Rattle.squawk_parser.specs.State.{State, HasNotFailed, HasHole, HasNode, IsFresh}
+use Rattle.squawk_parser.proofs.RecordedItems.{plain-append, eaten-append, filled-at, ids-append}
+use Rattle.squawk_parser.proofs.RecordedSteps.{Keeps-then, went}
+use Rattle.squawk_parser.proofs.Splits.{All-front, Contains-behind, count_by-append, count_by-passes, openings-once, replaced-at}
+use Rattle.squawk_parser.proofs.StepsAtEnd.{closed-items_for, plain-items_for}
+
+abbrev no_hole : Item → Type 0
+no_hole item = is_hole item ≡ false
 
 -- ---- steps
 
 pub Adds-puts : {a b : State} {xs : List Step} → Puts xs a b → Adds xs a b
-Adds-puts p = record {
+Adds-puts {a} {b} {xs} p = record {
+  keeps = p.keeps;
   position = p.position;
-  went = p.went;
-  draft = λ goes. let put = p.draft goes in record { made = put.made; items = put.items; steps_made = put.steps_made; closed = put.closed; above = put.above };
+  draft = λ goes. record {
+    made = items_for a.draft.entries xs;
+    items = ap (λ d. d.items) (p.draft goes);
+    steps_made = plain-items_for a.draft.entries xs;
+    closed = closed-items_for a.draft.entries xs;
+  };
 }
 
 pub Adds-node : {a b : State} {xs : List Step} {n : Node} → AddsNode xs n a b → Adds xs a b
 Adds-node {a} {b} {xs} {n} p = record {
+  keeps = p.keeps;
   position = p.position;
-  went = p.went;
   draft = λ goes.
       let put = p.draft goes in
       record {
         made = Open n.id n.kind true ∷ put.inner;
         items = put.items;
         steps_made = put.steps_made;
-        closed = All-cons (λ item. is_hole item ≡ false) (Open n.id n.kind true) put.inner refl put.closed;
-        above = put.above;
+        closed = All-cons no_hole (Open n.id n.kind true) put.inner refl put.closed;
       };
 }
 
 pub Adds-then : {a b c : State} {xs ys : List Step} → Adds xs a b → Adds ys b c → Adds (xs ++ ys) a c
 Adds-then {a} {b} {c} {xs} {ys} p q = record {
+  keeps = Keeps-then p.keeps q.keeps;
   position = omega (arith, p.position, q.position, eaten-append xs ys);
-  went = λ goes. p.went (q.went goes);
   draft = λ goes.
-      let first = p.draft (q.went goes) in
+      let first = p.draft (went q.keeps goes) in
       let second = q.draft goes in
       record {
         made = first.made ++ second.made;
         items = second.items ∙ (ap (λ zs. zs ++ second.made) first.items ∙ append_assoc a.draft.items first.made second.made);
         steps_made = plain-append first.made second.made ∙ (ap (λ zs. zs ++ plain second.made) first.steps_made ∙ ap (λ zs. xs ++ zs) second.steps_made);
-        closed = All-append (λ item. is_hole item ≡ false) first.made second.made first.closed second.closed;
-        above = All-ids (λ id. IsAboveIds id a.draft.items) first.made second.made first.above
-            (above_front b.draft.items a.draft.items first.made (ids second.made) first.items second.above);
+        closed = All-append no_hole first.made second.made first.closed second.closed;
       };
 }
 
@@ -59,7 +68,7 @@ pub hole-added : {a b : State} {xs : List Step} (m : Mark) → HasHole a m → A
 hole-added {a} {b} {xs} m there adds goes =
     let added = adds.draft goes in
     let hole = Hole m.id m.made in
-    subst (λ items. Contains items hole) (sym added.items) (Contains-append_left a.draft.items added.made hole (there (adds.went goes)))
+    subst (λ items. Contains items hole) (sym added.items) (Contains-append_left a.draft.items added.made hole (there (went adds.keeps goes)))
 
 -- an added node can be preceded
 pub node-added : {a b : State} {xs : List Step} {n : Node} → AddsNode xs n a b → HasNode b n
@@ -70,117 +79,96 @@ node-added {a} {b} {xs} {n} adds goes =
 
 -- ---- nodes
 
--- a node is begun, steps are added, and it is completed
-module _ {a b c : State} {xs : List Step} (id : ℕ) (begins : Records a b (started a.draft id)) (adds : Adds xs b c) where
-  node_around_as : {d : State} (kind : ℕ) → (HasNotFailed b → IsAboveIds id a.draft.items) → b.position ≡ a.position → Records c d (completed c.draft id kind) → d.position ≡ c.position
-      → AddsNode (node kind xs) (record { id = id; kind = kind }) a d
-  node_around_as {d} kind fresh here completes there = record {
-    position = omega (arith, here, there, adds.position, eaten-append xs (Exit ∷ []));
-    went = λ goes. begins.went (adds.went (completes.went goes));
-    draft = λ goes.
-        let before = completes.went goes in
-        let first = adds.went before in
-        let put = adds.draft before in
-        let hole = Hole id (ByStart a.draft.entries) in
-        let below = fresh first in
-        let start : b.draft.items ≡ a.draft.items ++ hole ∷ [] = ap (λ d. d.items) (begins.draft first) in
-        let items : c.draft.items ≡ a.draft.items ++ hole ∷ put.made =
-        put.items ∙ (ap (λ zs. zs ++ put.made) start ∙ append_assoc a.draft.items (hole ∷ []) put.made) in
-        record {
-          inner = put.made ++ Close ∷ [];
-          items = ap (λ d. d.items) (completes.draft goes)
-              ∙ (ap (λ zs. zs ++ Close ∷ []) (ap (λ zs. filled zs id kind) items ∙ filled-at id kind (ByStart a.draft.entries) a.draft.items put.made below put.closed)
-              ∙ append_assoc a.draft.items (Open id kind true ∷ put.made) (Close ∷ []));
-          steps_made = ap (λ zs. Enter kind ∷ zs) (plain-append put.made (Close ∷ []) ∙ ap (λ zs. zs ++ Exit ∷ []) put.steps_made);
-          closed = All-append (λ item. is_hole item ≡ false) put.made (Close ∷ []) put.closed
-              (All-cons (λ item. is_hole item ≡ false) Close [] refl (All-nil (λ item. is_hole item ≡ false)));
-          above = All-cons (λ i. IsAboveIds i a.draft.items) id (ids (put.made ++ Close ∷ [])) below
-              (All-ids (λ i. IsAboveIds i a.draft.items) put.made (Close ∷ []) (above_front b.draft.items a.draft.items (hole ∷ []) (ids put.made) start put.above)
-              (All-nil (λ i. IsAboveIds i a.draft.items)));
-          once = All-ids (λ i. i ≢ id) put.made (Close ∷ [])
-              (above_back b.draft.items a.draft.items (hole ∷ []) id (ids put.made) start (λ i all. All-head (λ j. j < i) id [] all) put.above)
-              (All-nil (λ i. i ≢ id));
-        };
-  }
+-- a hole with items behind it becomes an opening, and a closing stands at the end
+closed_up : (old inner : List Item) (made : Made) (d e : Draft) (id kind : ℕ) → d.items ≡ old ++ Hole id made ∷ inner → e ≡ completed d id kind
+    → IsAboveIds id old → HasNoHole inner → e.items ≡ old ++ Open id kind true ∷ (inner ++ Close ∷ [])
+closed_up old inner made d e id kind is ends above closed =
+    ap (λ d. d.items) ends
+    ∙ (ap (λ items. filled items id kind ++ Close ∷ []) is
+    ∙ (ap (λ items. items ++ Close ∷ []) (filled-at id kind made old inner above closed) ∙ append_assoc old (Open id kind true ∷ inner) (Close ∷ [])))
 
-  pub node_around : {d : State} {n : Node} {kind k : ℕ} → n ≡ record { id = id; kind = k } → k ≡ kind → (HasNotFailed b → IsAboveIds id a.draft.items)
-      → b.position ≡ a.position → Records c d (completed c.draft id k) → d.position ≡ c.position → AddsNode (node kind xs) n a d
-  node_around {d} {n} {kind} {k} is same fresh here completes there =
-      subst (λ l. AddsNode (node l xs) n a d) same (subst (λ m. AddsNode (node k xs) m a d) (sym is) (node_around_as k fresh here completes there))
+closed_end : (inner : List Item) → HasNoHole inner → HasNoHole (inner ++ Close ∷ [])
+closed_end inner closed = All-append no_hole inner (Close ∷ []) closed (All-cons no_hole Close [] refl (All-nil no_hole))
+
+-- a node is begun, steps are added, and it is completed
+pub node_around : {a b c d : State} {m : Mark} {n : Node} {xs : List Step} {kind : ℕ} → Begins m a b → Adds xs b c → Completes m.id kind c d
+    → n ≡ record { id = m.id; kind = kind } → AddsNode (node kind xs) n a d
+node_around {a} {b} {c} {d} {m} {n} {xs} {kind} begins adds completes is =
+    subst (λ (n : Node). AddsNode (node kind xs) n a d) (sym is)
+    (record {
+      keeps = Keeps-then begins.keeps (Keeps-then adds.keeps completes.keeps);
+      position = omega (arith, begins.position, completes.position, adds.position, eaten-append xs (Exit ∷ []));
+      draft = λ goes.
+          let before = went completes.keeps goes in
+          let put = adds.draft before in
+          let start = ap (λ d. d.items) (begins.records.draft (went adds.keeps before)) in
+          let id = ap (λ m. m.id) begins.is in
+          let items : c.draft.items ≡ a.draft.items ++ Hole m.id ByStart ∷ put.made =
+          put.items
+          ∙ (ap (λ zs. zs ++ put.made) start
+          ∙ (append_assoc a.draft.items (Hole a.draft.entries ByStart ∷ []) put.made ∙ ap (λ id. a.draft.items ++ Hole id ByStart ∷ put.made) (sym id))) in
+          record {
+            inner = put.made ++ Close ∷ [];
+            items = closed_up a.draft.items put.made ByStart c.draft d.draft m.id kind items (completes.records.draft goes)
+                (subst (λ id. IsAboveIds id a.draft.items) (sym id) begins.sound.logged.below) put.closed;
+            steps_made = ap (λ zs. Enter kind ∷ zs) (plain-append put.made (Close ∷ []) ∙ ap (λ zs. zs ++ Exit ∷ []) put.steps_made);
+            closed = closed_end put.made put.closed;
+          };
+    })
+
+-- the items where an added node is preceded
+preceded_items : {begun s t : State} {m : Mark} {n : Node} {xs : List Step} → (adds : AddsNode xs n begun s) → Precedes n m s t → (goes : HasNotFailed t) → (gone : HasNotFailed s)
+    → t.draft.items ≡ begun.draft.items ++ Hole s.draft.entries ByPrecede ∷ Open n.id n.kind false ∷ (adds.draft gone).inner
+preceded_items {begun} {s} {t} {m} {n} {xs} adds precedes goes gone =
+    let put = adds.draft gone in
+    let p = is_opening_of n.id in
+    let f = λ (item : Item). Hole s.draft.entries ByPrecede ∷ preceded_item item ∷ [] in
+    let opening = Open n.id n.kind true in
+    let once = openings-once n.id s.draft.items precedes.sound.logged.once in
+    let total = ap (count_by p) put.items ∙ count_by-append p begun.draft.items (opening ∷ put.inner) in
+    let first = count_by-passes p opening put.inner (itself n.id) in
+    ap (λ d. d.items) (precedes.records.draft goes)
+    ∙ (ap (replaced p f) put.items ∙ replaced-at p f begun.draft.items put.inner opening (itself n.id) (omega (arith, total, first, once)) (omega (arith, total, first, once)))
 
 -- a node is preceded, steps are added, and the new one is completed
-module _ {begun s t v : State} {steps more : List Step} (left : Node) (id : ℕ)
-    (puts : AddsNode steps left begun s) (precedes : Records s t (preceded s.draft left.id id)) (fresh : HasNotFailed t → IsAboveIds id s.draft.items) (adds : Adds more t v) where
-  preceded_items : (goes : HasNotFailed t)
-      → t.draft.items ≡ begun.draft.items ++ Hole id (ByPrecede s.draft.entries) ∷ Open left.id left.kind false ∷ (puts.draft (precedes.went goes)).inner
-  preceded_items goes =
-      let put = puts.draft (precedes.went goes) in
-      ap (λ d. d.items) (precedes.draft goes)
-      ∙ (ap (replaced (is_opening_of left.id) (λ item. Hole id (ByPrecede s.draft.entries) ∷ preceded_item item ∷ [])) put.items
-      ∙ preceded-at left.id left.kind id (ByPrecede s.draft.entries) begun.draft.items put.inner
-      (All-head (λ i. IsAboveIds i begun.draft.items) left.id (ids put.inner) put.above) put.once)
-
-  abbrev behind_hole : (goes : HasNotFailed v) → List Item
-  behind_hole goes = (Open left.id left.kind false ∷ (puts.draft (precedes.went (adds.went goes))).inner) ++ (adds.draft goes).made
-
-  added_items : (goes : HasNotFailed v) → v.draft.items ≡ begun.draft.items ++ Hole id (ByPrecede s.draft.entries) ∷ behind_hole goes
-  added_items goes =
-      let put = puts.draft (precedes.went (adds.went goes)) in
-      let added = adds.draft goes in
-      added.items
-      ∙ (ap (λ zs. zs ++ added.made) (preceded_items (adds.went goes))
-      ∙ append_assoc begun.draft.items (Hole id (ByPrecede s.draft.entries) ∷ Open left.id left.kind false ∷ put.inner) added.made)
-
-  node_before_as : {w : State} (kind : ℕ) → t.position ≡ s.position → Records v w (completed v.draft id kind) → w.position ≡ v.position
-      → AddsNode (Enter kind ∷ (steps ++ more) ++ Exit ∷ []) (record { id = id; kind = kind }) begun w
-  node_before_as {w} kind here completes there = record {
-    position = omega (arith, here, there, puts.position, adds.position, eaten-append (steps ++ more) (Exit ∷ []), eaten-append steps more);
-    went = λ goes. puts.went (precedes.went (adds.went (completes.went goes)));
-    draft = λ goes.
-        let going = completes.went goes in
-        let first = adds.went going in
-        let old = begun.draft.items in
-        let put = puts.draft (precedes.went first) in
-        let added = adds.draft going in
-        let hole = Hole id (ByPrecede s.draft.entries) in
-        let node_items : List Item = Open left.id left.kind false ∷ put.inner in
-        let below : All (λ i. i < id) (ids (old ++ Open left.id left.kind true ∷ put.inner)) =
-        subst (λ items. IsAboveIds id items) put.items (fresh first) in
-        let closed : HasNoHole (node_items ++ added.made) =
-        All-append (λ item. is_hole item ≡ false) node_items added.made
-        (All-cons (λ item. is_hole item ≡ false) (Open left.id left.kind false) put.inner refl put.closed) added.closed in
-        let before : IsAboveIds id old = ids_front (λ i. i < id) old (Open left.id left.kind true ∷ put.inner) below in
-        record {
-          inner = (node_items ++ added.made) ++ Close ∷ [];
-          items = ap (λ d. d.items) (completes.draft goes)
-              ∙ (ap (λ zs. zs ++ Close ∷ [])
-              (ap (λ zs. filled zs id kind) (added_items going) ∙ filled-at id kind (ByPrecede s.draft.entries) old (node_items ++ added.made) before closed)
-              ∙ append_assoc old (Open id kind true ∷ (node_items ++ added.made)) (Close ∷ []));
-          steps_made = ap (λ zs. Enter kind ∷ zs)
-              (plain-append (node_items ++ added.made) (Close ∷ [])
-              ∙ ap (λ zs. zs ++ Exit ∷ [])
-              (plain-append node_items added.made
-              ∙ (ap (λ zs. zs ++ plain added.made) put.steps_made ∙ ap (λ zs. steps ++ zs) added.steps_made)));
-          closed = All-append (λ item. is_hole item ≡ false) (node_items ++ added.made) (Close ∷ []) closed
-              (All-cons (λ item. is_hole item ≡ false) Close [] refl (All-nil (λ item. is_hole item ≡ false)));
-          above = All-cons (λ i. IsAboveIds i old) id (ids ((node_items ++ added.made) ++ Close ∷ [])) before
-              (All-ids (λ i. IsAboveIds i old) (node_items ++ added.made) (Close ∷ [])
-              (All-ids (λ i. IsAboveIds i old) node_items added.made put.above
-              (above_front t.draft.items old (hole ∷ node_items) (ids added.made) (preceded_items first) added.above))
-              (All-nil (λ i. IsAboveIds i old)));
-          once = All-ids (λ i. i ≢ id) (node_items ++ added.made) (Close ∷ [])
-              (All-ids (λ i. i ≢ id) node_items added.made
-              (below_others id (left.id ∷ ids put.inner) (ids_back (λ i. i < id) old (Open left.id left.kind true ∷ put.inner) below))
-              (above_back t.draft.items old (hole ∷ node_items) id (ids added.made) (preceded_items first) (λ i all. All-head (λ j. j < i) id (ids node_items) all) added.above))
-              (All-nil (λ i. i ≢ id));
-        };
-  }
-
-  pub node_before : {w : State} {n : Node} {kind k : ℕ} → n ≡ record { id = id; kind = k } → k ≡ kind → t.position ≡ s.position
-      → Records v w (completed v.draft id k) → w.position ≡ v.position → AddsNode (Enter kind ∷ (steps ++ more) ++ Exit ∷ []) n begun w
-  node_before {w} {n} {kind} {k} is same here completes there =
-      subst (λ l. AddsNode (Enter l ∷ (steps ++ more) ++ Exit ∷ []) n begun w) same
-      (subst (λ m. AddsNode (Enter k ∷ (steps ++ more) ++ Exit ∷ []) m begun w) (sym is) (node_before_as k here completes there))
+pub node_before : {begun s t v w : State} {m : Mark} {left n : Node} {steps more : List Step} {kind : ℕ} → AddsNode steps left begun s → Precedes left m s t → Adds more t v
+    → Completes m.id kind v w → n ≡ record { id = m.id; kind = kind } → AddsNode (Enter kind ∷ (steps ++ more) ++ Exit ∷ []) n begun w
+node_before {begun} {s} {t} {v} {w} {m} {left} {n} {steps} {more} {kind} puts precedes adds completes is =
+    subst (λ (n : Node). AddsNode (Enter kind ∷ (steps ++ more) ++ Exit ∷ []) n begun w) (sym is)
+    (record {
+      keeps = Keeps-then puts.keeps (Keeps-then precedes.keeps (Keeps-then adds.keeps completes.keeps));
+      position = omega (arith, precedes.position, completes.position, puts.position, adds.position, eaten-append (steps ++ more) (Exit ∷ []), eaten-append steps more);
+      draft = λ goes.
+          let going = went completes.keeps goes in
+          let first = went adds.keeps going in
+          let gone = went precedes.keeps first in
+          let put = puts.draft gone in
+          let added = adds.draft going in
+          let old = begun.draft.items in
+          let node_items : List Item = Open left.id left.kind false ∷ put.inner in
+          let inner = node_items ++ added.made in
+          let id = ap (λ m. m.id) precedes.is in
+          let items : v.draft.items ≡ old ++ Hole m.id ByPrecede ∷ inner =
+          added.items
+          ∙ (ap (λ zs. zs ++ added.made) (preceded_items puts precedes first gone)
+          ∙ (append_assoc old (Hole s.draft.entries ByPrecede ∷ node_items) added.made ∙ ap (λ id. old ++ Hole id ByPrecede ∷ inner) (sym id))) in
+          let below : IsAboveIds s.draft.entries old =
+          ids_front old (Open left.id left.kind true ∷ put.inner) (subst (λ items. IsAboveIds s.draft.entries items) put.items precedes.sound.logged.below) in
+          let closed : HasNoHole inner = All-append no_hole node_items added.made (All-cons no_hole (Open left.id left.kind false) put.inner refl put.closed) added.closed in
+          record {
+            inner = inner ++ Close ∷ [];
+            items = closed_up old inner ByPrecede v.draft w.draft m.id kind items (completes.records.draft goes) (subst (λ id. IsAboveIds id old) (sym id) below) closed;
+            steps_made = ap (λ zs. Enter kind ∷ zs)
+                (plain-append inner (Close ∷ [])
+                ∙ ap (λ zs. zs ++ Exit ∷ [])
+                (plain-append node_items added.made
+                ∙ (ap (λ zs. zs ++ plain added.made) put.steps_made ∙ ap (λ zs. steps ++ zs) added.steps_made)));
+            closed = closed_end inner closed;
+          };
+    })
+  where
+    ids_front : {id : ℕ} (xs ys : List Item) → IsAboveIds id (xs ++ ys) → IsAboveIds id xs
+    ids_front {id} xs ys above = All-front (λ i. i < id) (ids xs) (ids ys) (rw (ids-append xs ys) at above)
 
 -- ---- a whole run
 

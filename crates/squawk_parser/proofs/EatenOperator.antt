@@ -8,7 +8,7 @@ use Rattle.squawk_output.specs.Edits.{with_token}
 use Rattle.squawk_parser.specs.Operators.{is_operator_name, longest_name, operator_length, touching_run}
 use Rattle.squawk_parser.specs.Recorded.{Puts}
 use Rattle.squawk_parser.specs.State.{State, Keeps, Records, ahead, kind_at}
-use Rattle.squawk_parser.proofs.RecordedSteps.{Keeps-then, puts-then}
+use Rattle.squawk_parser.proofs.RecordedSteps.{puts-then}
 use Rattle.squawk_parser.proofs.SeenSteps.{ahead-moved, bump_puts}
 
 -- a name is no longer than it may be
@@ -56,7 +56,6 @@ operator-stands operator_kind seen i lt =
 
 -- the first i of the tokens that were seen are eaten, each with its own kind
 pub record AreEaten (i : ℕ) (old now : State) : Type 0 where
-  pub keeps : Keeps old now
   pub puts : Puts (map (λ e. one e.kind) (take i (ahead old 0))) old now
   pub seen : ahead now 0 ≡ drop i (ahead old 0)
 
@@ -66,8 +65,7 @@ pub are_eaten-next : (operator_kind : ℕ → Bool) (i : ℕ) (old now next : St
     → Keeps now next → (kind_at now 0 ≢ EOF → next.position ≡ now.position + 1) → (kind_at now 0 ≢ EOF → Records now next (with_token now.draft (kind_at now 0) 1))
     → AreEaten (i + 1) old next
 are_eaten-next operator_kind i old now next no_end lt so_far keeps position records = record {
-  keeps = Keeps-then so_far.keeps keeps;
-  puts = subst (λ steps. Puts steps old next) (sym steps) (puts-then so_far.keeps keeps so_far.puts token);
+  puts = subst (λ steps. Puts steps old next) (sym steps) (puts-then so_far.puts token);
   seen = ahead-moved 1 keeps token.position ∙ (ap (drop 1) (so_far.seen ∙ stands.here) ∙ ap (λ j. drop j (ahead old 0)) (sym (add-one i)));
 }
   where

@@ -15,7 +15,7 @@ use Rattle.squawk_output.specs.Edits.{with_token}
 use Rattle.squawk_parser.specs.LookAhead.{touches_next}
 use Rattle.squawk_parser.specs.Recorded.{Puts}
 use Rattle.squawk_parser.specs.State.{State, Keeps, Records, ahead}
-use Rattle.squawk_parser.proofs.RecordedSteps.{Keeps-then, puts-then, token_puts}
+use Rattle.squawk_parser.proofs.RecordedSteps.{puts-then, token_puts}
 use Rattle.squawk_parser.proofs.SeenSteps.{ahead-moved, and-right, if-true, if-false}
 
 -- the part at a place, and those behind it
@@ -29,7 +29,6 @@ some_kind parts i part no_end lt is end = no_end i part lt (sym is ∙ end)
 
 -- the parts before place i are eaten, and the others touch from here on
 pub record IsTouched (parts : List ℕ) (i : ℕ) (old now : State) : Type 0 where
-  pub keeps : Keeps old now
   pub puts : Puts (map one (take i parts)) old now
   pub touch : do_touch (drop i parts) (ahead now 0) ≡ true
 
@@ -41,8 +40,7 @@ module _ (parts : List ℕ) (i part : ℕ) (old now : State) (lt : i < length pa
   pub touched-next : (next : State) → Keeps now next → next.position ≡ now.position + 1 → Records now next (with_token now.draft part 1)
       → IsTouched parts (i + 1) old next
   touched-next next keeps position records = record {
-    keeps = Keeps-then so_far.keeps keeps;
-    puts = subst (λ steps. Puts steps old next) (sym more) (puts-then so_far.keeps keeps so_far.puts (token_puts part 1 keeps records position));
+    puts = subst (λ steps. Puts steps old next) (sym more) (puts-then so_far.puts (token_puts part 1 keeps records position));
     touch = ap (do_touch (drop (i + 1) parts)) (ahead-moved 1 keeps position) ∙ and-right _ _ both;
   }
     where
@@ -59,7 +57,6 @@ touched-all parts i old now le so_far = subst (λ xs. Puts (map one xs) old now)
 
 -- what is recorded and the steps of the parts from place i on are those of all, and the parts that are left stand
 pub record IsEaten (parts : List ℕ) (i : ℕ) (old now : State) : Type 0 where
-  pub keeps : Keeps old now
   pub done : List Step
   pub puts : Puts done old now
   pub all : done ++ element_steps (map element_of (drop i parts)) (ahead now 0) ≡ element_steps (map element_of parts) (ahead old 0)
@@ -105,11 +102,10 @@ module _ (parts : List ℕ) (i part : ℕ) (old now : State) (lt : i < length pa
   -- it is eaten
   next-element : (element : Element) (steps : List Step) (next : State) → element_of part ≡ element
       → IsFirst element (map element_of (drop (i + 1) parts)) (ahead now 0) steps
-      → Keeps now next → Puts steps now next → IsEaten parts (i + 1) old next
-  next-element element steps next e first keeps puts = record {
-    keeps = Keeps-then so_far.keeps keeps;
+      → Puts steps now next → IsEaten parts (i + 1) old next
+  next-element element steps next e first puts = record {
     done = so_far.done ++ steps;
-    puts = puts-then so_far.keeps keeps so_far.puts puts;
+    puts = puts-then so_far.puts puts;
     all =
         append_assoc so_far.done steps (element_steps rest (ahead next 0))
         ∙ (ap (λ seen. so_far.done ++ (steps ++ element_steps rest seen)) moved
@@ -122,7 +118,7 @@ module _ (parts : List ℕ) (i part : ℕ) (old now : State) (lt : i < length pa
       rest = map element_of (drop (i + 1) parts)
 
       moved : ahead next 0 ≡ drop (eaten steps) (ahead now 0)
-      moved = ahead-moved (eaten steps) keeps puts.position
+      moved = ahead-moved (eaten steps) puts.keeps puts.position
 
   -- a part that is no normal form stands
   first : (part == UNICODE_NORMAL_FORM) ≡ false
@@ -133,12 +129,12 @@ module _ (parts : List ℕ) (i part : ℕ) (old now : State) (lt : i < length pa
       → Records now next (with_token now.draft part 1)
       → IsEaten parts (i + 1) old next
   eaten-next next other keeps position records =
-      next-element (One part) (one part ∷ []) next (if-false _ _ _ other) (first other).1 keeps (token_puts part 1 keeps records position)
+      next-element (One part) (one part ∷ []) next (if-false _ _ _ other) (first other).1 (token_puts part 1 keeps records position)
 
   -- a normal form may stand
-  pub eaten-form : (next : State) → (part == UNICODE_NORMAL_FORM) ≡ true → Keeps now next → Puts (element_steps (normal_form ∷ []) (ahead now 0)) now next
+  pub eaten-form : (next : State) → (part == UNICODE_NORMAL_FORM) ≡ true → Puts (element_steps (normal_form ∷ []) (ahead now 0)) now next
       → IsEaten parts (i + 1) old next
-  eaten-form next form keeps puts =
+  eaten-form next form puts =
       let is_form : element_of part ≡ normal_form = if-true _ _ _ form in
       next-element normal_form (element_steps (normal_form ∷ []) (ahead now 0)) next is_form
-      (first-form (map element_of (drop (i + 1) parts)) (ahead now 0) (stands_now normal_form is_form)) keeps puts
+      (first-form (map element_of (drop (i + 1) parts)) (ahead now 0) (stands_now normal_form is_form)) puts

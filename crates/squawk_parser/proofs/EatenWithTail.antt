@@ -12,23 +12,18 @@ use Rattle.squawk_parser.proofs.SeenSteps.{ahead-still}
 pub eats_with_puts : {does : State → State → Type 0} {kind : ℕ} {old new : State} → EatsWith does kind old new → (steps : List Step)
     → ((a b : State) → IsSound a → IsSound b → Keeps a b → does a b → Puts steps a b)
     → (ran : State) × IsSound ran × Puts (node kind (element_steps (elements_of_kind kind) (ahead old 0) ++ (steps ++ closing_steps old.words (tail_of_kind kind) (ahead ran 0)))) old new
-eats_with_puts {does} {kind} {old} {new} (id, e) steps records =
+eats_with_puts {does} {kind} {old} {new} e steps records =
     let begins = e.does_so in
     let elements = e.goes_on.does_so in
     let tail = e.goes_on.goes_on.does_so in
-    let closing = e.goes_on.goes_on.goes_on.does_so in
-    let completes = e.goes_on.goes_on.goes_on.goes_on in
     let ran = e.goes_on.goes_on.between in
     let recorded = records e.goes_on.between ran e.goes_on.sound e.goes_on.goes_on.sound tail.keeps tail.runs in
-    let behind = puts-then tail.keeps closing.keeps recorded closing.puts in
-    let keeps = Keeps-then tail.keeps closing.keeps in
-    let all = puts-then elements.keeps keeps elements.puts behind in
+    let all = puts-then elements (puts-then recorded e.goes_on.goes_on.goes_on.does_so) in
     let words : ran.words ≡ old.words = (Keeps-then begins.keeps (Keeps-then elements.keeps tail.keeps)).words in
     let seen : ahead e.between 0 ≡ ahead old 0 = ahead-still begins.keeps begins.position in
     let same = ap (λ seen. element_steps (elements_of_kind kind) seen ++ (steps ++ closing_steps ran.words (tail_of_kind kind) (ahead ran 0))) seen
     ∙ ap (λ words. element_steps (elements_of_kind kind) (ahead old 0) ++ (steps ++ closing_steps words (tail_of_kind kind) (ahead ran 0))) words in (
       ran,
       e.goes_on.goes_on.sound,
-      node_puts id kind begins.keeps (Keeps-then elements.keeps keeps) completes.keeps begins.records begins.fresh begins.position
-          (subst (λ steps. Puts steps e.between e.goes_on.goes_on.goes_on.between) same all) completes.records completes.position,
+      node_puts begins (subst (λ steps. Puts steps e.between e.goes_on.goes_on.goes_on.between) same all) e.goes_on.goes_on.goes_on.goes_on,
     )

@@ -5,14 +5,16 @@ use Rattle.std.proofs.lemmas.Bool.{eqb-true, eqb-false, eq-eqb, ne_eqb}
 use Rattle.std.proofs.lemmas.List.{append-nil}
 use Rattle.std.proofs.lemmas.List.Elements.{All-nil, All-cons, All-head, All-tail, All-filter, All-contains, All-contains_itself, Contains-push, filter-append}
 use Rattle.squawk_kinds.specs.Kinds.{EOF}
-use Rattle.squawk_output.specs.Draft.{Item, Hole, Open, Close, Token, Error, Made, ByStart, is_hole, ids, holes_of, HasNoHole, IsAboveIds}
+use Rattle.squawk_output.specs.Draft.{Item, Hole, Open, Close, Token, Error, Mark, is_hole, ids, holes_of, HasNoHole, IsAboveIds}
+use Rattle.squawk_output.specs.declared.log.Made.{Made}
+use Rattle.squawk_output.specs.declared.log.Made.TheVariants.{ByStart}
 use Rattle.squawk_output.specs.Edits.{started, completed, filled, with_token, is_hole_of}
 use Rattle.squawk_parser.specs.Eaten.{EatsWith}
-use Rattle.squawk_parser.specs.Recorded.{Puts}
+use Rattle.squawk_parser.specs.Recorded.{Begins, Completes, Puts, items_for, started_mark}
 use Rattle.squawk_parser.specs.State.{State, HasNotFailed, Keeps, Records, IsFresh, kind_at}
 use Rattle.squawk_output.specs.Steps.{Step}
-use Rattle.squawk_parser.proofs.RecordedSteps.{Keeps-then}
-use Rattle.squawk_parser.proofs.TailHoles.{went-kept}
+use Rattle.squawk_parser.proofs.RecordedSteps.{Keeps-then, went}
+use Rattle.squawk_parser.proofs.StepsAtEnd.{closed-items_for}
 
 -- a list of them without one
 abbrev pub without : ℕ → List Item → List Item
@@ -75,12 +77,12 @@ below-hole items open_ones id other made above e there =
 pub HasHoles-fresh : (s : State) → IsFresh s → HasHoles s []
 HasHoles-fresh s fresh goes = ap (λ t. holes_of t.draft.items) fresh
 
-pub HasHoles-start : (s t : State) (id : ℕ) (open_ones : List Item) → HasHoles s open_ones → Records s t (started s.draft id)
-    → HasHoles t (open_ones ++ Hole id (ByStart s.draft.entries) ∷ [])
-HasHoles-start s t id open_ones has records goes =
+pub HasHoles-start : (s t : State) (open_ones : List Item) → HasHoles s open_ones → Records s t (started s.draft)
+    → HasHoles t (open_ones ++ Hole s.draft.entries ByStart ∷ [])
+HasHoles-start s t open_ones has records goes =
     ap (λ d. holes_of d.items) (records.draft goes)
-    ∙ (filter-append is_hole s.draft.items (Hole id (ByStart s.draft.entries) ∷ [])
-    ∙ ap (λ hs. hs ++ Hole id (ByStart s.draft.entries) ∷ []) (has (records.went goes)))
+    ∙ (filter-append is_hole s.draft.items (Hole s.draft.entries ByStart ∷ [])
+    ∙ ap (λ hs. hs ++ Hole s.draft.entries ByStart ∷ []) (has (records.went goes)))
 
 went_cases : (s t : State) (b : Bool) → (kind_at s 0 == EOF) ≡ b → (kind_at s 0 ≡ EOF → t ≡ s)
     → (kind_at s 0 ≢ EOF → Records s t (with_token s.draft (kind_at s 0) 1)) → HasNotFailed t → HasNotFailed s
@@ -143,10 +145,10 @@ HasHoles-part s t open_ones has went same goes = same goes ∙ has (went goes)
 -- steps that are put at the end open no marker and close none
 pub holes-puts : (s t : State) (steps : List Step) → Puts steps s t → HasNotFailed t → holes_of t.draft.items ≡ holes_of s.draft.items
 holes-puts s t steps puts goes =
-    let put = puts.draft goes in
-    ap holes_of put.items
-    ∙ (filter-append is_hole s.draft.items put.made
-    ∙ (ap (λ hs. holes_of s.draft.items ++ hs) (none_open put.made put.closed) ∙ append-nil (holes_of s.draft.items)))
+    let made = items_for s.draft.entries steps in
+    ap (λ d. holes_of d.items) (puts.draft goes)
+    ∙ (filter-append is_hole s.draft.items made
+    ∙ (ap (λ hs. holes_of s.draft.items ++ hs) (none_open made (closed-items_for s.draft.entries steps)) ∙ append-nil (holes_of s.draft.items)))
 
 without_cases : (id i : ℕ) (made : Made) (items : List Item) → i < id → without id (holes_of items) ≡ holes_of items
     → without id (holes_of (Hole i made ∷ items)) ≡ holes_of (Hole i made ∷ items)
@@ -168,20 +170,20 @@ without-last id made items above =
     ∙ (ap (λ hs. without id (holes_of items) ++ hs) (without-one id made)
     ∙ (append-nil (without id (holes_of items)) ∙ without-below id items (all_below id items above)))
 
-module _ (s t u : State) (id : ℕ) (begins : Records s t (started s.draft id)) (keeps : Keeps t u) (same : HasNotFailed u → holes_of u.draft.items ≡ holes_of t.draft.items) where
+module _ (s t u : State) (m : Mark) (begins : Begins m s t) (keeps : Keeps t u) (same : HasNotFailed u → holes_of u.draft.items ≡ holes_of t.draft.items) where
   -- the marker of a node is open behind what stands in it
-  pub open_inside : HasHoles u (holes_of s.draft.items ++ Hole id (ByStart s.draft.entries) ∷ [])
-  open_inside goes = same goes ∙ HasHoles-start s t id (holes_of s.draft.items) (λ _. refl) begins (went-kept keeps goes)
+  pub open_inside : HasHoles u (holes_of s.draft.items ++ Hole s.draft.entries ByStart ∷ [])
+  open_inside goes = same goes ∙ HasHoles-start s t (holes_of s.draft.items) (λ _. refl) begins.records (went keeps goes)
 
-  pub marker_inside : HasNotFailed u → Contains u.draft.items (Hole id (ByStart s.draft.entries))
-  marker_inside goes = Contains-hole u.draft.items _ (Hole id (ByStart s.draft.entries)) (open_inside goes) (Contains-push (holes_of s.draft.items) (Hole id (ByStart s.draft.entries)))
+  pub marker_inside : HasNotFailed u → Contains u.draft.items (Hole s.draft.entries ByStart)
+  marker_inside goes = Contains-hole u.draft.items _ (Hole s.draft.entries ByStart) (open_inside goes) (Contains-push (holes_of s.draft.items) (Hole s.draft.entries ByStart))
 
   -- and the node leaves the markers as they were
-  pub holes-around : (v : State) (kind : ℕ) → (HasNotFailed t → IsAboveIds id s.draft.items) → Records u v (completed u.draft id kind) → HasNotFailed v
-      → holes_of v.draft.items ≡ holes_of s.draft.items
-  holes-around v kind above ends goes =
-      HasHoles-complete u v id kind _ open_inside ends goes
-      ∙ without-last id (ByStart s.draft.entries) s.draft.items (above (went-kept keeps (ends.went goes)))
+  pub holes-around : (v : State) (kind : ℕ) → Completes m.id kind u v → HasNotFailed v → holes_of v.draft.items ≡ holes_of s.draft.items
+  holes-around v kind ends goes =
+      HasHoles-complete u v m.id kind _ open_inside ends.records goes
+      ∙ (ap (λ m. without m.id (holes_of s.draft.items ++ Hole s.draft.entries ByStart ∷ [])) begins.is
+      ∙ without-last s.draft.entries ByStart s.draft.items begins.sound.logged.below)
 
 -- ---- a kind, where it stands and where it doesn't
 
@@ -191,23 +193,20 @@ holes-eat s t true steps puts none goes = holes-puts s t steps (puts refl) goes
 holes-eat s t false steps puts none goes = ap (λ u. holes_of u.draft.items) (none refl)
 
 holes-with : (does : State → State → Type 0) (kind : ℕ) (s t : State) → EatsWith does kind s t → HasNotFailed t → holes_of t.draft.items ≡ holes_of s.draft.items
-holes-with does kind s t (id, e) goes =
+holes-with does kind s t e goes =
     let begun = e.between in
     let eaten = e.goes_on.between in
     let ran = e.goes_on.goes_on.between in
     let closed = e.goes_on.goes_on.goes_on.between in
-    let begins = e.does_so in
     let elements = e.goes_on.does_so in
     let tail = e.goes_on.goes_on.does_so in
     let closing = e.goes_on.goes_on.goes_on.does_so in
-    let completes = e.goes_on.goes_on.goes_on.goes_on in
-    let keeps = Keeps-then elements.keeps (Keeps-then tail.keeps closing.keeps) in
     let same : HasNotFailed closed → holes_of closed.draft.items ≡ holes_of begun.draft.items =
     λ goes_closed.
-    let goes_ran = closing.puts.went goes_closed in
-    let goes_eaten = went-kept tail.keeps goes_ran in
-    holes-puts ran closed _ closing.puts goes_closed ∙ (tail.holes goes_ran ∙ holes-puts begun eaten _ elements.puts goes_eaten) in
-    holes-around s begun closed id begins.records keeps same t kind begins.fresh completes.records goes
+    let goes_ran = went closing.keeps goes_closed in
+    let goes_eaten = went tail.keeps goes_ran in
+    holes-puts ran closed _ closing goes_closed ∙ (tail.holes goes_ran ∙ holes-puts begun eaten _ elements goes_eaten) in
+    holes-around s begun closed (started_mark s) e.does_so (Keeps-then elements.keeps (Keeps-then tail.keeps closing.keeps)) same t kind e.goes_on.goes_on.goes_on.goes_on goes
 
 pub holes-eat_with : (does : State → State → Type 0) (kind : ℕ) (s t : State) (b : Bool) → (IsTrue b → EatsWith does kind s t) → (IsTrue (not b) → t ≡ s) → HasNotFailed t
     → holes_of t.draft.items ≡ holes_of s.draft.items

@@ -3,14 +3,16 @@ use Rattle.std.proofs.Common.{◌≡◌, ◌∙◌, ℕ, ◌==◌, Bool, true, f
 use Rattle.std.specs.Prelude.{Contains, filter, not}
 use Rattle.std.proofs.lemmas.List.Elements.{Contains-append_left, filter-append}
 use Rattle.squawk_output.specs.Steps.{Step}
-use Rattle.squawk_output.specs.Draft.{Draft, Item, Made, Hole, Open, Close, Token, Error, Mark, Node, ByStart, ByPrecede, HasNoIdTwice, holes_of, is_hole}
-use Rattle.squawk_output.specs.Edits.{abandoned, completed, extended, extended_items, filled, is_hole_of, is_opening_of, moved, preceded, replaced, stands_before, started, without_hole}
-use Rattle.squawk_parser.specs.Recorded.{Puts}
+use Rattle.squawk_output.specs.Draft.{Draft, Item, Hole, Open, Close, Token, Error, Mark, Node, HasNoIdTwice, holes_of, is_hole}
+use Rattle.squawk_output.specs.declared.log.Made.{Made}
+use Rattle.squawk_output.specs.declared.log.Made.TheVariants.{ByStart, ByPrecede}
+use Rattle.squawk_output.specs.Edits.{abandoned, completed, extended, extended_items, filled, is_hole_of, is_opening_of, moved, preceded, preceded_item, replaced, stands_before, started, without_hole}
+use Rattle.squawk_parser.specs.Recorded.{Puts, items_for, preceding_mark, started_mark}
 use Rattle.squawk_parser.specs.State.{State, Changes, HasNotFailed, HasHole, HasNode, Records}
 use Rattle.squawk_parser.specs.declared.parser.parse_error.ParseError.{ParseError}
-use Rattle.squawk_parser.proofs.SoundMoves.{preceded-split}
+use Rattle.squawk_parser.proofs.RecordedSteps.{went}
 use Rattle.squawk_output.proofs.Groups.{itself}
-use Rattle.squawk_parser.proofs.Splits.{split, Contains-behind, here, replaced-append}
+use Rattle.squawk_parser.proofs.Splits.{split, Contains-behind, here, replaced-append, spliced-opening}
 
 -- ---- items
 
@@ -35,9 +37,9 @@ Contains-others p f item items fails there =
 -- ---- after acts at the end
 
 -- the new marker's hole is in the draft
-pub hole-started : {s t : State} (id : ℕ) → Records s t (started s.draft id) → HasHole t (record { id = id; made = ByStart s.draft.entries })
-hole-started {s} {t} id records goes =
-    subst (λ draft. Contains draft.items (Hole id (ByStart s.draft.entries))) (sym (records.draft goes)) (Contains-behind (Hole id (ByStart s.draft.entries)) s.draft.items [])
+pub hole-started : {s t : State} → Records s t (started s.draft) → HasHole t (started_mark s)
+hole-started {s} {t} records goes =
+    subst (λ draft. Contains draft.items (Hole s.draft.entries ByStart)) (sym (records.draft goes)) (Contains-behind (Hole s.draft.entries ByStart) s.draft.items [])
 
 -- a completed marker's opening is in the draft
 pub node-completed : {s t : State} (m : Mark) (kind : ℕ) → HasHole s m → Records s t (completed s.draft m.id kind) → HasNode t (record { id = m.id; kind = kind })
@@ -51,24 +53,23 @@ node-completed {s} {t} m kind there records goes =
 pub hole-put : {s t : State} {steps : List Step} (m : Mark) → HasHole s m → Puts steps s t → HasHole t m
 hole-put {s} {t} {steps} m there puts goes =
     let hole = Hole m.id m.made in
-    let put = puts.draft goes in
-    subst (λ items. Contains items hole) (sym put.items) (Contains-append_left s.draft.items put.made hole (there (puts.went goes)))
+    subst (λ draft. Contains draft.items hole) (sym (puts.draft goes))
+    (Contains-append_left s.draft.items (items_for s.draft.entries steps) hole (there (went puts.keeps goes)))
 
 -- and a node's opening
 pub node-put : {s t : State} {steps : List Step} (node : Node) → HasNode s node → Puts steps s t → HasNode t node
 node-put {s} {t} {steps} node there puts goes =
     let opening = Open node.id node.kind true in
-    let put = puts.draft goes in
-    subst (λ items. Contains items opening) (sym put.items) (Contains-append_left s.draft.items put.made opening (there (puts.went goes)))
+    subst (λ draft. Contains draft.items opening) (sym (puts.draft goes))
+    (Contains-append_left s.draft.items (items_for s.draft.entries steps) opening (there (went puts.keeps goes)))
 
 -- ---- a node that is preceded
 
 -- the marker's hole is in the draft
-pub hole-preceded : {s t : State} (node : Node) (id : ℕ) → HasNoIdTwice s.draft.items → HasNode s node → Records s t (preceded s.draft node.id id)
-    → HasHole t (record { id = id; made = ByPrecede s.draft.entries })
-hole-preceded {s} {t} node id once there records goes =
-    let hole = Hole id (ByPrecede s.draft.entries) in
-    let at = preceded-split node.id node.kind id (ByPrecede s.draft.entries) s.draft.items once (there (records.went goes)) in
+pub hole-preceded : {s t : State} (node : Node) → HasNoIdTwice s.draft.items → HasNode s node → Records s t (preceded s.draft node.id) → HasHole t (preceding_mark s)
+hole-preceded {s} {t} node once there records goes =
+    let hole = Hole s.draft.entries ByPrecede in
+    let at = spliced-opening node.id node.kind (λ item. hole ∷ preceded_item item ∷ []) s.draft.items once (there (records.went goes)) in
     subst (λ draft. Contains draft.items hole) (sym (records.draft goes))
     (subst (λ items. Contains items hole) (sym at.1) (Contains-behind hole at.0.front (Open node.id node.kind false ∷ at.0.back)))
 
@@ -80,17 +81,18 @@ pub record HasOneMore {X : Type 0} (x : X) (old new : List X) : Type 0 where
   pub is : new ≡ front ++ x ∷ back
 
 -- and the other holes stay as they were
-pub holes-preceded : {s t : State} (node : Node) (id : ℕ) → HasNoIdTwice s.draft.items → HasNode s node → Records s t (preceded s.draft node.id id) → HasNotFailed t
-    → HasOneMore (Hole id (ByPrecede s.draft.entries)) (holes_of s.draft.items) (holes_of t.draft.items)
-holes-preceded {s} {t} node id once there records goes =
-    let at = preceded-split node.id node.kind id (ByPrecede s.draft.entries) s.draft.items once (there (records.went goes)) in
+pub holes-preceded : {s t : State} (node : Node) → HasNoIdTwice s.draft.items → HasNode s node → Records s t (preceded s.draft node.id) → HasNotFailed t
+    → HasOneMore (Hole s.draft.entries ByPrecede) (holes_of s.draft.items) (holes_of t.draft.items)
+holes-preceded {s} {t} node once there records goes =
+    let hole = Hole s.draft.entries ByPrecede in
+    let at = spliced-opening node.id node.kind (λ item. hole ∷ preceded_item item ∷ []) s.draft.items once (there (records.went goes)) in
     let xs = at.0.front in
     let ys = at.0.back in
     record {
       front = holes_of xs;
       back = holes_of ys;
       was = ap holes_of at.0.is ∙ filter-append is_hole xs (Open node.id node.kind true ∷ ys);
-      is = ap (λ draft. holes_of draft.items) (records.draft goes) ∙ (ap holes_of at.1 ∙ filter-append is_hole xs (Hole id (ByPrecede s.draft.entries) ∷ Open node.id node.kind false ∷ ys));
+      is = ap (λ draft. holes_of draft.items) (records.draft goes) ∙ (ap holes_of at.1 ∙ filter-append is_hole xs (hole ∷ Open node.id node.kind false ∷ ys));
     }
 
 -- where there was no hole, it is the only one

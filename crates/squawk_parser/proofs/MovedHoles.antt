@@ -1,13 +1,16 @@
 -- The open markers of a draft, where markers move.
-use Rattle.std.proofs.Common.{◌≡◌, ◌∙◌, ℕ, zero, suc, ◌<◌, ◌==◌, Bool, true, false, List, [], ◌∷◌, ◌++◌, arith, ap, refl}
+use Rattle.std.proofs.Common.{◌≡◌, ◌∙◌, ℕ, zero, suc, ◌<◌, ◌==◌, Bool, true, false, List, [], ◌∷◌, ◌++◌, arith, ap, refl, subst, sym}
 use Rattle.std.specs.Prelude.{All, Contains}
 use Rattle.std.proofs.lemmas.Bool.{eq-eqb, ne_eqb}
 use Rattle.std.proofs.lemmas.List.Elements.{All-head, All-tail, Contains-push}
-use Rattle.squawk_output.specs.Draft.{Item, Hole, Open, Close, Token, Error, Made, Node, ByStart, ByPrecede, holes_of, IsAboveIds}
-use Rattle.squawk_output.specs.Edits.{completed, preceded, abandoned, extended, replaced, is_opening_of, preceded_item, started}
-use Rattle.squawk_parser.specs.State.{State, HasNotFailed, Keeps, Records, Changes}
-use Rattle.squawk_parser.proofs.Markers.{holes-abandoned, holes-extended, node-completed, went-changed}
-use Rattle.squawk_parser.proofs.TailHoles.{went-kept}
+use Rattle.squawk_output.specs.Draft.{Item, Hole, Open, Close, Token, Error, Mark, Node, holes_of, IsAboveIds}
+use Rattle.squawk_output.specs.declared.log.Made.{Made}
+use Rattle.squawk_output.specs.declared.log.Made.TheVariants.{ByStart, ByPrecede}
+use Rattle.squawk_output.specs.Edits.{abandoned, extended, replaced, is_opening_of, preceded_item}
+use Rattle.squawk_parser.specs.Recorded.{Begins, Completes, Precedes, started_mark}
+use Rattle.squawk_parser.specs.State.{State, HasHole, HasNode, HasNotFailed, Keeps, Changes}
+use Rattle.squawk_parser.proofs.Markers.{holes-abandoned, holes-extended, went-changed}
+use Rattle.squawk_parser.proofs.RecordedSteps.{went}
 use Rattle.squawk_parser.proofs.Holes.{without, IsBelow, all_below, HasHoles, HasHoles-complete, Contains-hole, below-hole, without-last, open_inside, holes-around}
 
 -- ---- a marker in front of a node
@@ -72,67 +75,72 @@ pub HasHoles-extend : (s t : State) (node : Node) (id : ℕ) (open_ones : List I
     → HasHoles t (without id open_ones)
 HasHoles-extend s t node id open_ones has changes goes = holes-extended node id changes goes ∙ ap (without id) (has (went-changed changes goes))
 
--- a completed node's opening is there
-pub node_there : {made : Made} (s t : State) (id kind : ℕ) → (HasNotFailed s → Contains s.draft.items (Hole id made)) → Records s t (completed s.draft id kind) → HasNotFailed t
-    → Contains t.draft.items (Open id kind true)
-node_there {made} s t id kind there records goes = node-completed (record { id = id; made = made }) kind there records goes
+-- a new marker is none of those before it
+without-new_one : (s : State) (m : Mark) → m ≡ started_mark s → IsAboveIds s.draft.entries s.draft.items
+    → without m.id (holes_of s.draft.items ++ Hole s.draft.entries ByStart ∷ []) ≡ holes_of s.draft.items
+without-new_one s m is above =
+    ap (λ m. without m.id (holes_of s.draft.items ++ Hole s.draft.entries ByStart ∷ [])) is ∙ without-last s.draft.entries ByStart s.draft.items above
 
-module _ (s t : State) (node kind id : ℕ) (there : HasNotFailed s → Contains s.draft.items (Open node kind true)) (records : Records s t (preceded s.draft node id)) where
+module _ (s t : State) (node : Node) (m : Mark) (there : HasNode s node) (precedes : Precedes node m s t) where
+  abbrev hole : Item
+  hole = Hole s.draft.entries ByPrecede
+
   -- a marker in front of a node is open
-  pub open_before : HasHoles t (holes_of (before_node node id (ByPrecede s.draft.entries) s.draft.items))
-  open_before goes = ap (λ d. holes_of d.items) (records.draft goes)
+  open_before : HasHoles t (holes_of (before_node node.id s.draft.entries ByPrecede s.draft.items))
+  open_before goes = ap (λ d. holes_of d.items) (precedes.records.draft goes)
 
   -- also behind calls that leave open what they found
-  pub marker_kept : (u : State) → Keeps t u → (HasNotFailed u → holes_of u.draft.items ≡ holes_of t.draft.items) → HasNotFailed u → Contains u.draft.items (Hole id (ByPrecede s.draft.entries))
+  pub marker_kept : (u : State) → Keeps t u → (HasNotFailed u → holes_of u.draft.items ≡ holes_of t.draft.items) → HasHole u m
   marker_kept u keeps same goes =
-      let goes_t = went-kept keeps goes in
-      Contains-hole u.draft.items _ (Hole id (ByPrecede s.draft.entries)) (same goes ∙ open_before goes_t) (marker_before node id (ByPrecede s.draft.entries) s.draft.items kind (there (records.went goes_t)))
+      let goes_t = went keeps goes in
+      subst (λ (m : Mark). Contains u.draft.items (Hole m.id m.made)) (sym precedes.is)
+      (Contains-hole u.draft.items _ hole (same goes ∙ open_before goes_t) (marker_before node.id s.draft.entries ByPrecede s.draft.items node.kind (there (went precedes.keeps goes_t))))
 
-  pub marker_now : HasNotFailed t → Contains t.draft.items (Hole id (ByPrecede s.draft.entries))
-  marker_now goes = Contains-hole t.draft.items _ (Hole id (ByPrecede s.draft.entries)) (open_before goes) (marker_before node id (ByPrecede s.draft.entries) s.draft.items kind (there (records.went goes)))
+  -- but for the marker, the others are those of before
+  without_new : without m.id (holes_of (before_node node.id s.draft.entries ByPrecede s.draft.items)) ≡ holes_of s.draft.items
+  without_new =
+      ap (λ m. without m.id (holes_of (before_node node.id s.draft.entries ByPrecede s.draft.items))) precedes.is
+      ∙ holes-preceded node.id s.draft.entries ByPrecede s.draft.items precedes.sound.logged.below
 
-  module _ (above : HasNotFailed t → IsAboveIds id s.draft.items) where
-    -- a node that it becomes leaves the markers as they were
-    pub holes-outer : (u v : State) (outer : ℕ) → Keeps t u → (HasNotFailed u → holes_of u.draft.items ≡ holes_of t.draft.items) → Records u v (completed u.draft id outer) → HasNotFailed v
-        → holes_of v.draft.items ≡ holes_of s.draft.items
-    holes-outer u v outer keeps same ends goes =
-        HasHoles-complete u v id outer _ (λ goes_u. same goes_u ∙ open_before (went-kept keeps goes_u)) ends goes
-        ∙ holes-preceded node id (ByPrecede s.draft.entries) s.draft.items (above (went-kept keeps (ends.went goes)))
+  -- a node that it becomes leaves the markers as they were
+  pub holes-outer : (u v : State) (outer : ℕ) → Keeps t u → (HasNotFailed u → holes_of u.draft.items ≡ holes_of t.draft.items) → Completes m.id outer u v → HasNotFailed v
+      → holes_of v.draft.items ≡ holes_of s.draft.items
+  holes-outer u v outer keeps same ends goes =
+      HasHoles-complete u v m.id outer _ (λ goes_u. same goes_u ∙ open_before (went keeps goes_u)) ends.records goes ∙ without_new
 
-    -- and so does giving it up
-    pub holes-in_vain : (u : State) → Changes t u (abandoned t.draft id) → HasNotFailed u → holes_of u.draft.items ≡ holes_of s.draft.items
-    holes-in_vain u changes goes =
-        HasHoles-abandon t u id _ open_before changes goes ∙ holes-preceded node id (ByPrecede s.draft.entries) s.draft.items (above (went-changed changes goes))
+  -- and so does giving it up
+  pub holes-in_vain : (u : State) → Changes t u (abandoned t.draft m.id) → HasNotFailed u → holes_of u.draft.items ≡ holes_of s.draft.items
+  holes-in_vain u changes goes = HasHoles-abandon t u m.id _ open_before changes goes ∙ without_new
 
 -- a marker that is given up leaves the others as they were
-pub holes-given_up : (s t u v : State) (id : ℕ) → Records s t (started s.draft id) → Keeps t u → (HasNotFailed u → holes_of u.draft.items ≡ holes_of t.draft.items)
-    → (HasNotFailed t → IsAboveIds id s.draft.items) → Changes u v (abandoned u.draft id) → HasNotFailed v → holes_of v.draft.items ≡ holes_of s.draft.items
-holes-given_up s t u v id begins keeps same above changes goes =
-    HasHoles-abandon u v id _ (open_inside s t u id begins keeps same) changes goes
-    ∙ without-last id (ByStart s.draft.entries) s.draft.items (above (went-kept keeps (went-changed changes goes)))
+pub holes-given_up : (s t u v : State) (m : Mark) → Begins m s t → Keeps t u → (HasNotFailed u → holes_of u.draft.items ≡ holes_of t.draft.items)
+    → Changes u v (abandoned u.draft m.id) → HasNotFailed v → holes_of v.draft.items ≡ holes_of s.draft.items
+holes-given_up s t u v m begins keeps same changes goes =
+    HasHoles-abandon u v m.id _ (open_inside s t u m begins keeps same) changes goes ∙ without-new_one s m begins.is begins.sound.logged.below
 
 -- A marker, calls behind it, and a node behind them that is extended to the marker.
-module _ (s t u v w x : State) (id node kind : ℕ)
-    (begins : Records s t (started s.draft id)) (above : HasNotFailed t → IsAboveIds id s.draft.items) (keeps : Keeps t u) (same : HasNotFailed u → holes_of u.draft.items ≡ holes_of t.draft.items)
-    (node_begins : Records u v (started u.draft node)) (node_above : HasNotFailed v → IsAboveIds node u.draft.items)
-    (node_keeps : Keeps v w) (node_same : HasNotFailed w → holes_of w.draft.items ≡ holes_of v.draft.items) (ends : Records w x (completed w.draft node kind)) where
-  open_still : HasHoles x (holes_of s.draft.items ++ Hole id (ByStart s.draft.entries) ∷ [])
-  open_still goes =
-      let goes_v = went-kept node_keeps (ends.went goes) in
-      holes-around u v w node node_begins node_keeps node_same x kind node_above ends goes
-      ∙ open_inside s t u id begins keeps same (node_begins.went goes_v)
+module _ (s t u v w x : State) (m n : Mark) (kind : ℕ) (begins : Begins m s t) (keeps : Keeps t u) (same : HasNotFailed u → holes_of u.draft.items ≡ holes_of t.draft.items)
+    (node_begins : Begins n u v) (node_keeps : Keeps v w) (node_same : HasNotFailed w → holes_of w.draft.items ≡ holes_of v.draft.items) (ends : Completes n.id kind w x) where
+  abbrev started_hole : Item
+  started_hole = Hole s.draft.entries ByStart
 
-  pub marker_still : HasNotFailed x → Contains x.draft.items (Hole id (ByStart s.draft.entries))
-  marker_still goes = Contains-hole x.draft.items _ (Hole id (ByStart s.draft.entries)) (open_still goes) (Contains-push (holes_of s.draft.items) (Hole id (ByStart s.draft.entries)))
+  goes_before : HasNotFailed x → HasNotFailed u
+  goes_before goes = went node_begins.keeps (went node_keeps (went ends.keeps goes))
 
-  pub is_older : HasNotFailed x → id < node
+  open_still : HasHoles x (holes_of s.draft.items ++ started_hole ∷ [])
+  open_still goes = holes-around u v w n node_begins node_keeps node_same x kind ends goes ∙ open_inside s t u m begins keeps same (goes_before goes)
+
+  pub marker_still : HasHole x m
+  marker_still goes =
+      subst (λ (m : Mark). Contains x.draft.items (Hole m.id m.made)) (sym begins.is)
+      (Contains-hole x.draft.items _ started_hole (open_still goes) (Contains-push (holes_of s.draft.items) started_hole))
+
+  pub is_older : HasNotFailed x → m.id < n.id
   is_older goes =
-      let goes_v = went-kept node_keeps (ends.went goes) in
-      below-hole u.draft.items _ node id (ByStart s.draft.entries) (node_above goes_v) (open_inside s t u id begins keeps same (node_begins.went goes_v)) (Contains-push (holes_of s.draft.items) (Hole id (ByStart s.draft.entries)))
+      let older : s.draft.entries < u.draft.entries =
+      below-hole u.draft.items _ u.draft.entries s.draft.entries ByStart node_begins.sound.logged.below (open_inside s t u m begins keeps same (goes_before goes))
+      (Contains-push (holes_of s.draft.items) started_hole) in
+      omega (arith, ap (λ m. m.id) begins.is, ap (λ m. m.id) node_begins.is, older)
 
-  pub holes-moved : (y : State) → Changes x y (extended x.draft (record { id = node; kind = kind }) id) → HasNotFailed y → holes_of y.draft.items ≡ holes_of s.draft.items
-  holes-moved y changes goes =
-      let goes_x = went-changed changes goes in
-      let goes_v = went-kept node_keeps (ends.went goes_x) in
-      HasHoles-extend x y _ id _ open_still changes goes
-      ∙ without-last id (ByStart s.draft.entries) s.draft.items (above (went-kept keeps (node_begins.went goes_v)))
+  pub holes-moved : (y : State) → Changes x y (extended x.draft (record { id = n.id; kind = kind }) m.id) → HasNotFailed y → holes_of y.draft.items ≡ holes_of s.draft.items
+  holes-moved y changes goes = HasHoles-extend x y _ m.id _ open_still changes goes ∙ without-new_one s m begins.is begins.sound.logged.below

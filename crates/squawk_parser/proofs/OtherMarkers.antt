@@ -4,7 +4,8 @@ use Rattle.std.proofs.Common.{◌≡◌, ℕ, ◌==◌, Bool, true, false, [], �
 use Rattle.std.specs.Prelude.{Contains}
 use Rattle.std.proofs.lemmas.Bool.{eqb-true}
 use Rattle.std.proofs.lemmas.List.Elements.{Contains-append_left}
-use Rattle.squawk_output.specs.Draft.{Draft, Item, Hole, Open, Close, Mark, Node, ByStart, ByPrecede}
+use Rattle.squawk_output.specs.Draft.{Draft, Item, Hole, Open, Close, Mark, Node}
+use Rattle.squawk_output.specs.declared.log.Made.TheVariants.{ByStart, ByPrecede}
 use Rattle.squawk_output.specs.Edits.{abandoned, completed, filled, is_hole_of, is_opening_of, preceded, preceded_item, started}
 use Rattle.squawk_parser.specs.State.{State, Changes, HasNotFailed, HasHole, HasNode, Records}
 use Rattle.squawk_parser.proofs.Markers.{Contains-others, went-changed, changed}
@@ -29,13 +30,13 @@ edited_only item changes stays there goes =
 
 module _ {s t : State} where
   -- another marker is started
-  pub hole-started_other : (m : Mark) (id : ℕ) → HasHole s m → Records s t (started s.draft id) → HasHole t m
-  hole-started_other m id there records =
-      recorded (Hole m.id m.made) records (Contains-append_left s.draft.items (Hole id (ByStart s.draft.entries) ∷ []) (Hole m.id m.made)) there
+  pub hole-started_other : (m : Mark) → HasHole s m → Records s t (started s.draft) → HasHole t m
+  hole-started_other m there records =
+      recorded (Hole m.id m.made) records (Contains-append_left s.draft.items (Hole s.draft.entries ByStart ∷ []) (Hole m.id m.made)) there
 
-  pub node-started_other : (node : Node) (id : ℕ) → HasNode s node → Records s t (started s.draft id) → HasNode t node
-  node-started_other node id there records =
-      recorded (Open node.id node.kind true) records (Contains-append_left s.draft.items (Hole id (ByStart s.draft.entries) ∷ []) (Open node.id node.kind true)) there
+  pub node-started_other : (node : Node) → HasNode s node → Records s t (started s.draft) → HasNode t node
+  node-started_other node there records =
+      recorded (Open node.id node.kind true) records (Contains-append_left s.draft.items (Hole s.draft.entries ByStart ∷ []) (Open node.id node.kind true)) there
 
   -- another marker is completed
   pub hole-completed_other : (m : Mark) (id kind : ℕ) → (m.id ≡ id → ⊥) → HasHole s m → Records s t (completed s.draft id kind) → HasHole t m
@@ -55,18 +56,18 @@ module _ {s t : State} where
       there
 
   -- another node is preceded
-  pub hole-preceded_other : (m : Mark) (node id : ℕ) → HasHole s m → Records s t (preceded s.draft node id) → HasHole t m
-  hole-preceded_other m node id there records =
+  pub hole-preceded_other : (m : Mark) (node : ℕ) → HasHole s m → Records s t (preceded s.draft node) → HasHole t m
+  hole-preceded_other m node there records =
       let item = Hole m.id m.made in
       recorded item records
-      (Contains-others (is_opening_of node) (λ item. Hole id (ByPrecede s.draft.entries) ∷ preceded_item item ∷ []) item s.draft.items refl) there
+      (Contains-others (is_opening_of node) (λ item. Hole s.draft.entries ByPrecede ∷ preceded_item item ∷ []) item s.draft.items refl) there
 
-  pub node-preceded_other : (other : Node) (node id : ℕ) → (other.id ≡ node → ⊥) → HasNode s other → Records s t (preceded s.draft node id)
+  pub node-preceded_other : (other : Node) (node : ℕ) → (other.id ≡ node → ⊥) → HasNode s other → Records s t (preceded s.draft node)
       → HasNode t other
-  node-preceded_other other node id another there records =
+  node-preceded_other other node another there records =
       let item = Open other.id other.kind true in
       recorded item records
-      (Contains-others (is_opening_of node) (λ item. Hole id (ByPrecede s.draft.entries) ∷ preceded_item item ∷ []) item s.draft.items (differ other.id node another)) there
+      (Contains-others (is_opening_of node) (λ item. Hole s.draft.entries ByPrecede ∷ preceded_item item ∷ []) item s.draft.items (differ other.id node another)) there
 
   -- another marker is abandoned
   pub hole-abandoned_other : (m : Mark) (id : ℕ) → (m.id ≡ id → ⊥) → HasHole s m → Changes s t (abandoned s.draft id) → HasHole t m

@@ -5,15 +5,11 @@ use Rattle.squawk_table.specs.Shape.{AreOneToken}
 use Rattle.squawk_parser.specs.declared.parser.Parser.TheInside.{Inside}
 use Rattle.squawk_output.specs.Draft.{Draft, errors_of}
 use Rattle.squawk_parser.specs.Words.{words_of}
-use Rattle.squawk_parser.specs.State.{State, HasNotFailed, Keeps, Changes, IsSound, ahead}
-use Rattle.squawk_parser.proofs.Soundness.{IsKept, not_failed}
+use Rattle.squawk_parser.specs.State.{State, HasNotFailed, Keeps, Changes, ahead}
+use Rattle.squawk_parser.proofs.Soundness.{not_failed}
 
 abbrev pub seen : Inside → State
 seen p = record { input = p.tokens.input.now; words = words_of (record { operator_first = p.operator_first; names = p.names }); position = p.position; limit = p.limit; draft = p.log; max_events = p.limits.events; max_errors = p.limits.errors; first_reason = p.first_reason }
-
--- the invariant of a parser, as one record
-pub kept : (p : Inside) → IsSound (seen p) → IsKept (seen p)
-kept p invariant = record { sound = invariant }
 
 -- a parser that goes on and has room, seen as it was before
 pub record HasRoom (s : State) : Type 0 where

@@ -4,17 +4,17 @@ use Rattle.std.proofs.lemmas.Bool.{eqb-true, ne_eqb}
 use Rattle.squawk_kinds.specs.Kinds.{EOF, ERROR}
 use Rattle.squawk_table.specs.ParserInput.{Entry, kind_in}
 use Rattle.squawk_output.specs.Steps.{Error}
-use Rattle.squawk_output.specs.Draft.{IsAboveIds}
+use Rattle.squawk_output.specs.Draft.{Mark}
 use Rattle.squawk_parser.specs.Eaten.{current_as, no_recovery, node, one, recovery_steps}
-use Rattle.squawk_output.specs.Edits.{completed, started, with_token}
-use Rattle.squawk_parser.specs.Recorded.{Puts}
-use Rattle.squawk_parser.specs.State.{State, HasNotFailed, Keeps, Records, ahead, kind_at}
-use Rattle.squawk_parser.proofs.RecordedSteps.{Keeps-then, node_puts, puts-none, puts-then, token_puts}
+use Rattle.squawk_output.specs.Edits.{with_token}
+use Rattle.squawk_parser.specs.Recorded.{Begins, Completes, Puts}
+use Rattle.squawk_parser.specs.State.{State, Keeps, Records, ahead, kind_at}
+use Rattle.squawk_parser.proofs.RecordedSteps.{node_puts, puts-none, puts-then, token_puts}
 use Rattle.squawk_parser.proofs.SeenSteps.{ahead-moved, ahead-still, if-false, if-true, kind_at-first}
 
 -- an error eats no token
-pub ahead-error : {a b : State} {text : List ℕ} → Keeps a b → Puts (Error text ∷ []) a b → ahead b 0 ≡ ahead a 0
-ahead-error keeps puts = ahead-moved 0 keeps puts.position
+pub ahead-error : {a b : State} {text : List ℕ} → Puts (Error text ∷ []) a b → ahead b 0 ≡ ahead a 0
+ahead-error puts = ahead-moved 0 puts.keeps puts.position
 
 -- the current token is eaten as one of a kind, if there is one
 pub current_puts_as : {a b : State} (kind : ℕ) → Keeps a b → (kind_at a 0 ≡ EOF → b ≡ a)
@@ -42,19 +42,15 @@ pub recovery-there : (text : List ℕ) (recovers : ℕ → Bool) (s : State) →
 recovery-there text recovers s test = if-true _ _ _ (ap recovers (sym (kind_at-first s)) ∙ test)
 
 -- a token that isn't one to go on from stands with the error in a node
-pub recovery_puts : {a b c d e : State} (text : List ℕ) (recovers : ℕ → Bool) (id : ℕ) → recovers (kind_at a 0) ≡ false
-    → Keeps a b → Records a b (started a.draft id) → (HasNotFailed b → IsAboveIds id a.draft.items) → b.position ≡ a.position
-    → Keeps b c → Puts (Error text ∷ []) b c
+pub recovery_puts : {a b c d e : State} {m : Mark} (text : List ℕ) (recovers : ℕ → Bool) → recovers (kind_at a 0) ≡ false → Begins m a b → Puts (Error text ∷ []) b c
     → Keeps c d → (kind_at c 0 ≡ EOF → d ≡ c) → (kind_at c 0 ≢ EOF → d.position ≡ c.position + 1) → (kind_at c 0 ≢ EOF → Records c d (with_token c.draft (kind_at c 0) 1))
-    → Keeps d e → Records d e (completed d.draft id ERROR) → e.position ≡ d.position
-    → Puts (recovery_steps text recovers (ahead a 0)) a e
-recovery_puts {a} {b} {c} {d} {e} text recovers id test k begins fresh here l error m ends position records n completes there =
-    let seen : ahead c 0 ≡ ahead a 0 = ahead-error l error ∙ ahead-still k here in
+    → Completes m.id ERROR d e → Puts (recovery_steps text recovers (ahead a 0)) a e
+recovery_puts {a} {b} {c} {d} {e} text recovers test begins error keeps ends position records completes =
+    let seen : ahead c 0 ≡ ahead a 0 = ahead-error error ∙ ahead-still begins.keeps begins.position in
     let token : Puts (current_as (kind_in (ahead a 0) 0) (ahead a 0)) c d =
-    subst (λ seen. Puts (current_as (kind_in seen 0) seen) c d) seen (current_puts m ends position records) in
-    let both = puts-then l m error token in
+    subst (λ seen. Puts (current_as (kind_in seen 0) seen) c d) seen (current_puts keeps ends position records) in
     let steps = if-false _ _ _ (ap recovers (sym (kind_at-first a)) ∙ test) in
-    subst (λ steps. Puts steps a e) (sym steps) (node_puts id ERROR k (Keeps-then l m) n begins fresh here both completes there)
+    subst (λ steps. Puts steps a e) (sym steps) (node_puts begins (puts-then error token) completes)
 
 -- where no kind is one to go on from
 pub recovery-same : (text : List ℕ) (recovers others : ℕ → Bool) (seen : List Entry) → ((kind : ℕ) → recovers kind ≡ others kind)
@@ -71,8 +67,8 @@ pub record EatsOne (text : List ℕ) (a b : State) : Type 0 where
   pub kind : entry.kind ≢ EOF
   pub puts : Puts (node ERROR (Error text ∷ one entry.kind ∷ [])) a b
 
-pub eats_one : {text : List ℕ} {a b : State} → Keeps a b → kind_at a 0 ≢ EOF → Puts (recovery_steps text no_recovery (ahead a 0)) a b → EatsOne text a b
-eats_one {text} {a} {b} keeps some puts = cases (ahead a 0) refl
+pub eats_one : {text : List ℕ} {a b : State} → kind_at a 0 ≢ EOF → Puts (recovery_steps text no_recovery (ahead a 0)) a b → EatsOne text a b
+eats_one {text} {a} {b} some puts = cases (ahead a 0) refl
   where
     cases : (seen : List Entry) → ahead a 0 ≡ seen → EatsOne text a b
     cases [] e = absurd (some (kind_at-first a ∙ ap (λ seen. kind_in seen 0) e))
@@ -82,4 +78,4 @@ eats_one {text} {a} {b} keeps some puts = cases (ahead a 0) refl
         ap (λ steps. node ERROR (Error text ∷ steps)) (if-false _ _ _ (ne_eqb entry.kind EOF kind)) in
         let put : Puts (node ERROR (Error text ∷ one entry.kind ∷ [])) a b =
         subst (λ steps. Puts steps a b) (ap (recovery_steps text no_recovery) e ∙ same) puts in
-        record { entry = entry; is = e ∙ ap (λ seen. entry ∷ seen) (sym (ahead-moved 1 keeps put.position ∙ ap (drop 1) e)); kind = kind; puts = put }
+        record { entry = entry; is = e ∙ ap (λ seen. entry ∷ seen) (sym (ahead-moved 1 put.keeps put.position ∙ ap (drop 1) e)); kind = kind; puts = put }

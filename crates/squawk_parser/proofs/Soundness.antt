@@ -1,59 +1,25 @@
 -- A parser stays sound under its acts.
-use Rattle.std.proofs.Common.{◌≡◌, ℕ, ◌+◌, ◌<◌, ◌≤◌, ◌==◌, Bool, true, false, Some, List, [], ◌∷◌, ◌++◌, cond, drop, arith, length-append, add-zero, ap, sym, refl, ◌∙◌}
-use Rattle.std.specs.Prelude.{All, Contains, IsSome, count_by}
-use Rattle.std.proofs.lemmas.Bool.{eqb-true}
+use Rattle.std.proofs.Common.{◌≡◌, ◌∙◌, ℕ, suc, ◌+◌, ◌<◌, ◌≤◌, false, true, Some, List, [], ◌∷◌, ◌++◌, cond, drop, arith, add-zero, ap, sym, refl, subst}
+use Rattle.std.specs.Prelude.{Contains, IsSome}
 use Rattle.std.proofs.lemmas.List.{append-nil}
-use Rattle.std.proofs.lemmas.List.Sums.{sum_by-append}
-use Rattle.std.proofs.lemmas.List.Elements.{All-head, All-tail}
 use Rattle.squawk_output.specs.Steps as steps
-use Rattle.squawk_output.specs.Steps.{Step, eaten, count_of}
-use Rattle.squawk_output.specs.Draft.{Made, Item, Hole, Close, Token, Error, ByStart, is_error_item, errors_of, ids, plain, HasNoIdTwice, IsAboveIds}
-use Rattle.squawk_output.specs.Edits.{started, completed, filled, with_token, with_error}
-use Rattle.squawk_table.specs.Shape.{AreOneToken}
+use Rattle.squawk_output.specs.Steps.{Step, Enter, Exit, eaten, errors_in}
+use Rattle.squawk_output.specs.Draft.{Draft, Item, Node, Hole, Open, Close, Token, Error, IsLogged, HasNoIdTwice, errors_of, plain}
+use Rattle.squawk_output.specs.Edits.{abandoned, completed, extended, extended_items, filled, is_hole_of, is_opening_of, moved, preceded, preceded_item, stands_before, started, with_error, with_token, without_hole}
+use Rattle.squawk_output.specs.declared.log.Made.{Made}
+use Rattle.squawk_output.specs.declared.log.Made.TheVariants.{ByPrecede, ByStart}
+use Rattle.squawk_output.proofs.EditedErrors.{errors-append}
+use Rattle.squawk_output.proofs.PlainLog.{errors-plain}
+use Rattle.squawk_table.specs.Shape.{AreOneToken, IsOver}
 use Rattle.squawk_table.proofs.Over.{IsOver-token_last, IsOver-exit_last, IsOver-error_last}
 use Rattle.squawk_parser.specs.State.{State, IsSound, HasNotFailed, ahead}
 use Rattle.squawk_parser.specs.declared.parser.parse_error.ParseError.{ParseError}
 use Rattle.squawk_parser.specs.declared.parser.parse_error.ParseError.TheVariants.{OutOfMemory, TooManyEvents, TooManyErrors}
-use Rattle.squawk_output.proofs.EditedErrors.{errors-filled}
-use Rattle.squawk_output.proofs.Sums.{count_by-cons}
-use Rattle.squawk_parser.proofs.RecordedItems.{plain-append, ids-append}
 use Rattle.squawk_parser.proofs.Balance.{depth_after, depth_after-append, depth_after-balanced, IsBalanced-depth_after}
-use Rattle.squawk_parser.proofs.Filled.{ids-filled, eaten-filled, IsOver-filled, depth_after-filled, one_hole, holes}
-use Rattle.squawk_parser.proofs.ItemCounts.{HasFewTurns, length-filled}
+use Rattle.squawk_parser.proofs.MovedSteps.{IsMoved, IsMoved-around, IsMoved-earlier, IsMoved-same}
 use Rattle.squawk_parser.proofs.OneToken.{AreOneToken-seen, AreOneToken-within}
-
--- one more item has one error more, or none
-errors_of-push : (items : List Item) (item : Item) → errors_of (items ++ item ∷ []) ≡ errors_of items + cond (is_error_item item) 1 0
-errors_of-push items item = omega (arith, sum_by-append (λ i. cond (is_error_item i) 1 0) items (item ∷ []))
-
--- what a parser keeps
-pub record IsKept (s : State) : Type 0 where
-  pub sound : IsSound s
-
--- an id that is above all others isn't among them
-unused_cases : (id i : ℕ) (is : List ℕ) (b : Bool) → (i == id) ≡ b → i < id → count_by (λ i. i == id) is ≡ 0 → count_by (λ i. i == id) (i ∷ is) ≡ 0
-unused_cases id i is true e lt rest = absurd (omega (arith, eqb-true i id e))
-unused_cases id i is false e lt rest =
-    let count = count_by-cons (λ i. i == id) i is ∙ ap (λ b. cond b 1 0 + count_by (λ i. i == id) is) e in omega (arith, count, rest)
-
-pub unused : (id : ℕ) (is : List ℕ) → All (λ i. i < id) is → count_by (λ i. i == id) is ≡ 0
-unused id [] all = refl
-unused id (i ∷ is) all = unused_cases id i is (i == id) refl (All-head (λ i. i < id) i is all) (unused id is (All-tail (λ i. i < id) i is all))
-
--- one more id, above the others
-pub HasNoIdTwice-push : (items : List Item) (id : ℕ) → HasNoIdTwice items → IsAboveIds id items → (other : ℕ) → count_by (λ i. i == other) (ids items ++ id ∷ []) ≤ 1
-HasNoIdTwice-push items id once above other = cases (id == other) refl
-  where
-    total : count_by (λ i. i == other) (ids items ++ id ∷ []) ≡ count_by (λ i. i == other) (ids items) + cond (id == other) 1 0
-    total = omega (arith, sum_by-append (λ i. cond (i == other) 1 0) (ids items) (id ∷ []))
-
-    cases : (b : Bool) → (id == other) ≡ b → count_by (λ i. i == other) (ids items ++ id ∷ []) ≤ 1
-    cases true e =
-        let same : other ≡ id = sym (eqb-true id other e) in
-        let none : count_by (λ i. i == other) (ids items) ≡ 0 = rw same (unused id (ids items) above) in
-        let sum = total ∙ ap (λ b. count_by (λ i. i == other) (ids items) + cond b 1 0) e in omega (arith, sum, none)
-    cases false e =
-        let sum = total ∙ ap (λ b. count_by (λ i. i == other) (ids items) + cond b 1 0) e in omega (arith, sum, once other)
+use Rattle.squawk_parser.proofs.RecordedItems.{plain-append, eaten-append}
+use Rattle.squawk_parser.proofs.Splits.{spliced-hole, spliced-opening, split-extended}
 
 -- a parser that goes on isn't refused anything
 pub not_refused : (s : State) (reason : ParseError) → HasNotFailed s → s.first_reason ≡ Some reason → ⊥
@@ -62,175 +28,160 @@ not_refused s reason goes refused = cc
 pub not_failed : (s : State) → HasNotFailed s → IsSome s.first_reason → ⊥
 not_failed s goes failed = cc
 
--- a hole at the end
-pub IsKept-started : (s : State) (id : ℕ) → IsKept s → HasNotFailed s → s.draft.recorded < s.max_events → IsAboveIds id s.draft.items
-    → HasFewTurns (started s.draft id) → IsKept (record s { draft = started s.draft id })
-IsKept-started s id kept goes room above few =
-    let items = s.draft.items in
-    let hole : List Item = Hole id (ByStart s.draft.entries) ∷ [] in
-    let same : plain (items ++ hole) ≡ plain items = plain-append items hole ∙ append-nil (plain items) in
-    let numbers : ids (items ++ hole) ≡ ids items ++ id ∷ [] = ids-append items hole in
-    record {
-      sound = record {
-        position = kept.sound.position;
-        limit = kept.sound.limit;
-        words = kept.sound.words;
-        recorded = omega arith;
-        items = omega (arith, kept.sound.items, length-append items hole);
-        turns = few;
-        errors = omega (arith, kept.sound.errors, errors_of-push items (Hole id (ByStart s.draft.entries)));
-        refused = λ full. absurd (not_refused s TooManyEvents goes full);
-        refused_error = λ full. absurd (not_refused s TooManyErrors goes full);
-        ids = λ other. rw numbers (HasNoIdTwice-push items id kept.sound.ids above other);
-        balanced = rw same kept.sound.balanced;
-        over = rw same kept.sound.over;
-        behind = rw same kept.sound.behind;
-        exact = λ goes. rw same (kept.sound.exact goes);
-      };
-    }
+-- ---- a parser that goes on, with another draft and further on
 
--- a hole that became an opening, and a closing at the end
-pub IsKept-completed : (s : State) (id kind : ℕ) (made : Made) → IsKept s → HasNotFailed s → s.draft.recorded < s.max_events → Contains s.draft.items (Hole id made)
-    → HasFewTurns (completed s.draft id kind) → IsKept (record s { draft = completed s.draft id kind })
-IsKept-completed s id kind made kept goes room there few =
-    let items = s.draft.items in
-    let inner = filled items id kind in
-    let close : List Item = Close ∷ [] in
-    let reads : plain (inner ++ close) ≡ plain inner ++ steps.Exit ∷ [] = plain-append inner close in
-    let numbers : ids (inner ++ close) ≡ ids items = ids-append inner close ∙ (append-nil (ids inner) ∙ ids-filled id kind items) in
-    let eats : eaten (plain inner ++ steps.Exit ∷ []) ≡ eaten (plain items) =
-    sum_by-append count_of (plain inner) (steps.Exit ∷ []) ∙ (omega (arith, eaten-filled id kind items)) in
-    let once : holes id kind items ≡ 1 = one_hole id kind items made kept.sound.ids there in
-    let deep : depth_after 0 (plain inner) ≡ Some 1 =
-    depth_after-filled id kind items 0 0 (depth_after-balanced (plain items) kept.sound.balanced) ∙ ap (λ n. Some (0 + n)) once in
-    let back : depth_after 0 (plain inner ++ steps.Exit ∷ []) ≡ Some 0 = depth_after-append 0 1 (plain inner) (steps.Exit ∷ []) deep in
-    record {
-      sound = record {
-        position = kept.sound.position;
-        limit = kept.sound.limit;
-        words = kept.sound.words;
-        recorded = omega arith;
-        items = omega (arith, kept.sound.items, length-append inner close, length-filled id kind items);
-        turns = few;
-        errors = omega (arith, kept.sound.errors, errors_of-push inner Close, errors-filled id kind items);
-        refused = λ full. absurd (not_refused s TooManyEvents goes full);
-        refused_error = λ full. absurd (not_refused s TooManyErrors goes full);
-        ids = λ other. rw numbers (kept.sound.ids other);
-        balanced = rw reads (IsBalanced-depth_after (plain inner ++ steps.Exit ∷ []) back);
-        over = rw reads (IsOver-exit_last (plain inner) s.input (IsOver-filled id kind items s.input kept.sound.over));
-        behind = rw (reads, eats) kept.sound.behind;
-        exact = λ goes. rw (reads, eats) (kept.sound.exact goes);
-      };
-    }
+module _ (s : State) (sound : IsSound s) (goes : HasNotFailed s) where
+  flat_before : depth_after 0 (plain s.draft.items) ≡ Some 0
+  flat_before = depth_after-balanced (plain s.draft.items) sound.balanced
 
--- the tokens of a parser that goes on end at its position
-at_position : (s : State) (n : ℕ) → IsKept s → HasNotFailed s → AreOneToken n (ahead s 0) → AreOneToken n (drop (eaten (plain s.draft.items)) s.input)
-at_position s n kept goes one = rw (kept.sound.exact goes) (AreOneToken-seen n s.limit s.position s.input (rw add-zero at one))
+  edited : (d : Draft) (position : ℕ) → position ≤ s.limit → d.recorded ≤ s.max_events → IsLogged d → errors_of d.items ≤ s.max_errors
+      → depth_after 0 (plain d.items) ≡ Some 0 → IsOver (plain d.items) s.input → eaten (plain d.items) ≡ position
+      → IsSound (record s { position = position; draft = d })
+  edited d position within recorded logged errors flat over eats = record {
+    position = within;
+    limit = sound.limit;
+    words = sound.words;
+    recorded = recorded;
+    logged = logged;
+    errors = errors;
+    refused = λ full. absurd (not_refused s TooManyEvents goes full);
+    refused_error = λ full. absurd (not_refused s TooManyErrors goes full);
+    balanced = IsBalanced-depth_after (plain d.items) flat;
+    over = over;
+    behind = omega (arith, eats);
+    exact = λ goes. eats;
+  }
 
--- and those that it sees there as one token stand before its limit
-within : (s : State) (n : ℕ) → AreOneToken n (ahead s 0) → s.position + n ≤ s.limit
-within s n one = AreOneToken-within n s.limit s.position s.input (rw add-zero at one)
+  -- an edit that eats nothing and reports nothing
+  edited_as : (d : Draft) → d.recorded ≤ s.max_events → IsLogged d → IsMoved (plain s.draft.items) (plain d.items) → IsSound (record s { draft = d })
+  edited_as d recorded logged move =
+      edited d s.position sound.position recorded logged (omega (arith, sound.errors, move.errors, errors-plain d.items, errors-plain s.draft.items)) (move.flat flat_before)
+      (move.over s.input sound.over) (move.eats ∙ sound.exact goes)
 
--- n tokens as one at the end, which the parser eats
-pub IsKept-with_token : (s : State) (kind n : ℕ) → IsKept s → HasNotFailed s → s.draft.recorded < s.max_events → AreOneToken n (ahead s 0)
-    → HasFewTurns (with_token s.draft kind n) → IsKept (record s { position = s.position + n; draft = with_token s.draft kind n })
-IsKept-with_token s kind n kept goes room one few =
-    let items = s.draft.items in
-    let token : List Item = Token kind n ∷ [] in
-    let reads : plain (items ++ token) ≡ plain items ++ steps.Token kind n ∷ [] = plain-append items token in
-    let numbers : ids (items ++ token) ≡ ids items = ids-append items token ∙ append-nil (ids items) in
-    let eats : eaten (plain items ++ steps.Token kind n ∷ []) ≡ eaten (plain items) + n =
-    sum_by-append count_of (plain items) (steps.Token kind n ∷ []) ∙ omega arith in
-    let flat : depth_after 0 (plain items ++ steps.Token kind n ∷ []) ≡ Some 0 =
-    depth_after-append 0 0 (plain items) (steps.Token kind n ∷ []) (depth_after-balanced (plain items) kept.sound.balanced) in
-    record {
-      sound = record {
-        position = within s n one;
-        limit = kept.sound.limit;
-        words = kept.sound.words;
-        recorded = omega arith;
-        items = omega (arith, kept.sound.items, length-append items token);
-        turns = few;
-        errors = omega (arith, kept.sound.errors, errors_of-push items (Token kind n));
-        refused = λ full. absurd (not_refused s TooManyEvents goes full);
-        refused_error = λ full. absurd (not_refused s TooManyErrors goes full);
-        ids = λ other. rw numbers (kept.sound.ids other);
-        balanced = rw reads (IsBalanced-depth_after (plain items ++ steps.Token kind n ∷ []) flat);
-        over = rw reads (IsOver-token_last (plain items) s.input kind n kept.sound.over (at_position s n kept goes one));
-        behind = rw (reads, eats) (omega (arith, kept.sound.behind));
-        exact = λ goes. rw (reads, eats) (ap (λ k. k + n) (kept.sound.exact goes));
-      };
-    }
+  -- ---- at the end
 
--- an error at the end
-pub IsKept-with_error : (s : State) (text : List ℕ) → IsKept s → HasNotFailed s → s.draft.recorded < s.max_events → errors_of s.draft.items < s.max_errors
-    → HasFewTurns (with_error s.draft text) → IsKept (record s { draft = with_error s.draft text })
-IsKept-with_error s text kept goes room errors few =
-    let items = s.draft.items in
-    let error : List Item = Error text ∷ [] in
-    let reads : plain (items ++ error) ≡ plain items ++ steps.Error text ∷ [] = plain-append items error in
-    let numbers : ids (items ++ error) ≡ ids items = ids-append items error ∙ append-nil (ids items) in
-    let eats : eaten (plain items ++ steps.Error text ∷ []) ≡ eaten (plain items) =
-    sum_by-append count_of (plain items) (steps.Error text ∷ []) ∙ (omega arith) in
-    let flat : depth_after 0 (plain items ++ steps.Error text ∷ []) ≡ Some 0 =
-    depth_after-append 0 0 (plain items) (steps.Error text ∷ []) (depth_after-balanced (plain items) kept.sound.balanced) in
-    record {
-      sound = record {
-        position = kept.sound.position;
-        limit = kept.sound.limit;
-        words = kept.sound.words;
-        recorded = omega arith;
-        items = omega (arith, kept.sound.items, length-append items error);
-        turns = few;
-        errors = omega (arith, errors_of-push items (Error text));
-        refused = λ full. absurd (not_refused s TooManyEvents goes full);
-        refused_error = λ full. absurd (not_refused s TooManyErrors goes full);
-        ids = λ other. rw numbers (kept.sound.ids other);
-        balanced = rw reads (IsBalanced-depth_after (plain items ++ steps.Error text ∷ []) flat);
-        over = rw reads (IsOver-error_last (plain items) s.input text kept.sound.over);
-        behind = rw (reads, eats) kept.sound.behind;
-        exact = λ goes. rw (reads, eats) (kept.sound.exact goes);
-      };
-    }
+  pub IsSound-started : s.draft.recorded < s.max_events → IsLogged (started s.draft) → IsSound (record s { draft = started s.draft })
+  IsSound-started room logged =
+      let hole : List Item = Hole s.draft.entries ByStart ∷ [] in
+      edited_as (started s.draft) (omega arith) logged
+      (IsMoved-same (plain s.draft.items) (plain (started s.draft).items) (plain-append s.draft.items hole ∙ append-nil (plain s.draft.items)))
 
--- a parser that fails for want of memory
-pub IsKept-failed : (s : State) → IsKept s → IsKept (record s { first_reason = Some OutOfMemory })
-IsKept-failed s kept = record {
-  sound = record {
-    position = kept.sound.position;
-    limit = kept.sound.limit;
-    words = kept.sound.words;
-    recorded = kept.sound.recorded;
-    items = kept.sound.items;
-    turns = kept.sound.turns;
-    errors = kept.sound.errors;
-    refused = λ full. absurd (let other = full in cc);
-    refused_error = λ full. absurd (let other = full in cc);
-    ids = kept.sound.ids;
-    balanced = kept.sound.balanced;
-    over = kept.sound.over;
-    behind = kept.sound.behind;
-    exact = λ goes. absurd (let other = goes in cc);
-  };
+  -- n tokens as one, which the parser eats
+  pub IsSound-with_token : (kind n : ℕ) → s.draft.recorded < s.max_events → AreOneToken n (ahead s 0) → IsLogged (with_token s.draft kind n)
+      → IsSound (record s { position = s.position + n; draft = with_token s.draft kind n })
+  IsSound-with_token kind n room one logged =
+      let items = s.draft.items in
+      let token : List Item = Token kind n ∷ [] in
+      let reads : plain (items ++ token) ≡ plain items ++ steps.Token kind n ∷ [] = plain-append items token in
+      let there : AreOneToken n (drop (eaten (plain items)) s.input) = rw (sound.exact goes) (AreOneToken-seen n s.limit s.position s.input (rw add-zero at one)) in
+      edited (with_token s.draft kind n) (s.position + n) (AreOneToken-within n s.limit s.position s.input (rw add-zero at one)) (omega arith) logged
+      (omega (arith, sound.errors, errors-append items token))
+      (rw reads (depth_after-append 0 0 (plain items) (steps.Token kind n ∷ []) flat_before))
+      (rw reads (IsOver-token_last (plain items) s.input kind n sound.over there))
+      (rw reads (eaten-append (plain items) (steps.Token kind n ∷ []) ∙ (ap (λ k. k + eaten (steps.Token kind n ∷ [])) (sound.exact goes) ∙ omega arith)))
+
+  pub IsSound-with_error : (text : List ℕ) → s.draft.recorded < s.max_events → errors_of s.draft.items < s.max_errors → IsLogged (with_error s.draft text)
+      → IsSound (record s { draft = with_error s.draft text })
+  IsSound-with_error text room errors logged =
+      let items = s.draft.items in
+      let error : List Item = Error text ∷ [] in
+      let reads : plain (items ++ error) ≡ plain items ++ steps.Error text ∷ [] = plain-append items error in
+      edited (with_error s.draft text) s.position sound.position (omega arith) logged (omega (arith, errors-append items error))
+      (rw reads (depth_after-append 0 0 (plain items) (steps.Error text ∷ []) flat_before))
+      (rw reads (IsOver-error_last (plain items) s.input text sound.over))
+      (rw reads (eaten-append (plain items) (steps.Error text ∷ []) ∙ (ap (λ k. k + eaten (steps.Error text ∷ [])) (sound.exact goes) ∙ omega arith)))
+
+  -- ---- at a marker
+
+  pub IsSound-completed : (id kind : ℕ) (made : Made) → s.draft.recorded < s.max_events → Contains s.draft.items (Hole id made)
+      → IsLogged (completed s.draft id kind) → IsSound (record s { draft = completed s.draft id kind })
+  IsSound-completed id kind made room there logged =
+      let splice = spliced-hole id made (λ item. Open id kind true ∷ []) s.draft.items sound.logged.once there in
+      let front = splice.0.front in
+      let back = splice.0.back in
+      let opening : Item = Open id kind true in
+      let before : plain s.draft.items ≡ plain front ++ plain back = ap plain splice.0.is ∙ plain-append front (Hole id made ∷ back) in
+      let after : plain (completed s.draft id kind).items ≡ plain front ++ Enter kind ∷ (plain back ++ Exit ∷ []) =
+      ap (λ items. plain (items ++ Close ∷ [])) splice.1
+      ∙ (plain-append (front ++ opening ∷ back) (Close ∷ [])
+      ∙ (ap (λ xs. xs ++ Exit ∷ []) (plain-append front (opening ∷ back)) ∙ assoc (plain front) (Enter kind ∷ plain back))) in
+      edited_as (completed s.draft id kind) (omega arith) logged (rw (before, after) (IsMoved-around kind (plain front) (plain back)))
+    where
+      assoc : (xs ys : List Step) → (xs ++ ys) ++ Exit ∷ [] ≡ xs ++ (ys ++ Exit ∷ [])
+      assoc [] ys = refl
+      assoc (x ∷ xs) ys = ap (λ zs. x ∷ zs) (assoc xs ys)
+
+  pub IsSound-preceded : (node kind : ℕ) → s.draft.recorded < s.max_events → Contains s.draft.items (Open node kind true)
+      → IsLogged (preceded s.draft node) → IsSound (record s { draft = preceded s.draft node })
+  IsSound-preceded node kind room there logged =
+      let splice = spliced-opening node kind (λ item. Hole s.draft.entries ByPrecede ∷ preceded_item item ∷ []) s.draft.items sound.logged.once there in
+      let front = splice.0.front in
+      let back = splice.0.back in
+      edited_as (preceded s.draft node) (omega arith) logged
+      (IsMoved-same (plain s.draft.items) (plain (preceded s.draft node).items)
+      (ap plain splice.1 ∙ (plain-append front (Hole s.draft.entries ByPrecede ∷ Open node kind false ∷ back) ∙ sym (ap plain splice.0.is ∙ plain-append front (Open node kind true ∷ back)))))
+
+  plain-without_hole : (id : ℕ) (made : Made) → Contains s.draft.items (Hole id made) → IsMoved (plain s.draft.items) (plain (without_hole id s.draft.items))
+  plain-without_hole id made there =
+      let splice = spliced-hole id made (λ item. []) s.draft.items sound.logged.once there in
+      IsMoved-same (plain s.draft.items) (plain (without_hole id s.draft.items))
+      (ap plain splice.1 ∙ (plain-append splice.0.front splice.0.back ∙ sym (ap plain splice.0.is ∙ plain-append splice.0.front (Hole id made ∷ splice.0.back))))
+
+  pub IsSound-abandoned : (id : ℕ) (made : Made) → Contains s.draft.items (Hole id made) → IsLogged (abandoned s.draft id)
+      → IsSound (record s { draft = abandoned s.draft id })
+  IsSound-abandoned id made there logged = edited_as (abandoned s.draft id) sound.recorded logged (plain-without_hole id made there)
+
+  pub IsSound-extended : (node : Node) (id : ℕ) (made : Made) → Contains s.draft.items (Hole id made) → Contains s.draft.items (Open node.id node.kind true)
+      → IsLogged (extended s.draft node id) → IsSound (record s { draft = extended s.draft node id })
+  IsSound-extended node id made hole there logged =
+      edited_as (extended s.draft node id) sound.recorded logged (cases (stands_before (is_hole_of id) (is_opening_of node.id) s.draft.items) refl)
+    where
+      cases : (b : _) → stands_before (is_hole_of id) (is_opening_of node.id) s.draft.items ≡ b
+          → IsMoved (plain s.draft.items) (plain (cond b (moved node id s.draft.items) (without_hole id s.draft.items)))
+      cases true before =
+          let at = split-extended node id s.draft.items sound.logged.once there before in
+          let opening : Item = Open node.id node.kind true in
+          let old : plain s.draft.items ≡ plain at.front ++ (plain at.between ++ Enter node.kind ∷ plain at.back) =
+          ap plain at.is
+          ∙ (plain-append at.front (Hole id at.made ∷ (at.between ++ opening ∷ at.back)) ∙ ap (λ xs. plain at.front ++ xs) (plain-append at.between (opening ∷ at.back))) in
+          let new : plain (moved node id s.draft.items) ≡ plain at.front ++ Enter node.kind ∷ (plain at.between ++ plain at.back) =
+          ap plain at.edit
+          ∙ (plain-append at.front (opening ∷ (at.between ++ at.back)) ∙ ap (λ xs. plain at.front ++ Enter node.kind ∷ xs) (plain-append at.between at.back)) in
+          rw (old, new) (IsMoved-earlier node.kind (plain at.front) (plain at.between) (plain at.back))
+      cases false before = plain-without_hole id made hole
+
+-- ---- a parser that has failed
+
+-- for want of memory
+pub IsSound-failed : (s : State) → IsSound s → IsSound (record s { first_reason = Some OutOfMemory })
+IsSound-failed s sound = record {
+  position = sound.position;
+  limit = sound.limit;
+  words = sound.words;
+  recorded = sound.recorded;
+  logged = sound.logged;
+  errors = sound.errors;
+  refused = λ full. absurd (let other = full in cc);
+  refused_error = λ full. absurd (let other = full in cc);
+  balanced = sound.balanced;
+  over = sound.over;
+  behind = sound.behind;
+  exact = λ goes. absurd (let other = goes in cc);
 }
 
--- a parser that has failed goes past n tokens
-pub IsKept-past : (s : State) (n : ℕ) → IsKept s → IsSome s.first_reason → AreOneToken n (ahead s 0) → IsKept (record s { position = s.position + n })
-IsKept-past s n kept failed one = record {
-  sound = record {
-    position = within s n one;
-    limit = kept.sound.limit;
-    words = kept.sound.words;
-    recorded = kept.sound.recorded;
-    items = kept.sound.items;
-    turns = kept.sound.turns;
-    errors = kept.sound.errors;
-    refused = kept.sound.refused;
-    refused_error = kept.sound.refused_error;
-    ids = kept.sound.ids;
-    balanced = kept.sound.balanced;
-    over = kept.sound.over;
-    behind = omega (arith, kept.sound.behind);
-    exact = λ goes. absurd (not_failed s goes failed);
-  };
+-- it goes past n tokens
+pub IsSound-past : (s : State) (n : ℕ) → IsSound s → IsSome s.first_reason → AreOneToken n (ahead s 0) → IsSound (record s { position = s.position + n })
+IsSound-past s n sound failed one = record {
+  position = AreOneToken-within n s.limit s.position s.input (rw add-zero at one);
+  limit = sound.limit;
+  words = sound.words;
+  recorded = sound.recorded;
+  logged = sound.logged;
+  errors = sound.errors;
+  refused = sound.refused;
+  refused_error = sound.refused_error;
+  balanced = sound.balanced;
+  over = sound.over;
+  behind = omega (arith, sound.behind);
+  exact = λ goes. absurd (not_failed s goes failed);
 }

@@ -1,12 +1,14 @@
 -- Lists split at an element, and items that give place to others there.
-use Rattle.std.proofs.Common.{◌≡◌, ◌∙◌, ℕ, zero, suc, ◌+◌, ◌≤◌, ◌==◌, Bool, true, false, List, [], ◌∷◌, ◌++◌, cond, arith, ap, refl}
+use Rattle.std.proofs.Common.{◌≡◌, ◌∙◌, ℕ, zero, suc, ◌+◌, ◌≤◌, ◌==◌, Bool, true, false, List, [], ◌∷◌, ◌++◌, cond, arith, ap, refl, subst}
 use Rattle.std.specs.Prelude.{All, Contains, count_by}
 use Rattle.std.proofs.lemmas.Bool.{eqb-true}
 use Rattle.std.proofs.lemmas.List.Sums.{sum_by-append}
-use Rattle.std.proofs.lemmas.List.Elements.{All-tail}
+use Rattle.std.proofs.lemmas.List.Elements.{All-cons, All-head, All-nil, All-tail}
 use Rattle.std.proofs.lemmas.Grind.{flat_map-append}
-use Rattle.squawk_output.specs.Draft.{Made, Item, Hole, Open, Close, Token, Error, ids, ids_of, HasNoIdTwice}
-use Rattle.squawk_output.specs.Edits.{is_hole_of, is_opening_of, replaced, stands_before}
+use Rattle.squawk_output.specs.declared.log.Made.{Made}
+use Rattle.squawk_output.specs.Draft.{Item, Hole, Open, Close, Token, Error, Node, ids, ids_of, HasNoIdTwice}
+use Rattle.squawk_output.specs.Edits.{is_hole_of, is_opening_of, moved, replaced, stands_before}
+use Rattle.squawk_output.proofs.Groups.{itself}
 use Rattle.squawk_output.proofs.Sums.{count_by-cons}
 
 -- an element of a list, and what stands before and behind it
@@ -25,10 +27,10 @@ module _ {X : Type 0} where
   Contains-behind x [] ys = (0, omega arith, refl)
   Contains-behind x (y ∷ xs) ys = let r : Contains (xs ++ x ∷ ys) x = Contains-behind x xs ys in (suc r.0, omega (arith, r.1), r.2)
 
-  -- what holds of all elements holds of those behind some
-  pub All-back : (P : X → Type 0) (xs ys : List X) → All P (xs ++ ys) → All P ys
-  All-back P [] ys all = all
-  All-back P (x ∷ xs) ys all = All-back P xs ys (All-tail P x (xs ++ ys) all)
+  -- what holds of all elements holds of the first of them
+  pub All-front : (P : X → Type 0) (xs ys : List X) → All P (xs ++ ys) → All P xs
+  All-front P [] ys all = All-nil P
+  All-front P (x ∷ xs) ys all = All-cons P x xs (All-head P x (xs ++ ys) all) (All-front P xs ys (All-tail P x (xs ++ ys) all))
 
   pub count_by-append : (p : X → Bool) (xs ys : List X) → count_by p (xs ++ ys) ≡ count_by p xs + count_by p ys
   count_by-append p xs ys = sum_by-append (λ x. cond (p x) 1 0) xs ys
@@ -67,6 +69,16 @@ module _ (p : Item → Bool) (f : Item → List Item) where
   replaced-at xs ys x passes front back =
       replaced-append xs (x ∷ ys)
       ∙ (ap (λ zs. zs ++ replaced p f (x ∷ ys)) (replaced-none xs front) ∙ ap (λ zs. xs ++ zs) (here x ys passes ∙ ap (λ zs. f x ++ zs) (replaced-none ys back)))
+
+  -- so an edit of one item is a splice of the list there
+  pub spliced : (x : Item) (items : List Item) → p x ≡ true → count_by p items ≤ 1 → Contains items x
+      → (at : Split x items) × (replaced p f items ≡ at.front ++ (f x ++ at.back))
+  spliced x items passes once there =
+      let at = split x items there in
+      let total = ap (count_by p) at.is in
+      let front : count_by p at.front ≡ 0 = omega (arith, total, once, count_by-append p at.front (x ∷ at.back), count_by-passes p x at.back passes) in
+      let back : count_by p at.back ≡ 0 = omega (arith, total, once, count_by-append p at.front (x ∷ at.back), count_by-passes p x at.back passes) in
+      (at, ap (replaced p f) at.is ∙ replaced-at at.front at.back x passes front back)
 
 -- an item that passes the first test, and before it none that passes the second
 pub record First (p q : Item → Bool) (items : List Item) : Type 0 where
@@ -108,7 +120,7 @@ count-le_ids p id each [] = omega arith
 count-le_ids p id each (item ∷ items) =
     omega (arith, each item, count-le_ids p id each items, count_by-cons p item items, count_by-append (λ i. i == id) (ids_of item) (ids items))
 
-hole_each : (id : ℕ) (item : Item) → cond (is_hole_of id item) 1 0 ≤ count_by (λ i. i == id) (ids_of item)
+pub hole_each : (id : ℕ) (item : Item) → cond (is_hole_of id item) 1 0 ≤ count_by (λ i. i == id) (ids_of item)
 hole_each id (Hole i made) = omega (arith, count_by-cons (λ i. i == id) i [])
 hole_each id (Open i kind free) = omega arith
 hole_each id Close = omega arith
@@ -128,3 +140,60 @@ holes-once id items once = omega (arith, once id, count-le_ids (is_hole_of id) i
 
 pub openings-once : (id : ℕ) (items : List Item) → HasNoIdTwice items → count_by (is_opening_of id) items ≤ 1
 openings-once id items once = omega (arith, once id, count-le_ids (is_opening_of id) id (opening_each id) items)
+
+-- the hole of a marker gives place to other items
+pub spliced-hole : (id : ℕ) (made : Made) (f : Item → List Item) (items : List Item) → HasNoIdTwice items → Contains items (Hole id made)
+    → (at : Split (Hole id made) items) × (replaced (is_hole_of id) f items ≡ at.front ++ (f (Hole id made) ++ at.back))
+spliced-hole id made f items once there = spliced (is_hole_of id) f (Hole id made) items (itself id) (holes-once id items once) there
+
+-- and so does the opening of a node
+pub spliced-opening : (id kind : ℕ) (f : Item → List Item) (items : List Item) → HasNoIdTwice items → Contains items (Open id kind true)
+    → (at : Split (Open id kind true) items) × (replaced (is_opening_of id) f items ≡ at.front ++ (f (Open id kind true) ++ at.back))
+spliced-opening id kind f items once there = spliced (is_opening_of id) f (Open id kind true) items (itself id) (openings-once id items once) there
+
+-- a node's opening behind a marker's hole, and the items when it moves there
+pub record ExtendedAt (node : Node) (id : ℕ) (items : List Item) : Type 0 where
+  pub made : Made
+  pub front : List Item
+  pub between : List Item
+  pub back : List Item
+  pub is : items ≡ front ++ Hole id made ∷ (between ++ Open node.id node.kind true ∷ back)
+  pub edit : moved node id items ≡ front ++ Open node.id node.kind true ∷ (between ++ back)
+
+pub split-extended : (node : Node) (id : ℕ) (items : List Item) → HasNoIdTwice items → Contains items (Open node.id node.kind true)
+    → stands_before (is_hole_of id) (is_opening_of node.id) items ≡ true → ExtendedAt node id items
+split-extended node id items once there before =
+    let p = is_hole_of id in
+    let q = is_opening_of node.id in
+    let opening = Open node.id node.kind true in
+    let r = first p q items before in
+    let hole = a_hole id r.item r.passes in
+    let begins : items ≡ r.front ++ Hole id hole.0 ∷ r.back = r.is ∙ ap (λ item. r.front ++ item ∷ r.back) hole.1 in
+    let behind : Contains (Hole id hole.0 ∷ r.back) opening =
+    Contains-passed q opening r.front (Hole id hole.0 ∷ r.back) (itself node.id) r.none (subst (λ is. Contains is opening) begins there) in
+    let inside : Contains r.back opening = Contains-passed q opening (Hole id hole.0 ∷ []) r.back (itself node.id) refl behind in
+    let openings : count_by q items ≡ count_by q r.front + (count_by q (Hole id hole.0 ∷ r.back)) = ap (count_by q) begins ∙ count_by-append q r.front (Hole id hole.0 ∷ r.back) in
+    let holes : count_by p items ≡ count_by p r.front + count_by p (Hole id hole.0 ∷ r.back) = ap (count_by p) begins ∙ count_by-append p r.front (Hole id hole.0 ∷ r.back) in
+    let tail = count_by-passes p (Hole id hole.0) r.back (itself id) in
+    let one_hole = holes-once id items once in
+    let splice = spliced q (λ item. []) opening r.back (itself node.id)
+    (omega (arith, openings, openings-once node.id items once, count_by-fails q (Hole id hole.0) r.back refl)) inside in
+    let at = splice.0 in
+    let taken : replaced q (λ item. []) items ≡ r.front ++ Hole id hole.0 ∷ (at.front ++ at.back) =
+    ap (replaced q (λ item. [])) begins
+    ∙ (replaced-append q (λ item. []) r.front (Hole id hole.0 ∷ r.back)
+    ∙ (ap (λ zs. zs ++ Hole id hole.0 ∷ replaced q (λ item. []) r.back) (replaced-none q (λ item. []) r.front r.none)
+    ∙ ap (λ zs. r.front ++ Hole id hole.0 ∷ zs) splice.1)) in
+    let back_holes = ap (count_by p) at.is ∙ count_by-append p at.front (opening ∷ at.back) in
+    let none_front : count_by p r.front ≡ 0 = omega (arith, holes, tail, one_hole) in
+    let none_back : count_by p (at.front ++ at.back) ≡ 0 =
+    omega (arith, holes, tail, one_hole, back_holes, count_by-fails p opening at.back refl, count_by-append p at.front at.back) in
+    record {
+      made = hole.0;
+      front = r.front;
+      between = at.front;
+      back = at.back;
+      is = begins ∙ ap (λ zs. r.front ++ Hole id hole.0 ∷ zs) at.is;
+      edit = ap (replaced p (λ item. opening ∷ [])) taken
+          ∙ replaced-at p (λ item. opening ∷ []) r.front (at.front ++ at.back) (Hole id hole.0) (itself id) none_front none_back;
+    }

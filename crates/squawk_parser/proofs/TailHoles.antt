@@ -4,9 +4,9 @@ use Rattle.std.specs.Prelude.{Contains, filter}
 use Rattle.std.proofs.lemmas.List.Elements.{Contains-append_left}
 use Rattle.squawk_output.specs.Steps.{Step}
 use Rattle.squawk_output.specs.Draft.{Hole, Item, Mark, holes_of, is_hole}
-use Rattle.squawk_parser.specs.Recorded.{Puts}
+use Rattle.squawk_parser.specs.Recorded.{Puts, items_for}
 use Rattle.squawk_parser.specs.State.{State, HasNotFailed, HasHole, Keeps}
-use Rattle.squawk_parser.specs.declared.parser.parse_error.ParseError.{ParseError}
+use Rattle.squawk_parser.proofs.RecordedSteps.{went}
 
 module _ {X : Type 0} (x : X) where
   Contains-head : (y : X) (ys : List X) → y ≡ x → Contains (y ∷ ys) x
@@ -37,22 +37,12 @@ module _ {X : Type 0} (p : X → Bool) (x : X) where
       back true behind (suc k, lt, at) = Contains-tail x y ys (behind (k, omega arith, at))
       back false behind there = Contains-tail x y ys (behind there)
 
--- a parser that goes on after an act that keeps its reason to fail went on before
-pub went-kept : {a b : State} → Keeps a b → HasNotFailed b → HasNotFailed a
-went-kept {a} {b} keeps goes = cases a.first_reason refl
-  where
-    cases : (f : Option ParseError) → a.first_reason ≡ f → a.first_reason ≡ None
-    cases None e = e
-    cases (Some reason) e =
-        let stays : b.first_reason ≡ a.first_reason = keeps.reason (rw e refl) in
-        absurd (let p = sym goes ∙ (stays ∙ e) in cc)
-
 -- a part that leaves the holes as they are leaves a marker's hole, and so do steps behind it
 pub hole-behind_tail : {a b c : State} {xs : List Step} (m : Mark) → HasHole a m → Keeps a b
     → (HasNotFailed b → holes_of b.draft.items ≡ holes_of a.draft.items) → Puts xs b c → HasHole c m
 hole-behind_tail {a} {b} {c} {xs} m there keeps holes puts goes =
-    let ran : HasNotFailed b = puts.went goes in
+    let ran : HasNotFailed b = went puts.keeps goes in
     let hole : Item = Hole m.id m.made in
-    let before : Contains (holes_of a.draft.items) hole = Contains-filter is_hole hole a.draft.items refl (there (went-kept keeps ran)) in
+    let before : Contains (holes_of a.draft.items) hole = Contains-filter is_hole hole a.draft.items refl (there (went keeps ran)) in
     let after : Contains b.draft.items hole = Contains-unfiltered is_hole hole b.draft.items (subst (λ xs. Contains xs hole) (sym (holes ran)) before) in
-    subst (λ xs. Contains xs hole) (sym (puts.draft goes).items) (Contains-append_left b.draft.items (puts.draft goes).made hole after)
+    subst (λ draft. Contains draft.items hole) (sym (puts.draft goes)) (Contains-append_left b.draft.items (items_for b.draft.entries xs) hole after)

@@ -8,11 +8,10 @@ use Rattle.squawk_kinds.specs.TokenSets.{has}
 use Rattle.squawk_table.specs.ParserInput.{Entry, kind_in}
 use Rattle.squawk_output.specs.Steps.{Step, Token, Enter, Exit, Error}
 use Rattle.squawk_parser.specs.Composites.{Element, One, AtMostOne, Tail, NoTail, Open, ClosedBy, Form, Glued, Touching, Sequence, Operator, Composite, composites, stands_at}
-use Rattle.squawk_output.specs.Draft.{IsAboveIds, holes_of}
-use Rattle.squawk_output.specs.Edits.{started, completed}
+use Rattle.squawk_output.specs.Draft.{holes_of}
 use Rattle.squawk_parser.specs.Operators.{operator_length}
-use Rattle.squawk_parser.specs.State.{State, HasNotFailed, IsSound, Keeps, Records, ahead}
-use Rattle.squawk_parser.specs.Recorded.{Puts}
+use Rattle.squawk_parser.specs.State.{State, HasNotFailed, IsSound, Keeps, ahead}
+use Rattle.squawk_parser.specs.Recorded.{Begins, Completes, Puts, started_mark}
 use Rattle.squawk_parser.specs.Words.{Words}
 
 -- a token of one input token
@@ -121,17 +120,9 @@ pub record ◌⨾◌ (does next : State → State → Type 0) (old new : State) 
   pub does_so : does old between
   pub goes_on : next between new
 
--- a node is begun
-pub record Begins (id : ℕ) (old new : State) : Type 0 where
-  pub keeps : Keeps old new
-  pub position : new.position ≡ old.position
-  pub records : Records old new (started old.draft id)
-  pub fresh : HasNotFailed new → IsAboveIds id old.draft.items
-
 -- the steps of what stands ahead are put at the end
-pub record PutsAhead (steps : State → List Step) (old new : State) : Type 0 where
-  pub keeps : Keeps old new
-  pub puts : Puts (steps old) old new
+abbrev pub PutsAhead : (State → List Step) → State → State → Type 0
+PutsAhead steps old new = Puts (steps old) old new
 
 -- a tail does what it does, and leaves the open markers as they are
 pub record RunsTail (does : State → State → Type 0) (old new : State) : Type 0 where
@@ -139,19 +130,12 @@ pub record RunsTail (does : State → State → Type 0) (old new : State) : Type
   pub runs : does old new
   pub holes : HasNotFailed new → holes_of new.draft.items ≡ holes_of old.draft.items
 
--- the node is completed
-pub record Completes (id kind : ℕ) (old new : State) : Type 0 where
-  pub keeps : Keeps old new
-  pub position : new.position ≡ old.position
-  pub records : Records old new (completed old.draft id kind)
-
 -- A node is begun, the tokens of the kind's sequence are eaten, the tail runs once, what closes it is expected, and the node is
 -- completed.
 abbrev pub EatsWith : (State → State → Type 0) → ℕ → State → State → Type 0
 EatsWith does kind old new =
-    (id : ℕ)
-    × (Begins id
+    (Begins (started_mark old)
     ⨾ PutsAhead (λ s. element_steps (elements_of_kind kind) (ahead s 0))
     ⨾ RunsTail does
     ⨾ PutsAhead (λ s. closing_steps s.words (tail_of_kind kind) (ahead s 0))
-    ⨾ Completes id kind) old new
+    ⨾ Completes (started_mark old).id kind) old new

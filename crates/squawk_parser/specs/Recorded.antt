@@ -1,9 +1,26 @@
--- What acts record that put whole steps at the end of a draft.
-use Rattle.std.specs.Prelude.{◌≡◌, ℕ, ◌+◌, ◌<◌, Some, List, ◌∷◌, ◌++◌, length, sum_by, All, AllPairs, IsSome, if◌then◌else◌}
+-- What acts record at the end of a draft, and at its markers.
+use Rattle.std.specs.Prelude.{◌≡◌, ℕ, ◌+◌, true, Some, List, [], ◌∷◌, ◌++◌, length, sum_by, IsSome, if◌then◌else◌}
+use Rattle.squawk_output.specs.Steps as steps
 use Rattle.squawk_output.specs.Steps.{Step, is_enter, is_error, errors_in, eaten}
-use Rattle.squawk_output.specs.Draft.{Draft, Item, HasNoHole, IsAboveIds, errors_of, ids, plain}
-use Rattle.squawk_parser.specs.State.{State, HasNotFailed, IsReason}
+use Rattle.squawk_output.specs.Draft.{Draft, Item, Close, Error, Mark, Node, Open, Token, errors_of}
+use Rattle.squawk_output.specs.Edits.{completed, preceded, started}
+use Rattle.squawk_output.specs.declared.log.Made.TheVariants.{ByPrecede, ByStart}
+use Rattle.squawk_parser.specs.State.{State, HasNotFailed, IsReason, IsSound, Keeps, Records}
 use Rattle.squawk_parser.specs.declared.parser.parse_error.ParseError.{ParseError}
+
+-- ---- steps at the end
+
+-- the item of a step that is recorded at a place; the opening of a node has its place as its id
+abbrev pub item_for : ℕ → Step → Item
+item_for place (steps.Token kind n) = Token kind n
+item_for place (steps.Enter kind) = Open place kind true
+item_for place steps.Exit = Close
+item_for place (steps.Error text) = Error text
+
+-- the items of steps that are recorded from a place on
+abbrev pub items_for : ℕ → List Step → List Item
+items_for place [] = []
+items_for place (step ∷ steps) = item_for place step ∷ items_for (place + 1) steps
 
 -- how many turns a step is due in a pass over its events: one, and two where a node is entered
 abbrev pub turns_of_step : Step → ℕ
@@ -12,19 +29,14 @@ turns_of_step step = if is_enter step then 2 else 1
 abbrev pub turns_due_of : List Step → ℕ
 turns_due_of steps = sum_by turns_of_step steps
 
--- Items for these steps were put at the end: no hole is among them, and each of their ids is above all ids before it, those of the
--- old draft and those among these items. Each step is one recorded event.
-pub record IsPut (steps : List Step) (old new : Draft) : Type 0 where
-  pub made : List Item
-  pub items : new.items ≡ old.items ++ made
-  pub steps_made : plain made ≡ steps
-  pub closed : HasNoHole made
-  pub above : All (λ id. IsAboveIds id old.items) (ids made)
-  -- and each is above those made before it
-  pub ascending : AllPairs (λ i j. i < j) (ids made)
-  pub recorded : new.recorded ≡ old.recorded + length steps
-  pub entries : new.entries ≡ old.entries + length steps
-  pub turns_due : new.turns_due ≡ old.turns_due + turns_due_of steps
+-- A draft with these steps at its end. Each is one recorded event, and one entry.
+abbrev pub with_steps : Draft → List Step → Draft
+with_steps d steps = record {
+  items = d.items ++ items_for d.entries steps;
+  recorded = d.recorded + length steps;
+  entries = d.entries + length steps;
+  turns_due = d.turns_due + turns_due_of steps;
+}
 
 -- One of the steps was refused, after those before it were recorded.
 pub record IsRefusedStep (old : State) (steps : List Step) (reason : ParseError) : Type 0 where
@@ -36,11 +48,43 @@ pub record IsRefusedStep (old : State) (steps : List Step) (reason : ParseError)
 
 -- Steps are recorded, one after another, and their tokens are eaten: these also by a parser that has failed.
 pub record Puts (steps : List Step) (old new : State) : Type 0 where
+  pub keeps : Keeps old new
   pub position : new.position ≡ old.position + eaten steps
-  -- a parser that hasn't failed afterwards hadn't failed before, and its draft has the steps
-  pub went : HasNotFailed new → HasNotFailed old
-  pub draft : HasNotFailed new → IsPut steps old.draft new.draft
+  -- the draft of a parser that hasn't failed afterwards has the steps at its end
+  pub draft : HasNotFailed new → new.draft ≡ with_steps old.draft steps
   -- a parser that had failed records nothing
   pub stays : IsSome old.first_reason → new.draft ≡ old.draft
   -- one that fails is refused one of the steps
   pub refused : HasNotFailed old → (reason : ParseError) → new.first_reason ≡ Some reason → IsRefusedStep old steps reason
+
+-- ---- markers
+
+-- the marker that a start makes: its id is the number of entries
+abbrev pub started_mark : State → Mark
+started_mark s = record { id = s.draft.entries; made = ByStart }
+
+-- and the one that is made in front of a node
+abbrev pub preceding_mark : State → Mark
+preceding_mark s = record { id = s.draft.entries; made = ByPrecede }
+
+-- A node is begun. What every parser keeps held before.
+pub record Begins (m : Mark) (old new : State) : Type 0 where
+  pub sound : IsSound old
+  pub is : m ≡ started_mark old
+  pub keeps : Keeps old new
+  pub position : new.position ≡ old.position
+  pub records : Records old new (started old.draft)
+
+-- A node is completed: that of the marker with this id.
+pub record Completes (id kind : ℕ) (old new : State) : Type 0 where
+  pub keeps : Keeps old new
+  pub position : new.position ≡ old.position
+  pub records : Records old new (completed old.draft id kind)
+
+-- A node is begun in front of another.
+pub record Precedes (node : Node) (m : Mark) (old new : State) : Type 0 where
+  pub sound : IsSound old
+  pub is : m ≡ preceding_mark old
+  pub keeps : Keeps old new
+  pub position : new.position ≡ old.position
+  pub records : Records old new (preceded old.draft node.id)

@@ -1,10 +1,10 @@
 -- What contracts see of a parser.
-use Rattle.std.specs.Prelude.{◌≡◌, ℕ, Bool, true, false, ◌+◌, ◌*◌, ◌<◌, ◌≤◌, min, Option, Some, None, List, length, nat_lt, if◌then◌else◌, IsSome, Contains}
+use Rattle.std.specs.Prelude.{◌≡◌, ℕ, Bool, true, false, ◌+◌, ◌<◌, ◌≤◌, min, Option, Some, None, List, length, nat_lt, if◌then◌else◌, IsSome, Contains}
 use Rattle.squawk_kinds.specs.Kinds.{EOF}
 use Rattle.squawk_table.specs.ParserInput.{Entry, kind_in, contextual_kind_in}
 use Rattle.squawk_parser.specs.LookAhead.{seen_from}
 use Rattle.squawk_parser.specs.Words.{Words, HasNoEnd}
-use Rattle.squawk_output.specs.Draft.{Draft, nothing, Hole, Open, Mark, Node, HasNoIdTwice, errors_of, plain}
+use Rattle.squawk_output.specs.Draft.{Draft, nothing, Hole, IsLogged, Open, Mark, Node, errors_of, plain}
 use Rattle.squawk_output.specs.Steps.{eaten}
 use Rattle.squawk_table.specs.Shape.{IsBalanced, IsOver}
 use Rattle.squawk_parser.specs.declared.parser.limits.Limits.{Limits}
@@ -113,15 +113,12 @@ pub record IsSound (s : State) : Type 0 where
   pub limit : s.limit ≤ length s.input
   pub words : HasNoEnd s.words
   pub recorded : s.draft.recorded ≤ s.max_events
-  -- there is an item for a recorded event at most, and so a step of the plain list, and four turns of a pass at most
-  pub items : length s.draft.items ≤ s.draft.recorded
-  pub turns : s.draft.turns_due ≤ 4 * s.draft.recorded
+  pub logged : IsLogged s.draft
   pub errors : errors_of s.draft.items ≤ s.max_errors
   -- a parser that was refused an event has recorded as many as it may
   pub refused : s.first_reason ≡ Some TooManyEvents → s.draft.recorded ≡ s.max_events
   -- one that was refused an error has recorded as many errors as it may, and fewer events
   pub refused_error : s.first_reason ≡ Some TooManyErrors → (errors_of s.draft.items ≡ s.max_errors) × (s.draft.recorded < s.max_events)
-  pub ids : HasNoIdTwice s.draft.items
   -- holes aside
   pub balanced : IsBalanced (plain s.draft.items)
   pub over : IsOver (plain s.draft.items) s.input

@@ -4,11 +4,10 @@ ghost use Rattle.std.specs.Str.{chars};
 ghost use Rattle.squawk_kinds.specs.Kinds.{EOF};
 ghost use Rattle.squawk_kinds.specs.TokenSets.{has};
 ghost use Rattle.squawk_output.specs.Steps.{Error};
-ghost use Rattle.squawk_output.specs.Draft.{ByStart, IsAboveIds};
+ghost use Rattle.squawk_output.specs.Edits.{with_token};
 ghost use Rattle.squawk_parser.specs.Eaten.{recovery_steps, no_recovery};
-ghost use Rattle.squawk_output.specs.Edits.{started, with_token};
-ghost use Rattle.squawk_parser.specs.Recorded.{Puts};
-ghost use Rattle.squawk_parser.specs.State.{HasHole, HasNotFailed, Keeps, Records, ahead, kind_at};
+ghost use Rattle.squawk_parser.specs.Recorded.{Begins, Puts};
+ghost use Rattle.squawk_parser.specs.State.{HasHole, Keeps, Records, ahead, kind_at};
 
 use crate::parser::Parser;
 use crate::parser::marker::Marker;
@@ -20,11 +19,7 @@ impl Parser<'_> {
     /// Begins a node: all that is recorded until its marker is completed will stand in it.
     #[inline(always)]
     pub fn start(&mut self) -> Marker
-        ensures made { result.made ≡ ByStart self.old.draft.entries }
-        ensures fresh { HasNotFailed self.new → IsAboveIds result.id self.old.draft.items }
-        ensures keeps { Keeps self.old self.new }
-        ensures position { self.new.position ≡ self.old.position }
-        ensures records { Records self.old self.new (started self.old.draft result.id) }
+        ensures begins { Begins result self.old self.new }
         ensures hole { HasHole self.new result }
     {
         let id = self.log.next_id();
@@ -66,8 +61,7 @@ impl Parser<'_> {
     #[cold]
     #[inline(never)]
     pub fn error(&mut self, msg: &str)
-        ensures keeps { Keeps self.old self.new }
-        ensures puts { Puts (Error (chars msg.now) ∷ []) self.old self.new }
+        ensures { Puts (Error (chars msg.now) ∷ []) self.old self.new }
     {
         if self.has_room_for_error() {
             let text = String::from_str(self.alloc, msg);
@@ -80,7 +74,6 @@ impl Parser<'_> {
     #[cold]
     #[inline(never)]
     pub fn err_recover(&mut self, msg: &str, recovery: TokenSet)
-        ensures keeps { Keeps self.old self.new }
         ensures puts { Puts (recovery_steps (chars msg.now) (has recovery) (ahead self.old 0)) self.old self.new }
         ensures eats { has recovery (kind_at self.old 0) ≡ false → kind_at self.old 0 ≢ EOF → self.old.position < self.new.position }
     {
@@ -99,7 +92,6 @@ impl Parser<'_> {
     #[cold]
     #[inline(never)]
     pub fn err_and_bump(&mut self, msg: &str)
-        ensures keeps { Keeps self.old self.new }
         ensures puts { Puts (recovery_steps (chars msg.now) no_recovery (ahead self.old 0)) self.old self.new }
         ensures eats { kind_at self.old 0 ≢ EOF → self.old.position < self.new.position }
     {

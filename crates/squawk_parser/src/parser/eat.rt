@@ -91,7 +91,6 @@ impl Parser<'_> {
         requires end { kind ≢ EOF }
         requires tail { tail_of_kind kind ≡ NoTail }
         requires at { IsTrue (stands_at (has self.old.words.operator_first) kind (ahead self.old 0)) }
-        ensures keeps { Keeps self.old self.new }
         ensures puts { Puts (eat_steps self.old.words kind (ahead self.old 0)) self.old self.new }
         ensures eats { self.old.position < self.new.position }
     {
@@ -106,7 +105,6 @@ impl Parser<'_> {
         requires end { kind ≢ EOF }
         requires tail { tail_of_kind kind ≡ NoTail }
         ensures at { result ≡ stands_at (has self.old.words.operator_first) kind (ahead self.old 0) }
-        ensures keeps { Keeps self.old self.new }
         ensures puts { Puts (expect_steps self.old.words kind (ahead self.old 0)) self.old self.new }
         ensures eats { IsTrue result → self.old.position < self.new.position }
     {
@@ -123,8 +121,7 @@ impl Parser<'_> {
     /// Expects what closes a tail, if something does.
     fn close(&mut self, tail: Tail)
         requires { (kind : ℕ) → tail_of tail ≡ ClosedBy kind → kind ≡ R_PAREN }
-        ensures keeps { Keeps self.old self.new }
-        ensures puts { Puts (closing_steps self.old.words (tail_of tail) (ahead self.old 0)) self.old self.new }
+        ensures { Puts (closing_steps self.old.words (tail_of tail) (ahead self.old 0)) self.old self.new }
     {
         match tail {
             Tail::Nothing | Tail::Open => {}
@@ -139,8 +136,7 @@ impl Parser<'_> {
         requires kind { kind ≢ TOMBSTONE }
         requires no_end { HasNoEndKind parts.now }
         requires touch { IsTrue (do_touch parts.now (ahead self.old 0)) }
-        ensures keeps { Keeps self.old self.new }
-        ensures puts { Puts (node kind (map one parts.now)) self.old self.new }
+        ensures { Puts (node kind (map one parts.now)) self.old self.new }
     {
         let node = self.start();
         for part in parts.as_slice() {
@@ -152,7 +148,6 @@ impl Parser<'_> {
     /// Eats the operator at the position, in a node of this kind.
     fn eat_operator(&mut self, kind: SyntaxKind)
         requires { kind ≢ TOMBSTONE }
-        ensures keeps { Keeps self.old self.new }
         ensures puts { Puts (form_steps (has self.old.words.operator_first) kind Operator (ahead self.old 0)) self.old self.new }
         ensures eats { IsTrue (has self.old.words.operator_first (kind_in (ahead self.old 0) 0)) → self.old.position < self.new.position }
     {
@@ -168,8 +163,7 @@ impl Parser<'_> {
     fn eat_elements(&mut self, parts: &Parts)
         requires no_end { HasNoEndKind parts.now }
         requires stands { IsSome (sequence_length (map element_of parts.now) (ahead self.old 0)) }
-        ensures keeps { Keeps self.old self.new }
-        ensures puts { Puts (element_steps (map element_of parts.now) (ahead self.old 0)) self.old self.new }
+        ensures { Puts (element_steps (map element_of parts.now) (ahead self.old 0)) self.old self.new }
     {
         for part in parts.as_slice() {
             if *part == SyntaxKind::UNICODE_NORMAL_FORM {
@@ -182,8 +176,7 @@ impl Parser<'_> {
 
     /// Eats a normal form of Unicode, if its keyword stands at the position.
     fn eat_normal_form(&mut self)
-        ensures keeps { Keeps self.old self.new }
-        ensures puts { Puts (element_steps (normal_form ∷ []) (ahead self.old 0)) self.old self.new }
+        ensures { Puts (element_steps (normal_form ∷ []) (ahead self.old 0)) self.old self.new }
     {
         if is_normal_form(self.current()) {
             let node = self.start();

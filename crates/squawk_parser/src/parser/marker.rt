@@ -1,9 +1,9 @@
 //! Markers: nodes that are begun, and nodes that are complete.
 ghost use Rattle.std.specs.Prelude.{◌≡◌, ◌≢◌, ◌<◌, ◌↔◌, IsTrue};
-ghost use Rattle.squawk_output.specs.Edits.{abandoned, completed, extended, preceded};
 ghost use Rattle.squawk_kinds.specs.Kinds.{TOMBSTONE};
-ghost use Rattle.squawk_parser.specs.State.{Changes, HasNotFailed, HasHole, HasNode, Keeps, Records};
-ghost use Rattle.squawk_output.specs.Draft.{ByPrecede, IsAboveIds};
+ghost use Rattle.squawk_output.specs.Edits.{abandoned, extended};
+ghost use Rattle.squawk_parser.specs.Recorded.{Completes, Precedes};
+ghost use Rattle.squawk_parser.specs.State.{Changes, HasHole, HasNode, HasNotFailed};
 
 use crate::parser::Parser;
 use crate::parser::recording::note;
@@ -21,11 +21,10 @@ pub struct Marker {
 
 impl Model for Marker {
     ghost use Rattle.squawk_output.specs.Draft.{Mark};
-    ghost use Rattle.squawk_output.specs.LogDraft.{made_of};
 
     ghost Value = { Mark };
 
-    ghost view = { λ m. record { id = m.id; made = made_of m.made m.id } };
+    ghost view = { λ m. record { id = m.id; made = m.made } };
 }
 
 /// A node that has its kind and its end.
@@ -54,9 +53,7 @@ impl Marker {
         requires hole { HasHole p.old self }
         requires kind { kind ≢ TOMBSTONE }
         ensures node { result ≡ record { id = self.id; kind = kind } }
-        ensures keeps { Keeps p.old p.new }
-        ensures position { p.new.position ≡ p.old.position }
-        ensures records { Records p.old p.new (completed p.old.draft self.id kind) }
+        ensures completes { Completes self.id kind p.old p.new }
         ensures at_hand { HasNode p.new result }
     {
         let Marker { id, made: _ } = self;
@@ -97,11 +94,7 @@ impl CompletedMarker {
     /// the parser has failed.
     pub fn precede(self, p: &mut Parser<'_>) -> Marker
         requires { HasNode p.old self }
-        ensures made { result.made ≡ ByPrecede p.old.draft.entries }
-        ensures fresh { HasNotFailed p.new → IsAboveIds result.id p.old.draft.items }
-        ensures keeps { Keeps p.old p.new }
-        ensures position { p.new.position ≡ p.old.position }
-        ensures records { Records p.old p.new (preceded p.old.draft self.id result.id) }
+        ensures precedes { Precedes self result p.old p.new }
         ensures hole { HasHole p.new result }
     {
         let CompletedMarker { id: node, kind } = self;

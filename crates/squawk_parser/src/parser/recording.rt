@@ -45,8 +45,7 @@ impl Parser<'_> {
         requires goes { HasNotFailed self.old }
         requires room { self.old.draft.recorded < self.old.max_events }
         requires errors { errors_of self.old.draft.items < self.old.max_errors }
-        ensures keeps { Keeps self.old self.new }
-        ensures puts { (msg : List ℕ) → IfOk text (λ s. chars (string_bytes s) ≡ msg) → Puts (Error msg ∷ []) self.old self.new }
+        ensures { (msg : List ℕ) → IfOk text (λ s. chars (string_bytes s) ≡ msg) → Puts (Error msg ∷ []) self.old self.new }
     {
         let text = match text {
             Ok(text) => Text::new(text),

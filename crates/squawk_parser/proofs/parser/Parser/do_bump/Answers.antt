@@ -1,13 +1,13 @@
 use Rattle.std.proofs.Common.{◌+◌, ◌∙◌, refl, sym, subst}
 use Rattle.std.specs.Prelude.{IsSome}
+use Rattle.squawk_output.specs.Draft.{IsLogged}
 use Rattle.squawk_output.specs.Edits.{with_token}
 use Rattle.squawk_table.specs.Shape.{AreOneToken}
 use Rattle.squawk_parser.specs.declared.parser.Parser.TheInside.{Inside}
 use Rattle.squawk_parser.specs.State.{IsSound, ahead}
 use Rattle.squawk_parser.proofs.Noted.{noted}
-use Rattle.squawk_parser.proofs.ItemCounts.{HasFewTurns}
-use Rattle.squawk_parser.proofs.Soundness.{IsKept-with_token, IsKept-failed, IsKept-past}
-use Rattle.squawk_parser.proofs.ParserViews.{seen, kept, has_room, sees_same}
+use Rattle.squawk_parser.proofs.Soundness.{IsSound-with_token, IsSound-failed, IsSound-past}
+use Rattle.squawk_parser.proofs.ParserViews.{seen, has_room, sees_same}
 use Rattle.squawk_parser.proofs.parser.Parser.do_bump.Goals as goal
 use Rattle.squawk_parser.proofs.parser.Parser.do_bump.Goals.{then-has_room, else-has_room}
 
@@ -18,19 +18,19 @@ invariant_of-self c =
     let old = c.args.self.now in
     let more = c.has_room.ensures in
     let one : AreOneToken n (ahead s 0) = sees_same s c.has_room.new.self old n c.self.view_is more.keeps more.position c.requires in
-    let before = kept c.self.inside c.self.invariant in
+    let before = c.self.invariant in
     let Goal : Inside → Type 0 = λ p. IsSound (record (seen p) { position = p.position + n }) in
     elim c.if-has_room.branch [
       | then-has_room w ↦
           let room = w.if-has_room.ensures.room refl in
           let can = has_room s old (c.self.view_is ∙ room.0) (room.1, room.2) in
-          let after = IsKept-with_token s c.args.kind n before can.goes can.room one in
-          let failed = IsKept-past (record s { first_reason = _ }) n (IsKept-failed s before) refl one in
+          let after = IsSound-with_token s before can.goes c.args.kind n can.room one in
+          let failed = IsSound-past (record s { first_reason = _ }) n (IsSound-failed s before) refl one in
           subst Goal (sym w.self-inside-is)
-          (noted HasFewTurns (λ draft reason. IsSound (record s { draft = draft; first_reason = reason; position = s.position + n })) s (with_token s.draft c.args.kind n)
-          w.token.new.self w.note.new.first_reason w.token.result w.token.ensures.turns (λ few. (after few).sound) failed.sound w.token.ensures.ok w.token.ensures.err w.note.ensures.ok w.note.ensures.err)
+          (noted IsLogged (λ draft reason. IsSound (record s { draft = draft; first_reason = reason; position = s.position + n })) s (with_token s.draft c.args.kind n)
+          w.token.new.self w.note.new.first_reason w.token.result w.token.ensures.logged after failed w.token.ensures.ok w.token.ensures.err w.note.ensures.ok w.note.ensures.err)
       | else-has_room w ↦
           let failed = (w.if-has_room.ensures.full refl).1 in
-          let after = IsKept-past s n before (subst (λ t. IsSome t.first_reason) (sym c.self.view_is) failed) one in
-          subst Goal (sym w.self-inside-is) after.sound
+          let after = IsSound-past s n before (subst (λ t. IsSome t.first_reason) (sym c.self.view_is) failed) one in
+          subst Goal (sym w.self-inside-is) after
     ]

@@ -12,7 +12,8 @@ use Rattle.squawk_parser.specs.Recorded.{Puts}
 use Rattle.squawk_parser.specs.State.{ahead}
 use Rattle.squawk_parser.specs.declared.parser.composite.Form.TheVariants as form
 use Rattle.squawk_parser.proofs.CompositeFacts.{IsRow, eat_steps-none, eat_steps-row, glued-no_end, glued-some, is_no_row, is_row, sequence-no_end, stands_at-none, stands_at-row}
-use Rattle.squawk_parser.proofs.RecordedSteps.{hole_stays, node_puts, token_puts}
+use Rattle.squawk_parser.proofs.Markers.{hole-put}
+use Rattle.squawk_parser.proofs.RecordedSteps.{node_puts, token_puts}
 use Rattle.squawk_parser.proofs.SeenSteps.{ahead-still, and-left, seen_one, touching_all}
 use Rattle.squawk_parser.proofs.parser.Parser.eat.Goals as goal
 
@@ -52,7 +53,7 @@ eat_elements-requires-clause-no_end c =
 pub complete-requires-clause-hole : goal.complete-requires-clause-hole
 complete-requires-clause-hole c =
     let start = c.start-node.ensures in
-    hole_stays c.start-node.result start.made start.records c.eat_elements.ensures.puts
+    hole-put c.start-node.result start.hole c.eat_elements.ensures
 
 pub returns-in-None-clause-puts : goal.returns-in-None-clause-puts
 returns-in-None-clause-puts c _ =
@@ -76,7 +77,7 @@ returns-in-Some-Touching-clause-puts c _ =
     let old = c.args.self.now in
     let row = c.in-Some-Touching in
     let r = is_row c.args.kind c.composite.result (form.Touching row.parts) (row.is ∙ ap Some row.field-0-is) c.composite.ensures in
-    subst (λ steps. Puts steps old c.eat_touching.new.self) (sym (eat_steps-row old.words (ahead old 0) r)) c.eat_touching.ensures.puts
+    subst (λ steps. Puts steps old c.eat_touching.new.self) (sym (eat_steps-row old.words (ahead old 0) r)) c.eat_touching.ensures
 
 pub returns-in-Some-Operator-clause-puts : goal.returns-in-Some-Operator-clause-puts
 returns-in-Some-Operator-clause-puts c _ =
@@ -93,6 +94,6 @@ returns-in-Some-Sequence-clause-puts c _ =
     let elements = c.eat_elements.ensures in
     let done = c.complete.ensures in
     let r = is_row c.args.kind c.composite.result (form.Sequence row.parts row.field-0-1) (row.is ∙ ap Some row.field-0-is) c.composite.ensures in
-    let seen = ap (λ seen. node c.args.kind (element_steps (map element_of row.parts) seen)) (ahead-still start.keeps start.position) in
+    let seen = ap (λ seen. node c.args.kind (element_steps (map element_of row.parts) seen)) (ahead-still start.begins.keeps start.begins.position) in
     subst (λ steps. Puts steps old c.complete.new.p) (seen ∙ sym (eat_steps-row old.words (ahead old 0) r))
-    (node_puts c.start-node.result.id c.args.kind start.keeps elements.keeps done.keeps start.records start.fresh start.position elements.puts done.records done.position)
+    (node_puts start.begins elements done.completes)

@@ -14,7 +14,7 @@ loop-part-preserved c =
       | then-eq w ↦
           let form = w.eat_normal_form.ensures in
           subst (IsEaten parts (l.part-index + 1) old) (sym w.self-is)
-          (eaten-form parts l.part-index c.part-item.result old l.self here is l.invariant w.eat_normal_form.new.self (sym c.eq.ensures ∙ w.if-eq.true) form.keeps form.puts)
+          (eaten-form parts l.part-index c.part-item.result old l.self here is l.invariant w.eat_normal_form.new.self (sym c.eq.ensures ∙ w.if-eq.true) form)
       | else-eq w ↦
           let bump = w.do_bump.ensures in
           subst (IsEaten parts (l.part-index + 1) old) (sym w.self-is)

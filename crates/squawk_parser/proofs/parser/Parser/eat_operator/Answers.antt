@@ -4,7 +4,8 @@ use Rattle.squawk_parser.specs.Operators.{operator_length}
 use Rattle.squawk_parser.specs.State.{IsSound, ahead}
 use Rattle.squawk_parser.proofs.EatenOperator.{are_eaten-all, are_eaten-next}
 use Rattle.squawk_parser.proofs.Progress.{operator-eats}
-use Rattle.squawk_parser.proofs.RecordedSteps.{hole_stays, node_puts}
+use Rattle.squawk_parser.proofs.Markers.{hole-put}
+use Rattle.squawk_parser.proofs.RecordedSteps.{node_puts}
 use Rattle.squawk_parser.proofs.SeenSteps.{ahead-still}
 use Rattle.squawk_parser.proofs.parser.Parser.eat_operator.Goals as goal
 
@@ -14,7 +15,7 @@ loop-preserved c =
     let l = c.loop in
     let bump = c.bump_any.ensures in
     let operator_kind = has c.self.inside.operator_first in
-    let seen = c.view.ensures ∙ sym (ahead-still c.start-node.ensures.keeps c.start-node.ensures.position) in
+    let seen = c.view.ensures ∙ sym (ahead-still c.start-node.ensures.begins.keeps c.start-node.ensures.begins.position) in
     let len : c.operator_len-len.result ≡ operator_length operator_kind (ahead c.start-node.new.self 0) =
     c.operator_len-len.ensures ∙ ap (operator_length operator_kind) seen in
     are_eaten-next operator_kind l.counter c.start-node.new.self l.self c.bump_any.new.self c.self.invariant.words (omega (arith, len, c.loop-test.true)) l.invariant
@@ -23,7 +24,7 @@ loop-preserved c =
 pub complete-requires-clause-hole : goal.complete-requires-clause-hole
 complete-requires-clause-hole c =
     let start = c.start-node.ensures in
-    hole_stays c.start-node.result start.made start.records c.loop.invariant.puts
+    hole-put c.start-node.result start.hole c.loop.invariant.puts
 
 pub returns-clause-puts : goal.returns-clause-puts
 returns-clause-puts c =
@@ -36,8 +37,8 @@ returns-clause-puts c =
     let len : c.operator_len-len.result ≡ operator_length (has old.words.operator_first) (ahead old 0) =
     c.operator_len-len.ensures ∙ (ap (λ set. operator_length (has set) c.view.result) words ∙ ap (operator_length (has old.words.operator_first)) c.view.ensures) in
     let all_of_it : l.counter ≡ operator_length (has old.words.operator_first) (ahead old 0) = omega (arith, len, c.loop-test.false, l.auto.counter-end) in
-    let all = are_eaten-all (has old.words.operator_first) l.counter begun l.self (ahead old 0) all_of_it (ahead-still start.keeps start.position) l.invariant in
-    node_puts c.start-node.result.id c.args.kind start.keeps l.invariant.keeps done.keeps start.records start.fresh start.position all done.records done.position
+    let all = are_eaten-all (has old.words.operator_first) l.counter begun l.self (ahead old 0) all_of_it (ahead-still start.begins.keeps start.begins.position) l.invariant in
+    node_puts start.begins all done.completes
 
 pub returns-clause-eats : goal.returns-clause-eats
 returns-clause-eats c first =

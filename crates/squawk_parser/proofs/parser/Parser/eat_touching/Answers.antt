@@ -2,7 +2,8 @@ use Rattle.std.proofs.Common.{subst, map}
 use Rattle.squawk_parser.specs.Eaten.{node, one}
 use Rattle.squawk_parser.specs.Recorded.{Puts}
 use Rattle.squawk_parser.proofs.EatenParts.{touched-all, touched-next}
-use Rattle.squawk_parser.proofs.RecordedSteps.{hole_stays, node_puts}
+use Rattle.squawk_parser.proofs.Markers.{hole-put}
+use Rattle.squawk_parser.proofs.RecordedSteps.{node_puts}
 use Rattle.squawk_parser.proofs.parser.Parser.eat_touching.Goals as goal
 
 pub loop-part-preserved : goal.loop-part-preserved
@@ -16,13 +17,13 @@ pub complete-requires-clause-hole : goal.complete-requires-clause-hole
 complete-requires-clause-hole c =
     let l = c.loop-part in
     let start = c.start-node.ensures in
-    hole_stays c.start-node.result start.made start.records l.invariant.puts
+    hole-put c.start-node.result start.hole l.invariant.puts
 
-pub returns-clause-puts : goal.returns-clause-puts
-returns-clause-puts c =
+pub returns : goal.returns
+returns c =
     let l = c.loop-part in
     let start = c.start-node.ensures in
     let done = c.complete.ensures in
     let all = touched-all c.as_slice-part-items.result.now l.part-index c.start-node.new.self l.self c.loop-part-test.false l.invariant in
     subst (λ parts. Puts (node c.args.kind (map one parts)) c.args.self.now c.complete.new.p) c.as_slice-part-items.ensures
-    (node_puts c.start-node.result.id c.args.kind start.keeps l.invariant.keeps done.keeps start.records start.fresh start.position all done.records done.position)
+    (node_puts start.begins all done.completes)

@@ -1,11 +1,11 @@
-use Rattle.std.proofs.Common.{◌∙◌, ap, sym, subst, Some}
+use Rattle.std.proofs.Common.{◌∙◌, ap, refl, sym, subst, Some}
 use Rattle.squawk_parser.specs.CompositeRows.{tail_of}
 use Rattle.squawk_parser.specs.Eaten.{closing_steps, element_steps}
-use Rattle.squawk_parser.specs.Recorded.{Puts}
+use Rattle.squawk_parser.specs.Recorded.{Completes, Puts}
 use Rattle.squawk_parser.specs.State.{IsSound, ahead}
 use Rattle.squawk_parser.specs.declared.parser.composite.Form.TheVariants as form
 use Rattle.squawk_parser.proofs.CompositeFacts.{elements-row, is_row, sequence-closed, sequence-no_end, tail-row}
-use Rattle.squawk_parser.proofs.RecordedSteps.{hole_stays}
+use Rattle.squawk_parser.proofs.Markers.{hole-put}
 use Rattle.squawk_parser.proofs.TailHoles.{hole-behind_tail}
 use Rattle.squawk_parser.proofs.parser.Parser.eat_with.Goals as goal
 
@@ -24,45 +24,34 @@ close-requires g c =
 pub complete-requires-clause-hole : goal.complete-requires-clause-hole
 complete-requires-clause-hole g c =
     let start = c.start-node.ensures in
-    let there = hole_stays c.start-node.result start.made start.records c.eat_elements.ensures.puts in
-    hole-behind_tail c.start-node.result there c.run.ensures.keeps c.run.ensures.holes c.close.ensures.puts
+    let there = hole-put c.start-node.result start.hole c.eat_elements.ensures in
+    hole-behind_tail c.start-node.result there c.run.ensures.keeps c.run.ensures.holes c.close.ensures
 
 pub returns-clause-eats : goal.returns-clause-eats
 returns-clause-eats g c _ =
     let row = c.in-Some-Sequence in
     let begun = c.start-node.new.self in
     let ran = c.run.new.p in
-    let start = c.start-node.ensures in
-    let elements = c.eat_elements.ensures in
-    let close = c.close.ensures in
-    let done = c.complete.ensures in
-    let r = is_row c.args.kind c.composite.result (form.Sequence row.parts row.closing) (row.is ∙ ap Some row.field-0-is) c.composite.ensures in (
-      c.start-node.result.id,
-      record {
-        between = begun;
-        sound = subst IsSound c.self.view_is c.self.invariant;
-        does_so = record { keeps = start.keeps; position = start.position; records = start.records; fresh = start.fresh };
+    let begins = c.start-node.ensures.begins in
+    let r = is_row c.args.kind c.composite.result (form.Sequence row.parts row.closing) (row.is ∙ ap Some row.field-0-is) c.composite.ensures in
+    record {
+      between = begun;
+      sound = subst IsSound c.self.view_is c.self.invariant;
+      does_so = record { sound = begins.sound; is = refl; keeps = begins.keeps; position = begins.position; records = begins.records };
+      goes_on = record {
+        between = c.eat_elements.new.self;
+        sound = subst IsSound c.self-2.view_is c.self-2.invariant;
+        does_so = subst (λ steps. Puts steps begun c.eat_elements.new.self) (ap (λ elements. element_steps elements (ahead begun 0)) (sym (elements-row r))) c.eat_elements.ensures;
         goes_on = record {
-          between = c.eat_elements.new.self;
-          sound = subst IsSound c.self-2.view_is c.self-2.invariant;
-          does_so = record {
-            keeps = elements.keeps;
-            puts = subst (λ steps. Puts steps begun c.eat_elements.new.self) (ap (λ elements. element_steps elements (ahead begun 0)) (sym (elements-row r))) elements.puts;
-          };
+          between = ran;
+          sound = subst IsSound c.self-3.view_is c.self-3.invariant;
+          does_so = record { keeps = c.run.ensures.keeps; runs = c.run.ensures.does; holes = c.run.ensures.holes };
           goes_on = record {
-            between = ran;
-            sound = subst IsSound c.self-3.view_is c.self-3.invariant;
-            does_so = record { keeps = c.run.ensures.keeps; runs = c.run.ensures.does; holes = c.run.ensures.holes };
-            goes_on = record {
-              between = c.close.new.self;
-              sound = subst IsSound c.self-4.view_is c.self-4.invariant;
-              does_so = record {
-                keeps = close.keeps;
-                puts = subst (λ steps. Puts steps ran c.close.new.self) (ap (λ tail. closing_steps ran.words tail (ahead ran 0)) (sym (tail-row r))) close.puts;
-              };
-              goes_on = record { keeps = done.keeps; position = done.position; records = done.records };
-            };
+            between = c.close.new.self;
+            sound = subst IsSound c.self-4.view_is c.self-4.invariant;
+            does_so = subst (λ steps. Puts steps ran c.close.new.self) (ap (λ tail. closing_steps ran.words tail (ahead ran 0)) (sym (tail-row r))) c.close.ensures;
+            goes_on = subst (λ id. Completes id c.args.kind c.close.new.self c.complete.new.p) (ap (λ m. m.id) begins.is) c.complete.ensures.completes;
           };
         };
-      },
-    )
+      };
+    }

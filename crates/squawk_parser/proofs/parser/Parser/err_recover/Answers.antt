@@ -2,7 +2,8 @@ use Rattle.std.proofs.Common.{subst, sym, ◌∙◌}
 use Rattle.std.specs.Str.{chars}
 use Rattle.squawk_kinds.specs.TokenSets.{has}
 use Rattle.squawk_parser.specs.Recorded.{Puts}
-use Rattle.squawk_parser.proofs.RecordedSteps.{hole_stays, puts-then}
+use Rattle.squawk_parser.proofs.Markers.{hole-put}
+use Rattle.squawk_parser.proofs.RecordedSteps.{puts-then}
 use Rattle.squawk_parser.proofs.Recovery.{current_puts, recovery-there, recovery_puts}
 use Rattle.squawk_parser.proofs.parser.Parser.err_recover.Goals as goal
 
@@ -10,15 +11,15 @@ pub returns-then-at_ts-clause-puts : goal.returns-then-at_ts-clause-puts
 returns-then-at_ts-clause-puts c =
     let old = c.args.self.now in
     subst (λ steps. Puts steps old c.error.new.self)
-    (sym (recovery-there (chars c.args.msg.now) (has c.args.recovery) old (sym c.at_ts.ensures ∙ c.if-at_ts.true))) c.error.ensures.puts
+    (sym (recovery-there (chars c.args.msg.now) (has c.args.recovery) old (sym c.at_ts.ensures ∙ c.if-at_ts.true))) c.error.ensures
 
 pub complete-requires-clause-hole : goal.complete-requires-clause-hole
 complete-requires-clause-hole c =
     let start = c.start-node.ensures in
     let error = c.error-2.ensures in
     let bump = c.bump_any.ensures in
-    hole_stays c.start-node.result start.made start.records
-    (puts-then error.keeps bump.keeps error.puts (current_puts bump.keeps bump.end bump.position bump.records))
+    hole-put c.start-node.result start.hole
+    (puts-then error (current_puts bump.keeps bump.end bump.position bump.records))
 
 pub returns-clause-puts : goal.returns-clause-puts
 returns-clause-puts c =
@@ -26,5 +27,5 @@ returns-clause-puts c =
     let error = c.error-2.ensures in
     let bump = c.bump_any.ensures in
     let done = c.complete.ensures in
-    recovery_puts (chars c.args.msg.now) (has c.args.recovery) c.start-node.result.id (sym c.at_ts.ensures ∙ c.if-at_ts.false)
-    start.keeps start.records start.fresh start.position error.keeps error.puts bump.keeps bump.end bump.position bump.records done.keeps done.records done.position
+    recovery_puts (chars c.args.msg.now) (has c.args.recovery) (sym c.at_ts.ensures ∙ c.if-at_ts.false) start.begins error bump.keeps bump.end bump.position
+    bump.records done.completes

@@ -27,7 +27,7 @@ returns-then-has_room_for_error-clause-puts c =
     let own = map (λ pair. (pair.0, pair.1.now)) c.self.inside.names.now in
     let reads = IfOk-weaker c.expected-text.result (λ s. string_bytes s ≡ text own) (λ s. chars (string_bytes s) ≡ expected_text old.words c.args.kind)
     (λ s is. ap chars (is ∙ ap text names)) c.expected-text.ensures in
-    let puts = c.put_error.ensures.puts (expected_text old.words c.args.kind) reads in
+    let puts = c.put_error.ensures (expected_text old.words c.args.kind) reads in
     subst (λ steps. Puts steps old c.put_error.new.self)
     (sym (not_there old.words c.args.kind (ahead old 0) (sym c.eat.ensures.at ∙ c.if-eat.false)))
     (subst (λ s. Puts (Error (expected_text old.words c.args.kind) ∷ []) s c.put_error.new.self) room puts)

@@ -1,12 +1,10 @@
 use Rattle.std.proofs.Common.{◌≡◌, ◌∙◌, ap, sym, subst}
 use Rattle.std.specs.Prelude.{true, Contains}
-use Rattle.squawk_output.specs.Draft.{Draft, Hole, Open, Mark, Node}
-use Rattle.squawk_output.specs.LogDraft.{made_of}
+use Rattle.squawk_output.specs.Draft.{Draft, Hole, IsLogged, Open, Mark, Node}
 use Rattle.squawk_output.specs.Edits.{extended}
 use Rattle.squawk_parser.specs.State.{State, HasNode, HasNotFailed}
-use Rattle.squawk_parser.proofs.ItemCounts.{HasFewTurns}
-use Rattle.squawk_parser.proofs.SoundExtended.{IsKept-extended}
-use Rattle.squawk_parser.proofs.ParserViews.{seen, kept, goes_on, Changes-edited, Changes-failed}
+use Rattle.squawk_parser.proofs.Soundness.{IsSound-extended}
+use Rattle.squawk_parser.proofs.ParserViews.{seen, goes_on, Changes-edited, Changes-failed}
 use Rattle.squawk_parser.proofs.Markers.{node-extended}
 use Rattle.squawk_parser.proofs.parser.marker.CompletedMarker.extend_to.Goals as goal
 use Rattle.squawk_parser.proofs.parser.marker.CompletedMarker.extend_to.Goals.{then-is_none, else-is_none}
@@ -17,16 +15,15 @@ invariant_of-p c =
     let goes : HasNotFailed s = goes_on s (c.if-is_none.ensures) in
     let went : HasNotFailed c.args.p.now = subst HasNotFailed c.p.view_is goes in
     let node : Node = record { id = c.self.inside.id; kind = c.self.inside.kind } in
-    let m : Mark = record { id = c.m.inside.id; made = made_of c.m.inside.made c.m.inside.id } in
+    let m : Mark = record { id = c.m.inside.id; made = c.m.inside.made } in
     let HasNode : State → Node → Type 0 = λ t m. Contains t.draft.items (Open m.id m.kind true) in
     let HasHole : State → Mark → Type 0 = λ t m. Contains t.draft.items (Hole m.id m.made) in
     let there = subst (λ t. HasNode t node) (sym c.p.view_is)
     (subst (HasNode c.args.p.now) (sym c.self.view_is) (c.requires.node went)) in
     let hole = subst (λ t. HasHole t m) (sym c.p.view_is)
     (subst (HasHole c.args.p.now) (sym c.m.view_is) (c.requires.hole went)) in
-    let after = IsKept-extended s node m.id m.made (kept c.p.inside c.p.invariant) goes hole there
-    (subst HasFewTurns (c.extend.ensures.extended node.kind there) c.extend.ensures.turns) in
-    rw (c.extend.ensures.extended node.kind there) after.sound
+    let edited = c.extend.ensures.extended node.kind there in
+    rw edited (IsSound-extended s c.p.invariant goes node m.id m.made hole there (subst IsLogged edited c.extend.ensures.logged))
 
 pub returns-clause-changes : goal.returns-clause-changes
 returns-clause-changes c =
