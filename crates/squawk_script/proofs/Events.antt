@@ -4,16 +4,18 @@ use Rattle.std.specs.Prelude.{fold}
 use Rattle.std.proofs.lemmas.List.{append-nil, length-map}
 use Rattle.std.proofs.lemmas.List.Sums.{sum_by-append}
 use Rattle.squawk_table.specs.ParserInput.{Entry}
-use Rattle.squawk_output.specs.Steps as steps
 use Rattle.squawk_output.specs.Steps.{Step, errors_in, is_error}
 use Rattle.squawk_output.specs.Draft as draft
-use Rattle.squawk_output.specs.Draft.{ByPrecede, ByStart, Draft, Item, errors_of}
+use Rattle.squawk_output.specs.Draft.{Draft, errors_of}
+use Rattle.squawk_output.specs.declared.log.Made.TheVariants.{ByPrecede, ByStart}
 use Rattle.squawk_parser.specs.Words.{Words}
 use Rattle.squawk_output.proofs.EditedErrors.{errors-append, errors-extended, errors-filled, errors-preceded, errors-without_hole}
 use Rattle.squawk_output.proofs.Sums.{count_by-cons}
 use Rattle.squawk_output.specs.Edits.{filled}
+use Rattle.squawk_parser.specs.Recorded.{with_steps}
+use Rattle.squawk_parser.proofs.StepsAtEnd.{errors-with_steps}
 use Rattle.squawk_script.specs.Events.{errors_among, events_from, events_made, events_of}
-use Rattle.squawk_script.specs.Meaning.{Run, begin, call_steps, item_for, marker_at, new_id, run_of, seen, stepped, with_step, with_steps}
+use Rattle.squawk_script.specs.Meaning.{Run, begin, call_steps, marker_at, run_of, seen, stepped}
 use Rattle.squawk_script.specs.declared.call.Call.{Call}
 use Rattle.squawk_script.specs.declared.call.Call.TheVariants.{Start, Complete, Abandon, Precede, ExtendTo, Eat, BumpAny, BumpRemap, Expect, Error, ErrRecover, ErrAndBump}
 
@@ -42,29 +44,10 @@ more-then a b c xs ys first second = record {
 
 -- ---- steps at the end
 
-errors-item : (id : _) (step : Step) → errors_of (item_for id step ∷ []) ≡ errors_in (step ∷ [])
-errors-item id (steps.Token kind n) = refl
-errors-item id (steps.Enter kind) = refl
-errors-item id steps.Exit = refl
-errors-item id (steps.Error text) = refl
-
-errors-steps : (d : Draft) (xs : List Step) → errors_of (with_steps d xs).items ≡ errors_of d.items + errors_in xs
-errors-steps d [] = omega arith
-errors-steps d (x ∷ xs) =
-    let item : Item = item_for (new_id d) x in
-    let next : Draft = with_step d x in
-    omega (arith, errors-steps next xs, errors-append d.items (item ∷ []), errors-item (new_id d) x, count_by-cons is_error x xs, count_by-cons is_error x [])
-
-recorded-steps : (d : Draft) (xs : List Step) → (with_steps d xs).recorded ≡ d.recorded + length xs
-recorded-steps d [] = omega arith
-recorded-steps d (x ∷ xs) =
-    let next : Draft = with_step d x in
-    omega (arith, recorded-steps next xs)
-
 more-steps : (d : Draft) (xs : List Step) → HasMore d (with_steps d xs) (map is_error xs)
 more-steps d xs = record {
-  recorded = omega (arith, recorded-steps d xs, length-map xs is_error);
-  errors = omega (arith, errors-steps d xs, errors_among-steps xs);
+  recorded = omega (arith, length-map xs is_error);
+  errors = omega (arith, errors-with_steps d xs, errors_among-steps xs);
 }
 
 -- ---- one call
@@ -74,12 +57,12 @@ module _ (words : Words) (input : List Entry) (run : Run) where
   IsCounted call = HasMore run.draft (stepped words input run call).draft (events_made words (seen input run) call)
 
   more-call : (call : Call) → IsCounted call
-  more-call Start = record { recorded = refl; errors = errors-append run.draft.items (draft.Hole (new_id run.draft) (ByStart run.draft.entries) ∷ []) }
+  more-call Start = record { recorded = refl; errors = errors-append run.draft.items (draft.Hole run.draft.entries ByStart ∷ []) }
   more-call (Complete m kind) =
       let id = (marker_at run m).id in
       record { recorded = refl; errors = errors-append (filled run.draft.items id kind) (draft.Close ∷ []) ∙ ap (λ n. n + 0) (errors-filled id kind run.draft.items) }
   more-call (Abandon m) = record { recorded = omega arith; errors = omega (arith, errors-without_hole (marker_at run m).id run.draft.items) }
-  more-call (Precede n) = record { recorded = refl; errors = omega (arith, errors-preceded (marker_at run n).id (new_id run.draft) (ByPrecede run.draft.entries) run.draft.items) }
+  more-call (Precede n) = record { recorded = refl; errors = omega (arith, errors-preceded (marker_at run n).id run.draft.entries ByPrecede run.draft.items) }
   more-call (ExtendTo n m) = record { recorded = omega arith; errors = omega (arith, errors-extended (marker_at run n) (marker_at run m).id run.draft.items) }
   more-call (Eat kind) = more-steps run.draft (call_steps words (seen input run) (Eat kind))
   more-call BumpAny = more-steps run.draft (call_steps words (seen input run) BumpAny)

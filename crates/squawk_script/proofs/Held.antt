@@ -4,7 +4,11 @@ use Rattle.std.specs.Prelude.{Contains, slice_set}
 use Rattle.std.proofs.lemmas.Bool.{cases_eq}
 use Rattle.std.proofs.lemmas.List.Elements.{All-contains, Contains-append_left, Contains-append_cases, Contains-push, Contains-push_cases}
 use Rattle.squawk_output.specs.Draft as draft
-use Rattle.squawk_output.specs.Draft.{Draft, Item, Made, Mark, Node, ByPrecede, HasNoHole, IsAboveIds, is_hole}
+use Rattle.squawk_output.specs.Draft.{Item, Mark, Node, HasNoHole, IsAboveIds, is_hole}
+use Rattle.squawk_output.specs.declared.log.Made.{Made}
+use Rattle.squawk_output.specs.declared.log.Made.TheVariants.{ByPrecede, ByStart}
+use Rattle.squawk_parser.specs.Recorded.{preceding_mark, started_mark}
+use Rattle.squawk_parser.specs.State.{State}
 use Rattle.squawk_output.specs.Edits.{extended_items, filled, is_hole_of, is_opening_of, moved, preceded, preceded_item, replaced, stands_before}
 use Rattle.squawk_output.specs.Edits.{without_hole}
 use Rattle.squawk_parser.proofs.Markers.{Contains-others}
@@ -71,21 +75,26 @@ holds-put items made slots closed holds = record {
 }
 
 -- a marker is started
-pub holds-started : (items : List Item) (slots : List Slot) (m : Mark) (how : Made) → m.made ≡ how → IsAboveIds m.id items → Holds items slots
-    → Holds (items ++ draft.Hole m.id how ∷ []) (slots ++ Open m ∷ [])
-holds-started items slots m how made above holds = record {
+pub holds-started : (s : State) (slots : List Slot) (m : Mark) → m ≡ started_mark s → IsAboveIds s.draft.entries s.draft.items → Holds s.draft.items slots
+    → Holds (s.draft.items ++ draft.Hole s.draft.entries ByStart ∷ []) (slots ++ Open m ∷ [])
+holds-started s slots m is above holds = rw is record {
   each =
-      each-push Spent (IsHeld (items ++ hole ∷ [])) slots (Open m) (λ i. held-append items (hole ∷ []) (slot_at slots i) (holds.each i))
-      (rw made (Contains-push items hole)) tt;
-  order = pairs-push Spent AreInOrder slots (Open m) holds.order (λ i. before-new items m (slot_at slots i) above (holds.each i)) before-spent;
+      each-push Spent (IsHeld (items ++ hole ∷ [])) slots new (λ i. held-append items (hole ∷ []) (slot_at slots i) (holds.each i)) (Contains-push items hole) tt;
+  order = pairs-push Spent AreInOrder slots new holds.order (λ i. before-new items (started_mark s) (slot_at slots i) above (holds.each i)) before-spent;
   covers = λ o there. elim (Contains-push_cases items hole (draft.Hole o.id o.made) there) [
-    | inl before ↦ Contains-append_left slots (Open m ∷ []) (Open o) (holds.covers o before)
-    | inr same ↦ subst (Contains (slots ++ Open m ∷ [])) (same-mark m o (cc) (cc)) (Contains-push slots (Open m))
+    | inl before ↦ Contains-append_left slots (new ∷ []) (Open o) (holds.covers o before)
+    | inr same ↦ subst (Contains (slots ++ new ∷ [])) (same-mark (started_mark s) o (cc) (cc)) (Contains-push slots new)
   ];
 }
   where
+    items : List Item
+    items = s.draft.items
+
     hole : Item
-    hole = draft.Hole m.id how
+    hole = draft.Hole s.draft.entries ByStart
+
+    new : Slot
+    new = Open (started_mark s)
 
 -- completed
 pub holds-completed : (items : List Item) (slots : List Slot) (k kind : ℕ) (m : Mark) → slot_at slots k ≡ Open m → Holds items slots
@@ -122,42 +131,47 @@ holds-abandoned items slots k m at holds =
     (λ o there. hole-stayed m.id (λ item. []) items o (λ item has. absurd (omega (arith, has.1))) there)
 
 -- a node is preceded
-pub holds-preceded : (d : Draft) (slots : List Slot) (k : ℕ) (n : Node) (m : Mark) → slot_at slots k ≡ Done n → m.made ≡ ByPrecede d.entries
-    → IsAboveIds m.id d.items → Holds d.items slots → Holds (preceded d n.id m.id).items (slice_set slots k Spent ++ Open m ∷ [])
-holds-preceded d slots k n m at made above holds = record {
+pub holds-preceded : (s : State) (slots : List Slot) (k : ℕ) (n : Node) (m : Mark) → slot_at slots k ≡ Done n → m ≡ preceding_mark s
+    → IsAboveIds s.draft.entries s.draft.items → Holds s.draft.items slots → Holds (preceded s.draft n.id).items (slice_set slots k Spent ++ Open m ∷ [])
+holds-preceded s slots k n m at is above holds = rw is record {
   each =
-      each-push Spent (IsHeld new) (slice_set slots k Spent) (Open m)
-      (each-set Spent (IsHeld new) slots k Spent
-      (λ i other. held-openings n.id f d.items (slot_at slots i) (others slots k n.id (rw at refl) holds.order i other) (holds.each i)) tt tt)
-      (rw made (Contains-made (is_opening_of n.id) f (draft.Open n.id n.kind true) hole d.items (itself n.id) (subst (IsHeld d.items) at (holds.each k))
-      (0, omega arith, refl)))
+      each-push Spent (IsHeld edited) (slice_set slots k Spent) new
+      (each-set Spent (IsHeld edited) slots k Spent
+      (λ i other. held-openings n.id f items (slot_at slots i) (others slots k n.id (rw at refl) holds.order i other) (holds.each i)) tt tt)
+      (Contains-made (is_opening_of n.id) f (draft.Open n.id n.kind true) hole items (itself n.id) (subst (IsHeld items) at (holds.each k)) (0, omega arith, refl))
       tt;
   order =
-      pairs-push Spent AreInOrder (slice_set slots k Spent) (Open m)
+      pairs-push Spent AreInOrder (slice_set slots k Spent) new
       (pairs-set Spent AreInOrder slots k Spent holds.order (λ slot lt. before-spent slot) (λ slot lt. tt))
-      (each-set Spent (λ slot. AreInOrder slot (Open m)) slots k Spent (λ i other. before-new d.items m (slot_at slots i) above (holds.each i)) tt tt)
+      (each-set Spent (λ slot. AreInOrder slot new) slots k Spent (λ i other. before-new items (preceding_mark s) (slot_at slots i) above (holds.each i)) tt tt)
       before-spent;
-  covers = λ o there. elim (edited-cases (is_opening_of n.id) f d.items (draft.Hole o.id o.made) there) [
+  covers = λ o there. elim (edited-cases (is_opening_of n.id) f items (draft.Hole o.id o.made) there) [
     | inl from ↦ elim (Contains-append_cases (hole ∷ []) (preceded_item from.old ∷ []) (draft.Hole o.id o.made) from.gives) [
       | inl here ↦
           let same = Contains-only (draft.Hole o.id o.made) hole here in
-          subst (Contains (slice_set slots k Spent ++ Open m ∷ [])) (same-mark m o (cc) (cc)) (Contains-push (slice_set slots k Spent) (Open m))
+          subst (Contains (slice_set slots k Spent ++ new ∷ [])) (same-mark (preceding_mark s) o (cc) (cc)) (Contains-push (slice_set slots k Spent) new)
       | inr opening ↦ absurd (no-hole-preceded n.id from.old o from.passes (Contains-only (draft.Hole o.id o.made) (preceded_item from.old) opening))
     ]
     | inr stayed ↦
-        Contains-append_left (slice_set slots k Spent) (Open m ∷ []) (Open o)
+        Contains-append_left (slice_set slots k Spent) (new ∷ []) (Open o)
         (Contains-set Spent (Open o) slots k Spent (done-slot slots k n o at) (holds.covers o stayed.1))
   ];
 }
   where
+    items : List Item
+    items = s.draft.items
+
     hole : Item
-    hole = draft.Hole m.id (ByPrecede d.entries)
+    hole = draft.Hole s.draft.entries ByPrecede
 
     f : Item → List Item
     f item = hole ∷ preceded_item item ∷ []
 
-    new : List Item
-    new = replaced (is_opening_of n.id) f d.items
+    edited : List Item
+    edited = replaced (is_opening_of n.id) f items
+
+    new : Slot
+    new = Open (preceding_mark s)
 
 -- the opening of a node moves to the place of a hole
 holds-moved : (items : List Item) (slots : List Slot) (j k : ℕ) (n : Node) (m : Mark) → slot_at slots j ≡ Done n → slot_at slots k ≡ Open m

@@ -1,4 +1,4 @@
--- What a script may leave is one plain list, one number of events, and one of turns. It may fail for one reason, and only where its events or its
+-- What a script may leave is one draft. It may fail for one reason, and only where its events or its
 -- errors are too many: for the first event that finds no room.
 use Rattle.std.proofs.Common.{◌≡◌, ◌≢◌, ◌∙◌, ℕ, suc, ◌<◌, ◌≤◌, Bool, true, false, Some, None, List, ◌∷◌, ◌++◌, length, get_or, take, drop, arith, ap, refl, sym, append_assoc, length-append}
 use Rattle.std.proofs.Math.Seq.{split_at}
@@ -24,22 +24,12 @@ module _ (script : Meaning) (entry other : EntryPoint) (input : List Entry) (d e
   abbrev May : EntryPoint → Draft → Type 0
   May from draft = grammar.leaves-value.it script from input draft
 
-  pub one-plain_list : May entry d → May other e → plain d.items ≡ plain e.items
-  one-plain_list first second = first.items ∙ sym second.items
+  -- are one
+  pub one-draft : May entry d → May other e → d ≡ e
+  one-draft first second = first ∙ sym second
 
-  pub one-number : May entry d → May other e → d.recorded ≡ e.recorded
-  one-number first second = first.recorded ∙ sym second.recorded
-
-  pub one-turns_due : May entry d → May other e → d.turns_due ≡ e.turns_due
-  one-turns_due first second = first.turns_due ∙ sym second.turns_due
-
--- so the script leaves one
 pub leaves_one : (script : Meaning) → LeavesOne script
-leaves_one script = record {
-  plain_list = λ input one other first second. first.items ∙ sym second.items;
-  recorded = λ input one other first second. first.recorded ∙ sym second.recorded;
-  turns_due = λ input one other first second. first.turns_due ∙ sym second.turns_due;
-}
+leaves_one script input one other first second = first ∙ sym second
 
 -- ---- refusals
 
@@ -132,10 +122,10 @@ module _ (script : Meaning) (input : List Entry) (left : Draft) (run : IsRunOf s
   IsUnrefused = refusal events errors (events_of script.words input script.calls) ≡ None
 
   recorded : length (events_of script.words input script.calls) ≡ left.recorded
-  recorded = all-recorded script.words input script.calls ∙ sym run.recorded
+  recorded = all-recorded script.words input script.calls ∙ sym (ap (λ d. d.recorded) run)
 
   wrong : errors_among (events_of script.words input script.calls) ≡ errors_in (plain left.items)
-  wrong = all-errors script.words input script.calls ∙ ap errors_in (sym run.items)
+  wrong = all-errors script.words input script.calls ∙ ap (λ d. errors_in (plain d.items)) (sym run)
 
   pub unrefused : IsWithin → IsUnrefused
   unrefused within = none-refused events errors (events_of script.words input script.calls) (omega (arith, recorded, within.0), omega (arith, wrong, within.1))

@@ -1,14 +1,9 @@
 mod SlotLists
 mod Events
-mod RenamedSteps
 mod Refusals
 mod EditedItems
 mod OtherSlots
 mod Held
-mod RenamedIds
-mod RenamedItems
-mod RenamedKept
-mod Renaming
 mod Sides
 mod MarkerCalls
 mod StepCalls

@@ -7,17 +7,16 @@ use Rattle.std.proofs.lemmas.List.Elements.{All-cons, All-nil, Contains-append_r
 use Rattle.std.proofs.lemmas.List.Sums.{fold-append}
 use Rattle.squawk_table.specs.ParserInput.{Entry}
 use Rattle.squawk_output.specs.Draft as draft
-use Rattle.squawk_output.specs.Draft.{HasNoHole, Item, Mark, errors_of, is_hole, plain}
+use Rattle.squawk_output.specs.Draft.{HasNoHole, Item, Mark, errors_of, is_hole}
 use Rattle.squawk_parser.specs.State.{State, HasNotFailed, IsFresh, Keeps}
 use Rattle.squawk_parser.specs.Words.{Words}
 use Rattle.squawk_parser.specs.declared.parser.parse_error.ParseError.{ParseError}
 use Rattle.squawk_parser.specs.declared.parser.parse_error.ParseError.TheVariants.{OutOfMemory}
-use Rattle.squawk_parser.proofs.RecordedSteps.{Keeps-none, Keeps-then}
-use Rattle.squawk_parser.proofs.TailHoles.{went-kept}
+use Rattle.squawk_parser.proofs.RecordedSteps.{Keeps-none, Keeps-then, went}
 use Rattle.squawk_script.specs.Accepted.{IsAccepted}
 use Rattle.squawk_script.specs.Events.{FailsByLimits, IsRunOf, errors_among, events_made, events_of, refusal}
 use Rattle.squawk_script.specs.Meaning.{Run, begin, run_of, seen, stepped}
-use Rattle.squawk_script.specs.Slots.{Holds, IsAt, IsRenamed, IsTied, Performs, is_admitted, is_status_open, same_id, slot_at, status_of, statuses_of}
+use Rattle.squawk_script.specs.Slots.{Holds, IsAt, IsTied, Performs, is_admitted, is_status_open, slot_at, status_of, statuses_of}
 use Rattle.squawk_script.specs.declared.call.Call.{Call}
 use Rattle.squawk_script.specs.declared.slot.Slot.{Slot}
 use Rattle.squawk_script.specs.declared.slot.Slot.TheVariants.{Open, Spent}
@@ -25,8 +24,6 @@ use Rattle.squawk_script.proofs.Events.{errors-events, events-more, recorded-eve
 use Rattle.squawk_script.proofs.GoodCalls.{admitted-at, next, opened-last, statuses-more}
 use Rattle.squawk_script.proofs.Held.{holds-begin}
 use Rattle.squawk_script.proofs.Refusals.{refusal-append}
-use Rattle.squawk_script.proofs.RenamedSteps.{same-errors, same-plain}
-use Rattle.squawk_script.proofs.Renaming.{renamed-begin}
 use Rattle.squawk_script.proofs.Statuses.{AreStatusesOf, statuses-begin}
 
 -- what limits did to a parser behind these calls
@@ -50,11 +47,7 @@ stands-begin start calls fresh = record {
   keeps = Keeps-none start;
   statuses = statuses-begin;
   at = λ goes. record {
-    f = same_id;
-    items = subst (λ s. IsRenamed same_id s.draft.items []) (sym fresh) renamed-begin;
-    recorded = sym (ap (λ s. s.draft.recorded) fresh);
-    entries = sym (ap (λ s. s.draft.entries) fresh);
-    turns_due = sym (ap (λ s. s.draft.turns_due) fresh);
+    draft = sym (ap (λ s. s.draft) fresh);
     position = sym (ap (λ s. s.position) fresh);
     count = refl;
     markers = λ i. tt;
@@ -81,7 +74,7 @@ module _ (start : State) (calls : List Call) (s : State) (slots : List Slot) (i 
         subst (IsAt t slots') (sym more)
         (subst (λ words. IsAt t slots' (stepped words start.input run call)) stands.keeps.words
         (subst (λ input. IsAt t slots' (stepped s.words input run call)) stands.keeps.input
-        (performs.step goes run (stands.at (went-kept keeps goes)))));
+        (performs.step goes run (stands.at (went keeps goes)))));
     fails = λ reason failed told.
         let more : events_of start.words start.input (take (i + 1) calls) ≡ before ++ made start.words start.input =
         ap (events_of start.words start.input) (next calls (statuses_of slots) i call lt is stands.statuses) ∙ events-more start.words start.input (take i calls) call in
@@ -102,9 +95,9 @@ module _ (start : State) (calls : List Call) (s : State) (slots : List Slot) (i 
           → refusal start.max_events start.max_errors (before ++ made start.words start.input) ≡ Some reason
       refused None goes reason failed told =
           let at : IsAt s slots run = stands.at goes in
-          let count : length before ≡ s.draft.recorded = recorded-events start.words start.input (take i calls) ∙ at.recorded in
+          let count : length before ≡ s.draft.recorded = recorded-events start.words start.input (take i calls) ∙ ap (λ d. d.recorded) at.draft in
           let errors : errors_among before ≡ errors_of s.draft.items =
-          errors-events start.words start.input (take i calls) ∙ sym (same-errors at.f s.draft.items run.draft.items at.items.same) in
+          errors-events start.words start.input (take i calls) ∙ ap (λ d. errors_of d.items) at.draft in
           let Told : ℕ → ℕ → List Bool → Type 0 = λ events errors made. refusal events errors (before ++ made) ≡ Some reason in
           subst (λ words. Told start.max_events start.max_errors (made words start.input)) stands.keeps.words
           (subst (λ input. Told start.max_events start.max_errors (made s.words input)) stands.keeps.input
@@ -149,12 +142,7 @@ module _ (start : State) (calls : List Call) (s : State) (slots : List Slot) (i 
   pub ends-at : HasNotFailed s → IsRunOf (record { calls = calls; words = start.words }) start.input s.draft
   ends-at goes =
       let at : IsAt s slots (run_of start.words start.input calls) = subst (λ before. IsAt s slots (run_of start.words start.input before)) (take_all i calls end) (stands.at goes) in
-      record {
-        items = same-plain at.f s.draft.items (run_of start.words start.input calls).draft.items at.items.same;
-        recorded = sym at.recorded;
-        entries = sym at.entries;
-        turns_due = sym at.turns_due;
-      }
+      sym at.draft
 
   pub ends-fails : FailsBy start calls s
   ends-fails = subst (λ before. FailsBy start before s) (take_all i calls end) stands.fails

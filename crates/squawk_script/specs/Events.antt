@@ -2,7 +2,7 @@
 use Rattle.std.specs.Prelude.{◌≡◌, ◌≢◌, ℕ, Bool, false, Option, Some, None, List, [], ◌∷◌, ◌++◌, count_by, length, map, nat_lt, take, if◌then◌else◌}
 use Rattle.squawk_table.specs.ParserInput.{Entry}
 use Rattle.squawk_output.specs.Steps.{is_error}
-use Rattle.squawk_output.specs.Draft.{Draft, plain}
+use Rattle.squawk_output.specs.Draft.{Draft}
 use Rattle.squawk_parser.specs.State.{State}
 use Rattle.squawk_parser.specs.Words.{Words}
 use Rattle.squawk_parser.specs.declared.parser.parse_error.ParseError.{ParseError}
@@ -46,15 +46,10 @@ FailsByLimits script begun left =
     (reason : ParseError) → left.first_reason ≡ Some reason → reason ≢ OutOfMemory
     → refusal begun.max_events begun.max_errors (events_of script.words begun.input script.calls) ≡ Some reason
 
--- The draft has the plain list and the counts of the run. Its ids may be others.
-pub record IsRunOf (script : Meaning) (input : List Entry) (left : Draft) : Type 0 where
-  pub items : plain left.items ≡ plain (run_of script.words input script.calls).draft.items
-  pub recorded : left.recorded ≡ (run_of script.words input script.calls).draft.recorded
-  pub entries : left.entries ≡ (run_of script.words input script.calls).draft.entries
-  pub turns_due : left.turns_due ≡ (run_of script.words input script.calls).draft.turns_due
+-- The draft is the one that the run of the calls makes.
+abbrev pub IsRunOf : Meaning → List Entry → Draft → Type 0
+IsRunOf script input left = left ≡ (run_of script.words input script.calls).draft
 
--- What a script may leave over an input is one plain list, with one number of recorded events and one of turns.
-pub record LeavesOne (script : Meaning) : Type 0 where
-  pub plain_list : (input : List Entry) (one other : Draft) → IsRunOf script input one → IsRunOf script input other → plain one.items ≡ plain other.items
-  pub recorded : (input : List Entry) (one other : Draft) → IsRunOf script input one → IsRunOf script input other → one.recorded ≡ other.recorded
-  pub turns_due : (input : List Entry) (one other : Draft) → IsRunOf script input one → IsRunOf script input other → one.turns_due ≡ other.turns_due
+-- What a script may leave over an input is one draft.
+abbrev pub LeavesOne : Meaning → Type 0
+LeavesOne script = (input : List Entry) (one other : Draft) → IsRunOf script input one → IsRunOf script input other → one ≡ other

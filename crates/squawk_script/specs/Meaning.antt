@@ -1,16 +1,15 @@
 -- What a list of calls means over an input.
-use Rattle.std.specs.Prelude.{ℕ, ◌+◌, max, true, List, [], ◌∷◌, ◌++◌, fold, length, slice_index_or, slice_set, if◌then◌else◌}
+use Rattle.std.specs.Prelude.{ℕ, ◌+◌, List, [], ◌∷◌, ◌++◌, fold, length, slice_index_or, slice_set, if◌then◌else◌}
 use Rattle.squawk_kinds.specs.TokenSets.{has}
 use Rattle.squawk_table.specs.ParserInput.{Entry, kind_in}
 use Rattle.squawk_output.specs.Steps as steps
 use Rattle.squawk_output.specs.Steps.{Step, eaten}
 use Rattle.squawk_parser.specs.Composites.{stands_at}
-use Rattle.squawk_output.specs.Draft as draft
-use Rattle.squawk_output.specs.Draft.{Draft, Item, Node, ids, nothing}
+use Rattle.squawk_output.specs.Draft.{Draft, Node, nothing}
 use Rattle.squawk_parser.specs.Eaten.{current_as, eat_steps, expect_steps, no_recovery, recovery_steps}
-use Rattle.squawk_output.specs.Edits.{abandoned, completed, extended, preceded, pushed, started}
+use Rattle.squawk_output.specs.Edits.{abandoned, completed, extended, preceded, started}
 use Rattle.squawk_parser.specs.LookAhead.{seen_from}
-use Rattle.squawk_parser.specs.Recorded.{turns_of_step}
+use Rattle.squawk_parser.specs.Recorded.{with_steps}
 use Rattle.squawk_parser.specs.Words.{Words}
 use Rattle.squawk_script.specs.declared.call.Call.{Call}
 use Rattle.squawk_script.specs.declared.call.Call.TheVariants.{Start, Complete, Abandon, Precede, ExtendTo, Eat, BumpAny, BumpRemap, Expect, Error, ErrRecover, ErrAndBump}
@@ -19,30 +18,6 @@ use Rattle.squawk_script.specs.declared.call.Call.TheVariants.{Start, Complete, 
 pub record Meaning : Type 0 where
   pub calls : List Call
   pub words : Words
-
--- the least number that is above all of these
-abbrev pub above_all : List ℕ → ℕ
-above_all [] = 0
-above_all (id ∷ ids) = max (id + 1) (above_all ids)
-
--- the id of a new hole or opening
-abbrev pub new_id : Draft → ℕ
-new_id d = above_all (ids d.items)
-
--- a step as an item; an opening has a new id
-abbrev pub item_for : ℕ → Step → Item
-item_for id (steps.Token kind n) = draft.Token kind n
-item_for id (steps.Enter kind) = draft.Open id kind true
-item_for id steps.Exit = draft.Close
-item_for id (steps.Error text) = draft.Error text
-
--- a step at the end of a draft
-abbrev pub with_step : Draft → Step → Draft
-with_step d step = pushed d (item_for (new_id d) step) (turns_of_step step)
-
--- steps at the end, one after another
-abbrev pub with_steps : Draft → List Step → Draft
-with_steps d steps = fold with_step d steps
 
 -- where a run of calls is: what it recorded, how many input tokens it has eaten, and the markers that it made, each as the node that it
 -- begins: the id of its hole and of its opening, and its kind, which counts from its completion on
@@ -58,9 +33,9 @@ begin = record { draft = nothing; position = 0; markers = [] }
 abbrev pub marker_at : Run → ℕ → Node
 marker_at run m = slice_index_or run.markers m (record { id = 0; kind = 0 })
 
--- a marker that is made
+-- a marker that is made; its id is the number of entries
 abbrev pub new_marker : Run → Node
-new_marker run = record { id = new_id run.draft; kind = 0 }
+new_marker run = record { id = run.draft.entries; kind = 0 }
 
 -- the tokens from a run's position on
 abbrev pub seen : List Entry → Run → List Entry
@@ -83,12 +58,12 @@ with_call run steps = record run { draft = with_steps run.draft steps; position 
 
 -- where one call leads
 abbrev pub stepped : Words → List Entry → Run → Call → Run
-stepped words input run Start = record run { draft = started run.draft (new_id run.draft); markers = run.markers ++ new_marker run ∷ [] }
+stepped words input run Start = record run { draft = started run.draft; markers = run.markers ++ new_marker run ∷ [] }
 stepped words input run (Complete m kind) =
     let id = (marker_at run m).id in
     record run { draft = completed run.draft id kind; markers = slice_set run.markers m (record { id = id; kind = kind }) }
 stepped words input run (Abandon m) = record run { draft = abandoned run.draft (marker_at run m).id }
-stepped words input run (Precede n) = record run { draft = preceded run.draft (marker_at run n).id (new_id run.draft); markers = run.markers ++ new_marker run ∷ [] }
+stepped words input run (Precede n) = record run { draft = preceded run.draft (marker_at run n).id; markers = run.markers ++ new_marker run ∷ [] }
 stepped words input run (ExtendTo n m) = record run { draft = extended run.draft (marker_at run n) (marker_at run m).id }
 stepped words input run call = with_call run (call_steps words (seen input run) call)
 

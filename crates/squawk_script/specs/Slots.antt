@@ -2,13 +2,13 @@
 use Rattle.std.specs.Prelude.{◌≡◌, ◌≢◌, ℕ, ◌<◌, ◌==◌, ◌&&◌, Bool, true, false, not, Some, List, [], ◌∷◌, ◌++◌, Contains, length, map, slice_index_or, slice_set, nat_lt, ⊤}
 use Rattle.squawk_kinds.specs.Kinds.{TOMBSTONE}
 use Rattle.squawk_output.specs.Draft as draft
-use Rattle.squawk_output.specs.Draft.{Item, Mark, Node, errors_of, ids, is_hole}
+use Rattle.squawk_output.specs.Draft.{Item, Mark, Node, errors_of}
 use Rattle.squawk_parser.specs.State.{State, HasNotFailed}
 use Rattle.squawk_parser.specs.declared.parser.parse_error.ParseError.{ParseError}
 use Rattle.squawk_parser.specs.declared.parser.parse_error.ParseError.TheVariants.{OutOfMemory}
 use Rattle.squawk_script.specs.Accepted.{is_edible}
 use Rattle.squawk_script.specs.Events.{errors_among, events_made, refusal}
-use Rattle.squawk_script.specs.Meaning.{Run, seen, stepped}
+use Rattle.squawk_script.specs.Meaning.{Run, marker_at, seen, stepped}
 use Rattle.squawk_script.specs.declared.call.Call.{Call}
 use Rattle.squawk_script.specs.declared.call.Call.TheVariants as calls
 use Rattle.squawk_script.specs.declared.status.Status.{Status}
@@ -96,38 +96,18 @@ pub record IsTied (s : State) (slots : List Slot) : Type 0 where
 
 -- ---- a parser and a run
 
--- an item under other ids, where it isn't asked whether a node can still be preceded
-abbrev pub renamed : (ℕ → ℕ) → Item → Item
-renamed f (draft.Hole i made) = draft.Hole (f i) made
-renamed f (draft.Open i kind free) = draft.Open (f i) kind false
-renamed f draft.Close = draft.Close
-renamed f (draft.Token kind n) = draft.Token kind n
-renamed f (draft.Error text) = draft.Error text
-
-abbrev pub same_id : ℕ → ℕ
-same_id i = i
-
--- The second list is the first one under other ids, which are in the same order.
-pub record IsRenamed (f : ℕ → ℕ) (items others : List Item) : Type 0 where
-  pub same : map (renamed f) items ≡ map (renamed same_id) others
-  pub order : (i j : ℕ) → Contains (ids items) i → Contains (ids items) j → i < j → f i < f j
-
 -- the run's marker is that of the slot
-abbrev pub IsMarkerOf : (ℕ → ℕ) → Slot → Node → Type 0
-IsMarkerOf f (Open m) marker = marker.id ≡ f m.id
-IsMarkerOf f (Done n) marker = marker ≡ record { id = f n.id; kind = n.kind }
-IsMarkerOf f Spent marker = ⊤
+abbrev pub IsMarkerOf : Slot → Node → Type 0
+IsMarkerOf (Open m) marker = marker.id ≡ m.id
+IsMarkerOf (Done n) marker = marker ≡ n
+IsMarkerOf Spent marker = ⊤
 
--- a parser and its slots are where a run is, up to a change of ids that keeps their order
+-- a parser and its slots are where a run is
 pub record IsAt (s : State) (slots : List Slot) (run : Run) : Type 0 where
-  pub f : ℕ → ℕ
-  pub items : IsRenamed f s.draft.items run.draft.items
-  pub recorded : run.draft.recorded ≡ s.draft.recorded
-  pub entries : run.draft.entries ≡ s.draft.entries
-  pub turns_due : run.draft.turns_due ≡ s.draft.turns_due
+  pub draft : run.draft ≡ s.draft
   pub position : run.position ≡ s.position
   pub count : length run.markers ≡ length slots
-  pub markers : (i : ℕ) → IsMarkerOf f (slot_at slots i) (slice_index_or run.markers i (record { id = 0; kind = 0 }))
+  pub markers : (i : ℕ) → IsMarkerOf (slot_at slots i) (marker_at run i)
 
 -- Where a parser fails as it is to record these events, and not by want of memory: behind the events that it has recorded, its limits
 -- refuse one of these for that reason.

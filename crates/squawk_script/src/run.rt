@@ -81,8 +81,7 @@ fn extend_to(slots: &mut Vec<Slot>, node: u32, marker: u32, p: &mut Parser<'_>)
 #[cold]
 #[inline(never)]
 fn err_recover(message: &str, recovery: &TokenSet, p: &mut Parser<'_>)
-    ensures keeps { Keeps p.old p.new }
-    ensures puts { Puts (recovery_steps (chars message.now) (has recovery.now) (ahead p.old 0)) p.old p.new }
+    ensures { Puts (recovery_steps (chars message.now) (has recovery.now) (ahead p.old 0)) p.old p.new }
 {
     p.err_recover(message, *recovery);
 }

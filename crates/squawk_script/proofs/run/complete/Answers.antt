@@ -6,8 +6,7 @@ use Rattle.squawk_script.proofs.run.complete.Goals as goal
 
 pub returns-clause-performs : goal.returns-clause-performs
 returns-clause-performs c =
-    complete-performs _ _ _ _ c.requires.tied c.args.marker c.args.kind c.take_marker.result c.take_marker.ensures.took c.complete-node.ensures.keeps
-    c.complete-node.ensures.position c.complete-node.ensures.records
+    complete-performs _ _ _ _ c.requires.tied c.args.marker c.args.kind c.take_marker.result c.take_marker.ensures.took c.complete-node.ensures.completes
     (c.keep_node.ensures.kept
     ∙ (ap (λ slots. set slots c.args.marker (Done c.complete-node.result)) c.take_marker.ensures.left
     ∙ (set-twice c.args.slots.now.items c.args.marker Spent (Done c.complete-node.result)

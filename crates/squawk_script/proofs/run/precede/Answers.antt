@@ -5,6 +5,5 @@ use Rattle.squawk_script.proofs.run.precede.Goals as goal
 
 pub returns-clause-performs : goal.returns-clause-performs
 returns-clause-performs c =
-    precede-performs _ _ _ _ c.requires.tied c.args.node c.take_node.result c.precede-marker.result c.take_node.ensures.took c.precede-marker.ensures.made
-    c.precede-marker.ensures.fresh c.precede-marker.ensures.keeps c.precede-marker.ensures.position c.precede-marker.ensures.records
+    precede-performs _ _ _ _ c.requires.tied c.args.node c.take_node.result c.precede-marker.result c.take_node.ensures.took c.precede-marker.ensures.precedes
     (c.push_reserved.ensures.items ∙ ap (λ slots. slots ++ Open c.precede-marker.result ∷ []) c.take_node.ensures.left)
