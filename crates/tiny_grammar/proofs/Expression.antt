@@ -8,16 +8,14 @@ use Rattle.squawk_kinds.specs.Kinds.{EOF, CUSTOM_OP}
 use Rattle.squawk_kinds.specs.TokenSets.{has}
 use Rattle.squawk_table.specs.ParserInput.{Entry, kind_in}
 use Rattle.squawk_output.specs.Steps.{Step, Enter, Exit, eaten}
-use Rattle.squawk_output.specs.Draft.{Node}
-use Rattle.squawk_output.specs.Edits.{completed, preceded}
+use Rattle.squawk_output.specs.Draft.{Mark, Node}
 use Rattle.squawk_parser.specs.Composed.{Adds, AddsNode, RecordsSteps}
-use Rattle.squawk_parser.specs.Recorded.{Puts}
-use Rattle.squawk_parser.specs.State.{State, Keeps, Records, ahead}
+use Rattle.squawk_parser.specs.Recorded.{Completes, Precedes, Puts}
+use Rattle.squawk_parser.specs.State.{State, ahead}
 use Rattle.squawk_parser.specs.Words.{HasNoEnd}
 use Rattle.squawk_parser.proofs.AddedSteps.{Adds-node, Adds-puts, Adds-then}
 use Rattle.squawk_parser.proofs.Progress.{operator-eats}
 use Rattle.squawk_parser.proofs.RecordedItems.{eaten-append}
-use Rattle.squawk_parser.proofs.RecordedSteps.{Keeps-then}
 use Rattle.squawk_parser.proofs.SeenSteps.{ahead-moved, ahead-still, if-false, if-true}
 use Rattle.squawk_parser.proofs.StepsInOrder.{RecordsSteps-before, RecordsSteps-puts, RecordsSteps-then}
 use Rattle.tiny_grammar.specs.Expressions.{behind, bin, expression_in_order, expression_steps, in_order, nested, operand_steps, operator_steps, part_in_order, rest_of, right_steps, rights, rights_of, tail_of}
@@ -40,7 +38,6 @@ nested-push first part parts =
 
 -- a parser that has put some of the operators of an expression
 pub record Expressing (old now : State) (left : Node) : Type 0 where
-  pub keeps : Keeps old now
   pub done : List (List Step)
   pub puts : AddsNode (nested (operand_steps (ahead old 0)) done) left old now
   pub records : RecordsSteps (in_order (operand_steps (ahead old 0)) done) old now
@@ -51,14 +48,13 @@ pub record Expressing (old now : State) (left : Node) : Type 0 where
   pub rest : tail_of (has old.words.operator_first) (ahead old 0)
       ≡ rest_of (has old.words.operator_first) most (ahead now 0)
 
-pub expressing-first : {old now : State} {left : Node} → Keeps old now → AddsNode (operand_steps (ahead old 0)) left old now → RecordsSteps (operand_steps (ahead old 0)) old now
+pub expressing-first : {old now : State} {left : Node} → AddsNode (operand_steps (ahead old 0)) left old now → RecordsSteps (operand_steps (ahead old 0)) old now
     → Expressing old now left
-expressing-first {old} {now} {left} keeps puts records =
+expressing-first {old} {now} {left} puts records =
     let seen = ahead old 0 in
     let first = operand_steps seen in
-    let here : ahead now 0 ≡ behind first seen = ahead-moved (eaten first) keeps puts.position in
+    let here : ahead now 0 ≡ behind first seen = ahead-moved (eaten first) puts.keeps puts.position in
     record {
-      keeps = keeps;
       done = [];
       puts = subst (λ steps. AddsNode steps left old now) (sym (append-nil first)) puts;
       records = subst (λ steps. RecordsSteps steps old now) (sym (append-nil first)) records;
@@ -101,36 +97,34 @@ record EatsOperator (s t u : State) : Type 0 where
   puts : Puts (operator_steps (has s.words.operator_first) (ahead s 0)) t u
   behind : ahead u 0 ≡ behind (operator_steps (has s.words.operator_first) (ahead s 0)) (ahead s 0)
 
-operator_there : {s t u : State} → Keeps s t → t.position ≡ s.position → Keeps t u → Puts (operator_steps (has t.words.operator_first) (ahead t 0)) t u → EatsOperator s t u
-operator_there {s} {t} {u} k here l puts =
-    let same : ahead t 0 ≡ ahead s 0 = ahead-still k here in
-    let operator = operator_steps (has s.words.operator_first) (ahead s 0) in
-    let put : Puts operator t u =
-    subst (λ words. Puts (operator_steps (has words.operator_first) (ahead s 0)) t u) k.words (subst (λ seen. Puts (operator_steps (has t.words.operator_first) seen) t u) same puts) in
-    record { puts = put; behind = ahead-moved (eaten operator) l put.position ∙ ap (behind operator) same }
+module _ {s t u : State} {left : Node} {m : Mark} (precedes : Precedes left m s t)
+    (eats : Puts (operator_steps (has t.words.operator_first) (ahead t 0)) t u) where
+  operator_there : EatsOperator s t u
+  operator_there =
+      let same : ahead t 0 ≡ ahead s 0 = ahead-still precedes.keeps precedes.position in
+      let operator = operator_steps (has s.words.operator_first) (ahead s 0) in
+      let put : Puts operator t u =
+      subst (λ words. Puts (operator_steps (has words.operator_first) (ahead s 0)) t u) precedes.keeps.words (subst (λ seen. Puts (operator_steps (has t.words.operator_first) seen) t u) same eats) in
+      record { puts = put; behind = ahead-moved (eaten operator) put.keeps put.position ∙ ap (behind operator) same }
 
--- what is added
-pub operation_adds : {s t u v : State} {m : Node} → Keeps s t → t.position ≡ s.position → Keeps t u → Puts (operator_steps (has t.words.operator_first) (ahead t 0)) t u
-    → AddsNode (operand_steps (ahead u 0)) m u v → Adds (right_steps (has s.words.operator_first) (ahead s 0)) t v
-operation_adds {s} {t} {u} {v} {m} k here l puts node =
-    let operator = operator_there k here l puts in
-    Adds-then (Adds-puts operator.puts) (Adds-node (subst (λ seen. AddsNode (operand_steps seen) m u v) operator.behind node))
+  -- what is added
+  pub operation_adds : {v : State} {n : Node} → AddsNode (operand_steps (ahead u 0)) n u v → Adds (right_steps (has s.words.operator_first) (ahead s 0)) t v
+  operation_adds {v} {n} node =
+      Adds-then (Adds-puts operator_there.puts) (Adds-node (subst (λ seen. AddsNode (operand_steps seen) n u v) operator_there.behind node))
 
--- what is recorded for it
-pub operation_records : {s t u v w : State} (node id kind : ℕ) → Keeps s t → t.position ≡ s.position → Records s t (preceded s.draft node id)
-    → Keeps t u → Puts (operator_steps (has t.words.operator_first) (ahead t 0)) t u → Keeps u v → RecordsSteps (operand_steps (ahead u 0)) u v
-    → Keeps v w → Records v w (completed v.draft id kind) → RecordsSteps (part_in_order (right_steps (has s.words.operator_first) (ahead s 0))) s w
-operation_records {s} {t} {u} {v} {w} node id kind k here precedes l puts m records o completes =
-    let operator = operator_there k here l puts in
-    RecordsSteps-before bin node id kind k (Keeps-then l m) o precedes
-    (RecordsSteps-then l m (RecordsSteps-puts operator.puts) (subst (λ seen. RecordsSteps (operand_steps seen) u v) operator.behind records)) completes
+  -- what is recorded for it
+  pub operation_records : {v w : State} {kind : ℕ} → RecordsSteps (operand_steps (ahead u 0)) u v → Completes m.id kind v w
+      → RecordsSteps (part_in_order (right_steps (has s.words.operator_first) (ahead s 0))) s w
+  operation_records {v} {w} records completes =
+      RecordsSteps-before bin precedes
+      (RecordsSteps-then (RecordsSteps-puts operator_there.puts) (subst (λ seen. RecordsSteps (operand_steps seen) u v) operator_there.behind records)) completes
 
-module _ {old s w : State} {left : Node} (no_end : HasNoEnd old.words) (is : has s.words.operator_first (kind_in (ahead s 0) 0) ≡ true) (keeps : Keeps s w)
+module _ {old s : State} (w : State) {left : Node} (no_end : HasNoEnd old.words) (is : has s.words.operator_first (kind_in (ahead s 0) 0) ≡ true)
     (there : ahead w 0 ≡ behind (right_steps (has s.words.operator_first) (ahead s 0)) (ahead s 0)) where
   -- fewer tokens are left
   pub expressing-fewer : Expressing old s left → length (ahead w 0) < length (ahead s 0)
   expressing-fewer e =
-      let none : has s.words.operator_first EOF ≡ false = ap (λ words. has words.operator_first EOF) e.keeps.words ∙ no_end in
+      let none : has s.words.operator_first EOF ≡ false = ap (λ words. has words.operator_first EOF) e.puts.keeps.words ∙ no_end in
       omega (arith, ap length there, behind_fewer (has s.words.operator_first) (ahead s 0) none is)
 
   pub expressing-next : {n : Node} (e : Expressing old s left)
@@ -145,7 +139,7 @@ module _ {old s w : State} {left : Node} (no_end : HasNoEnd old.words) (is : has
           → Expressing old w n
       cases zero enough parts rest = let lt = expressing-fewer e in absurd (omega (arith, lt, enough))
       cases (suc most) enough parts rest =
-          let words : s.words ≡ old.words = e.keeps.words in
+          let words : s.words ≡ old.words = e.puts.keeps.words in
           let right = right_steps (has old.words.operator_first) (ahead s 0) in
           let same : right_steps (has s.words.operator_first) (ahead s 0) ≡ right = ap (λ words. right_steps (has words.operator_first) (ahead s 0)) words in
           let here : has old.words.operator_first (kind_in (ahead s 0) 0) ≡ true =
@@ -153,13 +147,12 @@ module _ {old s w : State} {left : Node} (no_end : HasNoEnd old.words) (is : has
           let seen : ahead w 0 ≡ behind right (ahead s 0) = there ∙ ap (λ steps. behind steps (ahead s 0)) same in
           let lt = expressing-fewer e in
           record {
-            keeps = Keeps-then e.keeps keeps;
             done = e.done ++ right ∷ [];
             puts = subst (λ steps. AddsNode steps n old w)
                 (ap (λ part. Enter bin ∷ (nested (operand_steps (ahead old 0)) e.done ++ part) ++ Exit ∷ []) same ∙ nested-push (operand_steps (ahead old 0)) right e.done) puts;
             records = subst (λ steps. RecordsSteps steps old w)
                 (flat_map_more part_in_order (operand_steps (ahead old 0)) e.done right)
-                (RecordsSteps-then e.keeps keeps e.records (subst (λ part. RecordsSteps (part_in_order part) s w) same records));
+                (RecordsSteps-then e.records (subst (λ part. RecordsSteps (part_in_order part) s w) same records));
             most = most;
             enough = omega (arith, lt, enough);
             parts = parts
@@ -172,7 +165,7 @@ module _ {old s w : State} {left : Node} (no_end : HasNoEnd old.words) (is : has
 
 module _ {old now : State} {left : Node} (is : has now.words.operator_first (kind_in (ahead now 0) 0) ≡ false) (e : Expressing old now left) where
   ends : has old.words.operator_first (kind_in (ahead now 0) 0) ≡ false
-  ends = sym (ap (λ words. has words.operator_first (kind_in (ahead now 0) 0)) e.keeps.words) ∙ is
+  ends = sym (ap (λ words. has words.operator_first (kind_in (ahead now 0) 0)) e.puts.keeps.words) ∙ is
 
   pub expressing-all : Adds (expression_steps (has old.words.operator_first) (ahead old 0)) old now
   expressing-all =

@@ -28,11 +28,11 @@ module _ {a b c d : State} {set : TokenSet} (fresh : IsFresh a) (words : a.words
       → Adds (expression_steps (has set) a.input ++ tail_steps (tail_of (has set) a.input)) b d
   inside_adds adds = from_start (λ operator_kind input. Adds (expression_steps operator_kind input ++ tail_steps (tail_of operator_kind input)) b d) (Adds-then adds (Adds-puts left))
 
-  pub inside_records : Keeps b c → Keeps c d → RecordsSteps (expression_in_order (has b.words.operator_first) (ahead b 0)) b c
+  pub inside_records : RecordsSteps (expression_in_order (has b.words.operator_first) (ahead b 0)) b c
       → RecordsSteps (expression_in_order (has set) a.input ++ tail_steps (tail_of (has set) a.input)) b d
-  inside_records k l records =
+  inside_records records =
       from_start (λ operator_kind input. RecordsSteps (expression_in_order operator_kind input ++ tail_steps (tail_of operator_kind input)) b d)
-      (RecordsSteps-then k l records (RecordsSteps-puts left))
+      (RecordsSteps-then records (RecordsSteps-puts left))
 
 -- all of a run
 module _ {a e : State} (operator_kind : ℕ → Bool) (fresh : IsFresh a) (records : RecordsSteps (tiny_in_order operator_kind a.input) a e) where

@@ -7,38 +7,36 @@ use Rattle.squawk_table.specs.ParserInput.{Entry, kind_in}
 use Rattle.squawk_output.specs.Steps.{Step, Error}
 use Rattle.squawk_parser.specs.Eaten.{node, one, recovery_steps, no_recovery}
 use Rattle.squawk_parser.specs.Recorded.{Puts}
-use Rattle.squawk_parser.specs.State.{State, Keeps, ahead, kind_at}
-use Rattle.squawk_parser.proofs.RecordedSteps.{Keeps-none, Keeps-then, puts-none, puts-then}
+use Rattle.squawk_parser.specs.State.{State, ahead, kind_at}
+use Rattle.squawk_parser.proofs.RecordedSteps.{puts-none, puts-then}
 use Rattle.squawk_parser.proofs.Recovery.{eats_one}
 use Rattle.squawk_parser.proofs.SeenSteps.{if-false, if-true, kind_at-first}
 use Rattle.tiny_grammar.specs.Expressions.{expected_end, tail_steps}
 
 -- a parser that has eaten some of them
 pub record Eating (old now : State) : Type 0 where
-  pub keeps : Keeps old now
   pub done : List Step
   pub puts : Puts done old now
   pub all : tail_steps (ahead old 0) ≡ done ++ tail_steps (ahead now 0)
 
 pub eating-none : (old : State) → Eating old old
-eating-none old = record { keeps = Keeps-none old; done = []; puts = puts-none old; all = refl }
+eating-none old = record { done = []; puts = puts-none old; all = refl }
 
-module _ {b c : State} (keeps : Keeps b c) (some : kind_at b 0 ≢ EOF) (puts : Puts (recovery_steps expected_end no_recovery (ahead b 0)) b c) where
+module _ {b c : State} (some : kind_at b 0 ≢ EOF) (puts : Puts (recovery_steps expected_end no_recovery (ahead b 0)) b c) where
   pub eating-next : {a : State} → Eating a b → Eating a c
   eating-next {a} eating =
-      let eats = eats_one keeps some puts in
+      let eats = eats_one some puts in
       let step = node ERROR (Error expected_end ∷ one eats.entry.kind ∷ []) in
       let next : tail_steps (ahead b 0) ≡ step ++ tail_steps (ahead c 0) =
       ap tail_steps eats.is ∙ if-false _ _ _ (ne_eqb eats.entry.kind EOF eats.kind) in
       record {
-        keeps = Keeps-then eating.keeps keeps;
         done = eating.done ++ step;
-        puts = puts-then eating.keeps keeps eating.puts eats.puts;
+        puts = puts-then eating.puts eats.puts;
         all = eating.all ∙ (ap (λ steps. eating.done ++ steps) next ∙ sym (append_assoc eating.done step (tail_steps (ahead c 0))));
       }
 
   pub fewer : length (ahead c 0) < length (ahead b 0)
-  fewer = let eats = eats_one keeps some puts in omega (arith, ap length eats.is)
+  fewer = let eats = eats_one some puts in omega (arith, ap length eats.is)
 
 pub eating-all : {a b : State} → Eating a b → kind_at b 0 ≡ EOF → Puts (tail_steps (ahead a 0)) a b
 eating-all {a} {b} eating end =

@@ -7,7 +7,7 @@ ghost use Rattle.squawk_output.specs.Steps.{Step, Enter, Exit, eaten, errors_in}
 ghost use Rattle.squawk_parser.specs.Composed.{Adds, AddsNode, RecordsSteps};
 ghost use Rattle.squawk_parser.specs.Parse.{IsParse, IsRefused};
 ghost use Rattle.squawk_parser.specs.Recorded.{Puts};
-ghost use Rattle.squawk_parser.specs.State.{State, HasNode, Keeps, ahead, fresh};
+ghost use Rattle.squawk_parser.specs.State.{State, HasNode, ahead, fresh};
 ghost use Rattle.squawk_parser.specs.Words.{HasNoEnd};
 ghost use Rattle.squawk_parser.specs.declared.parser.parse_error.ParseError.TheVariants.{OutOfMemory};
 ghost use Rattle.tiny_grammar.specs.Expressions.{FailsTiny, IsTiny, behind, bin, expression_in_order, expression_steps, is_operand, is_operator_kind, operand_step, operand_steps, operator_steps, part_in_order, right_steps, tail_of, tail_steps};
@@ -126,7 +126,6 @@ impl Grammar for Tiny {
 /// An operand, and operators behind it, each with its right operand.
 fn expression(p: &mut Parser<'_>)
     requires { HasNoEnd p.old.words }
-    ensures keeps { Keeps p.old p.new }
     ensures adds { Adds (expression_steps (has p.old.words.operator_first) (ahead p.old 0)) p.old p.new }
     ensures records { RecordsSteps (expression_in_order (has p.old.words.operator_first) (ahead p.old 0)) p.old p.new }
     ensures rest { ahead p.new 0 ≡ tail_of (has p.old.words.operator_first) (ahead p.old 0) }
@@ -141,7 +140,6 @@ fn expression(p: &mut Parser<'_>)
 fn operation(left: CompletedMarker, p: &mut Parser<'_>) -> CompletedMarker
     requires at_hand { HasNode p.old left }
     requires operator { IsTrue (has p.old.words.operator_first (kind_in (ahead p.old 0) 0)) }
-    ensures keeps { Keeps p.old p.new }
     ensures adds { (begun : State) (steps : List Step) → AddsNode steps left begun p.old
         → AddsNode (Enter bin ∷ (steps ++ right_steps (has p.old.words.operator_first) (ahead p.old 0)) ++ Exit ∷ []) result begun p.new }
     ensures records { RecordsSteps (part_in_order (right_steps (has p.old.words.operator_first) (ahead p.old 0))) p.old p.new }
@@ -156,15 +154,13 @@ fn operation(left: CompletedMarker, p: &mut Parser<'_>) -> CompletedMarker
 /// The operator at the position.
 fn operator(p: &mut Parser<'_>)
     requires { IsTrue (has p.old.words.operator_first (kind_in (ahead p.old 0) 0)) }
-    ensures keeps { Keeps p.old p.new }
-    ensures puts { Puts (operator_steps (has p.old.words.operator_first) (ahead p.old 0)) p.old p.new }
+    ensures { Puts (operator_steps (has p.old.words.operator_first) (ahead p.old 0)) p.old p.new }
 {
     p.bump(SyntaxKind::CUSTOM_OP);
 }
 
 /// One token, or an error where none is an operand.
 fn operand(p: &mut Parser<'_>) -> CompletedMarker
-    ensures keeps { Keeps p.old p.new }
     ensures adds { AddsNode (operand_steps (ahead p.old 0)) result p.old p.new }
     ensures records { RecordsSteps (operand_steps (ahead p.old 0)) p.old p.new }
 {
@@ -175,8 +171,7 @@ fn operand(p: &mut Parser<'_>) -> CompletedMarker
 
 /// The token of an operand, or the error.
 fn operand_token(p: &mut Parser<'_>)
-    ensures keeps { Keeps p.old p.new }
-    ensures puts { Puts (operand_step (ahead p.old 0) ∷ []) p.old p.new }
+    ensures { Puts (operand_step (ahead p.old 0) ∷ []) p.old p.new }
 {
     if is_operand(p.current()) {
         p.bump_any();
@@ -194,8 +189,7 @@ fn is_operand(kind: SyntaxKind) -> bool
 
 /// What is left, each token as an error.
 fn rest(p: &mut Parser<'_>)
-    ensures keeps { Keeps p.old p.new }
-    ensures puts { Puts (tail_steps (ahead p.old 0)) p.old p.new }
+    ensures { Puts (tail_steps (ahead p.old 0)) p.old p.new }
 {
     while p.current() != SyntaxKind::EOF {
         p.err_and_bump("expected end");

@@ -4,18 +4,18 @@ use Rattle.tiny_grammar.proofs.Expression.{expressing-all, expressing-fewer, exp
 use Rattle.tiny_grammar.proofs.tiny.expression.Goals as goal
 
 pub loop-left-init : goal.loop-left-init
-loop-left-init c = expressing-first c.operand-left.ensures.keeps c.operand-left.ensures.adds c.operand-left.ensures.records
+loop-left-init c = expressing-first c.operand-left.ensures.adds c.operand-left.ensures.records
 
 pub operation-left-requires-clause-at_hand : goal.operation-left-requires-clause-at_hand
 operation-left-requires-clause-at_hand c = node-added c.loop-left.invariant.puts
 
 pub loop-left-smaller : goal.loop-left-smaller
 loop-left-smaller c =
-    expressing-fewer c.requires (sym c.at.ensures ∙ c.loop-left-test.true) c.operation-left.ensures.keeps c.operation-left.ensures.behind c.loop-left.invariant
+    expressing-fewer c.operation-left.new.p c.requires (sym c.at.ensures ∙ c.loop-left-test.true) c.operation-left.ensures.behind c.loop-left.invariant
 
 pub loop-left-preserved : goal.loop-left-preserved
 loop-left-preserved c =
-    expressing-next c.requires (sym c.at.ensures ∙ c.loop-left-test.true) c.operation-left.ensures.keeps c.operation-left.ensures.behind c.loop-left.invariant
+    expressing-next c.operation-left.new.p c.requires (sym c.at.ensures ∙ c.loop-left-test.true) c.operation-left.ensures.behind c.loop-left.invariant
     (c.operation-left.ensures.adds _ _ c.loop-left.invariant.puts) c.operation-left.ensures.records
 
 pub returns-clause-adds : goal.returns-clause-adds

@@ -10,17 +10,13 @@ use Rattle.tiny_grammar.proofs.tiny.operand.Goals as goal
 -- the token or the error, behind the marker
 inside : (c : goal.After-complete) → Puts (operand_step (ahead c.args.p.now 0) ∷ []) c.start-node.new.self c.operand_token.new.p
 inside c =
-    subst (λ step. Puts (step ∷ []) c.start-node.new.self c.operand_token.new.p) (ap operand_step (ahead-still c.start-node.ensures.keeps c.start-node.ensures.position))
-    c.operand_token.ensures.puts
+    subst (λ step. Puts (step ∷ []) c.start-node.new.self c.operand_token.new.p) (ap operand_step (ahead-still c.start-node.ensures.begins.keeps c.start-node.ensures.begins.position))
+    c.operand_token.ensures
 
 pub returns-clause-adds : goal.returns-clause-adds
 returns-clause-adds c =
-    let start = c.start-node.ensures in
     let done = c.complete.ensures in
-    node_around c.start-node.result.id start.records (Adds-puts (inside c)) done.node c.from.ensures start.fresh start.position done.records done.position
+    node_around c.start-node.ensures.begins (Adds-puts (inside c)) (rw c.from.ensures at done.completes) (rw c.from.ensures at done.node)
 
 pub returns-clause-records : goal.returns-clause-records
-returns-clause-records c =
-    let start = c.start-node.ensures in
-    let done = c.complete.ensures in
-    RecordsSteps-node operand c.start-node.result.id c.from.result start.keeps c.operand_token.ensures.keeps done.keeps start.records (RecordsSteps-puts (inside c)) done.records
+returns-clause-records c = RecordsSteps-node operand c.start-node.ensures.begins (RecordsSteps-puts (inside c)) c.complete.ensures.completes

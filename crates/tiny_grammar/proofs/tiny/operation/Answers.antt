@@ -11,22 +11,17 @@ use Rattle.tiny_grammar.proofs.tiny.operation.Goals as goal
 
 pub returns-clause-adds : goal.returns-clause-adds
 returns-clause-adds c begun steps adds =
-    let before = c.precede-node.ensures in
+    let before = c.precede-node.ensures.precedes in
     let done = c.complete.ensures in
-    let right = operation_adds before.keeps before.position c.operator.ensures.keeps c.operator.ensures.puts c.operand.ensures.adds in
-    node_before c.args.left c.precede-node.result.id adds before.records before.fresh right done.node c.from.ensures before.position done.records done.position
+    node_before adds before (operation_adds before c.operator.ensures c.operand.ensures.adds) (rw c.from.ensures at done.completes) (rw c.from.ensures at done.node)
 
 pub returns-clause-records : goal.returns-clause-records
-returns-clause-records c =
-    let before = c.precede-node.ensures in
-    let done = c.complete.ensures in
-    operation_records c.args.left.id c.precede-node.result.id c.from.result before.keeps before.position before.records c.operator.ensures.keeps c.operator.ensures.puts
-    c.operand.ensures.keeps c.operand.ensures.records done.keeps done.records
+returns-clause-records c = operation_records c.precede-node.ensures.precedes c.operator.ensures c.operand.ensures.records c.complete.ensures.completes
 
 pub returns-clause-behind : goal.returns-clause-behind
 returns-clause-behind c =
-    let before = c.precede-node.ensures in
-    let right = operation_adds before.keeps before.position c.operator.ensures.keeps c.operator.ensures.puts c.operand.ensures.adds in
-    let keeps = Keeps-then c.precede-node.ensures.keeps (Keeps-then c.operator.ensures.keeps (Keeps-then c.operand.ensures.keeps c.complete.ensures.keeps)) in
-    ahead-moved (eaten (right_steps (has c.args.p.now.words.operator_first) (ahead c.args.p.now 0))) keeps
-    (omega (arith, c.complete.ensures.position, right.position, c.precede-node.ensures.position))
+    let before = c.precede-node.ensures.precedes in
+    let done = c.complete.ensures.completes in
+    let right = operation_adds before c.operator.ensures c.operand.ensures.adds in
+    ahead-moved (eaten (right_steps (has c.args.p.now.words.operator_first) (ahead c.args.p.now 0))) (Keeps-then before.keeps (Keeps-then right.keeps done.keeps))
+    (omega (arith, done.position, right.position, before.position))

@@ -7,9 +7,9 @@ use Rattle.tiny_grammar.proofs.tiny.rest.Goals as goal
 pub loop-p-preserved : goal.loop-p-preserved
 loop-p-preserved c =
     let some : kind_at c.loop-p.p 0 ≢ EOF = grind arith in
-    eating-next c.err_and_bump.ensures.keeps some c.err_and_bump.ensures.puts c.loop-p.invariant
+    eating-next some c.err_and_bump.ensures.puts c.loop-p.invariant
 
-pub returns-clause-puts : goal.returns-clause-puts
-returns-clause-puts c =
+pub returns : goal.returns
+returns c =
     let end : kind_at c.loop-p.p 0 ≡ EOF = grind arith in
     eating-all c.loop-p.invariant end

@@ -2,7 +2,6 @@ use Rattle.std.proofs.Common.{ap}
 use Rattle.squawk_kinds.specs.TokenSets.{has}
 use Rattle.squawk_parser.specs.Composed.{AddsNode, RecordsSteps}
 use Rattle.squawk_parser.proofs.AddedSteps.{node_around}
-use Rattle.squawk_parser.proofs.RecordedSteps.{Keeps-then}
 use Rattle.squawk_parser.proofs.StepsInOrder.{RecordsSteps-node}
 use Rattle.tiny_grammar.specs.Expressions.{source, tiny_in_order, tiny_steps}
 use Rattle.tiny_grammar.proofs.Source.{inside_adds, inside_records, source_closed, source_fails, source_leaves}
@@ -13,17 +12,17 @@ root : (c : goal.After-complete) → AddsNode (tiny_steps (has c.args.self.now) 
 root c =
     let start = c.start-root.ensures in
     let done = c.complete.ensures in
-    let inside = inside_adds c.requires.fresh (ap (λ words. words.operator_first) c.requires.words) start.keeps start.position c.expression.ensures.rest c.rest.ensures.puts c.expression.ensures.adds in
-    node_around c.start-root.result.id start.records inside done.node c.from.ensures start.fresh start.position done.records done.position
+    let inside = inside_adds c.requires.fresh (ap (λ words. words.operator_first) c.requires.words) start.begins.keeps start.begins.position c.expression.ensures.rest c.rest.ensures c.expression.ensures.adds in
+    node_around start.begins inside (rw c.from.ensures at done.completes) (rw c.from.ensures at done.node)
 
 -- and its steps are recorded in their order
 recorded : (c : goal.After-complete) → RecordsSteps (tiny_in_order (has c.args.self.now) c.args.p.now.input) c.args.p.now c.complete.new.p
 recorded c =
     let start = c.start-root.ensures in
     let done = c.complete.ensures in
-    let inside = inside_records c.requires.fresh (ap (λ words. words.operator_first) c.requires.words) start.keeps start.position c.expression.ensures.rest c.rest.ensures.puts
-    c.expression.ensures.keeps c.rest.ensures.keeps c.expression.ensures.records in
-    RecordsSteps-node source c.start-root.result.id c.from.result start.keeps (Keeps-then c.expression.ensures.keeps c.rest.ensures.keeps) done.keeps start.records inside done.records
+    let inside = inside_records c.requires.fresh (ap (λ words. words.operator_first) c.requires.words) start.begins.keeps start.begins.position c.expression.ensures.rest c.rest.ensures
+    c.expression.ensures.records in
+    RecordsSteps-node source start.begins inside done.completes
 
 pub returns-clause-closed : goal.returns-clause-closed
 returns-clause-closed c = source_closed (has c.args.self.now) c.requires.fresh (recorded c) (root c)
