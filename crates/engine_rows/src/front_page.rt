@@ -6,7 +6,7 @@ ghost use Rattle.std.specs.Prelude.{◌<◌, ◌≢◌, List};
 ghost use Rattle.squawk_kinds.specs.Kinds.{EOF};
 ghost use Rattle.squawk_output.specs.Steps.{Step};
 ghost use Rattle.squawk_parser.specs.Recorded.{Puts};
-ghost use Rattle.squawk_parser.specs.State.{Keeps, kind_at};
+ghost use Rattle.squawk_parser.specs.State.{kind_at};
 
 use row_fixtures::lines::line_of;
 use row_fixtures::tokens::{space, word};
@@ -64,7 +64,6 @@ impl Grammar for Names {
 /// A name, or an error with the token that is none.
 fn name(p: &mut Parser<'_>)
     requires { kind_at p.old 0 ≢ EOF }
-    ensures keeps { Keeps p.old p.new }
     ensures puts { (steps : List Step) × Puts steps p.old p.new }
     ensures eats { p.old.position < p.new.position }
 {

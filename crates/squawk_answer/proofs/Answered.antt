@@ -68,7 +68,7 @@ module _ (entry : EntryPoint) (cs : List Call) (words : Words) (input : List Ent
     pub steps-told : output.steps ≡ steps_by (by_calls entry cs) words input
     steps-told =
         is.steps
-        ∙ (is.left.items
+        ∙ (ap (λ d. plain d.items) is.left
         ∙ (ap (λ s. plain (run_of s.words parsed s.calls).draft.items) same_script ∙ ap (λ entries. plain (run_of words entries cs).draft.items) same_input))
 
     pub none-refused : (output.recorded ≤ 4294967295) × (errors_in output.steps ≤ 2147483648) → refusal_by (by_calls entry cs) words input ≡ None

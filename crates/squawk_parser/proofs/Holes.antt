@@ -10,8 +10,8 @@ use Rattle.squawk_output.specs.declared.log.Made.{Made}
 use Rattle.squawk_output.specs.declared.log.Made.TheVariants.{ByStart}
 use Rattle.squawk_output.specs.Edits.{started, completed, filled, with_token, is_hole_of}
 use Rattle.squawk_parser.specs.Eaten.{EatsWith}
-use Rattle.squawk_parser.specs.Recorded.{Begins, Completes, Puts, items_for, started_mark}
-use Rattle.squawk_parser.specs.State.{State, HasNotFailed, Keeps, Records, IsFresh, kind_at}
+use Rattle.squawk_parser.specs.Recorded.{Begins, Completes, Puts, items_for}
+use Rattle.squawk_parser.specs.State.{State, HasHole, HasNotFailed, Keeps, Records, IsFresh, kind_at}
 use Rattle.squawk_output.specs.Steps.{Step}
 use Rattle.squawk_parser.proofs.RecordedSteps.{Keeps-then, went}
 use Rattle.squawk_parser.proofs.StepsAtEnd.{closed-items_for}
@@ -170,17 +170,19 @@ without-last id made items above =
     ∙ (ap (λ hs. without id (holes_of items) ++ hs) (without-one id made)
     ∙ (append-nil (without id (holes_of items)) ∙ without-below id items (all_below id items above)))
 
-module _ (s t u : State) (m : Mark) (begins : Begins m s t) (keeps : Keeps t u) (same : HasNotFailed u → holes_of u.draft.items ≡ holes_of t.draft.items) where
+module _ {s t u : State} {m : Mark} (begins : Begins m s t) (keeps : Keeps t u) (same : HasNotFailed u → holes_of u.draft.items ≡ holes_of t.draft.items) where
   -- the marker of a node is open behind what stands in it
   pub open_inside : HasHoles u (holes_of s.draft.items ++ Hole s.draft.entries ByStart ∷ [])
   open_inside goes = same goes ∙ HasHoles-start s t (holes_of s.draft.items) (λ _. refl) begins.records (went keeps goes)
 
-  pub marker_inside : HasNotFailed u → Contains u.draft.items (Hole s.draft.entries ByStart)
-  marker_inside goes = Contains-hole u.draft.items _ (Hole s.draft.entries ByStart) (open_inside goes) (Contains-push (holes_of s.draft.items) (Hole s.draft.entries ByStart))
+  pub marker_inside : HasHole u m
+  marker_inside goes =
+      let hole = Hole s.draft.entries ByStart in
+      rw begins.is (Contains-hole u.draft.items _ hole (open_inside goes) (Contains-push (holes_of s.draft.items) hole))
 
   -- and the node leaves the markers as they were
-  pub holes-around : (v : State) (kind : ℕ) → Completes m.id kind u v → HasNotFailed v → holes_of v.draft.items ≡ holes_of s.draft.items
-  holes-around v kind ends goes =
+  pub holes-around : {v : State} {kind : ℕ} → Completes m.id kind u v → HasNotFailed v → holes_of v.draft.items ≡ holes_of s.draft.items
+  holes-around {v} {kind} ends goes =
       HasHoles-complete u v m.id kind _ open_inside ends.records goes
       ∙ (ap (λ m. without m.id (holes_of s.draft.items ++ Hole s.draft.entries ByStart ∷ [])) begins.is
       ∙ without-last s.draft.entries ByStart s.draft.items begins.sound.logged.below)
@@ -206,7 +208,7 @@ holes-with does kind s t e goes =
     let goes_ran = went closing.keeps goes_closed in
     let goes_eaten = went tail.keeps goes_ran in
     holes-puts ran closed _ closing goes_closed ∙ (tail.holes goes_ran ∙ holes-puts begun eaten _ elements goes_eaten) in
-    holes-around s begun closed (started_mark s) e.does_so (Keeps-then elements.keeps (Keeps-then tail.keeps closing.keeps)) same t kind e.goes_on.goes_on.goes_on.goes_on goes
+    holes-around e.does_so (Keeps-then elements.keeps (Keeps-then tail.keeps closing.keeps)) same e.goes_on.goes_on.goes_on.goes_on goes
 
 pub holes-eat_with : (does : State → State → Type 0) (kind : ℕ) (s t : State) (b : Bool) → (IsTrue b → EatsWith does kind s t) → (IsTrue (not b) → t ≡ s) → HasNotFailed t
     → holes_of t.draft.items ≡ holes_of s.draft.items

@@ -81,7 +81,7 @@ without-new_one : (s : State) (m : Mark) → m ≡ started_mark s → IsAboveIds
 without-new_one s m is above =
     ap (λ m. without m.id (holes_of s.draft.items ++ Hole s.draft.entries ByStart ∷ [])) is ∙ without-last s.draft.entries ByStart s.draft.items above
 
-module _ (s t : State) (node : Node) (m : Mark) (there : HasNode s node) (precedes : Precedes node m s t) where
+module _ {s t : State} {node : Node} {m : Mark} (there : HasNode s node) (precedes : Precedes node m s t) where
   abbrev hole : Item
   hole = Hole s.draft.entries ByPrecede
 
@@ -90,8 +90,8 @@ module _ (s t : State) (node : Node) (m : Mark) (there : HasNode s node) (preced
   open_before goes = ap (λ d. holes_of d.items) (precedes.records.draft goes)
 
   -- also behind calls that leave open what they found
-  pub marker_kept : (u : State) → Keeps t u → (HasNotFailed u → holes_of u.draft.items ≡ holes_of t.draft.items) → HasHole u m
-  marker_kept u keeps same goes =
+  pub marker_kept : {u : State} → Keeps t u → (HasNotFailed u → holes_of u.draft.items ≡ holes_of t.draft.items) → HasHole u m
+  marker_kept {u} keeps same goes =
       let goes_t = went keeps goes in
       subst (λ (m : Mark). Contains u.draft.items (Hole m.id m.made)) (sym precedes.is)
       (Contains-hole u.draft.items _ hole (same goes ∙ open_before goes_t) (marker_before node.id s.draft.entries ByPrecede s.draft.items node.kind (there (went precedes.keeps goes_t))))
@@ -103,23 +103,23 @@ module _ (s t : State) (node : Node) (m : Mark) (there : HasNode s node) (preced
       ∙ holes-preceded node.id s.draft.entries ByPrecede s.draft.items precedes.sound.logged.below
 
   -- a node that it becomes leaves the markers as they were
-  pub holes-outer : (u v : State) (outer : ℕ) → Keeps t u → (HasNotFailed u → holes_of u.draft.items ≡ holes_of t.draft.items) → Completes m.id outer u v → HasNotFailed v
+  pub holes-outer : {u v : State} {outer : ℕ} → Keeps t u → (HasNotFailed u → holes_of u.draft.items ≡ holes_of t.draft.items) → Completes m.id outer u v → HasNotFailed v
       → holes_of v.draft.items ≡ holes_of s.draft.items
-  holes-outer u v outer keeps same ends goes =
+  holes-outer {u} {v} {outer} keeps same ends goes =
       HasHoles-complete u v m.id outer _ (λ goes_u. same goes_u ∙ open_before (went keeps goes_u)) ends.records goes ∙ without_new
 
   -- and so does giving it up
-  pub holes-in_vain : (u : State) → Changes t u (abandoned t.draft m.id) → HasNotFailed u → holes_of u.draft.items ≡ holes_of s.draft.items
-  holes-in_vain u changes goes = HasHoles-abandon t u m.id _ open_before changes goes ∙ without_new
+  pub holes-in_vain : {u : State} → Changes t u (abandoned t.draft m.id) → HasNotFailed u → holes_of u.draft.items ≡ holes_of s.draft.items
+  holes-in_vain {u} changes goes = HasHoles-abandon t u m.id _ open_before changes goes ∙ without_new
 
 -- a marker that is given up leaves the others as they were
-pub holes-given_up : (s t u v : State) (m : Mark) → Begins m s t → Keeps t u → (HasNotFailed u → holes_of u.draft.items ≡ holes_of t.draft.items)
+pub holes-given_up : {s t u v : State} {m : Mark} → Begins m s t → Keeps t u → (HasNotFailed u → holes_of u.draft.items ≡ holes_of t.draft.items)
     → Changes u v (abandoned u.draft m.id) → HasNotFailed v → holes_of v.draft.items ≡ holes_of s.draft.items
-holes-given_up s t u v m begins keeps same changes goes =
-    HasHoles-abandon u v m.id _ (open_inside s t u m begins keeps same) changes goes ∙ without-new_one s m begins.is begins.sound.logged.below
+holes-given_up {s} {t} {u} {v} {m} begins keeps same changes goes =
+    HasHoles-abandon u v m.id _ (open_inside begins keeps same) changes goes ∙ without-new_one s m begins.is begins.sound.logged.below
 
 -- A marker, calls behind it, and a node behind them that is extended to the marker.
-module _ (s t u v w x : State) (m n : Mark) (kind : ℕ) (begins : Begins m s t) (keeps : Keeps t u) (same : HasNotFailed u → holes_of u.draft.items ≡ holes_of t.draft.items)
+module _ {s t u v w x : State} {m n : Mark} {kind : ℕ} (begins : Begins m s t) (keeps : Keeps t u) (same : HasNotFailed u → holes_of u.draft.items ≡ holes_of t.draft.items)
     (node_begins : Begins n u v) (node_keeps : Keeps v w) (node_same : HasNotFailed w → holes_of w.draft.items ≡ holes_of v.draft.items) (ends : Completes n.id kind w x) where
   abbrev started_hole : Item
   started_hole = Hole s.draft.entries ByStart
@@ -128,7 +128,7 @@ module _ (s t u v w x : State) (m n : Mark) (kind : ℕ) (begins : Begins m s t)
   goes_before goes = went node_begins.keeps (went node_keeps (went ends.keeps goes))
 
   open_still : HasHoles x (holes_of s.draft.items ++ started_hole ∷ [])
-  open_still goes = holes-around u v w n node_begins node_keeps node_same x kind ends goes ∙ open_inside s t u m begins keeps same (goes_before goes)
+  open_still goes = holes-around node_begins node_keeps node_same ends goes ∙ open_inside begins keeps same (goes_before goes)
 
   pub marker_still : HasHole x m
   marker_still goes =
@@ -138,9 +138,9 @@ module _ (s t u v w x : State) (m n : Mark) (kind : ℕ) (begins : Begins m s t)
   pub is_older : HasNotFailed x → m.id < n.id
   is_older goes =
       let older : s.draft.entries < u.draft.entries =
-      below-hole u.draft.items _ u.draft.entries s.draft.entries ByStart node_begins.sound.logged.below (open_inside s t u m begins keeps same (goes_before goes))
+      below-hole u.draft.items _ u.draft.entries s.draft.entries ByStart node_begins.sound.logged.below (open_inside begins keeps same (goes_before goes))
       (Contains-push (holes_of s.draft.items) started_hole) in
       omega (arith, ap (λ m. m.id) begins.is, ap (λ m. m.id) node_begins.is, older)
 
-  pub holes-moved : (y : State) → Changes x y (extended x.draft (record { id = n.id; kind = kind }) m.id) → HasNotFailed y → holes_of y.draft.items ≡ holes_of s.draft.items
-  holes-moved y changes goes = HasHoles-extend x y _ m.id _ open_still changes goes ∙ without-new_one s m begins.is begins.sound.logged.below
+  pub holes-moved : {y : State} → Changes x y (extended x.draft (record { id = n.id; kind = kind }) m.id) → HasNotFailed y → holes_of y.draft.items ≡ holes_of s.draft.items
+  holes-moved {y} changes goes = HasHoles-extend x y _ m.id _ open_still changes goes ∙ without-new_one s m begins.is begins.sound.logged.below

@@ -52,7 +52,6 @@
 //! /// A name, or an error with the token that is none.
 //! fn name(p: &mut Parser<'_>)
 //!     requires { kind_at p.old 0 ≢ EOF }
-//!     ensures keeps { Keeps p.old p.new }
 //!     ensures puts { (steps : List Step) × Puts steps p.old p.new }
 //!     ensures eats { p.old.position < p.new.position }
 //! {

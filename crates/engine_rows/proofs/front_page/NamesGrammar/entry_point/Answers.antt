@@ -1,28 +1,20 @@
-use Rattle.std.proofs.Common.{◌++◌, subst}
+use Rattle.std.proofs.Common.{◌++◌}
 use Rattle.squawk_parser.specs.Eaten.{node}
 use Rattle.squawk_parser.specs.Recorded.{Puts}
 use Rattle.squawk_parser.proofs.AddedSteps.{Adds-puts, closed-fresh, plain-fresh}
-use Rattle.squawk_parser.proofs.RecordedSteps.{Keeps-then, node_puts, puts-then}
+use Rattle.squawk_parser.proofs.RecordedSteps.{node_puts, puts-then}
 use Rattle.engine_rows.proofs.front_page.NamesGrammar.entry_point.Goals as goal
 
 pub loop-p-preserved : goal.loop-p-preserved
 loop-p-preserved c =
     let before = c.loop-p.invariant in
     let named = c.name.ensures in
-    record {
-      keeps = Keeps-then before.keeps named.keeps;
-      steps = before.steps ++ named.puts.0;
-      puts = puts-then before.keeps named.keeps before.puts named.puts.1;
-    }
+    record { steps = before.steps ++ named.puts.0; puts = puts-then before.puts named.puts.1 }
 
 -- all that was recorded is one node
 file : (c : goal.After-complete) → Puts (node 710 c.loop-p.invariant.steps) c.args.p.now c.complete.new.p
 file c =
-    let start = c.start-file.ensures in
-    let names = c.loop-p.invariant in
-    let done = c.complete.ensures in
-    subst (λ kind. Puts (node kind names.steps) c.args.p.now c.complete.new.p) c.from.ensures
-    (node_puts c.start-file.result.id c.from.result start.keeps names.keeps done.keeps start.records start.fresh start.position names.puts done.records done.position)
+    node_puts c.start-file.ensures.begins c.loop-p.invariant.puts (rw c.from.ensures at c.complete.ensures.completes)
 
 pub returns-clause-closed : goal.returns-clause-closed
 returns-clause-closed c = closed-fresh c.requires.fresh (Adds-puts (file c))

@@ -1,12 +1,11 @@
 use Rattle.std.proofs.Common.{◌-◌, List}
 use Rattle.squawk_output.specs.Steps.{Step}
 use Rattle.squawk_parser.specs.Recorded.{Puts}
-use Rattle.squawk_parser.specs.State.{Keeps}
 use Rattle.engine_rows.proofs.front_page.NamesGrammar.entry_point.Given as goal
 
 -- steps were put behind the marker
 abbrev pub invariant-loop-p : goal.invariant-loop-p
-invariant-loop-p l = record { keeps : Keeps l.initial.p l.p; steps : List Step; puts : Puts steps l.initial.p l.p }
+invariant-loop-p l = record { steps : List Step; puts : Puts steps l.initial.p l.p }
 
 -- the tokens that are left
 abbrev pub decreases-loop-p : goal.decreases-loop-p
