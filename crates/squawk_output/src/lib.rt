@@ -14,4 +14,4 @@ mod pass;
 pub use event::{Event, process};
 pub use event_list::EventList;
 pub use log::{EventLog, Made};
-pub use output::{Output, Step, StepCounts, Steps, Text};
+pub use output::{Output, Step, Steps, Text};
