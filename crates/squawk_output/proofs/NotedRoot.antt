@@ -4,10 +4,10 @@ use Rattle.std.specs.Prelude.{◌==◌, ◌↔◌, IsTrue}
 use Rattle.std.specs.List.{fold}
 use Rattle.std.proofs.Math.Dec.{eqb-suc-zero}
 use Rattle.std.proofs.lemmas.Bool.{false≢true}
-use Rattle.std.proofs.lemmas.List.Sums.{sum_by-cons}
 use Rattle.squawk_output.specs.OneRoot.{StandsInOneRoot}
 use Rattle.squawk_output.specs.RootNote.{note_of, noted, tells_root}
 use Rattle.squawk_output.specs.Steps.{Step, Token, Enter, Exit, Error, is_enter, is_exit, closings, openings, without_errors}
+use Rattle.squawk_output.proofs.Sums.{count_by-cons}
 use Rattle.squawk_output.specs.declared.output.root_note.RootNote.{RootNote}
 
 -- so many nodes are open, and whether one was entered, and whether a step stands outside
@@ -32,26 +32,20 @@ record Closes (depth : ℕ) (steps : List Step) : Type 0 where
   inside : (k : ℕ) → k < length steps → closings (take k steps) < depth + openings (take k steps)
   closed : closings steps ≡ depth + openings steps
 
-openings-cons : (step : Step) (steps : List Step) → openings (step ∷ steps) ≡ cond (is_enter step) 1 0 + openings steps
-openings-cons step steps = sum_by-cons (λ s. cond (is_enter s) 1 0) step steps
-
-closings-cons : (step : Step) (steps : List Step) → closings (step ∷ steps) ≡ cond (is_exit step) 1 0 + closings steps
-closings-cons step steps = sum_by-cons (λ s. cond (is_exit s) 1 0) step steps
-
 -- one step more in front
 module _ (depth after : ℕ) (step : Step) (steps : List Step) (counts : after + cond (is_exit step) 1 0 ≡ depth + cond (is_enter step) 1 0) where
   inside-cons : Closes after steps → (k : ℕ) → 0 < depth + k → k < length (step ∷ steps) → closings (take k (step ∷ steps)) < depth + openings (take k (step ∷ steps))
   inside-cons closes zero some lt = omega arith
-  inside-cons closes (suc k) some lt = omega (arith, closes.inside k (omega arith), openings-cons step (take k steps), closings-cons step (take k steps))
+  inside-cons closes (suc k) some lt = omega (arith, closes.inside k (omega arith), count_by-cons is_enter step (take k steps), count_by-cons is_exit step (take k steps))
 
   closed-cons : Closes after steps → closings (step ∷ steps) ≡ depth + openings (step ∷ steps)
-  closed-cons closes = omega (arith, closes.closed, openings-cons step steps, closings-cons step steps)
+  closed-cons closes = omega (arith, closes.closed, count_by-cons is_enter step steps, count_by-cons is_exit step steps)
 
   closes-behind : ((k : ℕ) → 0 < k → k < length (step ∷ steps) → closings (take k (step ∷ steps)) < depth + openings (take k (step ∷ steps)))
       → closings (step ∷ steps) ≡ depth + openings (step ∷ steps) → Closes after steps
   closes-behind inside closed = record {
-    inside = λ k lt. omega (arith, inside (suc k) (omega arith) (omega arith), openings-cons step (take k steps), closings-cons step (take k steps));
-    closed = omega (arith, closed, openings-cons step steps, closings-cons step steps);
+    inside = λ k lt. omega (arith, inside (suc k) (omega arith) (omega arith), count_by-cons is_enter step (take k steps), count_by-cons is_exit step (take k steps));
+    closed = omega (arith, closed, count_by-cons is_enter step steps, count_by-cons is_exit step steps);
   }
 
 -- where no node is open a step stands outside, and nothing closes
