@@ -70,7 +70,7 @@ fn parse_calls(
     let script = Script::new(alloc, calls, words)?;
     let input = table.to_input(alloc, vocabulary)?;
     let output = entry.parse(alloc, &input, &script)?;
-    if !table.fits(&output) {
+    if !output.stands_in_one_root() {
         return Err(Fault::DoesNotFit);
     }
     Ok(output)

@@ -12,6 +12,7 @@ pub mod Visits
 pub mod StoredVisits
 pub mod Examples
 pub mod StoredSteps
+pub mod NotedRoot
 pub mod StoredEvents
 pub mod Owners
 pub mod Groups

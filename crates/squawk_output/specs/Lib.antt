@@ -1,4 +1,6 @@
 pub mod Steps
+pub mod OneRoot
+pub mod RootNote
 pub mod StepViews
 pub mod StoredSteps
 pub mod StoredEvents

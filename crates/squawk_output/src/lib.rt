@@ -12,4 +12,4 @@ mod pass;
 
 pub use event::{Event, process};
 pub use log::{EventLog, Made};
-pub use output::{Output, Step, StepCounts, Steps, Text};
+pub use output::{Output, Step, Steps, Text};

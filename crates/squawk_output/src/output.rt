@@ -1,7 +1,10 @@
 //! The output of a parse.
-ghost use Rattle.std.specs.Prelude.{◌≡◌, ◌<◌, ◌^◌, [], length};
+ghost use Rattle.std.specs.Prelude.{◌≡◌, ◌<◌, ◌^◌, ◌↔◌, [], IsTrue, length};
+ghost use Rattle.squawk_output.specs.OneRoot.{StandsInOneRoot};
+ghost use Rattle.squawk_output.specs.Steps.{without_errors};
 
 pub(crate) mod passed;
+mod root_note;
 pub mod step;
 pub mod steps;
 pub(crate) mod stored;
@@ -10,7 +13,7 @@ pub mod text;
 use passed::PassedSteps;
 use std::alloc::Global;
 use std::marker::Model;
-pub use step::{Step, StepCounts};
+pub use step::Step;
 pub use steps::Steps;
 pub use text::Text;
 
@@ -53,6 +56,15 @@ impl Output {
         ensures few { length self.now.steps < 2 ^ 64 }
     {
         self.passed.iter()
+    }
+
+    /// Whether the steps stand in one root: errors aside, they are one node with all that it holds.
+    ///
+    /// The pass has noted it, so nothing is gone over.
+    pub fn stands_in_one_root(&self) -> bool
+        ensures { IsTrue result ↔ StandsInOneRoot (without_errors self.now.steps) }
+    {
+        self.passed.stands_in_one_root()
     }
 
     /// How many events the parse recorded: one for each start, each node that was begun in front of

@@ -1,7 +1,7 @@
 -- Balanced walks, by the depth that they reach.
 use Rattle.std.proofs.Common.{◌≡◌, ℕ, zero, suc, ◌+◌, ◌≤◌, Option, Some, None, List, [], ◌∷◌, ◌++◌, take, arith, ap, refl, ◌∙◌}
 use Rattle.squawk_output.specs.Steps.{Step, Token, Enter, Exit, Error, openings, closings, is_enter, is_exit}
-use Rattle.squawk_table.specs.Shape.{IsBalanced}
+use Rattle.squawk_output.specs.OneRoot.{IsBalanced}
 use Rattle.squawk_output.proofs.Sums.{count_by-cons}
 
 -- the depth after a walk from a depth, if it never leaves more than it has entered

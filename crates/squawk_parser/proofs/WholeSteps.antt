@@ -5,7 +5,7 @@ use Rattle.std.proofs.lemmas.List.Elements.{filter-append}
 use Rattle.squawk_output.specs.Steps.{Step, Enter, Exit, is_enter, is_exit, is_error, openings, closings, without_errors}
 use Rattle.squawk_output.proofs.Sums.{count_by-cons}
 use Rattle.squawk_table.specs.ParserInput.{Entry}
-use Rattle.squawk_table.specs.Shape.{IsBalanced, StandsInOneRoot}
+use Rattle.squawk_output.specs.OneRoot.{IsBalanced, StandsInOneRoot}
 use Rattle.squawk_parser.specs.Eaten.{node, one}
 use Rattle.squawk_parser.proofs.Balance.{depth_after, depth_after-append, depth_after-suc, IsBalanced-depth_after}
 use Rattle.squawk_parser.proofs.Splits.{count_by-append}

@@ -3,7 +3,8 @@ use Rattle.std.specs.Prelude.{◌≡◌, ◌≤◌, ◌*◌, Some, None, List, l
 use Rattle.squawk_table.specs.ParserInput.{Entry}
 use Rattle.squawk_output.specs.Draft.{Draft, HasNoHole, plain}
 use Rattle.squawk_output.specs.Steps.{Walk}
-use Rattle.squawk_table.specs.Shape.{IsBalanced, IsOver}
+use Rattle.squawk_table.specs.Shape.{IsOver}
+use Rattle.squawk_output.specs.OneRoot.{IsBalanced}
 use Rattle.squawk_parser.specs.State.{State, IsSound, Keeps}
 use Rattle.squawk_parser.specs.declared.parser.parse_error.ParseError.{ParseError}
 use Rattle.squawk_parser.specs.declared.parser.parse_error.ParseError.TheVariants.{OutOfMemory}

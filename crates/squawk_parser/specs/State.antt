@@ -6,7 +6,8 @@ use Rattle.squawk_parser.specs.LookAhead.{seen_from}
 use Rattle.squawk_parser.specs.Words.{Words, HasNoEnd}
 use Rattle.squawk_output.specs.Draft.{Draft, nothing, Hole, IsLogged, Open, Mark, Node, errors_of, plain}
 use Rattle.squawk_output.specs.Steps.{eaten}
-use Rattle.squawk_table.specs.Shape.{IsBalanced, IsOver}
+use Rattle.squawk_table.specs.Shape.{IsOver}
+use Rattle.squawk_output.specs.OneRoot.{IsBalanced}
 use Rattle.squawk_parser.specs.declared.parser.limits.Limits.{Limits}
 use Rattle.squawk_parser.specs.declared.parser.parse_error.ParseError.{ParseError}
 use Rattle.squawk_parser.specs.declared.parser.parse_error.ParseError.TheVariants.{OutOfMemory, TooManyEvents, TooManyErrors}

@@ -8,7 +8,8 @@ use Rattle.std.proofs.lemmas.Str.{IsUtf8-drop, encodes-chars, chars-nil}
 use Rattle.squawk_table.specs.ParserInput.{input_of}
 use Rattle.squawk_table.specs.RawTable.{Table, IsTable, raw_after, raw_tokens}
 use Rattle.squawk_table.specs.Sent.{errors_moved, past_trivia, after_input, input_tokens, sent_list, texts_of, IsBeginning}
-use Rattle.squawk_table.specs.Shape.{Fits, StandsInOneRoot, no_keywords}
+use Rattle.squawk_table.specs.Shape.{Fits, no_keywords}
+use Rattle.squawk_output.specs.OneRoot.{StandsInOneRoot}
 use Rattle.squawk_output.specs.Steps.{Step, eaten, without_errors}
 use Rattle.squawk_table.proofs.ErrorsMoved.{IsOver-moved, without_errors-moved, eaten-moved}
 use Rattle.squawk_table.proofs.InputTokens.{length-entries_of, token_after, none_after}

@@ -3,7 +3,6 @@ pub mod RawTokens
 pub mod Examples
 pub mod AllSent
 pub mod ByPlace
-pub mod CountedSteps
 pub mod ErrorsMoved
 pub mod FrontTokens
 pub mod InputEntries
@@ -13,13 +12,11 @@ pub mod JointLemmas
 pub mod NextStep
 pub mod NoEnd
 pub mod NumberedSteps
-pub mod OneRoot
 pub mod Over
 pub mod OverTable
 pub mod Received
 pub mod Receivers
 pub mod RootEnd
-pub mod RootSoFar
 pub mod SendsStep
 pub mod SentBelow
 pub mod SentFrom

@@ -1,5 +1,6 @@
 -- A walk over the input of a table, from a raw place on.
 use Rattle.std.proofs.Common.{◌≡◌, ◌∙◌, ℕ, suc, ◌+◌, ◌-◌, ◌≤◌, Bool, true, false, if◌then◌else◌, List, [], ◌∷◌, length, take, drop, arith, ap, refl, sym, subst}
+use Rattle.std.specs.Prelude.{◌↔◌}
 use Rattle.squawk_kinds.specs.Keywords.{Keywords}
 use Rattle.squawk_kinds.specs.Kinds.{is_trivia}
 use Rattle.squawk_table.specs.ParserInput.{Entry, entries_of, entry_for}
@@ -14,23 +15,24 @@ abbrev pub entries_after : Table → ℕ → List Entry
 entries_after t place = entries_of no_keywords (raw_after t place)
 
 module _ (t : Table) (steps : List Step) (place begin kind n : ℕ) (within : begin ≤ length t.kinds) (past : raw_after t begin ≡ past_trivia (raw_after t place)) where
-  -- the code's test of a token tells whether the walk goes on with it
+  -- the raw tokens that the code looks for stand where the walk goes on with a token
   pub front_there : IsOver (Token kind n ∷ steps) (entries_after t place) → HasNoTrivia (take n (raw_after t begin)) × 1 ≤ n × begin + n ≤ length t.kinds
   front_there over =
       let front = subst (FrontTokens n) (sym past) (FrontTokens-one no_keywords n (raw_after t place) over.0) in
       (front.input, front.some, omega (arith, front.there, length-raw_after t (length t.kinds - begin) begin (omega arith)))
 
-  module _ (input : HasNoTrivia (take n (raw_after t begin))) (some : 1 ≤ n) (room : begin + n ≤ length t.kinds) where
-    front : FrontTokens n (raw_after t begin)
-    front = record { some = some; there = omega (arith, length-raw_after t (length t.kinds - begin) begin (omega arith)); input = input }
-
-    pub rest : drop n (entries_after t place) ≡ entries_after t (begin + n)
-    rest =
-        ap (drop n) (sym (entries_of-past_trivia no_keywords (raw_after t place)) ∙ ap (entries_of no_keywords) (sym past))
-        ∙ (drop-entries_of no_keywords n (raw_after t begin) front.there input ∙ ap (entries_of no_keywords) (sym (raw_after-add t n begin room)))
-
-    pub over_all : IsOver steps (entries_after t (begin + n)) → IsOver (Token kind n ∷ steps) (entries_after t place)
-    over_all over = (one-FrontTokens no_keywords n (raw_after t place) (subst (FrontTokens n) past front), subst (IsOver steps) (sym rest) over)
+  -- and the walk goes on behind them
+  pub over_behind : HasNoTrivia (take n (raw_after t begin)) → 1 ≤ n → begin + n ≤ length t.kinds
+      → IsOver (Token kind n ∷ steps) (entries_after t place) ↔ IsOver steps (entries_after t (begin + n))
+  over_behind input some room =
+      let front : FrontTokens n (raw_after t begin) =
+      record { some = some; there = omega (arith, length-raw_after t (length t.kinds - begin) begin (omega arith)); input = input } in
+      let rest : drop n (entries_after t place) ≡ entries_after t (begin + n) =
+      ap (drop n) (sym (entries_of-past_trivia no_keywords (raw_after t place)) ∙ ap (entries_of no_keywords) (sym past))
+      ∙ (drop-entries_of no_keywords n (raw_after t begin) front.there input ∙ ap (entries_of no_keywords) (sym (raw_after-add t n begin room))) in (
+        λ over. subst (IsOver steps) rest over.1,
+        λ over. (one-FrontTokens no_keywords n (raw_after t place) (subst (FrontTokens n) past front), subst (IsOver steps) (sym rest) over),
+      )
 
 -- which steps are over the entries of raw tokens doesn't depend on contextual keywords
 pub IsOver-keywords : (a b : Keywords) (steps : List Step) (raws : List RawToken) → IsOver steps (entries_of a raws) → IsOver steps (entries_of b raws)

@@ -6,7 +6,7 @@ use Rattle.std.proofs.lemmas.List.{take_all}
 use Rattle.std.proofs.lemmas.List.Sums.{sum_by-take-drop, sum_by-take-le}
 use Rattle.std.proofs.lemmas.Option.{slice_get-get_or}
 use Rattle.squawk_table.specs.Sending.{receives_at, depth_behind}
-use Rattle.squawk_table.specs.Shape.{StandsInOneRoot}
+use Rattle.squawk_output.specs.OneRoot.{StandsInOneRoot}
 use Rattle.squawk_output.specs.Steps.{Step, Token, Enter, Exit, Error, is_enter, is_exit, openings, closings, without_errors}
 use Rattle.squawk_table.proofs.NumberedSteps.{receives, is_receiver}
 use Rattle.squawk_table.proofs.StepPlaces.{openings-take_more, closings-take_more}

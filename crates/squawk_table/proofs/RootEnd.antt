@@ -1,70 +1,51 @@
 -- The end of a walk that stands in one root.
-use Rattle.std.proofs.Common.{◌≡◌, ◌∙◌, ℕ, zero, suc, ◌+◌, ◌<◌, ◌≤◌, true, false, List, length, take, get_or, arith, add-one, ap, refl, subst, inl, inr}
+use Rattle.std.proofs.Common.{◌≡◌, ◌∙◌, ℕ, zero, suc, ◌+◌, ◌<◌, ◌≤◌, true, false, List, [], ◌∷◌, cond, length, take, get_or, arith, add-one, ap, refl, subst, sym, inl, inr}
 use Rattle.std.proofs.lemmas.Bool.{cases_lt, or_left, or_right}
 use Rattle.std.proofs.lemmas.List.{take_all, get_or_default}
 use Rattle.squawk_table.specs.RawTable.{RawToken}
 use Rattle.squawk_table.specs.Sent.{past_trivia, after_input}
-use Rattle.squawk_table.specs.Shape.{StandsInOneRoot}
-use Rattle.squawk_output.specs.Steps.{Step, Token, Enter, Exit, Error, is_error, count_of, openings, closings, eaten, without_errors}
+use Rattle.squawk_output.specs.OneRoot.{BeginsWithEnter, StandsInOneRoot}
+use Rattle.squawk_output.specs.Steps.{Step, Token, Enter, Exit, Error, is_enter, is_exit, is_error, count_of, openings, closings, eaten, without_errors}
 use Rattle.squawk_table.proofs.NumberedSteps.{eaten_before, is_receiver, is_received}
-use Rattle.squawk_table.proofs.OneRoot.{first_step, length-root}
 use Rattle.squawk_table.proofs.Received.{left_before, behind, is_received-same}
 use Rattle.squawk_table.proofs.Receivers.{is_receiver-at, last_receives}
 use Rattle.squawk_table.proofs.StepPlaces.{eaten-take_more, openings-take_more, closings-take_more}
 use Rattle.squawk_table.proofs.WithoutErrors.{kept, kept-error, kept-more, kept-at, kept-lt}
 
-module _ (steps : List Step) (root : StandsInOneRoot steps) (last : ℕ) (end : last + 1 ≡ length steps) where
-  all_steps : take (last + 1) steps ≡ steps
-  all_steps = take_all (last + 1) steps (omega arith)
+-- the first step of a walk that begins with an opening
+first_step : (steps : List Step) (step : Step) → get_or steps 0 step ≡ step → BeginsWithEnter steps → is_enter step ≡ true
+first_step [] step at begins = absurd begins
+first_step (Enter kind ∷ steps) step at begins = ap is_enter (sym at)
+first_step (Token kind n ∷ steps) step at begins = absurd begins
+first_step (Exit ∷ steps) step at begins = absurd begins
+first_step (Error text ∷ steps) step at begins = absurd begins
 
-  token_or_enter : (step : Step) → get_or steps last step ≡ step → closings (take (last + 1) steps) ≡ closings (take last steps)
-      → openings (take last steps) ≤ openings (take (last + 1) steps) → 0 < last → ⊥
-  token_or_enter step at same more positive =
-      omega (arith, root.inside last positive (omega arith), root.closed, ap closings all_steps, ap openings all_steps)
+length-root : (steps : List Step) → BeginsWithEnter steps → 0 < length steps
+length-root [] begins = absurd begins
+length-root (x ∷ steps) begins = omega arith
 
-  -- the last step is a closing
-  pub last_step : (step : Step) → get_or steps last step ≡ step → step ≡ Exit
-  last_step (Token kind n) at =
-      let first : 0 < length steps = omega arith in
-      let lt : last < length steps = omega arith in
-      let closed = closings-take_more steps last (Token kind n) lt at in
-      let opened = openings-take_more steps last (Token kind n) lt at in
-      elim (cases_lt 0 last) [
-        | inl positive ↦ absurd (token_or_enter (Token kind n) at (omega arith) (omega arith) positive)
-        | inr none ↦
-            let e : last ≡ 0 = omega arith in
-            absurd (first_step steps (Token kind n) (subst (λ i. get_or steps i (Token kind n) ≡ Token kind n) e at) root.begins)
-      ]
-  last_step (Enter kind) at =
-      let lt : last < length steps = omega arith in
-      let closed = closings-take_more steps last (Enter kind) lt at in
-      let opened = openings-take_more steps last (Enter kind) lt at in
-      elim (cases_lt 0 last) [
-        | inl positive ↦ absurd (token_or_enter (Enter kind) at (omega arith) (omega arith) positive)
-        | inr none ↦
-            let e : last ≡ 0 = omega arith in
-            let closed_none : closings (take last steps) ≡ 0 = ap (λ i. closings (take i steps)) e in
-            absurd (omega (arith, root.closed, ap closings all_steps, ap openings all_steps))
-      ]
-  last_step (Error text) at =
-      let first : 0 < length steps = omega arith in
-      let lt : last < length steps = omega arith in
-      let closed = closings-take_more steps last (Error text) lt at in
-      let opened = openings-take_more steps last (Error text) lt at in
-      elim (cases_lt 0 last) [
-        | inl positive ↦ absurd (token_or_enter (Error text) at (omega arith) (omega arith) positive)
-        | inr none ↦
-            let e : last ≡ 0 = omega arith in
-            absurd (first_step steps (Error text) (subst (λ i. get_or steps i (Error text) ≡ Error text) e at) root.begins)
-      ]
-  last_step Exit at = refl
+-- the last step is a closing
+last_step : (steps : List Step) → StandsInOneRoot steps → (last : ℕ) → last + 1 ≡ length steps → (step : Step) → get_or steps last step ≡ step → is_exit step ≡ false → ⊥
+last_step steps root last end step at other =
+    let lt : last < length steps = omega arith in
+    let whole : take (last + 1) steps ≡ steps = take_all (last + 1) steps (omega arith) in
+    let none : cond {A = ℕ} (is_exit step) 1 0 ≡ 0 = ap (λ b. cond {A = ℕ} b 1 0) other in
+    let same : closings (take last steps) ≡ closings steps = omega (arith, closings-take_more steps last step lt at, ap closings whole) in
+    let opened : openings (take last steps) + cond (is_enter step) 1 0 ≡ openings steps = omega (arith, openings-take_more steps last step lt at, ap openings whole) in
+    elim (cases_lt 0 last) [
+      | inl positive ↦ omega (arith, root.inside last positive lt, root.closed)
+      | inr none_before ↦
+          let e : last ≡ 0 = omega arith in
+          let first : cond {A = ℕ} (is_enter step) 1 0 ≡ 1 = ap (λ b. cond {A = ℕ} b 1 0) (first_step steps step (subst (λ i. get_or steps i step ≡ step) e at) root.begins) in
+          omega (arith, root.closed, ap (λ i. closings (take i steps)) e)
+    ]
 
 -- ---- with errors
 
 module _ (steps : List Step) (root : StandsInOneRoot (without_errors steps)) where
   module _ (i : ℕ) (step : Step) (lt : i < length steps) (at : get_or steps i step ≡ step) (past : length (without_errors steps) ≤ kept steps (i + 1)) where
     -- a step that isn't an error, and behind which only errors stand, closes the root
-    closes_root : is_error step ≡ false → step ≡ Exit
+    closes_root : is_error step ≡ false → is_exit step ≡ false → ⊥
     closes_root other =
         let low = kept-lt steps i step lt at other in
         last_step (without_errors steps) root (kept steps i) (omega (arith, kept-more steps i step lt at other)) step (kept-at steps i step lt at other)
@@ -74,8 +55,8 @@ module _ (steps : List Step) (root : StandsInOneRoot (without_errors steps)) whe
 
   one_more : (i : ℕ) (step : Step) → i < length steps → get_or steps i step ≡ step → length (without_errors steps) ≤ kept steps (i + 1)
       → (length (without_errors steps) ≤ kept steps i → is_received steps (eaten_before steps i) i ≡ true) → is_received steps (eaten_before steps (i + 1)) (i + 1) ≡ true
-  one_more i (Token kind n) lt at past before = let wrong = closes_root i (Token kind n) lt at past refl in cc
-  one_more i (Enter kind) lt at past before = let wrong = closes_root i (Enter kind) lt at past refl in cc
+  one_more i (Token kind n) lt at past before = absurd (closes_root i (Token kind n) lt at past refl refl)
+  one_more i (Enter kind) lt at past before = absurd (closes_root i (Enter kind) lt at past refl refl)
   one_more i Exit lt at past before =
       let same = same_eaten i Exit lt at past refl in
       let c = eaten_before steps (i + 1) in

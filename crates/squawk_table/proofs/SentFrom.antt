@@ -5,7 +5,8 @@ use Rattle.std.proofs.lemmas.List.{append-nil, length-drop}
 use Rattle.squawk_table.specs.RawTable.{Table, IsTable, raw_after, raw_tokens}
 use Rattle.squawk_table.specs.Sending.{sent_here, next_place, receives_at, depth_behind, trivia_here, place_here, sent_from, end_from, HaveTokens}
 use Rattle.squawk_table.specs.Sent.{errors_moved, leading_trivia, past_trivia, sent_raw, sent_list}
-use Rattle.squawk_table.specs.Shape.{Fits, StandsInOneRoot}
+use Rattle.squawk_table.specs.Shape.{Fits}
+use Rattle.squawk_output.specs.OneRoot.{StandsInOneRoot}
 use Rattle.squawk_output.specs.Steps.{Step, openings, closings, without_errors}
 use Rattle.squawk_table.proofs.AllSent.{IsOverRaw-from_fits, root_moved}
 use Rattle.squawk_table.proofs.FrontTokens.{length-raw_after, raw_after-add}

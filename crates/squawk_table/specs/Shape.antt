@@ -1,27 +1,10 @@
--- The shape of a walk: balanced, in one root, over an input.
-use Rattle.std.specs.Prelude.{◌≡◌, ℕ, ◌+◌, ◌<◌, ◌≤◌, true, List, [], ◌∷◌, length, take, drop}
-use Rattle.squawk_output.specs.Steps.{Step, Token, Enter, Exit, Error, openings, closings, without_errors}
+-- Walks over an input, and walks that fit a table.
+use Rattle.std.specs.Prelude.{◌≡◌, ℕ, ◌+◌, ◌<◌, ◌≤◌, true, List, [], ◌∷◌, None, length, drop}
+use Rattle.squawk_output.specs.OneRoot.{StandsInOneRoot}
+use Rattle.squawk_output.specs.Steps.{Step, Token, Enter, Exit, Error, without_errors}
 use Rattle.squawk_table.specs.ParserInput.{Entry, input_of, touches_in}
 use Rattle.squawk_table.specs.RawTable.{Table}
 use Rattle.squawk_kinds.specs.Keywords.{Keywords}
-use Rattle.std.specs.Prelude.{None}
-
--- no beginning closes more nodes than it opens, and all that are opened are closed
-pub record IsBalanced (steps : List Step) : Type 0 where
-  pub never_below : (k : ℕ) → closings (take k steps) ≤ openings (take k steps)
-  pub closed : closings steps ≡ openings steps
-
--- the first step is an opening
-abbrev pub BeginsWithEnter : List Step → Type 0
-BeginsWithEnter (Enter kind ∷ steps) = Unit {0}
-BeginsWithEnter steps = ⊥
-
--- The walk begins with an opening. No beginning closes more nodes than it opens, and of those that aren't empty only the whole
--- walk closes as many.
-pub record StandsInOneRoot (steps : List Step) : Type 0 where
-  pub begins : BeginsWithEnter steps
-  pub inside : (k : ℕ) → 0 < k → k < length steps → closings (take k steps) < openings (take k steps)
-  pub closed : closings steps ≡ openings steps
 
 -- the first n tokens of an input are there, at least one, and they touch one another
 pub record AreOneToken (n : ℕ) (input : List Entry) : Type 0 where

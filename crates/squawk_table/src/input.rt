@@ -1,7 +1,9 @@
 //! The input of a parser.
-ghost use Rattle.std.specs.Prelude.{◌≡◌, ◌<◌, ◌+◌, [], length, IfOk, IsTrue};
+ghost use Rattle.std.specs.Prelude.{◌≡◌, ◌<◌, ◌+◌, List, [], length, IfOk, IsTrue};
+ghost use Rattle.squawk_output.specs.Steps.{Step};
 ghost use Rattle.squawk_table.specs.ParserInput.{HasNoEndToken, input_of, kind_in, contextual_kind_in, contextual_kind_of, touches_in};
 ghost use Rattle.squawk_table.specs.RawTable.{raw_at};
+ghost use Rattle.squawk_table.specs.Shape.{IsOver, no_keywords};
 
 mod joints;
 
@@ -95,6 +97,8 @@ impl LexedStr<'_> {
     ) -> Result<Input, AllocError>
         ensures input { IfOk result (λ input. input ≡ input_of (V.contextual_keyword vocabulary.now) self.now) }
         ensures no_end { IfOk result HasNoEndToken }
+        // So an output of a parse over it fits the table where it stands in one root.
+        ensures over { IfOk result (λ input. (steps : List Step) → IsOver steps input → IsOver steps (input_of no_keywords self.now)) }
     {
         let len = self.len();
         let mut kinds = vec![in alloc; SyntaxKind::EOF; len]?;

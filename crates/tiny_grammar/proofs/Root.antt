@@ -5,7 +5,7 @@ use Rattle.std.specs.List.{flat_map}
 use Rattle.std.proofs.lemmas.List.{append-nil, replicate_more}
 use Rattle.squawk_kinds.specs.Kinds.{EOF, ERROR, CUSTOM_OP}
 use Rattle.squawk_table.specs.ParserInput.{Entry, kind_in}
-use Rattle.squawk_table.specs.Shape.{StandsInOneRoot}
+use Rattle.squawk_output.specs.OneRoot.{StandsInOneRoot}
 use Rattle.squawk_output.specs.Steps.{Step, Enter, Exit, Error, without_errors}
 use Rattle.squawk_parser.specs.Eaten.{node, one}
 use Rattle.squawk_parser.specs.Operators.{operator_length}

@@ -10,7 +10,8 @@ use Rattle.squawk_kinds.specs.Keywords.{Keywords}
 use Rattle.squawk_kinds.specs.Kinds.{EOF, ERROR}
 use Rattle.squawk_table.specs.ParserInput.{Entry, HasNoEndToken, input_of, kind_in}
 use Rattle.squawk_table.specs.RawTable.{Table, raw_tokens}
-use Rattle.squawk_table.specs.Shape.{Fits, IsOver, StandsInOneRoot, no_keywords}
+use Rattle.squawk_table.specs.Shape.{Fits, IsOver, no_keywords}
+use Rattle.squawk_output.specs.OneRoot.{StandsInOneRoot}
 use Rattle.squawk_output.specs.Steps.{Step, Walk, Enter, Exit, Error, count_of, eaten, without_errors}
 use Rattle.squawk_table.proofs.Over.{eaten-le}
 use Rattle.squawk_table.proofs.OverTable.{IsOver-keywords, length-keywords}

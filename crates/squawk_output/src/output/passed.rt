@@ -1,7 +1,9 @@
 //! The steps that a pass makes.
-ghost use Rattle.std.specs.Prelude.{◌≡◌, [], ◌∷◌, ◌++◌, ◌+◌, ◌<◌, ◌^◌, IfOk, length, slice_index_or};
-ghost use Rattle.squawk_output.specs.Steps.{Token, Enter, Exit, Error};
+ghost use Rattle.std.specs.Prelude.{◌≡◌, [], ◌∷◌, ◌++◌, ◌+◌, ◌<◌, ◌^◌, ◌↔◌, IfOk, IsTrue, length, slice_index_or};
+ghost use Rattle.squawk_output.specs.OneRoot.{StandsInOneRoot};
+ghost use Rattle.squawk_output.specs.Steps.{Token, Enter, Exit, Error, without_errors};
 
+use crate::output::root_note::RootNote;
 use crate::output::steps::Steps;
 use crate::output::stored::StoredStep;
 use crate::output::text::Text;
@@ -18,6 +20,7 @@ pub(crate) struct PassedSteps {
     words: Vec<u32>,
     errors: Vec<Text>,
     turns: u64,
+    note: RootNote,
 }
 
 impl Model for PassedSteps {
@@ -25,12 +28,17 @@ impl Model for PassedSteps {
 
     ghost Value = { Passed };
 
-    ghost use Rattle.std.specs.Prelude.{map};
+    ghost use Rattle.std.specs.Prelude.{◌≡◌, ◌≤◌, length, map};
+    ghost use Rattle.squawk_output.specs.RootNote.{note_of};
     ghost use Rattle.squawk_output.specs.StoredSteps.{HaveTexts, step_in};
 
     ghost view = { λ p. record { steps = map (step_in p.errors.items) p.words.items; texts = p.errors.items; turns = p.turns } };
 
-    ghost invariant = { λ p. HaveTexts p.errors.items p.words.items };
+    ghost invariant = { λ p. record {
+      have_texts : HaveTexts p.errors.items p.words.items;
+      note : p.note ≡ note_of (map (step_in p.errors.items) p.words.items);
+      low : p.note.depth ≤ length p.words.items;
+    } };
 }
 
 impl PassedSteps {
@@ -42,6 +50,7 @@ impl PassedSteps {
             words: Vec::new(alloc),
             errors: Vec::new(alloc),
             turns: 0,
+            note: RootNote::new(),
         }
     }
 
@@ -57,6 +66,7 @@ impl PassedSteps {
             words: Vec::with_capacity(alloc, steps)?,
             errors,
             turns: 0,
+            note: RootNote::new(),
         })
     }
 
@@ -77,6 +87,7 @@ impl PassedSteps {
             n_input_tokens,
         };
         self.words.push(token.pack())?;
+        self.note.token();
         Ok(())
     }
 
@@ -85,6 +96,7 @@ impl PassedSteps {
         ensures { IfOk result (λ _. self.new ≡ record self.old { steps = self.old.steps ++ Enter kind ∷ [] }) }
     {
         self.words.push(StoredStep::Enter { kind }.pack())?;
+        self.note.enter();
         Ok(())
     }
 
@@ -93,6 +105,7 @@ impl PassedSteps {
         ensures { IfOk result (λ _. self.new ≡ record self.old { steps = self.old.steps ++ Exit ∷ [] }) }
     {
         self.words.push(StoredStep::Exit.pack())?;
+        self.note.leave();
         Ok(())
     }
 
@@ -112,6 +125,14 @@ impl PassedSteps {
         ensures few { length self.now.steps < 2 ^ 64 }
     {
         Steps::new(&self.words, &self.errors)
+    }
+
+    /// Whether the steps stand in one root, errors aside.
+    #[tactic(auto, using(crate::proofs::NotedRoot::note_tells))]
+    pub(crate) fn stands_in_one_root(&self) -> bool
+        ensures { IsTrue result ↔ StandsInOneRoot (without_errors self.now.steps) }
+    {
+        self.note.tells_root()
     }
 
     /// How many turns it took.

@@ -21,16 +21,3 @@ pub enum Step<'a> {
         msg: &'a str,
     },
 }
-
-/// What a step counts for, whatever its kind and its text are. An error counts for nothing.
-#[derive(Clone, Copy, Debug, PartialEq, Eq)]
-pub struct StepCounts {
-    /// 1 for the beginning of a node, otherwise 0.
-    pub entered: u8,
-    /// 1 for the end of a node, otherwise 0.
-    pub left: u8,
-    /// 1 for a token, otherwise 0.
-    pub tokens: u8,
-    /// The tokens of the input that a token has, otherwise 0.
-    pub input_tokens: u8,
-}

@@ -1,12 +1,10 @@
 //! The steps of an output, one after another.
-ghost use Rattle.std.specs.Prelude.{◌≡◌, ◌∷◌, [], false, map, IsNone, IfSome, MatchOption};
+ghost use Rattle.std.specs.Prelude.{◌≡◌, ◌∷◌, false, map, IsNone, IfSome};
 ghost use Rattle.std.specs.Str.{chars};
 ghost use Rattle.squawk_output.specs.StoredSteps.{HaveTexts, step_in};
-ghost use Rattle.squawk_output.specs.StepViews.{counts_of};
-ghost use Rattle.squawk_output.specs.Steps as plain;
 ghost use Rattle.squawk_output.specs.Steps.{Error, begins_with_error};
 
-use crate::output::step::{Step, StepCounts};
+use crate::output::step::Step;
 use crate::output::stored::StoredStep;
 use crate::output::text::Text;
 use std::marker::Model;
@@ -54,19 +52,6 @@ impl<'a> Steps<'a> {
             }
             _ => None,
         }
-    }
-
-    /// Takes the next step and tells what it counts for, as [`Iterator::next`] tells the step.
-    ///
-    /// Which step comes next can't be foreseen, so a match on each step of a walk costs time. These
-    /// numbers are made without one.
-    #[inline(always)]
-    pub fn next_counts(&mut self) -> Option<StepCounts>
-        ensures { MatchOption result ((self.old ≡ []) × (self.new ≡ [])) (λ counts. (step : plain.Step) × (self.old ≡ step ∷ self.new) × (counts ≡ counts_of step)) }
-    {
-        let (word, rest) = self.words.split_first()?;
-        self.words = rest;
-        Some(StoredStep::counts(*word))
     }
 }
 

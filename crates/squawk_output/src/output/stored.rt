@@ -1,9 +1,9 @@
 //! The steps of an output as it keeps them, in a word each.
-ghost use Rattle.std.specs.Prelude.{◌≡◌, ◌<◌, List, ℕ};
-ghost use Rattle.squawk_output.specs.StepViews.{counts_of, step_of};
-ghost use Rattle.squawk_output.specs.StoredSteps.{FitsWord, HasText, odd_word, packed, step_in, unpacked, with_text};
+ghost use Rattle.std.specs.Prelude.{◌≡◌, ◌<◌};
+ghost use Rattle.squawk_output.specs.StepViews.{step_of};
+ghost use Rattle.squawk_output.specs.StoredSteps.{FitsWord, HasText, odd_word, packed, unpacked, with_text};
 
-use crate::output::step::{Step, StepCounts};
+use crate::output::step::Step;
 use crate::output::text::Text;
 use squawk_kinds::SyntaxKind;
 
@@ -67,26 +67,6 @@ impl StoredStep {
             },
             ENTER => StoredStep::Enter { kind },
             _ => StoredStep::Exit,
-        }
-    }
-
-    /// What the step of a word counts for, made of the word's bits without asking which step it is.
-    #[inline(always)]
-    pub(crate) fn counts(word: u32) -> StepCounts
-        ensures { (errors : List (List ℕ)) → result ≡ counts_of (step_in errors word) }
-    {
-        let is_odd = word % 2 == 1;
-        let tag = (word >> 4) % 16;
-        let is_token = is_odd & (tag == TOKEN);
-        StepCounts {
-            entered: u8::from(is_odd & (tag == ENTER)),
-            left: u8::from(is_odd & (tag > ENTER)),
-            tokens: u8::from(is_token),
-            input_tokens: if is_token {
-                ((word >> 8) % 256) as u8
-            } else {
-                0
-            },
         }
     }
 

@@ -1,99 +1,50 @@
 //! The test whether an output can be sent over a table.
-ghost use Rattle.std.specs.Prelude.{◌≡◌, ◌+◌, ◌<◌, ◌≤◌, ◌^◌, ◌↔◌, true, false, IfSome, IsSome, IsTrue, SomeIff, drop, length, slice_index, take};
+ghost use Rattle.std.specs.Prelude.{◌≡◌, ◌+◌, ◌<◌, ◌≤◌, ◌↔◌, false, IsTrue, SomeIff, length, slice_index, take};
 ghost use Rattle.squawk_kinds.specs.Kinds.{is_trivia};
 ghost use Rattle.squawk_kinds.specs.Keywords.{Keywords};
-ghost use Rattle.squawk_table.specs.ParserInput.{entries_of, input_of};
+ghost use Rattle.squawk_output.specs.OneRoot.{StandsInOneRoot};
+ghost use Rattle.squawk_output.specs.Steps.{without_errors};
+ghost use Rattle.squawk_table.specs.ParserInput.{input_of};
 ghost use Rattle.squawk_table.specs.RawTable.{raw_after};
 ghost use Rattle.squawk_table.specs.Sent.{past_trivia, HasNoTrivia};
-ghost use Rattle.squawk_table.specs.Shape.{AreOneToken, StandsInOneRoot, IsOver, Fits, no_keywords};
-ghost use Rattle.squawk_output.specs.StepViews.{counts_of};
-ghost use Rattle.squawk_output.specs.Steps as plain;
-ghost use Rattle.squawk_output.specs.Steps.{is_error, without_errors};
+ghost use Rattle.squawk_table.specs.Shape.{IsOver, Fits, no_keywords};
 
 use crate::lexed_str::LexedStr;
-use squawk_output::{Output, StepCounts, Steps};
+use squawk_output::{Output, Step, Steps};
 
 impl LexedStr<'_> {
     /// Whether the output can be sent over this table: errors aside, it is one node with all that
     /// it holds, and under each of its tokens stand the next raw tokens that aren't trivia, with
     /// nothing between them.
     ///
-    /// An output of a parse over an input of this table, whatever its contextual keywords were, fits
-    /// exactly where it is one node, errors aside.
+    /// Of a parse over an input of this table, whatever its contextual keywords were, only the first
+    /// can fail, and [`Output::stands_in_one_root`] tells it without going over the steps.
     pub fn fits(&self, output: &Output) -> bool
         ensures fits { IsTrue result ↔ Fits self.now output.now.steps }
         ensures own { (contextual : Keywords) → IsOver output.now.steps (input_of contextual self.now)
             → IsTrue result ↔ StandsInOneRoot (without_errors output.now.steps) }
     {
-        self.fits_steps(output.iter())
+        output.stands_in_one_root() && self.tokens_fit(output.iter())
     }
 
-    /// Whether the steps fit, told in one pass: in how many nodes the next step stands, before which
-    /// raw token, and how many tokens of one raw token each are due from there on.
-    ///
-    /// Which step comes next and where trivia stands can't be foreseen. So steps are told by what they
-    /// count for, and the raw tokens are gone over where several are one token, and at the end.
-    fn fits_steps(&self, mut steps: Steps<'_>) -> bool
-        requires { length steps < 2 ^ 64 }
-        ensures { IsTrue result ↔ Fits self.now steps.entry }
+    /// Whether under each token of the steps stand the next raw tokens that aren't trivia, with nothing
+    /// between them.
+    fn tokens_fit(&self, steps: Steps<'_>) -> bool
+        ensures { IsTrue result ↔ IsOver steps.entry (input_of no_keywords self.now) }
     {
-        let mut depth = 0usize;
-        let mut has_root = false;
         let mut place = 0;
-        let mut due = 0usize;
-        while let Some(counts) = steps.next_counts() {
-            if depth > 0 {
-                if counts.input_tokens == counts.tokens {
-                    depth = depth + usize::from(counts.entered) - usize::from(counts.left);
-                    due += usize::from(counts.tokens);
-                } else {
-                    match self.behind_token(place, due, counts.input_tokens) {
-                        Some(end) => {
-                            place = end;
-                            due = 0;
-                        }
+        for step in steps {
+            match step {
+                Step::Token { n_input_tokens, .. } => {
+                    match self.one_token(self.past_trivia(place), n_input_tokens) {
+                        Some(end) => place = end,
                         None => return false,
                     }
                 }
-            } else if counts.entered == 1 && !has_root {
-                depth = 1;
-                has_root = true;
-            } else if !is_error(counts) {
-                return false;
+                Step::Enter { .. } | Step::Exit | Step::Error { .. } => {}
             }
         }
-        has_root && depth == 0 && self.past_tokens(place, due).is_some()
-    }
-
-    /// The place behind a token of `n` raw tokens, before which so many tokens of one are due from a
-    /// raw place on, if all of these are there.
-    fn behind_token(&self, from: usize, due: usize, n: u8) -> Option<usize>
-        requires { from ≤ length self.now.kinds }
-        ensures some { let input = entries_of no_keywords (raw_after self.now from) in IsSome result ↔ ((due ≤ length input) × AreOneToken n (drop due input)) }
-        ensures place { let input = entries_of no_keywords (raw_after self.now from) in IfSome result (λ place. (place ≤ length self.now.kinds)
-            × (entries_of no_keywords (raw_after self.now place) ≡ drop n (drop due input))) }
-    {
-        let place = self.past_tokens(from, due)?;
-        self.one_token(self.past_trivia(place), n)
-    }
-
-    /// The place behind the next `n` raw tokens that aren't trivia, if so many stand from a raw place on.
-    fn past_tokens(&self, from: usize, n: usize) -> Option<usize>
-        requires { from ≤ length self.now.kinds }
-        ensures some { IsSome result ↔ (n ≤ length (entries_of no_keywords (raw_after self.now from))) }
-        ensures place { IfSome result (λ place. (place ≤ length self.now.kinds)
-            × (entries_of no_keywords (raw_after self.now place) ≡ drop n (entries_of no_keywords (raw_after self.now from)))) }
-    {
-        let mut left = n;
-        let mut place = from;
-        while left > 0 {
-            if place == self.len() {
-                return None;
-            }
-            left -= usize::from(!self.kind(place).is_trivia());
-            place += 1;
-        }
-        Some(place)
+        true
     }
 
     /// The place behind the trivia that stands from a raw place on.
@@ -129,11 +80,4 @@ impl LexedStr<'_> {
         }
         Some(end)
     }
-}
-
-/// Whether what counts so is an error, which counts for nothing.
-fn is_error(counts: StepCounts) -> bool
-    ensures { (step : plain.Step) → counts ≡ counts_of step → result ≡ is_error step }
-{
-    counts.entered == 0 && counts.left == 0 && counts.tokens == 0
 }

@@ -1,4 +1,4 @@
-use Rattle.std.proofs.Common.{◌∙◌, Err, sym}
+use Rattle.std.proofs.Common.{◌∙◌, Err, subst, sym}
 use Rattle.squawk_document.specs.DocumentGrammars.{by_calls}
 use Rattle.squawk_table.specs.ParserInput.{input_of}
 use Rattle.squawk_table.specs.Shape.{Fits}
@@ -20,15 +20,15 @@ returns-in_err-output-clause-parsed c =
     (λ other. sym (refusal-same c.args.entry cs words input c.in_ok-script.script c.in_ok-input.input c.in_ok-script.ensures.script c.in_ok-input.ensures.input)
     ∙ limit-told c.in_ok-script.script _ reason c.in_err-output.ensures.refused other))
 
-pub returns-then-not-fits-clause-parsed : goal.returns-then-not-fits-clause-parsed
-returns-then-not-fits-clause-parsed c =
+pub returns-then-not-stands_in_one_root-clause-parsed : goal.returns-then-not-stands_in_one_root-clause-parsed
+returns-then-not-stands_in_one_root-clause-parsed c =
     let words = words_with c.args.operator_first c.args.names.now in
     let cs = c.args.calls.items in
     let input = input_of (answers c.args.vocabulary.now).contextual.kind_of c.args.table.now in
     let parse = c.in_ok-output.ensures.output in
     let steps = steps-told c.args.entry cs words input c.in_ok-script.script c.in_ok-input.input c.in_ok-script.ensures.script c.in_ok-input.ensures.input c.in_ok-output.output parse in
     let none = none-refused c.args.entry cs words input c.in_ok-script.script c.in_ok-input.input c.in_ok-script.ensures.script c.in_ok-input.ensures.input c.in_ok-output.output parse c.in_ok-output.ensures.within in
-    ((c.in_ok-script.ensures.accepted, none), λ fits. absurd (let yes = c.fits.ensures.fits.1 (rw steps fits) in let no = c.if-not-fits.true in cc))
+    ((c.in_ok-script.ensures.accepted, none), λ fits. absurd (let yes = c.stands_in_one_root.ensures.1 (subst (Fits c.args.table.now) (sym steps) fits).root in let no = c.if-not-stands_in_one_root.true in cc))
 
 pub returns-clause-parsed : goal.returns-clause-parsed
 returns-clause-parsed c =
@@ -38,5 +38,6 @@ returns-clause-parsed c =
     let parse = c.in_ok-output.ensures.output in
     let steps = steps-told c.args.entry cs words input c.in_ok-script.script c.in_ok-input.input c.in_ok-script.ensures.script c.in_ok-input.ensures.input c.in_ok-output.output parse in
     let none = none-refused c.args.entry cs words input c.in_ok-script.script c.in_ok-input.input c.in_ok-script.ensures.script c.in_ok-input.ensures.input c.in_ok-output.output parse c.in_ok-output.ensures.within in
-    let fits : Fits c.args.table.now c.in_ok-output.output.steps = c.fits.ensures.fits.0 (let p = c.if-not-fits.false in cc) in
+    let fits : Fits c.args.table.now c.in_ok-output.output.steps =
+    record { root = c.stands_in_one_root.ensures.0 (let p = c.if-not-stands_in_one_root.false in cc); over = c.in_ok-input.ensures.over c.in_ok-output.output.steps parse.over } in
     ((c.in_ok-script.ensures.accepted, none), fits, steps)

@@ -2,9 +2,11 @@ use Rattle.std.proofs.Common.{◌≡◌, ◌<◌, ◌≤◌, ◌+◌, ◌∙◌,
 use Rattle.squawk_kinds.specs.Kinds.{is_trivia}
 use Rattle.squawk_table.specs.InputView.{entries_in}
 use Rattle.squawk_table.specs.ParserInput.{HasNoEndToken, entries_of, input_of}
-use Rattle.squawk_table.specs.RawTable.{raw_after}
+use Rattle.squawk_table.specs.RawTable.{raw_after, raw_tokens}
+use Rattle.squawk_table.specs.Shape.{IsOver, no_keywords}
 use Rattle.squawk_table.proofs.InputSoFar.{within_next, unset_next, entries_next, entries_end, followed_at}
 use Rattle.squawk_table.proofs.NoEnd.{input-no_end}
+use Rattle.squawk_table.proofs.OverTable.{IsOver-keywords}
 use Rattle.squawk_table.proofs.lexed_str.LexedStr.to_input.Goals as goal
 
 pub loop-i-preserved : goal.loop-i-preserved
@@ -35,19 +37,17 @@ loop-i-preserved g c =
       unset = rw c.set.ensures (λ k le. unset_next loop.joints loop.last loop.was_token _ in_joints before.unset k (subst (λ n. n ≤ k) before.next le));
     }
 
-pub returns-clause-input : goal.returns-clause-input
-returns-clause-input g c =
+pub returns : goal.returns
+returns g c =
     let contextual = g.V.Vocabulary.contextual_keyword c.args.vocabulary.now in
-    let loop = c.loop-i in
-    rw (c.truncate.ensures.items, c.truncate-2.ensures.items, c.truncate-3.ensures)
-    (entries_end contextual c.args.self.now loop.i loop.kinds.items loop.contextual_kinds.items loop.joints _ loop.count loop.last loop.was_token (omega arith) (loop.invariant.unset loop.last (omega arith)) loop.invariant.done)
-
-pub returns-clause-no_end : goal.returns-clause-no_end
-returns-clause-no_end g c =
-    let contextual = g.V.Vocabulary.contextual_keyword c.args.vocabulary.now in
+    let t = c.args.self.now in
     let loop = c.loop-i in
     let made = entries_in (take loop.count loop.kinds.items) (take loop.count loop.contextual_kinds.items) (take loop.count loop.joints) in
-    let all : made ≡ input_of contextual c.args.self.now =
-    entries_end contextual c.args.self.now loop.i loop.kinds.items loop.contextual_kinds.items loop.joints _ loop.count loop.last loop.was_token (omega arith) (loop.invariant.unset loop.last (omega arith)) loop.invariant.done in
+    let all : made ≡ input_of contextual t =
+    entries_end contextual t loop.i loop.kinds.items loop.contextual_kinds.items loop.joints _ loop.count loop.last loop.was_token (omega arith) (loop.invariant.unset loop.last (omega arith)) loop.invariant.done in
     rw (c.truncate.ensures.items, c.truncate-2.ensures.items, c.truncate-3.ensures)
-    (subst HasNoEndToken (sym all) (input-no_end contextual c.args.self.now c.len-len.ensures.table.no_end))
+    (record {
+      input = all;
+      no_end = subst HasNoEndToken (sym all) (input-no_end contextual t c.len-len.ensures.table.no_end);
+      over = λ steps over. IsOver-keywords contextual no_keywords steps (raw_tokens t) (subst (IsOver steps) all over);
+    })
