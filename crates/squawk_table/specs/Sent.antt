@@ -52,7 +52,8 @@ leading_errors (Exit ∷ steps) = []
 leading_errors (Error text ∷ steps) = Error text ∷ leading_errors steps
 
 -- The errors that stand directly behind a closing go directly before it. They go there once: before the closing in front of that
--- they don't climb.
+-- they don't climb. Errors at the front of a walk stay there, so the list behind the closing begins with them, too: there they are
+-- dropped.
 abbrev pub errors_moved : List Step → List Step
 errors_moved [] = []
 errors_moved (Token kind n ∷ steps) = Token kind n ∷ errors_moved steps
