@@ -16,7 +16,7 @@ draft_of_a_log = refl
 
 -- Ids matter to a plain list by their order alone. Two markers, a token and a third marker: its id is its place, 3; one above the greatest
 -- id before it would be 2. The second and the third are completed, and the third's node is extended to the first.
-steps_with : ℕ → List Step
+abbrev steps_with : ℕ → List Step
 steps_with id =
     let markers : List Item = Hole 0 ByStart ∷ Hole 1 ByStart ∷ Token 3 1 ∷ Hole id ByStart ∷ [] in
     plain (extended_items (record { id = id; kind = 701 }) 0 (filled (filled markers 1 700 ++ Close ∷ []) id 701 ++ Close ∷ []))
