@@ -81,7 +81,7 @@ fn send(alloc: Global, text: &str, tokens: &[Token], sink: &mut StepList) -> Res
     let table = LexedStr::new(alloc, text, tokens, &NoKeywords)?;
     let input = table.to_input(alloc, &NoKeywords)?;
     let output = EntryPoint::SourceFile.parse(alloc, &input, &Names)?;
-    Ok(table.fits(&output) && table.intersperse_trivia(&output, sink)?)
+    Ok(output.stands_in_one_root() && table.intersperse_trivia(&output, sink)?)
 }
 // The front page ends.
 

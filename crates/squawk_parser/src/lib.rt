@@ -69,7 +69,7 @@
 //!     let table = LexedStr::new(alloc, text, tokens, &NoKeywords)?;
 //!     let input = table.to_input(alloc, &NoKeywords)?;
 //!     let output = EntryPoint::SourceFile.parse(alloc, &input, &Names)?;
-//!     Ok(table.fits(&output) && table.intersperse_trivia(&output, sink)?)
+//!     Ok(output.stands_in_one_root() && table.intersperse_trivia(&output, sink)?)
 //! }
 //! ```
 //!

@@ -80,7 +80,7 @@ fn assert_row(
         assert_eq!(rt; output.recorded(), recorded);
         assert_eq!(rt; output.turns() as u64, turns);
         let mut list = StepList::new(rt.alloc());
-        assert!(rt; table.fits(&output));
+        assert!(rt; output.stands_in_one_root() && table.fits(&output));
         assert!(rt; table.intersperse_trivia(&output, &mut list)?);
         let line = line_of(rt.alloc(), list.steps())?;
         assert_eq!(rt; line.as_str(), wanted);
