@@ -3,11 +3,10 @@ use Rattle.std.proofs.Common.{◌≡◌, ◌≢◌, ◌∙◌, ℕ, zero, suc, �
 use Rattle.std.proofs.lemmas.List.{map-append}
 use Rattle.squawk_kinds.specs.Kinds.{EOF}
 use Rattle.squawk_table.specs.ParserInput.{Entry, kind_in}
-use Rattle.squawk_parser.specs.Eaten.{one}
-use Rattle.squawk_output.specs.Edits.{with_token}
+use Rattle.squawk_parser.specs.Eaten.{current_as, one}
 use Rattle.squawk_parser.specs.Operators.{is_operator_name, longest_name, operator_length, touching_run}
 use Rattle.squawk_parser.specs.Recorded.{Puts}
-use Rattle.squawk_parser.specs.State.{State, Keeps, Records, ahead, kind_at}
+use Rattle.squawk_parser.specs.State.{State, ahead, kind_at}
 use Rattle.squawk_parser.proofs.RecordedSteps.{puts-then}
 use Rattle.squawk_parser.proofs.SeenSteps.{ahead-moved, bump_puts}
 
@@ -62,11 +61,10 @@ pub record AreEaten (i : ℕ) (old now : State) : Type 0 where
 -- the next one of an operator is eaten
 pub are_eaten-next : (operator_kind : ℕ → Bool) (i : ℕ) (old now next : State) → operator_kind EOF ≡ false
     → i < operator_length operator_kind (ahead old 0) → AreEaten i old now
-    → Keeps now next → (kind_at now 0 ≢ EOF → next.position ≡ now.position + 1) → (kind_at now 0 ≢ EOF → Records now next (with_token now.draft (kind_at now 0) 1))
-    → AreEaten (i + 1) old next
-are_eaten-next operator_kind i old now next no_end lt so_far keeps position records = record {
+    → Puts (current_as (kind_at now 0) (ahead now 0)) now next → AreEaten (i + 1) old next
+are_eaten-next operator_kind i old now next no_end lt so_far bump = record {
   puts = subst (λ steps. Puts steps old next) (sym steps) (puts-then so_far.puts token);
-  seen = ahead-moved 1 keeps token.position ∙ (ap (drop 1) (so_far.seen ∙ stands.here) ∙ ap (λ j. drop j (ahead old 0)) (sym (add-one i)));
+  seen = ahead-moved 1 token.keeps token.position ∙ (ap (drop 1) (so_far.seen ∙ stands.here) ∙ ap (λ j. drop j (ahead old 0)) (sym (add-one i)));
 }
   where
     stands : StandsAt operator_kind (ahead old 0) i
@@ -79,7 +77,7 @@ are_eaten-next operator_kind i old now next no_end lt so_far keeps position reco
     some end = absurd (let e = sym stands.kind ∙ (ap operator_kind end ∙ no_end) in cc)
 
     token : Puts (one stands.entry.kind ∷ []) now next
-    token = bump_puts stands.entry.kind first some keeps position records
+    token = bump_puts stands.entry.kind first some bump
 
     steps : map (λ e. one e.kind) (take (i + 1) (ahead old 0)) ≡ map (λ e. one e.kind) (take i (ahead old 0)) ++ one stands.entry.kind ∷ []
     steps =

@@ -1,19 +1,19 @@
 -- The open markers of a draft, over the calls of a grammar.
-use Rattle.std.proofs.Common.{◌≡◌, ◌≢◌, ◌∙◌, ℕ, ◌<◌, ◌==◌, Bool, true, false, not, List, [], ◌∷◌, ◌++◌, arith, ap, sym, refl, subst}
+use Rattle.std.proofs.Common.{◌≡◌, ◌∙◌, ℕ, ◌<◌, ◌==◌, Bool, true, false, not, cond, List, [], ◌∷◌, ◌++◌, arith, ap, sym, refl, subst}
 use Rattle.std.specs.Prelude.{All, Contains, IsTrue, filter}
-use Rattle.std.proofs.lemmas.Bool.{eqb-true, eqb-false, eq-eqb, ne_eqb}
+use Rattle.std.proofs.lemmas.Bool.{eq-eqb, ne_eqb}
 use Rattle.std.proofs.lemmas.List.{append-nil}
-use Rattle.std.proofs.lemmas.List.Elements.{All-nil, All-cons, All-head, All-tail, All-filter, All-contains, All-contains_itself, Contains-push, filter-append}
-use Rattle.squawk_kinds.specs.Kinds.{EOF}
-use Rattle.squawk_output.specs.Draft.{Item, Hole, Open, Close, Token, Error, Mark, is_hole, ids, holes_of, HasNoHole, IsAboveIds}
+use Rattle.std.proofs.lemmas.List.Elements.{All-nil, All-cons, All-head, All-tail, All-filter, All-contains, All-contains_itself, All-weaker, Contains-push, filter-append}
+use Rattle.squawk_output.specs.Draft.{Item, Hole, Open, Close, Token, Error, Mark, is_hole, ids, ids_of, holes_of, HasNoHole, IsAboveIds}
 use Rattle.squawk_output.specs.declared.log.Made.{Made}
 use Rattle.squawk_output.specs.declared.log.Made.TheVariants.{ByStart}
-use Rattle.squawk_output.specs.Edits.{started, completed, filled, with_token, is_hole_of}
+use Rattle.squawk_output.specs.Edits.{started, completed, filled, is_hole_of}
 use Rattle.squawk_parser.specs.Eaten.{EatsWith}
 use Rattle.squawk_parser.specs.Recorded.{Begins, Completes, Puts, items_for}
-use Rattle.squawk_parser.specs.State.{State, HasHole, HasNotFailed, Keeps, Records, IsFresh, kind_at}
+use Rattle.squawk_parser.specs.State.{State, HasHole, HasNotFailed, Keeps, Records, IsFresh}
 use Rattle.squawk_output.specs.Steps.{Step}
 use Rattle.squawk_parser.proofs.RecordedSteps.{Keeps-then, went}
+use Rattle.squawk_parser.proofs.Splits.{All-back, All-front}
 use Rattle.squawk_parser.proofs.StepsAtEnd.{closed-items_for}
 
 -- a list of them without one
@@ -26,21 +26,28 @@ HasHoles s open_ones = HasNotFailed s → holes_of s.draft.items ≡ open_ones
 
 -- ---- no open marker
 
+module _ {X : Type 0} (p : X → Bool) where
+  filtered-none : (xs : List X) → All (λ x. p x ≡ false) xs → filter p xs ≡ []
+  filtered-none [] none = refl
+  filtered-none (x ∷ xs) none = rw (All-head (λ x. p x ≡ false) x xs none) (filtered-none xs (All-tail (λ x. p x ≡ false) x xs none))
+
+  none-filtered : (xs : List X) → filter p xs ≡ [] → All (λ x. p x ≡ false) xs
+  none-filtered [] e = All-nil (λ x. p x ≡ false)
+  none-filtered (x ∷ xs) e = cases (p x) refl e (none-filtered xs)
+    where
+      cases : (b : Bool) → p x ≡ b → cond b (x ∷ filter p xs) (filter p xs) ≡ [] → (filter p xs ≡ [] → All (λ x. p x ≡ false) xs) → All (λ x. p x ≡ false) (x ∷ xs)
+      cases true is e rest = absurd (cc)
+      cases false is e rest = All-cons (λ x. p x ≡ false) x xs is (rest e)
+
+  pub filtered-all : (xs : List X) → All (λ x. p x ≡ true) xs → filter p xs ≡ xs
+  filtered-all [] all = refl
+  filtered-all (x ∷ xs) all = rw (All-head (λ x. p x ≡ true) x xs all) (ap (λ ys. x ∷ ys) (filtered-all xs (All-tail (λ x. p x ≡ true) x xs all)))
+
 pub none_open : (items : List Item) → HasNoHole items → holes_of items ≡ []
-none_open [] none = refl
-none_open (Hole i made ∷ items) none = absurd (let h = All-head (λ item. is_hole item ≡ false) (Hole i made) items none in cc)
-none_open (Open i kind free ∷ items) none = none_open items (All-tail (λ item. is_hole item ≡ false) (Open i kind free) items none)
-none_open (Close ∷ items) none = none_open items (All-tail (λ item. is_hole item ≡ false) Close items none)
-none_open (Token kind n ∷ items) none = none_open items (All-tail (λ item. is_hole item ≡ false) (Token kind n) items none)
-none_open (Error text ∷ items) none = none_open items (All-tail (λ item. is_hole item ≡ false) (Error text) items none)
+none_open items none = filtered-none is_hole items none
 
 pub HasNoHole-none_open : (items : List Item) → holes_of items ≡ [] → HasNoHole items
-HasNoHole-none_open [] e = All-nil (λ item. is_hole item ≡ false)
-HasNoHole-none_open (Hole i made ∷ items) e = absurd (cc)
-HasNoHole-none_open (Open i kind free ∷ items) e = All-cons (λ item. is_hole item ≡ false) (Open i kind free) items refl (HasNoHole-none_open items e)
-HasNoHole-none_open (Close ∷ items) e = All-cons (λ item. is_hole item ≡ false) Close items refl (HasNoHole-none_open items e)
-HasNoHole-none_open (Token kind n ∷ items) e = All-cons (λ item. is_hole item ≡ false) (Token kind n) items refl (HasNoHole-none_open items e)
-HasNoHole-none_open (Error text ∷ items) e = All-cons (λ item. is_hole item ≡ false) (Error text) items refl (HasNoHole-none_open items e)
+HasNoHole-none_open items e = none-filtered is_hole items e
 
 -- ---- one open marker among them
 
@@ -49,28 +56,18 @@ Contains-hole items open_ones hole e there =
     let P : List Item → Type 0 = λ hs. Contains hs hole in
     All-contains (Contains items) (holes_of items) hole (All-filter is_hole (Contains items) items (All-contains_itself items)) (subst P (sym e) there)
 
--- a new id is above those of the open markers
-abbrev pub IsBelow : ℕ → Item → Type 0
-IsBelow id (Hole i made) = i < id
-IsBelow id (Open i kind free) = Unit {0}
-IsBelow id Close = Unit {0}
-IsBelow id (Token kind n) = Unit {0}
-IsBelow id (Error text) = Unit {0}
-
-pub all_below : (id : ℕ) (items : List Item) → IsAboveIds id items → All (IsBelow id) items
-all_below id [] above = All-nil (IsBelow id)
-all_below id (Hole i made ∷ items) above =
-    All-cons (IsBelow id) (Hole i made) items (All-head (λ i. i < id) i (ids items) above) (all_below id items (All-tail (λ i. i < id) i (ids items) above))
-all_below id (Open i kind free ∷ items) above =
-    All-cons (IsBelow id) (Open i kind free) items tt (all_below id items (All-tail (λ i. i < id) i (ids items) above))
-all_below id (Close ∷ items) above = All-cons (IsBelow id) Close items tt (all_below id items above)
-all_below id (Token kind n ∷ items) above = All-cons (IsBelow id) (Token kind n) items tt (all_below id items above)
-all_below id (Error text ∷ items) above = All-cons (IsBelow id) (Error text) items tt (all_below id items above)
+-- an item's id is below one that is above all ids
+each_below : (id : ℕ) (items : List Item) → IsAboveIds id items → All (λ item. All (λ i. i < id) (ids_of item)) items
+each_below id [] above = All-nil (λ item. All (λ i. i < id) (ids_of item))
+each_below id (item ∷ items) above =
+    All-cons (λ item. All (λ i. i < id) (ids_of item)) item items (All-front (λ i. i < id) (ids_of item) (ids items) above)
+    (each_below id items (All-back (λ i. i < id) (ids_of item) (ids items) above))
 
 pub below-hole : (items open_ones : List Item) (id other : ℕ) (made : Made) → IsAboveIds id items → holes_of items ≡ open_ones
     → Contains open_ones (Hole other made) → other < id
 below-hole items open_ones id other made above e there =
-    All-contains (IsBelow id) items (Hole other made) (all_below id items above) (Contains-hole items open_ones (Hole other made) e there)
+    All-head (λ i. i < id) other [] (All-contains (λ item. All (λ i. i < id) (ids_of item)) items (Hole other made) (each_below id items above)
+    (Contains-hole items open_ones (Hole other made) e there))
 
 -- ---- the calls
 
@@ -83,27 +80,6 @@ HasHoles-start s t open_ones has records goes =
     ap (λ d. holes_of d.items) (records.draft goes)
     ∙ (filter-append is_hole s.draft.items (Hole s.draft.entries ByStart ∷ [])
     ∙ ap (λ hs. hs ++ Hole s.draft.entries ByStart ∷ []) (has (records.went goes)))
-
-went_cases : (s t : State) (b : Bool) → (kind_at s 0 == EOF) ≡ b → (kind_at s 0 ≡ EOF → t ≡ s)
-    → (kind_at s 0 ≢ EOF → Records s t (with_token s.draft (kind_at s 0) 1)) → HasNotFailed t → HasNotFailed s
-went_cases s t true e stays records goes = sym (ap (λ u. u.first_reason) (stays (eqb-true (kind_at s 0) EOF e))) ∙ goes
-went_cases s t false e stays records goes = (records (eqb-false (kind_at s 0) EOF e)).went goes
-
-pub went-bump : (s t : State) → (kind_at s 0 ≡ EOF → t ≡ s) → (kind_at s 0 ≢ EOF → Records s t (with_token s.draft (kind_at s 0) 1)) → HasNotFailed t → HasNotFailed s
-went-bump s t stays records goes = went_cases s t (kind_at s 0 == EOF) refl stays records goes
-
-bump_cases : (s t : State) (b : Bool) → (kind_at s 0 == EOF) ≡ b → (kind_at s 0 ≡ EOF → t ≡ s)
-    → (kind_at s 0 ≢ EOF → Records s t (with_token s.draft (kind_at s 0) 1)) → HasNotFailed t → holes_of t.draft.items ≡ holes_of s.draft.items
-bump_cases s t true e stays records goes = ap (λ u. holes_of u.draft.items) (stays (eqb-true (kind_at s 0) EOF e))
-bump_cases s t false e stays records goes =
-    ap (λ d. holes_of d.items) ((records (eqb-false (kind_at s 0) EOF e)).draft goes)
-    ∙ (filter-append is_hole s.draft.items (Token (kind_at s 0) 1 ∷ [])
-    ∙ append-nil (holes_of s.draft.items))
-
-pub HasHoles-bump : (s t : State) (open_ones : List Item) → HasHoles s open_ones → (kind_at s 0 ≡ EOF → t ≡ s)
-    → (kind_at s 0 ≢ EOF → Records s t (with_token s.draft (kind_at s 0) 1)) → HasHoles t open_ones
-HasHoles-bump s t open_ones has stays records goes =
-    bump_cases s t (kind_at s 0 == EOF) refl stays records goes ∙ has (went-bump s t stays records goes)
 
 fill_cases : (id kind i : ℕ) (made : Made) (items : List Item) (b : Bool) → (i == id) ≡ b → holes_of (filled items id kind) ≡ without id (holes_of items)
     → holes_of (filled (Hole i made ∷ items) id kind) ≡ without id (holes_of (Hole i made ∷ items))
@@ -150,25 +126,30 @@ holes-puts s t steps puts goes =
     ∙ (filter-append is_hole s.draft.items made
     ∙ (ap (λ hs. holes_of s.draft.items ++ hs) (none_open made (closed-items_for s.draft.entries steps)) ∙ append-nil (holes_of s.draft.items)))
 
-without_cases : (id i : ℕ) (made : Made) (items : List Item) → i < id → without id (holes_of items) ≡ holes_of items
-    → without id (holes_of (Hole i made ∷ items)) ≡ holes_of (Hole i made ∷ items)
-without_cases id i made items lt rest = rw (ne_eqb i id (λ e. omega (arith, e))) (ap (λ hs. Hole i made ∷ hs) rest)
+pub HasHoles-puts : {s t : State} {steps : List Step} (open_ones : List Item) → HasHoles s open_ones → Puts steps s t → HasHoles t open_ones
+HasHoles-puts {s} {t} {steps} open_ones has puts goes = holes-puts s t steps puts goes ∙ has (went puts.keeps goes)
+
+-- so no item has the hole of that id
+pub is_other : (id : ℕ) (items : List Item) → IsAboveIds id items → All (λ item. not (is_hole_of id item) ≡ true) items
+is_other id items above = All-weaker (λ item. All (λ i. i < id) (ids_of item)) (λ item. not (is_hole_of id item) ≡ true) each items (each_below id items above)
+  where
+    each : (item : Item) → All (λ i. i < id) (ids_of item) → not (is_hole_of id item) ≡ true
+    each (Hole i made) below = ap not (ne_eqb i id (λ e. omega (arith, e, All-head (λ i. i < id) i [] below)))
+    each (Open i kind free) below = refl
+    each Close below = refl
+    each (Token kind n) below = refl
+    each (Error text) below = refl
 
 -- a new marker is none of those before it
-without-below : (id : ℕ) (items : List Item) → All (IsBelow id) items → without id (holes_of items) ≡ holes_of items
-without-below id [] below = refl
-without-below id (Hole i made ∷ items) below =
-    without_cases id i made items (All-head (IsBelow id) (Hole i made) items below) (without-below id items (All-tail (IsBelow id) (Hole i made) items below))
-without-below id (Open i kind free ∷ items) below = without-below id items (All-tail (IsBelow id) (Open i kind free) items below)
-without-below id (Close ∷ items) below = without-below id items (All-tail (IsBelow id) Close items below)
-without-below id (Token kind n ∷ items) below = without-below id items (All-tail (IsBelow id) (Token kind n) items below)
-without-below id (Error text ∷ items) below = without-below id items (All-tail (IsBelow id) (Error text) items below)
+pub without-below : (id : ℕ) (items : List Item) → IsAboveIds id items → without id (holes_of items) ≡ holes_of items
+without-below id items above =
+    filtered-all (λ item. not (is_hole_of id item)) (holes_of items) (All-filter is_hole (λ item. not (is_hole_of id item) ≡ true) items (is_other id items above))
 
 pub without-last : (id : ℕ) (made : Made) (items : List Item) → IsAboveIds id items → without id (holes_of items ++ Hole id made ∷ []) ≡ holes_of items
 without-last id made items above =
     filter-append (λ item. not (is_hole_of id item)) (holes_of items) (Hole id made ∷ [])
     ∙ (ap (λ hs. without id (holes_of items) ++ hs) (without-one id made)
-    ∙ (append-nil (without id (holes_of items)) ∙ without-below id items (all_below id items above)))
+    ∙ (append-nil (without id (holes_of items)) ∙ without-below id items above))
 
 module _ {s t u : State} {m : Mark} (begins : Begins m s t) (keeps : Keeps t u) (same : HasNotFailed u → holes_of u.draft.items ≡ holes_of t.draft.items) where
   -- the marker of a node is open behind what stands in it

@@ -1,41 +1,31 @@
 -- An error, and the current token with it in a node.
 use Rattle.std.proofs.Common.{◌≡◌, ◌≢◌, ◌∙◌, ℕ, ◌+◌, ◌==◌, Bool, true, false, List, [], ◌∷◌, drop, if◌then◌else◌, arith, ap, sym, refl, subst}
-use Rattle.std.proofs.lemmas.Bool.{eqb-true, ne_eqb}
+use Rattle.std.proofs.lemmas.Bool.{eq-eqb, ne_eqb}
 use Rattle.squawk_kinds.specs.Kinds.{EOF, ERROR}
 use Rattle.squawk_table.specs.ParserInput.{Entry, kind_in}
 use Rattle.squawk_output.specs.Steps.{Error}
 use Rattle.squawk_output.specs.Draft.{Mark}
 use Rattle.squawk_parser.specs.Eaten.{current_as, no_recovery, node, one, recovery_steps}
-use Rattle.squawk_output.specs.Edits.{with_token}
 use Rattle.squawk_parser.specs.Recorded.{Begins, Completes, Puts}
-use Rattle.squawk_parser.specs.State.{State, Keeps, Records, ahead, kind_at}
-use Rattle.squawk_parser.proofs.RecordedSteps.{node_puts, puts-none, puts-then, token_puts}
+use Rattle.squawk_parser.specs.State.{State, ahead, kind_at}
+use Rattle.squawk_parser.proofs.RecordedSteps.{node_puts, puts-none, puts-then}
 use Rattle.squawk_parser.proofs.SeenSteps.{ahead-moved, ahead-still, if-false, if-true, kind_at-first}
 
 -- an error eats no token
 pub ahead-error : {a b : State} {text : List ℕ} → Puts (Error text ∷ []) a b → ahead b 0 ≡ ahead a 0
 ahead-error puts = ahead-moved 0 puts.keeps puts.position
 
--- the current token is eaten as one of a kind, if there is one
-pub current_puts_as : {a b : State} (kind : ℕ) → Keeps a b → (kind_at a 0 ≡ EOF → b ≡ a)
-    → (kind_at a 0 ≢ EOF → b.position ≡ a.position + 1) → (kind_at a 0 ≢ EOF → Records a b (with_token a.draft kind 1))
-    → Puts (current_as kind (ahead a 0)) a b
-current_puts_as {a} {b} kind keeps ends position records = cases (kind_in (ahead a 0) 0 == EOF) refl
-  where
-    cases : (t : Bool) → (kind_in (ahead a 0) 0 == EOF) ≡ t → Puts (current_as kind (ahead a 0)) a b
-    cases true e =
-        let same : b ≡ a = ends (kind_at-first a ∙ eqb-true (kind_in (ahead a 0) 0) EOF e) in
-        subst (λ steps. Puts steps a b) (sym (if-true _ _ _ e)) (subst (λ s. Puts [] a s) (sym same) (puts-none a))
-    cases false e =
-        let some : kind_at a 0 ≢ EOF = λ end. let kind_end : kind_in (ahead a 0) 0 ≡ EOF = sym (kind_at-first a) ∙ end in absurd (grind (arith, e, kind_end)) in
-        subst (λ steps. Puts steps a b) (sym (if-false _ _ _ e)) (token_puts kind 1 keeps (records some) (position some))
+-- at the end no token is eaten
+pub current-none : {a : State} (kind : ℕ) → kind_at a 0 ≡ EOF → Puts (current_as kind (ahead a 0)) a a
+current-none {a} kind end =
+    let none : (kind_in (ahead a 0) 0 == EOF) ≡ true = eq-eqb (kind_in (ahead a 0) 0) EOF (sym (kind_at-first a) ∙ end) in
+    subst (λ steps. Puts steps a a) (sym (if-true _ _ _ none)) (puts-none a)
 
--- the current token is eaten, if there is one
-pub current_puts : {a b : State} → Keeps a b → (kind_at a 0 ≡ EOF → b ≡ a)
-    → (kind_at a 0 ≢ EOF → b.position ≡ a.position + 1) → (kind_at a 0 ≢ EOF → Records a b (with_token a.draft (kind_at a 0) 1))
-    → Puts (current_as (kind_in (ahead a 0) 0) (ahead a 0)) a b
-current_puts {a} {b} keeps ends position records =
-    subst (λ kind. Puts (current_as kind (ahead a 0)) a b) (kind_at-first a) (current_puts_as (kind_at a 0) keeps ends position records)
+-- elsewhere the current one is
+pub current-some : {a b : State} (kind : ℕ) → kind_at a 0 ≢ EOF → Puts (one kind ∷ []) a b → Puts (current_as kind (ahead a 0)) a b
+current-some {a} {b} kind some puts =
+    let there : (kind_in (ahead a 0) 0 == EOF) ≡ false = ne_eqb (kind_in (ahead a 0) 0) EOF (λ end. some (kind_at-first a ∙ end)) in
+    subst (λ steps. Puts steps a b) (sym (if-false _ _ _ there)) puts
 
 -- an error alone, where the token is one to go on from
 pub recovery-there : (text : List ℕ) (recovers : ℕ → Bool) (s : State) → recovers (kind_at s 0) ≡ true → recovery_steps text recovers (ahead s 0) ≡ Error text ∷ []
@@ -43,14 +33,13 @@ recovery-there text recovers s test = if-true _ _ _ (ap recovers (sym (kind_at-f
 
 -- a token that isn't one to go on from stands with the error in a node
 pub recovery_puts : {a b c d e : State} {m : Mark} (text : List ℕ) (recovers : ℕ → Bool) → recovers (kind_at a 0) ≡ false → Begins m a b → Puts (Error text ∷ []) b c
-    → Keeps c d → (kind_at c 0 ≡ EOF → d ≡ c) → (kind_at c 0 ≢ EOF → d.position ≡ c.position + 1) → (kind_at c 0 ≢ EOF → Records c d (with_token c.draft (kind_at c 0) 1))
-    → Completes m.id ERROR d e → Puts (recovery_steps text recovers (ahead a 0)) a e
-recovery_puts {a} {b} {c} {d} {e} text recovers test begins error keeps ends position records completes =
+    → Puts (current_as (kind_at c 0) (ahead c 0)) c d → Completes m.id ERROR d e → Puts (recovery_steps text recovers (ahead a 0)) a e
+recovery_puts {a} {b} {c} {d} {e} text recovers test begins error token completes =
     let seen : ahead c 0 ≡ ahead a 0 = ahead-error error ∙ ahead-still begins.keeps begins.position in
-    let token : Puts (current_as (kind_in (ahead a 0) 0) (ahead a 0)) c d =
-    subst (λ seen. Puts (current_as (kind_in seen 0) seen) c d) seen (current_puts keeps ends position records) in
+    let here : Puts (current_as (kind_in (ahead a 0) 0) (ahead a 0)) c d =
+    subst (λ seen. Puts (current_as (kind_in seen 0) seen) c d) seen (subst (λ kind. Puts (current_as kind (ahead c 0)) c d) (kind_at-first c) token) in
     let steps = if-false _ _ _ (ap recovers (sym (kind_at-first a)) ∙ test) in
-    subst (λ steps. Puts steps a e) (sym steps) (node_puts begins (puts-then error token) completes)
+    subst (λ steps. Puts steps a e) (sym steps) (node_puts begins (puts-then error here) completes)
 
 -- where no kind is one to go on from
 pub recovery-same : (text : List ℕ) (recovers others : ℕ → Bool) (seen : List Entry) → ((kind : ℕ) → recovers kind ≡ others kind)

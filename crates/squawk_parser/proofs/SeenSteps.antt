@@ -1,18 +1,17 @@
 -- The tokens that are seen, and what acts that eat make of them.
-use Rattle.std.proofs.Common.{◌≡◌, ◌≢◌, ◌∙◌, ℕ, zero, suc, ◌+◌, ◌<◌, ◌≤◌, ◌==◌, ◌&&◌, ◌||◌, Bool, true, false, List, [], ◌∷◌, length, take, drop, nat_lt, if◌then◌else◌, arith, ap, sym, refl}
+use Rattle.std.proofs.Common.{◌≡◌, ◌≢◌, ◌∙◌, ℕ, zero, suc, ◌+◌, ◌<◌, ◌≤◌, ◌==◌, ◌&&◌, ◌||◌, Bool, true, false, List, [], ◌∷◌, length, take, drop, nat_lt, if◌then◌else◌, arith, ap, sym, refl, subst}
 use Rattle.std.specs.List.{list_any}
+use Rattle.std.proofs.lemmas.Bool.{ne_eqb}
 use Rattle.std.proofs.lemmas.List.{drop-drop, take_all}
 use Rattle.std.proofs.lemmas.List.Elements.{All-head, All-tail}
 use Rattle.squawk_kinds.specs.Kinds.{EOF, UNICODE_NORMAL_FORM}
 use Rattle.squawk_table.specs.ParserInput.{Entry, kind_in}
 use Rattle.squawk_table.specs.Shape.{AreOneToken}
 use Rattle.squawk_parser.specs.Composites.{HasNoEndKind, do_touch, normal_form, normal_forms}
-use Rattle.squawk_parser.specs.Eaten.{element_steps, node, one}
-use Rattle.squawk_output.specs.Edits.{with_token}
+use Rattle.squawk_parser.specs.Eaten.{current_as, element_steps, node, one}
 use Rattle.squawk_parser.specs.Recorded.{Puts}
-use Rattle.squawk_parser.specs.State.{State, IsFresh, Keeps, Records, ahead, kind_at}
+use Rattle.squawk_parser.specs.State.{State, IsFresh, Keeps, ahead, kind_at}
 use Rattle.squawk_parser.proofs.CompositeLemmas.{kind_in-drop}
-use Rattle.squawk_parser.proofs.RecordedSteps.{token_puts}
 
 -- ---- what is seen
 
@@ -102,15 +101,6 @@ pub touching_all : (parts : List ℕ) (seen : List Entry) → 1 ≤ length parts
 touching_all [] seen some no_end touch = absurd (omega arith)
 touching_all (part ∷ parts) seen some no_end touch = touching_one part parts seen no_end touch
 
--- the current token is eaten
-pub bump_puts : {a b : State} (kind : ℕ) → kind_in (ahead a 0) 0 ≡ kind → kind ≢ EOF → Keeps a b
-    → (kind_at a 0 ≢ EOF → b.position ≡ a.position + 1) → (kind_at a 0 ≢ EOF → Records a b (with_token a.draft (kind_at a 0) 1))
-    → Puts (one kind ∷ []) a b
-bump_puts {a} {b} kind is some keeps position records =
-    let same : kind_at a 0 ≡ kind = kind_at-first a ∙ is in
-    let there : kind_at a 0 ≢ EOF = λ end. some (sym same ∙ end) in
-    rw same at (token_puts (kind_at a 0) 1 keeps (records there) (position there))
-
 -- ---- normal forms
 
 pub if-true : {A : Type 0} (b : Bool) (x y : A) → b ≡ true → (if b then x else y) ≡ x
@@ -118,6 +108,12 @@ if-true b x y e = rw e refl
 
 pub if-false : {A : Type 0} (b : Bool) (x y : A) → b ≡ false → (if b then x else y) ≡ y
 if-false b x y e = rw e refl
+
+-- the current token is eaten, which is of this kind
+pub bump_puts : {a b : State} (kind : ℕ) → kind_in (ahead a 0) 0 ≡ kind → kind ≢ EOF → Puts (current_as (kind_at a 0) (ahead a 0)) a b → Puts (one kind ∷ []) a b
+bump_puts {a} {b} kind is some puts =
+    let there : (kind_in (ahead a 0) 0 == EOF) ≡ false = ne_eqb (kind_in (ahead a 0) 0) EOF (λ end. some (sym is ∙ end)) in
+    subst (λ steps. Puts steps a b) (if-false _ _ _ there ∙ ap (λ kind. one kind ∷ []) (kind_at-first a ∙ is)) puts
 
 -- where a keyword of a normal form stands, it makes a node
 pub normal_form-there : (seen : List Entry) (kind : ℕ) → kind ≡ kind_in seen 0 → list_any (λ form. kind == form) normal_forms ≡ true

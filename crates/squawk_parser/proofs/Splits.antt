@@ -32,6 +32,10 @@ module _ {X : Type 0} where
   All-front P [] ys all = All-nil P
   All-front P (x ∷ xs) ys all = All-cons P x xs (All-head P x (xs ++ ys) all) (All-front P xs ys (All-tail P x (xs ++ ys) all))
 
+  pub All-back : (P : X → Type 0) (xs ys : List X) → All P (xs ++ ys) → All P ys
+  All-back P [] ys all = all
+  All-back P (x ∷ xs) ys all = All-back P xs ys (All-tail P x (xs ++ ys) all)
+
   pub count_by-append : (p : X → Bool) (xs ys : List X) → count_by p (xs ++ ys) ≡ count_by p xs + count_by p ys
   count_by-append p xs ys = sum_by-append (λ x. cond (p x) 1 0) xs ys
 

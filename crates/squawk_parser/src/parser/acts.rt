@@ -4,10 +4,9 @@ ghost use Rattle.std.specs.Str.{chars};
 ghost use Rattle.squawk_kinds.specs.Kinds.{EOF};
 ghost use Rattle.squawk_kinds.specs.TokenSets.{has};
 ghost use Rattle.squawk_output.specs.Steps.{Error};
-ghost use Rattle.squawk_output.specs.Edits.{with_token};
-ghost use Rattle.squawk_parser.specs.Eaten.{recovery_steps, no_recovery};
+ghost use Rattle.squawk_parser.specs.Eaten.{current_as, recovery_steps, no_recovery};
 ghost use Rattle.squawk_parser.specs.Recorded.{Begins, Puts};
-ghost use Rattle.squawk_parser.specs.State.{HasHole, Keeps, Records, ahead, kind_at};
+ghost use Rattle.squawk_parser.specs.State.{HasHole, ahead, kind_at};
 
 use crate::parser::Parser;
 use crate::parser::marker::Marker;
@@ -33,10 +32,9 @@ impl Parser<'_> {
     /// Eats the current token. At the end nothing happens.
     #[inline(always)]
     pub fn bump_any(&mut self)
+        ensures puts { Puts (current_as (kind_at self.old 0) (ahead self.old 0)) self.old self.new }
         ensures end { kind_at self.old 0 ≡ EOF → self.new ≡ self.old }
-        ensures keeps { Keeps self.old self.new }
         ensures position { kind_at self.old 0 ≢ EOF → self.new.position ≡ self.old.position + 1 }
-        ensures records { kind_at self.old 0 ≢ EOF → Records self.old self.new (with_token self.old.draft (kind_at self.old 0) 1) }
     {
         let kind = self.current();
         if kind == SyntaxKind::EOF {
@@ -47,10 +45,9 @@ impl Parser<'_> {
 
     /// Eats the current token as one of this kind. At the end nothing happens.
     pub fn bump_remap(&mut self, kind: SyntaxKind)
+        ensures puts { Puts (current_as kind (ahead self.old 0)) self.old self.new }
         ensures end { kind_at self.old 0 ≡ EOF → self.new ≡ self.old }
-        ensures keeps { Keeps self.old self.new }
         ensures position { kind_at self.old 0 ≢ EOF → self.new.position ≡ self.old.position + 1 }
-        ensures records { kind_at self.old 0 ≢ EOF → Records self.old self.new (with_token self.old.draft kind 1) }
     {
         if self.current() != SyntaxKind::EOF {
             self.do_bump(kind, 1);

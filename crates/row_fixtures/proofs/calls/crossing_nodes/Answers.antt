@@ -1,12 +1,12 @@
-use Rattle.std.proofs.Common.{◌≡◌, ◌≢◌, ◌∙◌, ℕ, ◌<◌, [], ◌∷◌, ap, refl, arith, lit<}
+use Rattle.std.proofs.Common.{◌≡◌, ◌∙◌, ℕ, ◌<◌, List, [], ◌∷◌, refl, arith, lit<}
 use Rattle.std.proofs.lemmas.Bool.{eq-eqb, ne_eqb}
-use Rattle.squawk_kinds.specs.Kinds.{EOF}
 use Rattle.squawk_output.specs.Draft.{Hole, Mark, holes_of}
 use Rattle.squawk_output.specs.declared.log.Made.TheVariants.{ByStart}
-use Rattle.squawk_output.specs.Edits.{with_token}
-use Rattle.squawk_parser.specs.Recorded.{Begins, Completes}
-use Rattle.squawk_parser.specs.State.{State, HasNotFailed, Records, IsFresh, kind_at}
-use Rattle.squawk_parser.proofs.Holes.{without, without-one, HasNoHole-none_open, Contains-hole, below-hole, HasHoles-fresh, HasHoles-start, HasHoles-bump, HasHoles-complete, went-bump}
+use Rattle.squawk_output.specs.Steps.{Step}
+use Rattle.squawk_parser.specs.Recorded.{Begins, Completes, Puts}
+use Rattle.squawk_parser.specs.State.{State, HasNotFailed, IsFresh}
+use Rattle.squawk_parser.proofs.Holes.{without, without-one, HasNoHole-none_open, Contains-hole, below-hole, HasHoles-fresh, HasHoles-start, HasHoles-puts, HasHoles-complete}
+use Rattle.squawk_parser.proofs.RecordedSteps.{went}
 use Rattle.row_fixtures.proofs.calls.crossing_nodes.Goals as goal
 use Rattle.row_fixtures.proofs.calls.crossing_nodes.Goals.{After-bump_any-3, After-complete-2}
 
@@ -17,18 +17,17 @@ record Opened (s : State) (root left right : ℕ) : Type 0 where
   root_right : root < right
   left_right : left < right
 
-opened : (s t u v w : State) (l m n : Mark) → IsFresh s → Begins l s t → Begins m t u
-    → (kind_at u 0 ≡ EOF → v ≡ u) → (kind_at u 0 ≢ EOF → Records u v (with_token u.draft (kind_at u 0) 1))
-    → Begins n v w → HasNotFailed w → Opened w s.draft.entries t.draft.entries v.draft.entries
-opened s t u v w l m n fresh first second stays eats third goes =
+opened : (s t u v w : State) (l m n : Mark) (eaten : List Step) → IsFresh s → Begins l s t → Begins m t u
+    → Puts eaten u v → Begins n v w → HasNotFailed w → Opened w s.draft.entries t.draft.entries v.draft.entries
+opened s t u v w l m n eaten fresh first second eats third goes =
     let root = s.draft.entries in
     let left = t.draft.entries in
     let right = v.draft.entries in
     let goes_v = third.records.went goes in
-    let goes_t = second.records.went (went-bump u v stays eats goes_v) in
+    let goes_t = second.records.went (went eats.keeps goes_v) in
     let one = HasHoles-start s t [] (HasHoles-fresh s fresh) first.records in
     let two = HasHoles-start t u (Hole root ByStart ∷ []) one second.records in
-    let both = HasHoles-bump u v (Hole root ByStart ∷ Hole left ByStart ∷ []) two stays eats in
+    let both = HasHoles-puts (Hole root ByStart ∷ Hole left ByStart ∷ []) two eats in
     record {
       all_three = HasHoles-start v w (Hole root ByStart ∷ Hole left ByStart ∷ []) both third.records goes;
       root_left = below-hole t.draft.items _ left root ByStart second.sound.logged.below (one goes_t) (0, lit< tt, refl);
@@ -49,35 +48,31 @@ record Left (s : State) (root right : ℕ) : Type 0 where
   both : holes_of s.draft.items ≡ Hole root ByStart ∷ Hole right ByStart ∷ []
   order : root < right
 
-left_open : (s t u v : State) (root left right kind : ℕ) → (HasNotFailed s → Opened s root left right)
-    → (kind_at s 0 ≡ EOF → t ≡ s) → (kind_at s 0 ≢ EOF → Records s t (with_token s.draft (kind_at s 0) 1))
-    → Completes left kind t u
-    → (kind_at u 0 ≡ EOF → v ≡ u) → (kind_at u 0 ≢ EOF → Records u v (with_token u.draft (kind_at u 0) 1))
-    → HasNotFailed v → Left v root right
-left_open s t u v root left right kind three stays eats ends stays_again eats_again goes =
-    let goes_u = went-bump u v stays_again eats_again goes in
-    let begun = three (went-bump s t stays eats (ends.records.went goes_u)) in
-    let all = HasHoles-bump s t _ (λ goes_s. (three goes_s).all_three) stays eats in
+left_open : (s t u v : State) (root left right kind : ℕ) (eaten again : List Step) → (HasNotFailed s → Opened s root left right) → Puts eaten s t → Completes left kind t u
+    → Puts again u v → HasNotFailed v → Left v root right
+left_open s t u v root left right kind eaten again three eats ends eats_again goes =
+    let goes_u = went eats_again.keeps goes in
+    let begun = three (went eats.keeps (ends.records.went goes_u)) in
+    let all = HasHoles-puts _ (λ goes_s. (three goes_s).all_three) eats in
     let ended = HasHoles-complete t u left kind _ all ends.records in
     record {
-      both = HasHoles-bump u v _ ended stays_again eats_again goes ∙ without_left root left right begun.root_left begun.left_right;
+      both = HasHoles-puts _ ended eats_again goes ∙ without_left root left right begun.root_left begun.left_right;
       order = begun.root_right;
     }
 
 pub complete-requires-clause-hole : goal.complete-requires-clause-hole
 complete-requires-clause-hole c goes =
     let left = c.start-left.ensures.begins in
-    let three = opened _ _ _ _ _ _ _ _ c.requires c.start-root.ensures.begins left c.bump_any.ensures.end c.bump_any.ensures.records c.start-right.ensures.begins in
-    let all = HasHoles-bump _ _ _ (λ goes. (three goes).all_three) c.bump_any-2.ensures.end c.bump_any-2.ensures.records in
+    let three = opened _ _ _ _ _ _ _ _ _ c.requires c.start-root.ensures.begins left c.bump_any.ensures.puts c.start-right.ensures.begins in
+    let all = HasHoles-puts _ (λ goes. (three goes).all_three) c.bump_any-2.ensures.puts in
     rw left.is (Contains-hole _ _ _ (all goes) (1, lit< tt, refl))
 
 -- the node that began first inside is completed
 one_ended : (c : After-bump_any-3) → HasNotFailed c.bump_any-3.new.self → Left c.bump_any-3.new.self c.args.p.now.draft.entries c.bump_any.new.self.draft.entries
 one_ended c =
     let left = c.start-left.ensures.begins in
-    let three = opened _ _ _ _ _ _ _ _ c.requires c.start-root.ensures.begins left c.bump_any.ensures.end c.bump_any.ensures.records c.start-right.ensures.begins in
-    left_open _ _ _ _ _ _ _ _ three c.bump_any-2.ensures.end c.bump_any-2.ensures.records (rw left.is at c.complete.ensures.completes) c.bump_any-3.ensures.end
-    c.bump_any-3.ensures.records
+    let three = opened _ _ _ _ _ _ _ _ _ c.requires c.start-root.ensures.begins left c.bump_any.ensures.puts c.start-right.ensures.begins in
+    left_open _ _ _ _ _ _ _ _ _ _ three c.bump_any-2.ensures.puts (rw left.is at c.complete.ensures.completes) c.bump_any-3.ensures.puts
 
 pub complete-requires-2-clause-hole : goal.complete-requires-2-clause-hole
 complete-requires-2-clause-hole c goes = rw c.start-right.ensures.begins.is (Contains-hole _ _ (Hole _ ByStart) (one_ended c.before.before goes).both (1, lit< tt, refl))

@@ -5,28 +5,23 @@ use Rattle.squawk_parser.specs.Recorded.{Puts}
 use Rattle.squawk_parser.specs.State.{ahead}
 use Rattle.squawk_parser.proofs.Markers.{hole-put}
 use Rattle.squawk_parser.proofs.RecordedSteps.{node_puts, puts-none}
-use Rattle.squawk_parser.proofs.Recovery.{current_puts}
 use Rattle.squawk_parser.proofs.SeenSteps.{ahead-still, bump_puts, kind_at-first, normal_form-left_out, normal_form-some, normal_form-there}
 use Rattle.squawk_parser.proofs.parser.Parser.eat_normal_form.Goals as goal
 
 pub complete-requires-clause-hole : goal.complete-requires-clause-hole
-complete-requires-clause-hole c =
-    let start = c.start-node.ensures in
-    let bump = c.bump_any.ensures in
-    hole-put c.start-node.result start.hole (current_puts bump.keeps bump.end bump.position bump.records)
+complete-requires-clause-hole c = hole-put c.start-node.result c.start-node.ensures.hole c.bump_any.ensures.puts
 
 pub returns-then-is_normal_form : goal.returns-then-is_normal_form
 returns-then-is_normal_form c =
     let old = c.args.self.now in
     let kind = c.current.result in
     let start = c.start-node.ensures in
-    let bump = c.bump_any.ensures in
     let done = c.complete.ensures in
     let there = sym c.is_normal_form.ensures ∙ c.if-is_normal_form.true in
     let some : kind ≢ EOF = normal_form-some kind there in
     let is : kind ≡ kind_in (ahead old 0) 0 = c.current.ensures ∙ kind_at-first old in
     let first : kind_in (ahead c.start-node.new.self 0) 0 ≡ kind = ap (λ seen. kind_in seen 0) (ahead-still start.begins.keeps start.begins.position) ∙ sym is in
-    let token = bump_puts kind first some bump.keeps bump.position bump.records in
+    let token = bump_puts kind first some c.bump_any.ensures.puts in
     subst (λ steps. Puts steps old c.complete.new.p) (sym (normal_form-there (ahead old 0) kind is there))
     (node_puts start.begins token done.completes)
 

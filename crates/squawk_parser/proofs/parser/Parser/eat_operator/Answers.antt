@@ -13,13 +13,12 @@ pub loop-preserved : goal.loop-preserved
 loop-preserved c =
     let old = c.args.self.now in
     let l = c.loop in
-    let bump = c.bump_any.ensures in
     let operator_kind = has c.self.inside.operator_first in
     let seen = c.view.ensures ∙ sym (ahead-still c.start-node.ensures.begins.keeps c.start-node.ensures.begins.position) in
     let len : c.operator_len-len.result ≡ operator_length operator_kind (ahead c.start-node.new.self 0) =
     c.operator_len-len.ensures ∙ ap (operator_length operator_kind) seen in
     are_eaten-next operator_kind l.counter c.start-node.new.self l.self c.bump_any.new.self c.self.invariant.words (omega (arith, len, c.loop-test.true)) l.invariant
-    bump.keeps bump.position bump.records
+    c.bump_any.ensures.puts
 
 pub complete-requires-clause-hole : goal.complete-requires-clause-hole
 complete-requires-clause-hole c =

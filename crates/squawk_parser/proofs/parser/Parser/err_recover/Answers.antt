@@ -4,7 +4,7 @@ use Rattle.squawk_kinds.specs.TokenSets.{has}
 use Rattle.squawk_parser.specs.Recorded.{Puts}
 use Rattle.squawk_parser.proofs.Markers.{hole-put}
 use Rattle.squawk_parser.proofs.RecordedSteps.{puts-then}
-use Rattle.squawk_parser.proofs.Recovery.{current_puts, recovery-there, recovery_puts}
+use Rattle.squawk_parser.proofs.Recovery.{recovery-there, recovery_puts}
 use Rattle.squawk_parser.proofs.parser.Parser.err_recover.Goals as goal
 
 pub returns-then-at_ts-clause-puts : goal.returns-then-at_ts-clause-puts
@@ -14,18 +14,9 @@ returns-then-at_ts-clause-puts c =
     (sym (recovery-there (chars c.args.msg.now) (has c.args.recovery) old (sym c.at_ts.ensures ∙ c.if-at_ts.true))) c.error.ensures
 
 pub complete-requires-clause-hole : goal.complete-requires-clause-hole
-complete-requires-clause-hole c =
-    let start = c.start-node.ensures in
-    let error = c.error-2.ensures in
-    let bump = c.bump_any.ensures in
-    hole-put c.start-node.result start.hole
-    (puts-then error (current_puts bump.keeps bump.end bump.position bump.records))
+complete-requires-clause-hole c = hole-put c.start-node.result c.start-node.ensures.hole (puts-then c.error-2.ensures c.bump_any.ensures.puts)
 
 pub returns-clause-puts : goal.returns-clause-puts
 returns-clause-puts c =
-    let start = c.start-node.ensures in
-    let error = c.error-2.ensures in
-    let bump = c.bump_any.ensures in
-    let done = c.complete.ensures in
-    recovery_puts (chars c.args.msg.now) (has c.args.recovery) (sym c.at_ts.ensures ∙ c.if-at_ts.false) start.begins error bump.keeps bump.end bump.position
-    bump.records done.completes
+    recovery_puts (chars c.args.msg.now) (has c.args.recovery) (sym c.at_ts.ensures ∙ c.if-at_ts.false) c.start-node.ensures.begins c.error-2.ensures
+    c.bump_any.ensures.puts c.complete.ensures.completes
