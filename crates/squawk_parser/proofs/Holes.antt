@@ -12,13 +12,10 @@ use Rattle.squawk_parser.specs.Eaten.{EatsWith}
 use Rattle.squawk_parser.specs.Recorded.{Begins, Completes, Puts, items_for}
 use Rattle.squawk_parser.specs.State.{State, HasHole, HasNotFailed, Keeps, Records, IsFresh}
 use Rattle.squawk_output.specs.Steps.{Step}
+use Rattle.squawk_parser.proofs.Markers.{holes-replaced, without}
 use Rattle.squawk_parser.proofs.RecordedSteps.{Keeps-then, went}
 use Rattle.squawk_parser.proofs.Splits.{All-back, All-front}
 use Rattle.squawk_parser.proofs.StepsAtEnd.{closed-items_for}
-
--- a list of them without one
-abbrev pub without : ℕ → List Item → List Item
-without id items = filter (λ item. not (is_hole_of id item)) items
 
 -- a parser that goes on has these open markers
 abbrev pub HasHoles : State → List Item → Type 0
@@ -81,26 +78,13 @@ HasHoles-start s t open_ones has records goes =
     ∙ (filter-append is_hole s.draft.items (Hole s.draft.entries ByStart ∷ [])
     ∙ ap (λ hs. hs ++ Hole s.draft.entries ByStart ∷ []) (has (records.went goes)))
 
-fill_cases : (id kind i : ℕ) (made : Made) (items : List Item) (b : Bool) → (i == id) ≡ b → holes_of (filled items id kind) ≡ without id (holes_of items)
-    → holes_of (filled (Hole i made ∷ items) id kind) ≡ without id (holes_of (Hole i made ∷ items))
-fill_cases id kind i made items true e rest = rw e rest
-fill_cases id kind i made items false e rest = rw e (ap (λ hs. Hole i made ∷ hs) rest)
-
-holes-filled : (id kind : ℕ) (items : List Item) → holes_of (filled items id kind) ≡ without id (holes_of items)
-holes-filled id kind [] = refl
-holes-filled id kind (Hole i made ∷ items) = fill_cases id kind i made items (i == id) refl (holes-filled id kind items)
-holes-filled id kind (Open i k free ∷ items) = holes-filled id kind items
-holes-filled id kind (Close ∷ items) = holes-filled id kind items
-holes-filled id kind (Token k n ∷ items) = holes-filled id kind items
-holes-filled id kind (Error text ∷ items) = holes-filled id kind items
-
 pub HasHoles-complete : (s t : State) (id kind : ℕ) (open_ones : List Item) → HasHoles s open_ones → Records s t (completed s.draft id kind)
     → HasHoles t (without id open_ones)
 HasHoles-complete s t id kind open_ones has records goes =
     ap (λ d. holes_of d.items) (records.draft goes)
     ∙ (filter-append is_hole (filled s.draft.items id kind) (Close ∷ [])
     ∙ (append-nil (holes_of (filled s.draft.items id kind))
-    ∙ (holes-filled id kind s.draft.items ∙ ap (without id) (has (records.went goes)))))
+    ∙ (holes-replaced id (λ item. Open id kind true ∷ []) (λ item. refl) s.draft.items ∙ ap (without id) (has (records.went goes)))))
 
 -- calls that close what they open
 pub HasHoles-closed : (s t : State) → HasHoles s [] → (HasNotFailed t → HasNotFailed s) → (HasNoHole s.draft.items → HasNotFailed t → HasNoHole t.draft.items) → HasHoles t []

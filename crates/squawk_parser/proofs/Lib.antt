@@ -11,7 +11,6 @@ pub mod Soundness
 pub mod Noted
 pub mod Splits
 pub mod Markers
-pub mod OtherMarkers
 pub mod ParserViews
 pub mod Examples
 pub mod LookAheadExamples

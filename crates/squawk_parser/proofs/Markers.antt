@@ -1,5 +1,5 @@
 -- What grammars may rely on: where markers' holes and nodes' openings are after an act.
-use Rattle.std.proofs.Common.{◌≡◌, ◌∙◌, ℕ, ◌==◌, Bool, true, false, Option, Some, None, List, [], ◌∷◌, ◌++◌, cond, ap, sym, refl, subst}
+use Rattle.std.proofs.Common.{◌≡◌, ◌∙◌, ℕ, ◌==◌, Bool, true, false, Option, Some, None, List, [], ◌∷◌, ◌++◌, cond, arith, ap, sym, refl, subst}
 use Rattle.std.specs.Prelude.{Contains, filter, not}
 use Rattle.std.proofs.lemmas.List.Elements.{Contains-append_left, filter-append}
 use Rattle.squawk_output.specs.Steps.{Step}
@@ -12,27 +12,17 @@ use Rattle.squawk_parser.specs.State.{State, Changes, HasNotFailed, HasHole, Has
 use Rattle.squawk_parser.specs.declared.parser.parse_error.ParseError.{ParseError}
 use Rattle.squawk_parser.proofs.RecordedSteps.{went}
 use Rattle.squawk_output.proofs.Groups.{itself}
-use Rattle.squawk_parser.proofs.Splits.{split, Contains-behind, here, replaced-append, spliced-opening}
+use Rattle.squawk_parser.proofs.Splits.{Contains-behind, Contains-flat_map, spliced-opening}
 
 -- ---- items
 
 -- an item that gives place to another
 Contains-replaced : (p : Item → Bool) (old new : Item) (items : List Item) → p old ≡ true → Contains items old → Contains (replaced p (λ item. new ∷ []) items) new
-Contains-replaced p old new items passes there =
-    let f = λ (item : Item). new ∷ [] in
-    let at = split old items there in
-    let is : replaced p f items ≡ replaced p f at.front ++ new ∷ replaced p f at.back =
-    ap (replaced p f) at.is ∙ (replaced-append p f at.front (old ∷ at.back) ∙ ap (λ items. replaced p f at.front ++ items) (here p f old at.back passes)) in
-    subst (λ items. Contains items new) (sym is) (Contains-behind new (replaced p f at.front) (replaced p f at.back))
+Contains-replaced p old new items passes there = Contains-flat_map _ new old items there (rw passes (0, omega arith, refl))
 
 -- an item that doesn't stays
 pub Contains-others : (p : Item → Bool) (f : Item → List Item) (item : Item) (items : List Item) → p item ≡ false → Contains items item → Contains (replaced p f items) item
-Contains-others p f item items fails there =
-    let at = split item items there in
-    let kept : replaced p f (item ∷ at.back) ≡ item ∷ replaced p f at.back = rw fails refl in
-    let is : replaced p f items ≡ replaced p f at.front ++ item ∷ replaced p f at.back =
-    ap (replaced p f) at.is ∙ (replaced-append p f at.front (item ∷ at.back) ∙ ap (λ items. replaced p f at.front ++ items) kept) in
-    subst (λ items. Contains items item) (sym is) (Contains-behind item (replaced p f at.front) (replaced p f at.back))
+Contains-others p f item items fails there = Contains-flat_map _ item item items there (rw fails (0, omega arith, refl))
 
 -- ---- after acts at the end
 
@@ -106,9 +96,9 @@ HasOneMore-none {X} {x} {old} {new} more none = more.is ∙ cases more.front mor
 
 -- ---- a marker that is abandoned, or that a node is extended to
 
--- the holes of other markers
-abbrev pub others : ℕ → List Item → List Item
-others id items = filter (λ item. not (is_hole_of id item)) items
+-- a list of holes without that of a marker
+abbrev pub without : ℕ → List Item → List Item
+without id items = filter (λ item. not (is_hole_of id item)) items
 
 -- a parser that goes on after a change went on before
 pub went-changed : {s t : State} {draft : Draft} → Changes s t draft → HasNotFailed t → HasNotFailed s
@@ -129,10 +119,10 @@ module _ (id : ℕ) (f : Item → List Item) (closed : (item : Item) → holes_o
       filter-append is_hole (f (Hole i made)) rest ∙ (ap (λ items. items ++ holes_of rest) (closed (Hole i made)) ∙ e)
   holes_cases i made rest left false e = ap (λ items. Hole i made ∷ items) e
 
-  holes-replaced : (items : List Item) → holes_of (replaced (is_hole_of id) f items) ≡ others id (holes_of items)
+  pub holes-replaced : (items : List Item) → holes_of (replaced (is_hole_of id) f items) ≡ without id (holes_of items)
   holes-replaced [] = refl
   holes-replaced (Hole i made ∷ items) =
-      holes_cases i made (replaced (is_hole_of id) f items) (others id (holes_of items)) (i == id) (holes-replaced items)
+      holes_cases i made (replaced (is_hole_of id) f items) (without id (holes_of items)) (i == id) (holes-replaced items)
   holes-replaced (Open i kind free ∷ items) = holes-replaced items
   holes-replaced (Close ∷ items) = holes-replaced items
   holes-replaced (Token kind n ∷ items) = holes-replaced items
@@ -151,23 +141,23 @@ holes-without_opening id (Close ∷ items) = holes-without_opening id items
 holes-without_opening id (Token kind n ∷ items) = holes-without_opening id items
 holes-without_opening id (Error text ∷ items) = holes-without_opening id items
 
-holes-extended_items : (node : Node) (id : ℕ) (items : List Item) → holes_of (extended_items node id items) ≡ others id (holes_of items)
+holes-extended_items : (node : Node) (id : ℕ) (items : List Item) → holes_of (extended_items node id items) ≡ without id (holes_of items)
 holes-extended_items node id items = cases (stands_before (is_hole_of id) (is_opening_of node.id) items)
   where
-    cases : (b : Bool) → holes_of (cond b (moved node id items) (without_hole id items)) ≡ others id (holes_of items)
+    cases : (b : Bool) → holes_of (cond b (moved node id items) (without_hole id items)) ≡ without id (holes_of items)
     cases true =
         holes-replaced id (λ item. Open node.id node.kind true ∷ []) (λ item. refl) (replaced (is_opening_of node.id) (λ item. []) items)
-        ∙ ap (others id) (holes-without_opening node.id items)
+        ∙ ap (without id) (holes-without_opening node.id items)
     cases false = holes-replaced id (λ item. []) (λ item. refl) items
 
 -- an abandoned marker's hole is gone, and the other holes stay as they were
-pub holes-abandoned : {s t : State} (id : ℕ) → Changes s t (abandoned s.draft id) → HasNotFailed t → holes_of t.draft.items ≡ others id (holes_of s.draft.items)
+pub holes-abandoned : {s t : State} (id : ℕ) → Changes s t (abandoned s.draft id) → HasNotFailed t → holes_of t.draft.items ≡ without id (holes_of s.draft.items)
 holes-abandoned {s} {t} id changes goes =
     ap (λ draft. holes_of draft.items) (changed changes goes) ∙ holes-replaced id (λ item. []) (λ item. refl) s.draft.items
 
 -- so it is with the marker that a node is extended to
 pub holes-extended : {s t : State} (node : Node) (id : ℕ) → Changes s t (extended s.draft node id) → HasNotFailed t
-    → holes_of t.draft.items ≡ others id (holes_of s.draft.items)
+    → holes_of t.draft.items ≡ without id (holes_of s.draft.items)
 holes-extended {s} {t} node id changes goes =
     ap (λ draft. holes_of draft.items) (changed changes goes) ∙ holes-extended_items node id s.draft.items
 

@@ -8,8 +8,8 @@ use Rattle.squawk_output.specs.Edits.{abandoned, extended, is_hole_of}
 use Rattle.squawk_output.proofs.Groups.{itself}
 use Rattle.squawk_parser.specs.Recorded.{Begins, Completes, Precedes, started_mark}
 use Rattle.squawk_parser.specs.State.{State, HasHole, HasNode, HasNotFailed, Keeps, Changes}
-use Rattle.squawk_parser.proofs.Holes.{without, HasHoles, HasHoles-complete, Contains-hole, below-hole, filtered-all, is_other, without-last, open_inside, holes-around}
-use Rattle.squawk_parser.proofs.Markers.{HasOneMore, holes-abandoned, holes-extended, holes-preceded, went-changed}
+use Rattle.squawk_parser.proofs.Holes.{HasHoles, HasHoles-complete, Contains-hole, below-hole, filtered-all, is_other, without-last, open_inside, holes-around}
+use Rattle.squawk_parser.proofs.Markers.{HasOneMore, holes-abandoned, holes-extended, holes-preceded, went-changed, without}
 use Rattle.squawk_parser.proofs.RecordedSteps.{went}
 use Rattle.squawk_parser.proofs.Splits.{Contains-behind}
 

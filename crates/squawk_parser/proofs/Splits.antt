@@ -1,9 +1,10 @@
 -- Lists split at an element, and items that give place to others there.
-use Rattle.std.proofs.Common.{◌≡◌, ◌∙◌, ℕ, zero, suc, ◌+◌, ◌≤◌, ◌==◌, Bool, true, false, List, [], ◌∷◌, ◌++◌, cond, arith, ap, refl, subst}
+use Rattle.std.proofs.Common.{◌≡◌, ◌∙◌, ℕ, zero, suc, ◌+◌, ◌≤◌, ◌==◌, Bool, true, false, List, [], ◌∷◌, ◌++◌, cond, arith, ap, refl, subst, sym}
 use Rattle.std.specs.Prelude.{All, Contains, count_by}
+use Rattle.std.specs.List.{flat_map}
 use Rattle.std.proofs.lemmas.Bool.{eqb-true}
 use Rattle.std.proofs.lemmas.List.Sums.{sum_by-append}
-use Rattle.std.proofs.lemmas.List.Elements.{All-cons, All-head, All-nil, All-tail}
+use Rattle.std.proofs.lemmas.List.Elements.{All-cons, All-head, All-nil, All-tail, Contains-append_left, Contains-append_right}
 use Rattle.std.proofs.lemmas.Grind.{flat_map-append}
 use Rattle.squawk_output.specs.declared.log.Made.{Made}
 use Rattle.squawk_output.specs.Draft.{Item, Hole, Open, Close, Token, Error, Node, ids, ids_of, HasNoIdTwice}
@@ -26,6 +27,12 @@ module _ {X : Type 0} where
   pub Contains-behind : (x : X) (xs ys : List X) → Contains (xs ++ x ∷ ys) x
   Contains-behind x [] ys = (0, omega arith, refl)
   Contains-behind x (y ∷ xs) ys = let r : Contains (xs ++ x ∷ ys) x = Contains-behind x xs ys in (suc r.0, omega (arith, r.1), r.2)
+
+  -- an element that one of the elements gives
+  pub Contains-flat_map : {Y : Type 0} (f : X → List Y) (y : Y) (x : X) (xs : List X) → Contains xs x → Contains (f x) y → Contains (flat_map f xs) y
+  Contains-flat_map f y x [] (k, lt, at) gives = absurd (omega arith)
+  Contains-flat_map f y x (z ∷ xs) (zero, lt, at) gives = Contains-append_left (f z) (flat_map f xs) y (subst (λ u. Contains (f u) y) (sym at) gives)
+  Contains-flat_map f y x (z ∷ xs) (suc k, lt, at) gives = Contains-append_right (f z) (flat_map f xs) y (Contains-flat_map f y x xs (k, omega arith, at) gives)
 
   -- what holds of all elements holds of the first of them
   pub All-front : (P : X → Type 0) (xs ys : List X) → All P (xs ++ ys) → All P xs

@@ -1,13 +1,12 @@
 -- What the slots of other ids have where the items of one id are edited.
 use Rattle.std.proofs.Common.{◌≡◌, ◌≢◌, ◌∙◌, ℕ, ◌<◌, true, inl, inr, List, [], ◌++◌, arith, refl, sym}
 use Rattle.std.specs.Prelude.{Contains, ⊤}
-use Rattle.std.proofs.lemmas.Bool.{cases_order, eq-eqb}
+use Rattle.std.proofs.lemmas.Bool.{cases_order, eq-eqb, ne_eqb}
 use Rattle.std.proofs.lemmas.List.Elements.{Contains-append_left, Contains-push}
 use Rattle.squawk_output.specs.Draft as draft
 use Rattle.squawk_output.specs.Draft.{Item, Mark, Node, IsAboveIds}
 use Rattle.squawk_output.specs.Edits.{is_hole_of, is_opening_of, replaced}
 use Rattle.squawk_parser.proofs.Markers.{Contains-others}
-use Rattle.squawk_parser.proofs.OtherMarkers.{differ}
 use Rattle.squawk_script.specs.Slots.{IsHeld, IsBelow, AreInOrder, slot_at}
 use Rattle.squawk_script.specs.declared.slot.Slot.{Slot}
 use Rattle.squawk_script.specs.declared.slot.Slot.TheVariants.{Open, Done, Spent}
@@ -78,7 +77,7 @@ held-append items made Spent there = tt
 -- what has another id than the edited hole
 pub held-holes : (id : ℕ) (f : Item → List Item) (items : List Item) (slot : Slot) → HasOther id slot → IsHeld items slot
     → IsHeld (replaced (is_hole_of id) f items) slot
-held-holes id f items (Open m) other there = Contains-others (is_hole_of id) f (draft.Hole m.id m.made) items (differ m.id id other) there
+held-holes id f items (Open m) other there = Contains-others (is_hole_of id) f (draft.Hole m.id m.made) items (ne_eqb m.id id other) there
 held-holes id f items (Done n) other there = Contains-others (is_hole_of id) f (draft.Open n.id n.kind true) items refl there
 held-holes id f items Spent other there = tt
 
@@ -86,7 +85,7 @@ held-holes id f items Spent other there = tt
 pub held-openings : (id : ℕ) (f : Item → List Item) (items : List Item) (slot : Slot) → HasOther id slot → IsHeld items slot
     → IsHeld (replaced (is_opening_of id) f items) slot
 held-openings id f items (Open m) other there = Contains-others (is_opening_of id) f (draft.Hole m.id m.made) items refl there
-held-openings id f items (Done n) other there = Contains-others (is_opening_of id) f (draft.Open n.id n.kind true) items (differ n.id id other) there
+held-openings id f items (Done n) other there = Contains-others (is_opening_of id) f (draft.Open n.id n.kind true) items (ne_eqb n.id id other) there
 held-openings id f items Spent other there = tt
 
 -- a new id is behind all slots

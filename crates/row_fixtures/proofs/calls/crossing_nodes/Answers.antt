@@ -5,7 +5,8 @@ use Rattle.squawk_output.specs.declared.log.Made.TheVariants.{ByStart}
 use Rattle.squawk_output.specs.Steps.{Step}
 use Rattle.squawk_parser.specs.Recorded.{Begins, Completes, Puts}
 use Rattle.squawk_parser.specs.State.{State, HasNotFailed, IsFresh}
-use Rattle.squawk_parser.proofs.Holes.{without, without-one, HasNoHole-none_open, Contains-hole, below-hole, HasHoles-fresh, HasHoles-start, HasHoles-puts, HasHoles-complete}
+use Rattle.squawk_parser.proofs.Holes.{without-one, HasNoHole-none_open, Contains-hole, below-hole, HasHoles-fresh, HasHoles-start, HasHoles-puts, HasHoles-complete}
+use Rattle.squawk_parser.proofs.Markers.{without}
 use Rattle.squawk_parser.proofs.RecordedSteps.{went}
 use Rattle.row_fixtures.proofs.calls.crossing_nodes.Goals as goal
 use Rattle.row_fixtures.proofs.calls.crossing_nodes.Goals.{After-bump_any-3, After-complete-2}
