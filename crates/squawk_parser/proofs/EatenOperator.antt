@@ -61,7 +61,7 @@ pub record AreEaten (i : ℕ) (old now : State) : Type 0 where
 -- the next one of an operator is eaten
 pub are_eaten-next : (operator_kind : ℕ → Bool) (i : ℕ) (old now next : State) → operator_kind EOF ≡ false
     → i < operator_length operator_kind (ahead old 0) → AreEaten i old now
-    → Puts (current_as (kind_at now 0) (ahead now 0)) now next → AreEaten (i + 1) old next
+    → Puts (current_as (kind_in (ahead now 0) 0) (ahead now 0)) now next → AreEaten (i + 1) old next
 are_eaten-next operator_kind i old now next no_end lt so_far bump = record {
   puts = subst (λ steps. Puts steps old next) (sym steps) (puts-then so_far.puts token);
   seen = ahead-moved 1 token.keeps token.position ∙ (ap (drop 1) (so_far.seen ∙ stands.here) ∙ ap (λ j. drop j (ahead old 0)) (sym (add-one i)));

@@ -33,11 +33,11 @@ recovery-there text recovers s test = if-true _ _ _ (ap recovers (sym (kind_at-f
 
 -- a token that isn't one to go on from stands with the error in a node
 pub recovery_puts : {a b c d e : State} {m : Mark} (text : List ℕ) (recovers : ℕ → Bool) → recovers (kind_at a 0) ≡ false → Begins m a b → Puts (Error text ∷ []) b c
-    → Puts (current_as (kind_at c 0) (ahead c 0)) c d → Completes m.id ERROR d e → Puts (recovery_steps text recovers (ahead a 0)) a e
+    → Puts (current_as (kind_in (ahead c 0) 0) (ahead c 0)) c d → Completes m.id ERROR d e → Puts (recovery_steps text recovers (ahead a 0)) a e
 recovery_puts {a} {b} {c} {d} {e} text recovers test begins error token completes =
     let seen : ahead c 0 ≡ ahead a 0 = ahead-error error ∙ ahead-still begins.keeps begins.position in
     let here : Puts (current_as (kind_in (ahead a 0) 0) (ahead a 0)) c d =
-    subst (λ seen. Puts (current_as (kind_in seen 0) seen) c d) seen (subst (λ kind. Puts (current_as kind (ahead c 0)) c d) (kind_at-first c) token) in
+    subst (λ seen. Puts (current_as (kind_in seen 0) seen) c d) seen token in
     let steps = if-false _ _ _ (ap recovers (sym (kind_at-first a)) ∙ test) in
     subst (λ steps. Puts steps a e) (sym steps) (node_puts begins (puts-then error here) completes)
 

@@ -110,10 +110,10 @@ pub if-false : {A : Type 0} (b : Bool) (x y : A) → b ≡ false → (if b then 
 if-false b x y e = rw e refl
 
 -- the current token is eaten, which is of this kind
-pub bump_puts : {a b : State} (kind : ℕ) → kind_in (ahead a 0) 0 ≡ kind → kind ≢ EOF → Puts (current_as (kind_at a 0) (ahead a 0)) a b → Puts (one kind ∷ []) a b
+pub bump_puts : {a b : State} (kind : ℕ) → kind_in (ahead a 0) 0 ≡ kind → kind ≢ EOF → Puts (current_as (kind_in (ahead a 0) 0) (ahead a 0)) a b → Puts (one kind ∷ []) a b
 bump_puts {a} {b} kind is some puts =
     let there : (kind_in (ahead a 0) 0 == EOF) ≡ false = ne_eqb (kind_in (ahead a 0) 0) EOF (λ end. some (sym is ∙ end)) in
-    subst (λ steps. Puts steps a b) (if-false _ _ _ there ∙ ap (λ kind. one kind ∷ []) (kind_at-first a ∙ is)) puts
+    subst (λ steps. Puts steps a b) (if-false _ _ _ there ∙ ap (λ kind. one kind ∷ []) is) puts
 
 -- where a keyword of a normal form stands, it makes a node
 pub normal_form-there : (seen : List Entry) (kind : ℕ) → kind ≡ kind_in seen 0 → list_any (λ form. kind == form) normal_forms ≡ true

@@ -10,7 +10,7 @@ use Rattle.squawk_parser.proofs.SeenSteps.{bump_puts, if-false, if-true, kind_at
 use Rattle.tiny_grammar.specs.Expressions.{expected_operand, is_operand, operand_step}
 
 module _ {a b : State} where
-  pub operand_there : is_operand (kind_at a 0) ≡ true → Puts (current_as (kind_at a 0) (ahead a 0)) a b → Puts (operand_step (ahead a 0) ∷ []) a b
+  pub operand_there : is_operand (kind_at a 0) ≡ true → Puts (current_as (kind_in (ahead a 0) 0) (ahead a 0)) a b → Puts (operand_step (ahead a 0) ∷ []) a b
   operand_there there puts =
       let is : is_operand (kind_in (ahead a 0) 0) ≡ true = ap is_operand (sym (kind_at-first a)) ∙ there in
       let some : kind_in (ahead a 0) 0 ≢ EOF = λ end. absurd (let p = sym is ∙ ap is_operand end in cc) in

@@ -3,6 +3,7 @@ ghost use Rattle.std.specs.Prelude.{◌≡◌, ◌≢◌, ◌+◌, ◌<◌, ◌�
 ghost use Rattle.std.specs.Str.{chars};
 ghost use Rattle.squawk_kinds.specs.Kinds.{EOF};
 ghost use Rattle.squawk_kinds.specs.TokenSets.{has};
+ghost use Rattle.squawk_table.specs.ParserInput.{kind_in};
 ghost use Rattle.squawk_output.specs.Steps.{Error};
 ghost use Rattle.squawk_parser.specs.Eaten.{current_as, recovery_steps, no_recovery};
 ghost use Rattle.squawk_parser.specs.Recorded.{Begins, Puts};
@@ -32,7 +33,7 @@ impl Parser<'_> {
     /// Eats the current token. At the end nothing happens.
     #[inline(always)]
     pub fn bump_any(&mut self)
-        ensures puts { Puts (current_as (kind_at self.old 0) (ahead self.old 0)) self.old self.new }
+        ensures puts { Puts (current_as (kind_in (ahead self.old 0) 0) (ahead self.old 0)) self.old self.new }
         ensures end { kind_at self.old 0 ≡ EOF → self.new ≡ self.old }
         ensures position { kind_at self.old 0 ≢ EOF → self.new.position ≡ self.old.position + 1 }
     {

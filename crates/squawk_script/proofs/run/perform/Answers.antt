@@ -1,8 +1,4 @@
-use Rattle.std.proofs.Common.{refl, subst}
-use Rattle.squawk_parser.specs.Eaten.{current_as}
-use Rattle.squawk_parser.specs.Recorded.{Puts}
-use Rattle.squawk_parser.specs.State.{ahead}
-use Rattle.squawk_parser.proofs.SeenSteps.{kind_at-first}
+use Rattle.std.proofs.Common.{refl}
 use Rattle.squawk_script.proofs.StepCalls.{eat_puts, puts-performs}
 use Rattle.squawk_script.specs.declared.call.Call.TheVariants.{Eat, BumpAny, BumpRemap, Expect, Error, ErrRecover, ErrAndBump}
 use Rattle.squawk_script.proofs.run.perform.Goals as goal
@@ -15,15 +11,12 @@ returns-in-Eat-clause-performs c =
 
 pub returns-in-BumpAny-clause-performs : goal.returns-in-BumpAny-clause-performs
 returns-in-BumpAny-clause-performs c =
-    rw c.in-BumpAny.is
-    (puts-performs _ _ _ BumpAny c.requires.tied
-    (subst (λ kind. Puts (current_as kind (ahead c.args.p.now 0)) c.args.p.now c.bump_any.new.p) (kind_at-first c.args.p.now) c.bump_any.ensures.puts) refl (λ run. refl) (λ tokens. refl))
+    rw c.in-BumpAny.is (puts-performs _ _ _ BumpAny c.requires.tied c.bump_any.ensures.puts refl (λ run. refl) (λ tokens. refl))
 
 pub returns-in-BumpRemap-clause-performs : goal.returns-in-BumpRemap-clause-performs
 returns-in-BumpRemap-clause-performs c =
     rw c.in-BumpRemap.is
-    (puts-performs _ _ _ (BumpRemap c.in-BumpRemap.kind) c.requires.tied
-    c.bump_remap.ensures.puts refl (λ run. refl) (λ tokens. refl))
+    (puts-performs _ _ _ (BumpRemap c.in-BumpRemap.kind) c.requires.tied c.bump_remap.ensures.puts refl (λ run. refl) (λ tokens. refl))
 
 pub returns-in-Expect-clause-performs : goal.returns-in-Expect-clause-performs
 returns-in-Expect-clause-performs c =
