@@ -4,7 +4,7 @@ use Rattle.std.specs.Prelude.{Result, IsErrAnd, MatchResult, ◌==◌, ◌↔◌
 use Rattle.std.proofs.lemmas.Bool.Decides.{Decides-eqb, same_from_decides}
 use Rattle.squawk_document.specs.DocumentGrammars.{ToldGrammar, by_calls}
 use Rattle.squawk_document.specs.Documents.{Told}
-use Rattle.squawk_tokens.specs.AcceptedTokens as tokens
+use Rattle.squawk_tokens.specs.AcceptedTokens.{AreAcceptedTokens}
 use Rattle.squawk_table.specs.ParserInput.{Entry, input_of}
 use Rattle.squawk_table.specs.RawTable.{Table}
 use Rattle.squawk_table.specs.Sent.{sent_list}
@@ -87,7 +87,7 @@ parse-told d t names answer same_table same_words told =
     (subst (λ words. ParseTells d.grammar words (input_of d.vocabulary.contextual.kind_of t) t answer) same_words told)
 
 -- a fault of its parse is the document's
-pub parse_fault-told : (d : Told) (fault : Fault) → tokens.IsAccepted d.text d.tokens → ParseOf d (Err fault) → Tells d (Err fault)
+pub parse_fault-told : (d : Told) (fault : Fault) → AreAcceptedTokens d.text d.tokens → ParseOf d (Err fault) → Tells d (Err fault)
 parse_fault-told d Json accepted told = absurd told
 parse_fault-told d Shape accepted told = absurd told
 parse_fault-told d TextTooLong accepted told = absurd told

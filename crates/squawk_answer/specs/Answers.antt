@@ -7,7 +7,7 @@ use Rattle.squawk_document.specs.declared.document_error.DocumentError.{Document
 use Rattle.squawk_document.specs.declared.document_error.DocumentError.TheVariants as document
 use Rattle.std.specs.Borrow.{Bor}
 use Rattle.squawk_kinds.specs.declared.token_set.TokenSet.{TokenSet}
-use Rattle.squawk_tokens.specs.AcceptedTokens as tokens
+use Rattle.squawk_tokens.specs.AcceptedTokens.{AreAcceptedTokens, RefusesTokens}
 use Rattle.squawk_tokens.specs.declared.check.TableError.TheVariants as table
 use Rattle.squawk_table.specs.ParserInput.{Entry, input_of}
 use Rattle.squawk_table.specs.RawTable.{Table, table_of}
@@ -108,16 +108,16 @@ lines d = record { errors = lex_lines (table_for d).errors; steps = step_lines (
 
 -- its raw tokens are accepted, and this is what its parse tells
 abbrev pub IsParsed : Told → Result (List Step) Fault → Type 0
-IsParsed d answer = tokens.IsAccepted d.text d.tokens × ParseOf d answer
+IsParsed d answer = AreAcceptedTokens d.text d.tokens × ParseOf d answer
 
 -- What a document tells: its lines, or the first fault. Of memory nothing is said, and reading and writing aren't the document's.
 abbrev pub Tells : Told → Result Texts Fault → Type 0
 Tells d (Ok texts) = IsParsed d (Ok (steps d)) × (texts ≡ lines d)
 Tells d (Err Json) = ⊥
 Tells d (Err Shape) = ⊥
-Tells d (Err TextTooLong) = tokens.Refuses d.text d.tokens table.TextTooLong
-Tells d (Err (BadToken index)) = tokens.Refuses d.text d.tokens (table.BadToken index)
-Tells d (Err (TextLeft at)) = tokens.Refuses d.text d.tokens (table.TextLeft at)
+Tells d (Err TextTooLong) = RefusesTokens d.text d.tokens table.TextTooLong
+Tells d (Err (BadToken index)) = RefusesTokens d.text d.tokens (table.BadToken index)
+Tells d (Err (TextLeft at)) = RefusesTokens d.text d.tokens (table.TextLeft at)
 Tells d (Err (BadCall index)) = IsParsed d (Err (BadCall index))
 Tells d (Err (Unspent marker)) = IsParsed d (Err (Unspent marker))
 Tells d (Err TooManyEvents) = IsParsed d (Err TooManyEvents)

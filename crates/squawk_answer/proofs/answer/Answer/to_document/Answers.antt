@@ -1,7 +1,7 @@
 use Rattle.std.proofs.Common.{◌≡◌, ◌∙◌, ◌++◌, Ok, Err, ap, subst}
 use Rattle.std.specs.Prelude.{string_bytes}
 use Rattle.squawk_document.specs.Documents.{Told, told}
-use Rattle.squawk_tokens.specs.AcceptedTokens.{IsAccepted}
+use Rattle.squawk_tokens.specs.AcceptedTokens.{AreAcceptedTokens}
 use Rattle.squawk_table.specs.RawTable.{table_of}
 use Rattle.squawk_answer.specs.Answers.{ParseOf, Tells, steps as steps_of, table_for, words_with}
 use Rattle.squawk_answer.specs.Lines.{last_line, lex_lines, step_lines}
@@ -12,7 +12,7 @@ pub returns-in_err-output-clause-answer : goal.returns-in_err-output-clause-answ
 returns-in_err-output-clause-answer c =
     let d : Told = told c.args.document in
     let tokens = c.deref.ensures.value in
-    let accepted = subst (IsAccepted d.text) tokens c.in_ok-table.ensures.accepted in
+    let accepted = subst (AreAcceptedTokens d.text) tokens c.in_ok-table.ensures.accepted in
     let table : c.in_ok-table.table ≡ table_for d = c.in_ok-table.ensures.table ∙ ap (table_of d.vocabulary.keywords.kind_of d.text) tokens in
     let words = ap (words_with d.words.operator_first) c.deref-2.ensures.value in
     let fault = c.in_err-output.field-0.0 in
@@ -23,7 +23,7 @@ pub returns-clause-answer : goal.returns-clause-answer
 returns-clause-answer c =
     let d : Told = told c.args.document in
     let tokens = c.deref.ensures.value in
-    let accepted = subst (IsAccepted d.text) tokens c.in_ok-table.ensures.accepted in
+    let accepted = subst (AreAcceptedTokens d.text) tokens c.in_ok-table.ensures.accepted in
     let table : c.in_ok-table.table ≡ table_for d = c.in_ok-table.ensures.table ∙ ap (table_of d.vocabulary.keywords.kind_of d.text) tokens in
     let words = ap (words_with d.words.operator_first) c.deref-2.ensures.value in
     let parse = parse-told d c.in_ok-table.table c.deref-2.result.now (Ok c.in_ok-output.output.steps) table words c.in_ok-output.ensures.parsed in
