@@ -4,7 +4,7 @@ use Rattle.std.specs.Prelude.{All}
 use Rattle.std.proofs.lemmas.List.Sums.{sum_by-append}
 use Rattle.std.proofs.lemmas.List.Elements.{All-nil, All-cons, All-head, All-tail}
 use Rattle.std.proofs.lemmas.Grind.{flat_map-append}
-use Rattle.squawk_output.specs.Steps.{Step, is_error_item, errors_in, eaten, count_of}
+use Rattle.squawk_output.specs.Steps.{Step, is_error, errors_in, eaten, count_of}
 use Rattle.squawk_output.specs.Draft.{Item, Made, Hole, Open, Close, Token, Error, HasNoHole, IsAboveIds, ids, ids_of, is_hole, plain, steps_of_item}
 use Rattle.squawk_output.specs.Edits.{filled}
 
@@ -18,7 +18,7 @@ pub filled-append : (id kind : ℕ) (xs ys : List Item) → filled (xs ++ ys) id
 filled-append id kind xs ys = flat_map-append _ xs ys
 
 pub steps_errors-append : (xs ys : List Step) → errors_in (xs ++ ys) ≡ errors_in xs + errors_in ys
-steps_errors-append xs ys = sum_by-append (λ step. cond (is_error_item step) 1 0) xs ys
+steps_errors-append xs ys = sum_by-append (λ step. cond (is_error step) 1 0) xs ys
 
 pub eaten-append : (xs ys : List Step) → eaten (xs ++ ys) ≡ eaten xs + eaten ys
 eaten-append xs ys = sum_by-append count_of xs ys
