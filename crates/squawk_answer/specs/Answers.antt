@@ -2,11 +2,9 @@
 use Rattle.std.specs.Prelude.{◌≡◌, ℕ, ◌==◌, Bool, List, ◌++◌, length, map, Option, Some, None, Result, Ok, Err}
 use Rattle.squawk_document.specs.DocumentGrammars.{ToldGrammar, by_calls, by_tiny}
 use Rattle.squawk_document.specs.Documents.{Told, document_in}
-use Rattle.squawk_document.specs.Values.{◌>>=◌, value_of}
+use Rattle.squawk_document.specs.Values.{◌>>=◌, json_value}
 use Rattle.squawk_document.specs.declared.document_error.DocumentError.{DocumentError}
 use Rattle.squawk_document.specs.declared.document_error.DocumentError.TheVariants as document
-use Rattle.std.specs.Borrow.{Bor}
-use Rattle.squawk_kinds.specs.declared.token_set.TokenSet.{TokenSet}
 use Rattle.squawk_tokens.specs.AcceptedTokens.{AreAcceptedTokens, RefusesTokens}
 use Rattle.squawk_tokens.specs.declared.check.TableError.TheVariants as table
 use Rattle.squawk_table.specs.ParserInput.{Entry, input_of}
@@ -32,7 +30,7 @@ use Rattle.squawk_answer.specs.declared.fault.Fault.TheVariants.{Json, Shape, Te
 
 -- the document that these bytes are
 abbrev pub document_of : List ℕ → Result Told DocumentError
-document_of input = value_of input >>= document_in
+document_of input = json_value input >>= document_in
 
 -- the table of its raw tokens
 abbrev pub table_for : Told → Table
@@ -43,10 +41,6 @@ abbrev pub parser_input : Told → List Entry
 parser_input d = input_of d.vocabulary.contextual.kind_of (table_for d)
 
 -- ---- a parse by a grammar
-
--- the words of a grammar, with names as they are borrowed
-abbrev pub words_with : TokenSet → List (ℕ × Bor (List ℕ)) → Words
-words_with operator_first names = record { operator_first = operator_first; names = map (λ pair. (pair.0, pair.1.now)) names }
 
 -- its calls are accepted, and the small grammar has none
 abbrev pub HasCalls : ToldGrammar → Type 0

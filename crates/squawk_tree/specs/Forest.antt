@@ -4,6 +4,7 @@ use Rattle.squawk_table.specs.declared.shortcuts.str_step.OwnedStep.{OwnedStep}
 use Rattle.squawk_table.specs.declared.shortcuts.str_step.OwnedStep.TheVariants as step
 use Rattle.squawk_tree.specs.TreeText.{Names, error_shown, line, span, token_shown}
 
+-- trees beside each other
 pub data Forest : Type 0 where
   -- none
   Nothing : Forest

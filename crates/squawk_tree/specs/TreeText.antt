@@ -68,9 +68,11 @@ line depth shown = indentation depth ++ shown ++ codes "\n"
 abbrev pub span : Names → ℕ → ℕ → ℕ → List ℕ
 span names kind start end = kind_name names kind ++ codes "@" ++ decimal start ++ codes ".." ++ decimal end
 
+-- a token from a byte to another, with its text
 abbrev pub token_shown : Names → ℕ → ℕ → ℕ → List ℕ → List ℕ
 token_shown names kind start end text = span names kind start end ++ codes " " ++ quoted_text text
 
+-- an error at a byte, with its text
 abbrev pub error_shown : List ℕ → ℕ → List ℕ
 error_shown text pos = codes "error@" ++ decimal pos ++ codes " " ++ quoted_text text
 
