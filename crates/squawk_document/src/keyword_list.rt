@@ -108,11 +108,11 @@ fn keyword_kind(value: &Value) -> Result<u16, DocumentError>
     ensures kind { GivesExactly (λ kind. kind) result (keyword_kind_in (view value.now)) }
     ensures keyword { IfOk result IsKeyword }
 {
-    let kind = value::number(value, 2, 638)?;
-    if kind == 4 {
+    let kind = value::number(value, 2, 638)? as u16;
+    if kind == u16::from(SyntaxKind::COMMENT) {
         return Err(DocumentError::Shape);
     }
-    Ok(kind as u16)
+    Ok(kind)
 }
 
 /// A word and its kind.
