@@ -283,6 +283,6 @@ fn each_name_is_that_of_one_kind(rt: HostRuntime) {
         }
     }
     // As many as there are rows in the tables of names.
-    assert_eq!(rt; named, 80 + 19);
+    assert_eq!(rt; named, 67 + 19);
     assert_eq!(rt; kind_named("SyntaxKind"), None);
 }

@@ -1,10 +1,10 @@
 -- What a parse by the grammar of a document answers, and what a document tells then.
-use Rattle.std.proofs.Common.{Bor, ◌≡◌, ◌≢◌, ◌∙◌, ℕ, ◌≤◌, Bool, List, ◌++◌, Some, None, Ok, Err, inl, inr, ap, arith, sym, subst}
+use Rattle.std.proofs.Common.{◌≡◌, ◌≢◌, ◌∙◌, ℕ, ◌≤◌, Bool, List, ◌++◌, Some, None, Ok, Err, inl, inr, ap, arith, sym, subst}
 use Rattle.std.specs.Prelude.{Result, IsErrAnd, MatchResult, ◌==◌, ◌↔◌, IsTrue, length}
 use Rattle.std.proofs.lemmas.Bool.Decides.{Decides-eqb, same_from_decides}
 use Rattle.squawk_document.specs.DocumentGrammars.{ToldGrammar, by_calls}
 use Rattle.squawk_document.specs.Documents.{Told}
-use Rattle.squawk_tokens.specs.AcceptedTokens as tokens
+use Rattle.squawk_tokens.specs.AcceptedTokens.{AreAcceptedTokens}
 use Rattle.squawk_table.specs.ParserInput.{Entry, input_of}
 use Rattle.squawk_table.specs.RawTable.{Table}
 use Rattle.squawk_table.specs.Sent.{sent_list}
@@ -21,7 +21,7 @@ use Rattle.squawk_script.specs.Events.{FailsByLimits, IsRunOf, events_of, refusa
 use Rattle.squawk_script.specs.Meaning.{Meaning, run_of}
 use Rattle.squawk_script.specs.declared.call.Call.{Call}
 use Rattle.squawk_script.proofs.Laws.{unrefused}
-use Rattle.squawk_answer.specs.Answers.{HasCalls, ParseOf, ParseTells, Tells, lines, refusal_by, steps, steps_by, table_for, words_with}
+use Rattle.squawk_answer.specs.Answers.{HasCalls, ParseOf, ParseTells, Tells, lines, refusal_by, steps, steps_by, table_for}
 use Rattle.squawk_answer.specs.Fault.{fault_of_parse}
 use Rattle.squawk_answer.specs.Lines.{Texts, last_line, lex_lines, step_lines}
 use Rattle.squawk_answer.specs.declared.fault.Fault.{Fault}
@@ -79,15 +79,15 @@ module _ (entry : EntryPoint) (cs : List Call) (words : Words) (input : List Ent
 
 -- ---- a document
 
--- what is told of its parse, over its table as it was made and with its names as they are borrowed
-pub parse-told : (d : Told) (t : Table) (names : List (ℕ × Bor (List ℕ))) (answer : Result (List Step) Fault) → t ≡ table_for d → words_with d.words.operator_first names ≡ d.words
-    → ParseTells d.grammar (words_with d.words.operator_first names) (input_of d.vocabulary.contextual.kind_of t) t answer → ParseOf d answer
-parse-told d t names answer same_table same_words told =
+-- what is told of its parse, over its table as it was made and with its words as they are lent
+pub parse-told : (d : Told) (t : Table) (words : Words) (answer : Result (List Step) Fault) → t ≡ table_for d → words ≡ d.words
+    → ParseTells d.grammar words (input_of d.vocabulary.contextual.kind_of t) t answer → ParseOf d answer
+parse-told d t words answer same_table same_words told =
     subst (λ table. ParseTells d.grammar d.words (input_of d.vocabulary.contextual.kind_of table) table answer) same_table
     (subst (λ words. ParseTells d.grammar words (input_of d.vocabulary.contextual.kind_of t) t answer) same_words told)
 
 -- a fault of its parse is the document's
-pub parse_fault-told : (d : Told) (fault : Fault) → tokens.IsAccepted d.text d.tokens → ParseOf d (Err fault) → Tells d (Err fault)
+pub parse_fault-told : (d : Told) (fault : Fault) → AreAcceptedTokens d.text d.tokens → ParseOf d (Err fault) → Tells d (Err fault)
 parse_fault-told d Json accepted told = absurd told
 parse_fault-told d Shape accepted told = absurd told
 parse_fault-told d TextTooLong accepted told = absurd told

@@ -6,7 +6,7 @@ use Rattle.squawk_document.specs.DocumentGrammars.{ToldGrammar, by_calls, by_tin
 use Rattle.squawk_document.specs.Documents.{Told}
 use Rattle.squawk_document.specs.declared.document_error.DocumentError.{DocumentError}
 use Rattle.squawk_document.specs.declared.document_error.DocumentError.TheVariants as document
-use Rattle.squawk_tokens.specs.AcceptedTokens as tokens
+use Rattle.squawk_tokens.specs.AcceptedTokens.{AreAcceptedTokens, IsGoodTokenAt, RefusesTokens}
 use Rattle.squawk_tokens.specs.declared.token.Token.{Token}
 use Rattle.squawk_tokens.specs.declared.check.TableError.{TableError}
 use Rattle.squawk_tokens.specs.declared.check.TableError.TheVariants as table
@@ -36,18 +36,18 @@ first-same Good i j before bad before' bad' = elim (cases_order i j) [
 ]
 
 module _ (text : List ℕ) (ts : List Token) where
-  tokens-not : (e : TableError) → IsTold (Err (fault_of_table e)) → tokens.Refuses text ts e → tokens.IsAccepted text ts → ⊥
+  tokens-not : (e : TableError) → IsTold (Err (fault_of_table e)) → RefusesTokens text ts e → AreAcceptedTokens text ts → ⊥
   tokens-not table.TextTooLong told r accepted = absurd (omega (arith, r, accepted.short))
   tokens-not (table.BadToken i) told r accepted = r.bad (accepted.good i r.within)
   tokens-not (table.TextLeft at) told r accepted = absurd (omega (arith, r.sum, r.left, accepted.whole))
   tokens-not table.OutOfMemory told r accepted = told
 
-  tokens-one : (e f : TableError) → IsTold (Err (fault_of_table e)) → IsTold (Err (fault_of_table f)) → tokens.Refuses text ts e → tokens.Refuses text ts f → e ≡ f
+  tokens-one : (e f : TableError) → IsTold (Err (fault_of_table e)) → IsTold (Err (fault_of_table f)) → RefusesTokens text ts e → RefusesTokens text ts f → e ≡ f
   tokens-one table.TextTooLong table.TextTooLong a b r s = refl
   tokens-one table.TextTooLong (table.BadToken j) a b r s = absurd (omega (arith, r, s.short))
   tokens-one table.TextTooLong (table.TextLeft at) a b r s = absurd (omega (arith, r, s.short))
   tokens-one (table.BadToken i) table.TextTooLong a b r s = absurd (omega (arith, s, r.short))
-  tokens-one (table.BadToken i) (table.BadToken j) a b r s = ap table.BadToken (first-same (tokens.IsGoodAt text ts) i j r.before r.bad s.before s.bad)
+  tokens-one (table.BadToken i) (table.BadToken j) a b r s = ap table.BadToken (first-same (IsGoodTokenAt text ts) i j r.before r.bad s.before s.bad)
   tokens-one (table.BadToken i) (table.TextLeft at) a b r s = absurd (r.bad (s.good i r.within))
   tokens-one (table.TextLeft at) table.TextTooLong a b r s = absurd (omega (arith, s, r.short))
   tokens-one (table.TextLeft at) (table.BadToken j) a b r s = absurd (s.bad (r.good j s.within))
@@ -123,7 +123,7 @@ abbrev Calling : Told → Answer → Type 0
 Calling d a = Refused (RefusesCalls d.grammar) fault_of_script a ⊎ (HasCalls d.grammar × Parsing d a)
 
 abbrev Reading : Told → Answer → Type 0
-Reading d a = Refused (tokens.Refuses d.text d.tokens) fault_of_table a ⊎ (tokens.IsAccepted d.text d.tokens × Calling d a)
+Reading d a = Refused (RefusesTokens d.text d.tokens) fault_of_table a ⊎ (AreAcceptedTokens d.text d.tokens × Calling d a)
 
 -- at which stage an answer is told
 reading : (d : Told) (a : Answer) → IsTold a → Tells d a → Reading d a
@@ -150,7 +150,7 @@ fitting-one d a b (inr (unfit, is)) (inr (unfit', is')) = is ∙ sym is'
 -- a document has one answer
 pub document-one : (d : Told) (a b : Answer) → IsTold a → IsTold b → Tells d a → Tells d b → a ≡ b
 document-one d a b told told' t t' =
-    stage (tokens.Refuses d.text d.tokens) fault_of_table (tokens.IsAccepted d.text d.tokens) a b told told' (tokens-not d.text d.tokens) (tokens-one d.text d.tokens)
+    stage (RefusesTokens d.text d.tokens) fault_of_table (AreAcceptedTokens d.text d.tokens) a b told told' (tokens-not d.text d.tokens) (tokens-one d.text d.tokens)
     (reading d a told t) (reading d b told' t')
     (λ x y. stage (RefusesCalls d.grammar) fault_of_script (HasCalls d.grammar) a b told told' (calls-not d.grammar) (calls-one d.grammar) x y
     (λ p q. stage (λ e. parse_refusal d ≡ Some e) fault_of_parse (parse_refusal d ≡ None) a b told told' (λ e told some none. parse-not d e some none) (λ e f told told'. parse-one d e f)

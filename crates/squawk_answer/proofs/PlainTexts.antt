@@ -6,7 +6,8 @@ use Rattle.std.proofs.lemmas.Bool.{ne_eqb, le-ltb}
 use Rattle.std.proofs.lemmas.Str.{encodes-chars}
 use Rattle.json.specs.Print.{escape_byte, escape}
 use Rattle.squawk_table.specs.declared.shortcuts.str_step.OwnedStep.TheVariants.{Token}
-use Rattle.squawk_answer.specs.Lines.{json_of, quoted, step_line, IsPlain}
+use Rattle.squawk_answer.specs.Lines.{json_of, json_string, step_line}
+use Rattle.squawk_answer.specs.PlainBytes.{IsPlain}
 
 escape-plain : (byte : ℕ) → IsPlain byte → escape_byte byte ≡ byte ∷ []
 unfolding escape_byte
@@ -29,12 +30,12 @@ escape-all (byte ∷ bytes) plain =
     let rest = escape-all bytes (λ k d lt. plain (suc k) d (omega arith)) in
     λ i. first i ++ rest i
 
-pub quoted-plain : (bytes : List ℕ) → All IsPlain bytes → quoted bytes ≡ 34 ∷ (bytes ++ 34 ∷ [])
-quoted-plain bytes plain = λ i. 34 ∷ (escape-all bytes plain i ++ 34 ∷ [])
+pub json_string-plain : (bytes : List ℕ) → All IsPlain bytes → json_string bytes ≡ 34 ∷ (bytes ++ 34 ∷ [])
+json_string-plain bytes plain = λ i. 34 ∷ (escape-all bytes plain i ++ 34 ∷ [])
 
 -- a text's characters are written as the text is
-pub json_of-chars : (bytes : List ℕ) → IsUtf8 bytes → json_of (chars bytes) ≡ quoted bytes
-json_of-chars bytes utf8 = ap quoted (encodes-chars bytes utf8)
+pub json_of-chars : (bytes : List ℕ) → IsUtf8 bytes → json_of (chars bytes) ≡ json_string bytes
+json_of-chars bytes utf8 = ap json_string (encodes-chars bytes utf8)
 
 between : (number bytes : List ℕ) → number ++ codes " " ++ (34 ∷ (bytes ++ 34 ∷ [])) ++ codes "\n" ≡ number ++ (32 ∷ 34 ∷ []) ++ bytes ++ (34 ∷ 10 ∷ [])
 between number bytes = simp append_assoc
@@ -42,4 +43,4 @@ between number bytes = simp append_assoc
 -- the line of a token, of which nothing needs an escape
 pub token_line-plain : (kind : ℕ) (bytes : List ℕ) → IsUtf8 bytes → All IsPlain bytes
     → step_line (Token kind (chars bytes)) ≡ codes "token " ++ (decimal kind ++ (32 ∷ 34 ∷ []) ++ bytes ++ (34 ∷ 10 ∷ []))
-token_line-plain kind bytes utf8 plain = rw (json_of-chars bytes utf8, quoted-plain bytes plain) (ap (λ line. codes "token " ++ line) (between (decimal kind) bytes))
+token_line-plain kind bytes utf8 plain = rw (json_of-chars bytes utf8, json_string-plain bytes plain) (ap (λ line. codes "token " ++ line) (between (decimal kind) bytes))

@@ -4,5 +4,5 @@ use Rattle.squawk_answer.specs.Lines.{Texts}
 use Rattle.squawk_answer.specs.declared.answer.Answer.{Answer}
 
 -- its two texts
-abbrev pub texts_of : Answer → Texts
-texts_of answer = record { errors = string_bytes answer.errors; steps = string_bytes answer.steps }
+abbrev pub answer_texts : Answer → Texts
+answer_texts answer = record { errors = string_bytes answer.errors; steps = string_bytes answer.steps }

@@ -2,12 +2,10 @@
 use Rattle.std.specs.Prelude.{◌≡◌, ℕ, ◌==◌, Bool, List, ◌++◌, length, map, Option, Some, None, Result, Ok, Err}
 use Rattle.squawk_document.specs.DocumentGrammars.{ToldGrammar, by_calls, by_tiny}
 use Rattle.squawk_document.specs.Documents.{Told, document_in}
-use Rattle.squawk_document.specs.Values.{◌>>=◌, value_of}
+use Rattle.squawk_document.specs.Values.{◌>>=◌, json_value}
 use Rattle.squawk_document.specs.declared.document_error.DocumentError.{DocumentError}
 use Rattle.squawk_document.specs.declared.document_error.DocumentError.TheVariants as document
-use Rattle.std.specs.Borrow.{Bor}
-use Rattle.squawk_kinds.specs.declared.token_set.TokenSet.{TokenSet}
-use Rattle.squawk_tokens.specs.AcceptedTokens as tokens
+use Rattle.squawk_tokens.specs.AcceptedTokens.{AreAcceptedTokens, RefusesTokens}
 use Rattle.squawk_tokens.specs.declared.check.TableError.TheVariants as table
 use Rattle.squawk_table.specs.ParserInput.{Entry, input_of}
 use Rattle.squawk_table.specs.RawTable.{Table, table_of}
@@ -32,7 +30,7 @@ use Rattle.squawk_answer.specs.declared.fault.Fault.TheVariants.{Json, Shape, Te
 
 -- the document that these bytes are
 abbrev pub document_of : List ℕ → Result Told DocumentError
-document_of input = value_of input >>= document_in
+document_of input = json_value input >>= document_in
 
 -- the table of its raw tokens
 abbrev pub table_for : Told → Table
@@ -43,10 +41,6 @@ abbrev pub parser_input : Told → List Entry
 parser_input d = input_of d.vocabulary.contextual.kind_of (table_for d)
 
 -- ---- a parse by a grammar
-
--- the words of a grammar, with names as they are borrowed
-abbrev pub words_with : TokenSet → List (ℕ × Bor (List ℕ)) → Words
-words_with operator_first names = record { operator_first = operator_first; names = map (λ pair. (pair.0, pair.1.now)) names }
 
 -- its calls are accepted, and the small grammar has none
 abbrev pub HasCalls : ToldGrammar → Type 0
@@ -108,16 +102,16 @@ lines d = record { errors = lex_lines (table_for d).errors; steps = step_lines (
 
 -- its raw tokens are accepted, and this is what its parse tells
 abbrev pub IsParsed : Told → Result (List Step) Fault → Type 0
-IsParsed d answer = tokens.IsAccepted d.text d.tokens × ParseOf d answer
+IsParsed d answer = AreAcceptedTokens d.text d.tokens × ParseOf d answer
 
 -- What a document tells: its lines, or the first fault. Of memory nothing is said, and reading and writing aren't the document's.
 abbrev pub Tells : Told → Result Texts Fault → Type 0
 Tells d (Ok texts) = IsParsed d (Ok (steps d)) × (texts ≡ lines d)
 Tells d (Err Json) = ⊥
 Tells d (Err Shape) = ⊥
-Tells d (Err TextTooLong) = tokens.Refuses d.text d.tokens table.TextTooLong
-Tells d (Err (BadToken index)) = tokens.Refuses d.text d.tokens (table.BadToken index)
-Tells d (Err (TextLeft at)) = tokens.Refuses d.text d.tokens (table.TextLeft at)
+Tells d (Err TextTooLong) = RefusesTokens d.text d.tokens table.TextTooLong
+Tells d (Err (BadToken index)) = RefusesTokens d.text d.tokens (table.BadToken index)
+Tells d (Err (TextLeft at)) = RefusesTokens d.text d.tokens (table.TextLeft at)
 Tells d (Err (BadCall index)) = IsParsed d (Err (BadCall index))
 Tells d (Err (Unspent marker)) = IsParsed d (Err (Unspent marker))
 Tells d (Err TooManyEvents) = IsParsed d (Err TooManyEvents)

@@ -13,34 +13,34 @@ use Rattle.squawk_answer.specs.declared.fault.Fault.{Fault}
 use Rattle.squawk_answer.specs.declared.fault.Fault.TheVariants.{Json, Shape, TextTooLong, BadToken, TextLeft, BadCall, Unspent, TooManyEvents, TooManyErrors, DoesNotFit, Memory, Io}
 
 -- the status that the program ends with
-abbrev pub status_of : Fault → ℕ
-status_of Json = 2
-status_of Shape = 2
-status_of TextTooLong = 3
-status_of (BadToken index) = 3
-status_of (TextLeft at) = 3
-status_of (BadCall index) = 4
-status_of (Unspent marker) = 4
-status_of TooManyEvents = 5
-status_of TooManyErrors = 5
-status_of DoesNotFit = 6
-status_of Memory = 7
-status_of Io = 8
+abbrev pub fault_status : Fault → ℕ
+fault_status Json = 2
+fault_status Shape = 2
+fault_status TextTooLong = 3
+fault_status (BadToken index) = 3
+fault_status (TextLeft at) = 3
+fault_status (BadCall index) = 4
+fault_status (Unspent marker) = 4
+fault_status TooManyEvents = 5
+fault_status TooManyErrors = 5
+fault_status DoesNotFit = 6
+fault_status Memory = 7
+fault_status Io = 8
 
 -- the line that it prints
-abbrev pub line_of : Fault → List ℕ
-line_of Json = codes "json"
-line_of Shape = codes "shape"
-line_of TextTooLong = codes "text too long"
-line_of (BadToken index) = codes "bad token " ++ decimal index
-line_of (TextLeft at) = codes "text left at " ++ decimal at
-line_of (BadCall index) = codes "bad call " ++ decimal index
-line_of (Unspent marker) = codes "unspent " ++ decimal marker
-line_of TooManyEvents = codes "too many events"
-line_of TooManyErrors = codes "too many errors"
-line_of DoesNotFit = codes "does not fit"
-line_of Memory = codes "memory"
-line_of Io = codes "io"
+abbrev pub fault_line : Fault → List ℕ
+fault_line Json = codes "json"
+fault_line Shape = codes "shape"
+fault_line TextTooLong = codes "text too long"
+fault_line (BadToken index) = codes "bad token " ++ decimal index
+fault_line (TextLeft at) = codes "text left at " ++ decimal at
+fault_line (BadCall index) = codes "bad call " ++ decimal index
+fault_line (Unspent marker) = codes "unspent " ++ decimal marker
+fault_line TooManyEvents = codes "too many events"
+fault_line TooManyErrors = codes "too many errors"
+fault_line DoesNotFit = codes "does not fit"
+fault_line Memory = codes "memory"
+fault_line Io = codes "io"
 
 -- the fault of what can't be read as a document
 abbrev pub fault_of_document : DocumentError → Fault

@@ -1,5 +1,5 @@
 -- The lines of an answer.
-use Rattle.std.specs.Prelude.{◌≤◌, ◌≢◌, ℕ, Bool, true, false, Option, Some, None, List, [], ◌++◌, codes, encode_utf8_all}
+use Rattle.std.specs.Prelude.{ℕ, Bool, true, false, Option, Some, None, List, [], ◌++◌, codes, encode_utf8_all}
 use Rattle.std.specs.List.{flat_map}
 use Rattle.std.specs.Fmt.{decimal}
 use Rattle.serde_json.specs.Data.{string}
@@ -9,25 +9,21 @@ use Rattle.squawk_table.specs.declared.shortcuts.str_step.OwnedStep.{OwnedStep}
 use Rattle.squawk_table.specs.declared.shortcuts.str_step.OwnedStep.TheVariants.{Token, Enter, Exit, Error}
 
 -- the bytes of a text, as a JSON string
-abbrev pub quoted : List ℕ → List ℕ
-quoted bytes = compact_text (string bytes)
-
--- no control character, no quote and no backslash: it stands in a JSON string as it is
-abbrev pub IsPlain : ℕ → Type 0
-IsPlain byte = (32 ≤ byte) × (byte ≢ 34) × (byte ≢ 92)
+abbrev pub json_string : List ℕ → List ℕ
+json_string bytes = compact_text (string bytes)
 
 -- the characters of a text, as a JSON string
 abbrev pub json_of : List ℕ → List ℕ
-json_of text = quoted (encode_utf8_all text)
+json_of text = json_string (encode_utf8_all text)
 
 -- what is wanted, where an error says so
 abbrev pub hint_part : Option (List ℕ) → List ℕ
 hint_part None = []
-hint_part (Some hint) = codes " " ++ quoted hint
+hint_part (Some hint) = codes " " ++ json_string hint
 
 -- the line of a lexical error
 abbrev pub lex_line : LexicalError → List ℕ
-lex_line e = codes "lex " ++ decimal e.start ++ codes ".." ++ decimal e.end ++ codes " " ++ quoted e.message ++ hint_part e.hint ++ codes "\n"
+lex_line e = codes "lex " ++ decimal e.start ++ codes ".." ++ decimal e.end ++ codes " " ++ json_string e.message ++ hint_part e.hint ++ codes "\n"
 
 -- the lines of lexical errors
 abbrev pub lex_lines : List LexicalError → List ℕ

@@ -2,10 +2,10 @@
 ghost use Rattle.std.specs.Prelude.{◌≡◌, ◌≢◌, ℕ, List, Ok, Err, false, IfErr, MatchResult};
 ghost use Rattle.serde_json.specs.View.{view};
 ghost use Rattle.squawk_document.specs.Documents.{told};
-ghost use Rattle.squawk_document.specs.Values.{value_of};
+ghost use Rattle.squawk_document.specs.Values.{json_value};
 ghost use Rattle.squawk_kinds.specs.Kinds.{EOF};
 ghost use Rattle.squawk_kinds.specs.TokenSets.{has};
-ghost use Rattle.squawk_answer.specs.AnswerLines.{texts_of};
+ghost use Rattle.squawk_answer.specs.AnswerLines.{answer_texts};
 ghost use Rattle.squawk_answer.specs.Answers.{IsTheAnswer, Tells};
 
 use crate::fault::Fault;
@@ -29,7 +29,7 @@ impl Answer {
     /// The answer to what was read, which is let go as soon as its value is made.
     pub fn new(alloc: Global, input: Vec<u8>) -> Result<Answer, Fault>
         ensures answer { MatchResult result
-            (λ a. IsTheAnswer input.items (Ok (texts_of a)))
+            (λ a. IsTheAnswer input.items (Ok (answer_texts a)))
             (λ fault. IsTheAnswer input.items (Err fault)) }
         ensures unwritten { IfErr result (λ fault. fault ≢ Fault.Io) }
     {
@@ -40,8 +40,8 @@ impl Answer {
 
     /// The answer to bytes of which this value was read.
     fn to_value(alloc: Global, value: &Value) -> Result<Answer, Fault>
-        ensures answer { (input : List ℕ) → value_of input ≡ Ok (view value.now) → MatchResult result
-            (λ a. IsTheAnswer input (Ok (texts_of a)))
+        ensures answer { (input : List ℕ) → json_value input ≡ Ok (view value.now) → MatchResult result
+            (λ a. IsTheAnswer input (Ok (answer_texts a)))
             (λ fault. IsTheAnswer input (Err fault)) }
         ensures unwritten { IfErr result (λ fault. fault ≢ Fault.Io) }
     {
@@ -52,7 +52,7 @@ impl Answer {
     fn to_document(alloc: Global, document: Document<'_>) -> Result<Answer, Fault>
         requires { has document.operator_first EOF ≡ false }
         ensures answer { MatchResult result
-            (λ a. Tells (told document.entry) (Ok (texts_of a)))
+            (λ a. Tells (told document.entry) (Ok (answer_texts a)))
             (λ fault. Tells (told document.entry) (Err fault)) }
         ensures unwritten { IfErr result (λ fault. fault ≢ Fault.Io) }
     {

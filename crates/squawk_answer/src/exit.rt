@@ -3,7 +3,7 @@ ghost use Rattle.std.specs.Prelude.{◌≡◌, ◌≢◌, Ok, Err, IfSome};
 ghost use Rattle.std.specs.Io.KnownBytes.{Appends};
 ghost use Rattle.std.specs.Process.{exit_status};
 ghost use Rattle.squawk_answer.specs.Answers.{IsTheAnswer};
-ghost use Rattle.squawk_answer.specs.Fault.{status_of};
+ghost use Rattle.squawk_answer.specs.Fault.{fault_status};
 ghost use Rattle.squawk_answer.specs.Lines.{Texts, joined};
 
 use crate::fault::Fault;
@@ -23,7 +23,7 @@ pub fn program<R: Read, W: Write, E: Write>(
     ensures success { exit_status result ≡ 0 → IfSome (R.remaining reader.old) (λ input. (texts : Texts)
         × IsTheAnswer input (Ok texts) × Appends (W.contents writer.old) (W.contents writer.new) (joined texts)) }
     ensures silent { exit_status result ≡ 0 → error_writer.new ≡ error_writer.old }
-    ensures failure { exit_status result ≢ 0 → (fault : Fault) × (exit_status result ≡ status_of fault)
+    ensures failure { exit_status result ≢ 0 → (fault : Fault) × (exit_status result ≡ fault_status fault)
         × IfSome (R.remaining reader.old) (λ input. IsTheAnswer input (Err fault))
         × (fault ≢ Fault.Io → writer.new ≡ writer.old) }
 {

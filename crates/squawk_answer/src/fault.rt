@@ -1,6 +1,6 @@
 //! Why there is no answer.
 ghost use Rattle.std.specs.Prelude.{◌≡◌};
-ghost use Rattle.squawk_answer.specs.Fault.{status_of};
+ghost use Rattle.squawk_answer.specs.Fault.{fault_status};
 
 use squawk_document::DocumentError;
 use squawk_parser::{ParseError, TableError};
@@ -41,7 +41,7 @@ pub enum Fault {
 impl Fault {
     /// The status that the program ends with.
     pub fn status(&self) -> u8
-        ensures { result ≡ status_of self.now }
+        ensures { result ≡ fault_status self.now }
     {
         match *self {
             Fault::Json | Fault::Shape => 2,
@@ -57,9 +57,9 @@ impl Fault {
 
 impl fmt::Display for Fault {
     ghost use Rattle.std.specs.Prelude.{Some};
-    ghost use Rattle.squawk_answer.specs.Fault.{line_of};
+    ghost use Rattle.squawk_answer.specs.Fault.{fault_line};
 
-    ghost output = { λ fault. Some (line_of fault) };
+    ghost output = { λ fault. Some (fault_line fault) };
 
     fn fmt<W: fmt::Write>(&self, f: &mut fmt::Formatter<W>) -> fmt::Result {
         match *self {

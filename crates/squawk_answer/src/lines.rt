@@ -3,7 +3,8 @@ ghost use Rattle.std.specs.Prelude.{◌≡◌, ◌++◌, ◌↔◌, option_map, 
 ghost use Rattle.std.specs.Str.{chars};
 ghost use Rattle.squawk_table.specs.SinkViews.{owned_step_of};
 ghost use Rattle.squawk_table.specs.declared.shortcuts.str_step.OwnedStep.TheVariants.{Token};
-ghost use Rattle.squawk_answer.specs.Lines.{hint_part, json_of, last_line, lex_line, lex_lines, quoted, step_line, step_lines, IsPlain};
+ghost use Rattle.squawk_answer.specs.Lines.{hint_part, json_of, last_line, lex_line, lex_lines, json_string, step_line, step_lines};
+ghost use Rattle.squawk_answer.specs.PlainBytes.{IsPlain};
 
 use serde_json::Value;
 use squawk_table::{LexError, LexErrors, StrStep, StrSteps};
@@ -103,7 +104,7 @@ fn push_hint(alloc: Global, lines: &mut String, hint: Option<&str>) -> Result<()
 
 /// Puts a text behind others, as a JSON string.
 fn push_json(alloc: Global, lines: &mut String, text: &str) -> Result<(), AllocError>
-    ensures bytes { OnOk result (string_bytes lines.new ≡ string_bytes lines.old ++ quoted text.now) }
+    ensures bytes { OnOk result (string_bytes lines.new ≡ string_bytes lines.old ++ json_string text.now) }
     ensures chars { OnOk result (string_bytes lines.new ≡ string_bytes lines.old ++ json_of (chars text.now)) }
 {
     if needs_no_escape(text) {
@@ -115,7 +116,7 @@ fn push_json(alloc: Global, lines: &mut String, text: &str) -> Result<(), AllocE
 
 /// The text as a JSON string.
 fn json_text(alloc: Global, text: &str) -> Result<String, AllocError>
-    ensures bytes { IfOk result (λ s. string_bytes s ≡ quoted text.now) }
+    ensures bytes { IfOk result (λ s. string_bytes s ≡ json_string text.now) }
     ensures chars { IfOk result (λ s. string_bytes s ≡ json_of (chars text.now)) }
 {
     let value = Value::from(String::from_str(alloc, text)?);

@@ -4,9 +4,9 @@ ghost use Rattle.squawk_document.specs.DocumentGrammars.{by_calls, by_tiny, told
 ghost use Rattle.squawk_document.specs.KeywordAnswers.{answers};
 ghost use Rattle.squawk_kinds.specs.Kinds.{EOF};
 ghost use Rattle.squawk_kinds.specs.TokenSets.{has};
-ghost use Rattle.squawk_parser.specs.Words.{Words as WordsTold};
+ghost use Rattle.squawk_parser.specs.Words.{Words as WordsTold, words_of};
 ghost use Rattle.squawk_table.specs.ParserInput.{input_of};
-ghost use Rattle.squawk_answer.specs.Answers.{ParseTells, words_with};
+ghost use Rattle.squawk_answer.specs.Answers.{ParseTells};
 
 use crate::fault::Fault;
 use squawk_document::DocumentGrammar;
@@ -27,8 +27,8 @@ pub fn parse(
 ) -> Result<Output, Fault>
     requires { has operator_first EOF ≡ false }
     ensures parsed { let input = input_of (answers vocabulary.now).contextual.kind_of table.now in MatchResult result
-        (λ output. ParseTells (told_grammar grammar) (words_with operator_first names.now) input table.now (Ok output.steps))
-        (λ fault. ParseTells (told_grammar grammar) (words_with operator_first names.now) input table.now (Err fault)) }
+        (λ output. ParseTells (told_grammar grammar) (words_of (record { operator_first = operator_first; names = names.entry })) input table.now (Ok output.steps))
+        (λ fault. ParseTells (told_grammar grammar) (words_of (record { operator_first = operator_first; names = names.entry })) input table.now (Err fault)) }
     ensures unwritten { IfErr result (λ fault. fault ≢ Fault.Io) }
 {
     match grammar {
@@ -59,8 +59,8 @@ fn parse_calls(
 ) -> Result<Output, Fault>
     requires { has operator_first EOF ≡ false }
     ensures parsed { let input = input_of (answers vocabulary.now).contextual.kind_of table.now in MatchResult result
-        (λ output. ParseTells (by_calls entry calls.items) (words_with operator_first names.now) input table.now (Ok output.steps))
-        (λ fault. ParseTells (by_calls entry calls.items) (words_with operator_first names.now) input table.now (Err fault)) }
+        (λ output. ParseTells (by_calls entry calls.items) (words_of (record { operator_first = operator_first; names = names.entry })) input table.now (Ok output.steps))
+        (λ fault. ParseTells (by_calls entry calls.items) (words_of (record { operator_first = operator_first; names = names.entry })) input table.now (Err fault)) }
     ensures unwritten { IfErr result (λ fault. fault ≢ Fault.Io) }
 {
     let words = Words {

@@ -1,7 +1,7 @@
 //! From a reader to a writer.
 ghost use Rattle.std.specs.Prelude.{◌≡◌, ◌≢◌, ◌≤◌, true, false, Ok, Err, IfErr, IfSome, OnOk, OnErr, ◌⊎◌};
 ghost use Rattle.std.specs.Io.KnownBytes.{Appends, IsAtEnd};
-ghost use Rattle.squawk_answer.specs.AnswerLines.{texts_of};
+ghost use Rattle.squawk_answer.specs.AnswerLines.{answer_texts};
 ghost use Rattle.squawk_answer.specs.Answers.{IsTheAnswer};
 ghost use Rattle.squawk_answer.specs.Lines.{Texts, joined};
 ghost use Rattle.squawk_answer.specs.Watched.{most_reads};
@@ -55,7 +55,7 @@ pub fn run_watched<R: Read, W: Write>(
 
 /// Writes an answer.
 fn write<W: Write>(answer: &Answer, watch: &mut Watch, writer: &mut W) -> Result<(), Fault>
-    ensures ok { OnOk result (Appends (W.contents writer.old) (W.contents writer.new) (joined (texts_of answer.now))) }
+    ensures ok { OnOk result (Appends (W.contents writer.old) (W.contents writer.new) (joined (answer_texts answer.now))) }
     ensures fault { IfErr result (λ fault. fault ≡ Fault.Io) }
     ensures reads { watch.new.reads ≡ watch.old.reads }
     ensures failed { OnErr result (watch.new.failed ≡ true) }

@@ -1,6 +1,6 @@
 -- Words and their kinds, one after another.
 use Rattle.std.proofs.Common.{◌≡◌, ℕ, ◌≤◌, List, [], ◌∷◌, length, drop, Bool, true, false, cond, Option, Some, None, Ok, Err, refl, sym, ◌∙◌}
-use Rattle.std.specs.Prelude.{Result, ◌||◌, ◌==◌, is_some, map}
+use Rattle.std.specs.Prelude.{Result, IfSome, ◌||◌, ◌==◌, is_some, map}
 use Rattle.std.proofs.Math.Bool.{or-false, or_assoc}
 use Rattle.std.proofs.lemmas.List.{drop_all}
 use Rattle.std.proofs.lemmas.Slice.Eq.{bytes_eq-Decides}
@@ -10,6 +10,7 @@ use Rattle.serde_json.specs.Data.{Data}
 use Rattle.serde_json.specs.View.{view}
 use Rattle.serde_json.specs.declared.value.Value.{Value}
 use Rattle.squawk_kinds.specs.Keywords.{Keywords}
+use Rattle.squawk_kinds.specs.Kinds.{IsKeyword}
 use Rattle.squawk_document.specs.declared.document_error.DocumentError.{DocumentError}
 use Rattle.squawk_document.specs.Values.{◌>>=◌, each, items_in}
 use Rattle.squawk_document.specs.KeywordPairs.{ListAnswers, has_kind, keyword_in, kind_of_word, list_answered, keyword_list_in}
@@ -62,6 +63,12 @@ pub list_answered-all : (d : Data) (items : List Value) (n : ℕ) (answers : Lis
 list_answered-all d items n answers is all read =
     let none : drop n items ≡ [] = drop_all n items all in
     rw is (sym read ∙ rw none (with_pairs-none answers))
+
+-- with a word more, what is found is a keyword
+pub keyword_more : (old : Option ℕ) (same : Bool) (kind : ℕ) → IfSome old IsKeyword → IsKeyword kind → IfSome (option_or old (cond same (Some kind) None)) IsKeyword
+keyword_more (Some x) same kind was is = was
+keyword_more None true kind was is = is
+keyword_more None false kind was is = tt
 
 -- a word that has no kind gets this one
 pub put_first-new : (old new : Keywords) (word bytes : List ℕ) (kind : ℕ)

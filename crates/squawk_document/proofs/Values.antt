@@ -12,13 +12,13 @@ use Rattle.serde_json.specs.Find.{as_object}
 use Rattle.serde_json.specs.View.{view, items_view, members_view}
 use Rattle.serde_json.specs.declared.value.Value.{Value}
 use Rattle.squawk_document.specs.declared.document_error.DocumentError.TheVariants.{Json, Shape}
-use Rattle.squawk_document.specs.Values.{value_of, has_members, data_list, members_len}
+use Rattle.squawk_document.specs.Values.{json_value, has_members, data_list, members_len}
 
-pub value_of-ok : (input : List ℕ) (d : Data) → IsUtf8 input → read input ≡ Some d → value_of input ≡ Ok d
-value_of-ok input d utf8 e = rw (is_utf8-from_IsUtf8 input utf8, e)
+pub json_value-ok : (input : List ℕ) (d : Data) → IsUtf8 input → read input ≡ Some d → json_value input ≡ Ok d
+json_value-ok input d utf8 e = rw (is_utf8-from_IsUtf8 input utf8, e)
 
-pub value_of-err : (input : List ℕ) → (IsUtf8 input → read input ≡ None) → value_of input ≡ Err Json
-value_of-err input none = by_test (is_utf8 input) refl
+pub json_value-err : (input : List ℕ) → (IsUtf8 input → read input ≡ None) → json_value input ≡ Err Json
+json_value-err input none = by_test (is_utf8 input) refl
   where
     by_test : (b : Bool) → is_utf8 input ≡ b → cond b (ok_or (read input) Json) (Err Json) ≡ Err Json
     by_test true e = rw (none (IsUtf8-from_is_utf8 input e))

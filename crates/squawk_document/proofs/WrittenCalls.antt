@@ -7,10 +7,10 @@ use Rattle.squawk_script.specs.declared.call.Call.{Call}
 use Rattle.squawk_script.specs.declared.call.Call.TheVariants.{Start, Complete, Abandon, Precede, ExtendTo, Eat, BumpAny, BumpRemap, Expect, Error, ErrRecover, ErrAndBump}
 use Rattle.squawk_document.specs.declared.document_error.DocumentError.{DocumentError}
 use Rattle.squawk_document.specs.declared.document_error.DocumentError.TheVariants.{Shape}
-use Rattle.squawk_document.specs.Calls.{alone, argument, call_in, call_named, calls_in, kind_in, message_in}
+use Rattle.squawk_document.specs.Calls.{alone, argument, call_in, call_named, calls_in, message_in}
 use Rattle.squawk_document.specs.KindSets.{set_in}
-use Rattle.squawk_document.specs.Values.{◌>>=◌, Gives, each, is_word, item_at, items_in, string_in, u32_in, with_len}
-use Rattle.squawk_document.specs.WrittenCalls.{AreCalls, AreNameAndFields, AreNoCalls, Field, IsCall, IsNoCall, IsField, OneForOne, fields_of, id_field, kind_field, kinds_field, message_field, name_of}
+use Rattle.squawk_document.specs.Values.{◌>>=◌, Gives, each, is_word, item_at, items_in, kind_number_in, string_in, u32_in, with_len}
+use Rattle.squawk_document.specs.WrittenCalls.{AreCalls, AreNameAndFields, AreNoCalls, Field, IsCall, IsNoCall, IsField, OneForOne, fields_of_call, id_field, kind_field, kinds_field, message_field, name_of_call}
 use Rattle.squawk_document.proofs.WrittenValues.{bound, by_number, by_word}
 
 -- ---- what is written is read back
@@ -30,7 +30,7 @@ two_fields Is x y [] are go = absurd are
 two_fields Is x y (d ∷ ds) are go = one_field Is y ds are.1 (λ e is last. go d e (ap (λ ds. d ∷ ds) is) are.0 last)
 
 -- a call of this name, where its fields stand behind it
-named-ok : (call : Call) (name : Data) (ds : List Data) → OneForOne IsField (fields_of call) ds → call_named (name_of call) (name ∷ ds) ≡ Ok call
+named-ok : (call : Call) (name : Data) (ds : List Data) → OneForOne IsField (fields_of_call call) ds → call_named (name_of_call call) (name ∷ ds) ≡ Ok call
 named-ok Start name ds are = no_fields IsField ds are (λ is. rw is refl)
 named-ok BumpAny name ds are = no_fields IsField ds are (λ is. rw is refl)
 named-ok (Abandon marker) name ds are = one_field IsField (id_field marker) ds are (λ d is reads. rw (is, reads) refl)
@@ -93,16 +93,16 @@ len_three s (a ∷ b ∷ c ∷ ds) len go = absurd (omega (arith, len))
 
 -- a name and fields are those of a call
 abbrev IsWritten : List ℕ → List Data → Call → Type 0
-IsWritten w ds call = (w ≡ name_of call) × OneForOne IsField (fields_of call) ds
+IsWritten w ds call = (w ≡ name_of_call call) × OneForOne IsField (fields_of_call call) ds
 
 module _ (w : List ℕ) (s : Data) (ds : List Data) (call : Call) where
   abbrev Others : Result Call DocumentError → Type 0
   Others other = other ≡ Ok call → IsWritten w ds call
 
   -- a call without fields, or what is read where the name is another
-  none : (one : Call) {other : Result Call DocumentError} → fields_of one ≡ [] → Others other → Others (cond (is_word w (name_of one)) (alone (s ∷ ds) one) other)
+  none : (one : Call) {other : Result Call DocumentError} → fields_of_call one ≡ [] → Others other → Others (cond (is_word w (name_of_call one)) (alone (s ∷ ds) one) other)
   none one {other = other} fields go reads =
-      by_word w (name_of one) (alone (s ∷ ds) one) other (Ok call) reads
+      by_word w (name_of_call one) (alone (s ∷ ds) one) other (Ok call) reads
       (λ is here. bound (with_len 1 (s ∷ ds)) (λ _. Ok one) call here (λ es fits made. with_len-is 1 (s ∷ ds) es fits (λ len same.
       let call_is : one ≡ call = let p = made in cc in
       subst (IsWritten w ds) call_is (is, (let e = len_one s ds len in rw (e, fields) tt)))))
@@ -110,7 +110,7 @@ module _ (w : List ℕ) (s : Data) (ds : List Data) (call : Call) where
 
   -- a call with one field
   one : {X : Type 0} (make : X → Call) (field : X → Field) (read : Data → Result X DocumentError) (word : List ℕ) {other : Result Call DocumentError}
-      → ((x : X) → name_of (make x) ≡ word) → ((x : X) → fields_of (make x) ≡ field x ∷ []) → ((x : X) (d : Data) → read d ≡ Ok x → IsField (field x) d)
+      → ((x : X) → name_of_call (make x) ≡ word) → ((x : X) → fields_of_call (make x) ≡ field x ∷ []) → ((x : X) (d : Data) → read d ≡ Ok x → IsField (field x) d)
       → Others other → Others (cond (is_word w word) (argument (s ∷ ds) >>= read >>= λ x. Ok (make x)) other)
   one make field read word {other = other} named fields is_field go reads =
       by_word w word (argument (s ∷ ds) >>= read >>= λ x. Ok (make x)) other (Ok call) reads
@@ -127,7 +127,7 @@ module _ (w : List ℕ) (s : Data) (ds : List Data) (call : Call) where
   -- a call with two fields
   two : {X Y : Type 0} (make : X → Y → Call) (field : X → Field) (second : Y → Field) (read : Data → Result X DocumentError) (read_second : Data → Result Y DocumentError)
       (word : List ℕ) {other : Result Call DocumentError}
-      → ((x : X) (y : Y) → name_of (make x y) ≡ word) → ((x : X) (y : Y) → fields_of (make x y) ≡ field x ∷ second y ∷ [])
+      → ((x : X) (y : Y) → name_of_call (make x y) ≡ word) → ((x : X) (y : Y) → fields_of_call (make x y) ≡ field x ∷ second y ∷ [])
       → ((x : X) (d : Data) → read d ≡ Ok x → IsField (field x) d) → ((y : Y) (d : Data) → read_second d ≡ Ok y → IsField (second y) d)
       → Others other
       → Others (cond (is_word w word) (with_len 3 (s ∷ ds) >>= λ ds. item_at ds 1 >>= read >>= λ x. item_at ds 2 >>= read_second >>= λ y. Ok (make x y)) other)
@@ -146,14 +146,14 @@ module _ (w : List ℕ) (s : Data) (ds : List Data) (call : Call) where
   named-is : call_named w (s ∷ ds) ≡ Ok call → IsWritten w ds call
   named-is =
       none Start refl (
-      two Complete id_field kind_field u32_in kind_in (codes "complete") (λ _ _. refl) (λ _ _. refl) (λ _ _ is. is) (λ _ _ is. is) (
+      two Complete id_field kind_field u32_in kind_number_in (codes "complete") (λ _ _. refl) (λ _ _. refl) (λ _ _ is. is) (λ _ _ is. is) (
       one Abandon id_field u32_in (codes "abandon") (λ _. refl) (λ _. refl) (λ _ _ is. is) (
       one Precede id_field u32_in (codes "precede") (λ _. refl) (λ _. refl) (λ _ _ is. is) (
       two ExtendTo id_field id_field u32_in u32_in (codes "extend_to") (λ _ _. refl) (λ _ _. refl) (λ _ _ is. is) (λ _ _ is. is) (
-      one Eat kind_field kind_in (codes "eat") (λ _. refl) (λ _. refl) (λ _ _ is. is) (
+      one Eat kind_field kind_number_in (codes "eat") (λ _. refl) (λ _. refl) (λ _ _ is. is) (
       none BumpAny refl (
-      one BumpRemap kind_field kind_in (codes "bump_remap") (λ _. refl) (λ _. refl) (λ _ _ is. is) (
-      one Expect kind_field kind_in (codes "expect") (λ _. refl) (λ _. refl) (λ _ _ is. is) (
+      one BumpRemap kind_field kind_number_in (codes "bump_remap") (λ _. refl) (λ _. refl) (λ _ _ is. is) (
+      one Expect kind_field kind_number_in (codes "expect") (λ _. refl) (λ _. refl) (λ _ _ is. is) (
       one Error message_field message_in (codes "error") (λ _. refl) (λ _. refl) (λ _ _ is. is) (
       two ErrRecover message_field kinds_field message_in (set_in 0) (codes "err_recover") (λ _ _. refl) (λ _ _. refl) (λ _ _ is. is) (λ _ _ is. is) (
       one ErrAndBump message_field message_in (codes "err_and_bump") (λ _. refl) (λ _. refl) (λ _ _ is. is) (

@@ -7,13 +7,9 @@ use Rattle.squawk_script.specs.declared.call.Call.TheVariants.{Start, Complete, 
 use Rattle.squawk_document.specs.declared.document_error.DocumentError.{DocumentError}
 use Rattle.squawk_document.specs.declared.document_error.DocumentError.TheVariants.{Shape}
 use Rattle.squawk_document.specs.KindSets.{set_in}
-use Rattle.squawk_document.specs.Values.{◌>>=◌, each, is_word, item_at, items_in, number_in, string_in, u32_in, with_len}
+use Rattle.squawk_document.specs.Values.{◌>>=◌, each, is_word, item_at, items_in, kind_number_in, string_in, u32_in, with_len}
 
 -- ---- the items of a call
-
--- the number of a kind
-abbrev pub kind_in : Data → Result ℕ DocumentError
-kind_in = number_in 0 65535
 
 -- a message, as its characters
 abbrev pub message_in : Data → Result (List ℕ) DocumentError
@@ -32,7 +28,7 @@ alone ds call = with_len 1 ds >>= λ ds. Ok call
 -- a marker and the kind of its node
 abbrev pub complete_in : List Data → Result Call DocumentError
 complete_in ds =
-    with_len 3 ds >>= λ ds. item_at ds 1 >>= u32_in >>= λ marker. item_at ds 2 >>= kind_in >>= λ kind. Ok (Complete marker kind)
+    with_len 3 ds >>= λ ds. item_at ds 1 >>= u32_in >>= λ marker. item_at ds 2 >>= kind_number_in >>= λ kind. Ok (Complete marker kind)
 
 -- a node, and the marker that it begins at from then on
 abbrev pub extend_to_in : List Data → Result Call DocumentError
@@ -52,10 +48,10 @@ call_named name ds =
     if is_word name (codes "abandon") then argument ds >>= u32_in >>= (λ marker. Ok (Abandon marker)) else
     if is_word name (codes "precede") then argument ds >>= u32_in >>= (λ node. Ok (Precede node)) else
     if is_word name (codes "extend_to") then extend_to_in ds else
-    if is_word name (codes "eat") then argument ds >>= kind_in >>= (λ kind. Ok (Eat kind)) else
+    if is_word name (codes "eat") then argument ds >>= kind_number_in >>= (λ kind. Ok (Eat kind)) else
     if is_word name (codes "bump_any") then alone ds BumpAny else
-    if is_word name (codes "bump_remap") then argument ds >>= kind_in >>= (λ kind. Ok (BumpRemap kind)) else
-    if is_word name (codes "expect") then argument ds >>= kind_in >>= (λ kind. Ok (Expect kind)) else
+    if is_word name (codes "bump_remap") then argument ds >>= kind_number_in >>= (λ kind. Ok (BumpRemap kind)) else
+    if is_word name (codes "expect") then argument ds >>= kind_number_in >>= (λ kind. Ok (Expect kind)) else
     if is_word name (codes "error") then argument ds >>= message_in >>= (λ message. Ok (Error message)) else
     if is_word name (codes "err_recover") then err_recover_in ds else
     if is_word name (codes "err_and_bump") then argument ds >>= message_in >>= (λ message. Ok (ErrAndBump message)) else

@@ -32,6 +32,7 @@ grammar_spelled word d =
     if is_word word (codes "tiny") then no_calls_in d else
     Err Shape
 
+-- the grammar that two members of a document tell: the word, and the calls
 abbrev pub grammar_in : Data → Data → Result ToldGrammar DocumentError
 grammar_in entry calls = string_in entry >>= λ word. grammar_spelled word calls
 

@@ -6,6 +6,7 @@ use Rattle.squawk_document.specs.declared.document_error.DocumentError.{Document
 use Rattle.squawk_document.specs.declared.members.DocumentMembers.{DocumentMembers}
 use Rattle.squawk_document.specs.Values.{◌>>=◌, has_members, member_in}
 
+-- the members, as JSON
 pub record MemberData : Type 0 where
   pub text : Data
   pub tokens : Data
@@ -14,6 +15,7 @@ pub record MemberData : Type 0 where
   pub entry : Data
   pub calls : Data
 
+-- the same, of members that were read
 abbrev pub member_data : DocumentMembers → MemberData
 member_data members = record {
   text = view members.text.now;

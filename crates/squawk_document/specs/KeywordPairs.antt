@@ -1,11 +1,11 @@
 -- The words of a vocabulary, with their kinds.
-use Rattle.std.specs.Prelude.{◌≡◌, ℕ, ◌==◌, Bool, List, Option, Some, None, Result, Ok, Err, IfSome, codes, if◌then◌else◌}
+use Rattle.std.specs.Prelude.{ℕ, ◌==◌, Bool, List, Result, Ok, Err, codes, if◌then◌else◌}
 use Rattle.std.specs.List.{list_any}
 use Rattle.std.specs.Map.{lookup}
 use Rattle.std.specs.Str.{bytes_eq}
 use Rattle.serde_json.specs.Data.{Data}
 use Rattle.squawk_kinds.specs.Keywords.{Keywords}
-use Rattle.squawk_kinds.specs.Kinds.{COMMENT, IsKeyword}
+use Rattle.squawk_kinds.specs.Kinds.{COMMENT}
 use Rattle.squawk_document.specs.declared.document_error.DocumentError.{DocumentError}
 use Rattle.squawk_document.specs.declared.document_error.DocumentError.TheVariants.{Shape}
 use Rattle.squawk_document.specs.Values.{◌>>=◌, each, has_members, items_in, member_in, number_in, pair_in, string_in}
@@ -53,6 +53,7 @@ pub record ListAnswers : Type 0 where
   pub kind_of : Keywords
   pub kinds : ℕ → Bool
 
+-- what these pairs answer
 abbrev pub list_answers : List (List ℕ × ℕ) → ListAnswers
 list_answers pairs = record { kind_of = kind_of_word pairs; kinds = has_kind pairs }
 
@@ -61,6 +62,7 @@ pub record VocabularyAnswers : Type 0 where
   pub keywords : ListAnswers
   pub contextual : ListAnswers
 
+-- what the two lists answer
 abbrev pub answers_of : Lists → VocabularyAnswers
 answers_of lists = record { keywords = list_answers lists.keywords; contextual = list_answers lists.contextual }
 
@@ -68,18 +70,6 @@ answers_of lists = record { keywords = list_answers lists.keywords; contextual =
 abbrev pub list_answered : Result (List (List ℕ × ℕ)) DocumentError → Result ListAnswers DocumentError
 list_answered reading = reading >>= λ pairs. Ok (list_answers pairs)
 
+-- what is read of both lists, as what they answer
 abbrev pub answered : Result Lists DocumentError → Result VocabularyAnswers DocumentError
 answered reading = reading >>= λ lists. Ok (answers_of lists)
-
--- ---- keywords alone
-
--- what is found is a keyword
-abbrev pub AreKeywords : Keywords → Type 0
-AreKeywords kind_of = (text : List ℕ) (kind : ℕ) → kind_of text ≡ Some kind → IsKeyword kind
-
-pub IsKeyword-found : (kind_of : Keywords) → AreKeywords kind_of → (text : List ℕ) → IfSome (kind_of text) IsKeyword
-IsKeyword-found kind_of are text = by_case (kind_of text) (are text)
-  where
-    by_case : (found : Option ℕ) → ((kind : ℕ) → found ≡ Some kind → IsKeyword kind) → IfSome found IsKeyword
-    by_case None one = tt
-    by_case (Some kind) one = one kind (λ _. Some kind)

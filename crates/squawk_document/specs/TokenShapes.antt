@@ -104,20 +104,22 @@ kind_of_three w a b c =
 -- ---- tokens
 
 -- the kind that is spelled, with all its fields and nothing behind them
-abbrev pub kind_in : List ℕ → List Data → Result TokenKind DocumentError
-kind_in w [] = plain_kind w
-kind_in w (a ∷ []) = kind_of_one w a
-kind_in w (a ∷ b ∷ []) = kind_of_two w a b
-kind_in w (a ∷ b ∷ c ∷ []) = kind_of_three w a b c
-kind_in w fields = Err Shape
+abbrev pub spelled_kind : List ℕ → List Data → Result TokenKind DocumentError
+spelled_kind w [] = plain_kind w
+spelled_kind w (a ∷ []) = kind_of_one w a
+spelled_kind w (a ∷ b ∷ []) = kind_of_two w a b
+spelled_kind w (a ∷ b ∷ c ∷ []) = kind_of_three w a b c
+spelled_kind w fields = Err Shape
 
 -- a spelling, a length and fields
 abbrev pub spelled_token : List Data → Result Token DocumentError
-spelled_token (s ∷ l ∷ fields) = string_in s >>= λ w. u32_in l >>= λ len. kind_in w fields >>= λ kind. Ok (record { kind = kind; len = len })
+spelled_token (s ∷ l ∷ fields) = string_in s >>= λ w. u32_in l >>= λ len. spelled_kind w fields >>= λ kind. Ok (record { kind = kind; len = len })
 spelled_token ds = Err Shape
 
+-- one raw token
 abbrev pub token_in : Data → Result Token DocumentError
 token_in d = items_in d >>= λ ds. spelled_token ds
 
+-- the raw tokens of a document
 abbrev pub tokens_in : Data → Result (List Token) DocumentError
 tokens_in d = items_in d >>= λ ds. each token_in ds

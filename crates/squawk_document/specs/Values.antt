@@ -11,6 +11,7 @@ use Rattle.squawk_document.specs.declared.document_error.DocumentError.TheVarian
 
 -- ---- readings that may fail
 
+-- one reading, and another one of what it gives
 infixl 10 ◌>>=◌
 abbrev pub ◌>>=◌ : {A B : Type 0} → Result A DocumentError → (A → Result B DocumentError) → Result B DocumentError
 (Ok x) >>= f = f x
@@ -35,13 +36,15 @@ GivesExactly view (Err e) reading = reading ≡ Err e
 -- ---- JSON values
 
 -- the bytes are text, and JSON
-abbrev pub value_of : List ℕ → Result Data DocumentError
-value_of input = if is_utf8 input then ok_or (read input) Json else Err Json
+abbrev pub json_value : List ℕ → Result Data DocumentError
+json_value input = if is_utf8 input then ok_or (read input) Json else Err Json
 
+-- the items of an array, as a list
 abbrev pub data_list : Items → List Data
 data_list no_items = []
 data_list (item d ds) = d ∷ data_list ds
 
+-- how many members an object has
 abbrev pub members_len : Members → ℕ
 members_len no_members = 0
 members_len (member k d ms) = members_len ms + 1
@@ -67,10 +70,15 @@ number_in low high d =
 abbrev pub u32_in : Data → Result ℕ DocumentError
 u32_in = number_in 0 4294967295
 
+-- the number of a kind
+abbrev pub kind_number_in : Data → Result ℕ DocumentError
+kind_number_in = number_in 0 65535
+
 -- a string, as its bytes
 abbrev pub string_in : Data → Result (List ℕ) DocumentError
 string_in d = ok_or (as_str d) Shape
 
+-- true or false
 abbrev pub bool_in : Data → Result Bool DocumentError
 bool_in d = ok_or (as_bool d) Shape
 

@@ -1,4 +1,4 @@
--- Places that words take. They serve the look-up of words alone.
+-- Places that words take. Only the look-up of words and its invariant speak of them.
 use Rattle.std.specs.Prelude.{◌≡◌, ℕ, ◌+◌, ◌-◌, ◌*◌, ◌%◌, Bool, true, false, List, [], ◌∷◌, length, Some, slice_index}
 use Rattle.std.specs.List.{slice_index_or}
 use Rattle.squawk_kinds.specs.Keywords.{Keywords}

@@ -4,25 +4,26 @@ use Rattle.serde_json.specs.Data.{Data}
 use Rattle.squawk_kinds.specs.declared.token_set.TokenSet.{TokenSet}
 use Rattle.squawk_script.specs.declared.call.Call.{Call}
 use Rattle.squawk_script.specs.declared.call.Call.TheVariants.{Start, Complete, Abandon, Precede, ExtendTo, Eat, BumpAny, BumpRemap, Expect, Error, ErrRecover, ErrAndBump}
-use Rattle.squawk_document.specs.Calls.{kind_in, message_in}
+use Rattle.squawk_document.specs.Calls.{message_in}
 use Rattle.squawk_document.specs.KindSets.{set_in}
-use Rattle.squawk_document.specs.Values.{items_in, string_in, u32_in}
+use Rattle.squawk_document.specs.Values.{items_in, kind_number_in, string_in, u32_in}
 
 -- ---- names and fields
 
-abbrev pub name_of : Call → List ℕ
-name_of Start = codes "start"
-name_of (Complete marker kind) = codes "complete"
-name_of (Abandon marker) = codes "abandon"
-name_of (Precede node) = codes "precede"
-name_of (ExtendTo node marker) = codes "extend_to"
-name_of (Eat kind) = codes "eat"
-name_of (Expect kind) = codes "expect"
-name_of BumpAny = codes "bump_any"
-name_of (BumpRemap kind) = codes "bump_remap"
-name_of (Error message) = codes "error"
-name_of (ErrAndBump message) = codes "err_and_bump"
-name_of (ErrRecover message recovery) = codes "err_recover"
+-- the name of a call
+abbrev pub name_of_call : Call → List ℕ
+name_of_call Start = codes "start"
+name_of_call (Complete marker kind) = codes "complete"
+name_of_call (Abandon marker) = codes "abandon"
+name_of_call (Precede node) = codes "precede"
+name_of_call (ExtendTo node marker) = codes "extend_to"
+name_of_call (Eat kind) = codes "eat"
+name_of_call (Expect kind) = codes "expect"
+name_of_call BumpAny = codes "bump_any"
+name_of_call (BumpRemap kind) = codes "bump_remap"
+name_of_call (Error message) = codes "error"
+name_of_call (ErrAndBump message) = codes "err_and_bump"
+name_of_call (ErrRecover message recovery) = codes "err_recover"
 
 -- what stands after a call's name: the number of a marker or a node, a kind, the characters of a message, or a set of kinds
 pub data Field : Type 0 where
@@ -32,26 +33,26 @@ pub data Field : Type 0 where
   kinds_field : TokenSet → Field
 
 -- the fields of a call, in the order in which the call has them
-abbrev pub fields_of : Call → List Field
-fields_of Start = []
-fields_of (Complete marker kind) = id_field marker ∷ kind_field kind ∷ []
-fields_of (Abandon marker) = id_field marker ∷ []
-fields_of (Precede node) = id_field node ∷ []
-fields_of (ExtendTo node marker) = id_field node ∷ id_field marker ∷ []
-fields_of (Eat kind) = kind_field kind ∷ []
-fields_of (Expect kind) = kind_field kind ∷ []
-fields_of BumpAny = []
-fields_of (BumpRemap kind) = kind_field kind ∷ []
-fields_of (Error message) = message_field message ∷ []
-fields_of (ErrAndBump message) = message_field message ∷ []
-fields_of (ErrRecover message recovery) = message_field message ∷ kinds_field recovery ∷ []
+abbrev pub fields_of_call : Call → List Field
+fields_of_call Start = []
+fields_of_call (Complete marker kind) = id_field marker ∷ kind_field kind ∷ []
+fields_of_call (Abandon marker) = id_field marker ∷ []
+fields_of_call (Precede node) = id_field node ∷ []
+fields_of_call (ExtendTo node marker) = id_field node ∷ id_field marker ∷ []
+fields_of_call (Eat kind) = kind_field kind ∷ []
+fields_of_call (Expect kind) = kind_field kind ∷ []
+fields_of_call BumpAny = []
+fields_of_call (BumpRemap kind) = kind_field kind ∷ []
+fields_of_call (Error message) = message_field message ∷ []
+fields_of_call (ErrAndBump message) = message_field message ∷ []
+fields_of_call (ErrRecover message recovery) = message_field message ∷ kinds_field recovery ∷ []
 
 -- ---- JSON of a call
 
 -- JSON of a field: it is read as the field; a set of kinds has many such lists
 abbrev pub IsField : Field → Data → Type 0
 IsField (id_field id) d = u32_in d ≡ Ok id
-IsField (kind_field kind) d = kind_in d ≡ Ok kind
+IsField (kind_field kind) d = kind_number_in d ≡ Ok kind
 IsField (message_field message) d = message_in d ≡ Ok message
 IsField (kinds_field kinds) d = set_in 0 d ≡ Ok kinds
 
@@ -65,7 +66,7 @@ OneForOne Is (x ∷ xs) (d ∷ ds) = Is x d × OneForOne Is xs ds
 -- a call's name, and its fields
 abbrev pub AreNameAndFields : Call → List Data → Type 0
 AreNameAndFields call [] = ⊥
-AreNameAndFields call (name ∷ fields) = (string_in name ≡ Ok (name_of call)) × OneForOne IsField (fields_of call) fields
+AreNameAndFields call (name ∷ fields) = (string_in name ≡ Ok (name_of_call call)) × OneForOne IsField (fields_of_call call) fields
 
 -- JSON of a call: a list of its name and its fields
 abbrev pub IsCall : Call → Data → Type 0
@@ -77,8 +78,10 @@ AreCalls calls d = MatchResult (items_in d) (OneForOne IsCall calls) (λ _. ⊥)
 
 -- ---- JSON of none
 
+-- JSON that is no call
 abbrev pub IsNoCall : Data → Type 0
 IsNoCall d = (call : Call) → ¬ (IsCall call d)
 
+-- JSON that is no list of calls
 abbrev pub AreNoCalls : Data → Type 0
 AreNoCalls d = (calls : List Call) → ¬ (AreCalls calls d)

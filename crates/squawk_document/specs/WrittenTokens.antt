@@ -11,6 +11,7 @@ use Rattle.squawk_tokens.specs.declared.token.TokenKind.TheVariants.{Unknown, Li
 
 -- ---- words
 
+-- the word of a literal
 abbrev pub word_of_literal : LiteralKind → List ℕ
 word_of_literal (Int empty_int base trailing_junk_start) = codes "int"
 word_of_literal (Numeric empty_exponent_start trailing_junk_start) = codes "numeric"
@@ -22,6 +23,7 @@ word_of_literal (NationalStr terminated) = codes "national_str"
 word_of_literal (UnicodeEscStr terminated) = codes "unicode_esc_str"
 word_of_literal (DollarQuotedString terminated) = codes "dollar_quoted_string"
 
+-- the word of a kind
 abbrev pub word_of : TokenKind → List ℕ
 word_of Whitespace = codes "whitespace"
 word_of LineComment = codes "line_comment"
@@ -86,20 +88,21 @@ fields_of_literal (UnicodeEscStr terminated) = boolean terminated ∷ []
 fields_of_literal (DollarQuotedString terminated) = boolean terminated ∷ []
 
 -- the fields of a kind, in the order in which the kind has them; most have none
-abbrev pub fields_of : TokenKind → List Data
-fields_of (BlockComment terminated) = boolean terminated ∷ []
-fields_of (QuotedIdent terminated uescape) = boolean terminated ∷ boolean uescape ∷ []
-fields_of (PsqlCommand ends_query) = boolean ends_query ∷ []
-fields_of (PositionalParam trailing_junk_start) = whole trailing_junk_start ∷ []
-fields_of (Literal kind) = fields_of_literal kind
-fields_of kind = []
+abbrev pub fields_of_kind : TokenKind → List Data
+fields_of_kind (BlockComment terminated) = boolean terminated ∷ []
+fields_of_kind (QuotedIdent terminated uescape) = boolean terminated ∷ boolean uescape ∷ []
+fields_of_kind (PsqlCommand ends_query) = boolean ends_query ∷ []
+fields_of_kind (PositionalParam trailing_junk_start) = whole trailing_junk_start ∷ []
+fields_of_kind (Literal kind) = fields_of_literal kind
+fields_of_kind kind = []
 
 -- ---- tokens
 
 -- a word, a length and fields
 abbrev pub written_token : Token → Data
-written_token token = array (items_of (string (word_of token.kind) ∷ whole token.len ∷ fields_of token.kind))
+written_token token = array (items_of (string (word_of token.kind) ∷ whole token.len ∷ fields_of_kind token.kind))
 
+-- a list of tokens
 abbrev pub written_tokens : List Token → Data
 written_tokens tokens = array (items_of (map written_token tokens))
 
@@ -109,11 +112,13 @@ written_tokens tokens = array (items_of (map written_token tokens))
 abbrev pub IsOf32Bits : ℕ → Type 0
 IsOf32Bits n = n ≤ 4294967295
 
+-- the numbers of a literal are
 abbrev pub HasLiteralOf32Bits : LiteralKind → Type 0
 HasLiteralOf32Bits (Int empty_int base trailing_junk_start) = IsOf32Bits trailing_junk_start
 HasLiteralOf32Bits (Numeric empty_exponent_start trailing_junk_start) = IfSome empty_exponent_start IsOf32Bits × IsOf32Bits trailing_junk_start
 HasLiteralOf32Bits kind = Unit
 
+-- the numbers of a kind are
 abbrev pub HasKindOf32Bits : TokenKind → Type 0
 HasKindOf32Bits (PositionalParam trailing_junk_start) = IsOf32Bits trailing_junk_start
 HasKindOf32Bits (Literal kind) = HasLiteralOf32Bits kind

@@ -1,10 +1,10 @@
 //! The calls of a document.
 ghost use Rattle.std.specs.Prelude.{◌≡◌, map, IfOk, IfErr};
 ghost use Rattle.serde_json.specs.View.{view};
-ghost use Rattle.squawk_document.specs.Calls.{alone, argument, call_in, call_named, calls_in, complete_in, err_recover_in, extend_to_in, kind_in, message_in};
+ghost use Rattle.squawk_document.specs.Calls.{alone, argument, call_in, call_named, calls_in, complete_in, err_recover_in, extend_to_in, message_in};
 ghost use Rattle.squawk_document.specs.WrittenCalls.{AreCalls, AreNoCalls, IsCall, IsNoCall};
 ghost use Rattle.squawk_document.specs.declared.document_error.DocumentError.TheVariants.{Shape};
-ghost use Rattle.squawk_document.specs.Values.{Gives, GivesExactly};
+ghost use Rattle.squawk_document.specs.Values.{Gives, GivesExactly, kind_number_in};
 
 use crate::document_error::DocumentError;
 use crate::kind_set::kind_set;
@@ -117,7 +117,7 @@ fn argument(items: &[Value]) -> Result<&Value, DocumentError>
 }
 
 fn kind(value: &Value) -> Result<SyntaxKind, DocumentError>
-    ensures { GivesExactly (λ kind. kind) result (kind_in (view value.now)) }
+    ensures { GivesExactly (λ kind. kind) result (kind_number_in (view value.now)) }
 {
     let number = value::number(value, 0, u64::from(u16::MAX))?;
     Ok(SyntaxKind::from(number as u16))

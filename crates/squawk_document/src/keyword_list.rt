@@ -1,13 +1,14 @@
 //! Words with their kinds.
-ghost use Rattle.std.specs.Prelude.{◌≡◌, ℕ, ◌||◌, List, [], ◌∷◌, Some, None, false, IfOk, OnOk, OnErr, if◌then◌else◌};
+ghost use Rattle.std.specs.Prelude.{◌≡◌, ℕ, ◌||◌, List, [], ◌∷◌, Some, None, false, IfOk, IfSome, OnOk, OnErr, if◌then◌else◌};
 ghost use Rattle.std.specs.HashMap.{IsUnchanged, get_by_text};
 ghost use Rattle.std.specs.Option.{option_or};
 ghost use Rattle.std.specs.Str.{bytes_eq};
+ghost use Rattle.std.proofs.Props.{props};
 ghost use Rattle.serde_json.specs.View.{view};
 ghost use Rattle.squawk_kinds.specs.Kinds.{IsKeyword};
 ghost use Rattle.squawk_kinds.specs.TokenSets.{has};
 ghost use Rattle.squawk_document.specs.Values.{Gives, GivesExactly};
-ghost use Rattle.squawk_document.specs.KeywordPairs.{AreKeywords, ListAnswers, has_kind, keyword_in, keyword_kind_in, list_answered, keyword_list_in};
+ghost use Rattle.squawk_document.specs.KeywordPairs.{ListAnswers, has_kind, keyword_in, keyword_kind_in, list_answered, keyword_list_in};
 ghost use Rattle.squawk_document.specs.WordPlaces.{HaveTaken};
 
 use crate::document_error::DocumentError;
@@ -24,7 +25,7 @@ pub struct KeywordList {
     kinds: HashMap<String, SyntaxKind>,
     set: TokenSet,
     places: WordPlaces,
-    ghost keywords: { AreKeywords (get_by_text kinds) },
+    ghost keywords: { (text : List ℕ) → IfSome (get_by_text kinds text) IsKeyword } by { Prim.hlevel props },
     ghost taken: { HaveTaken (get_by_text kinds) places },
 }
 
@@ -107,11 +108,11 @@ fn keyword_kind(value: &Value) -> Result<u16, DocumentError>
     ensures kind { GivesExactly (λ kind. kind) result (keyword_kind_in (view value.now)) }
     ensures keyword { IfOk result IsKeyword }
 {
-    let kind = value::number(value, 2, 638)?;
-    if kind == 4 {
+    let kind = value::number(value, 2, 638)? as u16;
+    if kind == u16::from(SyntaxKind::COMMENT) {
         return Err(DocumentError::Shape);
     }
-    Ok(kind as u16)
+    Ok(kind)
 }
 
 /// A word and its kind.

@@ -37,7 +37,6 @@ pub fn vocabulary(alloc: Global, value: &Value) -> Result<KeywordLists, Document
 impl Vocabulary for KeywordLists {
     ghost use Rattle.std.specs.HashMap.{get_by_text};
     ghost use Rattle.squawk_kinds.specs.TokenSets.{no_kinds};
-    ghost use Rattle.squawk_document.specs.KeywordPairs.{IsKeyword-found};
 
     ghost keyword = { λ v text. get_by_text v.keywords.kinds text };
 
@@ -57,9 +56,9 @@ impl Vocabulary for KeywordLists {
 
     ghost type_func_name_keywords = { λ _. no_kinds };
 
-    ghost keywords_are_tokens = { λ v text. IsKeyword-found (get_by_text v.keywords.kinds) v.keywords.keywords text };
+    ghost keywords_are_tokens = { λ v text. v.keywords.keywords text };
 
-    ghost contextual_keywords_are_tokens = { λ v text. IsKeyword-found (get_by_text v.contextual.kinds) v.contextual.keywords text };
+    ghost contextual_keywords_are_tokens = { λ v text. v.contextual.keywords text };
 
     fn from_keyword(&self, text: &str) -> Option<SyntaxKind> {
         self.keywords.kind_of(text)

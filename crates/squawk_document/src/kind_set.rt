@@ -9,7 +9,7 @@ ghost use Rattle.squawk_document.specs.Values.{GivesExactly};
 use crate::document_error::DocumentError;
 use crate::value;
 use serde_json::Value;
-use squawk_kinds::TokenSet;
+use squawk_kinds::{SyntaxKind, TokenSet};
 
 /// The set of the kinds that a list has, each a token kind and at least `low`.
 pub fn kind_set(value: &Value, low: u64) -> Result<TokenSet, DocumentError>
@@ -18,9 +18,10 @@ pub fn kind_set(value: &Value, low: u64) -> Result<TokenSet, DocumentError>
     ensures no_end { 0 < low → IfOk result (λ set. has set EOF ≡ false) }
 {
     let items = value::items(value)?;
+    let greatest = u64::from(u16::from(SyntaxKind::WHITESPACE));
     let mut words = [0; 10];
     for item in items {
-        let kind = value::number(item, low, 639)? as usize;
+        let kind = value::number(item, low, greatest)? as usize;
         words[kind / 64] |= 1 << (kind % 64);
     }
     Ok(TokenSet::from_words(words))

@@ -1,7 +1,7 @@
 //! What is read of a JSON value.
 ghost use Rattle.std.specs.Prelude.{◌≡◌, ℕ, map};
 ghost use Rattle.serde_json.specs.View.{view};
-ghost use Rattle.squawk_document.specs.Values.{Gives, GivesExactly, bool_in, has_members, item_at, items_in, member_in, number_in, pair_in, string_in, u32_in, value_of, with_len};
+ghost use Rattle.squawk_document.specs.Values.{Gives, GivesExactly, bool_in, has_members, item_at, items_in, member_in, number_in, pair_in, string_in, u32_in, json_value, with_len};
 
 use crate::document_error::DocumentError;
 use serde_json::Value;
@@ -9,7 +9,7 @@ use std::alloc::Global;
 
 /// The value that the bytes are.
 pub fn parse(alloc: Global, input: &[u8]) -> Result<Value, DocumentError>
-    ensures { Gives (λ v. view v) result (value_of input.now) }
+    ensures { Gives (λ v. view v) result (json_value input.now) }
 {
     match Value::from_slice(alloc, input) {
         Ok(value) => Ok(value),

@@ -3,7 +3,7 @@ ghost use Rattle.std.specs.Prelude.{◌≡◌, false, map, IfOk};
 ghost use Rattle.serde_json.specs.View.{view};
 ghost use Rattle.squawk_kinds.specs.Kinds.{EOF};
 ghost use Rattle.squawk_kinds.specs.TokenSets.{has};
-ghost use Rattle.squawk_document.specs.GrammarWords.{word_data, word_members_in, name_in, names_in};
+ghost use Rattle.squawk_document.specs.GrammarWords.{word_data, word_members_in, kind_and_name_in, names_in};
 ghost use Rattle.squawk_document.specs.KindSets.{HasExactly, kinds_in, set_in};
 ghost use Rattle.squawk_document.specs.Values.{Gives, GivesExactly};
 
@@ -45,7 +45,7 @@ pub fn operator_first(value: &Value) -> Result<TokenSet, DocumentError>
 
 /// A kind and its name.
 fn name(value: &Value) -> Result<(u16, &str), DocumentError>
-    ensures { GivesExactly (λ pair. (pair.0, pair.1.now)) result (name_in (view value.now)) }
+    ensures { GivesExactly (λ pair. (pair.0, pair.1.now)) result (kind_and_name_in (view value.now)) }
 {
     let (kind, name) = value::pair(value)?;
     let kind = value::number(kind, 0, 65535)?;

@@ -4,7 +4,7 @@ use Rattle.std.specs.Prelude.{All, IfSome, slice_range, unwrap_or}
 use Rattle.std.proofs.lemmas.List.Elements.{All-nil, All-cons, All-get_or, All-head, All-tail}
 use Rattle.squawk_kinds.specs.Keywords.{Keywords}
 use Rattle.squawk_kinds.specs.Kinds.{EOF, IDENT, IsKeyword, is_trivia}
-use Rattle.squawk_tokens.specs.AcceptedTokens.{IsAccepted}
+use Rattle.squawk_tokens.specs.AcceptedTokens.{AreAcceptedTokens}
 use Rattle.squawk_tokens.specs.TokenRows.{MeetsKind}
 use Rattle.squawk_tokens.specs.declared.token.Token.{Token as RawText}
 use Rattle.squawk_tokens.specs.declared.token.TokenKind.{TokenKind}
@@ -48,7 +48,7 @@ kinds-some keyword text start (t ∷ tokens) law good =
     (kinds-some keyword text (start + t.len) tokens law (All-tail IsSomeKind t tokens good))
 
 -- so has an accepted list of raw tokens
-pub table-no_end : (keyword : Keywords) (text : List ℕ) (tokens : List RawText) → AreKeywords keyword → IsAccepted text tokens → All (λ kind. kind ≢ EOF) (kinds_from keyword text 0 tokens)
+pub table-no_end : (keyword : Keywords) (text : List ℕ) (tokens : List RawText) → AreKeywords keyword → AreAcceptedTokens text tokens → All (λ kind. kind ≢ EOF) (kinds_from keyword text 0 tokens)
 table-no_end keyword text tokens law accepted =
     let good : All IsSomeKind tokens = λ k d lt. let token = accepted.good k lt d in (_, token.kind) in
     kinds-some keyword text 0 tokens law good

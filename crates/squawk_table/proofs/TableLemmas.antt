@@ -6,7 +6,7 @@ use Rattle.std.proofs.lemmas.List.Sums.{sum_by_more, sum_by-cons}
 use Rattle.std.proofs.lemmas.List.{drop_all, append-nil}
 use Rattle.squawk_tokens.specs.declared.token.Token.{Token}
 use Rattle.squawk_tokens.specs.declared.token.TokenKind.TheVariants.{Ident}
-use Rattle.squawk_tokens.specs.AcceptedTokens.{start_of, IsAccepted}
+use Rattle.squawk_tokens.specs.AcceptedTokens.{start_of, AreAcceptedTokens}
 use Rattle.squawk_tokens.specs.ErrorRanges.{LiesIn, StandApart}
 use Rattle.squawk_tokens.specs.LexicalErrors.{LexicalError, lexical_errors}
 use Rattle.squawk_table.specs.RawTable.{IsTable, Table, table_of, kinds_from, starts_from}
@@ -32,7 +32,7 @@ starts_from_at at (t ∷ ts) zero le = sym (add-zero at)
 starts_from_at at (t ∷ ts) (suc i) le =
     omega (arith, starts_from_at (at + t.len) ts i (omega arith), sum_by-cons (λ (t : Token). t.len) t (take i ts))
 
-module _ (keyword : Keywords) (text : List ℕ) (tokens : List Token) (ok : IsAccepted text tokens) where
+module _ (keyword : Keywords) (text : List ℕ) (tokens : List Token) (ok : AreAcceptedTokens text tokens) where
   start_more : (i : ℕ) → i < length tokens → (start_of tokens i < start_of tokens (i + 1)) × IsCharBoundary text (start_of tokens (i + 1))
   start_more i lt =
       let more = sum_by_more (λ t. t.len) tokens i none lt in

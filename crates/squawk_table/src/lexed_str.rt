@@ -1,6 +1,6 @@
 //! The table of a text's raw tokens.
 ghost use Rattle.std.specs.Prelude.{◌≡◌, ◌+◌, ◌<◌, ◌≤◌, length, slice_index, slice_range, IfOk, IfErr};
-ghost use Rattle.squawk_tokens.specs.AcceptedTokens.{IsAccepted, Refuses};
+ghost use Rattle.squawk_tokens.specs.AcceptedTokens.{AreAcceptedTokens, RefusesTokens};
 ghost use Rattle.squawk_tokens.specs.ErrorRanges.{StandApart};
 ghost use Rattle.squawk_table.specs.RawTable.{Table, IsTable, table_of, piece};
 
@@ -49,8 +49,8 @@ impl<'a> LexedStr<'a> {
         vocabulary: &V,
     ) -> Result<LexedStr<'a>, TableError>
         ensures table { IfOk result (λ table. table ≡ table_of (V.keyword vocabulary.now) text.now tokens.now) }
-        ensures accepted { IfOk result (λ _. IsAccepted text.now tokens.now) }
-        ensures refused { IfErr result (Refuses text.now tokens.now) }
+        ensures accepted { IfOk result (λ _. AreAcceptedTokens text.now tokens.now) }
+        ensures refused { IfErr result (RefusesTokens text.now tokens.now) }
     {
         check_tokens(text, tokens)?;
         let mut kinds = Vec::with_capacity(alloc, tokens.len())?;

@@ -7,7 +7,8 @@ use Rattle.std.proofs.lemmas.List.Elements.{All-set}
 use Rattle.squawk_table.specs.declared.shortcuts.str_step.OwnedStep.{OwnedStep}
 use Rattle.squawk_table.specs.declared.shortcuts.str_step.OwnedStep.TheVariants as step
 use Rattle.squawk_tree.specs.TreeText.{Names, bytes_left, line, text_from, tree_text}
-use Rattle.squawk_tree.specs.Drawing.{Drawing, IsPart, IsSound, StandsAfter, closed_line, lines_text, open_count, open_places, openings_in, shown_until}
+use Rattle.squawk_tree.specs.Drawing.{Drawing, StandsAfter, lines_text, open_count, openings_in, shown_until}
+use Rattle.squawk_tree.specs.SoundDrawings.{IsPart, IsSoundDrawing, closed_line, open_places}
 use Rattle.squawk_tree.specs.declared.line.Line.{Line}
 use Rattle.squawk_tree.specs.declared.line.Shown.{Shown}
 use Rattle.squawk_tree.specs.declared.line.Shown.TheVariants.{Node, Token, Error}
@@ -53,7 +54,7 @@ lines_text-closing names texts further (x ∷ front) depth kind start behind non
 ended : (before before' behind behind' whole : List ℕ) → before' ≡ before → behind ≡ behind' → before ++ behind' ≡ whole → before' ++ behind ≡ whole
 ended before before' behind behind' whole p q all = rw (p, q) all
 
-module _ (drawing : Drawing) (sound : IsSound drawing) where
+module _ (drawing : Drawing) (sound : IsSoundDrawing drawing) where
   abbrev lines : List Line
   lines = drawing.lines
 
@@ -115,8 +116,8 @@ module _ (drawing : Drawing) (sound : IsSound drawing) where
           (stands names (step.Exit ∷ further))
           ∙ ap (λ all. tree_text names all) (sym (append_snoc steps step.Exit further))
 
-      pub IsSound-closing : IsSound (record { lines = set lines place l'; open_lines = others; texts = texts })
-      IsSound-closing = record {
+      pub IsSoundDrawing-closing : IsSoundDrawing (record { lines = set lines place l'; open_lines = others; texts = texts })
+      IsSoundDrawing-closing = record {
         places = sym (ap (open_places 0) lines-is
             ∙ (open_places-append 0 last.front (ended_node ∷ last.behind)
             ∙ (ap (λ places. open_places 0 last.front ++ places) (open_places-none (suc (0 + length last.front)) last.behind last.none)

@@ -2,7 +2,8 @@
 use Rattle.std.proofs.Common.{◌≡◌, ◌∙◌, ℕ, suc, ◌+◌, List, [], ◌∷◌, ◌++◌, length, arith, ap, sym, refl}
 use Rattle.std.specs.Prelude.{Some, None}
 use Rattle.std.proofs.lemmas.List.{length-append}
-use Rattle.squawk_tree.specs.Drawing.{before_places, open_count, open_places, openings_in}
+use Rattle.squawk_tree.specs.Drawing.{open_count, openings_in}
+use Rattle.squawk_tree.specs.SoundDrawings.{before_places, open_places}
 use Rattle.squawk_tree.specs.declared.line.Line.{Line}
 use Rattle.squawk_tree.specs.declared.line.Shown.{Shown}
 use Rattle.squawk_tree.specs.declared.line.Shown.TheVariants.{Node, Token, Error}

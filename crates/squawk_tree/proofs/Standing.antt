@@ -7,8 +7,9 @@ use Rattle.std.proofs.lemmas.List.{append-nil, length-append}
 use Rattle.std.proofs.lemmas.List.Elements.{All-head, All-tail, All-push}
 use Rattle.squawk_table.specs.declared.shortcuts.str_step.OwnedStep.{OwnedStep}
 use Rattle.squawk_table.specs.declared.shortcuts.str_step.OwnedStep.TheVariants as step
-use Rattle.squawk_tree.specs.TreeText.{Names, bytes_in, bytes_left, depth_behind, line, line_of, text_from, token_shown, tree_text}
-use Rattle.squawk_tree.specs.Drawing.{Drawing, IsPart, IsSound, StandsAfter, lines_text, open_count, open_places, openings_in, shown_until}
+use Rattle.squawk_tree.specs.TreeText.{Names, bytes_in, bytes_left, nodes_open_behind, line, tree_line, text_from, token_shown, tree_text}
+use Rattle.squawk_tree.specs.Drawing.{Drawing, StandsAfter, lines_text, open_count, openings_in, shown_until}
+use Rattle.squawk_tree.specs.SoundDrawings.{IsPart, IsSoundDrawing, open_places}
 use Rattle.squawk_tree.specs.declared.line.Line.{Line}
 use Rattle.squawk_tree.specs.declared.line.Shown.{Shown}
 use Rattle.squawk_tree.specs.declared.line.Shown.TheVariants.{Node, Token, Error}
@@ -42,25 +43,25 @@ lines_text-push names texts texts' same further further' l left (x ∷ lines) pa
 
 -- a line of the next step
 record Shows (drawing : Drawing) (next : OwnedStep) (texts' open_lines' : List ℕ) (l : Line) : Type 0 where
-  depth : length open_lines' ≡ depth_behind (length drawing.open_lines) next
+  depth : length open_lines' ≡ nodes_open_behind (length drawing.open_lines) next
   bytes : length texts' ≡ length drawing.texts + bytes_in next
   same : (names : Names) (at : ℕ) (shown : Shown) → IsPart drawing.texts shown → shown_until names texts' at shown ≡ shown_until names drawing.texts at shown
-  here : (names : Names) (further : List OwnedStep) → line l.depth (shown_until names texts' (length texts' + bytes_left further 0) l.shown) ≡ line_of names (length drawing.open_lines) (length drawing.texts) next further
+  here : (names : Names) (further : List OwnedStep) → line l.depth (shown_until names texts' (length texts' + bytes_left further 0) l.shown) ≡ tree_line names (length drawing.open_lines) (length drawing.texts) next further
   left : (further : List OwnedStep) (k : ℕ) → length texts' + bytes_left further (k + openings_in l.shown) ≡ length drawing.texts + bytes_left (next ∷ further) k
 
-StandsAfter-put : (drawing : Drawing) (next : OwnedStep) (texts' open_lines' : List ℕ) (l : Line) → Shows drawing next texts' open_lines' l → IsSound drawing
+StandsAfter-put : (drawing : Drawing) (next : OwnedStep) (texts' open_lines' : List ℕ) (l : Line) → Shows drawing next texts' open_lines' l → IsSoundDrawing drawing
     → (steps : List OwnedStep) → StandsAfter drawing steps
     → StandsAfter (record { lines = drawing.lines ++ l ∷ []; open_lines = open_lines'; texts = texts' }) (steps ++ next ∷ [])
 StandsAfter-put drawing next texts' open_lines' l shows sound steps stands = λ names further.
     let push = lines_text-push names drawing.texts texts' (shows.same names) further (next ∷ further) l (shows.left further) drawing.lines sound.parts in
     let behind = ap (λ depth. text_from names depth (length texts') further) shows.depth
-    ∙ ap (λ start. text_from names (depth_behind (length drawing.open_lines) next) start further) shows.bytes in
+    ∙ ap (λ start. text_from names (nodes_open_behind (length drawing.open_lines) next) start further) shows.bytes in
     moved _ _ _ _ _ _ _ push (shows.here names further) behind (stands names (next ∷ further))
     ∙ ap (λ all. tree_text names all) (sym (append_snoc steps next further))
 
 -- ---- each of the steps that have a line
 
-module _ (drawing : Drawing) (sound : IsSound drawing) where
+module _ (drawing : Drawing) (sound : IsSoundDrawing drawing) where
   abbrev lines : List Line
   lines = drawing.lines
 
@@ -122,8 +123,8 @@ module _ (drawing : Drawing) (sound : IsSound drawing) where
     StandsAfter-token steps stands =
         rw (put, grown) (StandsAfter-put drawing (step.Token kind (chars text)) (texts ++ text) drawing.open_lines (token_line kind text) (token_shows kind text utf8') sound steps stands)
 
-    pub IsSound-token : IsSound (record { lines = lines'; open_lines = drawing.open_lines; texts = texts' })
-    IsSound-token = rw (put, grown) (record {
+    pub IsSoundDrawing-token : IsSoundDrawing (record { lines = lines'; open_lines = drawing.open_lines; texts = texts' })
+    IsSoundDrawing-token = rw (put, grown) (record {
       places = sound.places ∙ sym (open_places-append 0 lines (token_line kind text ∷ []) ∙ append-nil (open_places 0 lines));
       parts = All-push (λ x. IsPart (texts ++ text) x.shown) lines (token_line kind text) (parts-append texts text utf8 utf8' lines sound.parts) (IsPart-end texts text utf8' kind);
     })
@@ -135,8 +136,8 @@ module _ (drawing : Drawing) (sound : IsSound drawing) where
     StandsAfter-node steps stands =
         rw (put, opened) (StandsAfter-put drawing (step.Enter kind) texts (drawing.open_lines ++ length lines ∷ []) (node_line kind) (node_shows kind) sound steps stands)
 
-    pub IsSound-node : IsSound (record { lines = lines'; open_lines = open_lines'; texts = texts })
-    IsSound-node = rw (put, opened) (record {
+    pub IsSoundDrawing-node : IsSoundDrawing (record { lines = lines'; open_lines = open_lines'; texts = texts })
+    IsSoundDrawing-node = rw (put, opened) (record {
       places = ap (λ places. places ++ length lines ∷ []) sound.places
           ∙ sym (open_places-append 0 lines (node_line kind ∷ []) ∙ ap (λ place. open_places 0 lines ++ place ∷ []) (zero-add (length lines)));
       parts = All-push (λ x. IsPart texts x.shown) lines (node_line kind) sound.parts tt;
@@ -148,8 +149,8 @@ module _ (drawing : Drawing) (sound : IsSound drawing) where
     StandsAfter-error steps stands =
         rw put (StandsAfter-put drawing (step.Error text pos) texts drawing.open_lines (error_line text pos) (error_shows text pos) sound steps stands)
 
-    pub IsSound-error : IsSound (record { lines = lines'; open_lines = drawing.open_lines; texts = texts })
-    IsSound-error = rw put (record {
+    pub IsSoundDrawing-error : IsSoundDrawing (record { lines = lines'; open_lines = drawing.open_lines; texts = texts })
+    IsSoundDrawing-error = rw put (record {
       places = sound.places ∙ sym (open_places-append 0 lines (error_line text pos ∷ []) ∙ append-nil (open_places 0 lines));
       parts = All-push (λ x. IsPart texts x.shown) lines (error_line text pos) sound.parts tt;
     })

@@ -7,7 +7,8 @@ use Rattle.std.proofs.lemmas.List.{length-append, drop-append-le, take-append-le
 use Rattle.std.proofs.lemmas.List.Elements.{All-weaker}
 use Rattle.std.proofs.lemmas.Str.{IsCharBoundary-from_drop, IsCharBoundary-at_seam, IsCharBoundary-end, IsUtf8-drop, IsUtf8-append, encodes-chars}
 use Rattle.squawk_tree.specs.TreeText.{Names}
-use Rattle.squawk_tree.specs.Drawing.{IsPart, shown_until}
+use Rattle.squawk_tree.specs.Drawing.{shown_until}
+use Rattle.squawk_tree.specs.SoundDrawings.{IsPart}
 use Rattle.squawk_tree.specs.declared.line.Line.{Line}
 use Rattle.squawk_tree.specs.declared.line.Shown.{Shown}
 use Rattle.squawk_tree.specs.declared.line.Shown.TheVariants.{Node, Token, Error}

@@ -4,7 +4,7 @@ use Rattle.std.specs.Prelude.{Result, Ok, Err, OnOk, is_ok, if◌then◌else◌}
 use Rattle.std.specs.Borrow.{Bor}
 use Rattle.std.proofs.lemmas.List.{append-nil}
 use Rattle.squawk_table.specs.declared.shortcuts.str_step.OwnedStep.{OwnedStep}
-use Rattle.squawk_tree.specs.TreeText.{Names, line, name_of, tree_text}
+use Rattle.squawk_tree.specs.TreeText.{Names, line, kind_name, tree_text}
 use Rattle.squawk_tree.specs.Drawing.{Drawing, StandsAfter, lines_text, shown_until}
 use Rattle.squawk_tree.specs.declared.line.Line.{Line}
 
@@ -18,15 +18,15 @@ OnOk-becomes (Ok v) new x z e h = e ∙ h
 OnOk-becomes (Err v) new x z e h = tt
 
 -- the name of a kind that the first pair has
-name_of-first : (named kind : ℕ) (name : List ℕ) (names : Names) → (named == kind) ≡ true → name_of ((named, name) ∷ names) kind ≡ name
-name_of-first named kind name names e = rw e refl
+kind_name-first : (named kind : ℕ) (name : List ℕ) (names : Names) → (named == kind) ≡ true → kind_name ((named, name) ∷ names) kind ≡ name
+kind_name-first named kind name names e = rw e refl
 
 -- the name of a kind that no pair before this one has
-pub name_of-at : (names : List (ℕ × Bor (List ℕ))) (i kind : ℕ) (pair : ℕ × Bor (List ℕ)) → i < length names → pair ≡ get_or names i pair → (pair.0 == kind) ≡ true
-    → name_of (map (λ pair. (pair.0, pair.1.now)) (drop i names)) kind ≡ pair.1.now
-name_of-at names i kind pair below here e =
-    ap (λ pairs. name_of (map (λ pair. (pair.0, pair.1.now)) pairs) kind) (drop-cons names i pair below ∙ ap (λ first. first ∷ drop (suc i) names) (sym here))
-    ∙ name_of-first pair.0 kind pair.1.now (map (λ pair. (pair.0, pair.1.now)) (drop (suc i) names)) e
+pub kind_name-at : (names : List (ℕ × Bor (List ℕ))) (i kind : ℕ) (pair : ℕ × Bor (List ℕ)) → i < length names → pair ≡ get_or names i pair → (pair.0 == kind) ≡ true
+    → kind_name (map (λ pair. (pair.0, pair.1.now)) (drop i names)) kind ≡ pair.1.now
+kind_name-at names i kind pair below here e =
+    ap (λ pairs. kind_name (map (λ pair. (pair.0, pair.1.now)) pairs) kind) (drop-cons names i pair below ∙ ap (λ first. first ∷ drop (suc i) names) (sym here))
+    ∙ kind_name-first pair.0 kind pair.1.now (map (λ pair. (pair.0, pair.1.now)) (drop (suc i) names)) e
 
 -- the next line, where no steps follow
 pub lines_text-next : (names : Names) (texts : List ℕ) (lines : List Line) (i : ℕ) (l : Line) → i < length lines → l ≡ get_or lines i l

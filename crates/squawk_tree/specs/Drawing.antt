@@ -1,5 +1,5 @@
 -- The lines that a sink keeps of a tree, and what steps they stand for.
-use Rattle.std.specs.Prelude.{◌≡◌, ℕ, suc, ◌+◌, ◌≤◌, List, [], ◌∷◌, ◌++◌, All, Some, None, length, slice_range, unwrap_or, IsCharBoundary}
+use Rattle.std.specs.Prelude.{◌≡◌, ℕ, ◌+◌, List, [], ◌∷◌, ◌++◌, Some, None, length, slice_range, unwrap_or}
 use Rattle.std.specs.Str.{chars}
 use Rattle.squawk_table.specs.declared.shortcuts.str_step.OwnedStep.{OwnedStep}
 use Rattle.squawk_tree.specs.TreeText.{Names, bytes_left, error_shown, line, span, text_from, token_shown, tree_text}
@@ -26,39 +26,6 @@ openings_in (Error text pos) = 0
 abbrev pub open_count : List Line → ℕ
 open_count [] = 0
 open_count (line ∷ lines) = openings_in line.shown + open_count lines
-
--- a place, if what stands there is an open node, before others
-abbrev pub before_places : ℕ → Shown → List ℕ → List ℕ
-before_places place (Node kind start None) places = place ∷ places
-before_places place (Node kind start (Some end)) places = places
-before_places place (Token kind start end) places = places
-before_places place (Error text pos) places = places
-
--- the places of the lines that have open nodes, counted from a number
-abbrev pub open_places : ℕ → List Line → List ℕ
-open_places place [] = []
-open_places place (line ∷ lines) = before_places place line.shown (open_places (suc place) lines)
-
--- what is shown, with this end if it is a node
-abbrev pub closed : ℕ → Shown → Shown
-closed at (Node kind start end) = Node kind start (Some at)
-closed at (Token kind start end) = Token kind start end
-closed at (Error text pos) = Error text pos
-
-abbrev pub closed_line : ℕ → Line → Line
-closed_line at line = record line { shown = closed at line.shown }
-
--- ---- sound drawings
-
--- a token's text is a part of the texts
-abbrev pub IsPart : List ℕ → Shown → Type 0
-IsPart texts (Node kind start end) = Unit {0}
-IsPart texts (Token kind start end) = (start ≤ end) × IsCharBoundary texts start × IsCharBoundary texts end
-IsPart texts (Error text pos) = Unit {0}
-
-pub record IsSound (drawing : Drawing) : Type 0 where
-  pub places : drawing.open_lines ≡ open_places 0 drawing.lines
-  pub parts : All (λ line. IsPart drawing.texts line.shown) drawing.lines
 
 -- ---- what a drawing stands for
 

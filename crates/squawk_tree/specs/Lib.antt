@@ -1,3 +1,4 @@
 pub mod TreeText
 pub mod Drawing
+pub mod SoundDrawings
 pub mod Forest

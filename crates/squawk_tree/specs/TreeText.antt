@@ -2,6 +2,7 @@
 use Rattle.std.specs.Prelude.{ℕ, zero, suc, ◌+◌, ◌-◌, ◌==◌, if◌then◌else◌, List, [], ◌∷◌, ◌++◌, codes, length, find, option_map, unwrap_or, encode_utf8, encode_utf8_all}
 use Rattle.std.specs.List.{flat_map}
 use Rattle.std.specs.Fmt.{decimal}
+use Rattle.squawk_table.specs.Sent.{text_in}
 use Rattle.squawk_table.specs.declared.shortcuts.str_step.OwnedStep.{OwnedStep}
 use Rattle.squawk_table.specs.declared.shortcuts.str_step.OwnedStep.TheVariants.{Token, Enter, Exit, Error}
 
@@ -12,8 +13,8 @@ abbrev pub Names : Type 0
 Names = List (ℕ × List ℕ)
 
 -- the name of a kind: that of its first pair, else its number
-abbrev pub name_of : Names → ℕ → List ℕ
-name_of names kind = unwrap_or (option_map (λ pair. pair.1) (find (λ pair. pair.0 == kind) names)) (decimal kind)
+abbrev pub kind_name : Names → ℕ → List ℕ
+kind_name names kind = unwrap_or (option_map (λ pair. pair.1) (find (λ pair. pair.0 == kind) names)) (decimal kind)
 
 -- a character between quotes: line feed, carriage return, tab, backslash and quote have a backslash and a letter or a sign, all
 -- others stand as they are
@@ -26,24 +27,21 @@ escaped c =
     if c == 34 then codes "\\\"" else encode_utf8 c))))
 
 -- the characters of a text, in quotes
-abbrev pub quoted : List ℕ → List ℕ
-quoted text = codes "\"" ++ flat_map escaped text ++ codes "\""
+abbrev pub quoted_text : List ℕ → List ℕ
+quoted_text text = codes "\"" ++ flat_map escaped text ++ codes "\""
 
 -- ---- places
 
--- how many bytes the text of a step has, if it is a token
+-- how many bytes the text of a step has
 abbrev pub bytes_in : OwnedStep → ℕ
-bytes_in (Token kind text) = length (encode_utf8_all text)
-bytes_in (Enter kind) = 0
-bytes_in Exit = 0
-bytes_in (Error text pos) = 0
+bytes_in step = length (encode_utf8_all (text_in step))
 
 -- how many nodes are open behind a step: a closing closes one, if one is open
-abbrev pub depth_behind : ℕ → OwnedStep → ℕ
-depth_behind depth (Token kind text) = depth
-depth_behind depth (Enter kind) = suc depth
-depth_behind depth Exit = depth - 1
-depth_behind depth (Error text pos) = depth
+abbrev pub nodes_open_behind : ℕ → OwnedStep → ℕ
+nodes_open_behind depth (Token kind text) = depth
+nodes_open_behind depth (Enter kind) = suc depth
+nodes_open_behind depth Exit = depth - 1
+nodes_open_behind depth (Error text pos) = depth
 
 -- How many bytes of tokens are left of a node, in which so many other nodes are open: those before its closing, or all where no
 -- closing closes it.
@@ -68,26 +66,28 @@ line depth shown = indentation depth ++ shown ++ codes "\n"
 
 -- a kind from a byte to another
 abbrev pub span : Names → ℕ → ℕ → ℕ → List ℕ
-span names kind start end = name_of names kind ++ codes "@" ++ decimal start ++ codes ".." ++ decimal end
+span names kind start end = kind_name names kind ++ codes "@" ++ decimal start ++ codes ".." ++ decimal end
 
+-- a token from a byte to another, with its text
 abbrev pub token_shown : Names → ℕ → ℕ → ℕ → List ℕ → List ℕ
-token_shown names kind start end text = span names kind start end ++ codes " " ++ quoted text
+token_shown names kind start end text = span names kind start end ++ codes " " ++ quoted_text text
 
+-- an error at a byte, with its text
 abbrev pub error_shown : List ℕ → ℕ → List ℕ
-error_shown text pos = codes "error@" ++ decimal pos ++ codes " " ++ quoted text
+error_shown text pos = codes "error@" ++ decimal pos ++ codes " " ++ quoted_text text
 
 -- the line of a step inside of so many nodes, behind so many bytes of tokens and before other steps
-abbrev pub line_of : Names → ℕ → ℕ → OwnedStep → List OwnedStep → List ℕ
-line_of names depth start (Token kind text) behind = line depth (token_shown names kind start (start + length (encode_utf8_all text)) text)
-line_of names depth start (Enter kind) behind = line depth (span names kind start (start + bytes_left behind 0))
-line_of names depth start Exit behind = []
-line_of names depth start (Error text pos) behind = line depth (error_shown text pos)
+abbrev pub tree_line : Names → ℕ → ℕ → OwnedStep → List OwnedStep → List ℕ
+tree_line names depth start (Token kind text) behind = line depth (token_shown names kind start (start + length (encode_utf8_all text)) text)
+tree_line names depth start (Enter kind) behind = line depth (span names kind start (start + bytes_left behind 0))
+tree_line names depth start Exit behind = []
+tree_line names depth start (Error text pos) behind = line depth (error_shown text pos)
 
 -- the lines of steps inside of so many nodes, behind so many bytes of tokens
 abbrev pub text_from : Names → ℕ → ℕ → List OwnedStep → List ℕ
 text_from names depth start [] = []
 text_from names depth start (step ∷ steps) =
-    line_of names depth start step steps ++ text_from names (depth_behind depth step) (start + bytes_in step) steps
+    tree_line names depth start step steps ++ text_from names (nodes_open_behind depth step) (start + bytes_in step) steps
 
 -- The text of a tree: a line for each step but a closing.
 abbrev pub tree_text : Names → List OwnedStep → List ℕ

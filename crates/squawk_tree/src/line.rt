@@ -32,7 +32,7 @@ pub(crate) enum Shown {
 
 impl Line {
     ghost use Rattle.std.specs.Prelude.{◌≡◌};
-    ghost use Rattle.squawk_tree.specs.Drawing.{closed_line};
+    ghost use Rattle.squawk_tree.specs.SoundDrawings.{closed_line};
 
     /// Gives the line's node its end, if it shows a node.
     pub(crate) fn close(&mut self, at: usize)

@@ -1,8 +1,9 @@
 //! The text of what a line shows.
 ghost use Rattle.std.specs.Prelude.{◌≡◌, ◌++◌, map, length, string_bytes, OnOk};
 ghost use Rattle.std.specs.Str.{chars};
-ghost use Rattle.squawk_tree.specs.TreeText.{escaped, indentation, name_of, quoted, span};
-ghost use Rattle.squawk_tree.specs.Drawing.{IsPart, shown_until};
+ghost use Rattle.squawk_tree.specs.TreeText.{escaped, indentation, kind_name, quoted_text, span};
+ghost use Rattle.squawk_tree.specs.Drawing.{shown_until};
+ghost use Rattle.squawk_tree.specs.SoundDrawings.{IsPart};
 
 use crate::line::Shown;
 use squawk_kinds::SyntaxKind;
@@ -68,7 +69,7 @@ fn write_name(
     kind: SyntaxKind,
 ) -> Result<(), AllocError>
     ensures { OnOk result (string_bytes out.new ≡ string_bytes out.old
-        ++ name_of (map (λ pair. (pair.0, pair.1.now)) names.now) kind) }
+        ++ kind_name (map (λ pair. (pair.0, pair.1.now)) names.now) kind) }
 {
     for (named, name) in names {
         if *named == kind {
@@ -81,7 +82,7 @@ fn write_name(
 
 /// Writes a text in quotes.
 fn write_quoted(out: &mut String, text: &str) -> Result<(), AllocError>
-    ensures { OnOk result (string_bytes out.new ≡ string_bytes out.old ++ quoted (chars text.now)) }
+    ensures { OnOk result (string_bytes out.new ≡ string_bytes out.old ++ quoted_text (chars text.now)) }
 {
     out.push('"')?;
     for c in text.chars() {

@@ -2,7 +2,7 @@
 ghost use Rattle.std.specs.Prelude.{List, map, string_bytes, IfOk};
 ghost use Rattle.squawk_table.specs.declared.shortcuts.str_step.OwnedStep.{OwnedStep};
 ghost use Rattle.squawk_tree.specs.TreeText.{tree_text};
-ghost use Rattle.squawk_tree.specs.Forest.{Forest, forest_text, steps_of};
+ghost use Rattle.squawk_tree.specs.Forest.{Forest, forest_text, forest_steps};
 ghost use Rattle.squawk_tree.specs.Drawing.{StandsAfter};
 
 use crate::line::{Line, Shown};
@@ -37,13 +37,14 @@ pub struct TreeText {
 
 impl Model for TreeText {
     ghost use Rattle.std.specs.Prelude.{string_bytes};
-    ghost use Rattle.squawk_tree.specs.Drawing.{Drawing, IsSound};
+    ghost use Rattle.squawk_tree.specs.Drawing.{Drawing};
+    ghost use Rattle.squawk_tree.specs.SoundDrawings.{IsSoundDrawing};
 
     ghost Value = { Drawing };
 
     ghost view = { λ t. record { lines = t.lines.items; open_lines = t.open_lines.items; texts = string_bytes t.texts } };
 
-    ghost invariant = { λ t. IsSound (record { lines = t.lines.items; open_lines = t.open_lines.items; texts = string_bytes t.texts }) };
+    ghost invariant = { λ t. IsSoundDrawing (record { lines = t.lines.items; open_lines = t.open_lines.items; texts = string_bytes t.texts }) };
 }
 
 impl TreeText {
@@ -70,7 +71,7 @@ impl TreeText {
     pub fn finish(&self, alloc: Global, names: &[(SyntaxKind, &str)]) -> Result<String, AllocError>
         ensures text { IfOk result (λ text. (steps : List OwnedStep) → StandsAfter self.now steps
             → string_bytes text ≡ tree_text (map (λ pair. (pair.0, pair.1.now)) names.now) steps) }
-        ensures forest { IfOk result (λ text. (forest : Forest) → StandsAfter self.now (steps_of forest)
+        ensures forest { IfOk result (λ text. (forest : Forest) → StandsAfter self.now (forest_steps forest)
             → string_bytes text ≡ forest_text (map (λ pair. (pair.0, pair.1.now)) names.now) 0 0 forest) }
     {
         let mut text = String::new(alloc);

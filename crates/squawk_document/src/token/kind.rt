@@ -2,7 +2,7 @@
 ghost use Rattle.std.specs.Prelude.{map};
 ghost use Rattle.serde_json.specs.View.{view};
 ghost use Rattle.squawk_document.specs.Values.{GivesExactly};
-ghost use Rattle.squawk_document.specs.TokenShapes.{kind_in, kind_of_one, kind_of_three, kind_of_two, plain_kind, quoted_literal};
+ghost use Rattle.squawk_document.specs.TokenShapes.{spelled_kind, kind_of_one, kind_of_three, kind_of_two, plain_kind, quoted_literal};
 
 use crate::document_error::DocumentError;
 use crate::token::field::{base, place};
@@ -12,7 +12,7 @@ use squawk_tokens::{LiteralKind, TokenKind};
 
 /// The kind that is spelled, with all its fields and nothing behind them.
 pub fn kind(word: &str, fields: &[Value]) -> Result<TokenKind, DocumentError>
-    ensures { GivesExactly (λ k. k) result (kind_in word.now (map view fields.now)) }
+    ensures { GivesExactly (λ k. k) result (spelled_kind word.now (map view fields.now)) }
 {
     match fields {
         [] => plain_kind(word),

@@ -3,14 +3,15 @@ use Rattle.squawk_document.specs.DocumentGrammars.{by_calls}
 use Rattle.squawk_table.specs.ParserInput.{input_of}
 use Rattle.squawk_table.specs.Shape.{Fits}
 use Rattle.squawk_document.specs.KeywordAnswers.{answers}
-use Rattle.squawk_answer.specs.Answers.{ParseTells, words_with}
+use Rattle.squawk_parser.specs.Words.{words_of}
+use Rattle.squawk_answer.specs.Answers.{ParseTells}
 use Rattle.squawk_answer.specs.Fault.{fault_of_parse}
 use Rattle.squawk_answer.proofs.Answered.{fault-told, limit-told, none-refused, refusal-same, refusal-told, steps-told}
 use Rattle.squawk_answer.proofs.parse.parse_calls.Goals as goal
 
 pub returns-in_err-output-clause-parsed : goal.returns-in_err-output-clause-parsed
 returns-in_err-output-clause-parsed c =
-    let words = words_with c.args.operator_first c.args.names.now in
+    let words = words_of (record { operator_first = c.args.operator_first; names = c.args.names }) in
     let cs = c.args.calls.items in
     let input = input_of (answers c.args.vocabulary.now).contextual.kind_of c.args.table.now in
     let reason = c.in_err-output.field-0.0 in
@@ -22,7 +23,7 @@ returns-in_err-output-clause-parsed c =
 
 pub returns-then-not-stands_in_one_root-clause-parsed : goal.returns-then-not-stands_in_one_root-clause-parsed
 returns-then-not-stands_in_one_root-clause-parsed c =
-    let words = words_with c.args.operator_first c.args.names.now in
+    let words = words_of (record { operator_first = c.args.operator_first; names = c.args.names }) in
     let cs = c.args.calls.items in
     let input = input_of (answers c.args.vocabulary.now).contextual.kind_of c.args.table.now in
     let parse = c.in_ok-output.ensures.output in
@@ -32,7 +33,7 @@ returns-then-not-stands_in_one_root-clause-parsed c =
 
 pub returns-clause-parsed : goal.returns-clause-parsed
 returns-clause-parsed c =
-    let words = words_with c.args.operator_first c.args.names.now in
+    let words = words_of (record { operator_first = c.args.operator_first; names = c.args.names }) in
     let cs = c.args.calls.items in
     let input = input_of (answers c.args.vocabulary.now).contextual.kind_of c.args.table.now in
     let parse = c.in_ok-output.ensures.output in

@@ -1,10 +1,10 @@
 use Rattle.std.proofs.Common.{◌≡◌, map, drop, string_bytes}
-use Rattle.squawk_tree.specs.TreeText.{name_of}
+use Rattle.squawk_tree.specs.TreeText.{kind_name}
 use Rattle.squawk_tree.proofs.shown.write_name.Given as goal
 
 -- nothing is written, and the name of the kind is that among the pairs that are left
 abbrev pub invariant-loop-named : goal.invariant-loop-named
 invariant-loop-named l = record {
   out : string_bytes l.out ≡ string_bytes l.fn.out;
-  name : name_of (map (λ pair. (pair.0, pair.1.now)) (drop l.named-index l.names)) l.kind ≡ name_of (map (λ pair. (pair.0, pair.1.now)) l.names) l.kind;
+  name : kind_name (map (λ pair. (pair.0, pair.1.now)) (drop l.named-index l.names)) l.kind ≡ kind_name (map (λ pair. (pair.0, pair.1.now)) l.names) l.kind;
 }

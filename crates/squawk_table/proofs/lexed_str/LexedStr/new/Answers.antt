@@ -3,7 +3,7 @@ use Rattle.std.specs.Prelude.{sum_by}
 use Rattle.std.proofs.Math.Seq.{take-length}
 use Rattle.std.proofs.lemmas.List.{take_all}
 use Rattle.squawk_tokens.specs.declared.token.Token.{Token}
-use Rattle.squawk_tokens.specs.AcceptedTokens.{start_of, IsAccepted}
+use Rattle.squawk_tokens.specs.AcceptedTokens.{start_of, AreAcceptedTokens}
 use Rattle.squawk_tokens.specs.Conversion.{HasRead}
 use Rattle.squawk_tokens.specs.ErrorRanges.{StandApart}
 use Rattle.squawk_tokens.specs.LexicalErrors.{lexical_errors}
@@ -36,7 +36,7 @@ invariant_of-result g c =
     let has = subst (λ ts. HasRead ts loop.converter) (take_all loop.token-index tokens (omega arith)) loop.invariant.read in
     let found : c.into_errors.result.items ≡ lexical_errors text tokens =
     c.into_errors.ensures.errors ∙ (has.errors ∙ ap (λ text. lexical_errors text tokens) loop.invariant.text) in
-    let apart = c.into_errors.ensures.apart tokens (subst (λ text. IsAccepted text tokens) (sym loop.invariant.text) accepted) has in
+    let apart = c.into_errors.ensures.apart tokens (subst (λ text. AreAcceptedTokens text tokens) (sym loop.invariant.text) accepted) has in
     subst IsTable
     (is_table_of keyword text tokens loop.kinds.items loop.starts.items c.push.new.self.items c.into_errors.result.items loop.at loop.token-index (omega arith) loop.invariant.kinds loop.invariant.starts c.in_ok-push.ensures.items found)
     (IsTable-table_of keyword text tokens accepted (g.met.V.Vocabulary.keywords_are_tokens c.args.vocabulary.now) c.utf8.text

@@ -2,7 +2,7 @@ use Rattle.std.proofs.Common.{◌≡◌, ◌++◌, ◌∷◌, [], length, rules,
 use Rattle.std.specs.Prelude.{None, string_bytes}
 use Rattle.squawk_tree.specs.Drawing.{Drawing, StandsAfter}
 use Rattle.squawk_tree.specs.declared.line.Shown.TheVariants.{Node}
-use Rattle.squawk_tree.proofs.Standing.{IsSound-node, StandsAfter-node}
+use Rattle.squawk_tree.proofs.Standing.{IsSoundDrawing-node, StandsAfter-node}
 use Rattle.squawk_tree.proofs.tree_text.TreeText.enter.Goals as goal
 
 module _ (c : goal.After-push_reserved-2) where
@@ -16,7 +16,7 @@ module _ (c : goal.After-push_reserved-2) where
   opened = search rules
 
 pub invariant_of-self-2 : goal.invariant_of-self-2
-invariant_of-self-2 c = IsSound-node (drawing c) c.self.invariant c.args.kind _ _ (put c) (opened c)
+invariant_of-self-2 c = IsSoundDrawing-node (drawing c) c.self.invariant c.args.kind _ _ (put c) (opened c)
 
 pub returns-clause-ok : goal.returns-clause-ok
 returns-clause-ok c = λ steps stands.

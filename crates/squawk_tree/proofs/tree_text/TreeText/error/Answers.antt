@@ -3,7 +3,7 @@ use Rattle.std.specs.Prelude.{string_bytes}
 use Rattle.std.specs.Str.{chars}
 use Rattle.squawk_tree.specs.Drawing.{Drawing, StandsAfter}
 use Rattle.squawk_tree.specs.declared.line.Shown.TheVariants.{Error}
-use Rattle.squawk_tree.proofs.Standing.{IsSound-error, StandsAfter-error}
+use Rattle.squawk_tree.proofs.Standing.{IsSoundDrawing-error, StandsAfter-error}
 use Rattle.squawk_tree.proofs.tree_text.TreeText.error.Goals as goal
 
 module _ (c : goal.After-push_reserved) where
@@ -14,7 +14,7 @@ module _ (c : goal.After-push_reserved) where
   put = search rules
 
 pub invariant_of-self-2 : goal.invariant_of-self-2
-invariant_of-self-2 c = IsSound-error (drawing c) c.self.invariant (chars c.args.msg.now) c.args.pos _ (put c)
+invariant_of-self-2 c = IsSoundDrawing-error (drawing c) c.self.invariant (chars c.args.msg.now) c.args.pos _ (put c)
 
 pub returns-clause-ok : goal.returns-clause-ok
 returns-clause-ok c = λ steps stands.

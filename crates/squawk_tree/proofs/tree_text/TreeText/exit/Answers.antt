@@ -1,6 +1,6 @@
 use Rattle.std.proofs.Common.{◌≡◌, [], arith, rules, subst, sym}
 use Rattle.squawk_tree.specs.Drawing.{StandsAfter}
-use Rattle.squawk_tree.proofs.Closing.{IsSound-closing, StandsAfter-closing, StandsAfter-no_node, place-below}
+use Rattle.squawk_tree.proofs.Closing.{IsSoundDrawing-closing, StandsAfter-closing, StandsAfter-no_node, place-below}
 use Rattle.squawk_tree.proofs.tree_text.TreeText.exit.Goals as goal
 
 pub index_mut-requires : goal.index_mut-requires
@@ -10,7 +10,7 @@ index_mut-requires c =
 
 pub invariant_of-self : goal.invariant_of-self
 invariant_of-self c =
-    IsSound-closing _ c.self.invariant c.pop.new.self.items c.in-Some.place c.in-Some.ensures.items c.index_mut.result.now c.close.new.self
+    IsSoundDrawing-closing _ c.self.invariant c.pop.new.self.items c.in-Some.place c.in-Some.ensures.items c.index_mut.result.now c.close.new.self
     c.index_mut.ensures.value (search rules)
 
 pub returns-in-Some : goal.returns-in-Some

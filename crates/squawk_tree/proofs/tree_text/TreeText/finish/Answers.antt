@@ -2,7 +2,7 @@ use Rattle.std.proofs.Common.{◌≡◌, ◌∙◌, ◌++◌, [], arith, ap, dro
 use Rattle.std.proofs.lemmas.List.{append-nil, drop_all}
 use Rattle.squawk_tree.specs.TreeText.{Names}
 use Rattle.squawk_tree.specs.Drawing.{lines_text}
-use Rattle.squawk_tree.specs.Forest.{steps_of}
+use Rattle.squawk_tree.specs.Forest.{forest_steps}
 use Rattle.squawk_tree.proofs.Forests.{tree_text-forest}
 use Rattle.squawk_tree.proofs.Written.{lines_text-stands}
 use Rattle.squawk_tree.proofs.tree_text.TreeText.finish.Goals as goal
@@ -21,4 +21,4 @@ module _ (c : goal.After-loop-line) where
 
 pub returns-clause-forest : goal.returns-clause-forest
 returns-clause-forest c = λ forest stands.
-    written c ∙ (lines_text-stands c.args.self.now (names c) (steps_of forest) stands ∙ tree_text-forest (names c) forest)
+    written c ∙ (lines_text-stands c.args.self.now (names c) (forest_steps forest) stands ∙ tree_text-forest (names c) forest)

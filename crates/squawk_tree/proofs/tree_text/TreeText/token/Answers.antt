@@ -3,7 +3,7 @@ use Rattle.std.specs.Prelude.{string_bytes}
 use Rattle.std.proofs.lemmas.Str.{IsUtf8-string_bytes}
 use Rattle.squawk_tree.specs.Drawing.{Drawing, StandsAfter}
 use Rattle.squawk_tree.specs.declared.line.Shown.TheVariants.{Token}
-use Rattle.squawk_tree.proofs.Standing.{IsSound-token, StandsAfter-token}
+use Rattle.squawk_tree.proofs.Standing.{IsSoundDrawing-token, StandsAfter-token}
 use Rattle.squawk_tree.proofs.tree_text.TreeText.token.Goals as goal
 
 module _ (c : goal.After-push_reserved) where
@@ -19,7 +19,7 @@ module _ (c : goal.After-push_reserved) where
 
 pub invariant_of-self-2 : goal.invariant_of-self-2
 invariant_of-self-2 c =
-    IsSound-token (drawing c) c.self.invariant c.args.kind c.args.text.now (IsUtf8-string_bytes c.self.inside.texts) c.utf8.text _ _ (grown c) (put c)
+    IsSoundDrawing-token (drawing c) c.self.invariant c.args.kind c.args.text.now (IsUtf8-string_bytes c.self.inside.texts) c.utf8.text _ _ (grown c) (put c)
 
 pub returns-clause-ok : goal.returns-clause-ok
 returns-clause-ok c = λ steps stands.
