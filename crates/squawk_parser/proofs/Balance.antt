@@ -1,5 +1,5 @@
 -- Balanced walks, by the depth that they reach.
-use Rattle.std.proofs.Common.{◌≡◌, ℕ, zero, suc, ◌+◌, ◌≤◌, Option, Some, None, List, [], ◌∷◌, ◌++◌, take, arith, ap, refl, ◌∙◌}
+use Rattle.std.proofs.Common.{◌≡◌, ℕ, zero, suc, ◌+◌, ◌≤◌, Option, Some, None, List, [], ◌∷◌, ◌++◌, cond, take, arith, ap, refl, ◌∙◌}
 use Rattle.squawk_output.specs.Steps.{Step, Token, Enter, Exit, Error, openings, closings, is_enter, is_exit}
 use Rattle.squawk_output.specs.OneRoot.{IsBalanced}
 use Rattle.squawk_output.proofs.Sums.{count_by-cons}
@@ -38,61 +38,38 @@ pub record Reaches (d e : ℕ) (xs : List Step) : Type 0 where
   pub never_below : NeverBelow d xs
   pub end : closings xs + e ≡ d + openings xs
 
-enters : (kind : ℕ) (xs : List Step) → (closings (Enter kind ∷ xs) ≡ closings xs) × (openings (Enter kind ∷ xs) ≡ 1 + openings xs)
-enters kind xs = (count_by-cons is_exit (Enter kind) xs ∙ (omega arith), count_by-cons is_enter (Enter kind) xs)
+abbrev down : Step → ℕ
+down step = cond (is_exit step) 1 0
 
-leaves : (xs : List Step) → (closings (Exit ∷ xs) ≡ 1 + closings xs) × (openings (Exit ∷ xs) ≡ openings xs)
-leaves xs = (count_by-cons is_exit Exit xs, count_by-cons is_enter Exit xs ∙ (omega arith))
+abbrev up : Step → ℕ
+up step = cond (is_enter step) 1 0
 
-eats : (kind n : ℕ) (xs : List Step) → (closings (Token kind n ∷ xs) ≡ closings xs) × (openings (Token kind n ∷ xs) ≡ openings xs)
-eats kind n xs = (count_by-cons is_exit (Token kind n) xs ∙ (omega arith), count_by-cons is_enter (Token kind n) xs ∙ (omega arith))
+-- a step leads from depth d to depth i
+module _ (d i : ℕ) (step : Step) (leads : down step + i ≡ d + up step) where
+  step-first : {e : ℕ} {xs : List Step} → Reaches i e xs → Reaches d e (step ∷ xs)
+  step-first {e} {xs} r = record {
+    never_below = elim [ zero ↦ omega arith | suc k ↦ omega (arith, leads, r.never_below k, count_by-cons is_exit step (take k xs), count_by-cons is_enter step (take k xs)) ];
+    end = omega (arith, leads, r.end, count_by-cons is_exit step xs, count_by-cons is_enter step xs);
+  }
 
-reports : (text : List ℕ) (xs : List Step) → (closings (Error text ∷ xs) ≡ closings xs) × (openings (Error text ∷ xs) ≡ openings xs)
-reports text xs = (count_by-cons is_exit (Error text) xs ∙ (omega arith), count_by-cons is_enter (Error text) xs ∙ (omega arith))
+  step-past : {xs : List Step} → NeverBelow d (step ∷ xs) → NeverBelow i xs
+  step-past {xs} h k = omega (arith, leads, h (suc k), count_by-cons is_exit step (take k xs), count_by-cons is_enter step (take k xs))
 
 pub reached : (d e : ℕ) (xs : List Step) → depth_after d xs ≡ Some e → Reaches d e xs
 reached d e [] h = let same : d ≡ e = cc in record { never_below = elim [ zero ↦ omega arith | suc k ↦ omega arith ]; end = omega arith }
-reached d e (Token kind n ∷ xs) h =
-    let r = reached d e xs h in
-    let now = eats kind n xs in
-    record {
-      never_below = elim [ zero ↦ omega arith | suc k ↦ omega (arith, r.never_below k, (eats kind n (take k xs)).0, (eats kind n (take k xs)).1) ];
-      end = omega (arith, r.end, now.0, now.1);
-    }
-reached d e (Enter kind ∷ xs) h =
-    let r = reached (suc d) e xs h in
-    let now = enters kind xs in
-    record {
-      never_below = elim [ zero ↦ omega arith | suc k ↦ omega (arith, r.never_below k, (enters kind (take k xs)).0, (enters kind (take k xs)).1) ];
-      end = omega (arith, r.end, now.0, now.1);
-    }
+reached d e (Token kind n ∷ xs) h = step-first d d (Token kind n) (omega arith) (reached d e xs h)
+reached d e (Enter kind ∷ xs) h = step-first d (suc d) (Enter kind) (omega arith) (reached (suc d) e xs h)
 reached zero e (Exit ∷ xs) h = absurd (cc)
-reached (suc d) e (Exit ∷ xs) h =
-    let r = reached d e xs h in
-    let now = leaves xs in
-    record {
-      never_below = elim [ zero ↦ omega arith | suc k ↦ omega (arith, r.never_below k, (leaves (take k xs)).0, (leaves (take k xs)).1) ];
-      end = omega (arith, r.end, now.0, now.1);
-    }
-reached d e (Error text ∷ xs) h =
-    let r = reached d e xs h in
-    let now = reports text xs in
-    record {
-      never_below = elim [ zero ↦ omega arith | suc k ↦ omega (arith, r.never_below k, (reports text (take k xs)).0, (reports text (take k xs)).1) ];
-      end = omega (arith, r.end, now.0, now.1);
-    }
+reached (suc d) e (Exit ∷ xs) h = step-first (suc d) d Exit (omega arith) (reached d e xs h)
+reached d e (Error text ∷ xs) h = step-first d d (Error text) (omega arith) (reached d e xs h)
 
 pub reaches : (d : ℕ) (xs : List Step) → NeverBelow d xs → (e : ℕ) × (depth_after d xs ≡ Some e)
 reaches d [] h = (d, refl)
-reaches d (Token kind n ∷ xs) h =
-    reaches d xs (λ k. omega (arith, h (suc k), (eats kind n (take k xs)).0, (eats kind n (take k xs)).1))
-reaches d (Enter kind ∷ xs) h =
-    reaches (suc d) xs (λ k. omega (arith, h (suc k), (enters kind (take k xs)).0, (enters kind (take k xs)).1))
-reaches zero (Exit ∷ xs) h = absurd (omega (arith, h 1, (leaves (take 0 xs)).0, (leaves (take 0 xs)).1))
-reaches (suc d) (Exit ∷ xs) h =
-    reaches d xs (λ k. omega (arith, h (suc k), (leaves (take k xs)).0, (leaves (take k xs)).1))
-reaches d (Error text ∷ xs) h =
-    reaches d xs (λ k. omega (arith, h (suc k), (reports text (take k xs)).0, (reports text (take k xs)).1))
+reaches d (Token kind n ∷ xs) h = reaches d xs (step-past d d (Token kind n) (omega arith) h)
+reaches d (Enter kind ∷ xs) h = reaches (suc d) xs (step-past d (suc d) (Enter kind) (omega arith) h)
+reaches zero (Exit ∷ xs) h = absurd (let first : closings (Exit ∷ []) ≡ 1 = refl in let none : openings (Exit ∷ []) ≡ 0 = refl in omega (arith, h 1, first, none))
+reaches (suc d) (Exit ∷ xs) h = reaches d xs (step-past (suc d) d Exit (omega arith) h)
+reaches d (Error text ∷ xs) h = reaches d xs (step-past d d (Error text) (omega arith) h)
 
 -- a balanced walk comes back to where it began
 pub depth_after-balanced : (xs : List Step) → IsBalanced xs → depth_after 0 xs ≡ Some 0
