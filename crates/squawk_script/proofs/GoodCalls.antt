@@ -54,7 +54,7 @@ position-none p xs d none k lt =
 module _ (calls : List Call) (statuses : List Status) (i : ℕ) (past : length calls ≤ i) (are : AreStatusesOf (take i calls) statuses) where
   -- a marker is open where its status says so
   pub opened-last : (m : ℕ) → is_status_open (status_at statuses m) ≡ is_open calls m
-  opened-last m = are.opened m ∙ ap (λ cs. is_open cs m) (take_all i calls past)
+  opened-last m = (are.each m).opened ∙ ap (λ cs. is_open cs m) (take_all i calls past)
 
   good-all : AreGoodBelow calls i → AreGoodBelow calls (length calls)
   good-all good k lt = good k (omega (arith, lt, past))

@@ -5,7 +5,6 @@ use Rattle.std.proofs.lemmas.Bool.{cases_eq}
 use Rattle.std.proofs.lemmas.List.Elements.{All-contains, Contains-append_left, Contains-append_cases, Contains-push, Contains-push_cases}
 use Rattle.squawk_output.specs.Draft as draft
 use Rattle.squawk_output.specs.Draft.{Item, Mark, Node, HasNoHole, IsAboveIds, is_hole}
-use Rattle.squawk_output.specs.declared.log.Made.{Made}
 use Rattle.squawk_output.specs.declared.log.Made.TheVariants.{ByPrecede, ByStart}
 use Rattle.squawk_parser.specs.Recorded.{preceding_mark, started_mark}
 use Rattle.squawk_parser.specs.State.{State}
@@ -52,10 +51,7 @@ no-hole o id kind there = let same = Contains-only (draft.Hole o.id o.made) (dra
 -- nor is one that was preceded
 no-hole-preceded : (id : ℕ) (item : Item) (o : Mark) → is_opening_of id item ≡ true → preceded_item item ≡ draft.Hole o.id o.made → ⊥
 no-hole-preceded id (draft.Hole i made) o passes same = cc
-no-hole-preceded id (draft.Open i kind free) o passes same = cc
-no-hole-preceded id draft.Close o passes same = cc
-no-hole-preceded id (draft.Token kind n) o passes same = cc
-no-hole-preceded id (draft.Error text) o passes same = cc
+no-hole-preceded id item o passes same = cc
 
 -- ---- the edits
 

@@ -1,8 +1,8 @@
 -- Calls that make markers or spend them.
-use Rattle.std.proofs.Common.{◌≡◌, ◌∙◌, ℕ, zero, suc, ◌+◌, ◌<◌, true, Option, Some, None, List, [], ◌∷◌, ◌++◌, length, set, map, arith, ap, sym, refl, subst, length-append}
-use Rattle.std.specs.Prelude.{Bool, IsTrue, ◌&&◌, false, nat_lt}
-use Rattle.std.proofs.lemmas.Bool.{ltb-true}
-use Rattle.std.proofs.lemmas.List.{length-set, map-append, map-set, set-get_or}
+use Rattle.std.proofs.Common.{◌≡◌, ◌∙◌, ℕ, ◌+◌, ◌<◌, Option, Some, None, List, [], ◌∷◌, ◌++◌, length, set, map, ap, sym, refl, subst, length-append}
+use Rattle.std.specs.Prelude.{Bool, IsTrue, ◌&&◌, nat_lt}
+use Rattle.std.proofs.lemmas.Bool.{and_parts, ltb-true}
+use Rattle.std.proofs.lemmas.List.{length-set, map-append, map-set, set-get_or, set-set}
 use Rattle.squawk_output.specs.Draft.{Draft, Item, Mark, Node}
 use Rattle.squawk_output.specs.Edits.{abandoned, completed, extended, preceded, started}
 use Rattle.squawk_parser.specs.Recorded.{Begins, Completes, Precedes}
@@ -16,7 +16,8 @@ use Rattle.squawk_script.specs.declared.slot.Slot.{Slot}
 use Rattle.squawk_script.specs.declared.slot.Slot.TheVariants.{Open, Done, Spent}
 use Rattle.squawk_script.proofs.Held.{holds-abandoned, holds-completed, holds-extended, holds-preceded, holds-started}
 use Rattle.squawk_script.proofs.Refusals.{changes-fails, records-fails}
-use Rattle.squawk_script.proofs.Sides.{set-twice, sides-pushed, sides-set, sides-set_both}
+use Rattle.squawk_script.proofs.SlotLists.{stays-set}
+use Rattle.squawk_script.proofs.Sides.{sides-pushed, sides-set, sides-set_both}
 
 -- a run's marker that no call has made
 abbrev pub no_node : Node
@@ -24,24 +25,19 @@ no_node = record { id = 0; kind = 0 }
 
 -- a node is at hand elsewhere than where a slot was spent
 pub done-elsewhere : (slots : List Slot) (j k : ℕ) (n : Node) → slot_at (set slots k Spent) j ≡ Done n → slot_at slots j ≡ Done n
-done-elsewhere [] j k n is = is
-done-elsewhere (slot ∷ slots) zero zero n is = absurd (cc)
-done-elsewhere (slot ∷ slots) zero (suc k) n is = is
-done-elsewhere (slot ∷ slots) (suc j) zero n is = is
-done-elsewhere (slot ∷ slots) (suc j) (suc k) n is = done-elsewhere slots j k n is
+done-elsewhere slots j k n =
+    stays-set Spent (λ slot. slot ≡ Done n → slot_at slots j ≡ Done n) slots k Spent j (λ was spent. absurd (cc)) (λ is. is)
 
 at_hand : (slots taken : List Slot) (j k : ℕ) (n : Node) → taken ≡ set slots k Spent → slot_at taken j ≡ Done n → slot_at slots j ≡ Done n
 at_hand slots taken j k n left is = done-elsewhere slots j k n (subst (λ xs. slot_at xs j ≡ Done n) left is)
 
 -- a node that is taken and kept again is where it was
 put_back : (slots taken : List Slot) (j k : ℕ) (n : Node) → taken ≡ set slots k Spent → slot_at taken j ≡ Done n → set (set taken j Spent) j (Done n) ≡ set slots k Spent
-put_back slots taken j k n left is = set-twice taken j Spent (Done n) ∙ (ap (set taken j) (sym is) ∙ (set-get_or taken j Spent ∙ left))
+put_back slots taken j k n left is = set-set taken j Spent (Done n) ∙ (ap (set taken j) (sym is) ∙ (set-get_or taken j Spent ∙ left))
 
 -- a marker whose number is the lesser
 pub is_older : (node marker : Bool) (k j : ℕ) → IsTrue (node && (marker && nat_lt k j)) → k < j
-is_older true true k j both = ltb-true k j both
-is_older true false k j both = absurd (let p : false ≡ true = both in cc)
-is_older false marker k j both = absurd (let p : false ≡ true = both in cc)
+is_older node marker k j both = ltb-true k j (and_parts marker (nat_lt k j) (and_parts node (marker && nat_lt k j) both).1).1
 
 -- an open marker before a node is older
 pub older : (items : List Item) (slots : List Slot) (j k : ℕ) (n : Node) (m : Mark) → Holds items slots → slot_at slots j ≡ Done n → slot_at slots k ≡ Open m → k < j → m.id < n.id

@@ -2,7 +2,7 @@
 use Rattle.std.proofs.Common.{◌≡◌, ◌∙◌, ◌≢◌, ◌⊎◌, inl, inr, ℕ, ◌<◌, ◌≤◌, ◌&&◌, ◌||◌, Bool, true, false, not, List, [], ◌∷◌, ◌++◌, length, nat_lt, refl, sym, ap, arith}
 use Rattle.std.specs.List.{list_any}
 use Rattle.std.proofs.Math.Bool.{and-true, or-false}
-use Rattle.std.proofs.lemmas.Bool.{and_parts, and_right, cases_lt, lt-ltb, or_right}
+use Rattle.std.proofs.lemmas.Bool.{and_parts, and_right, cases_lt, lt-ltb, not-true, or_right}
 use Rattle.std.proofs.lemmas.List.{get_or_past}
 use Rattle.std.proofs.lemmas.List.Folds.{list_any-append}
 use Rattle.squawk_script.specs.Accepted.{completes, is_at_hand, is_open, markers_of, precedes, spends}
@@ -19,7 +19,9 @@ IsUnnamed calls m = (list_any (spends m) calls ≡ false) × (list_any (precedes
 pub record IsStatusOf (before : List Call) (statuses : List Status) (m : ℕ) : Type 0 where
   pub opened : is_status_open (status_at statuses m) ≡ is_open before m
   pub at_hand : is_status_at_hand (status_at statuses m) ≡ is_at_hand before m
+  -- the calls name no marker that isn't made
   pub unnamed : length statuses ≤ m → IsUnnamed before m
+  -- a marker that isn't spent has no node
   pub unspent : list_any (spends m) before ≡ false → (list_any (precedes m) before ≡ false) × (list_any (completes m) before ≡ false)
 
 -- a marker that is open, or whose node is at hand, is made
@@ -32,13 +34,11 @@ within s statuses m other e = cases (cases_lt m (length statuses))
 
 pub open-from_test : (s : Status) → is_status_open s ≡ true → s ≡ status.Open
 open-from_test status.Open e = refl
-open-from_test status.AtHand e = cc
-open-from_test status.Spent e = cc
+open-from_test s e = cc
 
 pub at_hand-from_test : (s : Status) → is_status_at_hand s ≡ true → s ≡ status.AtHand
-at_hand-from_test status.Open e = cc
 at_hand-from_test status.AtHand e = refl
-at_hand-from_test status.Spent e = cc
+at_hand-from_test s e = cc
 
 -- ---- tests
 
@@ -51,10 +51,6 @@ module _ {X : Type 0} (p : X → Bool) (xs : List X) (x : X) where
 
   any-this : p x ≡ true → list_any p (xs ++ x ∷ []) ≡ true
   any-this e = any-push ∙ or_right (list_any p xs) (p x) e
-
-false_from_not : (b : Bool) → not b ≡ true → b ≡ false
-false_from_not true e = cc
-false_from_not false e = refl
 
 none : (b : Bool) → false ≡ (b && false)
 none b = sym (and_right b false refl)
@@ -98,7 +94,7 @@ module _ (before : List Call) (statuses after : List Status) (call : Call) (m : 
   open_before : status_at statuses m ≡ status.Open → list_any (spends m) before ≡ false
   open_before e =
       let was : is_open before m ≡ true = sym is.opened ∙ ap is_status_open e in
-      false_from_not (list_any (spends m) before) (and_parts (nat_lt m (markers_of before)) (not (list_any (spends m) before)) was).1
+      not-true (list_any (spends m) before) (and_parts (nat_lt m (markers_of before)) (not (list_any (spends m) before)) was).1
 
   -- it spends the marker, and may complete it
   pub status-spent : (s : Status) → spends m call ≡ true → precedes m call ≡ false → is_status_open s ≡ false → is_status_at_hand s ≡ completes m call

@@ -1,5 +1,5 @@
 -- Two lists side by side, where both are pushed to or set.
-use Rattle.std.proofs.Common.{◌≡◌, ℕ, zero, suc, List, [], ◌∷◌, ◌++◌, length, get_or, set, arith, ap, refl}
+use Rattle.std.proofs.Common.{◌≡◌, ℕ, zero, suc, List, [], ◌∷◌, ◌++◌, length, get_or, set, arith}
 
 module _ {X Y : Type 0} (P : X → Y → Type 0) (d : X) (e : Y) where
   -- what holds of the elements at each place, and of those past the end
@@ -36,9 +36,3 @@ module _ {X Y : Type 0} (P : X → Y → Type 0) (d : X) (e : Y) where
   sides-set_both (a ∷ xs) (b ∷ ys) (suc k) x y same all here past zero = all 0
   sides-set_both (a ∷ xs) (b ∷ ys) (suc k) x y same all here past (suc i) =
       sides-set_both xs ys k x y (omega (arith, same)) (λ j. all (suc j)) here past i
-
--- a place that is set twice
-pub set-twice : {X : Type 0} (xs : List X) (k : ℕ) (x y : X) → set (set xs k x) k y ≡ set xs k y
-set-twice [] k x y = refl
-set-twice (a ∷ xs) zero x y = refl
-set-twice (a ∷ xs) (suc k) x y = ap (λ ys. a ∷ ys) (set-twice xs k x y)

@@ -22,7 +22,7 @@ module _ {X : Type 0} (d : X) where
   each-set P (x ∷ xs) (suc k) y others here past (suc i) = each-set P xs k y (λ n other. others (suc n) (λ e. other (omega (arith, e)))) here past i
 
   -- what holds at a place holds there afterwards, if the new element has it from the old one
-  stays-set : (P : X → Type 0) (xs : List X) (k : ℕ) (y : X) (i : ℕ) → (P (slice_index_or xs k d) → P y) → P (slice_index_or xs i d)
+  pub stays-set : (P : X → Type 0) (xs : List X) (k : ℕ) (y : X) (i : ℕ) → (P (slice_index_or xs k d) → P y) → P (slice_index_or xs i d)
       → P (slice_index_or (slice_set xs k y) i d)
   stays-set P [] k y i turn there = there
   stays-set P (x ∷ xs) zero y zero turn there = turn there

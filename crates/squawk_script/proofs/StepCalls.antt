@@ -1,5 +1,5 @@
 -- Calls that put steps at the end of a draft.
-use Rattle.std.proofs.Common.{◌≡◌, ◌∙◌, ℕ, ◌+◌, Bool, true, false, List, [], ◌++◌, if◌then◌else◌, arith, ap, sym, refl, subst}
+use Rattle.std.proofs.Common.{◌≡◌, ◌∙◌, ℕ, ◌+◌, Bool, true, false, List, [], if◌then◌else◌, arith, ap, sym, refl, subst}
 use Rattle.std.specs.Prelude.{IsTrue, length, map, not}
 use Rattle.squawk_kinds.specs.TokenSets.{has}
 use Rattle.squawk_table.specs.ParserInput.{Entry}
