@@ -1,7 +1,7 @@
 -- The slots of a run are what the draft has, after each edit of it.
-use Rattle.std.proofs.Common.{◌≡◌, ◌≢◌, ℕ, Bool, true, false, inl, inr, List, [], ◌∷◌, ◌++◌, cond, arith, refl, subst}
+use Rattle.std.proofs.Common.{◌≡◌, ◌≢◌, ℕ, true, false, inl, inr, List, [], ◌∷◌, ◌++◌, arith, refl, subst}
 use Rattle.std.specs.Prelude.{Contains, slice_set}
-use Rattle.std.proofs.lemmas.Bool.{cases_eq}
+use Rattle.std.proofs.lemmas.Bool.{cases_eq, cond_both}
 use Rattle.std.proofs.lemmas.List.Elements.{All-contains, Contains-append_left, Contains-append_cases, Contains-push, Contains-push_cases}
 use Rattle.squawk_output.specs.Draft as draft
 use Rattle.squawk_output.specs.Draft.{Item, Mark, Node, HasNoHole, IsAboveIds, is_hole}
@@ -205,8 +205,6 @@ holds-moved items slots j k n m at_node at holds =
 -- a node is extended to a marker
 pub holds-extended : (items : List Item) (slots : List Slot) (j k : ℕ) (n : Node) (m : Mark) → slot_at slots j ≡ Done n → slot_at slots k ≡ Open m
     → Holds items slots → Holds (extended_items n m.id items) (slice_set slots k Spent)
-holds-extended items slots j k n m at_node at holds = cases (stands_before (is_hole_of m.id) (is_opening_of n.id) items)
-  where
-    cases : (b : Bool) → Holds (cond b (moved n m.id items) (without_hole m.id items)) (slice_set slots k Spent)
-    cases true = holds-moved items slots j k n m at_node at holds
-    cases false = holds-abandoned items slots k m at holds
+holds-extended items slots j k n m at_node at holds =
+    cond_both (stands_before (is_hole_of m.id) (is_opening_of n.id) items) (moved n m.id items) (without_hole m.id items)
+    (λ edited. Holds edited (slice_set slots k Spent)) (λ e. holds-moved items slots j k n m at_node at holds) (λ e. holds-abandoned items slots k m at holds)

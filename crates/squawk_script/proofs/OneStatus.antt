@@ -1,5 +1,5 @@
 -- Where one marker stands after one more call.
-use Rattle.std.proofs.Common.{◌≡◌, ◌∙◌, ◌≢◌, ◌⊎◌, inl, inr, ℕ, ◌<◌, ◌≤◌, ◌&&◌, ◌||◌, Bool, true, false, not, List, [], ◌∷◌, ◌++◌, length, nat_lt, refl, sym, ap, arith}
+use Rattle.std.proofs.Common.{◌≡◌, ◌∙◌, ◌≢◌, inl, inr, ℕ, ◌<◌, ◌≤◌, ◌&&◌, ◌||◌, Bool, true, false, not, List, [], ◌∷◌, ◌++◌, length, nat_lt, refl, sym, ap, arith}
 use Rattle.std.specs.List.{list_any}
 use Rattle.std.proofs.Math.Bool.{and-true, or-false}
 use Rattle.std.proofs.lemmas.Bool.{and_parts, and_right, cases_lt, lt-ltb, not-true, or_right}
@@ -26,11 +26,10 @@ pub record IsStatusOf (before : List Call) (statuses : List Status) (m : ℕ) : 
 
 -- a marker that is open, or whose node is at hand, is made
 pub within : (s : Status) (statuses : List Status) (m : ℕ) → s ≢ status.Spent → status_at statuses m ≡ s → m < length statuses
-within s statuses m other e = cases (cases_lt m (length statuses))
-  where
-    cases : (m < length statuses) ⊎ (length statuses ≤ m) → m < length statuses
-    cases (inl lt) = lt
-    cases (inr le) = absurd (other (sym e ∙ get_or_past statuses m status.Spent le))
+within s statuses m other e = elim (cases_lt m (length statuses)) [
+  | inl lt ↦ lt
+  | inr le ↦ absurd (other (sym e ∙ get_or_past statuses m status.Spent le))
+]
 
 pub open-from_test : (s : Status) → is_status_open s ≡ true → s ≡ status.Open
 open-from_test status.Open e = refl

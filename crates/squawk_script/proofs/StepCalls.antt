@@ -1,6 +1,7 @@
 -- Calls that put steps at the end of a draft.
-use Rattle.std.proofs.Common.{◌≡◌, ◌∙◌, ℕ, ◌+◌, Bool, true, false, List, [], if◌then◌else◌, arith, ap, sym, refl, subst}
+use Rattle.std.proofs.Common.{◌≡◌, ◌∙◌, ℕ, ◌+◌, Bool, List, [], arith, ap, sym, subst}
 use Rattle.std.specs.Prelude.{IsTrue, length, map, not}
+use Rattle.std.proofs.lemmas.Bool.{cond_both}
 use Rattle.squawk_kinds.specs.TokenSets.{has}
 use Rattle.squawk_table.specs.ParserInput.{Entry}
 use Rattle.squawk_output.specs.Steps.{Step, eaten, is_error}
@@ -65,11 +66,6 @@ puts-performs old new slots call tied puts stays leads makes = record {
 -- eating a kind puts its steps at the end where it stands, and nothing where it doesn't
 pub eat_puts : (old new : State) (kind : ℕ) (result : Bool) → result ≡ stands_at (has old.words.operator_first) kind (ahead old 0)
     → (IsTrue result → Puts (eat_steps old.words kind (ahead old 0)) old new) → (IsTrue (not result) → new ≡ old) → Puts (call_steps old.words (ahead old 0) (calls.Eat kind)) old new
-eat_puts old new kind result at puts none = cases result refl
-  where
-    Eaten : Bool → Type 0
-    Eaten b = Puts (if b then eat_steps old.words kind (ahead old 0) else []) old new
-
-    cases : (b : Bool) → result ≡ b → Puts (call_steps old.words (ahead old 0) (calls.Eat kind)) old new
-    cases true e = subst Eaten at (subst Eaten (sym e) (puts e))
-    cases false e = subst Eaten at (subst Eaten (sym e) (subst (λ s. Puts [] old s) (sym (none (ap not e))) (puts-none old)))
+eat_puts old new kind result at puts none =
+    cond_both (stands_at (has old.words.operator_first) kind (ahead old 0)) (eat_steps old.words kind (ahead old 0)) [] (λ steps. Puts steps old new)
+    (λ e. puts (at ∙ e)) (λ e. subst (λ s. Puts [] old s) (sym (none (ap not (at ∙ e)))) (puts-none old))
