@@ -14,18 +14,6 @@ module _ {X Y : Type 0} (P : X → Y → Type 0) (d : X) (e : Y) where
   sides-pushed (a ∷ xs) (b ∷ ys) x y same all here past zero = all 0
   sides-pushed (a ∷ xs) (b ∷ ys) x y same all here past (suc i) = sides-pushed xs ys x y (omega (arith, same)) (λ k. all (suc k)) here past i
 
-  -- an element of the first list is set
-  pub sides-set : (xs : List X) (ys : List Y) (k : ℕ) (x : X) → EachSide xs ys → P x (get_or ys k e) → EachSide (set xs k x) ys
-  sides-set [] ys k x all here i = all i
-  sides-set (a ∷ xs) [] zero x all here zero = here
-  sides-set (a ∷ xs) [] zero x all here (suc i) = all (suc i)
-  sides-set (a ∷ xs) [] (suc k) x all here zero = all 0
-  sides-set (a ∷ xs) [] (suc k) x all here (suc i) = sides-set xs [] k x (λ j. all (suc j)) here i
-  sides-set (a ∷ xs) (b ∷ ys) zero x all here zero = here
-  sides-set (a ∷ xs) (b ∷ ys) zero x all here (suc i) = all (suc i)
-  sides-set (a ∷ xs) (b ∷ ys) (suc k) x all here zero = all 0
-  sides-set (a ∷ xs) (b ∷ ys) (suc k) x all here (suc i) = sides-set xs ys k x (λ j. all (suc j)) here i
-
   -- both elements at a place are set
   pub sides-set_both : (xs : List X) (ys : List Y) (k : ℕ) (x : X) (y : Y) → length ys ≡ length xs → EachSide xs ys → P x y → P d e → EachSide (set xs k x) (set ys k y)
   sides-set_both [] [] k x y same all here past i = past
