@@ -1,5 +1,5 @@
 -- The slots of a run are what the draft has, after each edit of it.
-use Rattle.std.proofs.Common.{◌≡◌, ◌≢◌, ℕ, true, false, inl, inr, List, [], ◌∷◌, ◌++◌, arith, refl, subst}
+use Rattle.std.proofs.Common.{length, ◌<◌, ◌≡◌, ◌≢◌, ℕ, true, false, inl, inr, List, [], ◌∷◌, ◌++◌, arith, refl, subst}
 use Rattle.std.specs.Prelude.{Contains, slice_set}
 use Rattle.std.proofs.lemmas.Bool.{cases_eq, cond_both}
 use Rattle.std.proofs.lemmas.List.Elements.{All-contains, Contains-append_left, Contains-append_cases, Contains-push, Contains-push_cases}
@@ -19,7 +19,7 @@ use Rattle.squawk_output.proofs.LogItems.{Contains-only}
 use Rattle.squawk_script.proofs.EditedItems.{Contains-made, edited-cases}
 use Rattle.squawk_script.proofs.OtherSlots.{before-new, before-spent, done-slot, held-append, held-holes, held-openings, hole-stayed, other-slot, others}
 use Rattle.squawk_script.proofs.OtherSlots.{same-mark}
-use Rattle.squawk_script.proofs.SlotLists.{Contains-set, each-push, each-set, pairs-push, pairs-set}
+use Rattle.squawk_script.proofs.SlotLists.{within, Contains-set, each-push, each-set, pairs-push, pairs-set}
 
 -- ---- an open marker's slot is spent
 
@@ -30,7 +30,7 @@ module _ (items new : List Item) (slots : List Slot) (k : ℕ) (m : Mark) (made 
       → ((o : Mark) → Contains new (draft.Hole o.id o.made) → (o.id ≢ m.id) × Contains items (draft.Hole o.id o.made))
       → Holds new (slice_set slots k made)
   holds-edited at holds rest here before behind left = record {
-    each = each-set Spent (IsHeld new) slots k made rest here tt;
+    each = each-set Spent (λ i. IsHeld new) slots k made (within Spent slots k (λ e. cc)) rest here;
     order = pairs-set Spent AreInOrder slots k made holds.order (λ slot. rw at (before slot)) (λ slot. rw at (behind slot));
     covers = λ o there.
         let stayed = left o there in
@@ -75,7 +75,7 @@ pub holds-started : (s : State) (slots : List Slot) (m : Mark) → m ≡ started
     → Holds (s.draft.items ++ draft.Hole s.draft.entries ByStart ∷ []) (slots ++ Open m ∷ [])
 holds-started s slots m is above holds = rw is record {
   each =
-      each-push Spent (IsHeld (items ++ hole ∷ [])) slots new (λ i. held-append items (hole ∷ []) (slot_at slots i) (holds.each i)) (Contains-push items hole) tt;
+      each-push Spent (λ i. IsHeld (items ++ hole ∷ [])) slots new (λ i off. held-append items (hole ∷ []) (slot_at slots i) (holds.each i)) (Contains-push items hole);
   order = pairs-push Spent AreInOrder slots new holds.order (λ i. before-new items (started_mark s) (slot_at slots i) above (holds.each i)) before-spent;
   covers = λ o there. elim (Contains-push_cases items hole (draft.Hole o.id o.made) there) [
     | inl before ↦ Contains-append_left slots (new ∷ []) (Open o) (holds.covers o before)
@@ -131,15 +131,14 @@ pub holds-preceded : (s : State) (slots : List Slot) (k : ℕ) (n : Node) (m : M
     → IsAboveIds s.draft.entries s.draft.items → Holds s.draft.items slots → Holds (preceded s.draft n.id).items (slice_set slots k Spent ++ Open m ∷ [])
 holds-preceded s slots k n m at is above holds = rw is record {
   each =
-      each-push Spent (IsHeld edited) (slice_set slots k Spent) new
-      (each-set Spent (IsHeld edited) slots k Spent
-      (λ i other. held-openings n.id f items (slot_at slots i) (others slots k n.id (rw at refl) holds.order i other) (holds.each i)) tt tt)
-      (Contains-made (is_opening_of n.id) f (draft.Open n.id n.kind true) hole items (itself n.id) (subst (IsHeld items) at (holds.each k)) (0, omega arith, refl))
-      tt;
+      each-push Spent (λ i. IsHeld edited) (slice_set slots k Spent) new
+      (λ i off. each-set Spent (λ i. IsHeld edited) slots k Spent lt
+      (λ i other. held-openings n.id f items (slot_at slots i) (others slots k n.id (rw at refl) holds.order i other) (holds.each i)) tt i)
+      (Contains-made (is_opening_of n.id) f (draft.Open n.id n.kind true) hole items (itself n.id) (subst (IsHeld items) at (holds.each k)) (0, omega arith, refl));
   order =
       pairs-push Spent AreInOrder (slice_set slots k Spent) new
       (pairs-set Spent AreInOrder slots k Spent holds.order (λ slot lt. before-spent slot) (λ slot lt. tt))
-      (each-set Spent (λ slot. AreInOrder slot new) slots k Spent (λ i other. before-new items (preceding_mark s) (slot_at slots i) above (holds.each i)) tt tt)
+      (each-set Spent (λ i slot. AreInOrder slot new) slots k Spent lt (λ i other. before-new items (preceding_mark s) (slot_at slots i) above (holds.each i)) tt)
       before-spent;
   covers = λ o there. elim (edited-cases (is_opening_of n.id) f items (draft.Hole o.id o.made) there) [
     | inl from ↦ elim (Contains-append_cases (hole ∷ []) (preceded_item from.old ∷ []) (draft.Hole o.id o.made) from.gives) [
@@ -165,6 +164,9 @@ holds-preceded s slots k n m at is above holds = rw is record {
 
     edited : List Item
     edited = replaced (is_opening_of n.id) f items
+
+    lt : k < length slots
+    lt = within Spent slots k (λ e. cc)
 
     new : Slot
     new = Open (preceding_mark s)

@@ -19,8 +19,7 @@ use Rattle.squawk_script.specs.declared.slot.Slot.{Slot}
 use Rattle.squawk_script.specs.declared.slot.Slot.TheVariants.{Open, Done, Spent}
 use Rattle.squawk_script.proofs.Held.{holds-abandoned, holds-completed, holds-extended, holds-preceded, holds-started}
 use Rattle.squawk_script.proofs.Refusals.{changes-fails, records-fails}
-use Rattle.squawk_script.proofs.SlotLists.{stays-set}
-use Rattle.squawk_script.proofs.Sides.{sides-pushed, sides-set_both}
+use Rattle.squawk_script.proofs.SlotLists.{sides-pushed, sides-set, stays-set, within}
 
 -- a run's marker that no call has made
 abbrev pub no_node : Node
@@ -106,7 +105,7 @@ module _ (old new : State) (slots slots' : List Slot) (tied : IsTied old slots) 
         position = at.position;
         count = omega (arith, at.count, length-append run.markers (new_marker run ∷ []), length-append slots (Open m ∷ []));
         markers = sides-pushed IsMarkerOf Spent no_node slots run.markers (Open m) (new_marker run) at.count at.markers
-            (ap (λ d. d.entries) at.draft ∙ sym (ap (λ m. m.id) begins.is)) tt;
+            (ap (λ d. d.entries) at.draft ∙ sym (ap (λ m. m.id) begins.is));
       })
       (λ run at. refl)
 
@@ -122,8 +121,8 @@ module _ (old new : State) (slots slots' : List Slot) (tied : IsTied old slots) 
         draft = rw (at.draft, id) refl;
         position = at.position;
         count = length-set run.markers k _ ∙ (at.count ∙ sym (length-set slots k _));
-        markers = sides-set_both IsMarkerOf Spent no_node slots run.markers k node (record { id = (marker_at run k).id; kind = kind }) at.count at.markers
-            (ap (λ i. record { id = i; kind = kind }) id) tt;
+        markers = sides-set IsMarkerOf Spent no_node slots run.markers node (record { id = (marker_at run k).id; kind = kind }) at.count at.markers
+            (ap (λ i. record { id = i; kind = kind }) id) k (within Spent slots k (λ e. cc));
       })
       (λ run at. refl)
     where
@@ -163,7 +162,7 @@ module _ (old new : State) (slots slots' : List Slot) (tied : IsTied old slots) 
         position = at.position;
         count = omega (arith, spent.0, length-append run.markers (new_marker run ∷ []), length-append (set slots k Spent) (Open m ∷ []));
         markers = sides-pushed IsMarkerOf Spent no_node (set slots k Spent) run.markers (Open m) (new_marker run) spent.0 spent.1
-            (ap (λ d. d.entries) at.draft ∙ sym (ap (λ m. m.id) precedes.is)) tt;
+            (ap (λ d. d.entries) at.draft ∙ sym (ap (λ m. m.id) precedes.is));
       })
       (λ run at. refl)
 
