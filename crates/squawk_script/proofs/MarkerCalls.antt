@@ -1,9 +1,9 @@
 -- Calls that make markers or spend them.
-use Rattle.std.proofs.Common.{arith, false, ◌≡◌, ◌∙◌, ℕ, ◌<◌, Option, Some, None, List, [], ◌∷◌, ◌++◌, length, set, ap, sym, refl, subst, length-append}
+use Rattle.std.proofs.Common.{arith, false, ◌≡◌, ◌∙◌, ℕ, ◌<◌, Option, Some, None, List, [], ◌∷◌, ◌++◌, length, set, ap, sym, refl, length-append}
 use Rattle.std.specs.Prelude.{Bool, IsTrue, ◌&&◌, nat_lt}
 use Rattle.std.proofs.lemmas.Bool.{and_parts, ltb-true}
 use Rattle.std.proofs.lemmas.List.{length-set, map-append, map-set, set-get_or, set-set}
-use Rattle.squawk_output.specs.Draft.{Draft, Item, Mark, Node}
+use Rattle.squawk_output.specs.Draft.{Draft, Mark, Node}
 use Rattle.squawk_output.specs.Edits.{abandoned, completed, extended, preceded, started}
 use Rattle.squawk_parser.specs.Recorded.{Begins, Completes, Precedes}
 use Rattle.squawk_parser.specs.State.{State, Changes, HasNotFailed, Keeps, Records}
@@ -11,7 +11,7 @@ use Rattle.squawk_parser.specs.declared.parser.parse_error.ParseError.{ParseErro
 use Rattle.squawk_parser.proofs.Markers.{changed, went-changed}
 use Rattle.squawk_script.specs.Events.{events_made}
 use Rattle.squawk_script.specs.Meaning.{Run, marker_at, new_marker, seen, stepped}
-use Rattle.squawk_script.specs.Slots.{AreInOrder, FailsAt, Holds, IsAt, IsMarkerOf, IsTied, Performs, noted, slot_at, status_of, statuses_of}
+use Rattle.squawk_script.specs.Slots.{FailsAt, Holds, IsAt, IsMarkerOf, IsTied, Performs, noted, slot_at, status_of, statuses_of}
 use Rattle.squawk_script.specs.declared.call.Call.{Call}
 use Rattle.squawk_script.specs.declared.call.Call.TheVariants as calls
 use Rattle.squawk_script.specs.declared.status.Status.TheVariants as status
@@ -26,12 +26,9 @@ abbrev pub no_node : Node
 no_node = record { id = 0; kind = 0 }
 
 -- a node is at hand elsewhere than where a slot was spent
-pub done-elsewhere : (slots : List Slot) (j k : ℕ) (n : Node) → slot_at (set slots k Spent) j ≡ Done n → slot_at slots j ≡ Done n
-done-elsewhere slots j k n =
-    stays-set Spent (λ slot. slot ≡ Done n → slot_at slots j ≡ Done n) slots k Spent j (λ was spent. absurd (cc)) (λ is. is)
-
 at_hand : (slots taken : List Slot) (j k : ℕ) (n : Node) → taken ≡ set slots k Spent → slot_at taken j ≡ Done n → slot_at slots j ≡ Done n
-at_hand slots taken j k n left is = done-elsewhere slots j k n (subst (λ xs. slot_at xs j ≡ Done n) left is)
+at_hand slots taken j k n left is =
+    stays-set Spent (λ slot. slot ≡ Done n → slot_at slots j ≡ Done n) slots k Spent j (λ was spent. absurd (cc)) (λ is. is) (rw left at is)
 
 -- a node that is taken and kept again is where it was
 put_back : (slots taken : List Slot) (j k : ℕ) (n : Node) → taken ≡ set slots k Spent → slot_at taken j ≡ Done n → set (set taken j Spent) j (Done n) ≡ set slots k Spent
@@ -40,11 +37,6 @@ put_back slots taken j k n left is = set-set taken j Spent (Done n) ∙ (ap (set
 -- a marker whose number is the lesser
 pub is_older : (node marker : Bool) (k j : ℕ) → IsTrue (node && (marker && nat_lt k j)) → k < j
 is_older node marker k j both = ltb-true k j (and_parts marker (nat_lt k j) (and_parts node (marker && nat_lt k j) both).1).1
-
--- an open marker before a node is older
-pub older : (items : List Item) (slots : List Slot) (j k : ℕ) (n : Node) (m : Mark) → Holds items slots → slot_at slots j ≡ Done n → slot_at slots k ≡ Open m → k < j → m.id < n.id
-older items slots j k n m holds is_done is_open lt =
-    subst (λ s. AreInOrder (Open m) s) is_done (subst (λ s. AreInOrder s (slot_at slots j)) is_open (holds.order k j lt))
 
 pub limit-kept : {old new : State} → Keeps old new → old.limit ≡ length old.input → new.limit ≡ length new.input
 limit-kept keeps limit = keeps.limit ∙ (limit ∙ ap length (sym keeps.input))
@@ -179,8 +171,9 @@ module _ (old new : State) (slots slots' : List Slot) (tied : IsTied old slots) 
       (λ run at. refl)
 
   module _ (taken : List Slot) (j k : ℕ) (n : Node) (m : Mark) (is_open : slot_at slots k ≡ Open m) (left : taken ≡ set slots k Spent) (is_done : slot_at taken j ≡ Done n) where
+    -- an open marker before a node is older
     pub taken-older : k < j → HasNotFailed old → m.id < n.id
-    taken-older lt goes = older old.draft.items slots j k n m (tied.holds goes) (at_hand slots taken j k n left is_done) is_open lt
+    taken-older lt goes = rw (is_open, at_hand slots taken j k n left is_done) at ((tied.holds goes).order k j lt)
 
     pub taken-performs : (node : Node) → node ≡ n → Changes old new (extended old.draft n m.id) → slots' ≡ set (set taken j Spent) j (Done node)
         → Performs old new slots slots' (calls.ExtendTo j k)

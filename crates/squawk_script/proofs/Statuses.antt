@@ -1,5 +1,5 @@
 -- The statuses of markers are those that the calls give them.
-use Rattle.std.proofs.Common.{◌≡◌, ◌∙◌, ◌≢◌, ℕ, ◌+◌, ◌≤◌, ◌==◌, ◌&&◌, true, false, not, cond, List, [], ◌∷◌, ◌++◌, length, set, nat_lt, refl, sym, ap, IsTrue, arith, length-append, length-set}
+use Rattle.std.proofs.Common.{◌≡◌, ◌∙◌, ◌≢◌, ℕ, ◌+◌, ◌≤◌, ◌==◌, ◌&&◌, true, false, not, cond, List, [], ◌∷◌, ◌++◌, length, set, nat_lt, refl, sym, ap, arith, length-append, length-set}
 use Rattle.std.proofs.lemmas.Bool.{and_parts, and_left, le-ltb, ltb-true, eq-eqb, ne_eqb}
 use Rattle.std.proofs.lemmas.Bool.Decides.{nat_tests}
 use Rattle.squawk_kinds.specs.Kinds.{TOMBSTONE}
@@ -38,17 +38,13 @@ module _ (before : List Call) (statuses : List Status) (are : AreStatusesOf befo
   numbered : nat_lt (length statuses) 4294967296 ≡ has_number before
   numbered = ap (λ n. nat_lt n 4294967296) are.count
 
-  admitted : (call : Call) → is_admitted statuses call ≡ may_follow before call
-  admitted Start = numbered
-  admitted (Complete marker kind) = rw (are.each marker).opened refl
-  admitted (Abandon marker) = (are.each marker).opened
-  admitted (Precede node) = rw ((are.each node).at_hand, numbered) refl
-  admitted (ExtendTo node marker) = rw ((are.each node).at_hand, (are.each marker).opened) refl
-  admitted call = refl
-
-pub admitted-follows : {before : List Call} {statuses : List Status} → AreStatusesOf before statuses
-    → (call : Call) → is_admitted statuses call ≡ may_follow before call
-admitted-follows {before = before} {statuses = statuses} are call = admitted before statuses are call
+  pub admitted-follows : (call : Call) → is_admitted statuses call ≡ may_follow before call
+  admitted-follows Start = numbered
+  admitted-follows (Complete marker kind) = rw (are.each marker).opened refl
+  admitted-follows (Abandon marker) = (are.each marker).opened
+  admitted-follows (Precede node) = rw ((are.each node).at_hand, numbered) refl
+  admitted-follows (ExtendTo node marker) = rw ((are.each node).at_hand, (are.each marker).opened) refl
+  admitted-follows call = refl
 
 -- ---- the number of markers, and a status at the end
 
@@ -110,17 +106,18 @@ module _ (before : List Call) (statuses : List Status) (are : AreStatusesOf befo
             (omega (arith, are.count)) (omega (arith, more, are.count))));
       }
 
-  statuses-after : (call : Call) → is_admitted statuses call ≡ true → AreStatusesOf (before ++ call ∷ []) (noted statuses call)
-  statuses-after Start e =
+  -- the call is made
+  pub statuses-next : (call : Call) → is_admitted statuses call ≡ true → AreStatusesOf (before ++ call ∷ []) (noted statuses call)
+  statuses-next Start e =
       statuses-made Start statuses refl e refl (refl, refl, refl)
       (λ m old. status-kept before Start m (status_at statuses m) (are.each m) (refl, refl, refl) old)
-  statuses-after (Complete marker kind) e =
+  statuses-next (Complete marker kind) e =
       let itself = eq-eqb marker marker refl in
       statuses-spent (Complete marker kind) marker status.AtHand refl itself refl (λ m off. (off, refl, off)) refl (sym itself)
       (and_parts (is_status_open (status_at statuses marker)) (not (kind == TOMBSTONE)) e).0
-  statuses-after (Abandon marker) e =
+  statuses-next (Abandon marker) e =
       statuses-spent (Abandon marker) marker status.Spent refl (eq-eqb marker marker refl) refl (λ m off. (off, refl, refl)) refl refl e
-  statuses-after (Precede node) e =
+  statuses-next (Precede node) e =
       let both = and_parts (is_status_at_hand (status_at statuses node)) (nat_lt (length statuses) 4294967296) e in
       let lt = within status.Spent statuses node (λ e. cc) in
       statuses-made (Precede node) (set statuses node status.Spent) refl both.1 (length-set statuses node status.Spent)
@@ -128,13 +125,8 @@ module _ (before : List Call) (statuses : List Status) (are : AreStatusesOf befo
       (each-set status.Spent (λ m s. IsOld (Precede node) m → IsStatusOf (before ++ Precede node ∷ []) m s) statuses node status.Spent lt
       (λ m off. status-kept before (Precede node) m (status_at statuses m) (are.each m) (refl, ne_eqb node m (λ e. off (sym e)), refl))
       (λ old. status-preceded before (Precede node) node (status_at statuses node) (are.each node) both.0 (eq-eqb node node refl) refl))
-  statuses-after (ExtendTo node marker) e =
+  statuses-next (ExtendTo node marker) e =
       let both = (and_parts (is_status_at_hand (status_at statuses node)) (is_status_open (status_at statuses marker) && nat_lt marker node) e).1 in
       statuses-spent (ExtendTo node marker) marker status.Spent refl (eq-eqb marker marker refl) refl (λ m off. (off, refl, refl)) refl refl
       (and_parts (is_status_open (status_at statuses marker)) (nat_lt marker node) both).0
-  statuses-after call e = statuses-kept call refl (λ m. (refl, refl, refl))
-
--- the call is made
-pub statuses-next : {before : List Call} {statuses : List Status} → AreStatusesOf before statuses → (call : Call) → IsTrue (is_admitted statuses call)
-    → AreStatusesOf (before ++ call ∷ []) (noted statuses call)
-statuses-next {before = before} {statuses = statuses} are call e = statuses-after before statuses are call e
+  statuses-next call e = statuses-kept call refl (λ m. (refl, refl, refl))
