@@ -33,6 +33,15 @@ pub puts-performs : (old new : State) (slots : List Slot) (call : Call) → IsTi
     → ((run : Run) → stepped old.words old.input run call ≡ with_call run (call_steps old.words (seen old.input run) call))
     → ((tokens : List Entry) → events_made old.words tokens call ≡ map is_error (call_steps old.words tokens call)) → Performs old new slots slots call
 puts-performs old new slots call tied puts stays leads makes =
+    let steps : List Step = call_steps old.words (ahead old 0) call in
+    let after : State = record old { draft = with_steps old.draft steps; position = old.position + eaten steps } in
+    let acts : Acts old new after (map is_error steps) = record {
+      draft = puts.draft;
+      went = went puts.keeps;
+      limit = limit-kept puts.keeps;
+      position = puts.position;
+      fails = puts-fails old new steps puts;
+    } in
     acted old new slots slots tied call after slots (map is_error steps) acts refl
     (holds-put old.draft.items (items_for old.draft.entries steps) slots (closed-items_for old.draft.entries steps)) (sym stays)
     (λ run at.
@@ -45,21 +54,6 @@ puts-performs old new slots call tied puts stays leads makes =
     })))
     (λ run at.
     makes (seen old.input run) ∙ ap (λ tokens. map is_error (call_steps old.words tokens call)) (sym (seen-same old run tied.limit at.position)))
-  where
-    steps : List Step
-    steps = call_steps old.words (ahead old 0) call
-
-    after : State
-    after = record old { draft = with_steps old.draft steps; position = old.position + eaten steps }
-
-    acts : Acts old new after (map is_error steps)
-    acts = record {
-      draft = puts.draft;
-      went = went puts.keeps;
-      limit = limit-kept puts.keeps;
-      position = puts.position;
-      fails = puts-fails old new steps puts;
-    }
 
 -- eating a kind puts its steps at the end where it stands, and nothing where it doesn't
 pub eat_puts : (old new : State) (kind : ℕ) (result : Bool) → result ≡ stands_at (has old.words.operator_first) kind (ahead old 0)
