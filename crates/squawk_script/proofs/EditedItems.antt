@@ -1,19 +1,14 @@
 -- What an edited list of items has.
-use Rattle.std.proofs.Common.{◌≡◌, ℕ, zero, suc, ◌<◌, Bool, true, false, ◌⊎◌, inl, inr, List, [], ◌∷◌, cond, arith, refl, sym, subst}
+use Rattle.std.proofs.Common.{◌≡◌, ℕ, zero, suc, ◌<◌, Bool, true, false, ◌⊎◌, inl, inr, List, [], ◌∷◌, cond, arith, sym, subst}
 use Rattle.std.specs.Prelude.{Contains}
 use Rattle.std.specs.List.{flat_map}
+use Rattle.std.proofs.lemmas.Bool.{cond_both}
 use Rattle.std.proofs.lemmas.List.Elements.{All-contains, Contains-append_left, Contains-append_right, Contains-append_cases}
 use Rattle.squawk_output.specs.Draft.{Item, IsAboveIds, ids, ids_of}
 use Rattle.squawk_output.specs.Edits.{replaced}
 use Rattle.squawk_output.proofs.LogItems.{Contains-only}
 
 -- ---- lists of lists
-
--- an element whose list has this one
-pub record Origin {X Y : Type 0} (f : X → List Y) (xs : List X) (y : Y) : Type 0 where
-  pub from : X
-  pub there : Contains xs from
-  pub gives : Contains (f from) y
 
 module _ {X Y : Type 0} (f : X → List Y) (y : Y) where
   pub Contains-flat_map : (x : X) (xs : List X) → Contains xs x → Contains (f x) y → Contains (flat_map f xs) y
@@ -22,20 +17,11 @@ module _ {X Y : Type 0} (f : X → List Y) (y : Y) where
   Contains-flat_map x (z ∷ xs) (suc k, lt, at) gives =
       Contains-append_right (f z) (flat_map f xs) y (Contains-flat_map x xs (k, omega arith, at) gives)
 
-  pub origin : (xs : List X) → Contains (flat_map f xs) y → Origin f xs y
-  origin [] (k, lt, at) = absurd (omega arith)
-  origin (x ∷ xs) has = elim (Contains-append_cases (f x) (flat_map f xs) y has) [
-    | inl here ↦ record { from = x; there = (0, omega arith, refl); gives = here }
-    | inr behind ↦
-        let o = origin xs behind in record { from = o.from; there = Contains-append_right (x ∷ []) xs o.from o.there; gives = o.gives }
-  ]
-
 -- ---- items
 
 -- an item that passes the test, and that gives place to this one among others
-pub record IsMade (p : Item → Bool) (f : Item → List Item) (items : List Item) (new : Item) : Type 0 where
+pub record IsMade (p : Item → Bool) (f : Item → List Item) (new : Item) : Type 0 where
   pub old : Item
-  pub there : Contains items old
   pub passes : p old ≡ true
   pub gives : Contains (f old) new
 
@@ -46,16 +32,18 @@ module _ (p : Item → Bool) (f : Item → List Item) where
       Contains-flat_map (λ item. cond (p item) (f item) (item ∷ [])) new old items there (rw passes gives)
 
   -- and nothing else but the items that don't pass
-  pub edited-cases : (items : List Item) (x : Item) → Contains (replaced p f items) x → IsMade p f items x ⊎ ((p x ≡ false) × Contains items x)
-  edited-cases items x has =
-      let o = origin (λ item. cond (p item) (f item) (item ∷ [])) x items has in
-      cases o.from (p o.from) refl o.there o.gives
-    where
-      cases : (item : Item) (b : Bool) → p item ≡ b → Contains items item → Contains (cond b (f item) (item ∷ [])) x
-          → IsMade p f items x ⊎ ((p x ≡ false) × Contains items x)
-      cases item true e there gives = inl (record { old = item; there = there; passes = e; gives = gives })
-      cases item false e there gives =
-          let same : item ≡ x = Contains-only x item gives in inr (rw same at e, subst (λ y. Contains items y) same there)
+  pub edited-cases : (items : List Item) (x : Item) → Contains (replaced p f items) x → IsMade p f x ⊎ ((p x ≡ false) × Contains items x)
+  edited-cases [] x (k, lt, at) = absurd (omega arith)
+  edited-cases (item ∷ items) x has = elim (Contains-append_cases (cond (p item) (f item) (item ∷ [])) (replaced p f items) x has) [
+    | inl here ↦
+        cond_both (p item) (f item) (item ∷ []) (λ made. Contains made x → IsMade p f x ⊎ ((p x ≡ false) × Contains (item ∷ items) x))
+        (λ e gives. inl (record { old = item; passes = e; gives = gives }))
+        (λ e gives. let same : item ≡ x = Contains-only x item gives in inr (rw same at e, (0, omega arith, same))) here
+    | inr behind ↦ elim (edited-cases items x behind) [
+      | inl made ↦ inl made
+      | inr stayed ↦ inr (stayed.0, Contains-append_right (item ∷ []) items x stayed.1)
+    ]
+  ]
 
 -- an id of an item is below what is above all ids
 pub id-below : (id i : ℕ) (item : Item) (items : List Item) → IsAboveIds id items → Contains items item → Contains (ids_of item) i → i < id

@@ -17,7 +17,7 @@ use Rattle.squawk_parser.proofs.StepsAtEnd.{errors-with_steps}
 use Rattle.squawk_script.specs.Events.{errors_among, events_from, events_made, events_of}
 use Rattle.squawk_script.specs.Meaning.{Run, begin, call_steps, marker_at, run_of, seen, stepped}
 use Rattle.squawk_script.specs.declared.call.Call.{Call}
-use Rattle.squawk_script.specs.declared.call.Call.TheVariants.{Start, Complete, Abandon, Precede, ExtendTo, Eat, BumpAny, BumpRemap, Expect, Error, ErrRecover, ErrAndBump}
+use Rattle.squawk_script.specs.declared.call.Call.TheVariants.{Start, Complete, Abandon, Precede, ExtendTo}
 
 pub errors_among-append : (xs ys : List Bool) → errors_among (xs ++ ys) ≡ errors_among xs + errors_among ys
 errors_among-append xs ys = sum_by-append (λ event. cond event 1 0) xs ys
@@ -64,13 +64,7 @@ module _ (words : Words) (input : List Entry) (run : Run) where
   more-call (Abandon m) = record { recorded = omega arith; errors = omega (arith, errors-without_hole (marker_at run m).id run.draft.items) }
   more-call (Precede n) = record { recorded = refl; errors = omega (arith, errors-preceded (marker_at run n).id run.draft.entries ByPrecede run.draft.items) }
   more-call (ExtendTo n m) = record { recorded = omega arith; errors = omega (arith, errors-extended (marker_at run n) (marker_at run m).id run.draft.items) }
-  more-call (Eat kind) = more-steps run.draft (call_steps words (seen input run) (Eat kind))
-  more-call BumpAny = more-steps run.draft (call_steps words (seen input run) BumpAny)
-  more-call (BumpRemap kind) = more-steps run.draft (call_steps words (seen input run) (BumpRemap kind))
-  more-call (Expect kind) = more-steps run.draft (call_steps words (seen input run) (Expect kind))
-  more-call (Error message) = more-steps run.draft (call_steps words (seen input run) (Error message))
-  more-call (ErrRecover message recovery) = more-steps run.draft (call_steps words (seen input run) (ErrRecover message recovery))
-  more-call (ErrAndBump message) = more-steps run.draft (call_steps words (seen input run) (ErrAndBump message))
+  more-call call = more-steps run.draft (call_steps words (seen input run) call)
 
 -- ---- all calls
 

@@ -24,17 +24,17 @@ module _ (calls : List Call) (statuses : List Status) (i : ℕ) (call : Call) (l
 
   -- one call on
   pub statuses-more : IsTrue (is_admitted statuses call) → AreStatusesOf (take (i + 1) calls) (noted statuses call)
-  statuses-more admitted = rw next (statuses-next are call admitted)
+  statuses-more admitted = rw next (statuses-next (take i calls) statuses are call admitted)
 
   good_here : IsTrue (is_admitted statuses call) → IsGoodAt calls i
-  good_here admitted = at_read calls (λ c. IsTrue (may_follow (take i calls) c)) i call lt read (sym (admitted-follows are call) ∙ admitted)
+  good_here admitted = at_read calls (λ c. IsTrue (may_follow (take i calls) c)) i call lt read (sym (admitted-follows (take i calls) statuses are call) ∙ admitted)
 
   pub good-more : IsTrue (is_admitted statuses call) → AreGoodBelow calls i → AreGoodBelow calls (i + 1)
   good-more admitted good = below_more (IsGoodAt calls) i good (good_here admitted)
 
   -- a good call is admitted
   pub admitted-at : IsGoodAt calls i → IsTrue (is_admitted statuses call)
-  admitted-at good = admitted-follows are call ∙ (ap (may_follow (take i calls)) read ∙ good call)
+  admitted-at good = admitted-follows (take i calls) statuses are call ∙ (ap (may_follow (take i calls)) read ∙ good call)
 
   -- a marker that it makes is one of all that the calls make
   pub room : IsTrue (makes_marker call) → length statuses < markers_of calls
@@ -54,7 +54,7 @@ position-none p xs d none k lt =
 module _ (calls : List Call) (statuses : List Status) (i : ℕ) (past : length calls ≤ i) (are : AreStatusesOf (take i calls) statuses) where
   -- a marker is open where its status says so
   pub opened-last : (m : ℕ) → is_status_open (status_at statuses m) ≡ is_open calls m
-  opened-last m = are.opened m ∙ ap (λ cs. is_open cs m) (take_all i calls past)
+  opened-last m = (are.each m).opened ∙ ap (λ cs. is_open cs m) (take_all i calls past)
 
   good-all : AreGoodBelow calls i → AreGoodBelow calls (length calls)
   good-all good k lt = good k (omega (arith, lt, past))

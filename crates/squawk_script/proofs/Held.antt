@@ -1,11 +1,10 @@
 -- The slots of a run are what the draft has, after each edit of it.
-use Rattle.std.proofs.Common.{◌≡◌, ◌≢◌, ℕ, Bool, true, false, inl, inr, List, [], ◌∷◌, ◌++◌, cond, arith, refl, subst}
+use Rattle.std.proofs.Common.{length, ◌<◌, ◌≡◌, ◌≢◌, ℕ, true, false, inl, inr, List, [], ◌∷◌, ◌++◌, arith, refl, subst}
 use Rattle.std.specs.Prelude.{Contains, slice_set}
-use Rattle.std.proofs.lemmas.Bool.{cases_eq}
+use Rattle.std.proofs.lemmas.Bool.{cases_eq, cond_both}
 use Rattle.std.proofs.lemmas.List.Elements.{All-contains, Contains-append_left, Contains-append_cases, Contains-push, Contains-push_cases}
 use Rattle.squawk_output.specs.Draft as draft
 use Rattle.squawk_output.specs.Draft.{Item, Mark, Node, HasNoHole, IsAboveIds, is_hole}
-use Rattle.squawk_output.specs.declared.log.Made.{Made}
 use Rattle.squawk_output.specs.declared.log.Made.TheVariants.{ByPrecede, ByStart}
 use Rattle.squawk_parser.specs.Recorded.{preceding_mark, started_mark}
 use Rattle.squawk_parser.specs.State.{State}
@@ -20,7 +19,7 @@ use Rattle.squawk_output.proofs.LogItems.{Contains-only}
 use Rattle.squawk_script.proofs.EditedItems.{Contains-made, edited-cases}
 use Rattle.squawk_script.proofs.OtherSlots.{before-new, before-spent, done-slot, held-append, held-holes, held-openings, hole-stayed, other-slot, others}
 use Rattle.squawk_script.proofs.OtherSlots.{same-mark}
-use Rattle.squawk_script.proofs.SlotLists.{Contains-set, each-push, each-set, pairs-push, pairs-set}
+use Rattle.squawk_script.proofs.SlotLists.{within, Contains-set, each-push, each-set, pairs-push, pairs-set}
 
 -- ---- an open marker's slot is spent
 
@@ -31,7 +30,7 @@ module _ (items new : List Item) (slots : List Slot) (k : ℕ) (m : Mark) (made 
       → ((o : Mark) → Contains new (draft.Hole o.id o.made) → (o.id ≢ m.id) × Contains items (draft.Hole o.id o.made))
       → Holds new (slice_set slots k made)
   holds-edited at holds rest here before behind left = record {
-    each = each-set Spent (IsHeld new) slots k made rest here tt;
+    each = each-set Spent (λ i. IsHeld new) slots k made (within Spent slots k (λ e. cc)) rest here;
     order = pairs-set Spent AreInOrder slots k made holds.order (λ slot. rw at (before slot)) (λ slot. rw at (behind slot));
     covers = λ o there.
         let stayed = left o there in
@@ -52,10 +51,7 @@ no-hole o id kind there = let same = Contains-only (draft.Hole o.id o.made) (dra
 -- nor is one that was preceded
 no-hole-preceded : (id : ℕ) (item : Item) (o : Mark) → is_opening_of id item ≡ true → preceded_item item ≡ draft.Hole o.id o.made → ⊥
 no-hole-preceded id (draft.Hole i made) o passes same = cc
-no-hole-preceded id (draft.Open i kind free) o passes same = cc
-no-hole-preceded id draft.Close o passes same = cc
-no-hole-preceded id (draft.Token kind n) o passes same = cc
-no-hole-preceded id (draft.Error text) o passes same = cc
+no-hole-preceded id item o passes same = cc
 
 -- ---- the edits
 
@@ -77,29 +73,25 @@ holds-put items made slots closed holds = record {
 -- a marker is started
 pub holds-started : (s : State) (slots : List Slot) (m : Mark) → m ≡ started_mark s → IsAboveIds s.draft.entries s.draft.items → Holds s.draft.items slots
     → Holds (s.draft.items ++ draft.Hole s.draft.entries ByStart ∷ []) (slots ++ Open m ∷ [])
-holds-started s slots m is above holds = rw is record {
-  each =
-      each-push Spent (IsHeld (items ++ hole ∷ [])) slots new (λ i. held-append items (hole ∷ []) (slot_at slots i) (holds.each i)) (Contains-push items hole) tt;
-  order = pairs-push Spent AreInOrder slots new holds.order (λ i. before-new items (started_mark s) (slot_at slots i) above (holds.each i)) before-spent;
-  covers = λ o there. elim (Contains-push_cases items hole (draft.Hole o.id o.made) there) [
-    | inl before ↦ Contains-append_left slots (new ∷ []) (Open o) (holds.covers o before)
-    | inr same ↦ subst (Contains (slots ++ new ∷ [])) (same-mark (started_mark s) o (cc) (cc)) (Contains-push slots new)
-  ];
-}
-  where
-    items : List Item
-    items = s.draft.items
-
-    hole : Item
-    hole = draft.Hole s.draft.entries ByStart
-
-    new : Slot
-    new = Open (started_mark s)
+holds-started s slots m is above holds =
+    let items : List Item = s.draft.items in
+    let hole : Item = draft.Hole s.draft.entries ByStart in
+    let new : Slot = Open (started_mark s) in
+    rw is record {
+      each =
+          each-push Spent (λ i. IsHeld (items ++ hole ∷ [])) slots new (λ i off. held-append items (hole ∷ []) (slot_at slots i) (holds.each i)) (Contains-push items hole);
+      order = pairs-push Spent AreInOrder slots new holds.order (λ i. before-new items (started_mark s) (slot_at slots i) above (holds.each i)) before-spent;
+      covers = λ o there. elim (Contains-push_cases items hole (draft.Hole o.id o.made) there) [
+        | inl before ↦ Contains-append_left slots (new ∷ []) (Open o) (holds.covers o before)
+        | inr same ↦ subst (Contains (slots ++ new ∷ [])) (same-mark (started_mark s) o (cc) (cc)) (Contains-push slots new)
+      ];
+    }
 
 -- completed
 pub holds-completed : (items : List Item) (slots : List Slot) (k kind : ℕ) (m : Mark) → slot_at slots k ≡ Open m → Holds items slots
     → Holds (filled items m.id kind ++ draft.Close ∷ []) (slice_set slots k (Done (record { id = m.id; kind = kind })))
 holds-completed items slots k kind m at holds =
+    let f : Item → List Item = λ item. draft.Open m.id kind true ∷ [] in
     holds-edited items (filled items m.id kind ++ draft.Close ∷ []) slots k m node at holds
     (λ i other. held-append (filled items m.id kind) (draft.Close ∷ []) (slot_at slots i)
     (held-holes m.id f items (slot_at slots i) (others slots k m.id (rw at refl) holds.order i other) (holds.each i)))
@@ -113,13 +105,9 @@ holds-completed items slots k kind m at holds =
     node : Slot
     node = Done (record { id = m.id; kind = kind })
 
-    f : Item → List Item
-    f item = draft.Open m.id kind true ∷ []
-
     before-done : (slot : Slot) → AreInOrder slot (Open m) → AreInOrder slot node
-    before-done (Open o) lt = lt
-    before-done (Done n) lt = lt
-    before-done Spent lt = tt
+    before-done Spent lt = lt
+    before-done slot lt = lt
 
 -- abandoned
 pub holds-abandoned : (items : List Item) (slots : List Slot) (k : ℕ) (m : Mark) → slot_at slots k ≡ Open m → Holds items slots
@@ -133,45 +121,36 @@ holds-abandoned items slots k m at holds =
 -- a node is preceded
 pub holds-preceded : (s : State) (slots : List Slot) (k : ℕ) (n : Node) (m : Mark) → slot_at slots k ≡ Done n → m ≡ preceding_mark s
     → IsAboveIds s.draft.entries s.draft.items → Holds s.draft.items slots → Holds (preceded s.draft n.id).items (slice_set slots k Spent ++ Open m ∷ [])
-holds-preceded s slots k n m at is above holds = rw is record {
-  each =
-      each-push Spent (IsHeld edited) (slice_set slots k Spent) new
-      (each-set Spent (IsHeld edited) slots k Spent
-      (λ i other. held-openings n.id f items (slot_at slots i) (others slots k n.id (rw at refl) holds.order i other) (holds.each i)) tt tt)
-      (Contains-made (is_opening_of n.id) f (draft.Open n.id n.kind true) hole items (itself n.id) (subst (IsHeld items) at (holds.each k)) (0, omega arith, refl))
-      tt;
-  order =
-      pairs-push Spent AreInOrder (slice_set slots k Spent) new
-      (pairs-set Spent AreInOrder slots k Spent holds.order (λ slot lt. before-spent slot) (λ slot lt. tt))
-      (each-set Spent (λ slot. AreInOrder slot new) slots k Spent (λ i other. before-new items (preceding_mark s) (slot_at slots i) above (holds.each i)) tt tt)
-      before-spent;
-  covers = λ o there. elim (edited-cases (is_opening_of n.id) f items (draft.Hole o.id o.made) there) [
-    | inl from ↦ elim (Contains-append_cases (hole ∷ []) (preceded_item from.old ∷ []) (draft.Hole o.id o.made) from.gives) [
-      | inl here ↦
-          let same = Contains-only (draft.Hole o.id o.made) hole here in
-          subst (Contains (slice_set slots k Spent ++ new ∷ [])) (same-mark (preceding_mark s) o (cc) (cc)) (Contains-push (slice_set slots k Spent) new)
-      | inr opening ↦ absurd (no-hole-preceded n.id from.old o from.passes (Contains-only (draft.Hole o.id o.made) (preceded_item from.old) opening))
-    ]
-    | inr stayed ↦
-        Contains-append_left (slice_set slots k Spent) (new ∷ []) (Open o)
-        (Contains-set Spent (Open o) slots k Spent (done-slot slots k n o at) (holds.covers o stayed.1))
-  ];
-}
-  where
-    items : List Item
-    items = s.draft.items
-
-    hole : Item
-    hole = draft.Hole s.draft.entries ByPrecede
-
-    f : Item → List Item
-    f item = hole ∷ preceded_item item ∷ []
-
-    edited : List Item
-    edited = replaced (is_opening_of n.id) f items
-
-    new : Slot
-    new = Open (preceding_mark s)
+holds-preceded s slots k n m at is above holds =
+    let items : List Item = s.draft.items in
+    let hole : Item = draft.Hole s.draft.entries ByPrecede in
+    let f : Item → List Item = λ item. hole ∷ preceded_item item ∷ [] in
+    let edited : List Item = replaced (is_opening_of n.id) f items in
+    let lt : k < length slots = within Spent slots k (λ e. cc) in
+    let new : Slot = Open (preceding_mark s) in
+    rw is record {
+      each =
+          each-push Spent (λ i. IsHeld edited) (slice_set slots k Spent) new
+          (λ i off. each-set Spent (λ i. IsHeld edited) slots k Spent lt
+          (λ i other. held-openings n.id f items (slot_at slots i) (others slots k n.id (rw at refl) holds.order i other) (holds.each i)) tt i)
+          (Contains-made (is_opening_of n.id) f (draft.Open n.id n.kind true) hole items (itself n.id) (subst (IsHeld items) at (holds.each k)) (0, omega arith, refl));
+      order =
+          pairs-push Spent AreInOrder (slice_set slots k Spent) new
+          (pairs-set Spent AreInOrder slots k Spent holds.order (λ slot lt. before-spent slot) (λ slot lt. tt))
+          (each-set Spent (λ i slot. AreInOrder slot new) slots k Spent lt (λ i other. before-new items (preceding_mark s) (slot_at slots i) above (holds.each i)) tt)
+          before-spent;
+      covers = λ o there. elim (edited-cases (is_opening_of n.id) f items (draft.Hole o.id o.made) there) [
+        | inl from ↦ elim (Contains-append_cases (hole ∷ []) (preceded_item from.old ∷ []) (draft.Hole o.id o.made) from.gives) [
+          | inl here ↦
+              let same = Contains-only (draft.Hole o.id o.made) hole here in
+              subst (Contains (slice_set slots k Spent ++ new ∷ [])) (same-mark (preceding_mark s) o (cc) (cc)) (Contains-push (slice_set slots k Spent) new)
+          | inr opening ↦ absurd (no-hole-preceded n.id from.old o from.passes (Contains-only (draft.Hole o.id o.made) (preceded_item from.old) opening))
+        ]
+        | inr stayed ↦
+            Contains-append_left (slice_set slots k Spent) (new ∷ []) (Open o)
+            (Contains-set Spent (Open o) slots k Spent (done-slot slots k n o at) (holds.covers o stayed.1))
+      ];
+    }
 
 -- the opening of a node moves to the place of a hole
 holds-moved : (items : List Item) (slots : List Slot) (j k : ℕ) (n : Node) (m : Mark) → slot_at slots j ≡ Done n → slot_at slots k ≡ Open m
@@ -209,8 +188,6 @@ holds-moved items slots j k n m at_node at holds =
 -- a node is extended to a marker
 pub holds-extended : (items : List Item) (slots : List Slot) (j k : ℕ) (n : Node) (m : Mark) → slot_at slots j ≡ Done n → slot_at slots k ≡ Open m
     → Holds items slots → Holds (extended_items n m.id items) (slice_set slots k Spent)
-holds-extended items slots j k n m at_node at holds = cases (stands_before (is_hole_of m.id) (is_opening_of n.id) items)
-  where
-    cases : (b : Bool) → Holds (cond b (moved n m.id items) (without_hole m.id items)) (slice_set slots k Spent)
-    cases true = holds-moved items slots j k n m at_node at holds
-    cases false = holds-abandoned items slots k m at holds
+holds-extended items slots j k n m at_node at holds =
+    cond_both (stands_before (is_hole_of m.id) (is_opening_of n.id) items) (moved n m.id items) (without_hole m.id items)
+    (λ edited. Holds edited (slice_set slots k Spent)) (λ e. holds-moved items slots j k n m at_node at holds) (λ e. holds-abandoned items slots k m at holds)

@@ -4,7 +4,6 @@ mod Refusals
 mod EditedItems
 mod OtherSlots
 mod Held
-mod Sides
 mod MarkerCalls
 mod StepCalls
 mod OneStatus

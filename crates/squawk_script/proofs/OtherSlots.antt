@@ -1,13 +1,13 @@
 -- What the slots of other ids have where the items of one id are edited.
 use Rattle.std.proofs.Common.{◌≡◌, ◌≢◌, ◌∙◌, ℕ, ◌<◌, true, inl, inr, List, [], ◌++◌, arith, refl, sym}
-use Rattle.std.specs.Prelude.{Contains, ⊤}
+use Rattle.std.specs.Prelude.{Contains}
 use Rattle.std.proofs.lemmas.Bool.{cases_order, eq-eqb, ne_eqb}
 use Rattle.std.proofs.lemmas.List.Elements.{Contains-append_left, Contains-push}
 use Rattle.squawk_output.specs.Draft as draft
 use Rattle.squawk_output.specs.Draft.{Item, Mark, Node, IsAboveIds}
 use Rattle.squawk_output.specs.Edits.{is_hole_of, is_opening_of, replaced}
 use Rattle.squawk_parser.proofs.Markers.{Contains-others}
-use Rattle.squawk_script.specs.Slots.{IsHeld, IsBelow, AreInOrder, slot_at}
+use Rattle.squawk_script.specs.Slots.{IsHeld, AreInOrder, slot_at}
 use Rattle.squawk_script.specs.declared.slot.Slot.{Slot}
 use Rattle.squawk_script.specs.declared.slot.Slot.TheVariants.{Open, Done, Spent}
 use Rattle.squawk_script.proofs.EditedItems.{edited-cases, id-below}
@@ -20,39 +20,19 @@ HasId id (Open m) = m.id ≡ id
 HasId id (Done n) = n.id ≡ id
 HasId id Spent = ⊥
 
--- it has another id, or none
-abbrev HasOther : ℕ → Slot → Type 0
-HasOther id (Open m) = m.id ≢ id
-HasOther id (Done n) = n.id ≢ id
-HasOther id Spent = ⊤
-
-below-id : (id i : ℕ) (slot : Slot) → HasId id slot → IsBelow i slot → i < id
-below-id id i (Open m) has lt = omega (arith, has, lt)
-below-id id i (Done n) has lt = omega (arith, has, lt)
-below-id id i Spent has lt = absurd has
-
-other-before : (id : ℕ) (slot next : Slot) → HasId id next → AreInOrder slot next → HasOther id slot
-other-before id (Open m) next has lt = λ e. absurd (omega (arith, e, below-id id m.id next has lt))
-other-before id (Done n) next has lt = λ e. absurd (omega (arith, e, below-id id n.id next has lt))
-other-before id Spent next has lt = tt
-
-above-id : (id i : ℕ) (slot : Slot) → i ≡ id → IsBelow i slot → HasOther id slot
-above-id id i (Open m) same lt = λ e. absurd (omega (arith, e, same, lt))
-above-id id i (Done n) same lt = λ e. absurd (omega (arith, e, same, lt))
-above-id id i Spent same lt = tt
-
-other-behind : (id : ℕ) (last slot : Slot) → HasId id last → AreInOrder last slot → HasOther id slot
-other-behind id (Open m) slot has lt = above-id id m.id slot has lt
-other-behind id (Done n) slot has lt = above-id id n.id slot has lt
-other-behind id Spent slot has lt = absurd has
+-- two slots in order have not both this id
+never-both : (id : ℕ) (one other : Slot) → AreInOrder one other → HasId id one → HasId id other → ⊥
+never-both id Spent other lt first second = first
+never-both id one Spent lt first second = second
+never-both id one other lt first second = omega (arith, lt, first, second)
 
 -- the slots at other places than this one's have other ids
 pub others : (slots : List Slot) (k id : ℕ) → HasId id (slot_at slots k) → ((i j : ℕ) → i < j → AreInOrder (slot_at slots i) (slot_at slots j))
-    → (i : ℕ) → i ≢ k → HasOther id (slot_at slots i)
-others slots k id has order i other = elim (cases_order i k) [
-  | inl same ↦ absurd (other same)
-  | inr (inl lt) ↦ other-before id (slot_at slots i) (slot_at slots k) has (order i k lt)
-  | inr (inr gt) ↦ other-behind id (slot_at slots k) (slot_at slots i) has (order k i gt)
+    → (i : ℕ) → i ≢ k → HasId id (slot_at slots i) → ⊥
+others slots k id has order i other same = elim (cases_order i k) [
+  | inl at ↦ other at
+  | inr (inl lt) ↦ never-both id (slot_at slots i) (slot_at slots k) (order i k lt) same has
+  | inr (inr gt) ↦ never-both id (slot_at slots k) (slot_at slots i) (order k i gt) has same
 ]
 
 -- an open marker's slot isn't another's
@@ -75,14 +55,14 @@ held-append items made (Done n) there = Contains-append_left items made (draft.O
 held-append items made Spent there = tt
 
 -- what has another id than the edited hole
-pub held-holes : (id : ℕ) (f : Item → List Item) (items : List Item) (slot : Slot) → HasOther id slot → IsHeld items slot
+pub held-holes : (id : ℕ) (f : Item → List Item) (items : List Item) (slot : Slot) → (HasId id slot → ⊥) → IsHeld items slot
     → IsHeld (replaced (is_hole_of id) f items) slot
 held-holes id f items (Open m) other there = Contains-others (is_hole_of id) f (draft.Hole m.id m.made) items (ne_eqb m.id id other) there
 held-holes id f items (Done n) other there = Contains-others (is_hole_of id) f (draft.Open n.id n.kind true) items refl there
 held-holes id f items Spent other there = tt
 
 -- or than the edited opening
-pub held-openings : (id : ℕ) (f : Item → List Item) (items : List Item) (slot : Slot) → HasOther id slot → IsHeld items slot
+pub held-openings : (id : ℕ) (f : Item → List Item) (items : List Item) (slot : Slot) → (HasId id slot → ⊥) → IsHeld items slot
     → IsHeld (replaced (is_opening_of id) f items) slot
 held-openings id f items (Open m) other there = Contains-others (is_opening_of id) f (draft.Hole m.id m.made) items refl there
 held-openings id f items (Done n) other there = Contains-others (is_opening_of id) f (draft.Open n.id n.kind true) items (ne_eqb n.id id other) there
@@ -95,9 +75,8 @@ before-new items m (Done n) above there = id-below m.id n.id (draft.Open n.id n.
 before-new items m Spent above there = tt
 
 pub before-spent : (slot : Slot) → AreInOrder slot Spent
-before-spent (Open m) = tt
-before-spent (Done n) = tt
 before-spent Spent = tt
+before-spent slot = tt
 
 -- a hole that was edited away isn't one of those that are left
 pub hole-stayed : (id : ℕ) (f : Item → List Item) (items : List Item) (o : Mark) → ((item : Item) → Contains (f item) (draft.Hole o.id o.made) → ⊥)

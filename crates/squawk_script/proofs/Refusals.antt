@@ -1,5 +1,5 @@
 -- Which event of a run the limits of its parser refuse.
-use Rattle.std.proofs.Common.{◌≡◌, ◌∙◌, ◌⊎◌, inl, inr, ℕ, zero, suc, ◌+◌, ◌<◌, ◌≤◌, Bool, true, false, Option, Some, None, List, [], ◌∷◌, ◌++◌, length, map, take, arith, ap, sym, refl, subst, append_assoc, length-append}
+use Rattle.std.proofs.Common.{◌≡◌, ◌∙◌, inl, inr, ℕ, zero, suc, ◌+◌, ◌<◌, ◌≤◌, Bool, true, false, Option, Some, None, List, [], ◌∷◌, ◌++◌, length, map, take, arith, ap, sym, refl, subst, append_assoc, length-append}
 use Rattle.std.specs.Prelude.{◌≢◌}
 use Rattle.std.proofs.Math.Seq.{take-append_seam}
 use Rattle.std.proofs.lemmas.Bool.{cases_lt, le-ltb, lt-ltb}
@@ -34,12 +34,13 @@ module _ (events errors : ℕ) (es : List Bool) where
   is-none (few, fit) = rw (le-ltb errors (errors_among (take events es)) few, le-ltb events (length es) fit) refl
 
   pub tells : (answer : Option ParseError) → refusal events errors es ≡ answer → Tells answer
-  tells answer is = subst Tells is (cases (cases_lt errors (errors_among (take events es))) (cases_lt events (length es)))
-    where
-      cases : (errors < errors_among (take events es)) ⊎ (errors_among (take events es) ≤ errors) → (events < length es) ⊎ (length es ≤ events) → Tells (refusal events errors es)
-      cases (inl many) size = subst Tells (sym (is-errors many)) many
-      cases (inr few) (inl more) = subst Tells (sym (is-events (few, more))) (few, more)
-      cases (inr few) (inr fit) = subst Tells (sym (is-none (few, fit))) (few, fit)
+  tells answer is = subst Tells is (elim (cases_lt errors (errors_among (take events es))) [
+    | inl many ↦ subst Tells (sym (is-errors many)) many
+    | inr few ↦ elim (cases_lt events (length es)) [
+      | inl more ↦ subst Tells (sym (is-events (few, more))) (few, more)
+      | inr fit ↦ subst Tells (sym (is-none (few, fit))) (few, fit)
+    ]
+  ])
 
 -- ---- some events, and more behind them
 

@@ -1,9 +1,9 @@
 -- Where a run of calls stands, before the call at a place.
-use Rattle.std.proofs.Common.{◌≡◌, ◌∙◌, ℕ, ◌+◌, ◌<◌, ◌≤◌, Bool, true, false, Option, Some, None, List, [], ◌∷◌, ◌++◌, length, get_or, take, arith, ap, sym, refl, subst}
+use Rattle.std.proofs.Common.{◌≡◌, ◌∙◌, ℕ, ◌+◌, ◌<◌, ◌≤◌, Bool, true, false, Option, Some, None, List, [], ◌∷◌, ◌++◌, length, get_or, take, ap, sym, refl, subst}
 use Rattle.std.specs.Prelude.{◌≢◌, Contains, IsTrue}
 use Rattle.std.proofs.Math.ListN.{get_or-map}
 use Rattle.std.proofs.lemmas.List.{get_or_default, take_all}
-use Rattle.std.proofs.lemmas.List.Elements.{All-cons, All-nil, Contains-append_right}
+use Rattle.std.proofs.lemmas.List.Elements.{All-contains_itself, All-weaker}
 use Rattle.std.proofs.lemmas.List.Sums.{fold-append}
 use Rattle.squawk_table.specs.ParserInput.{Entry}
 use Rattle.squawk_output.specs.Draft as draft
@@ -109,20 +109,13 @@ module _ (start : State) (calls : List Call) (s : State) (slots : List Slot) (i 
 
 -- ---- behind the last call
 
-abbrev no_hole : Item → Type 0
-no_hole item = is_hole item ≡ false
-
-never-behind : (item : Item) (items : List Item) → ((m : Mark) → Contains (item ∷ items) (draft.Hole m.id m.made) → ⊥) → (m : Mark) → Contains items (draft.Hole m.id m.made) → ⊥
-never-behind item items never m there = never m (Contains-append_right (item ∷ []) items (draft.Hole m.id m.made) there)
-
 -- items without a hole of any marker have none
 none : (items : List Item) → ((m : Mark) → Contains items (draft.Hole m.id m.made) → ⊥) → HasNoHole items
-none [] never = All-nil no_hole
-none (draft.Hole i made ∷ items) never = absurd (never (record { id = i; made = made }) (0, omega arith, refl))
-none (draft.Open i kind free ∷ items) never = All-cons no_hole (draft.Open i kind free) items refl (none items (never-behind (draft.Open i kind free) items never))
-none (draft.Close ∷ items) never = All-cons no_hole draft.Close items refl (none items (never-behind draft.Close items never))
-none (draft.Token kind n ∷ items) never = All-cons no_hole (draft.Token kind n) items refl (none items (never-behind (draft.Token kind n) items never))
-none (draft.Error text ∷ items) never = All-cons no_hole (draft.Error text) items refl (none items (never-behind (draft.Error text) items never))
+none items never = All-weaker (Contains items) (λ item. is_hole item ≡ false) each items (All-contains_itself items)
+  where
+    each : (item : Item) → Contains items item → is_hole item ≡ false
+    each (draft.Hole i made) there = absurd (never (record { id = i; made = made }) there)
+    each item there = refl
 
 -- a slot that is open
 open-slot : (slots : List Slot) (m : Mark) → ((i : ℕ) → is_status_open (status_of (slot_at slots i)) ≡ false) → Contains slots (Open m) → ⊥
