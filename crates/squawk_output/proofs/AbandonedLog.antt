@@ -85,10 +85,7 @@ module _ (log : Log) (marks : List Bool) (recorded errors : ℕ) (is : IsRecord 
               and-false (i == id) (is_last_start (length log) (Hole i how)) (ap (is_last_start (length log)) same ∙ stays)
           | inr e ↦ rw (ne_eqb i id e.1) refl
         ]
-    none_goes (Open i kind free) there = refl
-    none_goes Close there = refl
-    none_goes (Token kind n) there = refl
-    none_goes (Error text) there = refl
+    none_goes item there = refl
 
     pub draft_of-cleared : draft_of log (set marks id false) recorded ≡ abandoned (draft_of log marks recorded) id
     draft_of-cleared =
@@ -142,10 +139,7 @@ module _ (log : Log) (marks : List Bool) (recorded errors : ℕ) (is : IsRecord 
   none_below : (item : Item) → Contains (draft_items log marks) item → takes_entry (length log) (length whole) item ≡ false
   none_below (Hole i how) there =
       let found = IsHoleAt-found log marks i how there in rw (ne_eqb i (length log) (λ e. absurd (omega (arith, e, found.within)))) refl
-  none_below (Open i kind free) there = refl
-  none_below Close there = refl
-  none_below (Token kind n) there = refl
-  none_below (Error text) there = refl
+  none_below item there = refl
 
   one_goes : entries_gone (draft_of whole whole_marks recorded) (length log) ≡ 1
   one_goes =

@@ -25,10 +25,7 @@ either_way false xs ys e h = h
 module _ (id : ℕ) (put : List Item) (none : errors_of put ≡ 0) where
   hole_step : (item : Item) → errors_of (if is_hole_of id item then put else item ∷ []) ≡ errors_of (item ∷ [])
   hole_step (Hole i made) = either_way (i == id) put (Hole i made ∷ []) none refl
-  hole_step (Open i k free) = refl
-  hole_step Close = refl
-  hole_step (Token k n) = refl
-  hole_step (Error text) = refl
+  hole_step item = refl
 
   errors-at_hole : (items : List Item) → errors_of (replaced (is_hole_of id) (λ item. put) items) ≡ errors_of items
   errors-at_hole = errors-replaced (is_hole_of id) (λ item. put) hole_step
@@ -43,9 +40,7 @@ module _ (node id : ℕ) (made : Made) where
   preceded_step : (item : Item) → errors_of (if is_opening_of node item then Hole id made ∷ preceded_item item ∷ [] else item ∷ []) ≡ errors_of (item ∷ [])
   preceded_step (Hole i how) = refl
   preceded_step (Open i k free) = either_way (i == node) (Hole id made ∷ Open i k false ∷ []) (Open i k free ∷ []) refl refl
-  preceded_step Close = refl
-  preceded_step (Token k n) = refl
-  preceded_step (Error text) = refl
+  preceded_step item = refl
 
   pub errors-preceded : (items : List Item) → errors_of (replaced (is_opening_of node) (λ item. Hole id made ∷ preceded_item item ∷ []) items) ≡ errors_of items
   errors-preceded = errors-replaced (is_opening_of node) (λ item. Hole id made ∷ preceded_item item ∷ []) preceded_step
@@ -53,9 +48,7 @@ module _ (node id : ℕ) (made : Made) where
   gone_step : (item : Item) → errors_of (if is_opening_of node item then [] else item ∷ []) ≡ errors_of (item ∷ [])
   gone_step (Hole i how) = refl
   gone_step (Open i k free) = either_way (i == node) [] (Open i k free ∷ []) refl refl
-  gone_step Close = refl
-  gone_step (Token k n) = refl
-  gone_step (Error text) = refl
+  gone_step item = refl
 
   errors-gone : (items : List Item) → errors_of (replaced (is_opening_of node) (λ item. []) items) ≡ errors_of items
   errors-gone = errors-replaced (is_opening_of node) (λ item. []) gone_step

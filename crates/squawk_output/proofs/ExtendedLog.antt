@@ -29,9 +29,7 @@ no_hole id place made (Start kind link) false ne = cases (kind == TOMBSTONE) (no
     cases : (whole free : Bool) → list_any (is_hole_of id) (opening_if whole place kind free) ≡ false
     cases true free = refl
     cases false free = refl
-no_hole id place made Finish mark ne = refl
-no_hole id place made (Token kind n) mark ne = refl
-no_hole id place made (Error text) mark ne = refl
+no_hole id place made event mark ne = refl
 
 no_opening : (id place : ℕ) (made : Made) (event : Event) (mark : Bool) → place ≢ id → list_any (is_opening_of id) (items_of place made event mark) ≡ false
 no_opening id place made (Start kind link) true ne = refl
@@ -40,9 +38,7 @@ no_opening id place made (Start kind link) false ne = cases (kind == TOMBSTONE) 
     cases : (whole free : Bool) → list_any (is_opening_of id) (opening_if whole place kind free) ≡ false
     cases true free = refl
     cases false free = rw (ne_eqb place id ne) refl
-no_opening id place made Finish mark ne = refl
-no_opening id place made (Token kind n) mark ne = refl
-no_opening id place made (Error text) mark ne = refl
+no_opening id place made event mark ne = refl
 
 module _ (log : Log) (marks : List Bool) (id node kind d : ℕ) (same : length marks ≡ length log) (far : node ≡ id + suc d) (hole : get_or log id Finish ≡ tombstone)
     (marked : get_or marks id false ≡ true) (is : IsNodeAt log marks node kind) where

@@ -29,9 +29,7 @@ hole-elsewhere id place made (Start kind link) false f ne = cases (kind == TOMBS
     cases : (whole free : Bool) → replaced (is_hole_of id) f (opening_if whole place kind free) ≡ opening_if whole place kind free
     cases true free = refl
     cases false free = refl
-hole-elsewhere id place made Finish mark f ne = refl
-hole-elsewhere id place made (Token kind n) mark f ne = refl
-hole-elsewhere id place made (Error text) mark f ne = refl
+hole-elsewhere id place made event mark f ne = refl
 
 pub opening-elsewhere : (id place : ℕ) (made : Made) (event : Event) (mark : Bool) (f : Item → List Item) → place ≢ id
     → replaced (is_opening_of id) f (items_of place made event mark) ≡ items_of place made event mark
@@ -41,9 +39,7 @@ opening-elsewhere id place made (Start kind link) false f ne = cases (kind == TO
     cases : (whole free : Bool) → replaced (is_opening_of id) f (opening_if whole place kind free) ≡ opening_if whole place kind free
     cases true free = refl
     cases false free = rw (ne_eqb place id ne) refl
-opening-elsewhere id place made Finish mark f ne = refl
-opening-elsewhere id place made (Token kind n) mark f ne = refl
-opening-elsewhere id place made (Error text) mark f ne = refl
+opening-elsewhere id place made event mark f ne = refl
 
 -- ---- what an item says of its event
 

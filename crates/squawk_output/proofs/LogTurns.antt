@@ -18,9 +18,7 @@ turns_of-cons event log = omega (arith, count_by-cons is_start event log, count_
 turns_at-most : (event : Event) → turns_at event ≤ 4
 turns_at-most (Start kind None) = omega arith
 turns_at-most (Start kind (Some distance)) = omega arith
-turns_at-most Finish = omega arith
-turns_at-most (Token kind n) = omega arith
-turns_at-most (Error text) = omega arith
+turns_at-most event = omega arith
 
 -- an event brings four turns at most: one, one more for a Start, and two for its link
 pub turns_of-most : (log : Log) → turns_of log ≤ 4 * length log

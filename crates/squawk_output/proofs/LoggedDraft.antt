@@ -30,9 +30,7 @@ one_item place made (Start kind link) false = cases (kind == TOMBSTONE) (not (ha
     cases : (whole free : Bool) → length (opening_if whole place kind free) ≤ 1
     cases true free = omega arith
     cases false free = omega arith
-one_item place made Finish mark = omega arith
-one_item place made (Token kind n) mark = omega arith
-one_item place made (Error text) mark = omega arith
+one_item place made event mark = omega arith
 
 length-draft_items : (log : Log) (marks : List Bool) → length (draft_items log marks) ≤ length log
 length-draft_items log marks =
@@ -69,9 +67,7 @@ module _ (id : ℕ) where
       cases : (whole free : Bool) → times (opening_if whole place kind free) ≤ (if id == place then 1 else 0)
       cases true free = omega arith
       cases false free = once_there place
-  times-items_of place made Finish mark = omega arith
-  times-items_of place made (Token kind n) mark = omega arith
-  times-items_of place made (Error text) mark = omega arith
+  times-items_of place made event mark = omega arith
 
   times-draft_items : (log : Log) (marks : List Bool) → times (draft_items log marks) ≤ total (λ j. if id == j then 1 else 0) (length log)
   times-draft_items log marks =

@@ -25,9 +25,7 @@ plain-opening false place kind free = refl
 plain-item : (place : ℕ) (made : Made) (event : Event) (mark : Bool) → (mark ≡ true → event ≡ tombstone) → plain (items_of place made event mark) ≡ steps_of_event event
 plain-item place made (Start kind link) true h = sym (ap steps_of_event (h refl))
 plain-item place made (Start kind link) false h = plain-opening (kind == TOMBSTONE) place kind (not (has_link (Start kind link)))
-plain-item place made Finish mark h = refl
-plain-item place made (Token kind n) mark h = refl
-plain-item place made (Error text) mark h = refl
+plain-item place made event mark h = refl
 
 pub plain-draft_items : (log : Log) (marks : List Bool) → ((place : ℕ) → place < length log → get_or marks place false ≡ true → get_or log place Finish ≡ tombstone)
     → plain (draft_items log marks) ≡ list_of log

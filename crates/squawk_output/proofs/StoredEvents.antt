@@ -5,6 +5,7 @@ use Rattle.std.proofs.Math.ListN.{get_or-append}
 use Rattle.std.proofs.Math.Seq.{get_or-append_seam}
 use Rattle.std.proofs.lemmas.List.{get_or-map, length-map, map-append, map-set}
 use Rattle.std.proofs.lemmas.List.Elements.{All-append, All-cons, All-nil, All-set, All-tail}
+use Rattle.std.proofs.lemmas.List.Sums.{count_by-le-length}
 use Rattle.squawk_output.specs.declared.event.Event.{Event}
 use Rattle.squawk_output.specs.declared.event.Event.TheVariants as event
 use Rattle.squawk_output.specs.declared.log.stored_event.StoredEvent.{StoredEvent}
@@ -48,18 +49,12 @@ module _ (texts : List (List ℕ)) (text : List ℕ) where
   more = texts ++ text ∷ []
 
   event_of-more : (x : StoredEvent) → HasEventText texts x → event_of more x ≡ event_of texts x
-  event_of-more Hole has = refl
-  event_of-more (Start kind link) has = refl
-  event_of-more Finish has = refl
-  event_of-more (Token kind n) has = refl
   event_of-more (Error number) has = ap event.Error (get_or-append texts (text ∷ []) [] number has)
+  event_of-more other has = refl
 
   HasEventText-more : (x : StoredEvent) → HasEventText texts x → HasEventText more x
-  HasEventText-more Hole has = tt
-  HasEventText-more (Start kind link) has = tt
-  HasEventText-more Finish has = tt
-  HasEventText-more (Token kind n) has = tt
   HasEventText-more (Error number) has = omega (arith, length-append texts (text ∷ []), has)
+  HasEventText-more other has = tt
 
   log_in-more : (events : List StoredEvent) → HaveEventTexts texts events → log_in more events ≡ log_in texts events
   log_in-more [] have = refl
@@ -103,9 +98,7 @@ link_of-none (suc n) none distance is = absurd (omega arith)
 -- a Start has its kind and its link
 start-is : (x : Event) → is_start x ≡ true → x ≡ event.Start (node_kind x) (forward_parent x)
 start-is (event.Start kind link) is = refl
-start-is event.Finish is = absurd (cc)
-start-is (event.Token kind n) is = absurd (cc)
-start-is (event.Error text) is = absurd (cc)
+start-is other is = absurd (cc)
 
 -- where a link lands, an event is found that is a Start
 module _ (texts : List (List ℕ)) (events : List StoredEvent) (at next : ℕ) (more : 0 < next) (lands : LandsAt (log_in texts events) (hop at (link_of next))) where
@@ -125,14 +118,7 @@ module _ (texts : List (List ℕ)) (events : List StoredEvent) (at next : ℕ) (
 pub leads_on : (x : Event) (log : Log) → Lands x log → LeadsOn x
 leads_on (event.Start kind None) log lands = tt
 leads_on (event.Start kind (Some distance)) log lands = lands.0
-leads_on event.Finish log lands = tt
-leads_on (event.Token kind n) log lands = tt
-leads_on (event.Error text) log lands = tt
+leads_on other log lands = tt
 
 pub errors_logged-most : (log : Log) → errors_logged log ≤ length log
-errors_logged-most [] = omega arith
-errors_logged-most (x ∷ xs) = omega (arith, count_by-cons is_error_event x xs, one_if-most (is_error_event x), errors_logged-most xs)
-  where
-    one_if-most : (b : Bool) → one_if b ≤ 1
-    one_if-most true = omega arith
-    one_if-most false = omega arith
+errors_logged-most log = count_by-le-length is_error_event log

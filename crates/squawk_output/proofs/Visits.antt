@@ -22,9 +22,7 @@ entered-chain None (x ∷ xs) links lands = refl
 entered-chain (Some zero) (Start kind None ∷ xs) links lands = ap (λ ys. ys ++ entering kind) (entered-chain None xs links.1 tt)
 entered-chain (Some zero) (Start kind (Some distance) ∷ xs) links lands =
     ap (λ ys. ys ++ entering kind) (entered-chain (ahead (Start kind (Some distance))) xs links.1 links.0.1)
-entered-chain (Some zero) (Finish ∷ xs) links lands = absurd (cc)
-entered-chain (Some zero) (Token kind n ∷ xs) links lands = absurd (cc)
-entered-chain (Some zero) (Error text ∷ xs) links lands = absurd (cc)
+entered-chain (Some zero) (x ∷ xs) links lands = absurd (cc)
 entered-chain (Some (suc n)) (x ∷ xs) links lands = entered-chain (Some n) xs links.1 lands
 
 -- the turns of a link
@@ -57,9 +55,7 @@ turns-chain (Some zero) (Start kind (Some distance) ∷ xs) links lands =
       turns_of-cons tombstone (erased on xs),
       turns-chain on xs links.1 links.0.1,
     )
-turns-chain (Some zero) (Finish ∷ xs) links lands = absurd (cc)
-turns-chain (Some zero) (Token kind n ∷ xs) links lands = absurd (cc)
-turns-chain (Some zero) (Error text ∷ xs) links lands = absurd (cc)
+turns-chain (Some zero) (x ∷ xs) links lands = absurd (cc)
 turns-chain (Some (suc n)) (x ∷ xs) links lands =
     omega (arith, turns_of-cons x xs, turns_of-cons x (erased (Some n) xs), turns-chain (Some n) xs links.1 lands)
 
