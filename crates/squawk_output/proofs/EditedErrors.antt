@@ -1,7 +1,7 @@
 -- The errors of a draft stay where holes and openings are edited.
 use Rattle.std.proofs.Common.{◌≡◌, ℕ, ◌+◌, ◌==◌, Bool, true, false, List, [], ◌∷◌, ◌++◌, cond, if◌then◌else◌, refl, sym, ap, ◌∙◌}
 use Rattle.std.proofs.lemmas.List.Sums.{sum_by-append}
-use Rattle.squawk_output.specs.Draft.{Item, Hole, Open, Close, Token, Error, errors_of, is_error_item, Node}
+use Rattle.squawk_output.specs.Draft.{Item, Hole, Open, errors_of, is_error_item, Node}
 use Rattle.squawk_output.specs.declared.log.Made.{Made}
 use Rattle.squawk_output.specs.declared.log.Made.TheVariants.{ByStart}
 use Rattle.squawk_output.specs.Edits.{filled, is_hole_of, is_opening_of, replaced, preceded_item, without_hole, stands_before, moved, extended_items}

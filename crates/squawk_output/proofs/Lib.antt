@@ -29,6 +29,5 @@ pub mod EditedLog
 pub mod AbandonedLog
 pub mod Sizes
 pub mod LoggedDraft
-pub mod FoundHoles
 pub mod KeptLog
 pub mod DraftExamples

@@ -2,7 +2,7 @@
 use Rattle.std.proofs.Common.{◌≡◌, ℕ, zero, suc, ◌-◌, ◌<◌, true, Some, None, Option, [], ◌∷◌, length, get_or, set, drop, refl, arith}
 use Rattle.squawk_kinds.specs.Kinds.{TOMBSTONE}
 use Rattle.squawk_output.specs.declared.event.Event.{Event}
-use Rattle.squawk_output.specs.declared.event.Event.TheVariants.{Start, Finish, Token, Error}
+use Rattle.squawk_output.specs.declared.event.Event.TheVariants.{Start}
 use Rattle.squawk_output.specs.EventLog.{Lands, LinksLead, Log, ahead, is_start, is_start_at}
 use Rattle.squawk_output.specs.Chain.{LandsAt, erased, tombstone}
 

@@ -5,7 +5,7 @@ use Rattle.squawk_kinds.specs.Kinds.{TOMBSTONE}
 use Rattle.squawk_output.specs.Steps as steps
 use Rattle.squawk_output.specs.Steps.{Step, errors_in}
 use Rattle.squawk_output.specs.declared.event.Event.{Event}
-use Rattle.squawk_output.specs.declared.event.Event.TheVariants.{Start, Finish, Token, Error}
+use Rattle.squawk_output.specs.declared.event.Event.TheVariants.{Start}
 use Rattle.squawk_output.specs.EventLog.{Log, ahead, errors_logged, is_error_event, list_of, steps_of_event}
 use Rattle.squawk_output.specs.Chain.{erased, tombstone}
 use Rattle.squawk_output.proofs.Erased.{length-erased}

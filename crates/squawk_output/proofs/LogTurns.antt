@@ -1,7 +1,7 @@
 -- The turns of a log, event by event.
 use Rattle.std.proofs.Common.{◌≡◌, ℕ, ◌+◌, ◌*◌, ◌≤◌, Bool, Some, None, [], ◌∷◌, cond, length, arith}
 use Rattle.squawk_output.specs.declared.event.Event.{Event}
-use Rattle.squawk_output.specs.declared.event.Event.TheVariants.{Start, Finish, Token, Error}
+use Rattle.squawk_output.specs.declared.event.Event.TheVariants.{Start}
 use Rattle.squawk_output.specs.EventLog.{Log, has_link, is_start, turns_of}
 use Rattle.squawk_output.proofs.Sums.{count_by-cons}
 

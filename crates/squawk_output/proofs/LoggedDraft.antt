@@ -1,5 +1,5 @@
 -- What the draft of every log keeps.
-use Rattle.std.proofs.Common.{◌≡◌, ◌∙◌, ℕ, suc, ◌+◌, ◌*◌, ◌==◌, ◌<◌, ◌≤◌, Bool, true, false, not, List, [], ◌∷◌, ◌++◌, length, length-append, get_or, refl, sym, ap, arith, cond, if◌then◌else◌, inl, inr}
+use Rattle.std.proofs.Common.{◌≡◌, ◌∙◌, ℕ, ◌+◌, ◌==◌, ◌<◌, ◌≤◌, Bool, true, false, not, List, [], ◌∷◌, ◌++◌, length, length-append, get_or, refl, sym, ap, arith, cond, if◌then◌else◌, inl, inr}
 use Rattle.std.specs.Prelude.{All, count_by}
 use Rattle.std.proofs.lemmas.Bool.{cases_lt, ne_eqb}
 use Rattle.std.proofs.lemmas.Bool.Decides.{eqb_tells}
@@ -8,7 +8,7 @@ use Rattle.std.proofs.lemmas.List.Sums.{sum_by-append}
 use Rattle.std.proofs.lemmas.List.Elements.{All-cons, All-nil}
 use Rattle.squawk_kinds.specs.Kinds.{TOMBSTONE}
 use Rattle.squawk_output.specs.declared.event.Event.{Event}
-use Rattle.squawk_output.specs.declared.event.Event.TheVariants.{Start, Finish, Token, Error}
+use Rattle.squawk_output.specs.declared.event.Event.TheVariants.{Start, Finish}
 use Rattle.squawk_output.specs.declared.log.Made.{Made}
 use Rattle.squawk_output.specs.Draft.{IsLogged, Item, ids, ids_of}
 use Rattle.squawk_output.specs.EventLog.{Log, has_link}

@@ -3,7 +3,7 @@ use Rattle.std.proofs.Common.{◌≡◌, ◌≢◌, ◌∙◌, ◌⊎◌, ℕ, z
 use Rattle.std.proofs.Math.Nat.{eq-or-lt_of_le}
 use Rattle.std.proofs.lemmas.Bool.{cases_order}
 use Rattle.squawk_output.specs.declared.event.Event.{Event}
-use Rattle.squawk_output.specs.declared.event.Event.TheVariants.{Start, Finish, Token, Error}
+use Rattle.squawk_output.specs.declared.event.Event.TheVariants.{Start}
 use Rattle.squawk_output.specs.EventLog.{Lands, LinksLead, Log, ahead, leads, reaches}
 use Rattle.squawk_output.proofs.Gathered.{least, least_owner, reaches-itself}
 use Rattle.squawk_output.proofs.Links.{is_start_at-within}

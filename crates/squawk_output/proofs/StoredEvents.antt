@@ -1,5 +1,5 @@
 -- Events as a list keeps them.
-use Rattle.std.proofs.Common.{◌≡◌, ◌∙◌, ℕ, zero, suc, ◌+◌, ◌<◌, ◌≤◌, Bool, true, false, Option, Some, None, List, [], ◌∷◌, ◌++◌, length, length-append, get_or, set, refl, subst, sym, ap, arith}
+use Rattle.std.proofs.Common.{◌≡◌, ◌∙◌, ℕ, zero, suc, ◌+◌, ◌<◌, ◌≤◌, true, Some, None, List, [], ◌∷◌, ◌++◌, length, length-append, get_or, set, refl, subst, sym, ap, arith}
 use Rattle.std.proofs.Math.Dec.{eqb-suc-zero}
 use Rattle.std.proofs.Math.ListN.{get_or-append}
 use Rattle.std.proofs.Math.Seq.{get_or-append_seam}
@@ -9,13 +9,11 @@ use Rattle.std.proofs.lemmas.List.Sums.{count_by-le-length}
 use Rattle.squawk_output.specs.declared.event.Event.{Event}
 use Rattle.squawk_output.specs.declared.event.Event.TheVariants as event
 use Rattle.squawk_output.specs.declared.log.stored_event.StoredEvent.{StoredEvent}
-use Rattle.squawk_output.specs.declared.log.stored_event.StoredEvent.TheVariants.{Hole, Start, Finish, Token, Error}
+use Rattle.squawk_output.specs.declared.log.stored_event.StoredEvent.TheVariants.{Error}
 use Rattle.squawk_output.specs.Chain.{LandsAt, forward_parent, hop, node_kind}
 use Rattle.squawk_output.specs.EventLog.{Lands, Log, errors_logged, is_error_event, is_start, is_start_at}
 use Rattle.squawk_output.specs.StoredEvents.{HasEventText, HaveEventTexts, LeadsOn, event_of, link_of, log_in}
 use Rattle.squawk_output.proofs.Links.{is_start_at-event, is_start_at-within}
-use Rattle.squawk_output.proofs.LogTurns.{one_if}
-use Rattle.squawk_output.proofs.Sums.{count_by-cons}
 
 pub length-log_in : (texts : List (List ℕ)) (events : List StoredEvent) → length (log_in texts events) ≡ length events
 length-log_in texts events = length-map events (event_of texts)
