@@ -7,6 +7,9 @@ use Rattle.std.proofs.lemmas.Bool.{eq-eqb, eqb-true, ne_eqb}
 use Rattle.std.proofs.lemmas.Bool.Decides.{eqb_tells}
 use Rattle.std.proofs.lemmas.Grind.{flat_map-append}
 use Rattle.std.proofs.lemmas.List.{append-nil}
+use Rattle.std.specs.List.{list_any}
+use Rattle.std.proofs.lemmas.List.Elements.{All-contains_itself}
+use Rattle.std.proofs.lemmas.List.Folds.{list_any_none}
 use Rattle.std.proofs.lemmas.List.Sums.{sum_by-append}
 use Rattle.squawk_kinds.specs.Kinds.{TOMBSTONE}
 use Rattle.squawk_output.specs.declared.event.Event.{Event}
@@ -24,7 +27,7 @@ use Rattle.squawk_output.proofs.EditedLog.{IsRecordOf, errors_are, record-set, r
 use Rattle.squawk_output.proofs.GrownLog.{LinksLead-front, turns_of-push}
 use Rattle.squawk_output.proofs.Groups.{itself}
 use Rattle.squawk_output.proofs.LogEdits.{draft_items-filled, draft_items-push, length-push}
-use Rattle.squawk_output.proofs.LogItems.{IsHoleAt, IsHoleAt-found}
+use Rattle.squawk_output.proofs.LogItems.{IsHoleAt, IsHoleAt-found, replaced-none}
 use Rattle.squawk_output.proofs.LogTurns.{one_if, turns_at}
 use Rattle.squawk_output.proofs.PlainLog.{HaveHoles}
 use Rattle.squawk_output.proofs.Links.{LinksLead-unlinked}
@@ -40,11 +43,6 @@ count-none p (x ∷ xs) fails =
     let first = fails x (0, omega arith, refl) in
     let rest = count-none p xs (λ item there. fails item (suc there.0, omega (arith, there.1), there.2)) in
     omega (arith, count_by-cons p x xs, ap one_if first, rest)
-
-without_hole-none : (id : ℕ) (items : List Item) → ((item : Item) → Contains items item → is_hole_of id item ≡ false) → without_hole id items ≡ items
-without_hole-none id [] none = refl
-without_hole-none id (x ∷ xs) none =
-    rw (none x (0, omega arith, refl)) (ap (λ ys. x ∷ ys) (without_hole-none id xs (λ item there. none item (suc there.0, omega (arith, there.1), there.2))))
 
 and-false : (b c : Bool) → c ≡ false → (b && c) ≡ false
 and-false true c e = e
@@ -109,6 +107,11 @@ module _ (log : Log) (marks : List Bool) (event : Event) (mark : Bool) (recorded
   other_hole (Hole i how) there = let found = IsHoleAt-found log marks i how there in ne_eqb i (length log) (λ e. absurd (omega (arith, e, found.within)))
   other_hole item there = refl
 
+  no_hole_there : list_any (is_hole_of (length log)) (draft_items log marks) ≡ false
+  no_hole_there =
+      list_any_none (is_hole_of (length log)) (draft_items log marks)
+      (λ k item lt. other_hole (get_or (draft_items log marks) k item) (All-contains_itself (draft_items log marks) k item lt))
+
   items-popped : draft_items log marks ≡ without_hole (length log) whole.items
   items-popped =
       let gone : without_hole (length log) (Hole (length log) ByStart ∷ []) ≡ [] = rw (itself (length log)) refl in
@@ -116,7 +119,7 @@ module _ (log : Log) (marks : List Bool) (event : Event) (mark : Bool) (recorded
       (ap (without_hole (length log)) items-whole
       ∙ (flat_map-append _ (draft_items log marks) (Hole (length log) ByStart ∷ [])
       ∙ (ap (λ ys. without_hole (length log) (draft_items log marks) ++ ys) gone
-      ∙ (append-nil (without_hole (length log) (draft_items log marks)) ∙ without_hole-none (length log) (draft_items log marks) other_hole))))
+      ∙ (append-nil (without_hole (length log) (draft_items log marks)) ∙ replaced-none (is_hole_of (length log)) (λ item. []) (draft_items log marks) no_hole_there))))
 
   one_goes : entries_gone whole (length log) ≡ 1
   one_goes =
