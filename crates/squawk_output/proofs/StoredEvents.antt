@@ -89,9 +89,9 @@ link_of-some zero lt = absurd (omega arith)
 link_of-some (suc n) lt = rw (eqb-suc-zero n) refl
 
 -- a link of no places
-pub link_of-none : (link : ℕ) → link ≤ 0 → (distance : ℕ) → link_of link ≡ Some distance → ⊥
-link_of-none zero none distance is = cc
-link_of-none (suc n) none distance is = absurd (omega arith)
+pub link_of-none : (link : ℕ) → link ≤ 0 → link_of link ≡ None
+link_of-none zero none = refl
+link_of-none (suc n) none = absurd (omega arith)
 
 -- a Start has its kind and its link
 start-is : (x : Event) → is_start x ≡ true → x ≡ event.Start (node_kind x) (forward_parent x)
