@@ -11,7 +11,6 @@ pub mod LogErrors
 pub mod Visits
 pub mod StoredVisits
 pub mod Examples
-pub mod StoredSteps
 pub mod NotedRoot
 pub mod StoredEvents
 pub mod Owners

@@ -16,11 +16,6 @@ is_start_at-event [] place d h = absurd (cc)
 is_start_at-event (x ∷ xs) zero d h = h
 is_start_at-event (x ∷ xs) (suc n) d h = is_start_at-event xs n d h
 
--- what is a Start is none other
-pub is_start-other : (event : Event) → is_start event ≡ true → ((kind : ℕ) (link : Option ℕ) → event ≡ Start kind link → ⊥) → ⊥
-is_start-other (Start kind link) h other = other kind link refl
-is_start-other event h other = absurd (cc)
-
 -- a link lands where all Starts are Starts still
 pub Lands-still : (event : Event) (xs ys : Log) → ((j : ℕ) → is_start_at xs j ≡ true → is_start_at ys j ≡ true) → Lands event xs → Lands event ys
 Lands-still (Start kind None) xs ys still h = tt

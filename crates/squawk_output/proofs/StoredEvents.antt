@@ -24,10 +24,6 @@ pub event_at : (texts : List (List ℕ)) (events : List StoredEvent) (place : �
     → event_of texts x ≡ get_or (log_in texts events) place d
 event_at texts events place x e d within is = ap (event_of texts) is ∙ sym (get_or-map (event_of texts) events place e d within)
 
-pub text_at : (texts : List (List ℕ)) (events : List StoredEvent) (place : ℕ) (x e : StoredEvent) → place < length events → HaveEventTexts texts events → x ≡ get_or events place e
-    → HasEventText texts x
-text_at texts events place x e within have is = rw is (have place e within)
-
 -- ---- one event more
 
 pub log_in-push : (texts : List (List ℕ)) (events : List StoredEvent) (x : StoredEvent) → log_in texts (events ++ x ∷ []) ≡ log_in texts events ++ event_of texts x ∷ []
@@ -50,18 +46,11 @@ module _ (texts : List (List ℕ)) (text : List ℕ) where
   event_of-more (Error number) has = ap event.Error (get_or-append texts (text ∷ []) [] number has)
   event_of-more other has = refl
 
-  HasEventText-more : (x : StoredEvent) → HasEventText texts x → HasEventText more x
-  HasEventText-more (Error number) has = omega (arith, length-append texts (text ∷ []), has)
-  HasEventText-more other has = tt
-
   log_in-more : (events : List StoredEvent) → HaveEventTexts texts events → log_in more events ≡ log_in texts events
   log_in-more [] have = refl
   log_in-more (x ∷ xs) have =
       ap (λ y. y ∷ log_in more xs) (event_of-more x (have 0 x (omega arith)))
       ∙ ap (λ ys. event_of texts x ∷ ys) (log_in-more xs (All-tail (HasEventText texts) x xs have))
-
-  HaveEventTexts-more : (events : List StoredEvent) → HaveEventTexts texts events → HaveEventTexts more events
-  HaveEventTexts-more events have k d lt = HasEventText-more (get_or events k d) (have k d lt)
 
   -- the error that has it
   pub log_in-error : (events : List StoredEvent) → HaveEventTexts texts events → log_in more (events ++ Error (length texts) ∷ []) ≡ log_in texts events ++ event.Error text ∷ []
@@ -69,9 +58,6 @@ module _ (texts : List (List ℕ)) (text : List ℕ) where
       log_in-push more events (Error (length texts))
       ∙ (ap (λ y. log_in more events ++ event.Error y ∷ []) (get_or-append_seam texts text [] [])
       ∙ ap (λ ys. ys ++ event.Error text ∷ []) (log_in-more events have))
-
-  pub HaveEventTexts-error : (events : List StoredEvent) → HaveEventTexts texts events → HaveEventTexts more (events ++ Error (length texts) ∷ [])
-  HaveEventTexts-error events have = HaveEventTexts-push more events (Error (length texts)) (omega (arith, length-append texts (text ∷ []))) (HaveEventTexts-more events have)
 
 -- ---- an event in another's place
 
