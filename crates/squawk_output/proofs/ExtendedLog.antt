@@ -1,48 +1,25 @@
 -- A link from a hole to a node that has none, and the hole's mark taken away: the hole goes, and the opening stands where the hole stood,
 -- if that was before it.
-use Rattle.std.proofs.Common.{◌≡◌, ◌≢◌, ◌∙◌, ◌⊎◌, ℕ, suc, ◌+◌, ◌==◌, ◌<◌, Bool, true, false, not, Some, None, List, [], ◌∷◌, length, get_or, set, refl, sym, ap, arith, if◌then◌else◌, inl, inr}
-use Rattle.std.specs.List.{list_any}
-use Rattle.std.proofs.lemmas.Bool.{cases_order, ne_eqb}
+use Rattle.std.proofs.Common.{◌≡◌, ◌≢◌, ◌∙◌, ◌⊎◌, ℕ, suc, ◌+◌, ◌==◌, ◌<◌, Bool, true, false, Some, None, List, [], ◌∷◌, length, get_or, set, refl, sym, ap, arith, if◌then◌else◌, inl, inr}
+use Rattle.std.specs.List.{flat_map}
+use Rattle.std.proofs.lemmas.Bool.{cases_order}
 use Rattle.std.proofs.lemmas.Bool.Decides.{eqb_tells}
 use Rattle.std.proofs.lemmas.List.{length-set, get_or-set_same, get_or-set_other}
 use Rattle.squawk_kinds.specs.Kinds.{TOMBSTONE}
 use Rattle.squawk_output.specs.declared.event.Event.{Event}
-use Rattle.squawk_output.specs.declared.event.Event.TheVariants.{Start, Finish, Token, Error}
+use Rattle.squawk_output.specs.declared.event.Event.TheVariants.{Start, Finish}
 use Rattle.squawk_output.specs.Chain.{tombstone}
 use Rattle.squawk_output.specs.Draft.{Item, Hole, Open}
-use Rattle.squawk_output.specs.declared.log.Made.{Made}
 use Rattle.squawk_output.specs.Edits.{extended_items, is_hole_of, is_opening_of, moved, replaced, stands_before, without_hole}
-use Rattle.squawk_output.specs.EventLog.{Log, ahead, has_link}
-use Rattle.squawk_output.proofs.Gathered.{gathered, least_owner, picked}
-use Rattle.squawk_output.specs.LogDraft.{draft_items, items_of}
-use Rattle.squawk_output.proofs.GatheredItems.{draft_items-gathered, made_by, place_items}
-use Rattle.squawk_output.proofs.Groups.{flat_map-gathered, gathered-same, itself}
+use Rattle.squawk_output.specs.EventLog.{Log, ahead}
+use Rattle.squawk_output.proofs.Gathered.{flat_map-twice, gathered, least_owner, picked}
+use Rattle.squawk_output.specs.LogDraft.{draft_items}
+use Rattle.squawk_output.proofs.GatheredItems.{draft_items-gathered, draft_items-same, flat_map-draft_items, made_by, place_items}
+use Rattle.squawk_output.proofs.Groups.{itself}
 use Rattle.squawk_output.proofs.LinkedLog.{gathered-joined, owner-elsewhere, owner-remains}
-use Rattle.squawk_output.proofs.LogItems.{IsNodeAt, hole-elsewhere, opening-elsewhere, opening_if}
+use Rattle.squawk_output.proofs.LogItems.{IsNodeAt, no_hole, no_opening, replaced-none}
 use Rattle.squawk_output.proofs.Owners.{farthest, owner-most}
 use Rattle.squawk_output.proofs.StandsBefore.{each-before, each-behind, group-none, group-some}
-
-no_hole : (id place : ℕ) (made : Made) (event : Event) (mark : Bool) → place ≢ id → list_any (is_hole_of id) (items_of place made event mark) ≡ false
-no_hole id place made (Start kind link) true ne = rw (ne_eqb place id ne) refl
-no_hole id place made (Start kind link) false ne = cases (kind == TOMBSTONE) (not (has_link (Start kind link)))
-  where
-    cases : (whole free : Bool) → list_any (is_hole_of id) (opening_if whole place kind free) ≡ false
-    cases true free = refl
-    cases false free = refl
-no_hole id place made Finish mark ne = refl
-no_hole id place made (Token kind n) mark ne = refl
-no_hole id place made (Error text) mark ne = refl
-
-no_opening : (id place : ℕ) (made : Made) (event : Event) (mark : Bool) → place ≢ id → list_any (is_opening_of id) (items_of place made event mark) ≡ false
-no_opening id place made (Start kind link) true ne = refl
-no_opening id place made (Start kind link) false ne = cases (kind == TOMBSTONE) (not (has_link (Start kind link)))
-  where
-    cases : (whole free : Bool) → list_any (is_opening_of id) (opening_if whole place kind free) ≡ false
-    cases true free = refl
-    cases false free = rw (ne_eqb place id ne) refl
-no_opening id place made Finish mark ne = refl
-no_opening id place made (Token kind n) mark ne = refl
-no_opening id place made (Error text) mark ne = refl
 
 module _ (log : Log) (marks : List Bool) (id node kind d : ℕ) (same : length marks ≡ length log) (far : node ≡ id + suc d) (hole : get_or log id Finish ≡ tombstone)
     (marked : get_or marks id false ≡ true) (is : IsNodeAt log marks node kind) where
@@ -104,12 +81,6 @@ module _ (log : Log) (marks : List Bool) (id node kind d : ℕ) (same : length m
 
   -- ---- which stands first
 
-  holes_only : (j : ℕ) → j ≢ id → list_any (is_hole_of id) (place_items log marks j) ≡ false
-  holes_only j ne = no_hole id j (made_by log j) (get_or log j Finish) (get_or marks j false) ne
-
-  openings_only : (j : ℕ) → j ≢ node → list_any (is_opening_of node) (place_items log marks j) ≡ false
-  openings_only j ne = no_opening node j (made_by log j) (get_or log j Finish) (get_or marks j false) ne
-
   abbrev group : ℕ → List Item
   group i = picked (λ j. least_owner log j == i) (place_items log marks) n
 
@@ -117,41 +88,43 @@ module _ (log : Log) (marks : List Bool) (id node kind d : ℕ) (same : length m
   hole_first lt =
       ap (stands_before (is_hole_of id) (is_opening_of node)) (draft_items-gathered log marks)
       ∙ each-before (is_hole_of id) (is_opening_of node) group n (least_owner log id) (least_owner log node) lt (omega (arith, owner-most log id, id_within))
-      (λ i ne. group-none (least_owner log) (place_items log marks) n id (is_hole_of id) holes_only i ne)
-      (λ i ne. group-none (least_owner log) (place_items log marks) n node (is_opening_of node) openings_only i ne)
-      (group-some (least_owner log) (place_items log marks) n id (is_hole_of id) holes_only id_within (rw (old_hole, itself id) refl))
+      (λ i ne. group-none (least_owner log) (place_items log marks) n id (is_hole_of id) (no_hole log marks id) i ne)
+      (λ i ne. group-none (least_owner log) (place_items log marks) n node (is_opening_of node) (no_opening log marks node) i ne)
+      (group-some (least_owner log) (place_items log marks) n id (is_hole_of id) (no_hole log marks id) id_within (rw (old_hole, itself id) refl))
 
   opening_first : least_owner log node < least_owner log id → stands_before (is_hole_of id) (is_opening_of node) (draft_items log marks) ≡ false
   opening_first lt =
       ap (stands_before (is_hole_of id) (is_opening_of node)) (draft_items-gathered log marks)
       ∙ each-behind (is_hole_of id) (is_opening_of node) group n (least_owner log id) (least_owner log node) lt (omega (arith, owner-most log node, is.within))
-      (λ i ne. group-none (least_owner log) (place_items log marks) n id (is_hole_of id) holes_only i ne)
-      (λ i ne. group-none (least_owner log) (place_items log marks) n node (is_opening_of node) openings_only i ne)
-      (group-some (least_owner log) (place_items log marks) n node (is_opening_of node) openings_only is.within (rw (old_node, itself node) refl))
+      (λ i ne. group-none (least_owner log) (place_items log marks) n id (is_hole_of id) (no_hole log marks id) i ne)
+      (λ i ne. group-none (least_owner log) (place_items log marks) n node (is_opening_of node) (no_opening log marks node) i ne)
+      (group-some (least_owner log) (place_items log marks) n node (is_opening_of node) (no_opening log marks node) is.within (rw (old_node, itself node) refl))
 
   -- ---- the opening moves
 
   abbrev filled : Item → List Item
   filled item = opening ∷ []
 
-  abbrev edited : ℕ → List Item
-  edited j = replaced (is_hole_of id) filled (replaced (is_opening_of node) (λ item. []) (place_items log marks j))
+  abbrev without_opening : Item → List Item
+  without_opening item = if is_opening_of node item then [] else item ∷ []
 
-  edited_elsewhere : (j : ℕ) → j < n → j ≢ node → j ≢ id → edited j ≡ place_items new new_marks j
+  abbrev edit : Item → List Item
+  edit item = replaced (is_hole_of id) filled (without_opening item)
+
+  edited_elsewhere : (j : ℕ) → j < n → j ≢ node → j ≢ id → flat_map edit (place_items log marks j) ≡ place_items new new_marks j
   edited_elsewhere j lt not_node ne =
-      ap (replaced (is_hole_of id) filled) (opening-elsewhere node j (made_by log j) (get_or log j Finish) (get_or marks j false) (λ item. []) not_node)
-      ∙ (hole-elsewhere id j (made_by log j) (get_or log j Finish) (get_or marks j false) filled ne ∙ sym (elsewhere j ne not_node))
+      let items = place_items log marks j in
+      sym (flat_map-twice (λ item. if is_hole_of id item then filled item else item ∷ []) without_opening items)
+      ∙ (ap (replaced (is_hole_of id) filled) (replaced-none (is_opening_of node) (λ item. []) items (no_opening log marks node j not_node))
+      ∙ (replaced-none (is_hole_of id) filled items (no_hole log marks id j ne) ∙ sym (elsewhere j ne not_node)))
 
   opening_moves : least_owner log id < least_owner log node → draft_items new new_marks ≡ moved (record { id = node; kind = kind }) id (draft_items log marks)
   opening_moves lt =
       draft_items-gathered new new_marks
       ∙ (ap (gathered (least_owner new) (place_items new new_marks)) (length-set log id linked)
-      ∙ (gathered-joined log id node d linked far none ends some_link is.within lt (place_items new new_marks) edited
+      ∙ (gathered-joined log id node d linked far none ends some_link is.within lt (place_items new new_marks) (λ j. flat_map edit (place_items log marks j))
       (rw (old_hole, itself id, new_node, new_hole) refl) (rw (old_node, itself node) refl) edited_elsewhere
-      ∙ (sym (flat_map-gathered (λ item. if is_hole_of id item then filled item else item ∷ []) (least_owner log) (λ j. replaced (is_opening_of node) (λ item. []) (place_items log marks j)) n)
-      ∙ ap (replaced (is_hole_of id) filled)
-      (sym (flat_map-gathered (λ item. if is_opening_of node item then [] else item ∷ []) (least_owner log) (place_items log marks) n)
-      ∙ ap (replaced (is_opening_of node) (λ item. [])) (sym (draft_items-gathered log marks))))))
+      ∙ (sym (flat_map-draft_items edit log marks) ∙ sym (flat_map-twice (λ item. if is_hole_of id item then filled item else item ∷ []) without_opening (draft_items log marks)))))
 
   -- ---- or stays
 
@@ -162,22 +135,14 @@ module _ (log : Log) (marks : List Bool) (id node kind d : ℕ) (same : length m
         | inr e ↦ owns j e.1
       ]
 
-  only_hole_goes : least_owner log node < least_owner log id → (j : ℕ) → place_items new new_marks j ≡ without_hole id (place_items log marks j)
-  only_hole_goes lt j =
-      elim (eqb_tells j id) [
-        | inl e ↦ rw e.1 (new_hole ∙ sym (rw (old_hole, itself id) refl))
-        | inr e ↦ rw (node_owner_stays lt j, get_or-set_other log id j linked Finish e.1, get_or-set_other marks id j false false e.1)
-            (sym (hole-elsewhere id j (made_by log j) (get_or log j Finish) (get_or marks j false) (λ item. []) e.1))
-      ]
-
   opening_stays : least_owner log node < least_owner log id → draft_items new new_marks ≡ without_hole id (draft_items log marks)
   opening_stays lt =
-      draft_items-gathered new new_marks
-      ∙ (ap (gathered (least_owner new) (place_items new new_marks)) (length-set log id linked)
-      ∙ (gathered-same (least_owner new) (least_owner log) (place_items new new_marks) (λ j. without_hole id (place_items log marks j)) n (λ j h. node_owner_stays lt j)
-      (λ j h. only_hole_goes lt j)
-      ∙ (sym (flat_map-gathered (λ item. if is_hole_of id item then [] else item ∷ []) (least_owner log) (place_items log marks) n)
-      ∙ ap (without_hole id) (sym (draft_items-gathered log marks)))))
+      draft_items-same (λ item. if is_hole_of id item then [] else item ∷ []) log new marks new_marks (length-set log id linked) (node_owner_stays lt)
+      (λ j. elim (eqb_tells j id) [
+        | inl e ↦ rw e.1 (new_hole ∙ sym (rw (old_hole, itself id) refl))
+        | inr e ↦ rw (node_owner_stays lt j, get_or-set_other log id j linked Finish e.1, get_or-set_other marks id j false false e.1)
+            (sym (replaced-none (is_hole_of id) (λ item. []) (place_items log marks j) (no_hole log marks id j e.1)))
+      ])
 
   pub draft_items-extended : draft_items (set log id (Start TOMBSTONE (Some (suc d)))) (set marks id false)
       ≡ extended_items (record { id = node; kind = kind }) id (draft_items log marks)

@@ -1,7 +1,7 @@
 -- One link followed.
-use Rattle.std.proofs.Common.{◌≡◌, ◌∙◌, ℕ, zero, suc, ◌+◌, ◌-◌, ◌<◌, ◌≤◌, Some, None, Option, List, [], ◌∷◌, ◌++◌, length, get_or, set, drop, refl, sym, ap, arith, append_assoc}
+use Rattle.std.proofs.Common.{◌≡◌, ◌∙◌, ℕ, zero, suc, ◌+◌, ◌-◌, ◌<◌, ◌≤◌, Some, None, Option, List, [], ◌∷◌, ◌++◌, length, get_or, set, drop, refl, sym, ap, subst, arith, append_assoc}
 use Rattle.std.proofs.Math.Nat.{suc-add}
-use Rattle.std.proofs.lemmas.List.{length-set, append-nil}
+use Rattle.std.proofs.lemmas.List.{length-set, append-nil, set-get_or}
 use Rattle.squawk_output.specs.Steps.{Step, Passed}
 use Rattle.squawk_output.specs.declared.event.Event.{Event}
 use Rattle.squawk_output.specs.declared.event.Event.TheVariants.{Start}
@@ -43,21 +43,20 @@ erased-start (x ∷ xs) (suc m) kind None d is lt links =
     ap (λ ys. x ∷ ys) (erased-start xs m kind None d is (omega arith) links.1 ∙ erased-None (set xs m tombstone))
 erased-start (x ∷ xs) (suc m) kind (Some n) d is lt links = rw (suc-add m n) (ap (λ ys. x ∷ ys) (erased-start xs m kind (Some n) d is (omega arith) links.1))
 
-pub chain-start : (log : Log) (place kind : ℕ) (link : Option ℕ) (d : Event) → get_or log place d ≡ Start kind link → place < length log → LinksLead log
-    → chain (Some place) log ≡ kind ∷ chain (hop place link) (set log place tombstone)
-chain-start [] place kind link d is lt links = absurd (omega arith)
-chain-start (x ∷ xs) zero kind None d is lt links = rw is (ap (λ ys. kind ∷ ys) (chain-None xs))
-chain-start (x ∷ xs) zero kind (Some n) d is lt links = let h = rw is at links.0 in rw (is, one_further n h.0) refl
-chain-start (x ∷ xs) (suc m) kind None d is lt links =
-    chain-start xs m kind None d is (omega arith) links.1 ∙ ap (λ ys. kind ∷ ys) (chain-None (set xs m tombstone))
-chain-start (x ∷ xs) (suc m) kind (Some n) d is lt links = rw (suc-add m n) (chain-start xs m kind (Some n) d is (omega arith) links.1)
+pub chain-start : (log : Log) (place kind : ℕ) (link : Option ℕ) (d y : Event) → get_or log place d ≡ Start kind link → place < length log → LinksLead log
+    → chain (Some place) log ≡ kind ∷ chain (hop place link) (set log place y)
+chain-start [] place kind link d y is lt links = absurd (omega arith)
+chain-start (x ∷ xs) zero kind None d y is lt links = rw is (ap (λ ys. kind ∷ ys) (chain-None xs))
+chain-start (x ∷ xs) zero kind (Some n) d y is lt links = let h = rw is at links.0 in rw (is, one_further n h.0) refl
+chain-start (x ∷ xs) (suc m) kind None d y is lt links = chain-start xs m kind None d y is (omega arith) links.1 ∙ ap (λ ys. kind ∷ ys) (chain-None (set xs m y))
+chain-start (x ∷ xs) (suc m) kind (Some n) d y is lt links = rw (suc-add m n) (chain-start xs m kind (Some n) d y is (omega arith) links.1)
 
-pub LandsAt-start : (log : Log) (place kind : ℕ) (link : Option ℕ) (d : Event) → get_or log place d ≡ Start kind link → place < length log → LinksLead log
-    → LandsAt (set log place tombstone) (hop place link)
-LandsAt-start log place kind None d is lt links = tt
-LandsAt-start [] place kind (Some n) d is lt links = absurd (omega arith)
-LandsAt-start (x ∷ xs) zero kind (Some n) d is lt links = let h = rw is at links.0 in rw (one_further n h.0) h.1
-LandsAt-start (x ∷ xs) (suc m) kind (Some n) d is lt links = rw (suc-add m n) (LandsAt-start xs m kind (Some n) d is (omega arith) links.1)
+pub LandsAt-start : (log : Log) (place kind : ℕ) (link : Option ℕ) (d y : Event) → get_or log place d ≡ Start kind link → place < length log → LinksLead log
+    → LandsAt (set log place y) (hop place link)
+LandsAt-start log place kind None d y is lt links = tt
+LandsAt-start [] place kind (Some n) d y is lt links = absurd (omega arith)
+LandsAt-start (x ∷ xs) zero kind (Some n) d y is lt links = let h = rw is at links.0 in rw (one_further n h.0) h.1
+LandsAt-start (x ∷ xs) (suc m) kind (Some n) d y is lt links = rw (suc-add m n) (LandsAt-start xs m kind (Some n) d y is (omega arith) links.1)
 
 -- ---- the same where the Start stays
 
@@ -72,24 +71,15 @@ drop-hop (x ∷ xs) (suc m) kind (Some n) d is lt links = rw (suc-add m n) (drop
 
 pub chain-hop : (log : Log) (place kind : ℕ) (link : Option ℕ) (d : Event) → get_or log place d ≡ Start kind link → place < length log → LinksLead log
     → chain (Some place) log ≡ kind ∷ chain (hop place link) log
-chain-hop [] place kind link d is lt links = absurd (omega arith)
-chain-hop (x ∷ xs) zero kind None d is lt links = rw is (ap (λ ys. kind ∷ ys) (chain-None xs))
-chain-hop (x ∷ xs) zero kind (Some n) d is lt links = let h = rw is at links.0 in rw (is, one_further n h.0) refl
-chain-hop (x ∷ xs) (suc m) kind None d is lt links =
-    chain-hop xs m kind None d is (omega arith) links.1 ∙ ap (λ ys. kind ∷ ys) (chain-None xs)
-chain-hop (x ∷ xs) (suc m) kind (Some n) d is lt links = rw (suc-add m n) (chain-hop xs m kind (Some n) d is (omega arith) links.1)
+chain-hop log place kind link d is lt links =
+    chain-start log place kind link d (get_or log place d) is lt links ∙ ap (λ events. kind ∷ chain (hop place link) events) (set-get_or log place d)
 
 pub LandsAt-hop : (log : Log) (place kind : ℕ) (link : Option ℕ) (d : Event) → get_or log place d ≡ Start kind link → place < length log → LinksLead log
     → LandsAt log (hop place link)
-LandsAt-hop log place kind None d is lt links = tt
-LandsAt-hop [] place kind (Some n) d is lt links = absurd (omega arith)
-LandsAt-hop (x ∷ xs) zero kind (Some n) d is lt links = let h = rw is at links.0 in rw (one_further n h.0) h.1
-LandsAt-hop (x ∷ xs) (suc m) kind (Some n) d is lt links = rw (suc-add m n) (LandsAt-hop xs m kind (Some n) d is (omega arith) links.1)
+LandsAt-hop log place kind link d is lt links =
+    subst (λ events. LandsAt events (hop place link)) (set-get_or log place d) (LandsAt-start log place kind link d (get_or log place d) is lt links)
 
 -- ---- the loop
-
-pub next_within : (log : Log) (at : ℕ) (next : Option ℕ) (distance : ℕ) → next ≡ Some distance → LandsAt log (hop at next) → at + distance < length log
-next_within log at next distance is lands = is_start_at-within log (at + distance) (rw is at lands)
 
 passed_is : (output : Passed) (steps : List Step) (texts : List (List ℕ)) (turns : ℕ) → output.steps ≡ steps → output.texts ≡ texts → output.turns ≡ turns
     → output ≡ record { steps = steps; texts = texts; turns = turns }
@@ -101,12 +91,12 @@ module _ (log : Log) (kinds : List ℕ) (output : Passed) (from : Option ℕ) wh
       → Follows log kinds output from (set left place tombstone) (found ++ kind ∷ []) (record made { turns = made.turns + 1 }) (hop place link)
   followed left found made place kind link d is follows =
       let lt : place < length left = is_start_at-within left place follows.lands in
-      let here = chain-start left place kind link d is lt follows.links in
+      let here = chain-start left place kind link d tombstone is lt follows.links in
       let rest = chain (hop place link) (set left place tombstone) in
       record {
         same_length = length-set left place tombstone ∙ follows.same_length;
         links = LinksLead-without left place follows.links;
-        lands = LandsAt-start left place kind link d is lt follows.links;
+        lands = LandsAt-start left place kind link d tombstone is lt follows.links;
         leaves = sym (erased-start left place kind link d is lt follows.links) ∙ follows.leaves;
         finds = append_assoc found (kind ∷ []) rest ∙ (ap (λ ys. found ++ ys) (sym here) ∙ follows.finds);
         turns = omega (arith, ap length here, follows.turns);
@@ -137,23 +127,19 @@ module _ (log : Log) (kinds : List ℕ) (output : Passed) (from : Option ℕ) wh
       pub chain-shorter : length (chain (hop (at + distance) link) (set left (at + distance) t)) < length (chain (hop at next) left)
       chain-shorter =
           let follows_here = rw some at follows in
-          let here = chain-start left (at + distance) kind link d (sym got ∙ is) (is_start_at-within left (at + distance) follows_here.lands) follows_here.links in
+          let here = chain-start left (at + distance) kind link d tombstone (sym got ∙ is) (is_start_at-within left (at + distance) follows_here.lands) follows_here.links in
           rw (gone, some) (omega (arith, ap length here))
 
   -- where no link is left, the chain is at its end
   module _ (left : Log) (found : List ℕ) (made : Passed) (at : ℕ) where
-    pub ends-events : (next : Option ℕ) → ((distance : ℕ) → next ≡ Some distance → ⊥) → Follows log kinds output from left found made (hop at next) → left ≡ erased from log
-    ends-events (Some distance) none follows = absurd (none distance refl)
-    ends-events None none follows = sym (erased-None left) ∙ follows.leaves
+    pub ends-events : (next : Option ℕ) → next ≡ None → Follows log kinds output from left found made (hop at next) → left ≡ erased from log
+    ends-events next none follows = let end = rw none at follows in sym (erased-None left) ∙ end.leaves
 
-    pub ends-kinds : (next : Option ℕ) → ((distance : ℕ) → next ≡ Some distance → ⊥) → Follows log kinds output from left found made (hop at next)
-        → found ≡ kinds ++ chain from log
-    ends-kinds (Some distance) none follows = absurd (none distance refl)
-    ends-kinds None none follows = sym (append-nil found) ∙ (ap (λ ys. found ++ ys) (sym (chain-None left)) ∙ follows.finds)
+    pub ends-kinds : (next : Option ℕ) → next ≡ None → Follows log kinds output from left found made (hop at next) → found ≡ kinds ++ chain from log
+    ends-kinds next none follows = let end = rw none at follows in sym (append-nil found) ∙ (ap (λ ys. found ++ ys) (sym (chain-None left)) ∙ end.finds)
 
-    pub ends-passed : (next : Option ℕ) → ((distance : ℕ) → next ≡ Some distance → ⊥) → Follows log kinds output from left found made (hop at next)
+    pub ends-passed : (next : Option ℕ) → next ≡ None → Follows log kinds output from left found made (hop at next)
         → made ≡ record output { turns = output.turns + length (chain from log) }
-    ends-passed (Some distance) none follows = absurd (none distance refl)
-    ends-passed None none follows =
-        let turns : made.turns ≡ output.turns + length (chain from log) = omega (arith, ap length (chain-None left), follows.turns) in
-        passed_is made output.steps output.texts (output.turns + length (chain from log)) follows.steps follows.texts turns
+    ends-passed next none follows =
+        let end = rw none at follows in
+        passed_is made output.steps output.texts (output.turns + length (chain from log)) end.steps end.texts (omega (arith, ap length (chain-None left), end.turns))

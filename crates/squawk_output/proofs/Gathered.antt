@@ -90,7 +90,7 @@ module _ {X Y : Type 0} (f : ℕ × Y → List X) where
       (λ j b lt e. gives (suc j) b (omega (arith, lt)) (omega (arith, e))))))
 
 module _ {X Y Z : Type 0} (f : Y → List X) (g : Z → List Y) where
-  flat_map-twice : (zs : List Z) → flat_map f (flat_map g zs) ≡ flat_map (λ z. flat_map f (g z)) zs
+  pub flat_map-twice : (zs : List Z) → flat_map f (flat_map g zs) ≡ flat_map (λ z. flat_map f (g z)) zs
   flat_map-twice [] = refl
   flat_map-twice (z ∷ zs) = flat_map-append f (g z) (flat_map g zs) ∙ ap (λ ys. flat_map f (g z) ++ ys) (flat_map-twice zs)
 

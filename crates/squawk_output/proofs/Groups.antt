@@ -1,9 +1,7 @@
 -- Lists gathered by owner.
 use Rattle.std.proofs.Common.{◌≡◌, ◌≢◌, ◌∙◌, ℕ, zero, suc, ◌==◌, ◌<◌, ◌≤◌, Bool, true, false, List, [], ◌++◌, refl, sym, ap, arith, append_assoc, if◌then◌else◌, inl, inr}
-use Rattle.std.specs.List.{flat_map}
 use Rattle.std.proofs.lemmas.Bool.{eq-eqb, ne_eqb}
 use Rattle.std.proofs.lemmas.Bool.Decides.{eqb_tells}
-use Rattle.std.proofs.lemmas.Grind.{flat_map-append}
 use Rattle.std.proofs.lemmas.List.{append-nil}
 use Rattle.squawk_output.proofs.Gathered.{each, gathered, picked}
 use Rattle.squawk_output.proofs.Peel.{each-same, picked-same}
@@ -154,28 +152,3 @@ module _ {X : Type 0} where
     gathered-moved =
         each-same (λ i. picked (λ j. own' j == i) items n) (λ i. picked (λ j. own j == i) items' n) n
         (λ i h. picked-down (λ j. own' j == i) items n ∙ (group_moved i ∙ sym (picked-down (λ j. own j == i) items' n)))
-
-  -- ---- an edit of every item
-
-  module _ {Y : Type 0} (f : X → List Y) where
-    flat_map-if : (b : Bool) (v : List X) → flat_map f (if b then v else []) ≡ (if b then flat_map f v else [])
-    flat_map-if true v = refl
-    flat_map-if false v = refl
-
-    flat_map-picked : (p : ℕ → Bool) (items : ℕ → List X) (n : ℕ) → flat_map f (picked p items n) ≡ picked p (λ j. flat_map f (items j)) n
-    flat_map-picked p items zero = refl
-    flat_map-picked p items (suc n) =
-        flat_map-append f (picked (λ j. p (suc j)) (λ j. items (suc j)) n) (if p 0 then items 0 else [])
-        ∙ (ap (λ ys. ys ++ flat_map f (if p 0 then items 0 else [])) (flat_map-picked (λ j. p (suc j)) (λ j. items (suc j)) n)
-        ∙ ap (λ ys. picked (λ j. p (suc j)) (λ j. flat_map f (items (suc j))) n ++ ys) (flat_map-if (p 0) (items 0)))
-
-    flat_map-each : (items : ℕ → List X) (n : ℕ) → flat_map f (each items n) ≡ each (λ i. flat_map f (items i)) n
-    flat_map-each items zero = refl
-    flat_map-each items (suc n) =
-        flat_map-append f (items 0) (each (λ i. items (suc i)) n) ∙ ap (λ ys. flat_map f (items 0) ++ ys) (flat_map-each (λ i. items (suc i)) n)
-
-    pub flat_map-gathered : (own : ℕ → ℕ) (items : ℕ → List X) (n : ℕ) → flat_map f (gathered own items n) ≡ gathered own (λ j. flat_map f (items j)) n
-    flat_map-gathered own items n =
-        flat_map-each (λ i. picked (λ j. own j == i) items n) n
-        ∙ each-same (λ i. flat_map f (picked (λ j. own j == i) items n)) (λ i. picked (λ j. own j == i) (λ j. flat_map f (items j)) n) n
-        (λ i h. flat_map-picked (λ j. own j == i) items n)

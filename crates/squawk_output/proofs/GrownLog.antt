@@ -1,25 +1,25 @@
 -- The links and the turns of a log of which one event is put in, changed or taken out.
 use Rattle.std.proofs.Common.{◌≡◌, ◌≢◌, ℕ, zero, suc, ◌+◌, ◌-◌, ◌<◌, true, false, Some, None, [], ◌∷◌, ◌++◌, length, length-append, get_or, set, refl, ap, arith}
 use Rattle.squawk_output.specs.declared.event.Event.{Event}
-use Rattle.squawk_output.specs.declared.event.Event.TheVariants.{Start, Finish, Token, Error}
-use Rattle.squawk_output.specs.EventLog.{Lands, LinksLead, Log, ahead, is_start_at, leads, reaches, turns_of}
+use Rattle.squawk_output.specs.declared.event.Event.TheVariants.{Start}
+use Rattle.std.proofs.lemmas.List.{length-set}
+use Rattle.std.proofs.lemmas.List.Sums.{sum_by-append, sum_by-set}
+use Rattle.squawk_output.specs.EventLog.{Lands, LinksLead, Log, ahead, has_link, is_start, is_start_at, leads, reaches, turns_of}
 use Rattle.squawk_output.proofs.Links.{Lands-still, start-set}
-use Rattle.squawk_output.proofs.LogTurns.{turns_at, turns_of-cons}
+use Rattle.squawk_output.proofs.LogTurns.{one_if, turns_at}
 use Rattle.squawk_output.proofs.Owners.{not_both}
 use Rattle.squawk_output.proofs.Gathered.{reaches-itself}
 
 -- ---- turns
 
 pub turns_of-push : (log : Log) (event : Event) → turns_of (log ++ event ∷ []) ≡ turns_of log + turns_at event
-turns_of-push [] event = omega (arith, turns_of-cons event [])
-turns_of-push (x ∷ xs) event = omega (arith, turns_of-cons x (xs ++ event ∷ []), turns_of-cons x xs, turns_of-push xs event)
+turns_of-push log event =
+    omega (arith, length-append log (event ∷ []), sum_by-append (λ x. one_if (is_start x)) log (event ∷ []), sum_by-append (λ x. one_if (has_link x)) log (event ∷ []))
 
 pub turns_of-set : (log : Log) (place : ℕ) (event d : Event) → place < length log
     → turns_of (set log place event) + turns_at (get_or log place d) ≡ turns_of log + turns_at event
-turns_of-set [] place event d lt = absurd (omega arith)
-turns_of-set (x ∷ xs) zero event d lt = omega (arith, turns_of-cons event xs, turns_of-cons x xs)
-turns_of-set (x ∷ xs) (suc n) event d lt =
-    omega (arith, turns_of-cons x (set xs n event), turns_of-cons x xs, turns_of-set xs n event d (omega arith))
+turns_of-set log place event d lt =
+    omega (arith, length-set log place event, sum_by-set (λ x. one_if (is_start x)) log place event d lt, sum_by-set (λ x. one_if (has_link x)) log place event d lt)
 
 -- ---- an event at the end
 
@@ -60,9 +60,7 @@ Lands-front (Start kind (Some distance)) log event lands away =
     let whole = log ++ event ∷ [] in
     let last : reaches whole (length log) (length log) ≡ true = reaches-itself whole (length log) (omega (arith, length-append log (event ∷ []))) in
     (lands.0, start-front log event (distance - 1) (λ e. not_both (reaches whole (distance - 1) (length log)) (rw e last) away) lands.1)
-Lands-front Finish log event lands away = tt
-Lands-front (Token kind n) log event lands away = tt
-Lands-front (Error text) log event lands away = tt
+Lands-front other log event lands away = tt
 
 pub LinksLead-front : (log : Log) (event : Event) → LinksLead (log ++ event ∷ []) → ((i : ℕ) → i < length log → reaches (log ++ event ∷ []) i (length log) ≡ false)
     → LinksLead log

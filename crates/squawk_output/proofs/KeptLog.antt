@@ -1,5 +1,5 @@
 -- A log as it is kept, after each act: its draft is edited so.
-use Rattle.std.proofs.Common.{◌≡◌, ◌≢◌, ◌∙◌, ℕ, ◌+◌, ◌-◌, ◌<◌, ◌^◌, Bool, true, false, Some, None, Option, List, [], ◌∷◌, ◌++◌, ap, arith, length, length-append, map, refl, set, sym}
+use Rattle.std.proofs.Common.{◌≡◌, ◌≢◌, ◌∙◌, ℕ, ◌+◌, ◌-◌, ◌<◌, ◌^◌, Bool, true, false, Some, None, Option, List, [], ◌∷◌, ◌++◌, ap, arith, length, map, refl, set, sym}
 use Rattle.std.specs.Prelude.{Contains, MatchOption}
 use Rattle.std.specs.Option.{option_to_list}
 use Rattle.std.proofs.lemmas.List.{map-append, map-set}
@@ -12,16 +12,13 @@ use Rattle.squawk_output.specs.Chain.{tombstone}
 use Rattle.squawk_output.specs.Draft as draft
 use Rattle.squawk_output.specs.Draft.{Draft, IsLogged}
 use Rattle.squawk_output.specs.Edits.{abandoned, completed, extended, is_last_start, preceded, started, with_error, with_token}
-use Rattle.squawk_output.specs.EventLog.{Lands, Log}
-use Rattle.squawk_output.specs.LogDraft.{HasHoleOf, IsKeptRecord, IsRecord, draft_in, draft_of}
+use Rattle.squawk_output.specs.EventLog.{Log}
+use Rattle.squawk_output.specs.LogDraft.{HasHoleOf, IsKeptRecord, draft_in}
 use Rattle.squawk_output.specs.StoredEvents.{HasEventText, HaveEventTexts, event_of, is_open, link_of, log_in}
-use Rattle.squawk_output.proofs.AbandonedLog.{IsRecord-cleared, draft_of-cleared, still-tombstone}
-use Rattle.squawk_output.proofs.EditedLog.{IsRecord-completed, IsRecord-extended, IsRecord-preceded, IsRecord-put, draft_of-completed, draft_of-extended, draft_of-preceded, draft_of-put, still-unmarked}
-use Rattle.squawk_output.proofs.FoundHoles.{IsRecord-front, draft_of-front, found-hole, found-made, found-node, tested-last}
+use Rattle.squawk_output.proofs.AbandonedLog.{record-cleared, record-front}
+use Rattle.squawk_output.proofs.EditedLog.{IsRecordOf, errors_are, record-completed, record-extended, record-preceded, record-put}
 use Rattle.squawk_output.proofs.LoggedDraft.{IsLogged-draft_of}
-use Rattle.squawk_output.proofs.LogEdits.{length-push}
-use Rattle.squawk_output.proofs.LogItems.{IsHoleAt, IsNodeAt}
-use Rattle.squawk_output.proofs.PlainLog.{errors-log}
+use Rattle.squawk_output.proofs.LogItems.{IsHoleAt, IsHoleAt-found, IsNodeAt, IsNodeAt-found}
 use Rattle.squawk_output.proofs.StoredEvents.{HaveEventTexts-front, HaveEventTexts-push, HaveEventTexts-set, errors_logged-most, length-log_in, link_of-some, log_in-push, log_in-set}
 
 -- a log is kept, and this is its draft
@@ -38,8 +35,7 @@ few_texts texts events recorded kept =
     let log = log_in texts events in
     omega (
       arith,
-      kept.log.errors,
-      errors-log log (map is_open events) recorded (length texts) kept.log,
+      errors_are log (map is_open events) recorded (length texts) kept.log,
       errors_logged-most log,
       kept.log.few,
       kept.log.small,
@@ -51,11 +47,11 @@ record Reads (texts : List (List ℕ)) (events : List StoredEvent) (log : Log) (
   marks_are : map is_open events ≡ marks
   have : HaveEventTexts texts events
 
-kept_as : {texts : List (List ℕ)} {events : List StoredEvent} {log : Log} {marks : List Bool} {recorded : ℕ} {d : Draft} → Reads texts events log marks
-    → IsRecord log marks recorded (length texts) → draft_of log marks recorded ≡ d → IsKeptAs texts events recorded d
-kept_as {texts} {events} {log} {marks} {recorded} {d} reads is same = record {
-  kept = record { log = rw (reads.log_is, reads.marks_are) is; have_texts = reads.have };
-  is = rw (reads.log_is, reads.marks_are) same;
+kept_as : {texts : List (List ℕ)} {events : List StoredEvent} {log : Log} {marks : List Bool} {recorded : ℕ} {d d' : Draft} → Reads texts events log marks
+    → IsRecordOf log marks recorded (length texts) d → d ≡ d' → IsKeptAs texts events recorded d'
+kept_as reads of same = record {
+  kept = record { log = rw (reads.log_is, reads.marks_are) of.record_is; have_texts = reads.have };
+  is = rw (reads.log_is, reads.marks_are) (of.draft_is ∙ same);
 }
 
 reads-push : {texts : List (List ℕ)} {events : List StoredEvent} {log : Log} {marks : List Bool} (x : StoredEvent) → Reads texts events log marks → HasEventText texts x
@@ -74,11 +70,6 @@ reads-set {texts} {events} {log} {marks} place x reads has = record {
   have = HaveEventTexts-set texts events place x has reads.have;
 }
 
--- with other names for the log and its marks
-reads-same : {texts : List (List ℕ)} {events : List StoredEvent} {log log' : Log} {marks marks' : List Bool} → Reads texts events log marks → log ≡ log' → marks ≡ marks'
-    → Reads texts events log' marks'
-reads-same reads p q = record { log_is = reads.log_is ∙ p; marks_are = reads.marks_are ∙ q; have = reads.have }
-
 module _ (texts : List (List ℕ)) (events : List StoredEvent) (recorded : ℕ) (old : Draft) (kept : IsKeptRecord texts events recorded)
     (view : draft_in texts events recorded ≡ old) where
   abbrev log : Log
@@ -93,31 +84,37 @@ module _ (texts : List (List ℕ)) (events : List StoredEvent) (recorded : ℕ) 
   room_for : old.recorded + 1 < 2 ^ 32 → recorded + 1 < 2 ^ 32
   room_for room = omega (arith, room, ap (λ d. d.recorded) view)
 
+  at_hole : (id : ℕ) (made : Made) → Contains old.items (draft.Hole id made) → IsHoleAt log marks id made
+  at_hole id made there = IsHoleAt-found log marks id made (rw (ap (λ d. d.items) view) there)
+
+  at_node : (node kind : ℕ) → Contains old.items (draft.Open node kind true) → IsNodeAt log marks node kind
+  at_node node kind there = IsNodeAt-found log marks node kind (rw (ap (λ d. d.items) view) there)
+
   pub kept-hole : (events' : List StoredEvent) → events' ≡ events ++ Hole ∷ [] → old.recorded + 1 < 2 ^ 32 → IsKeptAs texts events' (recorded + 1) (started old)
   kept-hole events' put room =
       rw put
-      (kept_as (reads-push Hole here tt) (IsRecord-put log marks recorded (length texts) kept.log tombstone true tt (λ marked. refl) (room_for room) (length texts) (omega arith))
-      (draft_of-put log marks recorded (length texts) kept.log tombstone true tt (λ marked. refl) ∙ ap started view))
+      (kept_as (reads-push Hole here tt) (record-put log marks recorded (length texts) kept.log tombstone true tt (λ marked. refl) (room_for room) (length texts) (omega arith))
+      (ap started view))
 
   pub kept-token : (kind n : ℕ) (events' : List StoredEvent) → events' ≡ events ++ Token kind n ∷ [] → old.recorded + 1 < 2 ^ 32
       → IsKeptAs texts events' (recorded + 1) (with_token old kind n)
   kept-token kind n events' put room =
       rw put
       (kept_as (reads-push (Token kind n) here tt)
-      (IsRecord-put log marks recorded (length texts) kept.log (event.Token kind n) false tt (λ marked. absurd (cc)) (room_for room) (length texts) (omega arith))
-      (draft_of-put log marks recorded (length texts) kept.log (event.Token kind n) false tt (λ marked. absurd (cc)) ∙ ap (λ d. with_token d kind n) view))
+      (record-put log marks recorded (length texts) kept.log (event.Token kind n) false tt (λ marked. absurd (cc)) (room_for room) (length texts) (omega arith))
+      (ap (λ d. with_token d kind n) view))
 
   pub kept-error : (text : List ℕ) (texts' : List (List ℕ)) (events' : List StoredEvent) → log_in texts' events' ≡ log ++ event.Error text ∷ []
       → map is_open events' ≡ marks ++ false ∷ [] → HaveEventTexts texts' events' → length texts' ≡ length texts + 1 → old.recorded + 1 < 2 ^ 32
       → IsKeptAs texts' events' (recorded + 1) (with_error old text)
   kept-error text texts' events' put unmarked have more room =
       kept_as (record { log_is = put; marks_are = unmarked; have = have })
-      (IsRecord-put log marks recorded (length texts) kept.log (event.Error text) false tt (λ marked. absurd (cc)) (room_for room) (length texts') more)
-      (draft_of-put log marks recorded (length texts) kept.log (event.Error text) false tt (λ marked. absurd (cc)) ∙ ap (λ d. with_error d text) view)
+      (record-put log marks recorded (length texts) kept.log (event.Error text) false tt (λ marked. absurd (cc)) (room_for room) (length texts') more)
+      (ap (λ d. with_error d text) view)
 
   module _ (id : ℕ) (there : HasHoleOf old.items id) where
     hole : IsHoleAt log marks id there.0
-    hole = found-made log marks recorded old view id there.0 there.1
+    hole = at_hole id there.0 there.1
 
     pub hole-within : id < length events
     hole-within = omega (arith, hole.within, length-log_in texts events)
@@ -127,71 +124,46 @@ module _ (texts : List (List ℕ)) (events : List StoredEvent) (recorded : ℕ) 
     kept-completed kind ended events' put filled ne room =
         rw (filled, put)
         (kept_as (reads-set id (Start kind 0) (reads-push Finish here tt) tt)
-        (IsRecord-completed log marks recorded (length texts) kept.log id there.0 hole kind ne (room_for room))
-        (draft_of-completed log marks recorded (length texts) kept.log id there.0 hole kind ne (room_for room) ∙ ap (λ d. completed d id kind) view))
+        (record-completed log marks recorded (length texts) kept.log id there.0 kind hole ne (room_for room)) (ap (λ d. completed d id kind) view))
 
-    module _ (node kind : ℕ) (opening : Contains old.items (draft.Open node kind true)) (older : id < node) where
-      extended_node : IsNodeAt log marks node kind
-      extended_node = found-node log marks recorded old view node kind opening
-
-      linked : link_of (node - id) ≡ Some (node - id)
-      linked = link_of-some (node - id) (omega (arith, older))
-
-      pub kept-extended : (events' : List StoredEvent) → events' ≡ set events id (Start TOMBSTONE (node - id))
-          → IsKeptAs texts events' recorded (extended old (record { id = node; kind = kind }) id)
-      kept-extended events' put =
-          rw put
-          (kept_as (reads-same (reads-set id (Start TOMBSTONE (node - id)) here tt) (ap (λ link. set log id (event.Start TOMBSTONE link)) linked) refl)
-          (IsRecord-extended log marks recorded (length texts) kept.log id node kind hole.within hole.marked extended_node older)
-          (draft_of-extended log marks recorded (length texts) kept.log id node kind hole.within hole.marked extended_node older
-          ∙ ap (λ d. extended d (record { id = node; kind = kind }) id) view))
+    pub kept-extended : (node kind : ℕ) → Contains old.items (draft.Open node kind true) → id < node → (events' : List StoredEvent)
+        → events' ≡ set events id (Start TOMBSTONE (node - id)) → IsKeptAs texts events' recorded (extended old (record { id = node; kind = kind }) id)
+    kept-extended node kind opening older events' put =
+        let linked = link_of-some (node - id) (omega (arith, older)) in
+        rw put
+        (kept_as (reads-set id (Start TOMBSTONE (node - id)) here tt)
+        (rw linked (record-extended log marks recorded (length texts) kept.log id hole.within hole.marked node kind (at_node node kind opening) older))
+        (ap (λ d. extended d (record { id = node; kind = kind }) id) view))
 
   module _ (id : ℕ) (made : Made) (there : Contains old.items (draft.Hole id made)) where
-    its_hole : IsHoleAt log marks id made
-    its_hole = found-made log marks recorded old view id made there
-
     pub kept-cleared : (entries : ℕ) (events' : List StoredEvent) → entries ≡ length events → false ≡ is_last_start entries (draft.Hole id made)
         → events' ≡ set events id (Start TOMBSTONE 0) → IsKeptAs texts events' recorded (abandoned old id)
     kept-cleared entries events' len other put =
-        let still = still-tombstone log marks recorded (length texts) kept.log id made its_hole in
         rw put
-        (kept_as (reads-same (reads-set id (Start TOMBSTONE 0) here tt) still refl) (IsRecord-cleared log marks recorded (length texts) kept.log id made its_hole)
-        (draft_of-cleared log marks recorded (length texts) kept.log id made its_hole
-        (tested-last entries (length log) id made false (omega (arith, len, length-log_in texts events)) other)
-        ∙ ap (λ d. abandoned d id) view))
+        (kept_as (reads-set id (Start TOMBSTONE 0) here tt)
+        (record-cleared log marks recorded (length texts) kept.log id made (at_hole id made there)
+        (ap (λ n. is_last_start n (draft.Hole id made)) (length-log_in texts events ∙ sym len) ∙ sym other))
+        (ap (λ d. abandoned d id) view))
 
-    module _ (front : List StoredEvent) (entries : ℕ) (len : entries ≡ length events) (test : true ≡ is_last_start entries (draft.Hole id made)) where
-      last : is_last_start (length log) (draft.Hole id made) ≡ true
-      last = tested-last entries (length log) id made true (omega (arith, len, length-log_in texts events)) test
-
-      front-kept : (x : StoredEvent) → events ≡ front ++ x ∷ [] → IsKeptAs texts front recorded (abandoned old id)
-      front-kept x split =
-          let split_log = ap (log_in texts) split ∙ log_in-push texts front x in
-          let split_marks = ap (map is_open) split ∙ map-append is_open front (x ∷ []) in
-          kept_as (record { log_is = refl; marks_are = refl; have = HaveEventTexts-front texts front x (rw split at kept.have_texts) })
-          (IsRecord-front log (log_in texts front) marks (map is_open front) (event_of texts x) (is_open x) recorded (length texts) id made kept.log its_hole last split_log split_marks)
-          (draft_of-front log (log_in texts front) marks (map is_open front) (event_of texts x) (is_open x) recorded (length texts) id made kept.log its_hole last split_log split_marks
-          ∙ ap (λ d. abandoned d id) view)
-
-      pub kept-popped : (popped : Option StoredEvent) (m n : ℕ) → events ≡ front ++ option_to_list popped → MatchOption popped ((n ≡ 0) × (m ≡ 0)) (λ x. m + 1 ≡ n) → n ≡ length events
-          → IsKeptAs texts front recorded (abandoned old id)
-      kept-popped None m n split cases count = absurd (omega (arith, cases.0, count, its_hole.within, length-log_in texts events))
-      kept-popped (Some x) m n split cases count = front-kept x split
+    pub kept-popped : (front : List StoredEvent) (entries : ℕ) → entries ≡ length events → true ≡ is_last_start entries (draft.Hole id made) → (popped : Option StoredEvent) (m n : ℕ)
+        → events ≡ front ++ option_to_list popped → MatchOption popped ((n ≡ 0) × (m ≡ 0)) (λ x. m + 1 ≡ n) → n ≡ length events → IsKeptAs texts front recorded (abandoned old id)
+    kept-popped front entries len test None m n split cases count = absurd (omega (arith, cases.0, count, (at_hole id made there).within, length-log_in texts events))
+    kept-popped front entries len test (Some x) m n split cases count =
+        kept_as (record { log_is = refl; marks_are = refl; have = HaveEventTexts-front texts front x (rw split at kept.have_texts) })
+        (record-front log (log_in texts front) marks (map is_open front) (event_of texts x) (is_open x) recorded (length texts) id made kept.log (at_hole id made there)
+        (ap (λ n. is_last_start n (draft.Hole id made)) (length-log_in texts events ∙ sym len) ∙ sym test)
+        (ap (log_in texts) split ∙ log_in-push texts front x) (ap (map is_open) split ∙ map-append is_open front (x ∷ [])))
+        (ap (λ d. abandoned d id) view)
 
   module _ (node kind : ℕ) (opening : Contains old.items (draft.Open node kind true)) where
-    its_node : IsNodeAt log marks node kind
-    its_node = found-node log marks recorded old view node kind opening
-
     pub node-within : node < length events
-    node-within = omega (arith, its_node.within, length-log_in texts events)
+    node-within = omega (arith, (at_node node kind opening).within, length-log_in texts events)
 
     pub kept-preceded : (link : ℕ) (more events' : List StoredEvent) → more ≡ events ++ Hole ∷ [] → events' ≡ set more node (Start kind link) → link ≡ length events - node
         → old.recorded + 1 < 2 ^ 32 → IsKeptAs texts events' (recorded + 1) (preceded old node)
     kept-preceded link more events' put joined far room =
         let distance : link ≡ length log - node = omega (arith, far, length-log_in texts events) in
-        let linked = ap link_of distance ∙ link_of-some (length log - node) (omega (arith, its_node.within)) in
+        let linked = ap link_of distance ∙ link_of-some (length log - node) (omega (arith, node-within, length-log_in texts events)) in
         rw (joined, put)
-        (kept_as (reads-same (reads-set node (Start kind link) (reads-push Hole here tt) tt) (ap (λ to. set (log ++ tombstone ∷ []) node (event.Start kind to)) linked)
-        (still-unmarked log marks recorded (length texts) kept.log node kind its_node))
-        (IsRecord-preceded log marks recorded (length texts) kept.log node kind its_node (room_for room))
-        (draft_of-preceded log marks recorded (length texts) kept.log node kind its_node ∙ ap (λ d. preceded d node) view))
+        (kept_as (reads-set node (Start kind link) (reads-push Hole here tt) tt)
+        (rw linked (record-preceded log marks recorded (length texts) kept.log node kind (at_node node kind opening) (room_for room))) (ap (λ d. preceded d node) view))

@@ -11,7 +11,6 @@ pub mod LogErrors
 pub mod Visits
 pub mod StoredVisits
 pub mod Examples
-pub mod StoredSteps
 pub mod NotedRoot
 pub mod StoredEvents
 pub mod Owners
@@ -29,6 +28,5 @@ pub mod EditedLog
 pub mod AbandonedLog
 pub mod Sizes
 pub mod LoggedDraft
-pub mod FoundHoles
 pub mod KeptLog
 pub mod DraftExamples

@@ -2,7 +2,7 @@
 use Rattle.std.proofs.Common.{◌≡◌, ℕ, zero, suc, ◌-◌, ◌<◌, true, Some, None, Option, [], ◌∷◌, length, get_or, set, drop, refl, arith}
 use Rattle.squawk_kinds.specs.Kinds.{TOMBSTONE}
 use Rattle.squawk_output.specs.declared.event.Event.{Event}
-use Rattle.squawk_output.specs.declared.event.Event.TheVariants.{Start, Finish, Token, Error}
+use Rattle.squawk_output.specs.declared.event.Event.TheVariants.{Start}
 use Rattle.squawk_output.specs.EventLog.{Lands, LinksLead, Log, ahead, is_start, is_start_at}
 use Rattle.squawk_output.specs.Chain.{LandsAt, erased, tombstone}
 
@@ -16,27 +16,16 @@ is_start_at-event [] place d h = absurd (cc)
 is_start_at-event (x ∷ xs) zero d h = h
 is_start_at-event (x ∷ xs) (suc n) d h = is_start_at-event xs n d h
 
--- what is a Start is none other
-pub is_start-other : (event : Event) → is_start event ≡ true → ((kind : ℕ) (link : Option ℕ) → event ≡ Start kind link → ⊥) → ⊥
-is_start-other (Start kind link) h other = other kind link refl
-is_start-other Finish h other = absurd (cc)
-is_start-other (Token kind n) h other = absurd (cc)
-is_start-other (Error text) h other = absurd (cc)
-
 -- a link lands where all Starts are Starts still
 pub Lands-still : (event : Event) (xs ys : Log) → ((j : ℕ) → is_start_at xs j ≡ true → is_start_at ys j ≡ true) → Lands event xs → Lands event ys
 Lands-still (Start kind None) xs ys still h = tt
 Lands-still (Start kind (Some distance)) xs ys still h = (h.0, still (distance - 1) h.1)
-Lands-still Finish xs ys still h = tt
-Lands-still (Token kind n) xs ys still h = tt
-Lands-still (Error text) xs ys still h = tt
+Lands-still event xs ys still h = tt
 
 Lands-ahead : (event : Event) (log : Log) → Lands event log → LandsAt log (ahead event)
 Lands-ahead (Start kind None) log h = tt
 Lands-ahead (Start kind (Some distance)) log h = h.1
-Lands-ahead Finish log h = tt
-Lands-ahead (Token kind n) log h = tt
-Lands-ahead (Error text) log h = tt
+Lands-ahead event log h = tt
 
 -- ---- a Start in an event's place
 

@@ -15,10 +15,10 @@ use Rattle.squawk_output.specs.Edits.{is_hole_of, is_opening_of, preceded_item, 
 use Rattle.squawk_output.specs.EventLog.{LinksLead, Log, ahead}
 use Rattle.squawk_output.proofs.Gathered.{gathered, least_owner}
 use Rattle.squawk_output.specs.LogDraft.{draft_items, items_of}
-use Rattle.squawk_output.proofs.GatheredItems.{draft_items-gathered, made_by, place_items}
-use Rattle.squawk_output.proofs.Groups.{flat_map-gathered, gathered-push, gathered-same, itself}
+use Rattle.squawk_output.proofs.GatheredItems.{draft_items-gathered, draft_items-same, flat_map-draft_items, made_by, place_items}
+use Rattle.squawk_output.proofs.Groups.{gathered-push, itself}
 use Rattle.squawk_output.proofs.LinkedLog.{gathered-joined, owner-elsewhere, owner-joins}
-use Rattle.squawk_output.proofs.LogItems.{IsNodeAt, hole-elsewhere, opening-elsewhere}
+use Rattle.squawk_output.proofs.LogItems.{IsNodeAt, no_hole, no_opening, replaced-none}
 use Rattle.squawk_output.proofs.Owners.{owner-kept, owner-last, owner-most, owner-push}
 
 pub length-push : {X : Type 0} (xs : List X) (x : X) → length (xs ++ x ∷ []) ≡ suc (length xs)
@@ -51,21 +51,14 @@ pub draft_items-filled : (log : Log) (marks : List Bool) (id kind : ℕ) (event 
     → get_or log id Finish ≡ Start kind None → get_or marks id false ≡ true → ahead event ≡ None → ((made : Made) → items_of id made event false ≡ f (Hole id made))
     → draft_items (set log id event) (set marks id false) ≡ replaced (is_hole_of id) f (draft_items log marks)
 draft_items-filled log marks id kind event f lt same is marked alone gives =
-    let marks_lt : id < length marks = omega (arith, lt, same) in
     let owns : (j : ℕ) → least_owner (set log id event) j ≡ least_owner log j = owner-kept log id event Finish (rw is alone) in
-    let items : (j : ℕ) → place_items (set log id event) (set marks id false) j ≡ replaced (is_hole_of id) f (place_items log marks j) =
-    λ j. elim (eqb_tells j id) [
-      | inl e ↦ rw (e.1, owns id, get_or-set_same log id event Finish lt, get_or-set_same marks id false false marks_lt, is, marked, itself id)
+    draft_items-same (λ item. if is_hole_of id item then f item else item ∷ []) log (set log id event) marks (set marks id false) (length-set log id event) owns
+    (λ j. elim (eqb_tells j id) [
+      | inl e ↦ rw (e.1, owns id, get_or-set_same log id event Finish lt, get_or-set_same marks id false false (omega (arith, lt, same)), is, marked, itself id)
           (gives (made_by log id) ∙ sym (append-nil (f (Hole id (made_by log id)))))
       | inr e ↦ rw (owns j, get_or-set_other log id j event Finish e.1, get_or-set_other marks id j false false e.1)
-          (sym (hole-elsewhere id j (made_by log j) (get_or log j Finish) (get_or marks j false) f e.1))
-    ] in
-    draft_items-gathered (set log id event) (set marks id false)
-    ∙ (ap (gathered (least_owner (set log id event)) (place_items (set log id event) (set marks id false))) (length-set log id event)
-    ∙ (gathered-same (least_owner (set log id event)) (least_owner log) (place_items (set log id event) (set marks id false)) (λ j. replaced (is_hole_of id) f (place_items log marks j))
-    (length log) (λ j h. owns j) (λ j h. items j)
-    ∙ (sym (flat_map-gathered (λ x. if is_hole_of id x then f x else x ∷ []) (least_owner log) (place_items log marks) (length log))
-    ∙ ap (replaced (is_hole_of id) f) (sym (draft_items-gathered log marks)))))
+          (sym (replaced-none (is_hole_of id) f (place_items log marks j) (no_hole log marks id j e.1)))
+    ])
 
 -- a new hole at the end, and a link to it from a node that has none: the hole stands directly before the node's opening
 module _ (log : Log) (marks : List Bool) (node kind d : ℕ) (links : LinksLead log) (same : length marks ≡ length log) (far : length log ≡ node + suc d)
@@ -162,7 +155,7 @@ module _ (log : Log) (marks : List Bool) (node kind d : ℕ) (links : LinksLead 
   edited_elsewhere j h ne not_node =
       let lt : j < n = omega (arith, h, ne) in
       edited_below j lt
-      ∙ (opening-elsewhere node j (made_by log j) (get_or log j Finish) (get_or marks j false) edit not_node ∙ sym (elsewhere j lt not_node))
+      ∙ (replaced-none (is_opening_of node) edit (place_items log marks j) (no_opening log marks node j not_node) ∙ sym (elsewhere j lt not_node))
 
   whole_edit : gathered (least_owner more) edited (suc n) ≡ replaced (is_opening_of node) edit (draft_items log marks)
   whole_edit =
@@ -170,8 +163,7 @@ module _ (log : Log) (marks : List Bool) (node kind d : ℕ) (links : LinksLead 
       (λ j lt. omega (arith, owner-most log j, lt)) (owner-last log tombstone links)
       ∙ (ap (λ ys. gathered (least_owner log) (λ j. replaced (is_opening_of node) edit (place_items log marks j)) n ++ ys) edited_last
       ∙ (append-nil (gathered (least_owner log) (λ j. replaced (is_opening_of node) edit (place_items log marks j)) n)
-      ∙ (sym (flat_map-gathered (λ item. if is_opening_of node item then edit item else item ∷ []) (least_owner log) (place_items log marks) n)
-      ∙ ap (replaced (is_opening_of node) edit) (sym (draft_items-gathered log marks)))))
+      ∙ sym (flat_map-draft_items (λ item. if is_opening_of node item then edit item else item ∷ []) log marks)))
 
   pub draft_items-preceded : draft_items (set (log ++ tombstone ∷ []) node (Start kind (Some (suc d)))) (marks ++ true ∷ [])
       ≡ replaced (is_opening_of node) (λ item. Hole (length log) ByPrecede ∷ preceded_item item ∷ []) (draft_items log marks)

@@ -5,7 +5,7 @@ use Rattle.squawk_kinds.specs.Kinds.{TOMBSTONE}
 use Rattle.squawk_output.specs.Steps as steps
 use Rattle.squawk_output.specs.Steps.{Step, errors_in}
 use Rattle.squawk_output.specs.declared.event.Event.{Event}
-use Rattle.squawk_output.specs.declared.event.Event.TheVariants.{Start, Finish, Token, Error}
+use Rattle.squawk_output.specs.declared.event.Event.TheVariants.{Start}
 use Rattle.squawk_output.specs.EventLog.{Log, ahead, errors_logged, is_error_event, list_of, steps_of_event}
 use Rattle.squawk_output.specs.Chain.{erased, tombstone}
 use Rattle.squawk_output.proofs.Erased.{length-erased}
@@ -21,9 +21,7 @@ errors-entering false kind = refl
 
 errors-steps_of_event : (event : Event) → errors_in (steps_of_event event) ≡ cond (is_error_event event) 1 0
 errors-steps_of_event (Start kind link) = errors-entering (kind == TOMBSTONE) kind
-errors-steps_of_event Finish = refl
-errors-steps_of_event (Token kind n) = refl
-errors-steps_of_event (Error text) = refl
+errors-steps_of_event event = refl
 
 -- a chain takes its errors out of the log
 errors-entered : (from : Option ℕ) (log : Log) → errors_in (entered from log) + errors_logged (erased from log) ≡ errors_logged log

@@ -1,7 +1,7 @@
 -- The turns of a log, event by event.
 use Rattle.std.proofs.Common.{◌≡◌, ℕ, ◌+◌, ◌*◌, ◌≤◌, Bool, Some, None, [], ◌∷◌, cond, length, arith}
 use Rattle.squawk_output.specs.declared.event.Event.{Event}
-use Rattle.squawk_output.specs.declared.event.Event.TheVariants.{Start, Finish, Token, Error}
+use Rattle.squawk_output.specs.declared.event.Event.TheVariants.{Start}
 use Rattle.squawk_output.specs.EventLog.{Log, has_link, is_start, turns_of}
 use Rattle.squawk_output.proofs.Sums.{count_by-cons}
 
@@ -18,9 +18,7 @@ turns_of-cons event log = omega (arith, count_by-cons is_start event log, count_
 turns_at-most : (event : Event) → turns_at event ≤ 4
 turns_at-most (Start kind None) = omega arith
 turns_at-most (Start kind (Some distance)) = omega arith
-turns_at-most Finish = omega arith
-turns_at-most (Token kind n) = omega arith
-turns_at-most (Error text) = omega arith
+turns_at-most event = omega arith
 
 -- an event brings four turns at most: one, one more for a Start, and two for its link
 pub turns_of-most : (log : Log) → turns_of log ≤ 4 * length log

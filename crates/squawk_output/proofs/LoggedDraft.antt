@@ -1,38 +1,24 @@
 -- What the draft of every log keeps.
-use Rattle.std.proofs.Common.{◌≡◌, ◌∙◌, ℕ, suc, ◌+◌, ◌*◌, ◌==◌, ◌<◌, ◌≤◌, Bool, true, false, not, List, [], ◌∷◌, ◌++◌, length, length-append, get_or, refl, sym, ap, arith, cond, if◌then◌else◌, inl, inr}
+use Rattle.std.proofs.Common.{◌≡◌, ◌∙◌, ℕ, ◌+◌, ◌==◌, ◌<◌, ◌≤◌, Bool, false, List, [], ◌∷◌, ◌++◌, length, length-append, get_or, refl, sym, ap, arith, cond, if◌then◌else◌, inl, inr}
 use Rattle.std.specs.Prelude.{All, count_by}
 use Rattle.std.proofs.lemmas.Bool.{cases_lt, ne_eqb}
 use Rattle.std.proofs.lemmas.Bool.Decides.{eqb_tells}
 use Rattle.std.proofs.lemmas.Grind.{flat_map-append}
 use Rattle.std.proofs.lemmas.List.Sums.{sum_by-append}
 use Rattle.std.proofs.lemmas.List.Elements.{All-cons, All-nil}
-use Rattle.squawk_kinds.specs.Kinds.{TOMBSTONE}
-use Rattle.squawk_output.specs.declared.event.Event.{Event}
-use Rattle.squawk_output.specs.declared.event.Event.TheVariants.{Start, Finish, Token, Error}
-use Rattle.squawk_output.specs.declared.log.Made.{Made}
+use Rattle.squawk_output.specs.declared.event.Event.TheVariants.{Finish}
 use Rattle.squawk_output.specs.Draft.{IsLogged, Item, ids, ids_of}
-use Rattle.squawk_output.specs.EventLog.{Log, has_link}
-use Rattle.squawk_output.specs.LogDraft.{IsRecord, draft_items, draft_of, items_of}
+use Rattle.squawk_output.specs.EventLog.{Log}
+use Rattle.squawk_output.specs.LogDraft.{IsRecord, draft_items, draft_of}
 use Rattle.squawk_output.proofs.GatheredItems.{draft_items-gathered, made_by, place_items}
 use Rattle.squawk_output.proofs.Gathered.{least_owner}
 use Rattle.squawk_output.proofs.Groups.{itself}
-use Rattle.squawk_output.proofs.LogItems.{opening_if}
+use Rattle.squawk_output.proofs.LogItems.{items_of-cases}
 use Rattle.squawk_output.proofs.LogTurns.{turns_of-most}
 use Rattle.squawk_output.proofs.Sizes.{size-gathered, total, total-most, total-one, total-ones, total-past}
 use Rattle.squawk_output.proofs.Sums.{count_by-cons}
 
 -- ---- an item an event at most
-
-one_item : (place : ℕ) (made : Made) (event : Event) (mark : Bool) → length (items_of place made event mark) ≤ 1
-one_item place made (Start kind link) true = omega arith
-one_item place made (Start kind link) false = cases (kind == TOMBSTONE) (not (has_link (Start kind link)))
-  where
-    cases : (whole free : Bool) → length (opening_if whole place kind free) ≤ 1
-    cases true free = omega arith
-    cases false free = omega arith
-one_item place made Finish mark = omega arith
-one_item place made (Token kind n) mark = omega arith
-one_item place made (Error text) mark = omega arith
 
 length-draft_items : (log : Log) (marks : List Bool) → length (draft_items log marks) ≤ length log
 length-draft_items log marks =
@@ -41,7 +27,8 @@ length-draft_items log marks =
       ap length (draft_items-gathered log marks),
       size-gathered length refl length-append (least_owner log) (place_items log marks) (length log),
       total-most (λ j. length (place_items log marks j)) (λ j. 1) (length log)
-          (λ j. one_item j (made_by log j) (get_or log j Finish) (get_or marks j false)),
+          (λ j. items_of-cases (λ items. length items ≤ 1) (omega arith) (omega arith) (λ kind n. omega arith) (λ text. omega arith) j (made_by log j) (get_or log j Finish)
+          (get_or marks j false) (λ marked. omega arith) (λ kind link is unmarked whole. omega arith)),
       total-ones (length log),
     )
 
@@ -62,17 +49,6 @@ module _ (id : ℕ) where
         | inr e ↦ let other = ne_eqb place id (λ same. e.1 (sym same)) in rw (other, e.0) (omega arith)
       ]
 
-  times-items_of : (place : ℕ) (made : Made) (event : Event) (mark : Bool) → times (items_of place made event mark) ≤ (if id == place then 1 else 0)
-  times-items_of place made (Start kind link) true = once_there place
-  times-items_of place made (Start kind link) false = cases (kind == TOMBSTONE) (not (has_link (Start kind link)))
-    where
-      cases : (whole free : Bool) → times (opening_if whole place kind free) ≤ (if id == place then 1 else 0)
-      cases true free = omega arith
-      cases false free = once_there place
-  times-items_of place made Finish mark = omega arith
-  times-items_of place made (Token kind n) mark = omega arith
-  times-items_of place made (Error text) mark = omega arith
-
   times-draft_items : (log : Log) (marks : List Bool) → times (draft_items log marks) ≤ total (λ j. if id == j then 1 else 0) (length log)
   times-draft_items log marks =
       omega (
@@ -80,7 +56,8 @@ module _ (id : ℕ) where
         ap times (draft_items-gathered log marks),
         size-gathered times refl times-append (least_owner log) (place_items log marks) (length log),
         total-most (λ j. times (place_items log marks j)) (λ j. if id == j then 1 else 0) (length log)
-            (λ j. times-items_of j (made_by log j) (get_or log j Finish) (get_or marks j false)),
+            (λ j. items_of-cases (λ items. times items ≤ (if id == j then 1 else 0)) (omega arith) (omega arith) (λ kind n. omega arith) (λ text. omega arith) j (made_by log j)
+            (get_or log j Finish) (get_or marks j false) (λ marked. once_there j) (λ kind link is unmarked whole. once_there j)),
       )
 
 -- numbers that don't occur from n on are below n

@@ -3,7 +3,7 @@ use Rattle.std.proofs.Common.{◌≡◌, ◌≢◌, ◌∙◌, ◌⊎◌, ℕ, z
 use Rattle.std.proofs.Math.Nat.{eq-or-lt_of_le}
 use Rattle.std.proofs.lemmas.Bool.{cases_order}
 use Rattle.squawk_output.specs.declared.event.Event.{Event}
-use Rattle.squawk_output.specs.declared.event.Event.TheVariants.{Start, Finish, Token, Error}
+use Rattle.squawk_output.specs.declared.event.Event.TheVariants.{Start}
 use Rattle.squawk_output.specs.EventLog.{Lands, LinksLead, Log, ahead, leads, reaches}
 use Rattle.squawk_output.proofs.Gathered.{least, least_owner, reaches-itself}
 use Rattle.squawk_output.proofs.Links.{is_start_at-within}
@@ -53,9 +53,7 @@ reaches-push (y ∷ ys) x (suc i) (suc j) lt = reaches-push ys x i j (omega arit
 leads-nowhere : (y : Event) (ys : Log) (p : ℕ → Bool) → Lands y ys → ((n : ℕ) → n < length ys → p n ≡ false) → leads (ahead y) p ≡ false
 leads-nowhere (Start kind None) ys p lands none = refl
 leads-nowhere (Start kind (Some distance)) ys p lands none = none (distance - 1) (is_start_at-within ys (distance - 1) lands.1)
-leads-nowhere Finish ys p lands none = refl
-leads-nowhere (Token kind n) ys p lands none = refl
-leads-nowhere (Error text) ys p lands none = refl
+leads-nowhere event ys p lands none = refl
 
 -- no link leads there
 pub reaches-last : (log : Log) (x : Event) (i : ℕ) → LinksLead log → i < length log → reaches (log ++ x ∷ []) i (length log) ≡ false

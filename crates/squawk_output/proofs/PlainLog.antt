@@ -1,10 +1,10 @@
 -- The list of a log is the plain list of its draft, with its errors.
-use Rattle.std.proofs.Common.{◌≡◌, ◌∙◌, ℕ, ◌+◌, ◌*◌, ◌==◌, ◌<◌, ◌≤◌, Bool, true, false, not, List, [], ◌∷◌, length, get_or, refl, sym, ap, arith, if◌then◌else◌}
+use Rattle.std.proofs.Common.{◌≡◌, ◌∙◌, ℕ, ◌+◌, ◌==◌, ◌<◌, Bool, true, false, not, List, [], ◌∷◌, length, get_or, refl, sym, ap, arith, if◌then◌else◌}
 use Rattle.squawk_kinds.specs.Kinds.{TOMBSTONE}
 use Rattle.squawk_output.specs.Steps as steps
 use Rattle.squawk_output.specs.Steps.{errors_in}
 use Rattle.squawk_output.specs.declared.event.Event.{Event}
-use Rattle.squawk_output.specs.declared.event.Event.TheVariants.{Start, Finish, Token, Error}
+use Rattle.squawk_output.specs.declared.event.Event.TheVariants.{Start, Finish}
 use Rattle.squawk_output.specs.Chain.{tombstone}
 use Rattle.squawk_output.specs.Draft as draft
 use Rattle.squawk_output.specs.Draft.{Item, plain}
@@ -13,30 +13,29 @@ use Rattle.squawk_output.specs.EventLog.{Log, errors_logged, has_link, list_of, 
 use Rattle.squawk_output.proofs.Gathered.{least_owner, list_of-gathered, steps-here, steps_at}
 use Rattle.squawk_output.proofs.LogErrors.{errors_in-list_of}
 use Rattle.squawk_output.proofs.Sums.{count_by-cons}
-use Rattle.squawk_output.specs.LogDraft.{IsRecord, draft_items, items_of}
-use Rattle.squawk_output.proofs.GatheredItems.{draft_items-gathered, made_by, place_items}
-use Rattle.squawk_output.proofs.Groups.{flat_map-gathered, gathered-same}
-use Rattle.squawk_output.proofs.LogItems.{opening_if}
+use Rattle.squawk_output.specs.LogDraft.{draft_items, items_of}
+use Rattle.squawk_output.proofs.GatheredItems.{flat_map-draft_items, made_by, place_items}
+use Rattle.squawk_output.proofs.Groups.{gathered-same}
 
-plain-opening : (whole : Bool) (place kind : ℕ) (free : Bool) → plain (opening_if whole place kind free) ≡ (if whole then [] else steps.Enter kind ∷ [])
-plain-opening true place kind free = refl
-plain-opening false place kind free = refl
+-- which places are holes, as a record has it
+abbrev pub HaveHoles : Log → List Bool → Type 0
+HaveHoles log marks = (place : ℕ) → place < length log → get_or marks place false ≡ true → get_or log place Finish ≡ tombstone
 
 plain-item : (place : ℕ) (made : Made) (event : Event) (mark : Bool) → (mark ≡ true → event ≡ tombstone) → plain (items_of place made event mark) ≡ steps_of_event event
 plain-item place made (Start kind link) true h = sym (ap steps_of_event (h refl))
-plain-item place made (Start kind link) false h = plain-opening (kind == TOMBSTONE) place kind (not (has_link (Start kind link)))
-plain-item place made Finish mark h = refl
-plain-item place made (Token kind n) mark h = refl
-plain-item place made (Error text) mark h = refl
+plain-item place made (Start kind link) false h = cases (kind == TOMBSTONE) (not (has_link (Start kind link)))
+  where
+    cases : (whole free : Bool) → plain (if whole then [] else draft.Open place kind free ∷ []) ≡ (if whole then [] else steps.Enter kind ∷ [])
+    cases true free = refl
+    cases false free = refl
+plain-item place made event mark h = refl
 
-pub plain-draft_items : (log : Log) (marks : List Bool) → ((place : ℕ) → place < length log → get_or marks place false ≡ true → get_or log place Finish ≡ tombstone)
-    → plain (draft_items log marks) ≡ list_of log
+pub plain-draft_items : (log : Log) (marks : List Bool) → HaveHoles log marks → plain (draft_items log marks) ≡ list_of log
 plain-draft_items log marks holes =
-    ap plain (draft_items-gathered log marks)
-    ∙ (flat_map-gathered draft.steps_of_item (least_owner log) (place_items log marks) (length log)
+    flat_map-draft_items draft.steps_of_item log marks
     ∙ (gathered-same (least_owner log) (least_owner log) (λ j. plain (place_items log marks j)) (steps_at log) (length log) (λ j lt. refl)
     (λ j lt. plain-item j (made_by log j) (get_or log j Finish) (get_or marks j false) (holes j lt) ∙ steps-here log j Finish lt)
-    ∙ sym (list_of-gathered log)))
+    ∙ sym (list_of-gathered log))
 
 -- the errors of items are those of their steps
 pub errors-plain : (items : List Item) → draft.errors_of items ≡ errors_in (plain items)
@@ -51,6 +50,5 @@ errors-plain (draft.Error text ∷ items) =
     count_by-cons draft.is_error_item (draft.Error text) items ∙ (ap (λ n. 1 + n) (errors-plain items) ∙ sym (count_by-cons steps.is_error (steps.Error text) (plain items)))
 
 -- and so the errors of a draft are those of its log
-pub errors-log : (log : Log) (marks : List Bool) (recorded errors : ℕ) → IsRecord log marks recorded errors → errors_logged log ≡ draft.errors_of (draft_items log marks)
-errors-log log marks recorded errors is =
-    sym (errors_in-list_of log) ∙ (ap errors_in (sym (plain-draft_items log marks is.holes)) ∙ sym (errors-plain (draft_items log marks)))
+pub errors-draft_items : (log : Log) (marks : List Bool) → HaveHoles log marks → draft.errors_of (draft_items log marks) ≡ errors_logged log
+errors-draft_items log marks holes = errors-plain (draft_items log marks) ∙ (ap errors_in (plain-draft_items log marks holes) ∙ errors_in-list_of log)

@@ -1,5 +1,5 @@
 -- Which of two places has its items first in a gathered list.
-use Rattle.std.proofs.Common.{◌≡◌, ◌≢◌, ◌∙◌, ◌⊎◌, ℕ, zero, suc, ◌==◌, ◌<◌, ◌||◌, Bool, true, false, List, [], ◌∷◌, ◌++◌, sym, refl, ap, arith, if◌then◌else◌, inl, inr}
+use Rattle.std.proofs.Common.{◌≡◌, ◌≢◌, ◌∙◌, ◌⊎◌, ℕ, zero, suc, ◌==◌, ◌<◌, ◌||◌, ◌&&◌, Bool, true, false, List, [], ◌∷◌, ◌++◌, sym, refl, ap, arith, if◌then◌else◌, inl, inr}
 use Rattle.std.specs.List.{list_any}
 use Rattle.std.proofs.Math.Bool.{or-true}
 use Rattle.std.proofs.lemmas.Bool.{ne_eqb}
@@ -24,55 +24,43 @@ any-down p f (suc n) k lt has =
     ]
 
 module _ (p q : Item → Bool) where
-  -- items that pass neither test say nothing
-  neither_cases : (a b : Bool) (r s t u : Bool) → (a || s) ≡ false → (b || t) ≡ false → (s ≡ false → t ≡ false → r ≡ u)
-      → (if a then true else if b then false else r) ≡ u
-  neither_cases true b r s t u h k go = absurd (cc)
-  neither_cases false true r s t u h k go = absurd (cc)
-  neither_cases false false r s t u h k go = go h k
+  first_cases : (a b s t r u : Bool) → ((a || s) && (b || t)) ≡ false → ((s && t) ≡ false → r ≡ (if s then true else if t then false else u))
+      → (if a then true else if b then false else r) ≡ (if a || s then true else if b || t then false else u)
+  first_cases true b s t r u h go = refl
+  first_cases false true true t r u h go = absurd (cc)
+  first_cases false true false t r u h go = refl
+  first_cases false false s t r u h go = go h
 
-  neither : (xs ys : List Item) → list_any p xs ≡ false → list_any q xs ≡ false → stands_before p q (xs ++ ys) ≡ stands_before p q ys
-  neither [] ys h k = refl
-  neither (x ∷ xs) ys h k = neither_cases (p x) (q x) (stands_before p q (xs ++ ys)) (list_any p xs) (list_any q xs) (stands_before p q ys) h k (neither xs ys)
-
-  first_cases : (a b r s t : Bool) → (a || s) ≡ true → (b || t) ≡ false → (s ≡ true → t ≡ false → r ≡ true)
-      → (if a then true else if b then false else r) ≡ true
-  first_cases true b r s t h k go = refl
-  first_cases false true r s t h k go = absurd (cc)
-  first_cases false false r s t h k go = go h k
-
-  first_here : (xs ys : List Item) → list_any p xs ≡ true → list_any q xs ≡ false → stands_before p q (xs ++ ys) ≡ true
-  first_here [] ys h k = absurd (cc)
-  first_here (x ∷ xs) ys h k = first_cases (p x) (q x) (stands_before p q (xs ++ ys)) (list_any p xs) (list_any q xs) h k (first_here xs ys)
-
-  other_cases : (a b r s t : Bool) → (a || s) ≡ false → (b || t) ≡ true → (s ≡ false → t ≡ true → r ≡ false)
-      → (if a then true else if b then false else r) ≡ false
-  other_cases true b r s t h k go = absurd (cc)
-  other_cases false true r s t h k go = refl
-  other_cases false false r s t h k go = go h k
-
-  other_here : (xs ys : List Item) → list_any p xs ≡ false → list_any q xs ≡ true → stands_before p q (xs ++ ys) ≡ false
-  other_here [] ys h k = absurd (cc)
-  other_here (x ∷ xs) ys h k = other_cases (p x) (q x) (stands_before p q (xs ++ ys)) (list_any p xs) (list_any q xs) h k (other_here xs ys)
+  -- items that pass one test at most decide, if they pass one
+  decided : (xs ys : List Item) → (list_any p xs && list_any q xs) ≡ false
+      → stands_before p q (xs ++ ys) ≡ (if list_any p xs then true else if list_any q xs then false else stands_before p q ys)
+  decided [] ys h = refl
+  decided (x ∷ xs) ys h = first_cases (p x) (q x) (list_any p xs) (list_any q xs) (stands_before p q (xs ++ ys)) (stands_before p q ys) h (decided xs ys)
 
   -- the one test is passed at place a alone, the other at place b alone
   pub each-before : (items : ℕ → List Item) (n a b : ℕ) → a < b → a < n → ((i : ℕ) → i ≢ a → list_any p (items i) ≡ false) → ((i : ℕ) → i ≢ b → list_any q (items i) ≡ false)
       → list_any p (items a) ≡ true → stands_before p q (each items n) ≡ true
   each-before items zero a b lt within ps qs has = absurd (omega arith)
-  each-before items (suc n) zero b lt within ps qs has = first_here (items 0) (each (λ i. items (suc i)) n) has (qs 0 (omega (arith, lt)))
+  each-before items (suc n) zero b lt within ps qs has =
+      let none = qs 0 (omega (arith, lt)) in decided (items 0) (each (λ i. items (suc i)) n) (rw (has, none) refl) ∙ rw has refl
   each-before items (suc n) (suc a) zero lt within ps qs has = absurd (omega arith)
   each-before items (suc n) (suc a) (suc b) lt within ps qs has =
-      neither (items 0) (each (λ i. items (suc i)) n) (ps 0 (omega arith)) (qs 0 (omega arith))
-      ∙ each-before (λ i. items (suc i)) n a b (omega arith) (omega arith) (λ i ne. ps (suc i) (omega (arith, ne))) (λ i ne. qs (suc i) (omega (arith, ne))) has
+      let no = ps 0 (omega arith) in
+      let none = qs 0 (omega arith) in
+      decided (items 0) (each (λ i. items (suc i)) n) (rw no refl)
+      ∙ rw (no, none) (each-before (λ i. items (suc i)) n a b (omega arith) (omega arith) (λ i ne. ps (suc i) (omega (arith, ne))) (λ i ne. qs (suc i) (omega (arith, ne))) has)
 
   pub each-behind : (items : ℕ → List Item) (n a b : ℕ) → b < a → b < n → ((i : ℕ) → i ≢ a → list_any p (items i) ≡ false) → ((i : ℕ) → i ≢ b → list_any q (items i) ≡ false)
       → list_any q (items b) ≡ true → stands_before p q (each items n) ≡ false
   each-behind items zero a b lt within ps qs has = absurd (omega arith)
-  each-behind items (suc n) a zero lt within ps qs has = other_here (items 0) (each (λ i. items (suc i)) n) (ps 0 (omega (arith, lt))) has
+  each-behind items (suc n) a zero lt within ps qs has =
+      let none = ps 0 (omega (arith, lt)) in decided (items 0) (each (λ i. items (suc i)) n) (rw none refl) ∙ rw (none, has) refl
   each-behind items (suc n) zero (suc b) lt within ps qs has = absurd (omega arith)
   each-behind items (suc n) (suc a) (suc b) lt within ps qs has =
-      neither (items 0) (each (λ i. items (suc i)) n) (ps 0 (omega arith)) (qs 0 (omega arith))
-      ∙ each-behind (λ i. items (suc i)) n a b (omega arith) (omega arith) (λ i ne. ps (suc i) (omega (arith, ne))) (λ i ne. qs (suc i) (omega (arith, ne))) has
+      let no = ps 0 (omega arith) in
+      let none = qs 0 (omega arith) in
+      decided (items 0) (each (λ i. items (suc i)) n) (rw no refl)
+      ∙ rw (no, none) (each-behind (λ i. items (suc i)) n a b (omega arith) (omega arith) (λ i ne. ps (suc i) (omega (arith, ne))) (λ i ne. qs (suc i) (omega (arith, ne))) has)
 
 -- a test that is passed at one place alone is passed in the group of its owner alone
 module _ (own : ℕ → ℕ) (items : ℕ → List Item) (n place : ℕ) (p : Item → Bool) (only : (j : ℕ) → j ≢ place → list_any p (items j) ≡ false) where

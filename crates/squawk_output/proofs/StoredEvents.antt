@@ -1,20 +1,19 @@
 -- Events as a list keeps them.
-use Rattle.std.proofs.Common.{◌≡◌, ◌∙◌, ℕ, zero, suc, ◌+◌, ◌<◌, ◌≤◌, Bool, true, false, Option, Some, None, List, [], ◌∷◌, ◌++◌, length, length-append, get_or, set, refl, subst, sym, ap, arith}
+use Rattle.std.proofs.Common.{◌≡◌, ◌∙◌, ℕ, zero, suc, ◌+◌, ◌<◌, ◌≤◌, true, Some, None, List, [], ◌∷◌, ◌++◌, length, length-append, get_or, set, refl, subst, sym, ap, arith}
 use Rattle.std.proofs.Math.Dec.{eqb-suc-zero}
 use Rattle.std.proofs.Math.ListN.{get_or-append}
 use Rattle.std.proofs.Math.Seq.{get_or-append_seam}
 use Rattle.std.proofs.lemmas.List.{get_or-map, length-map, map-append, map-set}
 use Rattle.std.proofs.lemmas.List.Elements.{All-append, All-cons, All-nil, All-set, All-tail}
+use Rattle.std.proofs.lemmas.List.Sums.{count_by-le-length}
 use Rattle.squawk_output.specs.declared.event.Event.{Event}
 use Rattle.squawk_output.specs.declared.event.Event.TheVariants as event
 use Rattle.squawk_output.specs.declared.log.stored_event.StoredEvent.{StoredEvent}
-use Rattle.squawk_output.specs.declared.log.stored_event.StoredEvent.TheVariants.{Hole, Start, Finish, Token, Error}
+use Rattle.squawk_output.specs.declared.log.stored_event.StoredEvent.TheVariants.{Error}
 use Rattle.squawk_output.specs.Chain.{LandsAt, forward_parent, hop, node_kind}
 use Rattle.squawk_output.specs.EventLog.{Lands, Log, errors_logged, is_error_event, is_start, is_start_at}
 use Rattle.squawk_output.specs.StoredEvents.{HasEventText, HaveEventTexts, LeadsOn, event_of, link_of, log_in}
 use Rattle.squawk_output.proofs.Links.{is_start_at-event, is_start_at-within}
-use Rattle.squawk_output.proofs.LogTurns.{one_if}
-use Rattle.squawk_output.proofs.Sums.{count_by-cons}
 
 pub length-log_in : (texts : List (List ℕ)) (events : List StoredEvent) → length (log_in texts events) ≡ length events
 length-log_in texts events = length-map events (event_of texts)
@@ -24,10 +23,6 @@ length-log_in texts events = length-map events (event_of texts)
 pub event_at : (texts : List (List ℕ)) (events : List StoredEvent) (place : ℕ) (x e : StoredEvent) (d : Event) → place < length events → x ≡ get_or events place e
     → event_of texts x ≡ get_or (log_in texts events) place d
 event_at texts events place x e d within is = ap (event_of texts) is ∙ sym (get_or-map (event_of texts) events place e d within)
-
-pub text_at : (texts : List (List ℕ)) (events : List StoredEvent) (place : ℕ) (x e : StoredEvent) → place < length events → HaveEventTexts texts events → x ≡ get_or events place e
-    → HasEventText texts x
-text_at texts events place x e within have is = rw is (have place e within)
 
 -- ---- one event more
 
@@ -48,18 +43,8 @@ module _ (texts : List (List ℕ)) (text : List ℕ) where
   more = texts ++ text ∷ []
 
   event_of-more : (x : StoredEvent) → HasEventText texts x → event_of more x ≡ event_of texts x
-  event_of-more Hole has = refl
-  event_of-more (Start kind link) has = refl
-  event_of-more Finish has = refl
-  event_of-more (Token kind n) has = refl
   event_of-more (Error number) has = ap event.Error (get_or-append texts (text ∷ []) [] number has)
-
-  HasEventText-more : (x : StoredEvent) → HasEventText texts x → HasEventText more x
-  HasEventText-more Hole has = tt
-  HasEventText-more (Start kind link) has = tt
-  HasEventText-more Finish has = tt
-  HasEventText-more (Token kind n) has = tt
-  HasEventText-more (Error number) has = omega (arith, length-append texts (text ∷ []), has)
+  event_of-more other has = refl
 
   log_in-more : (events : List StoredEvent) → HaveEventTexts texts events → log_in more events ≡ log_in texts events
   log_in-more [] have = refl
@@ -67,18 +52,12 @@ module _ (texts : List (List ℕ)) (text : List ℕ) where
       ap (λ y. y ∷ log_in more xs) (event_of-more x (have 0 x (omega arith)))
       ∙ ap (λ ys. event_of texts x ∷ ys) (log_in-more xs (All-tail (HasEventText texts) x xs have))
 
-  HaveEventTexts-more : (events : List StoredEvent) → HaveEventTexts texts events → HaveEventTexts more events
-  HaveEventTexts-more events have k d lt = HasEventText-more (get_or events k d) (have k d lt)
-
   -- the error that has it
   pub log_in-error : (events : List StoredEvent) → HaveEventTexts texts events → log_in more (events ++ Error (length texts) ∷ []) ≡ log_in texts events ++ event.Error text ∷ []
   log_in-error events have =
       log_in-push more events (Error (length texts))
       ∙ (ap (λ y. log_in more events ++ event.Error y ∷ []) (get_or-append_seam texts text [] [])
       ∙ ap (λ ys. ys ++ event.Error text ∷ []) (log_in-more events have))
-
-  pub HaveEventTexts-error : (events : List StoredEvent) → HaveEventTexts texts events → HaveEventTexts more (events ++ Error (length texts) ∷ [])
-  HaveEventTexts-error events have = HaveEventTexts-push more events (Error (length texts)) (omega (arith, length-append texts (text ∷ []))) (HaveEventTexts-more events have)
 
 -- ---- an event in another's place
 
@@ -96,16 +75,14 @@ link_of-some zero lt = absurd (omega arith)
 link_of-some (suc n) lt = rw (eqb-suc-zero n) refl
 
 -- a link of no places
-pub link_of-none : (link : ℕ) → link ≤ 0 → (distance : ℕ) → link_of link ≡ Some distance → ⊥
-link_of-none zero none distance is = cc
-link_of-none (suc n) none distance is = absurd (omega arith)
+pub link_of-none : (link : ℕ) → link ≤ 0 → link_of link ≡ None
+link_of-none zero none = refl
+link_of-none (suc n) none = absurd (omega arith)
 
 -- a Start has its kind and its link
 start-is : (x : Event) → is_start x ≡ true → x ≡ event.Start (node_kind x) (forward_parent x)
 start-is (event.Start kind link) is = refl
-start-is event.Finish is = absurd (cc)
-start-is (event.Token kind n) is = absurd (cc)
-start-is (event.Error text) is = absurd (cc)
+start-is other is = absurd (cc)
 
 -- where a link lands, an event is found that is a Start
 module _ (texts : List (List ℕ)) (events : List StoredEvent) (at next : ℕ) (more : 0 < next) (lands : LandsAt (log_in texts events) (hop at (link_of next))) where
@@ -125,14 +102,7 @@ module _ (texts : List (List ℕ)) (events : List StoredEvent) (at next : ℕ) (
 pub leads_on : (x : Event) (log : Log) → Lands x log → LeadsOn x
 leads_on (event.Start kind None) log lands = tt
 leads_on (event.Start kind (Some distance)) log lands = lands.0
-leads_on event.Finish log lands = tt
-leads_on (event.Token kind n) log lands = tt
-leads_on (event.Error text) log lands = tt
+leads_on other log lands = tt
 
 pub errors_logged-most : (log : Log) → errors_logged log ≤ length log
-errors_logged-most [] = omega arith
-errors_logged-most (x ∷ xs) = omega (arith, count_by-cons is_error_event x xs, one_if-most (is_error_event x), errors_logged-most xs)
-  where
-    one_if-most : (b : Bool) → one_if b ≤ 1
-    one_if-most true = omega arith
-    one_if-most false = omega arith
+errors_logged-most log = count_by-le-length is_error_event log

@@ -2,14 +2,16 @@
 use Rattle.std.proofs.Common.{◌≡◌, ◌∙◌, ℕ, ◌+◌, ◌<◌, ◌≤◌, ◌++◌, ◌∷◌, [], false, None, List, length, get_or, drop, refl, sym, ap, subst, arith}
 use Rattle.std.proofs.Math.ListN.{drop_of_length-le}
 use Rattle.std.proofs.lemmas.List.{append-nil}
+use Rattle.std.proofs.lemmas.Result.{IfOk-weaker}
+use Rattle.std.specs.Prelude.{IfOk, Result}
 use Rattle.squawk_output.specs.Steps as steps
 use Rattle.squawk_output.specs.Steps.{Passed, Walk}
 use Rattle.squawk_output.specs.declared.event.Event.TheVariants as event
 use Rattle.squawk_output.specs.declared.log.stored_event.StoredEvent.{StoredEvent}
-use Rattle.squawk_output.specs.declared.log.stored_event.StoredEvent.TheVariants.{Error}
+use Rattle.squawk_output.specs.declared.log.stored_event.StoredEvent.TheVariants.{Start, Error}
 use Rattle.squawk_output.specs.EventLog.{LinksLead, ahead, has_link, is_start, list_of, steps_of_event, turns_of}
 use Rattle.squawk_output.specs.Pass.{PassesList, Visits}
-use Rattle.squawk_output.specs.StoredEvents.{HaveEventTexts, event_of, log_in}
+use Rattle.squawk_output.specs.StoredEvents.{HaveEventTexts, event_of, link_of, log_in}
 use Rattle.squawk_output.proofs.LogTurns.{one_if}
 use Rattle.squawk_output.proofs.StoredEvents.{event_at, length-log_in}
 use Rattle.squawk_output.proofs.Visits.{Visits-alone, begins-with}
@@ -19,28 +21,31 @@ module _ (texts : List (List ℕ)) (events : List StoredEvent) (place : ℕ) (wi
   log_within = omega (arith, within, length-log_in texts events)
 
   -- what the log has there
-  pub found : event_of texts x ≡ get_or (log_in texts events) place event.Finish
+  found : event_of texts x ≡ get_or (log_in texts events) place event.Finish
   found = event_at texts events place x e event.Finish within got
 
-  -- an event without a link gives its step
-  pub visits-alone : (output turned : Passed) → turned ≡ record output { turns = output.turns + 1 } → LinksLead (log_in texts events)
-      → (y : StoredEvent) → x ≡ y → ahead (event_of texts y) ≡ None → has_link (event_of texts y) ≡ false
-      → (made : Passed) → made.steps ≡ turned.steps ++ steps_of_event (event_of texts y) → made.turns ≡ turned.turns + one_if (is_start (event_of texts y))
-      → made.texts ≡ turned.texts → Visits (log_in texts events) output (log_in texts events) made place
-  visits-alone output turned turn links y is alone unlinked made put turns same =
-      let log = log_in texts events in
-      Visits-alone log output turned place turn (event_of texts y)
-      (begins-with log place (event_of texts x) event.Finish (event_of texts y) log_within found (ap (event_of texts) is)) alone log made refl links refl unlinked put turns
-      same
+  pub started : (kind link : ℕ) → x ≡ Start kind link → get_or (log_in texts events) place event.Finish ≡ event.Start kind (link_of link)
+  started kind link is = sym found ∙ ap (event_of texts) is
 
-  -- an error has the text of its number
-  pub visits-error : (output turned : Passed) → turned ≡ record output { turns = output.turns + 1 } → turned.texts ≡ texts → LinksLead (log_in texts events)
-      → (number : ℕ) → x ≡ Error number → (made : Passed) → made ≡ record turned { steps = turned.steps ++ steps.Error (get_or turned.texts number []) ∷ [] }
-      → Visits (log_in texts events) output (log_in texts events) made place
-  visits-error output turned turn same links number is made put =
-      visits-alone output turned turn links (Error number) is refl refl made
-      (ap (λ w. w.steps) put ∙ ap (λ (ts : List (List ℕ)). turned.steps ++ steps.Error (get_or ts number []) ∷ []) same)
-      (omega (arith, ap (λ w. w.turns) put)) (ap (λ w. w.texts) put)
+  module _ (output turned : Passed) (turn : turned ≡ record output { turns = output.turns + 1 }) (links : LinksLead (log_in texts events)) (made : Passed) {T E : Type 0}
+      (result : Result T E) where
+    -- an event without a link gives its step
+    pub visits-alone : (y : StoredEvent) → x ≡ y → ahead (event_of texts y) ≡ None → has_link (event_of texts y) ≡ false → (turns : ℕ)
+        → turns ≡ turned.turns + one_if (is_start (event_of texts y)) → IfOk result (λ _. made ≡ record turned { steps = turned.steps ++ steps_of_event (event_of texts y); turns = turns })
+        → IfOk result (λ _. Visits (log_in texts events) output (log_in texts events) made place)
+    visits-alone y is alone unlinked turns count =
+        IfOk-weaker result _ _
+        (λ _ put. Visits-alone (log_in texts events) output turned place turn (event_of texts y)
+        (begins-with (log_in texts events) place (event_of texts x) event.Finish (event_of texts y) log_within found (ap (event_of texts) is)) alone
+        (log_in texts events) made refl links refl unlinked (ap (λ w. w.steps) put) (ap (λ w. w.turns) put ∙ count) (ap (λ w. w.texts) put))
+
+    -- an error has the text of its number
+    pub visits-error : (number : ℕ) → x ≡ Error number → turned.texts ≡ texts
+        → IfOk result (λ _. made ≡ record turned { steps = turned.steps ++ steps.Error (get_or turned.texts number []) ∷ [] })
+        → IfOk result (λ _. Visits (log_in texts events) output (log_in texts events) made place)
+    visits-error number is same put =
+        visits-alone (Error number) is refl refl turned.turns (omega arith)
+        (IfOk-weaker result _ _ (λ _ h. h ∙ ap (λ (ts : List (List ℕ)). record turned { steps = turned.steps ++ steps.Error (get_or ts number []) ∷ [] }) same) put)
 
 -- ---- the loop over a list
 

@@ -3,7 +3,7 @@ use Rattle.std.proofs.Common.{◌≡◌, ◌∙◌, ℕ, zero, suc, ◌+◌, ◌
 use Rattle.std.proofs.Math.Seq.{drop-cons}
 use Rattle.squawk_output.specs.Steps.{Passed}
 use Rattle.squawk_output.specs.declared.event.Event.{Event}
-use Rattle.squawk_output.specs.declared.event.Event.TheVariants.{Start, Finish, Token, Error}
+use Rattle.squawk_output.specs.declared.event.Event.TheVariants.{Start}
 use Rattle.squawk_output.specs.EventLog.{LinksLead, Log, ahead, entering, has_link, is_start, list_of, steps_of_event, turns_of}
 use Rattle.squawk_output.specs.Chain.{LandsAt, chain, entered_back, erased, hop, tombstone}
 use Rattle.squawk_output.specs.Pass.{Visits}
@@ -22,9 +22,7 @@ entered-chain None (x ∷ xs) links lands = refl
 entered-chain (Some zero) (Start kind None ∷ xs) links lands = ap (λ ys. ys ++ entering kind) (entered-chain None xs links.1 tt)
 entered-chain (Some zero) (Start kind (Some distance) ∷ xs) links lands =
     ap (λ ys. ys ++ entering kind) (entered-chain (ahead (Start kind (Some distance))) xs links.1 links.0.1)
-entered-chain (Some zero) (Finish ∷ xs) links lands = absurd (cc)
-entered-chain (Some zero) (Token kind n ∷ xs) links lands = absurd (cc)
-entered-chain (Some zero) (Error text ∷ xs) links lands = absurd (cc)
+entered-chain (Some zero) (x ∷ xs) links lands = absurd (cc)
 entered-chain (Some (suc n)) (x ∷ xs) links lands = entered-chain (Some n) xs links.1 lands
 
 -- the turns of a link
@@ -57,9 +55,7 @@ turns-chain (Some zero) (Start kind (Some distance) ∷ xs) links lands =
       turns_of-cons tombstone (erased on xs),
       turns-chain on xs links.1 links.0.1,
     )
-turns-chain (Some zero) (Finish ∷ xs) links lands = absurd (cc)
-turns-chain (Some zero) (Token kind n ∷ xs) links lands = absurd (cc)
-turns-chain (Some zero) (Error text ∷ xs) links lands = absurd (cc)
+turns-chain (Some zero) (x ∷ xs) links lands = absurd (cc)
 turns-chain (Some (suc n)) (x ∷ xs) links lands =
     omega (arith, turns_of-cons x xs, turns_of-cons x (erased (Some n) xs), turns-chain (Some n) xs links.1 lands)
 
@@ -199,29 +195,20 @@ module _ (log : Log) (output turned : Passed) (place : ℕ) (turn : turned ≡ r
         }
 
   -- a Start with a link: its kind and those of the chain behind it
-  module _ (x d : Event) (within : place < length log) (links : LinksLead log) (got : x ≡ get_or log place d) (kind : ℕ) (link : Option ℕ) (is : x ≡ Start kind link)
-      (none pushed kinds : List ℕ) (empty : none ≡ []) (push : pushed ≡ none ++ kind ∷ []) (found : kinds ≡ pushed ++ chain (hop place link) log)
-      (followed : Passed) (follow : followed ≡ record turned { turns = turned.turns + length (chain (hop place link) log) }) where
+  module _ (kind : ℕ) (link : Option ℕ) (none pushed kinds : List ℕ) (empty : none ≡ []) (push : pushed ≡ none ++ kind ∷ []) (found : kinds ≡ pushed ++ chain (hop place link) log)
+      (followed : Passed) (follow : followed ≡ record { steps = turned.steps; texts = output.texts; turns = turned.turns + length (chain (hop place link) log) }) where
     all_kinds : kinds ≡ kind ∷ chain (hop place link) log
     all_kinds = rw (found, push, empty) refl
 
     pub kinds_fit : length log < 2 ^ 32 → output.turns < 2 ^ 35 → followed.turns + length kinds < 2 ^ 64
-    kinds_fit few turns =
-        omega (
-          arith,
-          ap length all_kinds,
-          ap (λ w. w.turns) turn,
-          ap (λ w. w.turns) follow,
-          length-chain (hop place link) log,
-        )
+    kinds_fit few turns = omega (arith, ap length all_kinds, ap (λ w. w.turns) turn, ap (λ w. w.turns) follow, length-chain (hop place link) log)
 
-    pub Visits-start : (after : Log) (made : Passed) → after ≡ erased (hop place link) log
+    pub Visits-start : (d : Event) → place < length log → LinksLead log → get_or log place d ≡ Start kind link → (after : Log) (made : Passed) → after ≡ erased (hop place link) log
         → made ≡ record followed { steps = followed.steps ++ entered_back kinds; turns = followed.turns + length kinds } → Visits log output after made place
-    Visits-start after made left enter =
-        let whole = sym got ∙ is in
+    Visits-start d within links whole after made left enter =
         let chained : kinds ≡ chain (Some place) log = all_kinds ∙ sym (chain-hop log place kind link d whole within links) in
         Visits-chain log after output made place kind link d kinds within links whole (ap length left ∙ length-erased (hop place link) log)
         (rw left (LinksLead-erased (hop place link) log links))
         (ap (drop (suc place)) left ∙ drop-hop log place kind link d whole within links) chained (rw (enter, follow, turn) refl)
         (omega (arith, ap length all_kinds, ap (λ w. w.turns) turn, ap (λ w. w.turns) follow, ap (λ w. w.turns) enter))
-        (rw (enter, follow, turn) refl)
+        (rw (enter, follow) refl)

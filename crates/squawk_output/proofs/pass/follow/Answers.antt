@@ -65,19 +65,10 @@ loop-next-preserved c =
     )
 
 pub returns-clause-events : goal.returns-clause-events
-returns-clause-events c =
-    let texts = c.args.passed.now.texts in
-    ends-events (log_in texts c.args.events.now.items) c.args.kinds.now.items c.args.passed.now _ (log_in texts c.loop-next.events.items) c.loop-next.kinds.items c.loop-next.passed
-    c.loop-next.at (link_of c.loop-next.next) (link_of-none c.loop-next.next c.loop-next-test.false) c.loop-next.invariant.0
+returns-clause-events c = ends-events _ _ _ _ _ _ _ c.loop-next.at _ (link_of-none c.loop-next.next c.loop-next-test.false) c.loop-next.invariant.0
 
 pub returns-clause-kinds : goal.returns-clause-kinds
-returns-clause-kinds c =
-    let texts = c.args.passed.now.texts in
-    ends-kinds (log_in texts c.args.events.now.items) c.args.kinds.now.items c.args.passed.now _ (log_in texts c.loop-next.events.items) c.loop-next.kinds.items c.loop-next.passed
-    c.loop-next.at (link_of c.loop-next.next) (link_of-none c.loop-next.next c.loop-next-test.false) c.loop-next.invariant.0
+returns-clause-kinds c = ends-kinds _ _ _ _ _ _ _ c.loop-next.at _ (link_of-none c.loop-next.next c.loop-next-test.false) c.loop-next.invariant.0
 
 pub returns-clause-passed : goal.returns-clause-passed
-returns-clause-passed c =
-    let texts = c.args.passed.now.texts in
-    ends-passed (log_in texts c.args.events.now.items) c.args.kinds.now.items c.args.passed.now _ (log_in texts c.loop-next.events.items) c.loop-next.kinds.items c.loop-next.passed
-    c.loop-next.at (link_of c.loop-next.next) (link_of-none c.loop-next.next c.loop-next-test.false) c.loop-next.invariant.0
+returns-clause-passed c = ends-passed _ _ _ _ _ _ _ c.loop-next.at _ (link_of-none c.loop-next.next c.loop-next-test.false) c.loop-next.invariant.0

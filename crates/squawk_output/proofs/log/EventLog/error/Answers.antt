@@ -1,4 +1,3 @@
-use Rattle.std.proofs.Common.{arith}
 use Rattle.squawk_output.proofs.KeptLog.{few_texts, kept-error, logged_kept}
 use Rattle.squawk_output.proofs.log.EventLog.error.Goals as goal
 

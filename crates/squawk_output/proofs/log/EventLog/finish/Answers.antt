@@ -1,6 +1,6 @@
-use Rattle.std.proofs.Common.{ap, arith, subst}
+use Rattle.std.proofs.Common.{subst}
 use Rattle.std.proofs.lemmas.Result.{IfOk-weaker}
-use Rattle.squawk_output.specs.Draft.{IsLogged, errors_of}
+use Rattle.squawk_output.specs.Draft.{IsLogged}
 use Rattle.squawk_output.proofs.KeptLog.{logged_kept}
 use Rattle.squawk_output.proofs.PlainLog.{plain-draft_items}
 use Rattle.squawk_output.proofs.log.EventLog.finish.Goals as goal
