@@ -1,23 +1,12 @@
 -- What an edited list of items has.
-use Rattle.std.proofs.Common.{◌≡◌, ℕ, zero, suc, ◌<◌, Bool, true, false, ◌⊎◌, inl, inr, List, [], ◌∷◌, cond, arith, sym, subst}
+use Rattle.std.proofs.Common.{◌≡◌, ℕ, ◌<◌, Bool, true, false, ◌⊎◌, inl, inr, List, [], ◌∷◌, cond, arith}
 use Rattle.std.specs.Prelude.{Contains}
-use Rattle.std.specs.List.{flat_map}
 use Rattle.std.proofs.lemmas.Bool.{cond_both}
-use Rattle.std.proofs.lemmas.List.Elements.{All-contains, Contains-append_left, Contains-append_right, Contains-append_cases}
+use Rattle.std.proofs.lemmas.List.Elements.{All-contains, Contains-append_right, Contains-append_cases}
 use Rattle.squawk_output.specs.Draft.{Item, IsAboveIds, ids, ids_of}
 use Rattle.squawk_output.specs.Edits.{replaced}
 use Rattle.squawk_output.proofs.LogItems.{Contains-only}
-
--- ---- lists of lists
-
-module _ {X Y : Type 0} (f : X → List Y) (y : Y) where
-  pub Contains-flat_map : (x : X) (xs : List X) → Contains xs x → Contains (f x) y → Contains (flat_map f xs) y
-  Contains-flat_map x [] (k, lt, at) gives = absurd (omega arith)
-  Contains-flat_map x (z ∷ xs) (zero, lt, at) gives = Contains-append_left (f z) (flat_map f xs) y (subst (λ u. Contains (f u) y) (sym at) gives)
-  Contains-flat_map x (z ∷ xs) (suc k, lt, at) gives =
-      Contains-append_right (f z) (flat_map f xs) y (Contains-flat_map x xs (k, omega arith, at) gives)
-
--- ---- items
+use Rattle.squawk_parser.proofs.Splits.{Contains-flat_map}
 
 -- an item that passes the test, and that gives place to this one among others
 pub record IsMade (p : Item → Bool) (f : Item → List Item) (new : Item) : Type 0 where
