@@ -4,11 +4,13 @@ use Rattle.std.specs.Prelude.{Bool, IsTrue, ◌&&◌, nat_lt}
 use Rattle.std.proofs.lemmas.Bool.{and_parts, ltb-true}
 use Rattle.std.proofs.lemmas.List.{length-set, map-append, map-set, set-get_or, set-set}
 use Rattle.squawk_output.specs.Draft.{Draft, Mark, Node}
+use Rattle.squawk_output.specs.Steps.{Exit}
 use Rattle.squawk_output.specs.Edits.{abandoned, completed, extended, preceded, started}
 use Rattle.squawk_parser.specs.Recorded.{Begins, Completes, Precedes}
 use Rattle.squawk_parser.specs.State.{State, Changes, HasNotFailed, Keeps, Records}
 use Rattle.squawk_parser.specs.declared.parser.parse_error.ParseError.{ParseError}
 use Rattle.squawk_parser.proofs.Markers.{changed, went-changed}
+use Rattle.squawk_parser.proofs.RecordedSteps.{refuses-one}
 use Rattle.squawk_script.specs.Events.{events_made}
 use Rattle.squawk_script.specs.Meaning.{Run, marker_at, new_marker, seen, stepped}
 use Rattle.squawk_script.specs.Slots.{FailsAt, Holds, IsAt, IsMarkerOf, IsTied, Performs, noted, slot_at, status_of, statuses_of}
@@ -18,7 +20,7 @@ use Rattle.squawk_script.specs.declared.status.Status.TheVariants as status
 use Rattle.squawk_script.specs.declared.slot.Slot.{Slot}
 use Rattle.squawk_script.specs.declared.slot.Slot.TheVariants.{Open, Done, Spent}
 use Rattle.squawk_script.proofs.Held.{holds-abandoned, holds-completed, holds-extended, holds-preceded, holds-started}
-use Rattle.squawk_script.proofs.Refusals.{changes-fails, records-fails}
+use Rattle.squawk_script.proofs.Refusals.{changes-fails, steps-fail}
 use Rattle.squawk_script.proofs.SlotLists.{sides-pushed, sides-set, stays-set, within}
 
 -- a run's marker that no call has made
@@ -56,7 +58,7 @@ recorded {old} {new} {edited} keeps position records = record {
   went = records.went;
   limit = limit-kept keeps;
   position = position;
-  fails = records-fails old new edited records;
+  fails = steps-fail old new (Exit ∷ []) (refuses-one Exit refl records);
 }
 
 -- none is, and the rest of the parser stays as it is

@@ -20,7 +20,7 @@ use Rattle.squawk_script.specs.declared.call.Call.TheVariants as calls
 use Rattle.squawk_script.specs.declared.slot.Slot.{Slot}
 use Rattle.squawk_script.proofs.Held.{holds-put}
 use Rattle.squawk_script.proofs.MarkerCalls.{Acts, acted, limit-kept}
-use Rattle.squawk_script.proofs.Refusals.{puts-fails}
+use Rattle.squawk_script.proofs.Refusals.{steps-fail}
 
 -- a parser sees what a run at its place does
 seen-same : (s : State) (run : Run) → s.limit ≡ length s.input → run.position ≡ s.position → ahead s 0 ≡ seen s.input run
@@ -40,7 +40,7 @@ puts-performs old new slots call tied puts stays leads makes =
       went = went puts.keeps;
       limit = limit-kept puts.keeps;
       position = puts.position;
-      fails = puts-fails old new steps puts;
+      fails = steps-fail old new steps puts.refused;
     } in
     acted old new slots slots tied call after slots (map is_error steps) acts refl
     (holds-put old.draft.items (items_for old.draft.entries steps) slots (closed-items_for old.draft.entries steps)) (sym stays)
