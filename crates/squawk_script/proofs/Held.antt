@@ -17,7 +17,7 @@ use Rattle.squawk_script.specs.declared.slot.Slot.{Slot}
 use Rattle.squawk_script.specs.declared.slot.Slot.TheVariants.{Open, Done, Spent}
 use Rattle.squawk_output.proofs.LogItems.{Contains-only}
 use Rattle.squawk_script.proofs.EditedItems.{Contains-made, edited-cases}
-use Rattle.squawk_script.proofs.OtherSlots.{before-new, before-spent, done-slot, held-append, held-holes, held-openings, hole-stayed, other-slot, others}
+use Rattle.squawk_script.proofs.OtherSlots.{before-new, before-spent, held-append, held-holes, held-openings, hole-stayed, others}
 use Rattle.squawk_script.proofs.OtherSlots.{same-mark}
 use Rattle.squawk_script.proofs.SlotLists.{within, Contains-set, each-push, each-set, pairs-push, pairs-set}
 
@@ -34,7 +34,7 @@ module _ (items new : List Item) (slots : List Slot) (k : ℕ) (m : Mark) (made 
     order = pairs-set Spent AreInOrder slots k made holds.order (λ slot. rw at (before slot)) (λ slot. rw at (behind slot));
     covers = λ o there.
         let stayed = left o there in
-        Contains-set Spent (Open o) slots k made (other-slot slots k m o at stayed.0) (holds.covers o stayed.1);
+        Contains-set Spent (Open o) slots k made (λ is. stayed.0 (cc)) (holds.covers o stayed.1);
   }
 
 -- a node's opening stands where a marker's hole stood
@@ -148,7 +148,7 @@ holds-preceded s slots k n m at is above holds =
         ]
         | inr stayed ↦
             Contains-append_left (slice_set slots k Spent) (new ∷ []) (Open o)
-            (Contains-set Spent (Open o) slots k Spent (done-slot slots k n o at) (holds.covers o stayed.1))
+            (Contains-set Spent (Open o) slots k Spent (λ is. cc) (holds.covers o stayed.1))
       ];
     }
 
