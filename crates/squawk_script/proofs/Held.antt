@@ -1,6 +1,5 @@
 -- The slots of a run are what the draft has, after each edit of it.
-use Rattle.std.proofs.Common.{length, ◌<◌, ◌≡◌, ◌≢◌, ℕ, true, false, inl, inr, List, [], ◌∷◌, ◌++◌, arith, refl, subst}
-use Rattle.std.specs.Prelude.{Contains, slice_set}
+use Rattle.std.proofs.Common.{◌≡◌, ◌≢◌, inl, inr, ℕ, ◌<◌, true, false, List, [], ◌∷◌, ◌++◌, length, arith, refl, subst, Contains, slice_set}
 use Rattle.std.proofs.lemmas.Bool.{cases_eq, cond_both}
 use Rattle.std.proofs.lemmas.List.Elements.{All-contains, Contains-append_left, Contains-append_cases, Contains-push, Contains-push_cases}
 use Rattle.squawk_output.specs.Draft as draft
@@ -8,8 +7,7 @@ use Rattle.squawk_output.specs.Draft.{Item, Mark, Node, HasNoHole, IsAboveIds, i
 use Rattle.squawk_output.specs.declared.log.Made.TheVariants.{ByPrecede, ByStart}
 use Rattle.squawk_parser.specs.Recorded.{preceding_mark, started_mark}
 use Rattle.squawk_parser.specs.State.{State}
-use Rattle.squawk_output.specs.Edits.{extended_items, filled, is_hole_of, is_opening_of, moved, preceded, preceded_item, replaced, stands_before}
-use Rattle.squawk_output.specs.Edits.{without_hole}
+use Rattle.squawk_output.specs.Edits.{extended_items, filled, is_hole_of, is_opening_of, moved, preceded, preceded_item, replaced, stands_before, without_hole}
 use Rattle.squawk_parser.proofs.Markers.{Contains-others}
 use Rattle.squawk_output.proofs.Groups.{itself}
 use Rattle.squawk_script.specs.Slots.{Holds, IsHeld, AreInOrder, slot_at}
@@ -17,9 +15,8 @@ use Rattle.squawk_script.specs.declared.slot.Slot.{Slot}
 use Rattle.squawk_script.specs.declared.slot.Slot.TheVariants.{Open, Done, Spent}
 use Rattle.squawk_output.proofs.LogItems.{Contains-only}
 use Rattle.squawk_script.proofs.EditedItems.{Contains-made, edited-cases}
-use Rattle.squawk_script.proofs.OtherSlots.{before-new, before-spent, held-append, held-holes, held-openings, hole-stayed, others}
-use Rattle.squawk_script.proofs.OtherSlots.{same-mark}
-use Rattle.squawk_script.proofs.SlotLists.{within, Contains-set, each-push, each-set, pairs-push, pairs-set}
+use Rattle.squawk_script.proofs.OtherSlots.{before-new, before-spent, held-append, held-holes, held-openings, hole-stayed, others, same-mark}
+use Rattle.squawk_script.proofs.SlotLists.{Contains-set, each-push, each-set, pairs-push, pairs-set, within}
 
 -- ---- an open marker's slot is spent
 

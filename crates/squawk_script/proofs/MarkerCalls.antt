@@ -1,6 +1,5 @@
 -- Calls that make markers or spend them.
-use Rattle.std.proofs.Common.{arith, false, ◌≡◌, ◌∙◌, ℕ, ◌<◌, Option, Some, None, List, [], ◌∷◌, ◌++◌, length, set, ap, sym, refl, length-append}
-use Rattle.std.specs.Prelude.{Bool, IsTrue, ◌&&◌, nat_lt}
+use Rattle.std.proofs.Common.{◌≡◌, ◌∙◌, ℕ, ◌<◌, ◌&&◌, Bool, false, Option, Some, None, List, [], ◌∷◌, ◌++◌, arith, length, set, ap, sym, refl, length-append, IsTrue, nat_lt}
 use Rattle.std.proofs.lemmas.Bool.{and_parts, ltb-true}
 use Rattle.std.proofs.lemmas.List.{length-set, map-append, map-set, set-get_or, set-set}
 use Rattle.squawk_output.specs.Draft.{Draft, Mark, Node}

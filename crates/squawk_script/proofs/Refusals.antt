@@ -1,6 +1,5 @@
 -- Which event of a run the limits of its parser refuse.
-use Rattle.std.proofs.Common.{◌≡◌, ◌∙◌, inl, inr, ℕ, zero, suc, ◌+◌, ◌<◌, ◌≤◌, Bool, true, false, Option, Some, None, List, [], ◌∷◌, ◌++◌, length, map, take, arith, ap, sym, refl, subst, append_assoc, length-append}
-use Rattle.std.specs.Prelude.{◌≢◌}
+use Rattle.std.proofs.Common.{◌≡◌, ◌≢◌, ◌∙◌, inl, inr, ℕ, zero, suc, ◌+◌, ◌<◌, ◌≤◌, Bool, true, false, Option, Some, None, List, [], ◌∷◌, ◌++◌, length, map, take, arith, ap, sym, refl, subst, append_assoc, length-append}
 use Rattle.std.proofs.lemmas.Bool.{cases_lt, le-ltb, lt-ltb}
 use Rattle.std.proofs.lemmas.List.{length-map, map-append, take-append-le, take_all, take_at}
 use Rattle.squawk_output.specs.Steps.{Step, errors_in, is_error}
@@ -70,8 +69,9 @@ module _ (events errors : ℕ) (front : List Bool) (next : Bool) (rest : List Bo
   refused-at TooManyErrors limit (wrong, full, lt) =
       let upto : List Bool = front ++ next ∷ [] in
       let first : take events upto ≡ upto = take_all events upto (omega (arith, lt, length-append front (next ∷ []))) in
+      let one : errors_among upto ≡ errors_among front + 1 = errors_among-append front (next ∷ []) ∙ ap (λ b. errors_among front + errors_among (b ∷ [])) wrong in
       ap (refusal events errors) (sym (append_assoc front (next ∷ []) rest))
-      ∙ is-errors events errors (upto ++ rest) (omega (arith, full, errors_among-append front (next ∷ []), ap (λ b. errors_among (b ∷ [])) wrong, ap errors_among first, more-errors-behind events upto rest))
+      ∙ is-errors events errors (upto ++ rest) (omega (arith, full, one, ap errors_among first, more-errors-behind events upto rest))
   refused-at OutOfMemory limit why = absurd (limit refl)
 
 -- one of the errors, behind as many others

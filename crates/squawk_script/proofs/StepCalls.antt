@@ -1,6 +1,5 @@
 -- Calls that put steps at the end of a draft.
-use Rattle.std.proofs.Common.{refl, ◌≡◌, ◌∙◌, ℕ, ◌+◌, Bool, List, [], arith, ap, sym, subst}
-use Rattle.std.specs.Prelude.{IsTrue, length, map, not}
+use Rattle.std.proofs.Common.{◌≡◌, ◌∙◌, ℕ, ◌+◌, Bool, not, List, [], refl, arith, ap, sym, subst, IsTrue, length, map}
 use Rattle.std.proofs.lemmas.Bool.{cond_both}
 use Rattle.squawk_kinds.specs.TokenSets.{has}
 use Rattle.squawk_table.specs.ParserInput.{Entry}
