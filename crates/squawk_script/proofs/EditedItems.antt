@@ -6,9 +6,8 @@ use Rattle.squawk_output.specs.Draft.{Item, IsAboveIds, ids, ids_of}
 use Rattle.squawk_output.specs.Edits.{replaced}
 use Rattle.squawk_output.proofs.LogItems.{Contains-only}
 
--- ---- lists of lists
-
 module _ {X Y : Type 0} (f : X → List Y) (y : Y) where
+  -- what an element gives is in the list of all
   pub Contains-flat_map : (x : X) (xs : List X) → Contains xs x → Contains (f x) y → Contains (flat_map f xs) y
   Contains-flat_map x [] (k, lt, at) gives = absurd (omega arith)
   Contains-flat_map x (z ∷ xs) (zero, lt, at) gives = Contains-append_left (f z) (flat_map f xs) y (subst (λ u. Contains (f u) y) (sym at) gives)

@@ -75,8 +75,8 @@ holds-started s slots m is above holds =
     let hole : Item = draft.Hole s.draft.entries ByStart in
     let new : Slot = Open (started_mark s) in
     rw is record {
-      each =
-          each-push Spent (λ i. IsHeld (items ++ hole ∷ [])) slots new (λ i off. held-append items (hole ∷ []) (slot_at slots i) (holds.each i)) (Contains-push items hole);
+      each = each-push Spent (λ i. IsHeld (items ++ hole ∷ [])) slots new
+          (λ i off. held-append items (hole ∷ []) (slot_at slots i) (holds.each i)) (Contains-push items hole);
       order = pairs-push Spent AreInOrder slots new holds.order (λ i. before-new items (started_mark s) (slot_at slots i) above (holds.each i)) before-spent;
       covers = λ o there. elim (Contains-push_cases items hole (draft.Hole o.id o.made) there) [
         | inl before ↦ Contains-append_left slots (new ∷ []) (Open o) (holds.covers o before)

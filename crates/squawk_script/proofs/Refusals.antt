@@ -99,7 +99,8 @@ module _ (old new : State) where
   steps-fail steps refuses goes before count errors reason fails told =
       let r = refuses goes reason fails in
       let front : List Bool = before ++ map is_error r.front in
-      let long : length front ≡ old.draft.recorded + length r.front = omega (arith, count, length-append before (map is_error r.front), length-map r.front is_error) in
+      let long : length front ≡ old.draft.recorded + length r.front =
+      omega (arith, count, length-append before (map is_error r.front), length-map r.front is_error) in
       let wrong : errors_among front ≡ errors_of old.draft.items + errors_in r.front =
       omega (arith, errors, errors_among-append before (map is_error r.front), errors_among-steps r.front) in
       let all : before ++ map is_error steps ≡ front ++ is_error r.next ∷ map is_error r.rest =
