@@ -1,6 +1,5 @@
 -- The run of a list of calls counts its events.
-use Rattle.std.proofs.Common.{◌≡◌, ◌∙◌, ◌+◌, Bool, List, [], ◌∷◌, ◌++◌, length, map, cond, arith, ap, sym, refl, append_assoc, length-append}
-use Rattle.std.specs.Prelude.{fold}
+use Rattle.std.proofs.Common.{◌≡◌, ◌∙◌, ◌+◌, Bool, List, [], ◌∷◌, ◌++◌, cond, length, map, arith, ap, sym, refl, append_assoc, length-append, fold}
 use Rattle.std.proofs.lemmas.List.{append-nil, length-map}
 use Rattle.std.proofs.lemmas.List.Sums.{sum_by-append}
 use Rattle.squawk_table.specs.ParserInput.{Entry}

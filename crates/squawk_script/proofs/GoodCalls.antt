@@ -26,11 +26,10 @@ module _ (calls : List Call) (statuses : List Status) (i : ℕ) (call : Call) (l
   pub statuses-more : IsTrue (is_admitted statuses call) → AreStatusesOf (take (i + 1) calls) (noted statuses call)
   statuses-more admitted = rw next (statuses-next (take i calls) statuses are call admitted)
 
-  good_here : IsTrue (is_admitted statuses call) → IsGoodAt calls i
-  good_here admitted = at_read calls (λ c. IsTrue (may_follow (take i calls) c)) i call lt read (sym (admitted-follows (take i calls) statuses are call) ∙ admitted)
-
   pub good-more : IsTrue (is_admitted statuses call) → AreGoodBelow calls i → AreGoodBelow calls (i + 1)
-  good-more admitted good = below_more (IsGoodAt calls) i good (good_here admitted)
+  good-more admitted good =
+      let follows = sym (admitted-follows (take i calls) statuses are call) ∙ admitted in
+      below_more (IsGoodAt calls) i good (at_read calls (λ c. IsTrue (may_follow (take i calls) c)) i call lt read follows)
 
   -- a good call is admitted
   pub admitted-at : IsGoodAt calls i → IsTrue (is_admitted statuses call)

@@ -1,6 +1,5 @@
 -- The slots of a run are what the draft has, after each edit of it.
-use Rattle.std.proofs.Common.{length, ◌<◌, ◌≡◌, ◌≢◌, ℕ, true, false, inl, inr, List, [], ◌∷◌, ◌++◌, arith, refl, subst}
-use Rattle.std.specs.Prelude.{Contains, slice_set}
+use Rattle.std.proofs.Common.{◌≡◌, ◌≢◌, inl, inr, ℕ, ◌<◌, true, false, List, [], ◌∷◌, ◌++◌, length, arith, refl, subst, Contains, slice_set}
 use Rattle.std.proofs.lemmas.Bool.{cases_eq, cond_both}
 use Rattle.std.proofs.lemmas.List.Elements.{All-contains, Contains-append_left, Contains-append_cases, Contains-push, Contains-push_cases}
 use Rattle.squawk_output.specs.Draft as draft
@@ -8,8 +7,7 @@ use Rattle.squawk_output.specs.Draft.{Item, Mark, Node, HasNoHole, IsAboveIds, i
 use Rattle.squawk_output.specs.declared.log.Made.TheVariants.{ByPrecede, ByStart}
 use Rattle.squawk_parser.specs.Recorded.{preceding_mark, started_mark}
 use Rattle.squawk_parser.specs.State.{State}
-use Rattle.squawk_output.specs.Edits.{extended_items, filled, is_hole_of, is_opening_of, moved, preceded, preceded_item, replaced, stands_before}
-use Rattle.squawk_output.specs.Edits.{without_hole}
+use Rattle.squawk_output.specs.Edits.{extended_items, filled, is_hole_of, is_opening_of, moved, preceded, preceded_item, replaced, stands_before, without_hole}
 use Rattle.squawk_parser.proofs.Markers.{Contains-others}
 use Rattle.squawk_output.proofs.Groups.{itself}
 use Rattle.squawk_script.specs.Slots.{Holds, IsHeld, AreInOrder, slot_at}
@@ -17,9 +15,8 @@ use Rattle.squawk_script.specs.declared.slot.Slot.{Slot}
 use Rattle.squawk_script.specs.declared.slot.Slot.TheVariants.{Open, Done, Spent}
 use Rattle.squawk_output.proofs.LogItems.{Contains-only}
 use Rattle.squawk_script.proofs.EditedItems.{Contains-made, edited-cases}
-use Rattle.squawk_script.proofs.OtherSlots.{before-new, before-spent, done-slot, held-append, held-holes, held-openings, hole-stayed, other-slot, others}
-use Rattle.squawk_script.proofs.OtherSlots.{same-mark}
-use Rattle.squawk_script.proofs.SlotLists.{within, Contains-set, each-push, each-set, pairs-push, pairs-set}
+use Rattle.squawk_script.proofs.OtherSlots.{before-new, before-spent, held-append, held-holes, held-openings, hole-stayed, others, same-mark}
+use Rattle.squawk_script.proofs.SlotLists.{Contains-set, each-push, each-set, pairs-push, pairs-set, within}
 
 -- ---- an open marker's slot is spent
 
@@ -34,7 +31,7 @@ module _ (items new : List Item) (slots : List Slot) (k : ℕ) (m : Mark) (made 
     order = pairs-set Spent AreInOrder slots k made holds.order (λ slot. rw at (before slot)) (λ slot. rw at (behind slot));
     covers = λ o there.
         let stayed = left o there in
-        Contains-set Spent (Open o) slots k made (other-slot slots k m o at stayed.0) (holds.covers o stayed.1);
+        Contains-set Spent (Open o) slots k made (λ is. stayed.0 (cc)) (holds.covers o stayed.1);
   }
 
 -- a node's opening stands where a marker's hole stood
@@ -78,8 +75,8 @@ holds-started s slots m is above holds =
     let hole : Item = draft.Hole s.draft.entries ByStart in
     let new : Slot = Open (started_mark s) in
     rw is record {
-      each =
-          each-push Spent (λ i. IsHeld (items ++ hole ∷ [])) slots new (λ i off. held-append items (hole ∷ []) (slot_at slots i) (holds.each i)) (Contains-push items hole);
+      each = each-push Spent (λ i. IsHeld (items ++ hole ∷ [])) slots new
+          (λ i off. held-append items (hole ∷ []) (slot_at slots i) (holds.each i)) (Contains-push items hole);
       order = pairs-push Spent AreInOrder slots new holds.order (λ i. before-new items (started_mark s) (slot_at slots i) above (holds.each i)) before-spent;
       covers = λ o there. elim (Contains-push_cases items hole (draft.Hole o.id o.made) there) [
         | inl before ↦ Contains-append_left slots (new ∷ []) (Open o) (holds.covers o before)
@@ -148,7 +145,7 @@ holds-preceded s slots k n m at is above holds =
         ]
         | inr stayed ↦
             Contains-append_left (slice_set slots k Spent) (new ∷ []) (Open o)
-            (Contains-set Spent (Open o) slots k Spent (done-slot slots k n o at) (holds.covers o stayed.1))
+            (Contains-set Spent (Open o) slots k Spent (λ is. cc) (holds.covers o stayed.1))
       ];
     }
 

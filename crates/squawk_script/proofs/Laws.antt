@@ -17,7 +17,7 @@ use Rattle.squawk_script.specs.declared.call.Call.{Call}
 use Rattle.squawk_script.specs.contracts.script.ScriptGrammar.TheImpl as grammar
 use Rattle.squawk_output.proofs.PlainLog.{errors-plain}
 use Rattle.squawk_script.proofs.Events.{errors-events, errors_among-append, recorded-events}
-use Rattle.squawk_script.proofs.Refusals.{Tells, error-at, is-none, refused-error, refused-event, tells}
+use Rattle.squawk_script.proofs.Refusals.{Tells, error-at, is-none, refused-at, tells}
 
 module _ (script : Meaning) (entry other : EntryPoint) (input : List Entry) (d e : Draft) where
   -- two drafts that a script may leave over an input, from the same entry point or from both
@@ -93,14 +93,8 @@ module _ (events errors : ℕ) (es : List Bool) where
 
   -- and the first that finds none is refused
   pub refused-first : (reason : ParseError) → IsFirstRefused events errors es reason → refusal events errors es ≡ Some reason
-  refused-first reason first = ap (refusal events errors) first.is ∙ cases reason first.limit first.why
-    where
-      cases : (r : ParseError) → r ≢ OutOfMemory → IsReason events errors (length first.front) (errors_among first.front) first.next r
-          → refusal events errors (first.front ++ first.next ∷ first.rest) ≡ Some r
-      cases TooManyEvents limit (full, fit) = refused-event events errors first.front first.next first.rest full fit
-      cases TooManyErrors limit (wrong, full, lt) =
-          ap (λ b. refusal events errors (first.front ++ b ∷ first.rest)) wrong ∙ refused-error events errors first.front first.rest lt full
-      cases OutOfMemory limit why = absurd (limit refl)
+  refused-first reason first =
+      ap (refusal events errors) first.is ∙ refused-at events errors first.front first.next first.rest reason first.limit first.why
 
 -- ---- the events of a run
 

@@ -1,14 +1,15 @@
 -- Calls that make markers or spend them.
-use Rattle.std.proofs.Common.{arith, false, ◌≡◌, ◌∙◌, ℕ, ◌<◌, Option, Some, None, List, [], ◌∷◌, ◌++◌, length, set, ap, sym, refl, length-append}
-use Rattle.std.specs.Prelude.{Bool, IsTrue, ◌&&◌, nat_lt}
+use Rattle.std.proofs.Common.{◌≡◌, ◌∙◌, ℕ, ◌<◌, ◌&&◌, Bool, false, Option, Some, None, List, [], ◌∷◌, ◌++◌, arith, length, set, ap, sym, refl, length-append, IsTrue, nat_lt}
 use Rattle.std.proofs.lemmas.Bool.{and_parts, ltb-true}
 use Rattle.std.proofs.lemmas.List.{length-set, map-append, map-set, set-get_or, set-set}
 use Rattle.squawk_output.specs.Draft.{Draft, Mark, Node}
+use Rattle.squawk_output.specs.Steps.{Exit}
 use Rattle.squawk_output.specs.Edits.{abandoned, completed, extended, preceded, started}
 use Rattle.squawk_parser.specs.Recorded.{Begins, Completes, Precedes}
 use Rattle.squawk_parser.specs.State.{State, Changes, HasNotFailed, Keeps, Records}
 use Rattle.squawk_parser.specs.declared.parser.parse_error.ParseError.{ParseError}
 use Rattle.squawk_parser.proofs.Markers.{changed, went-changed}
+use Rattle.squawk_parser.proofs.RecordedSteps.{refuses-one}
 use Rattle.squawk_script.specs.Events.{events_made}
 use Rattle.squawk_script.specs.Meaning.{Run, marker_at, new_marker, seen, stepped}
 use Rattle.squawk_script.specs.Slots.{FailsAt, Holds, IsAt, IsMarkerOf, IsTied, Performs, noted, slot_at, status_of, statuses_of}
@@ -18,7 +19,7 @@ use Rattle.squawk_script.specs.declared.status.Status.TheVariants as status
 use Rattle.squawk_script.specs.declared.slot.Slot.{Slot}
 use Rattle.squawk_script.specs.declared.slot.Slot.TheVariants.{Open, Done, Spent}
 use Rattle.squawk_script.proofs.Held.{holds-abandoned, holds-completed, holds-extended, holds-preceded, holds-started}
-use Rattle.squawk_script.proofs.Refusals.{changes-fails, records-fails}
+use Rattle.squawk_script.proofs.Refusals.{changes-fails, steps-fail}
 use Rattle.squawk_script.proofs.SlotLists.{sides-pushed, sides-set, stays-set, within}
 
 -- a run's marker that no call has made
@@ -41,7 +42,7 @@ is_older node marker k j both = ltb-true k j (and_parts marker (nat_lt k j) (and
 pub limit-kept : {old new : State} → Keeps old new → old.limit ≡ length old.input → new.limit ≡ length new.input
 limit-kept keeps limit = keeps.limit ∙ (limit ∙ ap length (sym keeps.input))
 
--- What an act does to a parser that goes on: its draft and its position are those of the second.
+-- What an act that records these events does: a parser that goes on has the draft and the position of `after`.
 pub record Acts (old new after : State) (events : List Bool) : Type 0 where
   pub draft : HasNotFailed new → new.draft ≡ after.draft
   pub went : HasNotFailed new → HasNotFailed old
@@ -49,17 +50,18 @@ pub record Acts (old new after : State) (events : List Bool) : Type 0 where
   pub position : new.position ≡ after.position
   pub fails : HasNotFailed old → FailsAt old new events
 
--- an event that is no error is recorded
-recorded : {old new : State} {edited : Draft} → Keeps old new → new.position ≡ old.position → Records old new edited → Acts old new (record old { draft = edited }) (false ∷ [])
+-- one event is recorded that is no error
+recorded : {old new : State} {edited : Draft} → Keeps old new → new.position ≡ old.position → Records old new edited
+    → Acts old new (record old { draft = edited }) (false ∷ [])
 recorded {old} {new} {edited} keeps position records = record {
   draft = records.draft;
   went = records.went;
   limit = limit-kept keeps;
   position = position;
-  fails = records-fails old new edited records;
+  fails = steps-fail old new (Exit ∷ []) (refuses-one Exit refl records);
 }
 
--- none is, and the rest of the parser stays as it is
+-- none is recorded, and all but the draft stays as it is
 unrecorded : {old new : State} {edited : Draft} → Changes old new edited → Acts old new (record old { draft = edited }) []
 unrecorded {old} {new} {edited} changes = record {
   draft = changed changes;
@@ -74,7 +76,7 @@ unrecorded {old} {new} {edited} changes = record {
     stays P (Some reason) e all = rw (changes.stays (rw e refl)) (all old.draft)
 
 module _ (old new : State) (slots slots' : List Slot) (tied : IsTied old slots) where
-  -- an act of a call, where the slots and the run become what the parser is
+  -- the act of a call: the slots that it leaves are what the draft has, and its run is where the parser is
   pub acted : (call : Call) (after : State) (made : List Slot) (events : List Bool) → Acts old new after events → slots' ≡ made
       → (Holds old.draft.items slots → Holds after.draft.items made) → statuses_of made ≡ noted (statuses_of slots) call
       → ((run : Run) → IsAt old slots run → IsAt after made (stepped old.words old.input run call))
@@ -87,6 +89,8 @@ module _ (old new : State) (slots slots' : List Slot) (tied : IsTied old slots) 
         record { draft = is.draft ∙ sym (acts.draft goes); position = is.position ∙ sym acts.position; count = is.count; markers = is.markers };
     fails = λ goes run at. rw (makes run at) (acts.fails goes);
   }
+
+  -- ---- the calls
 
   pub start-performs : (m : Mark) → Begins m old new → slots' ≡ slots ++ Open m ∷ [] → Performs old new slots slots' calls.Start
   start-performs m begins now =
@@ -122,7 +126,8 @@ module _ (old new : State) (slots slots' : List Slot) (tied : IsTied old slots) 
       node = Done (record { id = m.id; kind = kind })
 
   -- a run where a slot is spent
-  spent-at : {run : Run} → IsAt old slots run → (k : ℕ) → (length run.markers ≡ length (set slots k Spent)) × ((i : ℕ) → IsMarkerOf (slot_at (set slots k Spent) i) (marker_at run i))
+  spent-at : {run : Run} → IsAt old slots run → (k : ℕ)
+      → (length run.markers ≡ length (set slots k Spent)) × ((i : ℕ) → IsMarkerOf (slot_at (set slots k Spent) i) (marker_at run i))
   spent-at {run} at k = (
     at.count ∙ sym (length-set slots k Spent),
     λ i. stays-set Spent (λ slot. IsMarkerOf slot (marker_at run i)) slots k Spent i (λ was. tt) (at.markers i),

@@ -1,6 +1,5 @@
 -- What the slots of other ids have where the items of one id are edited.
-use Rattle.std.proofs.Common.{◌≡◌, ◌≢◌, ◌∙◌, ℕ, ◌<◌, true, inl, inr, List, [], ◌++◌, arith, refl, sym}
-use Rattle.std.specs.Prelude.{Contains}
+use Rattle.std.proofs.Common.{◌≡◌, ◌≢◌, inl, inr, ℕ, ◌<◌, true, List, [], ◌++◌, arith, refl, Contains}
 use Rattle.std.proofs.lemmas.Bool.{cases_order, eq-eqb, ne_eqb}
 use Rattle.std.proofs.lemmas.List.Elements.{Contains-append_left, Contains-push}
 use Rattle.squawk_output.specs.Draft as draft
@@ -34,13 +33,6 @@ others slots k id has order i other same = elim (cases_order i k) [
   | inr (inl lt) ↦ never-both id (slot_at slots i) (slot_at slots k) (order i k lt) same has
   | inr (inr gt) ↦ never-both id (slot_at slots k) (slot_at slots i) (order k i gt) has same
 ]
-
--- an open marker's slot isn't another's
-pub other-slot : (slots : List Slot) (k : ℕ) (m o : Mark) → slot_at slots k ≡ Open m → o.id ≢ m.id → slot_at slots k ≡ Open o → ⊥
-other-slot slots k m o at other is = other (let same : Open o ≡ Open m = sym is ∙ at in cc)
-
-pub done-slot : (slots : List Slot) (k : ℕ) (n : Node) (o : Mark) → slot_at slots k ≡ Done n → slot_at slots k ≡ Open o → ⊥
-done-slot slots k n o at is = let same : Open o ≡ Done n = sym is ∙ at in cc
 
 -- a marker is what its two fields are
 pub same-mark : (m o : Mark) → m.id ≡ o.id → m.made ≡ o.made → Open m ≡ Open o

@@ -1,15 +1,13 @@
 -- Which event of a run the limits of its parser refuse.
-use Rattle.std.proofs.Common.{◌≡◌, ◌∙◌, inl, inr, ℕ, zero, suc, ◌+◌, ◌<◌, ◌≤◌, Bool, true, false, Option, Some, None, List, [], ◌∷◌, ◌++◌, length, map, take, arith, ap, sym, refl, subst, append_assoc, length-append}
-use Rattle.std.specs.Prelude.{◌≢◌}
-use Rattle.std.proofs.Math.Seq.{take-append_seam}
+use Rattle.std.proofs.Common.{◌≡◌, ◌≢◌, ◌∙◌, inl, inr, ℕ, zero, suc, ◌+◌, ◌<◌, ◌≤◌, Bool, true, false, Option, Some, None, List, [], ◌∷◌, ◌++◌, length, map, take, arith, ap, sym, refl, subst, append_assoc, length-append}
 use Rattle.std.proofs.lemmas.Bool.{cases_lt, le-ltb, lt-ltb}
-use Rattle.std.proofs.lemmas.List.{length-map, map-append, take-append-le, take_all}
+use Rattle.std.proofs.lemmas.List.{length-map, map-append, take-append-le, take_all, take_at}
 use Rattle.squawk_output.specs.Steps.{Step, errors_in, is_error}
-use Rattle.squawk_output.specs.Draft.{Draft}
-use Rattle.squawk_parser.specs.Recorded.{Puts}
-use Rattle.squawk_parser.specs.State.{State, Changes, HasNotFailed, IsReason, Records}
+use Rattle.squawk_output.specs.Draft.{Draft, errors_of}
+use Rattle.squawk_parser.specs.State.{State, Changes, HasNotFailed, IsReason}
 use Rattle.squawk_parser.specs.declared.parser.parse_error.ParseError.{ParseError}
 use Rattle.squawk_parser.specs.declared.parser.parse_error.ParseError.TheVariants.{OutOfMemory, TooManyEvents, TooManyErrors}
+use Rattle.squawk_parser.proofs.RecordedSteps.{Refuses}
 use Rattle.squawk_script.specs.Events.{errors_among, refusal}
 use Rattle.squawk_script.specs.Slots.{FailsAt}
 use Rattle.squawk_script.proofs.Events.{errors_among-append, errors_among-cons, errors_among-steps}
@@ -61,22 +59,20 @@ refusal-append events errors xs ys reason is = cases reason (tells events errors
         is-events events errors (xs ++ ys) (omega (arith, few, ap errors_among same), omega (arith, more, length-append xs ys))
     cases OutOfMemory never = absurd never
 
--- an event that finds no room for it
-pub refused-event : (events errors : ℕ) (front : List Bool) (x : Bool) (rest : List Bool) → length front ≡ events → errors_among front ≤ errors
-    → refusal events errors (front ++ x ∷ rest) ≡ Some TooManyEvents
-refused-event events errors front x rest full fit =
-    let first : take events (front ++ x ∷ rest) ≡ front = subst (λ n. take n (front ++ x ∷ rest) ≡ front) full (take-append_seam front (x ∷ rest)) in
-    is-events events errors (front ++ x ∷ rest) (omega (arith, fit, ap errors_among first), omega (arith, full, length-append front (x ∷ rest)))
-
--- an error that finds none among the errors
-pub refused-error : (events errors : ℕ) (front rest : List Bool) → length front < events → errors_among front ≡ errors
-    → refusal events errors (front ++ true ∷ rest) ≡ Some TooManyErrors
-refused-error events errors front rest lt full =
-    let upto : List Bool = front ++ true ∷ [] in
-    let all : upto ++ rest ≡ front ++ true ∷ rest = append_assoc front (true ∷ []) rest in
-    let first : take events upto ≡ upto = take_all events upto (omega (arith, lt, length-append front (true ∷ []))) in
-    ap (refusal events errors) (sym all)
-    ∙ is-errors events errors (upto ++ rest) (omega (arith, full, errors_among-append front (true ∷ []), ap errors_among first, more-errors-behind events upto rest))
+-- an event that finds no room, where those in front of it found room
+module _ (events errors : ℕ) (front : List Bool) (next : Bool) (rest : List Bool) where
+  pub refused-at : (reason : ParseError) → reason ≢ OutOfMemory → IsReason events errors (length front) (errors_among front) next reason
+      → refusal events errors (front ++ next ∷ rest) ≡ Some reason
+  refused-at TooManyEvents limit (full, fit) =
+      let first : take events (front ++ next ∷ rest) ≡ front = take_at front (next ∷ rest) events full in
+      is-events events errors (front ++ next ∷ rest) (omega (arith, fit, ap errors_among first), omega (arith, full, length-append front (next ∷ rest)))
+  refused-at TooManyErrors limit (wrong, full, lt) =
+      let upto : List Bool = front ++ next ∷ [] in
+      let first : take events upto ≡ upto = take_all events upto (omega (arith, lt, length-append front (next ∷ []))) in
+      let one : errors_among upto ≡ errors_among front + 1 = errors_among-append front (next ∷ []) ∙ ap (λ b. errors_among front + errors_among (b ∷ [])) wrong in
+      ap (refusal events errors) (sym (append_assoc front (next ∷ []) rest))
+      ∙ is-errors events errors (upto ++ rest) (omega (arith, full, one, ap errors_among first, more-errors-behind events upto rest))
+  refused-at OutOfMemory limit why = absurd (limit refl)
 
 -- one of the errors, behind as many others
 pub record HasError (n : ℕ) (es : List Bool) : Type 0 where
@@ -97,51 +93,23 @@ error-at (suc n) (true ∷ es) lt =
 
 -- ---- what a parser is refused
 
--- one of its steps, where these events stand before them
-module _ (events errors : ℕ) (before : List Bool) (front : List Step) (next : Step) (rest : List Step) where
-  abbrev all : List Bool
-  all = before ++ map is_error (front ++ next ∷ rest)
-
-  all-split : all ≡ (before ++ map is_error front) ++ is_error next ∷ map is_error rest
-  all-split =
-      ap (λ es. before ++ es) (map-append is_error front (next ∷ rest)) ∙ sym (append_assoc before (map is_error front) (is_error next ∷ map is_error rest))
-
-  long : length (before ++ map is_error front) ≡ length before + length front
-  long = omega (arith, length-append before (map is_error front), length-map front is_error)
-
-  wrong : errors_among (before ++ map is_error front) ≡ errors_among before + errors_in front
-  wrong = omega (arith, errors_among-append before (map is_error front), errors_among-steps front)
-
-  refused-step : (reason : ParseError) → reason ≢ OutOfMemory → IsReason events errors (length before + length front) (errors_among before + errors_in front) (is_error next) reason
-      → refusal events errors all ≡ Some reason
-  refused-step TooManyEvents told (full, fit) =
-      ap (refusal events errors) all-split
-      ∙ refused-event events errors (before ++ map is_error front) (is_error next) (map is_error rest) (long ∙ full) (omega (arith, wrong, fit))
-  refused-step TooManyErrors told (is, full, lt) =
-      ap (refusal events errors) (all-split ∙ ap (λ b. (before ++ map is_error front) ++ b ∷ map is_error rest) is)
-      ∙ refused-error events errors (before ++ map is_error front) (map is_error rest) (omega (arith, long, lt)) (wrong ∙ full)
-  refused-step OutOfMemory told why = absurd (told refl)
-
 module _ (old new : State) where
-  -- steps that are put at the end
-  pub puts-fails : (steps : List Step) → Puts steps old new → HasNotFailed old → FailsAt old new (map is_error steps)
-  puts-fails steps puts goes before count errors reason fails told =
-      let r = puts.refused goes reason fails in
-      let Why : ℕ → ℕ → Type 0 = λ n e. IsReason old.max_events old.max_errors (n + length r.front) (e + errors_in r.front) (is_error r.next) reason in
-      let why : Why (length before) (errors_among before) = subst (λ n. Why n (errors_among before)) (sym count) (subst (Why old.draft.recorded) (sym errors) r.why) in
-      ap (λ xs. refusal old.max_events old.max_errors (before ++ map is_error xs)) r.is
-      ∙ refused-step old.max_events old.max_errors before r.front r.next r.rest reason told why
+  -- one of its steps
+  pub steps-fail : (steps : List Step) → Refuses steps old new → HasNotFailed old → FailsAt old new (map is_error steps)
+  steps-fail steps refuses goes before count errors reason fails told =
+      let r = refuses goes reason fails in
+      let front : List Bool = before ++ map is_error r.front in
+      let long : length front ≡ old.draft.recorded + length r.front =
+      omega (arith, count, length-append before (map is_error r.front), length-map r.front is_error) in
+      let wrong : errors_among front ≡ errors_of old.draft.items + errors_in r.front =
+      omega (arith, errors, errors_among-append before (map is_error r.front), errors_among-steps r.front) in
+      let all : before ++ map is_error steps ≡ front ++ is_error r.next ∷ map is_error r.rest =
+      ap (λ xs. before ++ map is_error xs) r.is
+      ∙ (ap (λ es. before ++ es) (map-append is_error r.front (r.next ∷ r.rest)) ∙ sym (append_assoc before (map is_error r.front) (is_error r.next ∷ map is_error r.rest))) in
+      ap (refusal old.max_events old.max_errors) all
+      ∙ refused-at old.max_events old.max_errors front (is_error r.next) (map is_error r.rest) reason told (rw (long, wrong) r.why)
 
-  -- one event that is no error
-  pub records-fails : (edited : Draft) → Records old new edited → HasNotFailed old → FailsAt old new (false ∷ [])
-  records-fails edited records goes before count errors TooManyEvents fails told =
-      let why = records.refused goes TooManyEvents fails in
-      refused-event old.max_events old.max_errors before false [] (count ∙ why.0) (omega (arith, errors, why.1))
-  records-fails edited records goes before count errors TooManyErrors fails told =
-      let why = records.refused goes TooManyErrors fails in absurd (let never = why.0 in cc)
-  records-fails edited records goes before count errors OutOfMemory fails told = absurd (told refl)
-
-  -- none
+  -- none of its events
   pub changes-fails : (edited : Draft) → Changes old new edited → HasNotFailed old → FailsAt old new []
   changes-fails edited changes goes before count errors reason fails told =
       let same : new.first_reason ≡ old.first_reason = ap (λ s. s.first_reason) (changes.goes goes) in

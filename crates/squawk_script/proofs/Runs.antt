@@ -1,20 +1,17 @@
 -- Where a run of calls stands, before the call at a place.
-use Rattle.std.proofs.Common.{◌≡◌, ◌∙◌, ℕ, ◌+◌, ◌<◌, ◌≤◌, Bool, true, false, Option, Some, None, List, [], ◌∷◌, ◌++◌, length, get_or, take, ap, sym, refl, subst}
-use Rattle.std.specs.Prelude.{◌≢◌, Contains, IsTrue}
+use Rattle.std.proofs.Common.{◌≡◌, ◌≢◌, ◌∙◌, ℕ, ◌+◌, ◌<◌, ◌≤◌, Bool, true, false, Option, Some, None, List, [], ◌∷◌, ◌++◌, length, get_or, take, ap, sym, refl, subst, Contains, IsTrue}
 use Rattle.std.proofs.Math.ListN.{get_or-map}
 use Rattle.std.proofs.lemmas.List.{get_or_default, take_all}
 use Rattle.std.proofs.lemmas.List.Elements.{All-contains_itself, All-weaker}
 use Rattle.std.proofs.lemmas.List.Sums.{fold-append}
-use Rattle.squawk_table.specs.ParserInput.{Entry}
 use Rattle.squawk_output.specs.Draft as draft
 use Rattle.squawk_output.specs.Draft.{HasNoHole, Item, Mark, errors_of, is_hole}
 use Rattle.squawk_parser.specs.State.{State, HasNotFailed, IsFresh, Keeps}
-use Rattle.squawk_parser.specs.Words.{Words}
 use Rattle.squawk_parser.specs.declared.parser.parse_error.ParseError.{ParseError}
 use Rattle.squawk_parser.specs.declared.parser.parse_error.ParseError.TheVariants.{OutOfMemory}
 use Rattle.squawk_parser.proofs.RecordedSteps.{Keeps-none, Keeps-then, went}
 use Rattle.squawk_script.specs.Accepted.{IsAccepted}
-use Rattle.squawk_script.specs.Events.{FailsByLimits, IsRunOf, errors_among, events_made, events_of, refusal}
+use Rattle.squawk_script.specs.Events.{FailsByLimits, IsRunOf, events_made, events_of, refusal}
 use Rattle.squawk_script.specs.Meaning.{Run, begin, run_of, seen, stepped}
 use Rattle.squawk_script.specs.Slots.{Holds, IsAt, IsTied, Performs, is_admitted, is_status_open, slot_at, status_of, statuses_of}
 use Rattle.squawk_script.specs.declared.call.Call.{Call}
@@ -68,44 +65,35 @@ module _ (start : State) (calls : List Call) (s : State) (slots : List Slot) (i 
     keeps = Keeps-then stands.keeps keeps;
     statuses = rw performs.statuses (statuses-more calls (statuses_of slots) i call lt is stands.statuses (stands-admitted accepted));
     at = λ goes.
-        let run : Run = run_of start.words start.input (take i calls) in
         let more : run_of start.words start.input (take (i + 1) calls) ≡ stepped start.words start.input run call =
-        ap (run_of start.words start.input) (next calls (statuses_of slots) i call lt is stands.statuses) ∙ fold-append (stepped start.words start.input) begin (take i calls) (call ∷ []) in
-        subst (IsAt t slots') (sym more)
-        (subst (λ words. IsAt t slots' (stepped words start.input run call)) stands.keeps.words
-        (subst (λ input. IsAt t slots' (stepped s.words input run call)) stands.keeps.input
-        (performs.step goes run (stands.at (went keeps goes)))));
+        ap (run_of start.words start.input) upto ∙ fold-append (stepped start.words start.input) begin (take i calls) (call ∷ []) in
+        rw more (rw (stands.keeps.words, stands.keeps.input) at (performs.step goes run (stands.at (went keeps goes))));
     fails = λ reason failed told.
-        let more : events_of start.words start.input (take (i + 1) calls) ≡ before ++ made start.words start.input =
-        ap (events_of start.words start.input) (next calls (statuses_of slots) i call lt is stands.statuses) ∙ events-more start.words start.input (take i calls) call in
-        ap (refusal start.max_events start.max_errors) more ∙ refused s.first_reason refl reason failed told;
+        ap (refusal start.max_events start.max_errors) (ap (events_of start.words start.input) upto ∙ events-more start.words start.input (take i calls) call)
+        ∙ refused s.first_reason refl reason failed told;
   }
     where
       run : Run
       run = run_of start.words start.input (take i calls)
 
+      upto : take (i + 1) calls ≡ take i calls ++ call ∷ []
+      upto = next calls (statuses_of slots) i call lt is stands.statuses
+
       before : List Bool
       before = events_of start.words start.input (take i calls)
 
-      made : Words → List Entry → List Bool
-      made words input = events_made words (seen input run) call
-
       -- what is refused before the call stays so, and else it is the call that is refused
       refused : (first : Option ParseError) → s.first_reason ≡ first → (reason : ParseError) → t.first_reason ≡ Some reason → reason ≢ OutOfMemory
-          → refusal start.max_events start.max_errors (before ++ made start.words start.input) ≡ Some reason
+          → refusal start.max_events start.max_errors (before ++ events_made start.words (seen start.input run) call) ≡ Some reason
       refused None goes reason failed told =
           let at : IsAt s slots run = stands.at goes in
-          let count : length before ≡ s.draft.recorded = recorded-events start.words start.input (take i calls) ∙ ap (λ d. d.recorded) at.draft in
-          let errors : errors_among before ≡ errors_of s.draft.items =
-          errors-events start.words start.input (take i calls) ∙ ap (λ d. errors_of d.items) at.draft in
-          let Told : ℕ → ℕ → List Bool → Type 0 = λ events errors made. refusal events errors (before ++ made) ≡ Some reason in
-          subst (λ words. Told start.max_events start.max_errors (made words start.input)) stands.keeps.words
-          (subst (λ input. Told start.max_events start.max_errors (made s.words input)) stands.keeps.input
-          (subst (λ n. Told n start.max_errors (made s.words s.input)) stands.keeps.max_events
-          (subst (λ n. Told s.max_events n (made s.words s.input)) stands.keeps.max_errors (performs.fails goes run at before count errors reason failed told))))
+          let count = recorded-events start.words start.input (take i calls) ∙ ap (λ d. d.recorded) at.draft in
+          let errors = errors-events start.words start.input (take i calls) ∙ ap (λ d. errors_of d.items) at.draft in
+          rw (stands.keeps.words, stands.keeps.input, stands.keeps.max_events, stands.keeps.max_errors) at
+          (performs.fails goes run at before count errors reason failed told)
       refused (Some r) failing reason failed told =
           let same : s.first_reason ≡ Some reason = sym (keeps.reason (rw failing refl)) ∙ failed in
-          refusal-append start.max_events start.max_errors before (made start.words start.input) reason (stands.fails reason same told)
+          refusal-append start.max_events start.max_errors before (events_made start.words (seen start.input run) call) reason (stands.fails reason same told)
 
 -- ---- behind the last call
 
@@ -133,9 +121,7 @@ module _ (start : State) (calls : List Call) (s : State) (slots : List Slot) (i 
   ends-closed goes = none s.draft.items (λ m there. absurd (open-slot slots m ends-spent ((stands.tied.holds goes).covers m there)))
 
   pub ends-at : HasNotFailed s → IsRunOf (record { calls = calls; words = start.words }) start.input s.draft
-  ends-at goes =
-      let at : IsAt s slots (run_of start.words start.input calls) = subst (λ before. IsAt s slots (run_of start.words start.input before)) (take_all i calls end) (stands.at goes) in
-      sym at.draft
+  ends-at goes = sym (stands.at goes).draft ∙ ap (λ before. (run_of start.words start.input before).draft) (take_all i calls end)
 
   pub ends-fails : FailsBy start calls s
   ends-fails = subst (λ before. FailsBy start before s) (take_all i calls end) stands.fails

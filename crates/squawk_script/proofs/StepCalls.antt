@@ -1,6 +1,5 @@
 -- Calls that put steps at the end of a draft.
-use Rattle.std.proofs.Common.{refl, ◌≡◌, ◌∙◌, ℕ, ◌+◌, Bool, List, [], arith, ap, sym, subst}
-use Rattle.std.specs.Prelude.{IsTrue, length, map, not}
+use Rattle.std.proofs.Common.{◌≡◌, ◌∙◌, ℕ, ◌+◌, Bool, not, List, [], refl, arith, ap, sym, subst, IsTrue, length, map}
 use Rattle.std.proofs.lemmas.Bool.{cond_both}
 use Rattle.squawk_kinds.specs.TokenSets.{has}
 use Rattle.squawk_table.specs.ParserInput.{Entry}
@@ -20,7 +19,7 @@ use Rattle.squawk_script.specs.declared.call.Call.TheVariants as calls
 use Rattle.squawk_script.specs.declared.slot.Slot.{Slot}
 use Rattle.squawk_script.proofs.Held.{holds-put}
 use Rattle.squawk_script.proofs.MarkerCalls.{Acts, acted, limit-kept}
-use Rattle.squawk_script.proofs.Refusals.{puts-fails}
+use Rattle.squawk_script.proofs.Refusals.{steps-fail}
 
 -- a parser sees what a run at its place does
 seen-same : (s : State) (run : Run) → s.limit ≡ length s.input → run.position ≡ s.position → ahead s 0 ≡ seen s.input run
@@ -40,7 +39,7 @@ puts-performs old new slots call tied puts stays leads makes =
       went = went puts.keeps;
       limit = limit-kept puts.keeps;
       position = puts.position;
-      fails = puts-fails old new steps puts;
+      fails = steps-fail old new steps puts.refused;
     } in
     acted old new slots slots tied call after slots (map is_error steps) acts refl
     (holds-put old.draft.items (items_for old.draft.entries steps) slots (closed-items_for old.draft.entries steps)) (sym stays)

@@ -1,5 +1,4 @@
-use Rattle.std.proofs.Common.{◌≡◌}
-use Rattle.std.specs.Prelude.{vec_capacity}
+use Rattle.std.proofs.Common.{◌≡◌, vec_capacity}
 use Rattle.squawk_script.specs.Accepted.{markers_of}
 use Rattle.squawk_script.proofs.Runs.{Stands}
 use Rattle.squawk_script.proofs.run.run_calls.Given as goal
