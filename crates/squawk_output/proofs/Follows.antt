@@ -116,18 +116,18 @@ module _ (log : Log) (kinds : List ℕ) (output : Passed) (from : Option ℕ) wh
           chain-some left (at + distance) (is_start_at-within left (at + distance) follows_here.lands),
         )
 
-    module _ (kind : ℕ) (link : Option ℕ) (x d t : Event) (got : x ≡ get_or left (at + distance) d) (is : x ≡ Start kind link) (gone : t ≡ tombstone) where
+    module _ (kind : ℕ) (link : Option ℕ) (d t : Event) (is : get_or left (at + distance) d ≡ Start kind link) (gone : t ≡ tombstone) where
       pub Follows-next : (more : List ℕ) (turned : Passed) → more ≡ found ++ kind ∷ [] → turned ≡ record made { turns = made.turns + 1 }
           → Follows log kinds output from (set left (at + distance) t) more turned (hop (at + distance) link)
       Follows-next more turned pushed turn =
           let follows_here = rw some at follows in
-          rw (gone, pushed, turn) (followed left found made (at + distance) kind link d (sym got ∙ is) follows_here)
+          rw (gone, pushed, turn) (followed left found made (at + distance) kind link d is follows_here)
 
       -- less of the chain is left
       pub chain-shorter : length (chain (hop (at + distance) link) (set left (at + distance) t)) < length (chain (hop at next) left)
       chain-shorter =
           let follows_here = rw some at follows in
-          let here = chain-start left (at + distance) kind link d tombstone (sym got ∙ is) (is_start_at-within left (at + distance) follows_here.lands) follows_here.links in
+          let here = chain-start left (at + distance) kind link d tombstone is (is_start_at-within left (at + distance) follows_here.lands) follows_here.links in
           rw (gone, some) (omega (arith, ap length here))
 
   -- where no link is left, the chain is at its end

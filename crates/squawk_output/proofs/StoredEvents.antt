@@ -93,11 +93,11 @@ module _ (texts : List (List ℕ)) (events : List StoredEvent) (at next : ℕ) (
   link_within = omega (arith, is_start_at-within (log_in texts events) (at + next) lands_there, length-log_in texts events)
 
   pub landed : (kind link : ℕ) (x e : StoredEvent) → x ≡ get_or events (at + next) e → node_kind (event_of texts x) ≡ kind
-      → forward_parent (event_of texts x) ≡ link_of link → event_of texts x ≡ event.Start kind (link_of link)
+      → forward_parent (event_of texts x) ≡ link_of link → get_or (log_in texts events) (at + next) event.Finish ≡ event.Start kind (link_of link)
   landed kind link x e got k l =
-      let start : is_start (event_of texts x) ≡ true =
-      ap is_start (event_at texts events (at + next) x e event.Finish link_within got) ∙ is_start_at-event (log_in texts events) (at + next) event.Finish lands_there in
-      start-is (event_of texts x) start ∙ (ap (λ y. event.Start y (forward_parent (event_of texts x))) k ∙ ap (event.Start kind) l)
+      let found = event_at texts events (at + next) x e event.Finish link_within got in
+      let start = ap is_start found ∙ is_start_at-event (log_in texts events) (at + next) event.Finish lands_there in
+      sym found ∙ (start-is (event_of texts x) start ∙ (ap (λ y. event.Start y (forward_parent (event_of texts x))) k ∙ ap (event.Start kind) l))
 
 pub leads_on : (x : Event) (log : Log) → Lands x log → LeadsOn x
 leads_on (event.Start kind None) log lands = tt
