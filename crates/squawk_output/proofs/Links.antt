@@ -22,7 +22,7 @@ Lands-still (Start kind None) xs ys still h = tt
 Lands-still (Start kind (Some distance)) xs ys still h = (h.0, still (distance - 1) h.1)
 Lands-still event xs ys still h = tt
 
-Lands-ahead : (event : Event) (log : Log) → Lands event log → LandsAt log (ahead event)
+pub Lands-ahead : (event : Event) (log : Log) → Lands event log → LandsAt log (ahead event)
 Lands-ahead (Start kind None) log h = tt
 Lands-ahead (Start kind (Some distance)) log h = h.1
 Lands-ahead event log h = tt
