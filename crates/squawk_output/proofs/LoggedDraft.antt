@@ -1,11 +1,10 @@
 -- What the draft of every log keeps.
-use Rattle.std.proofs.Common.{◌≡◌, ◌∙◌, ℕ, ◌+◌, ◌==◌, ◌<◌, ◌≤◌, Bool, false, List, [], ◌∷◌, ◌++◌, length, length-append, get_or, refl, sym, ap, arith, cond, if◌then◌else◌, inl, inr}
-use Rattle.std.specs.Prelude.{All, count_by}
-use Rattle.std.proofs.lemmas.Bool.{cases_lt, ne_eqb}
+use Rattle.std.proofs.Common.{◌≡◌, ◌∙◌, ℕ, ◌+◌, ◌==◌, ◌≤◌, Bool, false, List, [], ◌∷◌, ◌++◌, length, length-append, get_or, refl, sym, ap, arith, cond, if◌then◌else◌, inl, inr}
+use Rattle.std.specs.Prelude.{count_by}
+use Rattle.std.proofs.lemmas.Bool.{ne_eqb}
 use Rattle.std.proofs.lemmas.Bool.Decides.{eqb_tells}
 use Rattle.std.proofs.lemmas.Grind.{flat_map-append}
 use Rattle.std.proofs.lemmas.List.Sums.{sum_by-append}
-use Rattle.std.proofs.lemmas.List.Elements.{All-cons, All-nil}
 use Rattle.squawk_output.specs.declared.event.Event.TheVariants.{Finish}
 use Rattle.squawk_output.specs.Draft.{IsLogged, Item, ids, ids_of}
 use Rattle.squawk_output.specs.EventLog.{Log}
@@ -13,10 +12,9 @@ use Rattle.squawk_output.specs.LogDraft.{IsRecord, draft_items, draft_of}
 use Rattle.squawk_output.proofs.GatheredItems.{draft_items-gathered, made_by, place_items}
 use Rattle.squawk_output.proofs.Gathered.{least_owner}
 use Rattle.squawk_output.proofs.Groups.{itself}
-use Rattle.squawk_output.proofs.LogItems.{items_of-cases}
+use Rattle.squawk_output.proofs.LogItems.{ids_within, items_of-cases}
 use Rattle.squawk_output.proofs.LogTurns.{turns_of-most}
-use Rattle.squawk_output.proofs.Sizes.{size-gathered, total, total-most, total-one, total-ones, total-past}
-use Rattle.squawk_output.proofs.Sums.{count_by-cons}
+use Rattle.squawk_output.proofs.Sizes.{size-gathered, total, total-most, total-one, total-ones}
 
 -- ---- an item an event at most
 
@@ -60,24 +58,10 @@ module _ (id : ℕ) where
             (get_or log j Finish) (get_or marks j false) (λ marked. once_there j) (λ kind link is unmarked whole. once_there j)),
       )
 
--- numbers that don't occur from n on are below n
-below-counts : (n : ℕ) (is : List ℕ) → ((id : ℕ) → n ≤ id → count_by (λ i. i == id) is ≡ 0) → All (λ i. i < n) is
-below-counts n [] none = All-nil (λ i. i < n)
-below-counts n (i ∷ is) none =
-    All-cons (λ i. i < n) i is first (below-counts n is (λ id past. omega (arith, none id past, count_by-cons (λ i. i == id) i is)))
-  where
-    first : i < n
-    first =
-        elim (cases_lt i n) [
-          | inl lt ↦ lt
-          | inr past ↦ absurd (omega (arith, none i past, count_by-cons (λ j. j == i) i is, ap {B = ℕ} (λ b. cond b 1 0) (itself i)))
-        ]
-
 pub IsLogged-draft_of : (log : Log) (marks : List Bool) (recorded wrong : ℕ) → IsRecord log marks recorded wrong → IsLogged (draft_of log marks recorded)
 IsLogged-draft_of log marks recorded wrong is = record {
   few = omega (arith, length-draft_items log marks, is.few);
   turns = omega (arith, turns_of-most log, is.few);
-  below = below-counts (length log) (ids (draft_items log marks))
-      (λ id past. omega (arith, times-draft_items id log marks, total-past id 1 (length log) past));
+  below = ids_within log marks;
   once = λ id. omega (arith, times-draft_items id log marks, total-one id 1 (length log));
 }

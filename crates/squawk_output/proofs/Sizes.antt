@@ -37,16 +37,6 @@ total-one (suc place) most (suc n) =
     total-same (λ i. if suc place == suc i then most else 0) (λ i. if place == i then most else 0) n (λ i. rw (eqb-suc-suc place i) refl) in
     omega (arith, first, rest, total-one place most n)
 
--- and none below it
-pub total-past : (place most n : ℕ) → n ≤ place → total (λ i. if place == i then most else 0) n ≡ 0
-total-past place most zero past = refl
-total-past zero most (suc n) past = absurd (omega arith)
-total-past (suc place) most (suc n) past =
-    let first : (if suc place == zero then most else 0) ≡ 0 = rw (eqb-suc-zero place) refl in
-    let rest : total (λ i. if suc place == suc i then most else 0) n ≡ total (λ i. if place == i then most else 0) n =
-    total-same (λ i. if suc place == suc i then most else 0) (λ i. if place == i then most else 0) n (λ i. rw (eqb-suc-suc place i) refl) in
-    omega (arith, first, rest, total-past place most n (omega arith))
-
 pub total-ones : (n : ℕ) → total (λ i. 1) n ≡ n
 total-ones zero = refl
 total-ones (suc n) = omega (arith, total-ones n)

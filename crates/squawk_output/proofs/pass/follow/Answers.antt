@@ -1,8 +1,7 @@
 use Rattle.std.proofs.Common.{◌+◌, ap, arith}
-use Rattle.squawk_output.specs.StoredEvents.{event_of, link_of, log_in}
-use Rattle.squawk_output.specs.declared.event.Event.TheVariants.{Finish}
+use Rattle.squawk_output.specs.StoredEvents.{event_of, link_of}
 use Rattle.squawk_output.proofs.Follows.{Follows-next, chain-shorter, ends-events, ends-kinds, ends-passed, turn_fits}
-use Rattle.squawk_output.proofs.StoredEvents.{HaveEventTexts-set, event_at, landed, length-log_in, link_of-none, link_of-some, link_within, log_in-set}
+use Rattle.squawk_output.proofs.StoredEvents.{HaveEventTexts-set, landed, length-log_in, link_of-none, link_of-some, link_within, log_in-set}
 use Rattle.squawk_output.proofs.pass.follow.Goals as goal
 
 pub turn-requires : goal.turn-requires
