@@ -16,9 +16,8 @@ use Rattle.squawk_output.proofs.Gathered.{flat_map-twice, gathered, least_owner,
 use Rattle.squawk_output.specs.LogDraft.{draft_items}
 use Rattle.squawk_output.proofs.GatheredItems.{draft_items-gathered, draft_items-same, flat_map-draft_items, made_by, place_items}
 use Rattle.squawk_output.proofs.Groups.{itself}
-use Rattle.squawk_output.proofs.LinkedLog.{gathered-joined, owner-elsewhere, owner-remains}
 use Rattle.squawk_output.proofs.LogItems.{IsNodeAt, no_hole, no_opening, replaced-none}
-use Rattle.squawk_output.proofs.Owners.{farthest, owner-most}
+use Rattle.squawk_output.proofs.Owners.{farthest, gathered-joined, owner-elsewhere, owner-most, owner-remains}
 use Rattle.squawk_output.proofs.StandsBefore.{each-before, each-behind, group-none, group-some}
 
 module _ (log : Log) (marks : List Bool) (id node kind d : ℕ) (same : length marks ≡ length log) (far : node ≡ id + suc d) (hole : get_or log id Finish ≡ tombstone)

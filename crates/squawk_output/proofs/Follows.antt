@@ -2,13 +2,14 @@
 use Rattle.std.proofs.Common.{◌≡◌, ◌∙◌, ℕ, zero, suc, ◌+◌, ◌-◌, ◌<◌, ◌≤◌, Some, None, Option, List, [], ◌∷◌, ◌++◌, length, get_or, set, drop, refl, sym, ap, subst, arith, append_assoc}
 use Rattle.std.proofs.Math.Nat.{suc-add}
 use Rattle.std.proofs.lemmas.List.{length-set, append-nil, set-get_or}
+use Rattle.squawk_kinds.specs.Kinds.{TOMBSTONE}
 use Rattle.squawk_output.specs.Steps.{Step, Passed}
 use Rattle.squawk_output.specs.declared.event.Event.{Event}
 use Rattle.squawk_output.specs.declared.event.Event.TheVariants.{Start}
 use Rattle.squawk_output.specs.EventLog.{LinksLead, Log, ahead}
 use Rattle.squawk_output.specs.Chain.{LandsAt, chain, erased, hop, tombstone}
 use Rattle.squawk_output.specs.Pass.{Follows}
-use Rattle.squawk_output.proofs.Links.{LinksLead-without, is_start_at-within}
+use Rattle.squawk_output.proofs.Links.{LinksLead-unlinked, is_start_at-within}
 
 pub erased-None : (log : Log) → erased None log ≡ log
 erased-None [] = refl
@@ -95,7 +96,7 @@ module _ (log : Log) (kinds : List ℕ) (output : Passed) (from : Option ℕ) wh
       let rest = chain (hop place link) (set left place tombstone) in
       record {
         same_length = length-set left place tombstone ∙ follows.same_length;
-        links = LinksLead-without left place follows.links;
+        links = LinksLead-unlinked left place TOMBSTONE follows.links;
         lands = LandsAt-start left place kind link d tombstone is lt follows.links;
         leaves = sym (erased-start left place kind link d is lt follows.links) ∙ follows.leaves;
         finds = append_assoc found (kind ∷ []) rest ∙ (ap (λ ys. found ++ ys) (sym here) ∙ follows.finds);

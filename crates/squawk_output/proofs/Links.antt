@@ -1,10 +1,9 @@
 -- Logs whose links lead to later Starts.
 use Rattle.std.proofs.Common.{◌≡◌, ℕ, zero, suc, ◌-◌, ◌<◌, true, Some, None, Option, [], ◌∷◌, length, get_or, set, drop, refl, arith}
-use Rattle.squawk_kinds.specs.Kinds.{TOMBSTONE}
 use Rattle.squawk_output.specs.declared.event.Event.{Event}
 use Rattle.squawk_output.specs.declared.event.Event.TheVariants.{Start}
 use Rattle.squawk_output.specs.EventLog.{Lands, LinksLead, Log, ahead, is_start, is_start_at}
-use Rattle.squawk_output.specs.Chain.{LandsAt, erased, tombstone}
+use Rattle.squawk_output.specs.Chain.{LandsAt, erased}
 
 pub is_start_at-within : (log : Log) (place : ℕ) → is_start_at log place ≡ true → place < length log
 is_start_at-within [] place h = absurd (cc)
@@ -41,10 +40,6 @@ LinksLead-unlinked [] place kind links = links
 LinksLead-unlinked (x ∷ xs) zero kind links = (tt, links.1)
 LinksLead-unlinked (x ∷ xs) (suc n) kind links =
     (Lands-still x xs (set xs n (Start kind None)) (start-set xs n kind None) links.0, LinksLead-unlinked xs n kind links.1)
-
--- what is taken out leaves a Start, too
-pub LinksLead-without : (log : Log) (place : ℕ) → LinksLead log → LinksLead (set log place tombstone)
-LinksLead-without log place links = LinksLead-unlinked log place TOMBSTONE links
 
 -- ---- a chain taken out
 

@@ -17,9 +17,8 @@ use Rattle.squawk_output.proofs.Gathered.{gathered, least_owner}
 use Rattle.squawk_output.specs.LogDraft.{draft_items, items_of}
 use Rattle.squawk_output.proofs.GatheredItems.{draft_items-gathered, draft_items-same, flat_map-draft_items, made_by, place_items}
 use Rattle.squawk_output.proofs.Groups.{gathered-push, itself}
-use Rattle.squawk_output.proofs.LinkedLog.{gathered-joined, owner-elsewhere, owner-joins}
 use Rattle.squawk_output.proofs.LogItems.{IsNodeAt, no_hole, no_opening, replaced-none}
-use Rattle.squawk_output.proofs.Owners.{owner-kept, owner-last, owner-most, owner-push}
+use Rattle.squawk_output.proofs.Owners.{gathered-joined, owner-elsewhere, owner-joins, owner-kept, owner-last, owner-most, owner-push}
 
 pub length-push : {X : Type 0} (xs : List X) (x : X) → length (xs ++ x ∷ []) ≡ suc (length xs)
 length-push xs x = omega (arith, length-append xs (x ∷ []))

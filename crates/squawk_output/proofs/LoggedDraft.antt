@@ -9,12 +9,11 @@ use Rattle.squawk_output.specs.declared.event.Event.TheVariants.{Finish}
 use Rattle.squawk_output.specs.Draft.{IsLogged, Item, ids, ids_of}
 use Rattle.squawk_output.specs.EventLog.{Log}
 use Rattle.squawk_output.specs.LogDraft.{IsRecord, draft_items, draft_of}
-use Rattle.squawk_output.proofs.GatheredItems.{draft_items-gathered, made_by, place_items}
-use Rattle.squawk_output.proofs.Gathered.{least_owner}
+use Rattle.squawk_output.proofs.GatheredItems.{made_by, place_items, size-draft_items}
 use Rattle.squawk_output.proofs.Groups.{itself}
 use Rattle.squawk_output.proofs.LogItems.{ids_within, items_of-cases}
 use Rattle.squawk_output.proofs.LogTurns.{turns_of-most}
-use Rattle.squawk_output.proofs.Sizes.{size-gathered, total, total-most, total-one, total-ones}
+use Rattle.squawk_output.proofs.Sizes.{total, total-most, total-one, total-ones}
 
 -- ---- an item an event at most
 
@@ -22,8 +21,7 @@ length-draft_items : (log : Log) (marks : List Bool) → length (draft_items log
 length-draft_items log marks =
     omega (
       arith,
-      ap length (draft_items-gathered log marks),
-      size-gathered length refl length-append (least_owner log) (place_items log marks) (length log),
+      size-draft_items length refl length-append log marks,
       total-most (λ j. length (place_items log marks j)) (λ j. 1) (length log)
           (λ j. items_of-cases (λ items. length items ≤ 1) (omega arith) (omega arith) (λ kind n. omega arith) (λ text. omega arith) j (made_by log j) (get_or log j Finish)
           (get_or marks j false) (λ marked. omega arith) (λ kind link is unmarked whole. omega arith)),
@@ -51,8 +49,7 @@ module _ (id : ℕ) where
   times-draft_items log marks =
       omega (
         arith,
-        ap times (draft_items-gathered log marks),
-        size-gathered times refl times-append (least_owner log) (place_items log marks) (length log),
+        size-draft_items times refl times-append log marks,
         total-most (λ j. times (place_items log marks j)) (λ j. if id == j then 1 else 0) (length log)
             (λ j. items_of-cases (λ items. times items ≤ (if id == j then 1 else 0)) (omega arith) (omega arith) (λ kind n. omega arith) (λ text. omega arith) j (made_by log j)
             (get_or log j Finish) (get_or marks j false) (λ marked. once_there j) (λ kind link is unmarked whole. once_there j)),
@@ -63,5 +60,5 @@ IsLogged-draft_of log marks recorded wrong is = record {
   few = omega (arith, length-draft_items log marks, is.few);
   turns = omega (arith, turns_of-most log, is.few);
   below = ids_within log marks;
-  once = λ id. omega (arith, times-draft_items id log marks, total-one id 1 (length log));
+  once = λ id. omega (arith, times-draft_items id log marks, (total-one id 1 (length log)).0);
 }

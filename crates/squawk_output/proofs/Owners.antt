@@ -1,11 +1,14 @@
 -- From where a place is reached, and who owns it.
-use Rattle.std.proofs.Common.{◌≡◌, ◌≢◌, ◌∙◌, ◌⊎◌, ℕ, zero, suc, ◌+◌, ◌-◌, ◌<◌, ◌≤◌, Bool, true, false, Some, None, Option, [], ◌∷◌, ◌++◌, length, get_or, set, refl, sym, ap, arith, if◌then◌else◌, inl, inr}
+use Rattle.std.proofs.Common.{◌≡◌, ◌≢◌, ◌∙◌, ◌⊎◌, ℕ, zero, suc, ◌+◌, ◌-◌, ◌<◌, ◌≤◌, Bool, true, false, Some, None, Option, List, [], ◌∷◌, ◌++◌, length, get_or, set, refl, sym, ap, arith, if◌then◌else◌, inl, inr}
 use Rattle.std.proofs.Math.Nat.{eq-or-lt_of_le}
 use Rattle.std.proofs.lemmas.Bool.{cases_order}
 use Rattle.squawk_output.specs.declared.event.Event.{Event}
-use Rattle.squawk_output.specs.declared.event.Event.TheVariants.{Start}
+use Rattle.squawk_output.specs.declared.event.Event.TheVariants.{Start, Finish}
 use Rattle.squawk_output.specs.EventLog.{Lands, LinksLead, Log, ahead, leads, reaches}
-use Rattle.squawk_output.proofs.Gathered.{least, least_owner, reaches-itself}
+use Rattle.squawk_output.specs.Draft.{Item}
+use Rattle.squawk_output.proofs.Gathered.{gathered, least, least_owner, reaches-itself}
+use Rattle.squawk_output.proofs.Groups.{gathered-moved}
+use Rattle.squawk_output.proofs.Erased.{leads-same}
 use Rattle.squawk_output.proofs.Links.{is_start_at-within}
 use Rattle.squawk_output.proofs.Peel.{least-same}
 
@@ -17,10 +20,6 @@ not_both b e h = absurd (cc)
 leads-both : (link : Option ℕ) (p q : ℕ → Bool) (R : Type 0) → leads link p ≡ true → leads link q ≡ true → ((n : ℕ) → p n ≡ true → q n ≡ true → R) → R
 leads-both None p q R a b go = absurd (cc)
 leads-both (Some n) p q R a b go = go n a b
-
-pub leads-same : (link : Option ℕ) (p q : ℕ → Bool) → ((n : ℕ) → p n ≡ q n) → leads link p ≡ leads link q
-leads-same None p q same = refl
-leads-same (Some n) p q same = same n
 
 -- of two places that one reaches, the nearer reaches the farther
 reaches-between : (log : Log) (i m j : ℕ) → reaches log i m ≡ true → reaches log i j ≡ true → m ≤ j → reaches log m j ≡ true
@@ -188,7 +187,7 @@ owner-last log x links = cases (least-passes (λ i. reaches (log ++ x ∷ []) i 
     cases (inr h) = below (eq-or-lt_of_le (owner-most (log ++ x ∷ []) (length log))) h
 
 -- a new link from m to c, where neither had one
-module _ (log : Log) (m c d : ℕ) (y z w : Event) (far : c ≡ m + suc d) (none : ahead (get_or log m z) ≡ None) (ends : ahead (get_or log c w) ≡ None)
+module _ (log : Log) (m c d : ℕ) (y : Event) (far : c ≡ m + suc d) (none : ahead (get_or log m Finish) ≡ None) (ends : ahead (get_or log c Finish) ≡ None)
     (some : ahead y ≡ Some d) (within : c < length log) where
   m_within : m < length log
   m_within = omega (arith, far, within)
@@ -202,15 +201,15 @@ module _ (log : Log) (m c d : ℕ) (y z w : Event) (far : c ≡ m + suc d) (none
   is_false true never = absurd (never refl)
   is_false false never = refl
 
-  pub owner-linked_other : (j : ℕ) → j ≢ c → least_owner (set log m y) j ≡ least_owner log j
-  owner-linked_other j ne =
+  pub owner-elsewhere : (j : ℕ) → j ≢ c → least_owner (set log m y) j ≡ least_owner log j
+  owner-elsewhere j ne =
       least-same (λ i. reaches (set log m y) i j) (λ i. reaches log i j) j
-      (λ i. reaches-linked log m c d y z far none some m_within i j
-      ∙ or_false (reaches log i j) (reaches log i m) (reaches log c j) (is_false (reaches log c j) (λ h. ne (reaches-alone log c j w ends h))))
+      (λ i. reaches-linked log m c d y Finish far none some m_within i j
+      ∙ or_false (reaches log i j) (reaches log i m) (reaches log c j) (is_false (reaches log c j) (λ h. ne (reaches-alone log c j Finish ends h))))
 
   either_reaches : (i : ℕ) → reaches (set log m y) i c ≡ (if reaches log i c then true else if reaches log i m then true else false)
   either_reaches i =
-      reaches-linked log m c d y z far none some m_within i c
+      reaches-linked log m c d y Finish far none some m_within i c
       ∙ ap (λ s. if reaches log i c then true else if reaches log i m then s else false) (reaches-itself log c within)
 
   neither : (a b : Bool) → a ≡ false → b ≡ false → (if a then true else if b then true else false) ≡ false
@@ -221,15 +220,22 @@ module _ (log : Log) (m c d : ℕ) (y z w : Event) (far : c ≡ m + suc d) (none
   second false b q = rw q refl
 
   -- c comes to the owner of m where that is the lesser
-  pub owner-moved : least_owner log m < least_owner log c → least_owner (set log m y) c ≡ least_owner log m
-  owner-moved lt =
+  pub owner-joins : least_owner log m < least_owner log c → least_owner (set log m y) c ≡ least_owner log m
+  owner-joins lt =
       least-is (λ i. reaches (set log m y) i c) c (least_owner log m) (omega (arith, owner-most log m, far))
       (either_reaches (least_owner log m) ∙ second (reaches log (least_owner log m) c) (reaches log (least_owner log m) m) (owner-reaches log m m_within))
       (λ i h. either_reaches i ∙ neither (reaches log i c) (reaches log i m) (owner-below log c i (omega arith)) (owner-below log m i h))
 
   -- and else stays
-  pub owner-stays : least_owner log c < least_owner log m → least_owner (set log m y) c ≡ least_owner log c
-  owner-stays lt =
+  pub owner-remains : least_owner log c < least_owner log m → least_owner (set log m y) c ≡ least_owner log c
+  owner-remains lt =
       least-is (λ i. reaches (set log m y) i c) c (least_owner log c) (owner-most log c)
       (either_reaches (least_owner log c) ∙ ap (λ b. if b then true else if reaches log (least_owner log c) m then true else false) (owner-reaches log c within))
       (λ i h. either_reaches i ∙ neither (reaches log i c) (reaches log i m) (owner-below log c i h) (owner-below log m i (omega arith)))
+
+  -- the items of c come to stand directly before those of m
+  pub gathered-joined : least_owner log m < least_owner log c → (items edited : ℕ → List Item) → edited m ≡ items c ++ items m → edited c ≡ []
+      → ((j : ℕ) → j < length log → j ≢ c → j ≢ m → edited j ≡ items j) → gathered (least_owner (set log m y)) items (length log) ≡ gathered (least_owner log) edited (length log)
+  gathered-joined lt items edited =
+      gathered-moved (least_owner log) (least_owner (set log m y)) items edited m c (length log) (omega (arith, far)) within (owner-joins lt) owner-elsewhere
+      (λ j lo hi. farthest log m j Finish none lo hi)

@@ -1,4 +1,4 @@
--- The list of a log is the plain list of its draft, with its errors.
+-- The list of a log is the plain list of its draft, and the errors of items are those of their steps.
 use Rattle.std.proofs.Common.{◌≡◌, ◌∙◌, ℕ, ◌+◌, ◌==◌, ◌<◌, Bool, true, false, not, List, [], ◌∷◌, length, get_or, refl, sym, ap, arith, if◌then◌else◌}
 use Rattle.squawk_kinds.specs.Kinds.{TOMBSTONE}
 use Rattle.squawk_output.specs.Steps as steps
@@ -9,9 +9,8 @@ use Rattle.squawk_output.specs.Chain.{tombstone}
 use Rattle.squawk_output.specs.Draft as draft
 use Rattle.squawk_output.specs.Draft.{Item, plain}
 use Rattle.squawk_output.specs.declared.log.Made.{Made}
-use Rattle.squawk_output.specs.EventLog.{Log, errors_logged, has_link, list_of, steps_of_event}
+use Rattle.squawk_output.specs.EventLog.{Log, has_link, list_of, steps_of_event}
 use Rattle.squawk_output.proofs.Gathered.{least_owner, list_of-gathered, steps-here, steps_at}
-use Rattle.squawk_output.proofs.LogErrors.{errors_in-list_of}
 use Rattle.squawk_output.proofs.Sums.{count_by-cons}
 use Rattle.squawk_output.specs.LogDraft.{draft_items, items_of}
 use Rattle.squawk_output.proofs.GatheredItems.{flat_map-draft_items, made_by, place_items}
@@ -48,7 +47,3 @@ errors-plain (draft.Token kind n ∷ items) =
     count_by-cons draft.is_error_item (draft.Token kind n) items ∙ (ap (λ n. 0 + n) (errors-plain items) ∙ sym (count_by-cons steps.is_error (steps.Token kind n) (plain items)))
 errors-plain (draft.Error text ∷ items) =
     count_by-cons draft.is_error_item (draft.Error text) items ∙ (ap (λ n. 1 + n) (errors-plain items) ∙ sym (count_by-cons steps.is_error (steps.Error text) (plain items)))
-
--- and so the errors of a draft are those of its log
-pub errors-draft_items : (log : Log) (marks : List Bool) → HaveHoles log marks → draft.errors_of (draft_items log marks) ≡ errors_logged log
-errors-draft_items log marks holes = errors-plain (draft_items log marks) ∙ (ap errors_in (plain-draft_items log marks holes) ∙ errors_in-list_of log)

@@ -1,6 +1,7 @@
 use Rattle.std.proofs.Common.{arith, subst}
-use Rattle.squawk_output.specs.EventLog.{LinksLead, Log}
-use Rattle.squawk_output.proofs.StoredEvents.{errors_logged-most, leads_on}
+use Rattle.std.proofs.lemmas.List.Sums.{count_by-le-length}
+use Rattle.squawk_output.specs.EventLog.{LinksLead, Log, is_error_event}
+use Rattle.squawk_output.proofs.StoredEvents.{leads_on}
 use Rattle.squawk_output.proofs.event.process.Goals as goal
 
 pub store-requires-clause-leads : goal.store-requires-clause-leads
@@ -10,4 +11,4 @@ store-requires-clause-leads c =
 
 pub store-requires-clause-few : goal.store-requires-clause-few
 store-requires-clause-few c =
-    omega (arith, c.loop-event.invariant.errors, errors_logged-most c.loop-event.yielded, c.loop-event.invariant.whole, c.requires.few)
+    omega (arith, c.loop-event.invariant.errors, count_by-le-length is_error_event c.loop-event.yielded, c.loop-event.invariant.whole, c.requires.few)

@@ -1,7 +1,9 @@
+use Rattle.std.proofs.lemmas.List.{map-set}
+use Rattle.std.proofs.lemmas.List.Elements.{All-set}
 use Rattle.std.proofs.Common.{◌+◌, ap, arith}
-use Rattle.squawk_output.specs.StoredEvents.{event_of, link_of}
+use Rattle.squawk_output.specs.StoredEvents.{HasEventText, event_of, link_of}
 use Rattle.squawk_output.proofs.Follows.{Follows-next, chain-shorter, ends-events, ends-kinds, ends-passed, turn_fits}
-use Rattle.squawk_output.proofs.StoredEvents.{HaveEventTexts-set, landed, length-log_in, link_of-none, link_of-some, link_within, log_in-set}
+use Rattle.squawk_output.proofs.StoredEvents.{landed, length-log_in, link_of-none, link_of-some, link_within}
 use Rattle.squawk_output.proofs.pass.follow.Goals as goal
 
 pub turn-requires : goal.turn-requires
@@ -34,7 +36,7 @@ loop-next-smaller c =
     let texts = c.args.passed.now.texts in
     let next = c.loop-next.next in
     let more = c.loop-next-test.true in
-    rw (log_in-set texts c.loop-next.events.items (c.loop-next.at + next) c.tombstone.result)
+    rw (map-set (event_of texts) c.loop-next.events.items (c.loop-next.at + next) c.tombstone.result)
     (chain-shorter _ _ _ _ _ _ _ c.loop-next.at next (link_of next) (link_of-some next more) c.loop-next.invariant.0 c.kind.result (link_of c.link-next.result) _ _
     (landed texts _ c.loop-next.at next more c.loop-next.invariant.0.lands c.kind.result c.link-next.result c.index.result.now _ c.index.ensures (c.kind.ensures texts) (c.link-next.ensures texts))
     (ap (event_of texts) c.tombstone.ensures))
@@ -44,11 +46,11 @@ loop-next-preserved c =
     let texts = c.args.passed.now.texts in
     let next = c.loop-next.next in
     let more = c.loop-next-test.true in (
-      rw (log_in-set texts c.loop-next.events.items (c.loop-next.at + next) c.tombstone.result)
+      rw (map-set (event_of texts) c.loop-next.events.items (c.loop-next.at + next) c.tombstone.result)
           (Follows-next _ _ _ _ _ _ _ c.loop-next.at next (link_of next) (link_of-some next more) c.loop-next.invariant.0 c.kind.result (link_of c.link-next.result) _ _
           (landed texts _ c.loop-next.at next more c.loop-next.invariant.0.lands c.kind.result c.link-next.result c.index.result.now _ c.index.ensures (c.kind.ensures texts) (c.link-next.ensures texts))
           (ap (event_of texts) c.tombstone.ensures) c.push.new.self.items c.turn.new.self c.in_ok-push.ensures.items c.turn.ensures),
-      HaveEventTexts-set texts c.loop-next.events.items (c.loop-next.at + next) c.tombstone.result (rw c.tombstone.ensures tt) c.loop-next.invariant.1,
+      All-set (HasEventText texts) c.loop-next.events.items (c.loop-next.at + next) c.tombstone.result (rw c.tombstone.ensures tt) c.loop-next.invariant.1,
     )
 
 pub returns-clause-events : goal.returns-clause-events
