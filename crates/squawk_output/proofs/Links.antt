@@ -35,11 +35,14 @@ start-set (x ∷ xs) zero kind link (suc j) h = h
 start-set (x ∷ xs) (suc n) kind link zero h = h
 start-set (x ∷ xs) (suc n) kind link (suc j) h = start-set xs n kind link j h
 
+pub LinksLead-set : (log : Log) (place kind : ℕ) (link : Option ℕ) → LinksLead log → Lands (Start kind link) (drop (suc place) log) → LinksLead (set log place (Start kind link))
+LinksLead-set [] place kind link links lands = links
+LinksLead-set (x ∷ xs) zero kind link links lands = (lands, links.1)
+LinksLead-set (x ∷ xs) (suc n) kind link links lands =
+    (Lands-still x xs (set xs n (Start kind link)) (start-set xs n kind link) links.0, LinksLead-set xs n kind link links.1 lands)
+
 pub LinksLead-unlinked : (log : Log) (place kind : ℕ) → LinksLead log → LinksLead (set log place (Start kind None))
-LinksLead-unlinked [] place kind links = links
-LinksLead-unlinked (x ∷ xs) zero kind links = (tt, links.1)
-LinksLead-unlinked (x ∷ xs) (suc n) kind links =
-    (Lands-still x xs (set xs n (Start kind None)) (start-set xs n kind None) links.0, LinksLead-unlinked xs n kind links.1)
+LinksLead-unlinked log place kind links = LinksLead-set log place kind None links tt
 
 -- ---- a chain taken out
 

@@ -10,8 +10,8 @@ use Rattle.squawk_output.specs.declared.event.Event.TheVariants as event
 use Rattle.squawk_output.specs.declared.log.stored_event.StoredEvent.{StoredEvent}
 use Rattle.squawk_output.specs.declared.log.stored_event.StoredEvent.TheVariants.{Error}
 use Rattle.squawk_output.specs.Chain.{LandsAt, forward_parent, hop, node_kind}
-use Rattle.squawk_output.specs.EventLog.{Lands, Log, is_start, is_start_at}
-use Rattle.squawk_output.specs.StoredEvents.{HasEventText, HaveEventTexts, LeadsOn, event_of, link_of, log_in}
+use Rattle.squawk_output.specs.EventLog.{is_start, is_start_at}
+use Rattle.squawk_output.specs.StoredEvents.{HasEventText, HaveEventTexts, event_of, link_of, log_in}
 use Rattle.squawk_output.proofs.Links.{is_start_at-event, is_start_at-within}
 
 pub length-log_in : (texts : List (List ℕ)) (events : List StoredEvent) → length (log_in texts events) ≡ length events
@@ -86,8 +86,3 @@ module _ (texts : List (List ℕ)) (events : List StoredEvent) (at next : ℕ) (
       let found = event_at texts events (at + next) x e event.Finish link_within got in
       let start = ap is_start found ∙ is_start_at-event (log_in texts events) (at + next) event.Finish lands_there in
       sym found ∙ (start-is (event_of texts x) start ∙ (ap (λ y. event.Start y (forward_parent (event_of texts x))) k ∙ ap (event.Start kind) l))
-
-pub leads_on : (x : Event) (log : Log) → Lands x log → LeadsOn x
-leads_on (event.Start kind None) log lands = tt
-leads_on (event.Start kind (Some distance)) log lands = lands.0
-leads_on other log lands = tt

@@ -128,10 +128,7 @@ module _ (log : Log) (output turned : Passed) (place : ℕ) (turn : turned ≡ r
     list-alone : list_of (drop place log) ≡ steps_of_event event ++ list_of (drop (place + 1) log)
     list-alone =
         let behind = drop (place + 1) log in
-        ap list_of begins
-        ∙ (list_of-cons event behind
-        ∙ (ap (λ from. (entered from behind ++ steps_of_event event) ++ list_of (erased from behind)) alone
-        ∙ rw (entered-None behind, erased-None behind) refl))
+        ap list_of begins ∙ (list_of-cons event behind ∙ rw (alone, entered-None behind, erased-None behind) refl)
 
     -- and it gives that step
     pub Visits-alone : (after : Log) (made : Passed) → length after ≡ length log → LinksLead after → drop (suc place) after ≡ drop (suc place) log
@@ -143,10 +140,7 @@ module _ (log : Log) (output turned : Passed) (place : ℕ) (turn : turned ≡ r
         record {
           same_length = same;
           links = links;
-          steps =
-              ap (λ ys. ys ++ list_of (drop (place + 1) after)) steps
-              ∙ (append_assoc output.steps (steps_of_event event) (list_of (drop (place + 1) after))
-              ∙ ap (λ ys. output.steps ++ ys) (ap (λ ys. steps_of_event event ++ list_of ys) rest ∙ sym list-alone));
+          steps = rw (steps, rest) (append_assoc output.steps (steps_of_event event) (list_of (drop (place + 1) log)) ∙ ap (λ ys. output.steps ++ ys) (sym list-alone));
           turns =
               omega (
                 arith,
