@@ -1,5 +1,5 @@
 -- A marker is abandoned: its hole's mark is taken away, or its event, where that is the last one and was made by a start.
-use Rattle.std.proofs.Common.{◌≡◌, ◌∙◌, ℕ, suc, ◌+◌, ◌==◌, Bool, true, false, List, [], ◌∷◌, ◌++◌, length, get_or, set, refl, sym, ap, arith, if◌then◌else◌, inl, inr}
+use Rattle.std.proofs.Common.{◌≡◌, ◌∙◌, ℕ, suc, ◌+◌, ◌==◌, Bool, true, false, List, [], ◌∷◌, ◌++◌, length, get_or, set, refl, sym, ap, arith, inl, inr}
 use Rattle.std.specs.Prelude.{Contains, count_by, ◌&&◌}
 use Rattle.std.proofs.Math.ListN.{get_or-append}
 use Rattle.std.proofs.Math.Seq.{get_or-append_seam}
@@ -75,11 +75,7 @@ module _ (log : Log) (marks : List Bool) (recorded errors : ℕ) (is : IsRecord 
 -- ---- the event is taken out
 
 owns_itself : (log : Log) (id : ℕ) → made_by log id ≡ ByStart → least_owner log id ≡ id
-owns_itself log id made = cases (least_owner log id == id) refl made
-  where
-    cases : (b : Bool) → (least_owner log id == id) ≡ b → (if b then ByStart else ByPrecede) ≡ ByStart → least_owner log id ≡ id
-    cases true e h = eqb-true (least_owner log id) id e
-    cases false e h = absurd (cc)
+owns_itself log id made = elim (eqb_tells (least_owner log id) id) [ inl e ↦ e.1 | inr e ↦ let never = rw e.0 at made in absurd (cc) ]
 
 module _ (log : Log) (marks : List Bool) (event : Event) (mark : Bool) (recorded errors : ℕ) (is : IsRecord (log ++ event ∷ []) (marks ++ mark ∷ []) recorded errors)
     (here : IsHoleAt (log ++ event ∷ []) (marks ++ mark ∷ []) (length log) ByStart) where
