@@ -1,6 +1,7 @@
 -- A marker is abandoned: its hole's mark is taken away, or its event, where that is the last one and was made by a start.
-use Rattle.std.proofs.Common.{◌≡◌, ◌∙◌, ℕ, suc, ◌+◌, ◌==◌, Bool, true, false, List, [], ◌∷◌, ◌++◌, length, get_or, set, refl, sym, ap, arith, if◌then◌else◌, inl, inr}
-use Rattle.std.specs.Prelude.{Contains, count_by, ◌&&◌}
+use Rattle.std.proofs.Common.{◌≡◌, ◌∙◌, ℕ, suc, ◌+◌, ◌==◌, Bool, true, false, List, [], ◌∷◌, ◌++◌, length, get_or, set, refl, sym, ap, arith, inl, inr}
+use Rattle.std.specs.Prelude.{Contains, count_by}
+use Rattle.std.proofs.Math.Bool.{and-false}
 use Rattle.std.proofs.Math.ListN.{get_or-append}
 use Rattle.std.proofs.Math.Seq.{get_or-append_seam}
 use Rattle.std.proofs.lemmas.Bool.{eq-eqb, eqb-true, ne_eqb}
@@ -44,10 +45,6 @@ count-none p (x ∷ xs) fails =
     let rest = count-none p xs (λ item there. fails item (suc there.0, omega (arith, there.1), there.2)) in
     omega (arith, count_by-cons p x xs, ap one_if first, rest)
 
-and-false : (b c : Bool) → c ≡ false → (b && c) ≡ false
-and-false true c e = e
-and-false false c e = refl
-
 -- ---- the mark is taken away
 
 module _ (log : Log) (marks : List Bool) (recorded errors : ℕ) (is : IsRecord log marks recorded errors) (id : ℕ) (made : Made)
@@ -59,7 +56,7 @@ module _ (log : Log) (marks : List Bool) (recorded errors : ℕ) (is : IsRecord 
         | inl e ↦
             let same_made : how ≡ made = sym found.how ∙ (ap (made_by log) e.1 ∙ here.how) in
             let same : Hole i how ≡ Hole id made = rw (e.1, same_made) refl in
-            and-false (i == id) (is_last_start (length log) (Hole i how)) (ap (is_last_start (length log)) same ∙ stays)
+            rw (ap (is_last_start (length log)) same ∙ stays) (and-false (i == id))
         | inr e ↦ rw (ne_eqb i id e.1) refl
       ]
   none_goes item there = refl
@@ -75,11 +72,7 @@ module _ (log : Log) (marks : List Bool) (recorded errors : ℕ) (is : IsRecord 
 -- ---- the event is taken out
 
 owns_itself : (log : Log) (id : ℕ) → made_by log id ≡ ByStart → least_owner log id ≡ id
-owns_itself log id made = cases (least_owner log id == id) refl made
-  where
-    cases : (b : Bool) → (least_owner log id == id) ≡ b → (if b then ByStart else ByPrecede) ≡ ByStart → least_owner log id ≡ id
-    cases true e h = eqb-true (least_owner log id) id e
-    cases false e h = absurd (cc)
+owns_itself log id made = elim (eqb_tells (least_owner log id) id) [ inl e ↦ e.1 | inr e ↦ let never = rw e.0 at made in absurd (cc) ]
 
 module _ (log : Log) (marks : List Bool) (event : Event) (mark : Bool) (recorded errors : ℕ) (is : IsRecord (log ++ event ∷ []) (marks ++ mark ∷ []) recorded errors)
     (here : IsHoleAt (log ++ event ∷ []) (marks ++ mark ∷ []) (length log) ByStart) where

@@ -1,8 +1,16 @@
--- The errors of a draft stay where holes and openings are edited.
-use Rattle.std.proofs.Common.{◌≡◌, ℕ, ◌+◌, Bool, true, false, List, [], ◌∷◌, ◌++◌, cond, if◌then◌else◌, refl, arith, ◌∙◌}
+-- The errors of a draft stay where holes and openings are edited, and are those of its log.
+use Rattle.std.proofs.Common.{◌≡◌, ℕ, ◌+◌, ◌==◌, not, length, get_or, Bool, true, false, List, [], ◌∷◌, ◌++◌, cond, if◌then◌else◌, refl, arith, ◌∙◌}
 use Rattle.std.proofs.lemmas.List.Sums.{sum_by-append}
 use Rattle.squawk_output.specs.Draft.{Item, Hole, Open, Error, errors_of, is_error_item, Node}
 use Rattle.squawk_output.specs.declared.log.Made.{Made}
+use Rattle.squawk_kinds.specs.Kinds.{TOMBSTONE}
+use Rattle.squawk_output.specs.declared.event.Event.{Event}
+use Rattle.squawk_output.specs.declared.event.Event.TheVariants as event
+use Rattle.squawk_output.specs.EventLog.{Log, errors_logged, has_link, is_error_event}
+use Rattle.squawk_output.specs.LogDraft.{draft_items, items_of}
+use Rattle.squawk_output.proofs.GatheredItems.{made_by, place_items, size-draft_items}
+use Rattle.squawk_output.proofs.Sizes.{total, total-same}
+use Rattle.squawk_output.proofs.Sums.{count_by-cons}
 use Rattle.squawk_output.specs.Edits.{filled, is_hole_of, is_opening_of, replaced, preceded_item, without_hole, stands_before, moved, extended_items}
 
 pub errors-append : (xs ys : List Item) → errors_of (xs ++ ys) ≡ errors_of xs + errors_of ys
@@ -44,3 +52,20 @@ errors-extended node id items = cases (stands_before (is_hole_of id) (is_opening
         errors-replaced (is_hole_of id) (λ item. Open node.id node.kind true ∷ []) (λ text. refl) (λ item right. refl) (replaced (is_opening_of node.id) (λ item. []) items)
         ∙ errors-replaced (is_opening_of node.id) (λ item. []) (λ text. refl) (λ item right. refl) items
     cases false = errors-without_hole id items
+
+-- ---- the errors of a log's draft are its events that are errors
+
+errors-items_of : (place : ℕ) (made : Made) (event : Event) (mark : Bool) → errors_of (items_of place made event mark) ≡ cond (is_error_event event) 1 0
+errors-items_of place made (event.Start kind link) true = refl
+errors-items_of place made (event.Start kind link) false = either_way (kind == TOMBSTONE) [] (Open place kind (not (has_link (event.Start kind link))) ∷ []) refl refl
+errors-items_of place made other mark = refl
+
+total-errors : (log : Log) → total (λ j. cond (is_error_event (get_or log j event.Finish)) 1 0) (length log) ≡ errors_logged log
+total-errors [] = refl
+total-errors (x ∷ xs) = omega (arith, total-errors xs, count_by-cons is_error_event x xs)
+
+pub errors-draft_items : (log : Log) (marks : List Bool) → errors_of (draft_items log marks) ≡ errors_logged log
+errors-draft_items log marks =
+    size-draft_items errors_of refl errors-append log marks
+    ∙ (total-same (λ j. errors_of (place_items log marks j)) (λ j. cond (is_error_event (get_or log j event.Finish)) 1 0) (length log)
+    (λ j. errors-items_of j (made_by log j) (get_or log j event.Finish) (get_or marks j false)) ∙ total-errors log)

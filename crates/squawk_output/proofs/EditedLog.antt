@@ -23,7 +23,8 @@ use Rattle.squawk_output.proofs.Links.{LinksLead-unlinked}
 use Rattle.squawk_output.proofs.LogEdits.{draft_items-filled, draft_items-preceded, draft_items-push, length-push}
 use Rattle.squawk_output.proofs.LogItems.{IsHoleAt, IsNodeAt}
 use Rattle.squawk_output.proofs.LogTurns.{one_if, turns_at}
-use Rattle.squawk_output.proofs.PlainLog.{HaveHoles, errors-draft_items}
+use Rattle.squawk_output.proofs.PlainLog.{HaveHoles}
+use Rattle.squawk_output.proofs.EditedErrors.{errors-draft_items}
 
 pub draft_is : (items : List Item) (recorded entries turns : ℕ) (d : Draft) → items ≡ d.items → recorded ≡ d.recorded → entries ≡ d.entries → turns ≡ d.turns_due
     → record { items = items; recorded = recorded; entries = entries; turns_due = turns } ≡ d
@@ -39,7 +40,7 @@ pub record_of : {log : Log} {marks : List Bool} {recorded wrong : ℕ} {d : Draf
     → recorded < 2 ^ 32 → wrong ≡ errors_logged log → draft_items log marks ≡ d.items → recorded ≡ d.recorded → length log ≡ d.entries → turns_of log ≡ d.turns_due
     → IsRecordOf log marks recorded wrong d
 record_of {log} {marks} {recorded} {wrong} {d} same links holes few small errors items count entries turns = record {
-  record_is = record { same_length = same; links = links; holes = holes; few = few; small = small; errors = errors ∙ sym (errors-draft_items log marks holes) };
+  record_is = record { same_length = same; links = links; holes = holes; few = few; small = small; errors = errors ∙ sym (errors-draft_items log marks) };
   draft_is = draft_is (draft_items log marks) recorded (length log) (turns_of log) d items count entries turns;
 }
 
@@ -49,7 +50,7 @@ start-no_error event is = absurd (cc)
 
 module _ (log : Log) (marks : List Bool) (recorded errors : ℕ) (is : IsRecord log marks recorded errors) where
   pub errors_are : errors ≡ errors_logged log
-  errors_are = is.errors ∙ errors-draft_items log marks is.holes
+  errors_are = is.errors ∙ errors-draft_items log marks
 
   -- ---- an event at the end
 

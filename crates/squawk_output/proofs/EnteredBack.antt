@@ -12,13 +12,12 @@ entered_back-push (k ∷ ks) kind = ap (λ ys. ys ++ entering k) (entered_back-p
 
 -- one kind more
 pub Enters-next : (kinds before after : List ℕ) (output made entered : Passed) (kind : ℕ) → before ≡ after ++ kind ∷ []
-    → entered.steps ≡ made.steps ++ entering kind → entered.turns ≡ made.turns + 1 → entered.texts ≡ made.texts
-    → Enters kinds output before made → Enters kinds output after entered
-Enters-next kinds before after output made entered kind popped steps turn same enters = record {
-  turns = omega (arith, ap length popped, length-append after (kind ∷ []), enters.turns, turn);
+    → entered ≡ record made { steps = made.steps ++ entering kind; turns = made.turns + 1 } → Enters kinds output before made → Enters kinds output after entered
+Enters-next kinds before after output made entered kind popped is enters = record {
+  turns = omega (arith, ap length popped, length-append after (kind ∷ []), enters.turns, ap (λ w. w.turns) is);
   steps =
-      ap (λ ys. ys ++ entered_back after) steps
+      ap (λ w. w.steps ++ entered_back after) is
       ∙ (append_assoc made.steps (entering kind) (entered_back after)
       ∙ (ap (λ ys. made.steps ++ ys) (sym (entered_back-push after kind) ∙ ap entered_back (sym popped)) ∙ enters.steps));
-  texts = same ∙ enters.texts;
+  texts = ap (λ w. w.texts) is ∙ enters.texts;
 }

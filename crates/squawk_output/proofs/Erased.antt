@@ -14,10 +14,9 @@ length-erased None (x ∷ xs) = refl
 length-erased (Some zero) (x ∷ xs) = ap suc (length-erased (ahead x) xs)
 length-erased (Some (suc n)) (x ∷ xs) = ap suc (length-erased (Some n) xs)
 
-leads-erased : (from link : Option ℕ) (xs : Log) (j : ℕ) → ((i : ℕ) → reaches (erased from xs) i j ≡ reaches xs i j)
-    → leads link (λ n. reaches (erased from xs) n j) ≡ leads link (λ n. reaches xs n j)
-leads-erased from None xs j same = refl
-leads-erased from (Some n) xs j same = same n
+pub leads-same : (link : Option ℕ) (p q : ℕ → Bool) → ((n : ℕ) → p n ≡ q n) → leads link p ≡ leads link q
+leads-same None p q same = refl
+leads-same (Some n) p q same = same n
 
 -- a place where the chain doesn't come is reached as before
 pub reaches-erased : (from : Option ℕ) (log : Log) (j : ℕ) → comes from log j ≡ false → (i : ℕ) → reaches (erased from log) i j ≡ reaches log i j
@@ -28,7 +27,7 @@ reaches-erased (Some zero) (x ∷ xs) (suc j) away zero = sym away
 reaches-erased (Some zero) (x ∷ xs) (suc j) away (suc i) = reaches-erased (ahead x) xs j away i
 reaches-erased (Some (suc n)) (x ∷ xs) zero away zero = refl
 reaches-erased (Some (suc n)) (x ∷ xs) zero away (suc i) = refl
-reaches-erased (Some (suc n)) (x ∷ xs) (suc j) away zero = leads-erased (Some n) (ahead x) xs j (reaches-erased (Some n) xs j away)
+reaches-erased (Some (suc n)) (x ∷ xs) (suc j) away zero = leads-same (ahead x) (λ i. reaches (erased (Some n) xs) i j) (λ i. reaches xs i j) (reaches-erased (Some n) xs j away)
 reaches-erased (Some (suc n)) (x ∷ xs) (suc j) away (suc i) = reaches-erased (Some n) xs j away i
 
 -- where it comes, no steps are left

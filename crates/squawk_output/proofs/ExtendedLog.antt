@@ -5,6 +5,8 @@ use Rattle.std.specs.List.{flat_map}
 use Rattle.std.proofs.lemmas.Bool.{cases_order}
 use Rattle.std.proofs.lemmas.Bool.Decides.{eqb_tells}
 use Rattle.std.proofs.lemmas.List.{length-set, get_or-set_same, get_or-set_other}
+use Rattle.std.proofs.Math.Dec.{ltb}
+use Rattle.std.proofs.lemmas.Bool.{le-ltb, lt-ltb}
 use Rattle.squawk_kinds.specs.Kinds.{TOMBSTONE}
 use Rattle.squawk_output.specs.declared.event.Event.{Event}
 use Rattle.squawk_output.specs.declared.event.Event.TheVariants.{Start, Finish}
@@ -16,10 +18,9 @@ use Rattle.squawk_output.proofs.Gathered.{flat_map-twice, gathered, least_owner,
 use Rattle.squawk_output.specs.LogDraft.{draft_items}
 use Rattle.squawk_output.proofs.GatheredItems.{draft_items-gathered, draft_items-same, flat_map-draft_items, made_by, place_items}
 use Rattle.squawk_output.proofs.Groups.{itself}
-use Rattle.squawk_output.proofs.LinkedLog.{gathered-joined, owner-elsewhere, owner-remains}
 use Rattle.squawk_output.proofs.LogItems.{IsNodeAt, no_hole, no_opening, replaced-none}
-use Rattle.squawk_output.proofs.Owners.{farthest, owner-most}
-use Rattle.squawk_output.proofs.StandsBefore.{each-before, each-behind, group-none, group-some}
+use Rattle.squawk_output.proofs.Owners.{farthest, gathered-joined, owner-elsewhere, owner-most, owner-remains}
+use Rattle.squawk_output.proofs.StandsBefore.{each-first, group-none, group-some}
 
 module _ (log : Log) (marks : List Bool) (id node kind d : ℕ) (same : length marks ≡ length log) (far : node ≡ id + suc d) (hole : get_or log id Finish ≡ tombstone)
     (marked : get_or marks id false ≡ true) (is : IsNodeAt log marks node kind) where
@@ -84,20 +85,17 @@ module _ (log : Log) (marks : List Bool) (id node kind d : ℕ) (same : length m
   abbrev group : ℕ → List Item
   group i = picked (λ j. least_owner log j == i) (place_items log marks) n
 
-  hole_first : least_owner log id < least_owner log node → stands_before (is_hole_of id) (is_opening_of node) (draft_items log marks) ≡ true
-  hole_first lt =
-      ap (stands_before (is_hole_of id) (is_opening_of node)) (draft_items-gathered log marks)
-      ∙ each-before (is_hole_of id) (is_opening_of node) group n (least_owner log id) (least_owner log node) lt (omega (arith, owner-most log id, id_within))
-      (λ i ne. group-none (least_owner log) (place_items log marks) n id (is_hole_of id) (no_hole log marks id) i ne)
-      (λ i ne. group-none (least_owner log) (place_items log marks) n node (is_opening_of node) (no_opening log marks node) i ne)
-      (group-some (least_owner log) (place_items log marks) n id (is_hole_of id) (no_hole log marks id) id_within (rw (old_hole, itself id) refl))
+  not_same : least_owner log id ≢ least_owner log node
+  not_same e = farthest log id node Finish none older is.within (sym e)
 
-  opening_first : least_owner log node < least_owner log id → stands_before (is_hole_of id) (is_opening_of node) (draft_items log marks) ≡ false
-  opening_first lt =
+  stands_first : stands_before (is_hole_of id) (is_opening_of node) (draft_items log marks) ≡ ltb (least_owner log id) (least_owner log node)
+  stands_first =
       ap (stands_before (is_hole_of id) (is_opening_of node)) (draft_items-gathered log marks)
-      ∙ each-behind (is_hole_of id) (is_opening_of node) group n (least_owner log id) (least_owner log node) lt (omega (arith, owner-most log node, is.within))
-      (λ i ne. group-none (least_owner log) (place_items log marks) n id (is_hole_of id) (no_hole log marks id) i ne)
-      (λ i ne. group-none (least_owner log) (place_items log marks) n node (is_opening_of node) (no_opening log marks node) i ne)
+      ∙ each-first (is_hole_of id) (is_opening_of node) group n (least_owner log id) (least_owner log node) not_same
+      (omega (arith, owner-most log id, id_within)) (omega (arith, owner-most log node, is.within))
+      (group-none (least_owner log) (place_items log marks) n id (is_hole_of id) (no_hole log marks id))
+      (group-none (least_owner log) (place_items log marks) n node (is_opening_of node) (no_opening log marks node))
+      (group-some (least_owner log) (place_items log marks) n id (is_hole_of id) (no_hole log marks id) id_within (rw (old_hole, itself id) refl))
       (group-some (least_owner log) (place_items log marks) n node (is_opening_of node) (no_opening log marks node) is.within (rw (old_node, itself node) refl))
 
   -- ---- the opening moves
@@ -150,6 +148,6 @@ module _ (log : Log) (marks : List Bool) (id node kind d : ℕ) (same : length m
     where
       cases : (least_owner log id ≡ least_owner log node) ⊎ ((least_owner log id < least_owner log node) ⊎ (least_owner log node < least_owner log id))
           → draft_items new new_marks ≡ extended_items (record { id = node; kind = kind }) id (draft_items log marks)
-      cases (inl e) = absurd (farthest log id node Finish none older is.within (sym e))
-      cases (inr (inl lt)) = rw (hole_first lt) (opening_moves lt)
-      cases (inr (inr lt)) = rw (opening_first lt) (opening_stays lt)
+      cases (inl e) = absurd (not_same e)
+      cases (inr (inl lt)) = rw (stands_first, lt-ltb (least_owner log id) (least_owner log node) lt) (opening_moves lt)
+      cases (inr (inr lt)) = rw (stands_first, le-ltb (least_owner log id) (least_owner log node) (omega arith)) (opening_stays lt)

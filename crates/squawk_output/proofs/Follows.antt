@@ -2,13 +2,14 @@
 use Rattle.std.proofs.Common.{◌≡◌, ◌∙◌, ℕ, zero, suc, ◌+◌, ◌-◌, ◌<◌, ◌≤◌, Some, None, Option, List, [], ◌∷◌, ◌++◌, length, get_or, set, drop, refl, sym, ap, subst, arith, append_assoc}
 use Rattle.std.proofs.Math.Nat.{suc-add}
 use Rattle.std.proofs.lemmas.List.{length-set, append-nil, set-get_or}
+use Rattle.squawk_kinds.specs.Kinds.{TOMBSTONE}
 use Rattle.squawk_output.specs.Steps.{Step, Passed}
 use Rattle.squawk_output.specs.declared.event.Event.{Event}
 use Rattle.squawk_output.specs.declared.event.Event.TheVariants.{Start}
 use Rattle.squawk_output.specs.EventLog.{LinksLead, Log, ahead}
 use Rattle.squawk_output.specs.Chain.{LandsAt, chain, erased, hop, tombstone}
 use Rattle.squawk_output.specs.Pass.{Follows}
-use Rattle.squawk_output.proofs.Links.{LinksLead-without, is_start_at-within}
+use Rattle.squawk_output.proofs.Links.{LinksLead-unlinked, is_start_at-within}
 
 pub erased-None : (log : Log) → erased None log ≡ log
 erased-None [] = refl
@@ -95,7 +96,7 @@ module _ (log : Log) (kinds : List ℕ) (output : Passed) (from : Option ℕ) wh
       let rest = chain (hop place link) (set left place tombstone) in
       record {
         same_length = length-set left place tombstone ∙ follows.same_length;
-        links = LinksLead-without left place follows.links;
+        links = LinksLead-unlinked left place TOMBSTONE follows.links;
         lands = LandsAt-start left place kind link d tombstone is lt follows.links;
         leaves = sym (erased-start left place kind link d is lt follows.links) ∙ follows.leaves;
         finds = append_assoc found (kind ∷ []) rest ∙ (ap (λ ys. found ++ ys) (sym here) ∙ follows.finds);
@@ -116,18 +117,18 @@ module _ (log : Log) (kinds : List ℕ) (output : Passed) (from : Option ℕ) wh
           chain-some left (at + distance) (is_start_at-within left (at + distance) follows_here.lands),
         )
 
-    module _ (kind : ℕ) (link : Option ℕ) (x d t : Event) (got : x ≡ get_or left (at + distance) d) (is : x ≡ Start kind link) (gone : t ≡ tombstone) where
+    module _ (kind : ℕ) (link : Option ℕ) (d t : Event) (is : get_or left (at + distance) d ≡ Start kind link) (gone : t ≡ tombstone) where
       pub Follows-next : (more : List ℕ) (turned : Passed) → more ≡ found ++ kind ∷ [] → turned ≡ record made { turns = made.turns + 1 }
           → Follows log kinds output from (set left (at + distance) t) more turned (hop (at + distance) link)
       Follows-next more turned pushed turn =
           let follows_here = rw some at follows in
-          rw (gone, pushed, turn) (followed left found made (at + distance) kind link d (sym got ∙ is) follows_here)
+          rw (gone, pushed, turn) (followed left found made (at + distance) kind link d is follows_here)
 
       -- less of the chain is left
       pub chain-shorter : length (chain (hop (at + distance) link) (set left (at + distance) t)) < length (chain (hop at next) left)
       chain-shorter =
           let follows_here = rw some at follows in
-          let here = chain-start left (at + distance) kind link d tombstone (sym got ∙ is) (is_start_at-within left (at + distance) follows_here.lands) follows_here.links in
+          let here = chain-start left (at + distance) kind link d tombstone is (is_start_at-within left (at + distance) follows_here.lands) follows_here.links in
           rw (gone, some) (omega (arith, ap length here))
 
   -- where no link is left, the chain is at its end

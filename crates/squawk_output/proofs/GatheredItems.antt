@@ -1,10 +1,12 @@
 -- The items of a log's draft as proofs take them apart: by functions of a place.
-use Rattle.std.proofs.Common.{◌≡◌, ◌∙◌, ℕ, ◌==◌, Bool, false, List, length, get_or, refl, sym, ap, if◌then◌else◌}
+use Rattle.std.proofs.Common.{◌≡◌, ◌∙◌, ℕ, ◌+◌, ◌==◌, Bool, false, List, [], ◌++◌, length, get_or, refl, sym, ap, arith, if◌then◌else◌}
 use Rattle.std.specs.List.{flat_map}
 use Rattle.squawk_output.specs.declared.event.Event.TheVariants.{Finish}
 use Rattle.squawk_output.specs.EventLog.{Log, in_list_order}
 use Rattle.squawk_output.proofs.Gathered.{flat_map-twice, gathered, in_list_order-gathered, least_owner, owner-least}
 use Rattle.squawk_output.proofs.Groups.{gathered-same}
+use Rattle.squawk_output.proofs.Owners.{owner-most}
+use Rattle.squawk_output.proofs.Sizes.{size-gathered, total}
 use Rattle.squawk_output.specs.Draft.{Item}
 use Rattle.squawk_output.specs.declared.log.Made.{Made}
 use Rattle.squawk_output.specs.declared.log.Made.TheVariants.{ByPrecede, ByStart}
@@ -38,3 +40,10 @@ draft_items-same f log log' marks marks' same owns items =
     ∙ (ap (gathered (least_owner log') (place_items log' marks')) same
     ∙ (gathered-same (least_owner log') (least_owner log) (place_items log' marks') (λ j. flat_map f (place_items log marks j)) (length log) (λ j lt. owns j) (λ j lt. items j)
     ∙ sym (flat_map-draft_items f log marks)))
+
+-- a size of the items is the sum over all places
+pub size-draft_items : (size : List Item → ℕ) → size [] ≡ 0 → ((xs ys : List Item) → size (xs ++ ys) ≡ size xs + size ys) → (log : Log) (marks : List Bool)
+    → size (draft_items log marks) ≡ total (λ j. size (place_items log marks j)) (length log)
+size-draft_items size none add log marks =
+    ap size (draft_items-gathered log marks)
+    ∙ size-gathered size none add (least_owner log) (place_items log marks) (length log) (λ j lt. omega (arith, owner-most log j, lt))

@@ -1,11 +1,11 @@
 -- The links and the turns of a log of which one event is put in, changed or taken out.
-use Rattle.std.proofs.Common.{◌≡◌, ◌≢◌, ℕ, zero, suc, ◌+◌, ◌-◌, ◌<◌, true, false, Some, None, [], ◌∷◌, ◌++◌, length, length-append, get_or, set, refl, ap, arith}
+use Rattle.std.proofs.Common.{◌≡◌, ◌≢◌, ℕ, zero, suc, ◌+◌, ◌-◌, ◌<◌, true, false, Some, None, [], ◌∷◌, ◌++◌, length, length-append, get_or, set, drop, refl, ap, arith}
 use Rattle.squawk_output.specs.declared.event.Event.{Event}
 use Rattle.squawk_output.specs.declared.event.Event.TheVariants.{Start}
 use Rattle.std.proofs.lemmas.List.{length-set}
 use Rattle.std.proofs.lemmas.List.Sums.{sum_by-append, sum_by-set}
 use Rattle.squawk_output.specs.EventLog.{Lands, LinksLead, Log, ahead, has_link, is_start, is_start_at, leads, reaches, turns_of}
-use Rattle.squawk_output.proofs.Links.{Lands-still, start-set}
+use Rattle.squawk_output.proofs.Links.{LinksLead-set, Lands-still}
 use Rattle.squawk_output.proofs.LogTurns.{one_if, turns_at}
 use Rattle.squawk_output.proofs.Owners.{not_both}
 use Rattle.squawk_output.proofs.Gathered.{reaches-itself}
@@ -36,14 +36,14 @@ LinksLead-push (x ∷ xs) event links lands = (Lands-still x xs (xs ++ event ∷
 
 pub LinksLead-linked : (log : Log) (place to d kind : ℕ) → LinksLead log → to ≡ place + suc d → is_start_at log to ≡ true
     → LinksLead (set log place (Start kind (Some (suc d))))
-LinksLead-linked [] place to d kind links far start = links
-LinksLead-linked (x ∷ xs) zero zero d kind links far start = absurd (omega arith)
-LinksLead-linked (x ∷ xs) zero (suc to) d kind links far start = let there : suc d - 1 ≡ to = omega arith in ((omega arith, rw there start), links.1)
-LinksLead-linked (x ∷ xs) (suc n) zero d kind links far start = absurd (omega arith)
-LinksLead-linked (x ∷ xs) (suc n) (suc to) d kind links far start = (
-  Lands-still x xs (set xs n (Start kind (Some (suc d)))) (start-set xs n kind (Some (suc d))) links.0,
-  LinksLead-linked xs n to d kind links.1 (omega arith) start,
-)
+LinksLead-linked log place to d kind links far start =
+    LinksLead-set log place kind (Some (suc d)) links (omega arith, start-drop log (suc place) (suc d - 1) to (omega (arith, far)) start)
+  where
+    start-drop : (log : Log) (k n to : ℕ) → to ≡ k + n → is_start_at log to ≡ true → is_start_at (drop k log) n ≡ true
+    start-drop log zero n to is start = let same : to ≡ n = omega (arith, is) in rw same at start
+    start-drop [] (suc k) n to is start = absurd (cc)
+    start-drop (x ∷ xs) (suc k) n zero is start = absurd (omega (arith, is))
+    start-drop (x ∷ xs) (suc k) n (suc to) is start = start-drop xs k n to (omega (arith, is)) start
 
 -- ---- the last event taken out, where no link leads there
 

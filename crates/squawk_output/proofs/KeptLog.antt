@@ -3,6 +3,8 @@ use Rattle.std.proofs.Common.{◌≡◌, ◌≢◌, ◌∙◌, ℕ, ◌+◌, ◌
 use Rattle.std.specs.Prelude.{Contains, MatchOption}
 use Rattle.std.specs.Option.{option_to_list}
 use Rattle.std.proofs.lemmas.List.{map-append, map-set}
+use Rattle.std.proofs.lemmas.List.Elements.{All-append, All-cons, All-nil, All-set}
+use Rattle.std.proofs.lemmas.List.Sums.{count_by-le-length}
 use Rattle.squawk_kinds.specs.Kinds.{TOMBSTONE}
 use Rattle.squawk_output.specs.declared.event.Event.TheVariants as event
 use Rattle.squawk_output.specs.declared.log.Made.{Made}
@@ -12,14 +14,14 @@ use Rattle.squawk_output.specs.Chain.{tombstone}
 use Rattle.squawk_output.specs.Draft as draft
 use Rattle.squawk_output.specs.Draft.{Draft, IsLogged}
 use Rattle.squawk_output.specs.Edits.{abandoned, completed, extended, is_last_start, preceded, started, with_error, with_token}
-use Rattle.squawk_output.specs.EventLog.{Log}
+use Rattle.squawk_output.specs.EventLog.{Log, is_error_event}
 use Rattle.squawk_output.specs.LogDraft.{HasHoleOf, IsKeptRecord, draft_in}
 use Rattle.squawk_output.specs.StoredEvents.{HasEventText, HaveEventTexts, event_of, is_open, link_of, log_in}
 use Rattle.squawk_output.proofs.AbandonedLog.{record-cleared, record-front}
 use Rattle.squawk_output.proofs.EditedLog.{IsRecordOf, errors_are, record-completed, record-extended, record-preceded, record-put}
 use Rattle.squawk_output.proofs.LoggedDraft.{IsLogged-draft_of}
 use Rattle.squawk_output.proofs.LogItems.{IsHoleAt, IsHoleAt-found, IsNodeAt, IsNodeAt-found}
-use Rattle.squawk_output.proofs.StoredEvents.{HaveEventTexts-front, HaveEventTexts-push, HaveEventTexts-set, errors_logged-most, length-log_in, link_of-some, log_in-push, log_in-set}
+use Rattle.squawk_output.proofs.StoredEvents.{HaveEventTexts-front, length-log_in, link_of-some, log_in-push}
 
 -- a log is kept, and this is its draft
 pub record IsKeptAs (texts : List (List ℕ)) (events : List StoredEvent) (recorded : ℕ) (d : Draft) : Type 0 where
@@ -36,7 +38,7 @@ few_texts texts events recorded kept =
     omega (
       arith,
       errors_are log (map is_open events) recorded (length texts) kept.log,
-      errors_logged-most log,
+      count_by-le-length is_error_event log,
       kept.log.few,
       kept.log.small,
     )
@@ -59,15 +61,15 @@ reads-push : {texts : List (List ℕ)} {events : List StoredEvent} {log : Log} {
 reads-push {texts} {events} {log} {marks} x reads has = record {
   log_is = log_in-push texts events x ∙ ap (λ ys. ys ++ event_of texts x ∷ []) reads.log_is;
   marks_are = map-append is_open events (x ∷ []) ∙ ap (λ ms. ms ++ is_open x ∷ []) reads.marks_are;
-  have = HaveEventTexts-push texts events x has reads.have;
+  have = All-append (HasEventText texts) events (x ∷ []) reads.have (All-cons (HasEventText texts) x [] has (All-nil (HasEventText texts)));
 }
 
 reads-set : {texts : List (List ℕ)} {events : List StoredEvent} {log : Log} {marks : List Bool} (place : ℕ) (x : StoredEvent) → Reads texts events log marks → HasEventText texts x
     → Reads texts (set events place x) (set log place (event_of texts x)) (set marks place (is_open x))
 reads-set {texts} {events} {log} {marks} place x reads has = record {
-  log_is = log_in-set texts events place x ∙ ap (λ ys. set ys place (event_of texts x)) reads.log_is;
+  log_is = map-set (event_of texts) events place x ∙ ap (λ ys. set ys place (event_of texts x)) reads.log_is;
   marks_are = map-set is_open events place x ∙ ap (λ ms. set ms place (is_open x)) reads.marks_are;
-  have = HaveEventTexts-set texts events place x has reads.have;
+  have = All-set (HasEventText texts) events place x has reads.have;
 }
 
 module _ (texts : List (List ℕ)) (events : List StoredEvent) (recorded : ℕ) (old : Draft) (kept : IsKeptRecord texts events recorded)

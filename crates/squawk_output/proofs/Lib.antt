@@ -7,7 +7,6 @@ pub mod EnteredBack
 pub mod Links
 pub mod Follows
 pub mod LogTurns
-pub mod LogErrors
 pub mod Visits
 pub mod StoredVisits
 pub mod Examples
@@ -16,7 +15,6 @@ pub mod StoredEvents
 pub mod Owners
 pub mod Groups
 pub mod GatheredItems
-pub mod LinkedLog
 pub mod LogItems
 pub mod LogEdits
 pub mod StandsBefore

@@ -1,10 +1,9 @@
 -- Logs whose links lead to later Starts.
 use Rattle.std.proofs.Common.{◌≡◌, ℕ, zero, suc, ◌-◌, ◌<◌, true, Some, None, Option, [], ◌∷◌, length, get_or, set, drop, refl, arith}
-use Rattle.squawk_kinds.specs.Kinds.{TOMBSTONE}
 use Rattle.squawk_output.specs.declared.event.Event.{Event}
 use Rattle.squawk_output.specs.declared.event.Event.TheVariants.{Start}
 use Rattle.squawk_output.specs.EventLog.{Lands, LinksLead, Log, ahead, is_start, is_start_at}
-use Rattle.squawk_output.specs.Chain.{LandsAt, erased, tombstone}
+use Rattle.squawk_output.specs.Chain.{LandsAt, erased}
 
 pub is_start_at-within : (log : Log) (place : ℕ) → is_start_at log place ≡ true → place < length log
 is_start_at-within [] place h = absurd (cc)
@@ -22,7 +21,7 @@ Lands-still (Start kind None) xs ys still h = tt
 Lands-still (Start kind (Some distance)) xs ys still h = (h.0, still (distance - 1) h.1)
 Lands-still event xs ys still h = tt
 
-Lands-ahead : (event : Event) (log : Log) → Lands event log → LandsAt log (ahead event)
+pub Lands-ahead : (event : Event) (log : Log) → Lands event log → LandsAt log (ahead event)
 Lands-ahead (Start kind None) log h = tt
 Lands-ahead (Start kind (Some distance)) log h = h.1
 Lands-ahead event log h = tt
@@ -36,15 +35,14 @@ start-set (x ∷ xs) zero kind link (suc j) h = h
 start-set (x ∷ xs) (suc n) kind link zero h = h
 start-set (x ∷ xs) (suc n) kind link (suc j) h = start-set xs n kind link j h
 
-pub LinksLead-unlinked : (log : Log) (place kind : ℕ) → LinksLead log → LinksLead (set log place (Start kind None))
-LinksLead-unlinked [] place kind links = links
-LinksLead-unlinked (x ∷ xs) zero kind links = (tt, links.1)
-LinksLead-unlinked (x ∷ xs) (suc n) kind links =
-    (Lands-still x xs (set xs n (Start kind None)) (start-set xs n kind None) links.0, LinksLead-unlinked xs n kind links.1)
+pub LinksLead-set : (log : Log) (place kind : ℕ) (link : Option ℕ) → LinksLead log → Lands (Start kind link) (drop (suc place) log) → LinksLead (set log place (Start kind link))
+LinksLead-set [] place kind link links lands = links
+LinksLead-set (x ∷ xs) zero kind link links lands = (lands, links.1)
+LinksLead-set (x ∷ xs) (suc n) kind link links lands =
+    (Lands-still x xs (set xs n (Start kind link)) (start-set xs n kind link) links.0, LinksLead-set xs n kind link links.1 lands)
 
--- what is taken out leaves a Start, too
-pub LinksLead-without : (log : Log) (place : ℕ) → LinksLead log → LinksLead (set log place tombstone)
-LinksLead-without log place links = LinksLead-unlinked log place TOMBSTONE links
+pub LinksLead-unlinked : (log : Log) (place kind : ℕ) → LinksLead log → LinksLead (set log place (Start kind None))
+LinksLead-unlinked log place kind links = LinksLead-set log place kind None links tt
 
 -- ---- a chain taken out
 

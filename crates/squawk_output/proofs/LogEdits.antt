@@ -17,9 +17,8 @@ use Rattle.squawk_output.proofs.Gathered.{gathered, least_owner}
 use Rattle.squawk_output.specs.LogDraft.{draft_items, items_of}
 use Rattle.squawk_output.proofs.GatheredItems.{draft_items-gathered, draft_items-same, flat_map-draft_items, made_by, place_items}
 use Rattle.squawk_output.proofs.Groups.{gathered-push, itself}
-use Rattle.squawk_output.proofs.LinkedLog.{gathered-joined, owner-elsewhere, owner-joins}
 use Rattle.squawk_output.proofs.LogItems.{IsNodeAt, no_hole, no_opening, replaced-none}
-use Rattle.squawk_output.proofs.Owners.{owner-kept, owner-last, owner-most, owner-push}
+use Rattle.squawk_output.proofs.Owners.{gathered-joined, owner-elsewhere, owner-joins, owner-kept, owner-last, owner-most, owner-push}
 
 pub length-push : {X : Type 0} (xs : List X) (x : X) → length (xs ++ x ∷ []) ≡ suc (length xs)
 length-push xs x = omega (arith, length-append xs (x ∷ []))
@@ -88,11 +87,8 @@ module _ (log : Log) (marks : List Bool) (node kind d : ℕ) (links : LinksLead 
   n_within : n < length more
   n_within = omega (arith, length-push log tombstone)
 
-  node_event : get_or more node Finish ≡ Start kind None
-  node_event = get_or-append log (tombstone ∷ []) Finish node is.within ∙ is.event
-
   none : ahead (get_or more node Finish) ≡ None
-  none = rw node_event refl
+  none = rw (get_or-append log (tombstone ∷ []) Finish node is.within, is.event) refl
 
   ends : ahead (get_or more n Finish) ≡ None
   ends = rw (get_or-append_seam log tombstone [] Finish) refl
@@ -100,11 +96,8 @@ module _ (log : Log) (marks : List Bool) (node kind d : ℕ) (links : LinksLead 
   some : ahead linked ≡ Some d
   some = ap Some (omega arith)
 
-  owns_other : (j : ℕ) → j ≢ n → least_owner new j ≡ least_owner more j
-  owns_other j ne = owner-elsewhere more node n d linked far none ends some n_within j ne
-
   owns : (j : ℕ) → j < n → least_owner new j ≡ least_owner log j
-  owns j lt = owns_other j (λ e. absurd (omega (arith, e, lt))) ∙ owner-push log tombstone j lt
+  owns j lt = owner-elsewhere more node n d linked far none ends some n_within j (λ e. absurd (omega (arith, e, lt))) ∙ owner-push log tombstone j lt
 
   node_owner : least_owner more node ≡ least_owner log node
   node_owner = owner-push log tombstone node is.within
@@ -113,8 +106,7 @@ module _ (log : Log) (marks : List Bool) (node kind d : ℕ) (links : LinksLead 
   owner_first = omega (arith, owner-most log node, owner-last log tombstone links, node_owner, is.within)
 
   owns_last : least_owner new n ≡ least_owner more node
-  owns_last =
-      owner-joins more node n d linked far none ends some n_within owner_first
+  owns_last = owner-joins more node n d linked far none ends some n_within owner_first
 
   marks_below : (j : ℕ) → j < n → get_or new_marks j false ≡ get_or marks j false
   marks_below j lt = get_or-append marks (true ∷ []) false j (omega (arith, lt, same))
@@ -147,9 +139,7 @@ module _ (log : Log) (marks : List Bool) (node kind d : ℕ) (links : LinksLead 
   edited_last = rw (itself n) refl
 
   edited_node : edited node ≡ place_items new new_marks n ++ place_items new new_marks node
-  edited_node =
-      edited_below node is.within
-      ∙ (old_node ∙ sym (ap (λ ys. ys ++ place_items new new_marks node) new_last ∙ ap (λ ys. Hole n ByPrecede ∷ ys) new_node))
+  edited_node = edited_below node is.within ∙ (old_node ∙ rw (new_last, new_node) refl)
 
   edited_elsewhere : (j : ℕ) → j < suc n → j ≢ n → j ≢ node → edited j ≡ place_items new new_marks j
   edited_elsewhere j h ne not_node =

@@ -1,14 +1,14 @@
 -- The items of a log's events, and what they say of them.
 use Rattle.std.proofs.Common.{◌≡◌, ◌≢◌, ℕ, zero, suc, ◌==◌, ◌<◌, ◌||◌, Bool, true, false, not, Some, None, Option, List, [], ◌∷◌, ◌++◌, length, get_or, refl, ap, arith, if◌then◌else◌}
 use Rattle.std.specs.Prelude.{All, Contains}
-use Rattle.std.specs.List.{list_any}
+use Rattle.std.specs.List.{flat_map, list_any}
 use Rattle.std.proofs.lemmas.Bool.{ne_eqb}
-use Rattle.std.proofs.lemmas.List.Elements.{All-append, All-cons, All-contains, All-nil}
+use Rattle.std.proofs.lemmas.List.Elements.{All-append, All-cons, All-contains, All-nil, All-tail}
 use Rattle.squawk_kinds.specs.Kinds.{TOMBSTONE}
 use Rattle.squawk_output.specs.declared.event.Event.{Event}
 use Rattle.squawk_output.specs.declared.event.Event.TheVariants.{Start, Finish, Token, Error}
 use Rattle.squawk_output.specs.Draft as draft
-use Rattle.squawk_output.specs.Draft.{Item, Hole, Open, Close}
+use Rattle.squawk_output.specs.Draft.{IsAboveIds, Item, Hole, Open, Close, ids_of}
 use Rattle.squawk_output.specs.declared.log.Made.{Made}
 use Rattle.squawk_output.specs.Edits.{is_hole_of, is_opening_of, replaced}
 use Rattle.squawk_output.specs.EventLog.{Log, has_link}
@@ -67,6 +67,10 @@ module _ {X : Type 0} (P : X → Type 0) where
   All-if true v h = h
   All-if false v h = All-nil P
 
+  All-flat_map : {Y : Type 0} (f : Y → List X) (ys : List Y) → All (λ y. All P (f y)) ys → All P (flat_map f ys)
+  All-flat_map f [] all = All-nil P
+  All-flat_map f (y ∷ ys) all = All-append P (f y) (flat_map f ys) (all 0 y (omega arith)) (All-flat_map f ys (All-tail (λ y. All P (f y)) y ys all))
+
   All-picked : (p : ℕ → Bool) (items : ℕ → List X) (n : ℕ) → ((j : ℕ) → j < n → All P (items j)) → All P (picked p items n)
   All-picked p items zero all = All-nil P
   All-picked p items (suc n) all =
@@ -96,6 +100,7 @@ module _ (log : Log) (marks : List Bool) where
   abbrev Says : Item → Type 0
   Says (Hole id made) = IsHoleAt log marks id made
   Says (Open id kind true) = IsNodeAt log marks id kind
+  Says (Open id kind false) = id < length log
   Says item = Unit {0}
 
   place_says : (j : ℕ) → j < length log → All (Says) (place_items log marks j)
@@ -108,15 +113,23 @@ module _ (log : Log) (marks : List Bool) where
       opened : (kind : ℕ) (link : Option ℕ) → get_or log j Finish ≡ Start kind link → get_or marks j false ≡ false → (kind == TOMBSTONE) ≡ false
           → Says (Open j kind (not (has_link (Start kind link))))
       opened kind None is unmarked whole = record { within = lt; unmarked = unmarked; event = is; whole = whole }
-      opened kind (Some distance) is unmarked whole = tt
+      opened kind (Some distance) is unmarked whole = lt
 
-  says : (item : Item) → Contains (draft_items log marks) item → Says item
-  says item =
-      All-contains (Says) (draft_items log marks) item
-      (rw (draft_items-gathered log marks) (All-gathered (Says) (least_owner log) (place_items log marks) (length log) place_says))
+  says : All Says (draft_items log marks)
+  says = rw (draft_items-gathered log marks) (All-gathered Says (least_owner log) (place_items log marks) (length log) place_says)
 
   pub IsHoleAt-found : (id : ℕ) (made : Made) → Contains (draft_items log marks) (Hole id made) → IsHoleAt log marks id made
-  IsHoleAt-found id made = says (Hole id made)
+  IsHoleAt-found id made = All-contains Says (draft_items log marks) (Hole id made) says
 
   pub IsNodeAt-found : (id kind : ℕ) → Contains (draft_items log marks) (Open id kind true) → IsNodeAt log marks id kind
-  IsNodeAt-found id kind = says (Open id kind true)
+  IsNodeAt-found id kind = All-contains Says (draft_items log marks) (Open id kind true) says
+
+  -- an id is a place of the log
+  pub ids_within : IsAboveIds (length log) (draft_items log marks)
+  ids_within = All-flat_map (λ i. i < length log) ids_of (draft_items log marks) (λ k item lt. within (get_or (draft_items log marks) k item) (says k item lt))
+    where
+      within : (item : Item) → Says item → All (λ i. i < length log) (ids_of item)
+      within (Hole id made) is = All-only (λ i. i < length log) id is.within
+      within (Open id kind true) is = All-only (λ i. i < length log) id is.within
+      within (Open id kind false) is = All-only (λ i. i < length log) id is
+      within item is = All-nil (λ i. i < length log)

@@ -1,22 +1,19 @@
 -- What the draft of every log keeps.
-use Rattle.std.proofs.Common.{◌≡◌, ◌∙◌, ℕ, ◌+◌, ◌==◌, ◌<◌, ◌≤◌, Bool, false, List, [], ◌∷◌, ◌++◌, length, length-append, get_or, refl, sym, ap, arith, cond, if◌then◌else◌, inl, inr}
-use Rattle.std.specs.Prelude.{All, count_by}
-use Rattle.std.proofs.lemmas.Bool.{cases_lt, ne_eqb}
+use Rattle.std.proofs.Common.{◌≡◌, ◌∙◌, ℕ, ◌+◌, ◌==◌, ◌≤◌, Bool, false, List, [], ◌∷◌, ◌++◌, length, length-append, get_or, refl, sym, ap, arith, cond, if◌then◌else◌, inl, inr}
+use Rattle.std.specs.Prelude.{count_by}
+use Rattle.std.proofs.lemmas.Bool.{ne_eqb}
 use Rattle.std.proofs.lemmas.Bool.Decides.{eqb_tells}
 use Rattle.std.proofs.lemmas.Grind.{flat_map-append}
 use Rattle.std.proofs.lemmas.List.Sums.{sum_by-append}
-use Rattle.std.proofs.lemmas.List.Elements.{All-cons, All-nil}
 use Rattle.squawk_output.specs.declared.event.Event.TheVariants.{Finish}
 use Rattle.squawk_output.specs.Draft.{IsLogged, Item, ids, ids_of}
 use Rattle.squawk_output.specs.EventLog.{Log}
 use Rattle.squawk_output.specs.LogDraft.{IsRecord, draft_items, draft_of}
-use Rattle.squawk_output.proofs.GatheredItems.{draft_items-gathered, made_by, place_items}
-use Rattle.squawk_output.proofs.Gathered.{least_owner}
+use Rattle.squawk_output.proofs.GatheredItems.{made_by, place_items, size-draft_items}
 use Rattle.squawk_output.proofs.Groups.{itself}
-use Rattle.squawk_output.proofs.LogItems.{items_of-cases}
+use Rattle.squawk_output.proofs.LogItems.{ids_within, items_of-cases}
 use Rattle.squawk_output.proofs.LogTurns.{turns_of-most}
-use Rattle.squawk_output.proofs.Sizes.{size-gathered, total, total-most, total-one, total-ones, total-past}
-use Rattle.squawk_output.proofs.Sums.{count_by-cons}
+use Rattle.squawk_output.proofs.Sizes.{total, total-most, total-one, total-ones}
 
 -- ---- an item an event at most
 
@@ -24,8 +21,7 @@ length-draft_items : (log : Log) (marks : List Bool) → length (draft_items log
 length-draft_items log marks =
     omega (
       arith,
-      ap length (draft_items-gathered log marks),
-      size-gathered length refl length-append (least_owner log) (place_items log marks) (length log),
+      size-draft_items length refl length-append log marks,
       total-most (λ j. length (place_items log marks j)) (λ j. 1) (length log)
           (λ j. items_of-cases (λ items. length items ≤ 1) (omega arith) (omega arith) (λ kind n. omega arith) (λ text. omega arith) j (made_by log j) (get_or log j Finish)
           (get_or marks j false) (λ marked. omega arith) (λ kind link is unmarked whole. omega arith)),
@@ -53,31 +49,16 @@ module _ (id : ℕ) where
   times-draft_items log marks =
       omega (
         arith,
-        ap times (draft_items-gathered log marks),
-        size-gathered times refl times-append (least_owner log) (place_items log marks) (length log),
+        size-draft_items times refl times-append log marks,
         total-most (λ j. times (place_items log marks j)) (λ j. if id == j then 1 else 0) (length log)
             (λ j. items_of-cases (λ items. times items ≤ (if id == j then 1 else 0)) (omega arith) (omega arith) (λ kind n. omega arith) (λ text. omega arith) j (made_by log j)
             (get_or log j Finish) (get_or marks j false) (λ marked. once_there j) (λ kind link is unmarked whole. once_there j)),
       )
 
--- numbers that don't occur from n on are below n
-below-counts : (n : ℕ) (is : List ℕ) → ((id : ℕ) → n ≤ id → count_by (λ i. i == id) is ≡ 0) → All (λ i. i < n) is
-below-counts n [] none = All-nil (λ i. i < n)
-below-counts n (i ∷ is) none =
-    All-cons (λ i. i < n) i is first (below-counts n is (λ id past. omega (arith, none id past, count_by-cons (λ i. i == id) i is)))
-  where
-    first : i < n
-    first =
-        elim (cases_lt i n) [
-          | inl lt ↦ lt
-          | inr past ↦ absurd (omega (arith, none i past, count_by-cons (λ j. j == i) i is, ap {B = ℕ} (λ b. cond b 1 0) (itself i)))
-        ]
-
 pub IsLogged-draft_of : (log : Log) (marks : List Bool) (recorded wrong : ℕ) → IsRecord log marks recorded wrong → IsLogged (draft_of log marks recorded)
 IsLogged-draft_of log marks recorded wrong is = record {
   few = omega (arith, length-draft_items log marks, is.few);
   turns = omega (arith, turns_of-most log, is.few);
-  below = below-counts (length log) (ids (draft_items log marks))
-      (λ id past. omega (arith, times-draft_items id log marks, total-past id 1 (length log) past));
-  once = λ id. omega (arith, times-draft_items id log marks, total-one id 1 (length log));
+  below = ids_within log marks;
+  once = λ id. omega (arith, times-draft_items id log marks, (total-one id 1 (length log)).0);
 }

@@ -1,11 +1,14 @@
 -- From where a place is reached, and who owns it.
-use Rattle.std.proofs.Common.{◌≡◌, ◌≢◌, ◌∙◌, ◌⊎◌, ℕ, zero, suc, ◌+◌, ◌-◌, ◌<◌, ◌≤◌, Bool, true, false, Some, None, Option, [], ◌∷◌, ◌++◌, length, get_or, set, refl, sym, ap, arith, if◌then◌else◌, inl, inr}
-use Rattle.std.proofs.Math.Nat.{eq-or-lt_of_le}
-use Rattle.std.proofs.lemmas.Bool.{cases_order}
+use Rattle.std.proofs.Common.{◌≡◌, ◌≢◌, ◌∙◌, ℕ, zero, suc, ◌+◌, ◌-◌, ◌<◌, ◌≤◌, ◌||◌, ◌&&◌, Bool, true, false, Some, None, Option, List, [], ◌∷◌, ◌++◌, length, length-append, get_or, set, refl, sym, ap, arith, if◌then◌else◌}
+use Rattle.std.proofs.Math.Bool.{and-false, and-true, or-false, or-true}
+use Rattle.std.proofs.lemmas.Bool.{false_from_ne_true}
 use Rattle.squawk_output.specs.declared.event.Event.{Event}
-use Rattle.squawk_output.specs.declared.event.Event.TheVariants.{Start}
+use Rattle.squawk_output.specs.declared.event.Event.TheVariants.{Start, Finish}
 use Rattle.squawk_output.specs.EventLog.{Lands, LinksLead, Log, ahead, leads, reaches}
-use Rattle.squawk_output.proofs.Gathered.{least, least_owner, reaches-itself}
+use Rattle.squawk_output.specs.Draft.{Item}
+use Rattle.squawk_output.proofs.Gathered.{gathered, least, least_owner, reaches-itself}
+use Rattle.squawk_output.proofs.Groups.{gathered-moved}
+use Rattle.squawk_output.proofs.Erased.{leads-same}
 use Rattle.squawk_output.proofs.Links.{is_start_at-within}
 use Rattle.squawk_output.proofs.Peel.{least-same}
 
@@ -17,10 +20,6 @@ not_both b e h = absurd (cc)
 leads-both : (link : Option ℕ) (p q : ℕ → Bool) (R : Type 0) → leads link p ≡ true → leads link q ≡ true → ((n : ℕ) → p n ≡ true → q n ≡ true → R) → R
 leads-both None p q R a b go = absurd (cc)
 leads-both (Some n) p q R a b go = go n a b
-
-pub leads-same : (link : Option ℕ) (p q : ℕ → Bool) → ((n : ℕ) → p n ≡ q n) → leads link p ≡ leads link q
-leads-same None p q same = refl
-leads-same (Some n) p q same = same n
 
 -- of two places that one reaches, the nearer reaches the farther
 reaches-between : (log : Log) (i m j : ℕ) → reaches log i m ≡ true → reaches log i j ≡ true → m ≤ j → reaches log m j ≡ true
@@ -63,33 +62,24 @@ reaches-last (y ∷ ys) x (suc i) links lt = reaches-last ys x i links.1 (omega 
 
 -- ---- a new link, from a place that had none
 
-or_else_false : (b : Bool) → b ≡ (if b then true else false)
-or_else_false true = refl
-or_else_false false = refl
-
-false_either_way : (b : Bool) → false ≡ (if b then false else false)
-false_either_way true = refl
-false_either_way false = refl
-
-leads-or : (link : Option ℕ) (p q r : ℕ → Bool) (s : Bool) → ((n : ℕ) → p n ≡ (if q n then true else if r n then s else false))
-    → leads link p ≡ (if leads link q then true else if leads link r then s else false)
+leads-or : (link : Option ℕ) (p q r : ℕ → Bool) (s : Bool) → ((n : ℕ) → p n ≡ (q n || (r n && s))) → leads link p ≡ (leads link q || (leads link r && s))
 leads-or None p q r s same = refl
 leads-or (Some n) p q r s same = same n
 
 -- what reaches the place reaches also what the link leads to
 reaches-linked : (log : Log) (m c d : ℕ) (y z : Event) → c ≡ m + suc d → ahead (get_or log m z) ≡ None → ahead y ≡ Some d → m < length log → (i j : ℕ)
-    → reaches (set log m y) i j ≡ (if reaches log i j then true else if reaches log i m then reaches log c j else false)
+    → reaches (set log m y) i j ≡ (reaches log i j || (reaches log i m && reaches log c j))
 reaches-linked [] m c d y z far none some lt i j = absurd (omega arith)
 reaches-linked (x ∷ xs) m zero d y z far none some lt i j = absurd (omega arith)
 reaches-linked (x ∷ xs) zero (suc c) d y z far none some lt zero zero = refl
 reaches-linked (x ∷ xs) zero (suc c) d y z far none some lt zero (suc j) = let same : c ≡ d = omega arith in rw (none, some, same) refl
 reaches-linked (x ∷ xs) zero (suc c) d y z far none some lt (suc i) zero = refl
-reaches-linked (x ∷ xs) zero (suc c) d y z far none some lt (suc i) (suc j) = or_else_false (reaches xs i j)
+reaches-linked (x ∷ xs) zero (suc c) d y z far none some lt (suc i) (suc j) = sym (or-false (reaches xs i j))
 reaches-linked (x ∷ xs) (suc m) (suc c) d y z far none some lt zero zero = refl
 reaches-linked (x ∷ xs) (suc m) (suc c) d y z far none some lt zero (suc j) =
     leads-or (ahead x) (λ n. reaches (set xs m y) n j) (λ n. reaches xs n j) (λ n. reaches xs n m) (reaches xs c j)
     (λ n. reaches-linked xs m c d y z (omega arith) none some (omega arith) n j)
-reaches-linked (x ∷ xs) (suc m) (suc c) d y z far none some lt (suc i) zero = false_either_way (reaches xs i m)
+reaches-linked (x ∷ xs) (suc m) (suc c) d y z far none some lt (suc i) zero = sym (and-false (reaches xs i m))
 reaches-linked (x ∷ xs) (suc m) (suc c) d y z far none some lt (suc i) (suc j) = reaches-linked xs m c d y z (omega arith) none some (omega arith) i j
 
 -- ---- the same link
@@ -110,23 +100,21 @@ owner-kept log m y d e j = least-same (λ i. reaches (set log m y) i j) (λ i. r
 
 -- ---- the least
 
-most_cases : (b : Bool) (k n : ℕ) → k ≤ n → (if b then 0 else suc k) ≤ suc n
-most_cases true k n le = omega arith
-most_cases false k n le = omega arith
-
 least-most : (p : ℕ → Bool) (n : ℕ) → least p n ≤ n
 least-most p zero = omega arith
-least-most p (suc n) = most_cases (p 0) (least (λ i. p (suc i)) n) n (least-most (λ i. p (suc i)) n)
+least-most p (suc n) = cases (p 0) (least (λ i. p (suc i)) n) (least-most (λ i. p (suc i)) n)
+  where
+    cases : (b : Bool) (k : ℕ) → k ≤ n → (if b then 0 else suc k) ≤ suc n
+    cases true k le = omega arith
+    cases false k le = omega arith
 
-passes_cases : (p : ℕ → Bool) (b : Bool) (k n : ℕ) → b ≡ p 0 → (k ≡ n) ⊎ (p (suc k) ≡ true)
-    → ((if b then 0 else suc k) ≡ suc n) ⊎ (p (if b then 0 else suc k) ≡ true)
-passes_cases p true k n e h = inr (sym e)
-passes_cases p false k n e (inl h) = inl (ap suc h)
-passes_cases p false k n e (inr h) = inr h
-
-least-passes : (p : ℕ → Bool) (n : ℕ) → (least p n ≡ n) ⊎ (p (least p n) ≡ true)
-least-passes p zero = inl refl
-least-passes p (suc n) = passes_cases p (p 0) (least (λ i. p (suc i)) n) n refl (least-passes (λ i. p (suc i)) n)
+least-passes : (p : ℕ → Bool) (n : ℕ) → p n ≡ true → p (least p n) ≡ true
+least-passes p zero here = here
+least-passes p (suc n) here = cases (p 0) refl (least (λ i. p (suc i)) n) (least-passes (λ i. p (suc i)) n here)
+  where
+    cases : (b : Bool) → p 0 ≡ b → (k : ℕ) → p (suc k) ≡ true → p (if b then 0 else suc k) ≡ true
+    cases true e k h = e
+    cases false e k h = h
 
 below_cases : (p : ℕ → Bool) (b : Bool) (k i : ℕ) → b ≡ p 0 → ((i : ℕ) → i < k → p (suc i) ≡ false) → i < (if b then 0 else suc k) → p i ≡ false
 below_cases p true k i e none lt = absurd (omega arith)
@@ -138,13 +126,10 @@ least-below p zero i lt = absurd (omega arith)
 least-below p (suc n) i lt = below_cases p (p 0) (least (λ i. p (suc i)) n) i refl (least-below (λ i. p (suc i)) n) lt
 
 least-is : (p : ℕ → Bool) (n k : ℕ) → k ≤ n → p k ≡ true → ((i : ℕ) → i < k → p i ≡ false) → least p n ≡ k
-least-is p n k le here none = cases (cases_order (least p n) k) (least-passes p n)
-  where
-    cases : (least p n ≡ k) ⊎ ((least p n < k) ⊎ (k < least p n)) → (least p n ≡ n) ⊎ (p (least p n) ≡ true) → least p n ≡ k
-    cases (inl same) h = same
-    cases (inr (inl lt)) (inl h) = absurd (omega arith)
-    cases (inr (inl lt)) (inr h) = absurd (not_both (p (least p n)) h (none (least p n) lt))
-    cases (inr (inr lt)) h = absurd (not_both (p k) here (least-below p n k lt))
+least-is p zero k le here none = omega arith
+least-is p (suc n) zero le here none = rw here refl
+least-is p (suc n) (suc k) le here none =
+    rw (none 0 (omega arith)) (ap suc (least-is (λ i. p (suc i)) n k (omega arith) here (λ i lt. none (suc i) (omega arith))))
 
 -- ---- owners
 
@@ -152,11 +137,7 @@ pub owner-most : (log : Log) (j : ℕ) → least_owner log j ≤ j
 owner-most log j = least-most (λ i. reaches log i j) j
 
 owner-reaches : (log : Log) (j : ℕ) → j < length log → reaches log (least_owner log j) j ≡ true
-owner-reaches log j lt = cases (least-passes (λ i. reaches log i j) j)
-  where
-    cases : (least_owner log j ≡ j) ⊎ (reaches log (least_owner log j) j ≡ true) → reaches log (least_owner log j) j ≡ true
-    cases (inl same) = rw same (reaches-itself log j lt)
-    cases (inr h) = h
+owner-reaches log j lt = least-passes (λ i. reaches log i j) j (reaches-itself log j lt)
 
 pub owner-below : (log : Log) (j i : ℕ) → i < least_owner log j → reaches log i j ≡ false
 owner-below log j i lt = least-below (λ i. reaches log i j) j i lt
@@ -174,62 +155,41 @@ owner-push log x j lt = least-same (λ i. reaches (log ++ x ∷ []) i j) (λ i. 
 
 -- the last one owns itself
 pub owner-last : (log : Log) (x : Event) → LinksLead log → least_owner (log ++ x ∷ []) (length log) ≡ length log
-owner-last log x links = cases (least-passes (λ i. reaches (log ++ x ∷ []) i (length log)) (length log))
-  where
-    own : ℕ
-    own = least_owner (log ++ x ∷ []) (length log)
-
-    below : (own ≡ length log) ⊎ (own < length log) → reaches (log ++ x ∷ []) own (length log) ≡ true → own ≡ length log
-    below (inl same) h = same
-    below (inr lt) h = absurd (not_both (reaches (log ++ x ∷ []) own (length log)) h (reaches-last log x own links lt))
-
-    cases : (own ≡ length log) ⊎ (reaches (log ++ x ∷ []) own (length log) ≡ true) → own ≡ length log
-    cases (inl same) = same
-    cases (inr h) = below (eq-or-lt_of_le (owner-most (log ++ x ∷ []) (length log))) h
+owner-last log x links =
+    least-is (λ i. reaches (log ++ x ∷ []) i (length log)) (length log) (length log) (omega arith)
+    (reaches-itself (log ++ x ∷ []) (length log) (omega (arith, length-append log (x ∷ [])))) (λ i lt. reaches-last log x i links lt)
 
 -- a new link from m to c, where neither had one
-module _ (log : Log) (m c d : ℕ) (y z w : Event) (far : c ≡ m + suc d) (none : ahead (get_or log m z) ≡ None) (ends : ahead (get_or log c w) ≡ None)
+module _ (log : Log) (m c d : ℕ) (y : Event) (far : c ≡ m + suc d) (none : ahead (get_or log m Finish) ≡ None) (ends : ahead (get_or log c Finish) ≡ None)
     (some : ahead y ≡ Some d) (within : c < length log) where
   m_within : m < length log
   m_within = omega (arith, far, within)
 
-  or_false : (a b s : Bool) → s ≡ false → (if a then true else if b then s else false) ≡ a
-  or_false true b s h = refl
-  or_false false true s h = h
-  or_false false false s h = refl
-
-  is_false : (b : Bool) → (b ≡ true → ⊥) → b ≡ false
-  is_false true never = absurd (never refl)
-  is_false false never = refl
-
-  pub owner-linked_other : (j : ℕ) → j ≢ c → least_owner (set log m y) j ≡ least_owner log j
-  owner-linked_other j ne =
+  pub owner-elsewhere : (j : ℕ) → j ≢ c → least_owner (set log m y) j ≡ least_owner log j
+  owner-elsewhere j ne =
+      let away = false_from_ne_true (reaches log c j) (λ h. ne (reaches-alone log c j Finish ends h)) in
       least-same (λ i. reaches (set log m y) i j) (λ i. reaches log i j) j
-      (λ i. reaches-linked log m c d y z far none some m_within i j
-      ∙ or_false (reaches log i j) (reaches log i m) (reaches log c j) (is_false (reaches log c j) (λ h. ne (reaches-alone log c j w ends h))))
+      (λ i. reaches-linked log m c d y Finish far none some m_within i j ∙ rw (away, and-false, or-false) refl)
 
-  either_reaches : (i : ℕ) → reaches (set log m y) i c ≡ (if reaches log i c then true else if reaches log i m then true else false)
-  either_reaches i =
-      reaches-linked log m c d y z far none some m_within i c
-      ∙ ap (λ s. if reaches log i c then true else if reaches log i m then s else false) (reaches-itself log c within)
-
-  neither : (a b : Bool) → a ≡ false → b ≡ false → (if a then true else if b then true else false) ≡ false
-  neither a b p q = rw (p, q) refl
-
-  second : (a b : Bool) → b ≡ true → (if a then true else if b then true else false) ≡ true
-  second true b q = refl
-  second false b q = rw q refl
+  either_reaches : (i : ℕ) → reaches (set log m y) i c ≡ (reaches log i c || reaches log i m)
+  either_reaches i = reaches-linked log m c d y Finish far none some m_within i c ∙ rw (reaches-itself log c within, and-true) refl
 
   -- c comes to the owner of m where that is the lesser
-  pub owner-moved : least_owner log m < least_owner log c → least_owner (set log m y) c ≡ least_owner log m
-  owner-moved lt =
+  pub owner-joins : least_owner log m < least_owner log c → least_owner (set log m y) c ≡ least_owner log m
+  owner-joins lt =
       least-is (λ i. reaches (set log m y) i c) c (least_owner log m) (omega (arith, owner-most log m, far))
-      (either_reaches (least_owner log m) ∙ second (reaches log (least_owner log m) c) (reaches log (least_owner log m) m) (owner-reaches log m m_within))
-      (λ i h. either_reaches i ∙ neither (reaches log i c) (reaches log i m) (owner-below log c i (omega arith)) (owner-below log m i h))
+      (either_reaches (least_owner log m) ∙ rw (owner-reaches log m m_within) (or-true (reaches log (least_owner log m) c)))
+      (λ i h. either_reaches i ∙ rw (owner-below log c i (omega arith), owner-below log m i h) refl)
 
   -- and else stays
-  pub owner-stays : least_owner log c < least_owner log m → least_owner (set log m y) c ≡ least_owner log c
-  owner-stays lt =
-      least-is (λ i. reaches (set log m y) i c) c (least_owner log c) (owner-most log c)
-      (either_reaches (least_owner log c) ∙ ap (λ b. if b then true else if reaches log (least_owner log c) m then true else false) (owner-reaches log c within))
-      (λ i h. either_reaches i ∙ neither (reaches log i c) (reaches log i m) (owner-below log c i h) (owner-below log m i (omega arith)))
+  pub owner-remains : least_owner log c < least_owner log m → least_owner (set log m y) c ≡ least_owner log c
+  owner-remains lt =
+      least-is (λ i. reaches (set log m y) i c) c (least_owner log c) (owner-most log c) (either_reaches (least_owner log c) ∙ rw (owner-reaches log c within) refl)
+      (λ i h. either_reaches i ∙ rw (owner-below log c i h, owner-below log m i (omega arith)) refl)
+
+  -- the items of c come to stand directly before those of m
+  pub gathered-joined : least_owner log m < least_owner log c → (items edited : ℕ → List Item) → edited m ≡ items c ++ items m → edited c ≡ []
+      → ((j : ℕ) → j < length log → j ≢ c → j ≢ m → edited j ≡ items j) → gathered (least_owner (set log m y)) items (length log) ≡ gathered (least_owner log) edited (length log)
+  gathered-joined lt items edited =
+      gathered-moved (least_owner log) (least_owner (set log m y)) items edited m c (length log) (omega (arith, far)) within (owner-joins lt) owner-elsewhere
+      (λ j lo hi. farthest log m j Finish none lo hi)

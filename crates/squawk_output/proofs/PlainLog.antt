@@ -1,5 +1,6 @@
--- The list of a log is the plain list of its draft, with its errors.
-use Rattle.std.proofs.Common.{◌≡◌, ◌∙◌, ℕ, ◌+◌, ◌==◌, ◌<◌, Bool, true, false, not, List, [], ◌∷◌, length, get_or, refl, sym, ap, arith, if◌then◌else◌}
+-- The list of a log is the plain list of its draft, and the errors of items are those of their steps.
+use Rattle.std.proofs.Common.{cond, ◌≡◌, ◌∙◌, ℕ, ◌==◌, ◌<◌, Bool, true, false, not, List, [], ◌∷◌, length, get_or, refl, sym, ap, arith, if◌then◌else◌}
+use Rattle.std.proofs.lemmas.List.Sums.{sum_by-append}
 use Rattle.squawk_kinds.specs.Kinds.{TOMBSTONE}
 use Rattle.squawk_output.specs.Steps as steps
 use Rattle.squawk_output.specs.Steps.{errors_in}
@@ -9,9 +10,8 @@ use Rattle.squawk_output.specs.Chain.{tombstone}
 use Rattle.squawk_output.specs.Draft as draft
 use Rattle.squawk_output.specs.Draft.{Item, plain}
 use Rattle.squawk_output.specs.declared.log.Made.{Made}
-use Rattle.squawk_output.specs.EventLog.{Log, errors_logged, has_link, list_of, steps_of_event}
+use Rattle.squawk_output.specs.EventLog.{Log, has_link, list_of, steps_of_event}
 use Rattle.squawk_output.proofs.Gathered.{least_owner, list_of-gathered, steps-here, steps_at}
-use Rattle.squawk_output.proofs.LogErrors.{errors_in-list_of}
 use Rattle.squawk_output.proofs.Sums.{count_by-cons}
 use Rattle.squawk_output.specs.LogDraft.{draft_items, items_of}
 use Rattle.squawk_output.proofs.GatheredItems.{flat_map-draft_items, made_by, place_items}
@@ -40,15 +40,15 @@ plain-draft_items log marks holes =
 -- the errors of items are those of their steps
 pub errors-plain : (items : List Item) → draft.errors_of items ≡ errors_in (plain items)
 errors-plain [] = refl
-errors-plain (draft.Hole i made ∷ items) = count_by-cons draft.is_error_item (draft.Hole i made) items ∙ (omega (arith, errors-plain items))
-errors-plain (draft.Open i kind free ∷ items) =
-    count_by-cons draft.is_error_item (draft.Open i kind free) items ∙ (ap (λ n. 0 + n) (errors-plain items) ∙ sym (count_by-cons steps.is_error (steps.Enter kind) (plain items)))
-errors-plain (draft.Close ∷ items) = count_by-cons draft.is_error_item draft.Close items ∙ (ap (λ n. 0 + n) (errors-plain items) ∙ sym (count_by-cons steps.is_error steps.Exit (plain items)))
-errors-plain (draft.Token kind n ∷ items) =
-    count_by-cons draft.is_error_item (draft.Token kind n) items ∙ (ap (λ n. 0 + n) (errors-plain items) ∙ sym (count_by-cons steps.is_error (steps.Token kind n) (plain items)))
-errors-plain (draft.Error text ∷ items) =
-    count_by-cons draft.is_error_item (draft.Error text) items ∙ (ap (λ n. 1 + n) (errors-plain items) ∙ sym (count_by-cons steps.is_error (steps.Error text) (plain items)))
-
--- and so the errors of a draft are those of its log
-pub errors-draft_items : (log : Log) (marks : List Bool) → HaveHoles log marks → draft.errors_of (draft_items log marks) ≡ errors_logged log
-errors-draft_items log marks holes = errors-plain (draft_items log marks) ∙ (ap errors_in (plain-draft_items log marks holes) ∙ errors_in-list_of log)
+errors-plain (item ∷ items) =
+    omega (
+      arith,
+      count_by-cons draft.is_error_item item items,
+      sum_by-append (λ step. cond (steps.is_error step) 1 0) (draft.steps_of_item item) (plain items),
+      one item,
+      errors-plain items,
+    )
+  where
+    one : (item : Item) → errors_in (draft.steps_of_item item) ≡ cond (draft.is_error_item item) 1 0
+    one (draft.Hole i made) = refl
+    one item = refl

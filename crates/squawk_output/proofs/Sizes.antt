@@ -1,5 +1,5 @@
--- What is gathered by owners is no more than what the places have.
-use Rattle.std.proofs.Common.{◌≡◌, ℕ, zero, suc, ◌+◌, ◌==◌, ◌≤◌, Bool, true, false, List, [], ◌++◌, arith, refl, ◌∙◌, if◌then◌else◌}
+-- What is gathered by owners is what the places have.
+use Rattle.std.proofs.Common.{◌≡◌, ℕ, zero, suc, ◌+◌, ◌==◌, ◌<◌, ◌≤◌, Bool, true, false, List, [], ◌++◌, arith, refl, ◌∙◌, if◌then◌else◌}
 use Rattle.std.proofs.Math.Dec.{eqb-suc-suc, eqb-suc-zero, eqb-zero-suc}
 use Rattle.squawk_output.proofs.Gathered.{each, gathered, picked}
 
@@ -20,46 +20,37 @@ total-none : (n : ℕ) → total (λ i. 0) n ≡ 0
 total-none zero = refl
 total-none (suc n) = omega (arith, total-none n)
 
-total-same : (s t : ℕ → ℕ) (n : ℕ) → ((i : ℕ) → s i ≡ t i) → total s n ≡ total t n
+pub total-same : (s t : ℕ → ℕ) (n : ℕ) → ((i : ℕ) → s i ≡ t i) → total s n ≡ total t n
 total-same s t zero same = refl
 total-same s t (suc n) same = omega (arith, same 0, total-same (λ i. s (suc i)) (λ i. t (suc i)) n (λ i. same (suc i)))
 
 -- one place alone has something
-pub total-one : (place most n : ℕ) → total (λ i. if place == i then most else 0) n ≤ most
-total-one place most zero = omega arith
+pub total-one : (place most n : ℕ) → (total (λ i. if place == i then most else 0) n ≤ most) × (place < n → total (λ i. if place == i then most else 0) n ≡ most)
+total-one place most zero = (omega arith, λ lt. absurd (omega arith))
 total-one zero most (suc n) =
     let rest : total (λ i. if zero == suc i then most else 0) n ≡ 0 =
     total-same (λ i. if zero == suc i then most else 0) (λ i. 0) n (λ i. rw (eqb-zero-suc i) refl) ∙ total-none n in
-    omega (arith, rest)
+    (omega (arith, rest), λ lt. omega (arith, rest))
 total-one (suc place) most (suc n) =
     let first : (if suc place == zero then most else 0) ≡ 0 = rw (eqb-suc-zero place) refl in
     let rest : total (λ i. if suc place == suc i then most else 0) n ≡ total (λ i. if place == i then most else 0) n =
     total-same (λ i. if suc place == suc i then most else 0) (λ i. if place == i then most else 0) n (λ i. rw (eqb-suc-suc place i) refl) in
-    omega (arith, first, rest, total-one place most n)
-
--- and none below it
-pub total-past : (place most n : ℕ) → n ≤ place → total (λ i. if place == i then most else 0) n ≡ 0
-total-past place most zero past = refl
-total-past zero most (suc n) past = absurd (omega arith)
-total-past (suc place) most (suc n) past =
-    let first : (if suc place == zero then most else 0) ≡ 0 = rw (eqb-suc-zero place) refl in
-    let rest : total (λ i. if suc place == suc i then most else 0) n ≡ total (λ i. if place == i then most else 0) n =
-    total-same (λ i. if suc place == suc i then most else 0) (λ i. if place == i then most else 0) n (λ i. rw (eqb-suc-suc place i) refl) in
-    omega (arith, first, rest, total-past place most n (omega arith))
+    let one = total-one place most n in
+    (omega (arith, first, rest, one.0), λ lt. omega (arith, first, rest, one.1 (omega arith)))
 
 pub total-ones : (n : ℕ) → total (λ i. 1) n ≡ n
 total-ones zero = refl
 total-ones (suc n) = omega (arith, total-ones n)
 
 -- the sum over owners of what they own
-pub total-owned : (own s : ℕ → ℕ) (m n : ℕ) → total (λ i. total (λ j. if own j == i then s j else 0) n) m ≤ total s n
-total-owned own s m zero = omega (arith, total-none m)
-total-owned own s m (suc n) =
+total-owned : (own s : ℕ → ℕ) (m n : ℕ) → ((j : ℕ) → j < n → own j < m) → total (λ i. total (λ j. if own j == i then s j else 0) n) m ≡ total s n
+total-owned own s m zero within = total-none m
+total-owned own s m (suc n) within =
     omega (
       arith,
       total-add (λ i. if own 0 == i then s 0 else 0) (λ i. total (λ j. if own (suc j) == i then s (suc j) else 0) n) m,
-      total-one (own 0) (s 0) m,
-      total-owned (λ j. own (suc j)) (λ j. s (suc j)) m n,
+      (total-one (own 0) (s 0) m).1 (within 0 (omega arith)),
+      total-owned (λ j. own (suc j)) (λ j. s (suc j)) m n (λ j lt. within (suc j) (omega arith)),
     )
 
 module _ {X : Type 0} (size : List X → ℕ) (none : size [] ≡ 0) (add : (xs ys : List X) → size (xs ++ ys) ≡ size xs + size ys) where
@@ -81,8 +72,8 @@ module _ {X : Type 0} (size : List X → ℕ) (none : size [] ≡ 0) (add : (xs 
   size-each items zero = none
   size-each items (suc n) = omega (arith, add (items 0) (each (λ i. items (suc i)) n), size-each (λ i. items (suc i)) n)
 
-  pub size-gathered : (own : ℕ → ℕ) (items : ℕ → List X) (n : ℕ) → size (gathered own items n) ≤ total (λ j. size (items j)) n
-  size-gathered own items n =
-      let groups = λ (i : ℕ). picked (λ j. own j == i) items n in
-      let each_group = total-same (λ i. size (groups i)) (λ i. total (λ j. if own j == i then size (items j) else 0) n) n (λ i. size-picked (λ j. own j == i) items n) in
-      omega (arith, size-each groups n, each_group, total-owned own (λ j. size (items j)) n n)
+  pub size-gathered : (own : ℕ → ℕ) (items : ℕ → List X) (n : ℕ) → ((j : ℕ) → j < n → own j < n) → size (gathered own items n) ≡ total (λ j. size (items j)) n
+  size-gathered own items n within =
+      size-each (λ i. picked (λ j. own j == i) items n) n
+      ∙ (total-same (λ i. size (picked (λ j. own j == i) items n)) (λ i. total (λ j. if own j == i then size (items j) else 0) n) n (λ i. size-picked (λ j. own j == i) items n)
+      ∙ total-owned own (λ j. size (items j)) n n within)

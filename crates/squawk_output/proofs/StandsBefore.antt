@@ -2,7 +2,8 @@
 use Rattle.std.proofs.Common.{◌≡◌, ◌≢◌, ◌∙◌, ◌⊎◌, ℕ, zero, suc, ◌==◌, ◌<◌, ◌||◌, ◌&&◌, Bool, true, false, List, [], ◌∷◌, ◌++◌, sym, refl, ap, arith, if◌then◌else◌, inl, inr}
 use Rattle.std.specs.List.{list_any}
 use Rattle.std.proofs.Math.Bool.{or-true}
-use Rattle.std.proofs.lemmas.Bool.{ne_eqb}
+use Rattle.std.proofs.Math.Dec.{ltb}
+use Rattle.std.proofs.lemmas.Bool.{cases_lt, le-ltb, lt-ltb, ne_eqb}
 use Rattle.std.proofs.lemmas.Bool.Decides.{eqb_tells}
 use Rattle.std.proofs.lemmas.List.Folds.{list_any-append}
 use Rattle.squawk_output.specs.Draft.{Item}
@@ -23,6 +24,10 @@ any-down p f (suc n) k lt has =
       | inr e ↦ let ne = e.1 in rw (any-down p f n k (omega (arith, lt, ne)) has) (or-true (list_any p (f n)))
     ]
 
+ltb-suc : (a b : ℕ) → ltb (suc a) (suc b) ≡ ltb a b
+ltb-suc a b =
+    elim (cases_lt a b) [ inl lt ↦ rw (lt-ltb a b lt) (lt-ltb (suc a) (suc b) (omega arith)) | inr le ↦ rw (le-ltb a b le) (le-ltb (suc a) (suc b) (omega arith)) ]
+
 module _ (p q : Item → Bool) where
   first_cases : (a b s t r u : Bool) → ((a || s) && (b || t)) ≡ false → ((s && t) ≡ false → r ≡ (if s then true else if t then false else u))
       → (if a then true else if b then false else r) ≡ (if a || s then true else if b || t then false else u)
@@ -38,29 +43,20 @@ module _ (p q : Item → Bool) where
   decided (x ∷ xs) ys h = first_cases (p x) (q x) (list_any p xs) (list_any q xs) (stands_before p q (xs ++ ys)) (stands_before p q ys) h (decided xs ys)
 
   -- the one test is passed at place a alone, the other at place b alone
-  pub each-before : (items : ℕ → List Item) (n a b : ℕ) → a < b → a < n → ((i : ℕ) → i ≢ a → list_any p (items i) ≡ false) → ((i : ℕ) → i ≢ b → list_any q (items i) ≡ false)
-      → list_any p (items a) ≡ true → stands_before p q (each items n) ≡ true
-  each-before items zero a b lt within ps qs has = absurd (omega arith)
-  each-before items (suc n) zero b lt within ps qs has =
-      let none = qs 0 (omega (arith, lt)) in decided (items 0) (each (λ i. items (suc i)) n) (rw (has, none) refl) ∙ rw has refl
-  each-before items (suc n) (suc a) zero lt within ps qs has = absurd (omega arith)
-  each-before items (suc n) (suc a) (suc b) lt within ps qs has =
+  pub each-first : (items : ℕ → List Item) (n a b : ℕ) → a ≢ b → a < n → b < n → ((i : ℕ) → i ≢ a → list_any p (items i) ≡ false) → ((i : ℕ) → i ≢ b → list_any q (items i) ≡ false)
+      → list_any p (items a) ≡ true → list_any q (items b) ≡ true → stands_before p q (each items n) ≡ ltb a b
+  each-first items zero a b ne lo hi ps qs has also = absurd (omega arith)
+  each-first items (suc n) zero zero ne lo hi ps qs has also = absurd (ne refl)
+  each-first items (suc n) zero (suc b) ne lo hi ps qs has also =
+      let none = qs 0 (omega arith) in decided (items 0) (each (λ i. items (suc i)) n) (rw (has, none) refl) ∙ rw (has, lt-ltb 0 (suc b) (omega arith)) refl
+  each-first items (suc n) (suc a) zero ne lo hi ps qs has also =
+      let none = ps 0 (omega arith) in decided (items 0) (each (λ i. items (suc i)) n) (rw none refl) ∙ rw (none, also, le-ltb (suc a) 0 (omega arith)) refl
+  each-first items (suc n) (suc a) (suc b) ne lo hi ps qs has also =
       let no = ps 0 (omega arith) in
       let none = qs 0 (omega arith) in
       decided (items 0) (each (λ i. items (suc i)) n) (rw no refl)
-      ∙ rw (no, none) (each-before (λ i. items (suc i)) n a b (omega arith) (omega arith) (λ i ne. ps (suc i) (omega (arith, ne))) (λ i ne. qs (suc i) (omega (arith, ne))) has)
-
-  pub each-behind : (items : ℕ → List Item) (n a b : ℕ) → b < a → b < n → ((i : ℕ) → i ≢ a → list_any p (items i) ≡ false) → ((i : ℕ) → i ≢ b → list_any q (items i) ≡ false)
-      → list_any q (items b) ≡ true → stands_before p q (each items n) ≡ false
-  each-behind items zero a b lt within ps qs has = absurd (omega arith)
-  each-behind items (suc n) a zero lt within ps qs has =
-      let none = ps 0 (omega (arith, lt)) in decided (items 0) (each (λ i. items (suc i)) n) (rw none refl) ∙ rw (none, has) refl
-  each-behind items (suc n) zero (suc b) lt within ps qs has = absurd (omega arith)
-  each-behind items (suc n) (suc a) (suc b) lt within ps qs has =
-      let no = ps 0 (omega arith) in
-      let none = qs 0 (omega arith) in
-      decided (items 0) (each (λ i. items (suc i)) n) (rw no refl)
-      ∙ rw (no, none) (each-behind (λ i. items (suc i)) n a b (omega arith) (omega arith) (λ i ne. ps (suc i) (omega (arith, ne))) (λ i ne. qs (suc i) (omega (arith, ne))) has)
+      ∙ rw (no, none, ltb-suc a b)
+      (each-first (λ i. items (suc i)) n a b (λ e. ne (ap suc e)) (omega arith) (omega arith) (λ i other. ps (suc i) (omega (arith, other))) (λ i other. qs (suc i) (omega (arith, other))) has also)
 
 -- a test that is passed at one place alone is passed in the group of its owner alone
 module _ (own : ℕ → ℕ) (items : ℕ → List Item) (n place : ℕ) (p : Item → Bool) (only : (j : ℕ) → j ≢ place → list_any p (items j) ≡ false) where

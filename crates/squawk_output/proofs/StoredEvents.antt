@@ -1,18 +1,17 @@
 -- Events as a list keeps them.
-use Rattle.std.proofs.Common.{◌≡◌, ◌∙◌, ℕ, zero, suc, ◌+◌, ◌<◌, ◌≤◌, true, Some, None, List, [], ◌∷◌, ◌++◌, length, length-append, get_or, set, refl, subst, sym, ap, arith}
+use Rattle.std.proofs.Common.{◌≡◌, ◌∙◌, ℕ, zero, suc, ◌+◌, ◌<◌, ◌≤◌, true, Some, None, List, [], ◌∷◌, ◌++◌, length, length-append, get_or, refl, subst, sym, ap, arith}
 use Rattle.std.proofs.Math.Dec.{eqb-suc-zero}
 use Rattle.std.proofs.Math.ListN.{get_or-append}
 use Rattle.std.proofs.Math.Seq.{get_or-append_seam}
-use Rattle.std.proofs.lemmas.List.{get_or-map, length-map, map-append, map-set}
-use Rattle.std.proofs.lemmas.List.Elements.{All-append, All-cons, All-nil, All-set, All-tail}
-use Rattle.std.proofs.lemmas.List.Sums.{count_by-le-length}
+use Rattle.std.proofs.lemmas.List.{get_or-map, length-map, map-append}
+use Rattle.std.proofs.lemmas.List.Elements.{All-tail}
 use Rattle.squawk_output.specs.declared.event.Event.{Event}
 use Rattle.squawk_output.specs.declared.event.Event.TheVariants as event
 use Rattle.squawk_output.specs.declared.log.stored_event.StoredEvent.{StoredEvent}
 use Rattle.squawk_output.specs.declared.log.stored_event.StoredEvent.TheVariants.{Error}
 use Rattle.squawk_output.specs.Chain.{LandsAt, forward_parent, hop, node_kind}
-use Rattle.squawk_output.specs.EventLog.{Lands, Log, errors_logged, is_error_event, is_start, is_start_at}
-use Rattle.squawk_output.specs.StoredEvents.{HasEventText, HaveEventTexts, LeadsOn, event_of, link_of, log_in}
+use Rattle.squawk_output.specs.EventLog.{is_start, is_start_at}
+use Rattle.squawk_output.specs.StoredEvents.{HasEventText, HaveEventTexts, event_of, link_of, log_in}
 use Rattle.squawk_output.proofs.Links.{is_start_at-event, is_start_at-within}
 
 pub length-log_in : (texts : List (List ℕ)) (events : List StoredEvent) → length (log_in texts events) ≡ length events
@@ -28,9 +27,6 @@ event_at texts events place x e d within is = ap (event_of texts) is ∙ sym (ge
 
 pub log_in-push : (texts : List (List ℕ)) (events : List StoredEvent) (x : StoredEvent) → log_in texts (events ++ x ∷ []) ≡ log_in texts events ++ event_of texts x ∷ []
 log_in-push texts events x = map-append (event_of texts) events (x ∷ [])
-
-pub HaveEventTexts-push : (texts : List (List ℕ)) (events : List StoredEvent) (x : StoredEvent) → HasEventText texts x → HaveEventTexts texts events → HaveEventTexts texts (events ++ x ∷ [])
-HaveEventTexts-push texts events x has have = All-append (HasEventText texts) events (x ∷ []) have (All-cons (HasEventText texts) x [] has (All-nil (HasEventText texts)))
 
 pub HaveEventTexts-front : (texts : List (List ℕ)) (events : List StoredEvent) (x : StoredEvent) → HaveEventTexts texts (events ++ x ∷ []) → HaveEventTexts texts events
 HaveEventTexts-front texts events x have k d lt =
@@ -59,14 +55,6 @@ module _ (texts : List (List ℕ)) (text : List ℕ) where
       ∙ (ap (λ y. log_in more events ++ event.Error y ∷ []) (get_or-append_seam texts text [] [])
       ∙ ap (λ ys. ys ++ event.Error text ∷ []) (log_in-more events have))
 
--- ---- an event in another's place
-
-pub log_in-set : (texts : List (List ℕ)) (events : List StoredEvent) (place : ℕ) (x : StoredEvent) → log_in texts (set events place x) ≡ set (log_in texts events) place (event_of texts x)
-log_in-set texts events place x = map-set (event_of texts) events place x
-
-pub HaveEventTexts-set : (texts : List (List ℕ)) (events : List StoredEvent) (place : ℕ) (x : StoredEvent) → HasEventText texts x → HaveEventTexts texts events → HaveEventTexts texts (set events place x)
-HaveEventTexts-set texts events place x has have = All-set (HasEventText texts) events place x has have
-
 -- ---- as the code has it
 
 -- a link of more than no places
@@ -93,16 +81,8 @@ module _ (texts : List (List ℕ)) (events : List StoredEvent) (at next : ℕ) (
   link_within = omega (arith, is_start_at-within (log_in texts events) (at + next) lands_there, length-log_in texts events)
 
   pub landed : (kind link : ℕ) (x e : StoredEvent) → x ≡ get_or events (at + next) e → node_kind (event_of texts x) ≡ kind
-      → forward_parent (event_of texts x) ≡ link_of link → event_of texts x ≡ event.Start kind (link_of link)
+      → forward_parent (event_of texts x) ≡ link_of link → get_or (log_in texts events) (at + next) event.Finish ≡ event.Start kind (link_of link)
   landed kind link x e got k l =
-      let start : is_start (event_of texts x) ≡ true =
-      ap is_start (event_at texts events (at + next) x e event.Finish link_within got) ∙ is_start_at-event (log_in texts events) (at + next) event.Finish lands_there in
-      start-is (event_of texts x) start ∙ (ap (λ y. event.Start y (forward_parent (event_of texts x))) k ∙ ap (event.Start kind) l)
-
-pub leads_on : (x : Event) (log : Log) → Lands x log → LeadsOn x
-leads_on (event.Start kind None) log lands = tt
-leads_on (event.Start kind (Some distance)) log lands = lands.0
-leads_on other log lands = tt
-
-pub errors_logged-most : (log : Log) → errors_logged log ≤ length log
-errors_logged-most log = count_by-le-length is_error_event log
+      let found = event_at texts events (at + next) x e event.Finish link_within got in
+      let start = ap is_start found ∙ is_start_at-event (log_in texts events) (at + next) event.Finish lands_there in
+      sym found ∙ (start-is (event_of texts x) start ∙ (ap (λ y. event.Start y (forward_parent (event_of texts x))) k ∙ ap (event.Start kind) l))

@@ -9,7 +9,7 @@ use Rattle.squawk_output.specs.Chain.{LandsAt, chain, entered_back, erased, hop,
 use Rattle.squawk_output.specs.Pass.{Visits}
 use Rattle.squawk_output.proofs.Erased.{length-erased}
 use Rattle.squawk_output.proofs.Follows.{chain-hop, drop-hop, erased-None, length-chain}
-use Rattle.squawk_output.proofs.Links.{LandsAt-ahead, LinksLead-drop, LinksLead-erased}
+use Rattle.squawk_output.proofs.Links.{Lands-ahead, LandsAt-ahead, LinksLead-drop, LinksLead-erased}
 use Rattle.squawk_output.proofs.LogTurns.{one_if, turns_of-cons}
 use Rattle.squawk_output.proofs.Peel.{entered, list_of-cons}
 
@@ -19,9 +19,8 @@ use Rattle.squawk_output.proofs.Peel.{entered, list_of-cons}
 entered-chain : (from : Option ℕ) (log : Log) → LinksLead log → LandsAt log from → entered from log ≡ entered_back (chain from log)
 entered-chain from [] links lands = refl
 entered-chain None (x ∷ xs) links lands = refl
-entered-chain (Some zero) (Start kind None ∷ xs) links lands = ap (λ ys. ys ++ entering kind) (entered-chain None xs links.1 tt)
-entered-chain (Some zero) (Start kind (Some distance) ∷ xs) links lands =
-    ap (λ ys. ys ++ entering kind) (entered-chain (ahead (Start kind (Some distance))) xs links.1 links.0.1)
+entered-chain (Some zero) (Start kind link ∷ xs) links lands =
+    ap (λ ys. ys ++ entering kind) (entered-chain (ahead (Start kind link)) xs links.1 (Lands-ahead (Start kind link) xs links.0))
 entered-chain (Some zero) (x ∷ xs) links lands = absurd (cc)
 entered-chain (Some (suc n)) (x ∷ xs) links lands = entered-chain (Some n) xs links.1 lands
 
@@ -40,20 +39,14 @@ turns-chain : (from : Option ℕ) (log : Log) → LinksLead log → LandsAt log 
 turns-chain None [] links lands = refl
 turns-chain (Some n) [] links lands = absurd (cc)
 turns-chain None (x ∷ xs) links lands = omega arith
-turns-chain (Some zero) (Start kind None ∷ xs) links lands =
+turns-chain (Some zero) (Start kind link ∷ xs) links lands =
+    let on = ahead (Start kind link) in
     omega (
       arith,
-      turns_of-cons (Start kind None) xs,
-      turns_of-cons tombstone (erased None xs),
-      turns-chain None xs links.1 tt,
-    )
-turns-chain (Some zero) (Start kind (Some distance) ∷ xs) links lands =
-    let on = ahead (Start kind (Some distance)) in
-    omega (
-      arith,
-      turns_of-cons (Start kind (Some distance)) xs,
+      turns_of-cons (Start kind link) xs,
       turns_of-cons tombstone (erased on xs),
-      turns-chain on xs links.1 links.0.1,
+      turns-chain on xs links.1 (Lands-ahead (Start kind link) xs links.0),
+      link_turns-ahead kind link,
     )
 turns-chain (Some zero) (x ∷ xs) links lands = absurd (cc)
 turns-chain (Some (suc n)) (x ∷ xs) links lands =
@@ -72,9 +65,9 @@ chain-drop [] place lt = absurd (omega arith)
 chain-drop (x ∷ xs) zero lt = refl
 chain-drop (x ∷ xs) (suc n) lt = chain-drop xs n (omega arith)
 
-module _ (log : Log) (place : ℕ) (d : Event) (within : place < length log) where
-  abbrev here : Event
-  here = get_or log place d
+module _ (log : Log) (place : ℕ) (d : Event) (within : place < length log) (links : LinksLead log) (kind : ℕ) (link : Option ℕ) (is : get_or log place d ≡ Start kind link) where
+  abbrev on : Option ℕ
+  on = ahead (Start kind link)
 
   abbrev behind : Log
   behind = drop (suc place) log
@@ -82,64 +75,37 @@ module _ (log : Log) (place : ℕ) (d : Event) (within : place < length log) whe
   abbrev left : Log
   left = drop (suc place) (erased (Some place) log)
 
-  list-here : list_of (drop place log) ≡ (entered (ahead here) behind ++ steps_of_event here) ++ list_of left
+  lands : LandsAt behind on
+  lands = rw is at (LandsAt-ahead log place d within links)
+
+  begins : drop place log ≡ Start kind link ∷ behind
+  begins = drop-cons log place d within ∙ ap (λ x. x ∷ behind) is
+
+  chain-here : chain (Some place) log ≡ kind ∷ chain on behind
+  chain-here = chain-drop log place within ∙ ap (chain (Some 0)) begins
+
+  left-here : left ≡ erased on behind
+  left-here = drop-erased log place d within ∙ ap (λ x. erased (ahead x) behind) is
+
+  list-here : list_of (drop place log) ≡ entered_back (chain (Some place) log) ++ list_of left
   list-here =
-      ap list_of (drop-cons log place d within)
-      ∙ (list_of-cons here behind ∙ ap (λ ys. (entered (ahead here) behind ++ steps_of_event here) ++ list_of ys) (sym (drop-erased log place d within)))
+      ap list_of begins
+      ∙ (list_of-cons (Start kind link) behind
+      ∙ (ap (λ ys. (ys ++ entering kind) ++ list_of (erased on behind)) (entered-chain on behind (LinksLead-drop log (suc place) links) lands) ∙ rw (chain-here, left-here) refl))
 
-  module _ (links : LinksLead log) (kind : ℕ) (link : Option ℕ) (is : here ≡ Start kind link) where
-    lands : LandsAt behind (ahead (Start kind link))
-    lands = rw is at (LandsAt-ahead log place d within links)
-
-    begins : drop place log ≡ Start kind link ∷ behind
-    begins = drop-cons log place d within ∙ ap (λ x. x ∷ behind) is
-
-    chain-here : chain (Some place) log ≡ kind ∷ chain (ahead (Start kind link)) behind
-    chain-here = chain-drop log place within ∙ ap (chain (Some 0)) begins
-
-    left-here : left ≡ erased (ahead (Start kind link)) behind
-    left-here = drop-erased log place d within ∙ ap (λ x. erased (ahead x) behind) is
-
-    turns-here : turns_of (drop place log) ≡ 2 * length (chain (Some place) log) + turns_of left
-    turns-here =
-        omega (
-          arith,
-          ap turns_of begins,
-          turns_of-cons (Start kind link) behind,
-          turns-chain (ahead (Start kind link)) behind (LinksLead-drop log (suc place) links) lands,
-          ap length chain-here,
-          ap turns_of left-here,
-          link_turns-ahead kind link,
-        )
-
-    entered-here : entered (ahead here) behind ++ steps_of_event here ≡ entered_back (chain (Some place) log)
-    entered-here =
-        ap (λ x. entered (ahead x) behind ++ steps_of_event x) is
-        ∙ (ap (λ ys. ys ++ entering kind) (entered-chain (ahead (Start kind link)) behind (LinksLead-drop log (suc place) links) lands)
-        ∙ ap entered_back (sym chain-here))
+  turns-here : turns_of (drop place log) ≡ 2 * length (chain (Some place) log) + turns_of left
+  turns-here =
+      omega (
+        arith,
+        ap turns_of begins,
+        turns_of-cons (Start kind link) behind,
+        turns-chain on behind (LinksLead-drop log (suc place) links) lands,
+        ap length chain-here,
+        ap turns_of left-here,
+        link_turns-ahead kind link,
+      )
 
 -- ---- visits
-
--- a Start: the kinds of its chain are entered, and the chain behind it is taken out
-Visits-chain : (log after : Log) (output made : Passed) (place kind : ℕ) (link : Option ℕ) (d : Event) (kinds : List ℕ) → place < length log → LinksLead log
-    → get_or log place d ≡ Start kind link → length after ≡ length log → LinksLead after → drop (suc place) after ≡ drop (suc place) (erased (Some place) log)
-    → kinds ≡ chain (Some place) log → made.steps ≡ output.steps ++ entered_back kinds → made.turns ≡ output.turns + 2 * length kinds
-    → made.texts ≡ output.texts → Visits log output after made place
-Visits-chain log after output made place kind link d kinds within links is same links_after gone found steps turns same_texts =
-    let left = drop (suc place) (erased (Some place) log) in
-    let rest : drop (place + 1) after ≡ left = rw (add-one, gone) refl in
-    record {
-      same_length = same;
-      links = links_after;
-      steps =
-          ap (λ ys. ys ++ list_of (drop (place + 1) after)) (steps ∙ ap (λ ks. output.steps ++ entered_back ks) found)
-          ∙ (append_assoc output.steps (entered_back (chain (Some place) log)) (list_of (drop (place + 1) after))
-          ∙ ap (λ ys. output.steps ++ ys)
-          (ap (λ ys. entered_back (chain (Some place) log) ++ list_of ys) rest
-          ∙ (ap (λ ys. ys ++ list_of left) (sym (entered-here log place d within links kind link is)) ∙ sym (list-here log place d within))));
-      turns = omega (arith, turns-here log place d within links kind link is, ap turns_of rest, ap length found, turns);
-      texts = same_texts;
-    }
 
 entered-None : (log : Log) → entered None log ≡ []
 entered-None [] = refl
@@ -162,10 +128,7 @@ module _ (log : Log) (output turned : Passed) (place : ℕ) (turn : turned ≡ r
     list-alone : list_of (drop place log) ≡ steps_of_event event ++ list_of (drop (place + 1) log)
     list-alone =
         let behind = drop (place + 1) log in
-        ap list_of begins
-        ∙ (list_of-cons event behind
-        ∙ (ap (λ from. (entered from behind ++ steps_of_event event) ++ list_of (erased from behind)) alone
-        ∙ rw (entered-None behind, erased-None behind) refl))
+        ap list_of begins ∙ (list_of-cons event behind ∙ rw (alone, entered-None behind, erased-None behind) refl)
 
     -- and it gives that step
     pub Visits-alone : (after : Log) (made : Passed) → length after ≡ length log → LinksLead after → drop (suc place) after ≡ drop (suc place) log
@@ -177,10 +140,7 @@ module _ (log : Log) (output turned : Passed) (place : ℕ) (turn : turned ≡ r
         record {
           same_length = same;
           links = links;
-          steps =
-              ap (λ ys. ys ++ list_of (drop (place + 1) after)) steps
-              ∙ (append_assoc output.steps (steps_of_event event) (list_of (drop (place + 1) after))
-              ∙ ap (λ ys. output.steps ++ ys) (ap (λ ys. steps_of_event event ++ list_of ys) rest ∙ sym list-alone));
+          steps = rw (steps, rest) (append_assoc output.steps (steps_of_event event) (list_of (drop (place + 1) log)) ∙ ap (λ ys. output.steps ++ ys) (sym list-alone));
           turns =
               omega (
                 arith,
@@ -207,8 +167,25 @@ module _ (log : Log) (output turned : Passed) (place : ℕ) (turn : turned ≡ r
         → made ≡ record followed { steps = followed.steps ++ entered_back kinds; turns = followed.turns + length kinds } → Visits log output after made place
     Visits-start d within links whole after made left enter =
         let chained : kinds ≡ chain (Some place) log = all_kinds ∙ sym (chain-hop log place kind link d whole within links) in
-        Visits-chain log after output made place kind link d kinds within links whole (ap length left ∙ length-erased (hop place link) log)
-        (rw left (LinksLead-erased (hop place link) log links))
-        (ap (drop (suc place)) left ∙ drop-hop log place kind link d whole within links) chained (rw (enter, follow, turn) refl)
-        (omega (arith, ap length all_kinds, ap (λ w. w.turns) turn, ap (λ w. w.turns) follow, ap (λ w. w.turns) enter))
-        (rw (enter, follow) refl)
+        let rest : drop (place + 1) after ≡ drop (suc place) (erased (Some place) log) = rw (add-one, left) (drop-hop log place kind link d whole within links) in
+        let steps : made.steps ≡ output.steps ++ entered_back kinds = rw (enter, follow, turn) refl in
+        record {
+          same_length = ap length left ∙ length-erased (hop place link) log;
+          links = rw left (LinksLead-erased (hop place link) log links);
+          steps =
+              rw (steps, rest, chained)
+              (append_assoc output.steps (entered_back (chain (Some place) log)) (list_of (drop (suc place) (erased (Some place) log)))
+              ∙ ap (λ ys. output.steps ++ ys) (sym (list-here log place d within links kind link whole)));
+          turns =
+              omega (
+                arith,
+                turns-here log place d within links kind link whole,
+                ap turns_of rest,
+                ap length chained,
+                ap (λ w. w.turns) turn,
+                ap (λ w. w.turns) follow,
+                ap (λ w. w.turns) enter,
+                ap length all_kinds,
+              );
+          texts = rw (enter, follow) refl;
+        }

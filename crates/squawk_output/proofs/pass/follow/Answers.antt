@@ -1,16 +1,15 @@
+use Rattle.std.proofs.lemmas.List.{map-set}
+use Rattle.std.proofs.lemmas.List.Elements.{All-set}
 use Rattle.std.proofs.Common.{◌+◌, ap, arith}
-use Rattle.squawk_output.specs.StoredEvents.{event_of, link_of, log_in}
-use Rattle.squawk_output.specs.declared.event.Event.TheVariants.{Finish}
+use Rattle.squawk_output.specs.StoredEvents.{HasEventText, event_of, link_of}
 use Rattle.squawk_output.proofs.Follows.{Follows-next, chain-shorter, ends-events, ends-kinds, ends-passed, turn_fits}
-use Rattle.squawk_output.proofs.StoredEvents.{HaveEventTexts-set, event_at, landed, length-log_in, link_of-none, link_of-some, link_within, log_in-set}
+use Rattle.squawk_output.proofs.StoredEvents.{landed, length-log_in, link_of-none, link_of-some, link_within}
 use Rattle.squawk_output.proofs.pass.follow.Goals as goal
 
 pub turn-requires : goal.turn-requires
 turn-requires c =
-    let texts = c.args.passed.now.texts in
-    let fits = turn_fits (log_in texts c.args.events.now.items) c.args.kinds.now.items c.args.passed.now _ (log_in texts c.loop-next.events.items) c.loop-next.kinds.items c.loop-next.passed
-    c.loop-next.at c.loop-next.next (link_of c.loop-next.next) (link_of-some c.loop-next.next c.loop-next-test.true) c.loop-next.invariant.0 in
-    omega (arith, fits, c.requires.turns, length-log_in texts c.args.events.now.items)
+    let fits = turn_fits _ _ _ _ _ _ _ c.loop-next.at _ _ (link_of-some c.loop-next.next c.loop-next-test.true) c.loop-next.invariant.0 in
+    omega (arith, fits, c.requires.turns, length-log_in c.args.passed.now.texts c.args.events.now.items)
 
 pub overflow_add-at : goal.overflow_add-at
 overflow_add-at c =
@@ -35,33 +34,23 @@ index_mut-requires c =
 pub loop-next-smaller : goal.loop-next-smaller
 loop-next-smaller c =
     let texts = c.args.passed.now.texts in
-    let events = c.loop-next.events.items in
     let next = c.loop-next.next in
     let more = c.loop-next-test.true in
-    let lands = c.loop-next.invariant.0.lands in
-    rw (log_in-set texts events (c.loop-next.at + next) c.tombstone.result)
-    (chain-shorter (log_in texts c.args.events.now.items) c.args.kinds.now.items c.args.passed.now _ (log_in texts events) c.loop-next.kinds.items c.loop-next.passed
-    c.loop-next.at next (link_of next) (link_of-some next more) c.loop-next.invariant.0 c.kind.result (link_of c.link-next.result)
-    (event_of texts c.index.result.now) Finish (event_of texts c.tombstone.result)
-    (event_at texts events (c.loop-next.at + next) c.index.result.now _ Finish (link_within texts events c.loop-next.at next more lands) c.index.ensures)
-    (landed texts events c.loop-next.at next more lands c.kind.result c.link-next.result c.index.result.now _ c.index.ensures (c.kind.ensures texts) (c.link-next.ensures texts))
+    rw (map-set (event_of texts) c.loop-next.events.items (c.loop-next.at + next) c.tombstone.result)
+    (chain-shorter _ _ _ _ _ _ _ c.loop-next.at next (link_of next) (link_of-some next more) c.loop-next.invariant.0 c.kind.result (link_of c.link-next.result) _ _
+    (landed texts _ c.loop-next.at next more c.loop-next.invariant.0.lands c.kind.result c.link-next.result c.index.result.now _ c.index.ensures (c.kind.ensures texts) (c.link-next.ensures texts))
     (ap (event_of texts) c.tombstone.ensures))
 
 pub loop-next-preserved : goal.loop-next-preserved
 loop-next-preserved c =
     let texts = c.args.passed.now.texts in
-    let events = c.loop-next.events.items in
     let next = c.loop-next.next in
-    let more = c.loop-next-test.true in
-    let lands = c.loop-next.invariant.0.lands in (
-      rw (log_in-set texts events (c.loop-next.at + next) c.tombstone.result)
-          (Follows-next (log_in texts c.args.events.now.items) c.args.kinds.now.items c.args.passed.now _ (log_in texts events) c.loop-next.kinds.items c.loop-next.passed
-          c.loop-next.at next (link_of next) (link_of-some next more) c.loop-next.invariant.0 c.kind.result (link_of c.link-next.result)
-          (event_of texts c.index.result.now) Finish (event_of texts c.tombstone.result)
-          (event_at texts events (c.loop-next.at + next) c.index.result.now _ Finish (link_within texts events c.loop-next.at next more lands) c.index.ensures)
-          (landed texts events c.loop-next.at next more lands c.kind.result c.link-next.result c.index.result.now _ c.index.ensures (c.kind.ensures texts) (c.link-next.ensures texts))
+    let more = c.loop-next-test.true in (
+      rw (map-set (event_of texts) c.loop-next.events.items (c.loop-next.at + next) c.tombstone.result)
+          (Follows-next _ _ _ _ _ _ _ c.loop-next.at next (link_of next) (link_of-some next more) c.loop-next.invariant.0 c.kind.result (link_of c.link-next.result) _ _
+          (landed texts _ c.loop-next.at next more c.loop-next.invariant.0.lands c.kind.result c.link-next.result c.index.result.now _ c.index.ensures (c.kind.ensures texts) (c.link-next.ensures texts))
           (ap (event_of texts) c.tombstone.ensures) c.push.new.self.items c.turn.new.self c.in_ok-push.ensures.items c.turn.ensures),
-      HaveEventTexts-set texts events (c.loop-next.at + next) c.tombstone.result (rw c.tombstone.ensures tt) c.loop-next.invariant.1,
+      All-set (HasEventText texts) c.loop-next.events.items (c.loop-next.at + next) c.tombstone.result (rw c.tombstone.ensures tt) c.loop-next.invariant.1,
     )
 
 pub returns-clause-events : goal.returns-clause-events
