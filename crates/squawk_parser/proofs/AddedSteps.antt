@@ -1,14 +1,14 @@
 -- What grammars may rely on: steps that parts add one after another, and nodes around them and in front of them.
 use Rattle.std.proofs.Common.{◌≡◌, ◌∙◌, ℕ, ◌<◌, false, true, List, [], ◌∷◌, ◌++◌, arith, ap, sym, refl, subst, append_assoc}
-use Rattle.std.specs.Prelude.{All, Contains, count_by}
+use Rattle.std.specs.Prelude.{Contains, count_by}
 use Rattle.std.proofs.lemmas.List.Elements.{All-nil, All-cons, All-append, Contains-append_left}
 use Rattle.squawk_output.specs.Steps.{Step, Enter, Exit}
 use Rattle.squawk_output.specs.Draft.{Draft, Item, Mark, Node, Hole, Open, Close, HasNoHole, IsAboveIds, ids, is_hole, plain}
 use Rattle.squawk_output.specs.declared.log.Made.{Made}
 use Rattle.squawk_output.specs.declared.log.Made.TheVariants.{ByPrecede, ByStart}
-use Rattle.squawk_output.specs.Edits.{completed, filled, is_opening_of, preceded, preceded_item, replaced, started}
+use Rattle.squawk_output.specs.Edits.{completed, filled, is_opening_of, preceded_item, replaced}
 use Rattle.squawk_output.proofs.Groups.{itself}
-use Rattle.squawk_parser.specs.Composed.{Adds, AddsNode, IsAdded, IsNodeAdded}
+use Rattle.squawk_parser.specs.Composed.{Adds, AddsNode}
 use Rattle.squawk_parser.specs.Eaten.{node}
 use Rattle.squawk_parser.specs.Recorded.{Begins, Completes, Precedes, Puts, items_for}
 use Rattle.squawk_parser.specs.State.{State, HasNotFailed, HasHole, HasNode, IsFresh}

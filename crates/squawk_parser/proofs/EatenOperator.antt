@@ -6,7 +6,7 @@ use Rattle.squawk_table.specs.ParserInput.{Entry, kind_in}
 use Rattle.squawk_parser.specs.Eaten.{current_as, one}
 use Rattle.squawk_parser.specs.Operators.{is_operator_name, longest_name, operator_length, touching_run}
 use Rattle.squawk_parser.specs.Recorded.{Puts}
-use Rattle.squawk_parser.specs.State.{State, ahead, kind_at}
+use Rattle.squawk_parser.specs.State.{State, ahead}
 use Rattle.squawk_parser.proofs.RecordedSteps.{puts-then}
 use Rattle.squawk_parser.proofs.SeenSteps.{ahead-moved, bump_puts}
 

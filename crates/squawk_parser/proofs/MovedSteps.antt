@@ -1,5 +1,5 @@
 -- Steps of which some are moved, or that come to stand in a node: what stays.
-use Rattle.std.proofs.Common.{◌≡◌, ◌∙◌, ℕ, zero, suc, ◌+◌, Some, List, [], ◌∷◌, ◌++◌, drop, arith, ap, refl, subst, sym}
+use Rattle.std.proofs.Common.{◌≡◌, ◌∙◌, ℕ, zero, suc, Some, List, [], ◌∷◌, ◌++◌, drop, arith, ap, refl, subst, sym}
 use Rattle.squawk_output.specs.Steps as steps
 use Rattle.squawk_output.specs.Steps.{Step, Enter, Exit, eaten, errors_in}
 use Rattle.squawk_table.specs.ParserInput.{Entry}

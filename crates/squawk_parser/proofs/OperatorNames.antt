@@ -1,7 +1,7 @@
 -- The longest name at the front of a run, by its last special kind and its last kind that is no sign.
-use Rattle.std.proofs.Common.{◌≡◌, ◌∙◌, ℕ, zero, suc, ◌+◌, ◌<◌, ◌≤◌, ◌==◌, Bool, true, false, not, ◌||◌, nat_eq, List, [], ◌∷◌, ◌++◌, length, take, get_or, if◌then◌else◌, ◌-◌, ◌⊎◌, inl, inr, add-suc, add-zero, add-one, arith, ap, sym, refl}
+use Rattle.std.proofs.Common.{◌≡◌, ◌∙◌, ℕ, zero, suc, ◌+◌, ◌<◌, ◌≤◌, ◌==◌, true, false, not, ◌||◌, nat_eq, List, [], ◌∷◌, length, take, get_or, if◌then◌else◌, ◌-◌, ◌⊎◌, inl, inr, add-suc, add-zero, add-one, arith, ap, sym, refl}
 use Rattle.std.specs.List.{list_any}
-use Rattle.std.proofs.lemmas.List.{take_all, length-take-le, get_or-take}
+use Rattle.std.proofs.lemmas.List.{take_all, length-take-le}
 use Rattle.std.proofs.lemmas.List.Folds.{list_any_at, list_any_more}
 use Rattle.std.proofs.Math.Seq.{take-suc}
 use Rattle.std.proofs.Math.Bool.{or-false, or-true}

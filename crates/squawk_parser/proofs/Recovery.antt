@@ -1,5 +1,5 @@
 -- An error, and the current token with it in a node.
-use Rattle.std.proofs.Common.{◌≡◌, ◌≢◌, ◌∙◌, ℕ, ◌+◌, ◌==◌, Bool, true, false, List, [], ◌∷◌, drop, if◌then◌else◌, arith, ap, sym, refl, subst}
+use Rattle.std.proofs.Common.{◌≡◌, ◌≢◌, ◌∙◌, ℕ, ◌==◌, Bool, true, false, List, [], ◌∷◌, drop, if◌then◌else◌, ap, sym, refl, subst}
 use Rattle.std.proofs.lemmas.Bool.{eq-eqb, ne_eqb}
 use Rattle.squawk_kinds.specs.Kinds.{EOF, ERROR}
 use Rattle.squawk_table.specs.ParserInput.{Entry, kind_in}

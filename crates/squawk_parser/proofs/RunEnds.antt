@@ -1,10 +1,8 @@
 -- The numbers that tell the lengths of operators, made token by token.
-use Rattle.std.proofs.Common.{◌≡◌, ◌∙◌, ℕ, zero, suc, ◌+◌, ◌-◌, ◌<◌, ◌≤◌, Bool, true, false, List, [], ◌∷◌, ◌++◌, length, get_or, set, if◌then◌else◌, add-one, arith, ap, sym, refl, subst, inl, inr, get_or-set_same, get_or-set_other, length-append, length-set}
+use Rattle.std.proofs.Common.{◌≡◌, ◌∙◌, ℕ, suc, ◌+◌, ◌-◌, ◌<◌, ◌≤◌, Bool, true, false, List, [], ◌∷◌, ◌++◌, length, get_or, set, if◌then◌else◌, arith, ap, sym, refl, subst, inl, inr, get_or-set_same, get_or-set_other, length-append, length-set}
 use Rattle.std.proofs.lemmas.Bool.{cases_eq}
 use Rattle.std.proofs.lemmas.List.{get_or_push, get_or_append_left, get_or_read_under}
 use Rattle.squawk_table.specs.ParserInput.{Entry, kind_in, touches_in}
-use Rattle.squawk_parser.specs.LookAhead.{seen_from}
-use Rattle.squawk_parser.specs.Operators.{touching_run}
 use Rattle.squawk_parser.specs.OperatorRuns.{AreEnds, ArePastLast, IsPastLast}
 use Rattle.squawk_parser.proofs.TouchingRun.{run_at, run_at-limit, run_at-first}
 

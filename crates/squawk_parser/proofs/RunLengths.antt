@@ -1,5 +1,5 @@
 -- An operator's length by where its run ends, the last special kind before that, and the last kind that is no sign.
-use Rattle.std.proofs.Common.{◌≡◌, ◌∙◌, ℕ, zero, suc, ◌+◌, ◌-◌, ◌<◌, ◌≤◌, min, Bool, true, false, not, List, length, get_or, arith, ap, sym, refl, inl, inr}
+use Rattle.std.proofs.Common.{◌≡◌, ◌∙◌, ℕ, suc, ◌+◌, ◌-◌, ◌<◌, ◌≤◌, min, Bool, true, false, not, List, length, get_or, arith, ap, sym, refl, inl, inr}
 use Rattle.squawk_table.specs.ParserInput.{Entry, kind_in}
 use Rattle.squawk_parser.specs.LookAhead.{seen_from}
 use Rattle.squawk_parser.specs.Operators.{is_sign, is_special, longest_name, operator_length, touching_run}

@@ -1,17 +1,17 @@
 -- A parser stays sound under its acts.
-use Rattle.std.proofs.Common.{◌≡◌, ◌∙◌, ℕ, suc, ◌+◌, ◌<◌, ◌≤◌, false, true, Some, List, [], ◌∷◌, ◌++◌, cond, drop, arith, add-zero, ap, sym, refl, subst}
+use Rattle.std.proofs.Common.{◌≡◌, ◌∙◌, ℕ, ◌+◌, ◌<◌, ◌≤◌, false, true, Some, List, [], ◌∷◌, ◌++◌, cond, drop, arith, add-zero, ap, sym, refl}
 use Rattle.std.specs.Prelude.{Contains, IsSome}
 use Rattle.std.proofs.lemmas.List.{append-nil}
 use Rattle.squawk_output.specs.Steps as steps
 use Rattle.squawk_output.specs.Steps.{Step, Enter, Exit, eaten, errors_in}
-use Rattle.squawk_output.specs.Draft.{Draft, Item, Node, Hole, Open, Close, Token, Error, IsLogged, HasNoIdTwice, errors_of, plain}
-use Rattle.squawk_output.specs.Edits.{abandoned, completed, extended, extended_items, filled, is_hole_of, is_opening_of, moved, preceded, preceded_item, stands_before, started, with_error, with_token, without_hole}
+use Rattle.squawk_output.specs.Draft.{Draft, Item, Node, Hole, Open, Close, Token, Error, IsLogged, errors_of, plain}
+use Rattle.squawk_output.specs.Edits.{abandoned, completed, extended, is_hole_of, is_opening_of, moved, preceded, preceded_item, stands_before, started, with_error, with_token, without_hole}
 use Rattle.squawk_output.specs.declared.log.Made.{Made}
 use Rattle.squawk_output.specs.declared.log.Made.TheVariants.{ByPrecede, ByStart}
 use Rattle.squawk_output.proofs.EditedErrors.{errors-append}
 use Rattle.squawk_output.proofs.PlainLog.{errors-plain}
 use Rattle.squawk_table.specs.Shape.{AreOneToken, IsOver}
-use Rattle.squawk_table.proofs.Over.{IsOver-token_last, IsOver-exit_last, IsOver-error_last}
+use Rattle.squawk_table.proofs.Over.{IsOver-token_last, IsOver-error_last}
 use Rattle.squawk_parser.specs.State.{State, IsSound, HasNotFailed, ahead}
 use Rattle.squawk_parser.specs.declared.parser.parse_error.ParseError.{ParseError}
 use Rattle.squawk_parser.specs.declared.parser.parse_error.ParseError.TheVariants.{OutOfMemory, TooManyEvents, TooManyErrors}

@@ -1,5 +1,5 @@
 -- A marker's hole stays where a tail is run.
-use Rattle.std.proofs.Common.{◌≡◌, ◌∙◌, zero, suc, Bool, true, false, Option, Some, None, List, [], ◌∷◌, cond, arith, ap, sym, refl, subst}
+use Rattle.std.proofs.Common.{◌≡◌, ◌∙◌, zero, suc, Bool, true, false, List, [], ◌∷◌, cond, arith, ap, sym, refl, subst}
 use Rattle.std.specs.Prelude.{Contains, filter}
 use Rattle.std.proofs.lemmas.List.Elements.{Contains-append_left}
 use Rattle.squawk_output.specs.Steps.{Step}

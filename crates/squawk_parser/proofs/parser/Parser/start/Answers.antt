@@ -1,4 +1,4 @@
-use Rattle.std.proofs.Common.{◌≡◌, ◌∙◌, ap, sym, refl, subst}
+use Rattle.std.proofs.Common.{◌≡◌, ◌∙◌, refl}
 use Rattle.squawk_output.specs.Draft.{IsLogged}
 use Rattle.squawk_output.specs.Edits.{started}
 use Rattle.squawk_parser.specs.State.{IsSound}

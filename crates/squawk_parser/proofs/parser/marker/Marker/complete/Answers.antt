@@ -1,4 +1,4 @@
-use Rattle.std.proofs.Common.{rules, ◌≡◌, ◌∙◌, ℕ, sym, refl, subst}
+use Rattle.std.proofs.Common.{rules, ◌≡◌, ◌∙◌, sym, refl, subst}
 use Rattle.std.specs.Prelude.{Contains}
 use Rattle.squawk_output.specs.Draft.{Hole, IsLogged, Mark}
 use Rattle.squawk_output.specs.Edits.{completed}

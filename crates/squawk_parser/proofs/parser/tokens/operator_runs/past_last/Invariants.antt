@@ -1,5 +1,5 @@
 use Rattle.std.specs.Prelude.{vec_len, vec_capacity}
-use Rattle.std.proofs.Common.{◌≡◌, ◌≤◌, length}
+use Rattle.std.proofs.Common.{◌≡◌, length}
 use Rattle.squawk_parser.specs.Operators.{is_special}
 use Rattle.squawk_parser.specs.OperatorRuns.{ArePastLast, IsPastLast, is_no_sign}
 use Rattle.squawk_parser.proofs.parser.tokens.operator_runs.past_last.Given as goal

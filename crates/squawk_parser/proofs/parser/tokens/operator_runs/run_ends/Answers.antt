@@ -1,7 +1,6 @@
-use Rattle.std.proofs.Common.{◌≡◌, ◌<◌, ◌≤◌, ◌∙◌, ◌-◌, suc, replicate, length, Fits, w32, arith, ap, sym, subst}
+use Rattle.std.proofs.Common.{◌≡◌, ◌<◌, ◌≤◌, ◌∙◌, ◌-◌, suc, replicate, length, arith, ap, sym, subst}
 use Rattle.std.proofs.lemmas.List.{length-replicate}
 use Rattle.squawk_kinds.specs.TokenSets.{has}
-use Rattle.squawk_table.specs.ParserInput.{touches_in}
 use Rattle.squawk_parser.proofs.RunEnds.{AreEndsFrom, end_of, end_of-limit, end_of-other, end_of-last, end_of-next, ends_more, all_ends}
 use Rattle.squawk_parser.proofs.parser.tokens.operator_runs.run_ends.Goals as goal
 use Rattle.squawk_parser.proofs.parser.tokens.operator_runs.run_ends.Goals.{Joined-not-contains, then-not-contains, else-not-contains+then-not-is_joint, else-not-contains+else-not-is_joint}

@@ -1,4 +1,4 @@
-use Rattle.std.proofs.Common.{◌≡◌, ◌<◌, ◌≤◌, ◌+◌, ◌-◌, ◌∙◌, min, length, arith, ap, refl, sym}
+use Rattle.std.proofs.Common.{◌≡◌, ◌<◌, ◌+◌, ◌∙◌, min, length, arith, ap, refl, sym}
 use Rattle.std.proofs.lemmas.List.{get_or_read_under}
 use Rattle.squawk_kinds.specs.TokenSets.{has}
 use Rattle.squawk_parser.specs.LookAhead.{seen_from}
