@@ -22,7 +22,8 @@ use Rattle.squawk_output.specs.declared.log.Made.TheVariants.{ByPrecede, ByStart
 use Rattle.squawk_output.specs.Edits.{abandoned, entries_gone, takes_entry, is_hole_of, is_last_start, without_hole}
 use Rattle.squawk_output.specs.EventLog.{LinksLead, Log, is_error_event}
 use Rattle.squawk_output.proofs.Gathered.{least_owner}
-use Rattle.squawk_output.specs.LogDraft.{IsRecord, draft_items, draft_of}
+use Rattle.squawk_output.specs.KeptLogs.{IsRecord}
+use Rattle.squawk_output.specs.LogDraft.{draft_items, draft_of}
 use Rattle.squawk_output.proofs.GatheredItems.{made_by}
 use Rattle.squawk_output.proofs.EditedLog.{IsRecordOf, errors_are, record-set, record_of}
 use Rattle.squawk_output.proofs.GrownLog.{LinksLead-front, turns_of-push}

@@ -16,7 +16,8 @@ use Rattle.squawk_output.specs.declared.log.Made.{Made}
 use Rattle.squawk_output.specs.declared.log.Made.TheVariants.{ByStart}
 use Rattle.squawk_output.specs.Edits.{completed, extended, filled, preceded}
 use Rattle.squawk_output.specs.EventLog.{Lands, LinksLead, Log, errors_logged, is_error_event, is_start, is_start_at, turns_of}
-use Rattle.squawk_output.specs.LogDraft.{IsRecord, draft_items, draft_of, items_of}
+use Rattle.squawk_output.specs.KeptLogs.{IsRecord}
+use Rattle.squawk_output.specs.LogDraft.{draft_items, draft_of, items_of}
 use Rattle.squawk_output.proofs.ExtendedLog.{draft_items-extended}
 use Rattle.squawk_output.proofs.GrownLog.{LinksLead-linked, LinksLead-push, turns_of-push, turns_of-set}
 use Rattle.squawk_output.proofs.Links.{LinksLead-unlinked}

@@ -15,7 +15,8 @@ use Rattle.squawk_output.specs.Draft as draft
 use Rattle.squawk_output.specs.Draft.{Draft, IsLogged}
 use Rattle.squawk_output.specs.Edits.{abandoned, completed, extended, is_last_start, preceded, started, with_error, with_token}
 use Rattle.squawk_output.specs.EventLog.{Log, is_error_event}
-use Rattle.squawk_output.specs.LogDraft.{HasHoleOf, IsKeptRecord, draft_in}
+use Rattle.squawk_output.specs.KeptLogs.{IsKeptRecord, draft_in}
+use Rattle.squawk_output.specs.LogDraft.{HasHoleOf}
 use Rattle.squawk_output.specs.StoredEvents.{HasEventText, HaveEventTexts, event_of, is_open, link_of, log_in}
 use Rattle.squawk_output.proofs.AbandonedLog.{record-cleared, record-front}
 use Rattle.squawk_output.proofs.EditedLog.{IsRecordOf, errors_are, record-completed, record-extended, record-preceded, record-put}

@@ -8,7 +8,8 @@ use Rattle.std.proofs.lemmas.List.Sums.{sum_by-append}
 use Rattle.squawk_output.specs.declared.event.Event.TheVariants.{Finish}
 use Rattle.squawk_output.specs.Draft.{IsLogged, Item, ids, ids_of}
 use Rattle.squawk_output.specs.EventLog.{Log}
-use Rattle.squawk_output.specs.LogDraft.{IsRecord, draft_items, draft_of}
+use Rattle.squawk_output.specs.KeptLogs.{IsRecord}
+use Rattle.squawk_output.specs.LogDraft.{draft_items, draft_of}
 use Rattle.squawk_output.proofs.GatheredItems.{made_by, place_items, size-draft_items}
 use Rattle.squawk_output.proofs.Groups.{itself}
 use Rattle.squawk_output.proofs.LogItems.{ids_within, items_of-cases}

@@ -10,3 +10,4 @@ pub mod Pass
 pub mod Draft
 pub mod Edits
 pub mod LogDraft
+pub mod KeptLogs

@@ -41,7 +41,7 @@ pub struct EventLog {
 
 impl Model for EventLog {
     ghost use Rattle.squawk_output.specs.Draft.{Draft};
-    ghost use Rattle.squawk_output.specs.LogDraft.{IsKeptRecord, draft_in};
+    ghost use Rattle.squawk_output.specs.KeptLogs.{IsKeptRecord, draft_in};
 
     ghost Value = { Draft };
 

@@ -1,4 +1,4 @@
-//! Events as a list keeps them.
+//! Events as a log keeps them.
 ghost use Rattle.std.specs.Prelude.{◌≡◌, ℕ, List};
 ghost use Rattle.squawk_kinds.specs.Kinds.{TOMBSTONE};
 ghost use Rattle.squawk_output.specs.Chain.{forward_parent, node_kind};
