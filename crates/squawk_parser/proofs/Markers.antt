@@ -5,9 +5,9 @@ use Rattle.std.proofs.lemmas.List.Elements.{Contains-append_left, filter-append}
 use Rattle.squawk_output.specs.Steps.{Step}
 use Rattle.squawk_output.specs.Draft.{Draft, Item, Hole, Open, Close, Token, Error, Mark, Node, HasNoIdTwice, holes_of, is_hole}
 use Rattle.squawk_output.specs.declared.log.Made.{Made}
-use Rattle.squawk_output.specs.declared.log.Made.TheVariants.{ByStart, ByPrecede}
-use Rattle.squawk_output.specs.Edits.{abandoned, completed, extended, extended_items, filled, is_hole_of, is_opening_of, moved, preceded, preceded_item, replaced, stands_before, started, without_hole}
-use Rattle.squawk_parser.specs.Recorded.{Puts, items_for, preceding_mark, started_mark}
+use Rattle.squawk_output.specs.declared.log.Made.TheVariants.{ByPrecede}
+use Rattle.squawk_output.specs.Edits.{abandoned, completed, extended, extended_items, filled, is_hole_of, is_opening_of, moved, preceded, preceded_item, replaced, stands_before, without_hole}
+use Rattle.squawk_parser.specs.Recorded.{Puts, items_for, preceding_mark}
 use Rattle.squawk_parser.specs.State.{State, Changes, HasNotFailed, HasHole, HasNode, Records}
 use Rattle.squawk_parser.specs.declared.parser.parse_error.ParseError.{ParseError}
 use Rattle.squawk_parser.proofs.RecordedSteps.{went}
@@ -25,11 +25,6 @@ pub Contains-others : (p : Item → Bool) (f : Item → List Item) (item : Item)
 Contains-others p f item items fails there = Contains-flat_map _ item item items there (rw fails (0, omega arith, refl))
 
 -- ---- after acts at the end
-
--- the new marker's hole is in the draft
-pub hole-started : {s t : State} → Records s t (started s.draft) → HasHole t (started_mark s)
-hole-started {s} {t} records goes =
-    subst (λ draft. Contains draft.items (Hole s.draft.entries ByStart)) (sym (records.draft goes)) (Contains-behind (Hole s.draft.entries ByStart) s.draft.items [])
 
 -- a completed marker's opening is in the draft
 pub node-completed : {s t : State} (m : Mark) (kind : ℕ) → HasHole s m → Records s t (completed s.draft m.id kind) → HasNode t (record { id = m.id; kind = kind })
@@ -84,15 +79,6 @@ holes-preceded {s} {t} node once there records goes =
       was = ap holes_of at.0.is ∙ filter-append is_hole xs (Open node.id node.kind true ∷ ys);
       is = ap (λ draft. holes_of draft.items) (records.draft goes) ∙ (ap holes_of at.1 ∙ filter-append is_hole xs (hole ∷ Open node.id node.kind false ∷ ys));
     }
-
--- where there was no hole, it is the only one
-pub HasOneMore-none : {X : Type 0} {x : X} {old new : List X} → HasOneMore x old new → old ≡ [] → new ≡ x ∷ []
-HasOneMore-none {X} {x} {old} {new} more none = more.is ∙ cases more.front more.back (sym more.was ∙ none)
-  where
-    cases : (front back : List X) → front ++ back ≡ [] → front ++ x ∷ back ≡ x ∷ []
-    cases [] [] e = refl
-    cases [] (y ∷ ys) e = absurd (cc)
-    cases (y ∷ ys) back e = absurd (cc)
 
 -- ---- a marker that is abandoned, or that a node is extended to
 

@@ -8,7 +8,7 @@ use Rattle.squawk_output.specs.Steps.{Step, Error}
 use Rattle.squawk_parser.specs.Eaten.{node, one, recovery_steps, no_recovery}
 use Rattle.squawk_parser.specs.Recorded.{Puts}
 use Rattle.squawk_parser.specs.State.{State, ahead, kind_at}
-use Rattle.squawk_parser.proofs.RecordedSteps.{puts-none, puts-then}
+use Rattle.squawk_parser.proofs.RecordedSteps.{puts-then}
 use Rattle.squawk_parser.proofs.Recovery.{eats_one}
 use Rattle.squawk_parser.proofs.SeenSteps.{if-false, if-true, kind_at-first}
 use Rattle.tiny_grammar.specs.Expressions.{expected_end, tail_steps}
@@ -18,9 +18,6 @@ pub record Eating (old now : State) : Type 0 where
   pub done : List Step
   pub puts : Puts done old now
   pub all : tail_steps (ahead old 0) ≡ done ++ tail_steps (ahead now 0)
-
-pub eating-none : (old : State) → Eating old old
-eating-none old = record { done = []; puts = puts-none old; all = refl }
 
 module _ {b c : State} (some : kind_at b 0 ≢ EOF) (puts : Puts (recovery_steps expected_end no_recovery (ahead b 0)) b c) where
   pub eating-next : {a : State} → Eating a b → Eating a c
