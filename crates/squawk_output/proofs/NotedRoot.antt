@@ -1,31 +1,39 @@
 -- A note of steps tells whether they stand in one root, errors aside.
-use Rattle.std.proofs.Common.{◌≡◌, ◌∙◌, ℕ, zero, suc, ◌+◌, ◌-◌, ◌<◌, Bool, true, false, List, [], ◌∷◌, cond, length, take, arith, ap, sym, subst, refl}
-use Rattle.std.specs.Prelude.{◌==◌, ◌↔◌, IsTrue}
+use Rattle.std.proofs.Common.{◌≡◌, ◌∙◌, ℕ, zero, suc, ◌+◌, ◌-◌, ◌<◌, ◌≤◌, Bool, true, false, not, List, [], ◌∷◌, cond, length, take, arith, ap, sym, subst, refl}
+use Rattle.std.specs.Prelude.{◌==◌, ◌&&◌, ◌↔◌, IsTrue}
 use Rattle.std.specs.List.{fold}
 use Rattle.std.proofs.Math.Dec.{eqb-suc-zero}
-use Rattle.std.proofs.lemmas.Bool.{false≢true}
+use Rattle.std.proofs.lemmas.Bool.{and_parts, eq-eqb, eqb-true, false≢true, ne_eqb}
 use Rattle.squawk_output.specs.OneRoot.{StandsInOneRoot}
-use Rattle.squawk_output.specs.RootNote.{note_of, noted, tells_root}
+use Rattle.squawk_output.specs.RootNote.{Noted, note_of, noted, tells_root}
 use Rattle.squawk_output.specs.Steps.{Step, Token, Enter, Exit, Error, is_enter, is_exit, closings, openings, without_errors}
 use Rattle.squawk_output.proofs.Sums.{count_by-cons}
 use Rattle.squawk_output.specs.declared.output.root_note.RootNote.{RootNote}
 
--- so many nodes are open, and whether one was entered, and whether a step stands outside
-abbrev behind : ℕ → Bool → Bool → RootNote
-behind depth has_root outside = record { depth = depth; has_root = has_root; outside = outside }
+-- so many steps, with so many nodes open, whether one stands outside, and how many there were when none was open
+abbrev behind : ℕ → ℕ → Bool → ℕ → Noted
+behind count depth outside closed = record { count = count; note = record { depth = depth; outside = outside; closed = closed } }
 
 -- what a note tells with more steps
-abbrev tells : RootNote → List Step → Type 0
-tells note steps = IsTrue (tells_root (fold noted note steps))
+abbrev tells : Noted → List Step → Type 0
+tells so_far steps = IsTrue (tells_root (fold noted so_far steps).note (fold noted so_far steps).count)
 
--- a step outside stays there
-spoilt : (depth : ℕ) (has_root : Bool) (steps : List Step) → ¬ (tells (behind depth has_root true) steps)
-spoilt depth true [] told = false≢true told
-spoilt depth false [] told = false≢true told
-spoilt depth has_root (Token kind n ∷ steps) told = spoilt depth has_root steps told
-spoilt depth has_root (Enter kind ∷ steps) told = spoilt (depth + 1) true steps told
-spoilt depth has_root (Exit ∷ steps) told = spoilt (depth - 1) has_root steps told
-spoilt depth has_root (Error text ∷ steps) told = spoilt depth has_root steps told
+-- a node outside stays there
+spoilt : (count depth closed : ℕ) (steps : List Step) → ¬ (tells (behind count depth true closed) steps)
+spoilt count depth closed [] told = false≢true told
+spoilt count depth closed (Token kind n ∷ steps) told = spoilt (count + 1) depth closed steps told
+spoilt count depth closed (Enter kind ∷ steps) told = spoilt (count + 1) (depth + 1) closed steps told
+spoilt count depth closed (Exit ∷ steps) told = spoilt (count + 1) (depth - 1) (cond (depth - 1 == 0) (count + 1) closed) steps told
+spoilt count depth closed (Error text ∷ steps) told = spoilt count depth closed steps told
+
+-- nor is a step behind the closing that left no node open one of the root
+late : (count closed : ℕ) (steps : List Step) → 0 < count → closed ≤ count → (length (without_errors steps) ≡ 0 → closed < count) → ¬ (tells (behind count 0 false closed) steps)
+late count closed [] some le lt told = omega (arith, lt refl, eqb-true closed count (and_parts _ _ told).0)
+late count closed (Token kind n ∷ steps) some le lt told = late (count + 1) closed steps (omega arith) (omega (arith, le)) (λ none. omega (arith, le)) told
+late count closed (Enter kind ∷ steps) some le lt told =
+    spoilt (count + 1) 1 closed steps (subst (λ b. tells (behind (count + 1) 1 (not b) closed) steps) (ne_eqb count 0 (λ none. omega (arith, some, none))) told)
+late count closed (Exit ∷ steps) some le lt told = spoilt (count + 1) 0 (count + 1) steps told
+late count closed (Error text ∷ steps) some le lt told = late count closed steps some le lt told
 
 -- steps that close so many nodes, and the last of these by the last step
 record Closes (depth : ℕ) (steps : List Step) : Type 0 where
@@ -48,51 +56,64 @@ module _ (depth after : ℕ) (step : Step) (steps : List Step) (counts : after +
     closed = omega (arith, closed, count_by-cons is_enter step steps, count_by-cons is_exit step steps);
   }
 
--- where no node is open a step stands outside, and nothing closes
-outside : (depth : ℕ) (step : Step) (steps : List Step) → tells (behind depth true true) steps ↔ Closes 0 (step ∷ without_errors steps)
-outside depth step steps = (λ told. absurd (spoilt depth true steps told), λ closes. absurd (omega (arith, closes.inside 0 (omega arith))))
+-- what a step inside of a node leaves to the rest
+inside : (A : Type 0) (depth after : ℕ) (step : Step) (steps : List Step) → after + cond (is_exit step) 1 0 ≡ suc depth + cond (is_enter step) 1 0
+    → A ↔ Closes after steps → A ↔ Closes (suc depth) (step ∷ steps)
+inside A depth after step steps counts both = (
+  λ told.
+      let closes = both.0 told in
+      record { inside = λ k lt. inside-cons (suc depth) after step steps counts closes k (omega arith) lt; closed = closed-cons (suc depth) after step steps counts closes },
+  λ closes. both.1 (closes-behind (suc depth) after step steps counts (λ k some lt. closes.inside k lt) closes.closed),
+)
 
--- where one is open it stands inside, and the rest closes what is open then
-inside : (depth after : ℕ) (step : Step) (steps : List Step) → after + cond (is_exit step) 1 0 ≡ suc depth + cond (is_enter step) 1 0
-    → tells (behind after true false) steps ↔ Closes after (without_errors steps) → tells (behind after true (suc depth == 0)) steps ↔ Closes (suc depth) (step ∷ without_errors steps)
-inside depth after step steps counts both =
+-- where no node is open nothing may follow
+ended : (count : ℕ) (step : Step) (steps : List Step) → 0 < count → (without_errors (step ∷ steps) ≡ step ∷ without_errors steps)
+    → tells (behind count 0 false count) (step ∷ steps) ↔ Closes 0 (step ∷ without_errors steps)
+ended count step steps some plain = (
+  λ told. absurd (late count count (step ∷ steps) some (omega arith) (λ none. absurd (omega (arith, none, ap length plain))) told),
+  λ closes. absurd (omega (arith, closes.inside 0 (omega arith))),
+)
+
+-- a note of a node that was entered tells whether it is closed by the last step
+tells-closes : (count closed depth : ℕ) (steps : List Step) → 0 < count → (depth ≡ 0 → closed ≡ count) → tells (behind count depth false closed) steps ↔ Closes depth (without_errors steps)
+tells-closes count closed zero [] some is = (
+  λ told. record { inside = λ k lt. absurd (omega arith); closed = refl },
+  λ closes. rw (is refl, eq-eqb count count refl, ne_eqb count 0 (λ none. omega (arith, some, none))) refl,
+)
+tells-closes count closed (suc depth) [] some is = (λ told. absurd (false≢true (sym (eqb-suc-zero depth) ∙ (and_parts _ _ told).0)), λ closes. absurd (omega (arith, closes.closed)))
+tells-closes count closed zero (Token kind n ∷ steps) some is = rw (is refl) (ended count (Token kind n) steps some refl)
+tells-closes count closed zero (Enter kind ∷ steps) some is = rw (is refl) (ended count (Enter kind) steps some refl)
+tells-closes count closed zero (Exit ∷ steps) some is = rw (is refl) (ended count Exit steps some refl)
+tells-closes count closed (suc depth) (Token kind n ∷ steps) some is =
+    inside (tells (behind count (suc depth) false closed) (Token kind n ∷ steps)) depth (suc depth) (Token kind n) (without_errors steps) refl
+    (tells-closes (count + 1) closed (suc depth) steps (omega arith) (λ none. absurd (omega (arith, none))))
+tells-closes count closed (suc depth) (Enter kind ∷ steps) some is =
+    inside (tells (behind count (suc depth) false closed) (Enter kind ∷ steps)) depth (suc depth + 1) (Enter kind) (without_errors steps) (omega arith)
+    (subst (λ b. tells (behind (count + 1) (suc depth + 1) (b && not (count == 0)) closed) steps ↔ Closes (suc depth + 1) (without_errors steps)) (sym (eqb-suc-zero depth))
+    (tells-closes (count + 1) closed (suc depth + 1) steps (omega arith) (λ none. absurd (omega (arith, none)))))
+tells-closes count closed (suc depth) (Exit ∷ steps) some is =
+    inside (tells (behind count (suc depth) false closed) (Exit ∷ steps)) depth (suc depth - 1) Exit (without_errors steps) (omega arith)
+    (subst (λ b. tells (behind (count + 1) (suc depth - 1) b (cond (suc depth - 1 == 0) (count + 1) closed)) steps ↔ Closes (suc depth - 1) (without_errors steps)) (sym (eqb-suc-zero depth))
+    (tells-closes (count + 1) (cond (suc depth - 1 == 0) (count + 1) closed) (suc depth - 1) steps (omega arith) (λ none. rw none refl)))
+tells-closes count closed depth (Error text ∷ steps) some is = tells-closes count closed depth steps some is
+
+root-told : (steps : List Step) → IsTrue (tells_root (note_of steps).note (note_of steps).count) ↔ StandsInOneRoot (without_errors steps)
+root-told [] = (λ told. absurd (false≢true told), λ root. absurd root.begins)
+root-told (Token kind n ∷ steps) = (λ told. absurd (late 1 0 steps (omega arith) (omega arith) (λ none. omega arith) told), λ root. absurd root.begins)
+root-told (Exit ∷ steps) = (λ told. absurd (spoilt 1 0 1 steps told), λ root. absurd root.begins)
+root-told (Enter kind ∷ steps) =
     let rest = without_errors steps in
-    let same = ap (λ b. tells (behind after true b) steps) (eqb-suc-zero depth) in (
+    let told-closes = tells-closes 1 0 1 steps (omega arith) (λ none. absurd (omega (arith, none))) in (
       λ told.
-          let closes = both.0 (subst (λ A. A) same told) in
-          record { inside = λ k lt. inside-cons (suc depth) after step rest counts closes k (omega arith) lt; closed = closed-cons (suc depth) after step rest counts closes },
-      λ closes. subst (λ A. A) (sym same) (both.1 (closes-behind (suc depth) after step rest counts (λ k some lt. closes.inside k lt) closes.closed)),
-    )
-
--- a note of a node that was entered tells whether it is closed in the end
-tells-closes : (depth : ℕ) (steps : List Step) → tells (behind depth true false) steps ↔ Closes depth (without_errors steps)
-tells-closes zero [] = (λ told. record { inside = λ k lt. absurd (omega arith); closed = refl }, λ closes. refl)
-tells-closes (suc depth) [] = (λ told. absurd (false≢true (sym (eqb-suc-zero depth) ∙ told)), λ closes. absurd (omega (arith, closes.closed)))
-tells-closes zero (Token kind n ∷ steps) = outside 0 (Token kind n) steps
-tells-closes zero (Enter kind ∷ steps) = outside 1 (Enter kind) steps
-tells-closes zero (Exit ∷ steps) = outside 0 Exit steps
-tells-closes (suc depth) (Token kind n ∷ steps) = inside depth (suc depth) (Token kind n) steps refl (tells-closes (suc depth) steps)
-tells-closes (suc depth) (Enter kind ∷ steps) = inside depth (suc depth + 1) (Enter kind) steps (omega arith) (tells-closes (suc depth + 1) steps)
-tells-closes (suc depth) (Exit ∷ steps) = inside depth (suc depth - 1) Exit steps (omega arith) (tells-closes (suc depth - 1) steps)
-tells-closes depth (Error text ∷ steps) = tells-closes depth steps
-
--- a first step that is no opening
-unrooted : (step : Step) (steps : List Step) → (StandsInOneRoot (step ∷ without_errors steps) → ⊥) → tells (behind 0 false true) steps ↔ StandsInOneRoot (step ∷ without_errors steps)
-unrooted step steps not = (λ told. absurd (spoilt 0 false steps told), λ root. absurd (not root))
-
-pub note_tells : (steps : List Step) → IsTrue (tells_root (note_of steps)) ↔ StandsInOneRoot (without_errors steps)
-note_tells [] = (λ told. absurd (false≢true told), λ root. absurd root.begins)
-note_tells (Token kind n ∷ steps) = unrooted (Token kind n) steps (λ root. root.begins)
-note_tells (Exit ∷ steps) = unrooted Exit steps (λ root. root.begins)
-note_tells (Enter kind ∷ steps) =
-    let rest = without_errors steps in (
-      λ told.
-          let closes = (tells-closes 1 steps).0 told in
+          let closes = told-closes.0 told in
           record {
             begins = tt;
             inside = λ k some lt. omega (arith, inside-cons 0 1 (Enter kind) rest refl closes k (omega arith) lt);
             closed = omega (arith, closed-cons 0 1 (Enter kind) rest refl closes);
           },
-      λ root. (tells-closes 1 steps).1 (closes-behind 0 1 (Enter kind) rest refl (λ k some lt. omega (arith, root.inside k some lt)) (omega (arith, root.closed))),
+      λ root. told-closes.1 (closes-behind 0 1 (Enter kind) rest refl (λ k some lt. omega (arith, root.inside k some lt)) (omega (arith, root.closed))),
     )
-note_tells (Error text ∷ steps) = note_tells steps
+root-told (Error text ∷ steps) = root-told steps
+
+pub note_tells : (steps : List Step) (count : ℕ) (note : RootNote) → note_of steps ≡ record { count = count; note = note } → IsTrue (tells_root note count) ↔ StandsInOneRoot (without_errors steps)
+note_tells steps count note is = subst (λ n. IsTrue (tells_root n.note n.count) ↔ StandsInOneRoot (without_errors steps)) is (root-told steps)

@@ -19,6 +19,8 @@ use std::marker::Model;
 pub(crate) struct PassedSteps {
     words: Vec<u32>,
     errors: Vec<Text>,
+    /// How many of the steps are errors.
+    told: usize,
     turns: u64,
     note: RootNote,
 }
@@ -28,7 +30,7 @@ impl Model for PassedSteps {
 
     ghost Value = { Passed };
 
-    ghost use Rattle.std.specs.Prelude.{◌≡◌, ◌≤◌, length, map};
+    ghost use Rattle.std.specs.Prelude.{◌≡◌, ◌≤◌, ◌-◌, length, map};
     ghost use Rattle.squawk_output.specs.RootNote.{note_of};
     ghost use Rattle.squawk_output.specs.StoredSteps.{HaveTexts, step_in};
 
@@ -36,7 +38,8 @@ impl Model for PassedSteps {
 
     ghost invariant = { λ p. record {
       have_texts : HaveTexts p.errors.items p.words.items;
-      note : p.note ≡ note_of (map (step_in p.errors.items) p.words.items);
+      note : note_of (map (step_in p.errors.items) p.words.items) ≡ record { count = length p.words.items - p.told; note = p.note };
+      told : p.told ≤ length p.words.items;
       low : p.note.depth ≤ length p.words.items;
     } };
 }
@@ -49,6 +52,7 @@ impl PassedSteps {
         PassedSteps {
             words: Vec::new(alloc),
             errors: Vec::new(alloc),
+            told: 0,
             turns: 0,
             note: RootNote::new(),
         }
@@ -65,6 +69,7 @@ impl PassedSteps {
         Ok(PassedSteps {
             words: Vec::with_capacity(alloc, steps)?,
             errors,
+            told: 0,
             turns: 0,
             note: RootNote::new(),
         })
@@ -87,7 +92,6 @@ impl PassedSteps {
             n_input_tokens,
         };
         self.words.push(token.pack())?;
-        self.note.token();
         Ok(())
     }
 
@@ -95,8 +99,9 @@ impl PassedSteps {
     pub(crate) fn enter_node(&mut self, kind: SyntaxKind) -> Result<(), AllocError>
         ensures { IfOk result (λ _. self.new ≡ record self.old { steps = self.old.steps ++ Enter kind ∷ [] }) }
     {
+        let before = self.words.len() - self.told;
         self.words.push(StoredStep::Enter { kind }.pack())?;
-        self.note.enter();
+        self.note.enter(before);
         Ok(())
     }
 
@@ -104,8 +109,9 @@ impl PassedSteps {
     pub(crate) fn leave_node(&mut self) -> Result<(), AllocError>
         ensures { IfOk result (λ _. self.new ≡ record self.old { steps = self.old.steps ++ Exit ∷ [] }) }
     {
+        let before = self.words.len() - self.told;
         self.words.push(StoredStep::Exit.pack())?;
-        self.note.leave();
+        self.note.leave(before);
         Ok(())
     }
 
@@ -116,6 +122,7 @@ impl PassedSteps {
         ensures { IfOk result (λ _. self.new ≡ record self.old { steps = self.old.steps ++ Error (slice_index_or self.old.texts number []) ∷ [] }) }
     {
         self.words.push(StoredStep::Error { number }.pack())?;
+        self.told += 1;
         Ok(())
     }
 
@@ -132,7 +139,7 @@ impl PassedSteps {
     pub(crate) fn stands_in_one_root(&self) -> bool
         ensures { IsTrue result ↔ StandsInOneRoot (without_errors self.now.steps) }
     {
-        self.note.tells_root()
+        self.note.tells_root(self.words.len() - self.told)
     }
 
     /// How many turns it took.

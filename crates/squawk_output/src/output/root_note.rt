@@ -1,63 +1,57 @@
 //! Whether steps stand in one root, noted as they are made.
-ghost use Rattle.std.specs.Prelude.{◌≡◌, ◌+◌, ◌<◌, ◌^◌, []};
-ghost use Rattle.squawk_output.specs.RootNote.{note_of, noted, tells_root};
-ghost use Rattle.squawk_output.specs.Steps.{Enter, Exit, Token};
+ghost use Rattle.std.specs.Prelude.{◌≡◌, ◌+◌, ◌<◌, ◌^◌};
+ghost use Rattle.squawk_output.specs.RootNote.{entered, left, tells_root, unnoted};
 
-/// What steps tell of their root, errors aside. Each step changes it without a jump.
+/// What the openings and closings of steps tell of their root. Counts of steps leave errors out.
 #[derive(Drop)]
 pub(crate) struct RootNote {
     /// How many nodes are open.
     depth: usize,
-    /// Whether a node was entered.
-    has_root: bool,
-    /// Whether a step stands outside of the first node.
+    /// Whether a node was entered behind the first step, or left, where none was open.
     outside: bool,
+    /// How many steps there were when a closing left no node open.
+    closed: usize,
 }
 
 impl RootNote {
     /// The note of no steps.
     pub(crate) fn new() -> RootNote
-        ensures { result ≡ note_of [] }
+        ensures { result ≡ unnoted }
     {
         RootNote {
             depth: 0,
-            has_root: false,
             outside: false,
+            closed: 0,
         }
     }
 
-    /// Notes a token.
+    /// Notes the beginning of a node behind so many steps.
     #[inline(always)]
-    pub(crate) fn token(&mut self)
-        ensures { self.new ≡ noted self.old (Token 0 0) }
-    {
-        self.outside |= self.depth == 0;
-    }
-
-    /// Notes the beginning of a node.
-    #[inline(always)]
-    pub(crate) fn enter(&mut self)
+    pub(crate) fn enter(&mut self, before: usize)
         requires { self.old.depth + 1 < 2 ^ 64 }
-        ensures { self.new ≡ noted self.old (Enter 0) }
+        ensures { self.new ≡ entered self.old before }
     {
-        self.outside |= self.has_root & (self.depth == 0);
-        self.has_root = true;
+        self.outside |= self.depth == 0 && before > 0;
         self.depth += 1;
     }
 
-    /// Notes the end of a node.
+    /// Notes the end of a node behind so many steps.
     #[inline(always)]
-    pub(crate) fn leave(&mut self)
-        ensures { self.new ≡ noted self.old Exit }
+    pub(crate) fn leave(&mut self, before: usize)
+        requires { before + 1 < 2 ^ 64 }
+        ensures { self.new ≡ left self.old before }
     {
         self.outside |= self.depth == 0;
         self.depth = self.depth.saturating_sub(1);
+        if self.depth == 0 {
+            self.closed = before + 1;
+        }
     }
 
-    /// Whether the steps stand in one root.
-    pub(crate) fn tells_root(&self) -> bool
-        ensures { result ≡ tells_root self.now }
+    /// Whether so many steps stand in one root.
+    pub(crate) fn tells_root(&self, steps: usize) -> bool
+        ensures { result ≡ tells_root self.now steps }
     {
-        self.has_root && !self.outside && self.depth == 0
+        !self.outside && self.depth == 0 && self.closed == steps && steps > 0
     }
 }
