@@ -11,25 +11,17 @@ use Rattle.squawk_parser.specs.Words.{Words}
 use Rattle.squawk_parser.specs.declared.parser.grammar.EntryPoint.{EntryPoint}
 use Rattle.squawk_parser.specs.declared.parser.parse_error.ParseError.{ParseError}
 use Rattle.squawk_parser.specs.declared.parser.parse_error.ParseError.TheVariants.{OutOfMemory, TooManyEvents, TooManyErrors}
-use Rattle.squawk_script.specs.Events.{IsRunOf, LeavesOne, errors_among, events_of, refusal}
+use Rattle.squawk_script.specs.LeavesOne.{LeavesOne}
+use Rattle.squawk_script.specs.Events.{IsRunOf, errors_among, events_of, refusal}
 use Rattle.squawk_script.specs.Meaning.{Meaning, run_of}
 use Rattle.squawk_script.specs.declared.call.Call.{Call}
-use Rattle.squawk_script.specs.contracts.script.ScriptGrammar.TheImpl as grammar
+use Rattle.squawk_script.specs.contracts.script.grammar.ScriptGrammar.TheImpl as grammar
 use Rattle.squawk_output.proofs.PlainLog.{errors-plain}
 use Rattle.squawk_script.proofs.Events.{errors-events, errors_among-append, recorded-events}
 use Rattle.squawk_script.proofs.Refusals.{Tells, error-at, is-none, refused-at, tells}
 
-module _ (script : Meaning) (entry other : EntryPoint) (input : List Entry) (d e : Draft) where
-  -- two drafts that a script may leave over an input, from the same entry point or from both
-  abbrev May : EntryPoint → Draft → Type 0
-  May from draft = grammar.leaves-value.it script from input draft
-
-  -- are one
-  pub one-draft : May entry d → May other e → d ≡ e
-  one-draft first second = first ∙ sym second
-
 pub leaves_one : (script : Meaning) → LeavesOne script
-leaves_one script input one other first second = first ∙ sym second
+leaves_one script input from other one two first second = first ∙ sym second
 
 -- ---- refusals
 

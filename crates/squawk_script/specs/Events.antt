@@ -49,7 +49,3 @@ FailsByLimits script begun left =
 -- The draft is the one that the run of the calls makes.
 abbrev pub IsRunOf : Meaning → List Entry → Draft → Type 0
 IsRunOf script input left = left ≡ (run_of script.words input script.calls).draft
-
--- What a script may leave over an input is one draft.
-abbrev pub LeavesOne : Meaning → Type 0
-LeavesOne script = (input : List Entry) (one other : Draft) → IsRunOf script input one → IsRunOf script input other → one ≡ other

@@ -2,14 +2,15 @@
 ghost use Rattle.std.specs.Prelude.{◌≡◌, IfOk, IfErr};
 ghost use Rattle.squawk_parser.specs.Words.{HasNoEnd, words_of};
 ghost use Rattle.squawk_script.specs.Accepted.{IsAccepted, Refuses};
-ghost use Rattle.squawk_script.specs.Events.{LeavesOne};
+ghost use Rattle.squawk_script.specs.LeavesOne.{LeavesOne};
+
+mod grammar;
 
 use crate::call::Call;
 use crate::check::check;
-use crate::run::run_calls;
 use crate::script_error::ScriptError;
-use squawk_parser::{Grammar, Parser, SyntaxKind, TokenSet, Words};
-use std::alloc::{AllocError, Global};
+use squawk_parser::{SyntaxKind, TokenSet, Words};
+use std::alloc::Global;
 use std::marker::Model;
 
 /// A list of calls of a parser that can be made one after another, over every input, and that leave
@@ -60,30 +61,5 @@ impl<'t> Script<'t> {
             names,
             alloc,
         })
-    }
-}
-
-impl Grammar for Script<'_> {
-    ghost use Rattle.squawk_script.specs.Events.{FailsByLimits, IsRunOf};
-
-    ghost leaves = { λ script _ input draft. IsRunOf script input draft };
-
-    ghost runs = { λ script _ begun left. FailsByLimits script begun left };
-
-    ghost meaning = { λ script. script.words };
-
-    fn words(&self) -> Words<'_> {
-        Words {
-            operator_first: self.operator_first,
-            names: self.names,
-        }
-    }
-
-    fn entry_point(&self, p: &mut Parser<'_>) -> Result<(), AllocError> {
-        run_calls(&self.calls, self.markers, self.alloc, p)
-    }
-
-    fn plpgsql_entry_point(&self, p: &mut Parser<'_>) -> Result<(), AllocError> {
-        run_calls(&self.calls, self.markers, self.alloc, p)
     }
 }

@@ -2,7 +2,7 @@
 use Rattle.std.proofs.Common.{◌≡◌, ◌∙◌, ℕ, zero, suc, Option, None, Some, List, [], ◌∷◌, ◌++◌, map, filter, length, length-append, slice_get, arith, append_assoc, ap, sym, refl, subst, ◌⊎◌, inl, inr}
 use Rattle.std.proofs.lemmas.List.{append-nil}
 use Rattle.squawk_table.specs.RawTable.{Table, RawToken, raw_tokens}
-use Rattle.squawk_table.specs.Sent.{errors_moved, sent_raw, sent_step, sent_list, bytes_of}
+use Rattle.squawk_table.specs.Sent.{errors_moved, sent_raw, sent_step, sent_list, bytes_of, ErrorsArePlaced}
 use Rattle.squawk_output.specs.Steps.{Step, Token, Enter, Exit, Error, is_error, eaten, without_errors}
 use Rattle.squawk_table.specs.declared.shortcuts.str_step.OwnedStep.{OwnedStep}
 use Rattle.squawk_table.specs.declared.shortcuts.str_step.OwnedStep.TheVariants as sent
@@ -30,10 +30,6 @@ length-errors_moved steps = moved.length-moved steps
 
 -- ---- the positions of errors
 
--- each error of a list stands behind as many bytes as its position says
-abbrev ArePlaced : List OwnedStep → Type 0
-ArePlaced steps = (front rest : List OwnedStep) (text : List ℕ) (pos : ℕ) → steps ≡ front ++ sent.Error text pos ∷ rest → pos ≡ bytes_of front
-
 -- a step of a list that is one longer is one of the list, or the last
 split_last : {X : Type 0} (l front rest : List X) (x e : X) → l ++ x ∷ [] ≡ front ++ e ∷ rest → ((behind : List X) × (l ≡ front ++ e ∷ behind)) ⊎ ((front ≡ l) × (x ≡ e))
 split_last [] [] rest x e is = inr (refl, cc)
@@ -47,30 +43,30 @@ split_last (y ∷ l) (f ∷ front) rest x e is =
       | inr last ↦ inr (cc, last.1)
     ]
 
-placed_more : (steps : List OwnedStep) (next : OwnedStep) → ArePlaced steps → ((text : List ℕ) (pos : ℕ) → next ≡ sent.Error text pos → pos ≡ bytes_of steps) → ArePlaced (steps ++ next ∷ [])
+placed_more : (steps : List OwnedStep) (next : OwnedStep) → ErrorsArePlaced steps → ((text : List ℕ) (pos : ℕ) → next ≡ sent.Error text pos → pos ≡ bytes_of steps) → ErrorsArePlaced (steps ++ next ∷ [])
 placed_more steps next placed here front rest text pos is =
     elim (split_last steps front rest next (sent.Error text pos) is) [
       | inl before ↦ placed front before.0 text pos before.1
       | inr last ↦ here text pos last.1 ∙ ap bytes_of (sym last.0)
     ]
 
-placed_raw : (steps : List OwnedStep) (raw : List RawToken) → ArePlaced steps → ArePlaced (steps ++ map sent_raw raw)
-placed_raw steps [] placed = subst ArePlaced (sym (append-nil steps)) placed
+placed_raw : (steps : List OwnedStep) (raw : List RawToken) → ErrorsArePlaced steps → ErrorsArePlaced (steps ++ map sent_raw raw)
+placed_raw steps [] placed = subst ErrorsArePlaced (sym (append-nil steps)) placed
 placed_raw steps (r ∷ raw) placed =
     let more = placed_more steps (sent_raw r) placed (λ text pos e. cc) in
-    subst ArePlaced (append_assoc steps (sent_raw r ∷ []) (map sent_raw raw)) (placed_raw (steps ++ sent_raw r ∷ []) raw more)
+    subst ErrorsArePlaced (append_assoc steps (sent_raw r ∷ []) (map sent_raw raw)) (placed_raw (steps ++ sent_raw r ∷ []) raw more)
 
-placed_step : (raw : List RawToken) (c : ℕ) (before : List OwnedStep) (step : Step) → ArePlaced before → ArePlaced (before ++ sent_step raw c before step ∷ [])
+placed_step : (raw : List RawToken) (c : ℕ) (before : List OwnedStep) (step : Step) → ErrorsArePlaced before → ErrorsArePlaced (before ++ sent_step raw c before step ∷ [])
 placed_step raw c before (Token kind n) placed = placed_more before (sent_step raw c before (Token kind n)) placed (λ text pos e. cc)
 placed_step raw c before (Enter kind) placed = placed_more before (sent.Enter kind) placed (λ text pos e. cc)
 placed_step raw c before Exit placed = placed_more before sent.Exit placed (λ text pos e. cc)
 placed_step raw c before (Error msg) placed = placed_more before (sent.Error msg (bytes_of before)) placed (λ text pos e. cc)
 
-placed_steps : (raw : List RawToken) (c : ℕ) (before : List OwnedStep) (step : Option Step) → ArePlaced before → ArePlaced (before ++ sent_steps raw c before step)
-placed_steps raw c before None placed = subst ArePlaced (sym (append-nil before)) placed
+placed_steps : (raw : List RawToken) (c : ℕ) (before : List OwnedStep) (step : Option Step) → ErrorsArePlaced before → ErrorsArePlaced (before ++ sent_steps raw c before step)
+placed_steps raw c before None placed = subst ErrorsArePlaced (sym (append-nil before)) placed
 placed_steps raw c before (Some step) placed = placed_step raw c before step placed
 
-placed_below : (raw : List RawToken) (steps : List Step) (n : ℕ) → ArePlaced (sent_below raw steps n)
+placed_below : (raw : List RawToken) (steps : List Step) (n : ℕ) → ErrorsArePlaced (sent_below raw steps n)
 placed_below raw steps zero = λ front rest text pos is. absurd (omega (arith, ap length is, length-append front (sent.Error text pos ∷ rest)))
 placed_below raw steps (suc i) =
     let trivia = trivia_before raw steps i in
@@ -78,8 +74,7 @@ placed_below raw steps (suc i) =
     (placed_raw (sent_below raw steps i) trivia (placed_below raw steps i))
 
 -- the position of an error is the number of bytes that were sent before it
-pub position-error : (table : Table) (steps : List Step) (front rest : List OwnedStep) (text : List ℕ) (pos : ℕ)
-    → sent_list table steps ≡ front ++ sent.Error text pos ∷ rest → pos ≡ bytes_of front
-position-error table steps =
+pub errors_placed : (table : Table) (steps : List Step) → ErrorsArePlaced (sent_list table steps)
+errors_placed table steps =
     let moved = errors_moved steps in
-    subst ArePlaced (sym (sent_list-numbered table steps)) (placed_below (raw_tokens table) moved (length moved))
+    subst ErrorsArePlaced (sym (sent_list-numbered table steps)) (placed_below (raw_tokens table) moved (length moved))

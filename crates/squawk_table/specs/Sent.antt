@@ -163,6 +163,10 @@ marked_list table steps = sent_behind (raw_tokens table) [] [] (places_of (error
 abbrev pub sent_list : Table → List Step → List OwnedStep
 sent_list table steps = map unmarked (marked_list table steps)
 
+-- the position of each error is the number of bytes that were sent before it
+abbrev pub ErrorsArePlaced : List OwnedStep → Type 0
+ErrorsArePlaced all = (front rest : List OwnedStep) (text : List ℕ) (pos : ℕ) → all ≡ front ++ sent.Error text pos ∷ rest → pos ≡ bytes_of front
+
 -- one list is the beginning of another
 abbrev pub IsBeginning : {X : Type 0} → List X → List X → Type 0
 IsBeginning {X} front whole = (rest : List X) × (front ++ rest ≡ whole)

@@ -2,7 +2,7 @@
 ghost use Rattle.std.specs.Prelude.{◌≡◌, ◌↔◌, List, ◌++◌, length, IsTrue, OnOk, IfOk, IfErr};
 ghost use Rattle.std.specs.Str.{chars};
 ghost use Rattle.squawk_table.specs.ParserInput.{input_of};
-ghost use Rattle.squawk_table.specs.Sent.{marked_list, sent_list, texts_of, InnerNodesAreTrimmed, IsBeginning, StopsWithin};
+ghost use Rattle.squawk_table.specs.Sent.{marked_list, sent_list, texts_of, ErrorsArePlaced, InnerNodesAreTrimmed, IsBeginning, StopsWithin};
 ghost use Rattle.squawk_table.specs.Shape.{Fits, no_keywords};
 ghost use Rattle.squawk_output.specs.Steps.{eaten};
 ghost use Rattle.squawk_table.specs.declared.shortcuts.str_step.OwnedStep.{OwnedStep};
@@ -30,6 +30,7 @@ impl LexedStr<'_> {
     /// Where the sink refuses a step, nothing more is sent, and its refusal is answered.
     ///
     /// The output [`fits`](LexedStr::fits) the table.
+    #[tactic(auto, using(crate::proofs::SentLaws::errors_placed, crate::proofs::Trimmed::trimmed))]
     pub fn intersperse_trivia<S: StepSink>(
         &self,
         output: &Output,
@@ -42,7 +43,9 @@ impl LexedStr<'_> {
         ensures whole { IfOk result (λ all. IsTrue all ↔ (texts_of (sent_list self.now output.now.steps) ≡ chars self.now.text)) }
         ensures beginning { OnOk result (IsBeginning (texts_of (sent_list self.now output.now.steps)) (chars self.now.text)) }
 
-        // In the list that is sent no node but the root begins or ends with trivia that was put back.
+        // In the list that is sent each error stands at its position, and no node but the root begins or ends with trivia that
+        // was put back.
+        ensures placed { ErrorsArePlaced (sent_list self.now output.now.steps) }
         ensures trimmed { InnerNodesAreTrimmed (marked_list self.now output.now.steps) }
 
         ensures ok { OnOk result ((l : List OwnedStep) → S.stands_after sink.old l

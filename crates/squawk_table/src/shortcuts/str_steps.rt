@@ -7,7 +7,7 @@ ghost use Rattle.squawk_output.specs.Steps.{eaten};
 ghost use Rattle.squawk_table.specs.ParserInput.{input_of};
 ghost use Rattle.squawk_table.specs.RawTable.{raw_at};
 ghost use Rattle.squawk_table.specs.Sending.{sent_here, HasTokens, next_place, receives_at, depth_behind};
-ghost use Rattle.squawk_table.specs.Sent.{sent_list, sent_raw, texts_of, IsBeginning};
+ghost use Rattle.squawk_table.specs.Sent.{marked_list, sent_list, sent_raw, texts_of, ErrorsArePlaced, InnerNodesAreTrimmed, IsBeginning};
 ghost use Rattle.squawk_table.specs.Shape.{Fits, no_keywords};
 ghost use Rattle.squawk_table.specs.SinkViews.{owned_step_of};
 
@@ -54,6 +54,7 @@ impl LexedStr<'_> {
     /// They are those that [`intersperse_trivia`](LexedStr::intersperse_trivia) sends, in that order.
     ///
     /// The output [`fits`](LexedStr::fits) the table.
+    #[tactic(auto, using(crate::proofs::SentLaws::errors_placed, crate::proofs::Trimmed::trimmed))]
     pub fn str_steps<'s>(&'s self, output: &'s Output) -> StrSteps<'s>
         requires { Fits self.now output.now.steps }
         ensures steps { result.steps ≡ sent_list self.now output.now.steps }
@@ -62,6 +63,10 @@ impl LexedStr<'_> {
         ensures all { IsTrue result.eaten_all ↔ (eaten output.now.steps ≡ length (input_of no_keywords self.now)) }
         ensures whole { IsTrue result.eaten_all ↔ (texts_of (sent_list self.now output.now.steps) ≡ chars self.now.text) }
         ensures beginning { IsBeginning (texts_of (sent_list self.now output.now.steps)) (chars self.now.text) }
+
+        // Each error stands at its position, and no node but the root begins or ends with trivia that was put back.
+        ensures placed { ErrorsArePlaced (sent_list self.now output.now.steps) }
+        ensures trimmed { InnerNodesAreTrimmed (marked_list self.now output.now.steps) }
         ensures left { (result.steps_left ≡ length output.now.steps) × (result.raw_left ≡ length self.now.kinds) }
     {
         StrSteps {

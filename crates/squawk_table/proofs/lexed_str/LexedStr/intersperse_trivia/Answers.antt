@@ -1,6 +1,5 @@
 use Rattle.std.proofs.Common.{◌∙◌, [], ◌∷◌, ◌++◌, append_assoc, ap, subst, sym}
 use Rattle.squawk_table.specs.SinkViews.{owned_step_of}
-use Rattle.squawk_table.proofs.Trimmed.{trimmed}
 use Rattle.squawk_table.proofs.lexed_str.LexedStr.intersperse_trivia.Goals as goal
 
 pub loop-step-preserved : goal.loop-step-preserved
@@ -16,11 +15,3 @@ loop-step-preserved g c =
         λ before stood. subst (g.S.StepSink.stands_after c.step.new.self) (append_assoc before done.0 (step ∷ [])) (c.in_ok-step.ensures (before ++ done.0) (done.2 before stood)),
       );
     }
-
--- ---- what is sent, whatever the outcome
-
-pub returns-clause-trimmed : goal.returns-clause-trimmed
-returns-clause-trimmed g c = trimmed c.args.self.now c.args.output.now.steps
-
-pub returns-in_err-step-clause-trimmed : goal.returns-in_err-step-clause-trimmed
-returns-in_err-step-clause-trimmed g c = trimmed c.args.self.now c.args.output.now.steps
