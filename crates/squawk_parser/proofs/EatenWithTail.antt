@@ -17,13 +17,13 @@ eats_with_puts {does} {kind} {old} {new} e steps records =
     let elements = e.goes_on.does_so in
     let tail = e.goes_on.goes_on.does_so in
     let ran = e.goes_on.goes_on.between in
-    let recorded = records e.goes_on.between ran e.goes_on.sound e.goes_on.goes_on.sound tail.keeps tail.runs in
+    let recorded = records e.goes_on.between ran e.goes_on.does_so.keeps.sound e.goes_on.goes_on.does_so.keeps.sound tail.keeps tail.runs in
     let all = puts-then elements (puts-then recorded e.goes_on.goes_on.goes_on.does_so) in
     let words : ran.words ≡ old.words = (Keeps-then begins.keeps (Keeps-then elements.keeps tail.keeps)).words in
     let seen : ahead e.between 0 ≡ ahead old 0 = ahead-still begins.keeps begins.position in
     let same = ap (λ seen. element_steps (elements_of_kind kind) seen ++ (steps ++ closing_steps ran.words (tail_of_kind kind) (ahead ran 0))) seen
     ∙ ap (λ words. element_steps (elements_of_kind kind) (ahead old 0) ++ (steps ++ closing_steps words (tail_of_kind kind) (ahead ran 0))) words in (
       ran,
-      e.goes_on.goes_on.sound,
+      e.goes_on.goes_on.does_so.keeps.sound,
       node_puts begins (subst (λ steps. Puts steps e.between e.goes_on.goes_on.goes_on.between) same all) e.goes_on.goes_on.goes_on.goes_on,
     )

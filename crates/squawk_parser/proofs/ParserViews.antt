@@ -5,7 +5,7 @@ use Rattle.squawk_table.specs.Shape.{AreOneToken}
 use Rattle.squawk_parser.specs.declared.parser.Parser.TheInside.{Inside}
 use Rattle.squawk_output.specs.Draft.{Draft, errors_of}
 use Rattle.squawk_parser.specs.Words.{words_of}
-use Rattle.squawk_parser.specs.State.{State, HasNotFailed, Keeps, Changes, ahead}
+use Rattle.squawk_parser.specs.State.{State, HasNotFailed, IsSound, Keeps, Changes, ahead}
 use Rattle.squawk_parser.proofs.Soundness.{not_failed}
 
 abbrev pub seen : Inside → State
@@ -39,15 +39,17 @@ goes_on s e = cases s.first_reason e
     cases (Some reason) e = absurd (let h = e in cc)
 
 -- an edit that isn't recorded, of a parser that goes on
-pub Changes-edited : (old s new : State) (edited : Draft) → s ≡ old → HasNotFailed s → new ≡ record s { draft = edited } → Changes old new edited
-Changes-edited old s new edited same goes is = let edit : State → State = λ t. record t { draft = edited } in record {
+pub Changes-edited : (old s new : State) (edited : Draft) → s ≡ old → HasNotFailed s → new ≡ record s { draft = edited } → IsSound new → Changes old new edited
+Changes-edited old s new edited same goes is sound = let edit : State → State = λ t. record t { draft = edited } in record {
   goes = λ go. is ∙ ap edit same;
   stays = λ failed. absurd (not_failed s goes (subst (λ t. IsSome t.first_reason) (sym same) failed));
+  sound = sound;
 }
 
 -- a parser that has failed stays as it is
-pub Changes-failed : (old s new : State) (edited : Draft) → s ≡ old → IsSome s.first_reason → new ≡ old → Changes old new edited
-Changes-failed old s new edited same failed is = record {
+pub Changes-failed : (old s new : State) (edited : Draft) → s ≡ old → IsSome s.first_reason → new ≡ old → IsSound new → Changes old new edited
+Changes-failed old s new edited same failed is sound = record {
   goes = λ goes. absurd (not_failed old goes (subst (λ t. IsSome t.first_reason) same failed));
   stays = λ fails. is;
+  sound = sound;
 }

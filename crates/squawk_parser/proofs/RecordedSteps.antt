@@ -8,15 +8,15 @@ use Rattle.squawk_output.specs.Edits.{completed, started, with_token}
 use Rattle.squawk_output.proofs.EditedErrors.{errors-append}
 use Rattle.squawk_parser.specs.Eaten.{node}
 use Rattle.squawk_parser.specs.Recorded.{Begins, Completes, IsRefusedStep, Puts, with_steps}
-use Rattle.squawk_parser.specs.State.{State, HasNotFailed, IsReason, Keeps, Records}
+use Rattle.squawk_parser.specs.State.{State, HasNotFailed, IsReason, IsSound, Keeps, Records}
 use Rattle.squawk_parser.specs.declared.parser.parse_error.ParseError.{ParseError}
 use Rattle.squawk_parser.proofs.RecordedItems.{steps_errors-append, eaten-append}
 use Rattle.squawk_parser.proofs.StepsAtEnd.{errors-with_steps, with_steps-append, with_steps-node, with_steps-none}
 
 -- ---- what every act keeps
 
-pub Keeps-none : (a : State) → Keeps a a
-Keeps-none a = record { input = refl; words = refl; limit = refl; forward = omega arith; max_events = refl; max_errors = refl; reason = λ failed. refl }
+pub Keeps-none : (a : State) → IsSound a → Keeps a a
+Keeps-none a sound = record { input = refl; words = refl; limit = refl; forward = omega arith; max_events = refl; max_errors = refl; reason = λ failed. refl; sound = sound }
 
 -- a parser that has failed has still failed afterwards
 pub still : {a b : State} → Keeps a b → IsSome a.first_reason → IsSome b.first_reason
@@ -41,6 +41,7 @@ Keeps-then {a} {b} {c} k l = record {
   max_events = l.max_events ∙ k.max_events;
   max_errors = l.max_errors ∙ k.max_errors;
   reason = λ failed. l.reason (still k failed) ∙ k.reason failed;
+  sound = l.sound;
 }
 
 -- ---- which step is refused
@@ -108,9 +109,9 @@ refuses-one {a} {b} {edited} step plain_step r goes reason fails = record { fron
 -- ---- steps
 
 -- no steps
-pub puts-none : (a : State) → Puts [] a a
-puts-none a = record {
-  keeps = Keeps-none a;
+pub puts-none : (a : State) → IsSound a → Puts [] a a
+puts-none a sound = record {
+  keeps = Keeps-none a sound;
   position = omega arith;
   draft = λ goes. sym (with_steps-none a.draft);
   stays = λ failed. refl;

@@ -7,7 +7,7 @@ use Rattle.squawk_output.specs.Steps.{Error}
 use Rattle.squawk_output.specs.Draft.{Mark}
 use Rattle.squawk_parser.specs.Eaten.{current_as, no_recovery, node, one, recovery_steps}
 use Rattle.squawk_parser.specs.Recorded.{Begins, Completes, Puts}
-use Rattle.squawk_parser.specs.State.{State, ahead, kind_at}
+use Rattle.squawk_parser.specs.State.{State, IsSound, ahead, kind_at}
 use Rattle.squawk_parser.proofs.RecordedSteps.{node_puts, puts-none, puts-then}
 use Rattle.squawk_parser.proofs.SeenSteps.{ahead-moved, ahead-still, if-false, if-true, kind_at-first}
 
@@ -16,10 +16,10 @@ pub ahead-error : {a b : State} {text : List ℕ} → Puts (Error text ∷ []) a
 ahead-error puts = ahead-moved 0 puts.keeps puts.position
 
 -- at the end no token is eaten
-pub current-none : {a : State} (kind : ℕ) → kind_at a 0 ≡ EOF → Puts (current_as kind (ahead a 0)) a a
-current-none {a} kind end =
+pub current-none : {a : State} (kind : ℕ) → IsSound a → kind_at a 0 ≡ EOF → Puts (current_as kind (ahead a 0)) a a
+current-none {a} kind sound end =
     let none : (kind_in (ahead a 0) 0 == EOF) ≡ true = eq-eqb (kind_in (ahead a 0) 0) EOF (sym (kind_at-first a) ∙ end) in
-    subst (λ steps. Puts steps a a) (sym (if-true _ _ _ none)) (puts-none a)
+    subst (λ steps. Puts steps a a) (sym (if-true _ _ _ none)) (puts-none a sound)
 
 -- elsewhere the current one is
 pub current-some : {a b : State} (kind : ℕ) → kind_at a 0 ≢ EOF → Puts (one kind ∷ []) a b → Puts (current_as kind (ahead a 0)) a b

@@ -5,7 +5,7 @@ use Rattle.squawk_output.specs.Steps.{Error}
 use Rattle.squawk_output.specs.Draft.{errors_of}
 use Rattle.squawk_output.specs.Edits.{with_error}
 use Rattle.squawk_parser.specs.Recorded.{Puts}
-use Rattle.squawk_parser.specs.State.{State, HasNotFailed, IsReason, Keeps, Records}
+use Rattle.squawk_parser.specs.State.{State, IsSound, HasNotFailed, IsReason, Keeps, Records}
 use Rattle.squawk_parser.specs.declared.parser.parse_error.ParseError.{ParseError}
 use Rattle.squawk_parser.specs.declared.parser.parse_error.ParseError.TheVariants.{TooManyEvents}
 use Rattle.squawk_parser.proofs.Soundness.{not_failed}
@@ -29,26 +29,29 @@ not_put old new msg keeps failed place same why = record {
   refused = λ goes reason refused. record { front = []; next = Error msg; rest = []; is = refl; why = simp add-zero (why goes reason refused) };
 }
 
-Keeps-refused : (s old : State) (is : ParseError) → s ≡ old → HasNotFailed old → Keeps old (record s { first_reason = Some is })
-Keeps-refused s old is e goes = rw e record {
+Keeps-refused : (s old : State) (is : ParseError) → s ≡ old → HasNotFailed old → IsSound (record s { first_reason = Some is }) → Keeps old (record s { first_reason = Some is })
+Keeps-refused s old is e goes sound = rw (← e) record {
   input = refl;
   words = refl;
   limit = refl;
   forward = omega arith;
   max_events = refl;
   max_errors = refl;
-  reason = λ failed. absurd (not_failed old goes failed);
+  reason = λ failed. absurd (not_failed old goes (subst (λ t. IsSome t.first_reason) e failed));
+  sound = sound;
 }
 
 -- a parser that fails for a reason that it has
-pub Puts-refused : (s old : State) (msg : List ℕ) (is : ParseError) → s ≡ old → HasNotFailed old → IsReasonFor old msg is → Puts (Error msg ∷ []) old (record s { first_reason = Some is })
-Puts-refused s old msg is e goes why =
-    not_put old (record s { first_reason = Some is }) msg (Keeps-refused s old is e goes) refl (cc) (cc) (λ _ reason refused. same_reason old msg (Some is) is reason refl refused why)
+pub Puts-refused : (s old : State) (msg : List ℕ) (is : ParseError) → s ≡ old → HasNotFailed old → IsReasonFor old msg is → IsSound (record s { first_reason = Some is })
+    → Puts (Error msg ∷ []) old (record s { first_reason = Some is })
+Puts-refused s old msg is e goes why sound =
+    not_put old (record s { first_reason = Some is }) msg (Keeps-refused s old is e goes sound) refl (cc) (cc) (λ _ reason refused. same_reason old msg (Some is) is reason refl refused why)
 
 -- a parser that goes on
-pub Puts-error : (s old : State) (msg : List ℕ) → s ≡ old → HasNotFailed old → Puts (Error msg ∷ []) old (record s { draft = with_error s.draft msg })
-Puts-error s old msg e goes = rw (← e) record {
-  keeps = record { input = refl; words = refl; limit = refl; forward = omega arith; max_events = refl; max_errors = refl; reason = λ failed. refl };
+pub Puts-error : (s old : State) (msg : List ℕ) → s ≡ old → HasNotFailed old → IsSound (record s { draft = with_error s.draft msg })
+    → Puts (Error msg ∷ []) old (record s { draft = with_error s.draft msg })
+Puts-error s old msg e goes sound = rw (← e) record {
+  keeps = record { input = refl; words = refl; limit = refl; forward = omega arith; max_events = refl; max_errors = refl; reason = λ failed. refl; sound = sound };
   position = omega arith;
   draft = λ after. refl;
   stays = λ failed. absurd (not_failed old goes (subst (λ t. IsSome t.first_reason) e failed));

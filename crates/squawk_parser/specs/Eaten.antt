@@ -113,10 +113,9 @@ no_recovery kind = false
 -- ---- a kind with a tail
 
 infixr 5 ◌⨾◌
--- one relation after another, with a sound parser between them
+-- one relation after another
 pub record ◌⨾◌ (does next : State → State → Type 0) (old new : State) : Type 0 where
   pub between : State
-  pub sound : IsSound between
   pub does_so : does old between
   pub goes_on : next between new
 

@@ -1,6 +1,6 @@
 -- What a parse answers.
 use Rattle.std.specs.Prelude.{◌≡◌, ◌≤◌, ◌*◌, Some, None, List, length, ◌⊎◌}
-use Rattle.squawk_table.specs.ParserInput.{Entry}
+use Rattle.squawk_table.specs.ParserInput.{Entry, HasNoEndToken}
 use Rattle.squawk_output.specs.Draft.{Draft, HasNoHole, plain}
 use Rattle.squawk_output.specs.Steps.{Walk}
 use Rattle.squawk_table.specs.Shape.{IsOver}
@@ -9,7 +9,7 @@ use Rattle.squawk_parser.specs.State.{State, IsSound, Keeps}
 use Rattle.squawk_parser.specs.declared.parser.parse_error.ParseError.{ParseError}
 use Rattle.squawk_parser.specs.declared.parser.parse_error.ParseError.TheVariants.{OutOfMemory}
 
--- The output is that of a draft without holes that the grammar may leave. It is balanced, and over the input.
+-- The output is that of a draft without holes that the grammar may leave. It is balanced, and over the input, which has no end token.
 pub record IsParse (leaves : Draft → Type 0) (input : List Entry) (output : Walk) : Type 0 where
   pub draft : Draft
   pub left : leaves draft
@@ -22,6 +22,7 @@ pub record IsParse (leaves : Draft → Type 0) (input : List Entry) (output : Wa
   pub bound : output.turns ≤ 4 * output.recorded
   pub balanced : IsBalanced output.steps
   pub over : IsOver output.steps input
+  pub no_end : HasNoEndToken input
 
 -- why a parse that left this parser is refused: for its first reason, and if it has none, by want of memory
 abbrev pub IsRefusalOf : State → ParseError → Type 0

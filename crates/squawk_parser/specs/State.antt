@@ -1,7 +1,7 @@
 -- What contracts see of a parser.
 use Rattle.std.specs.Prelude.{◌≡◌, ℕ, Bool, true, false, ◌+◌, ◌<◌, ◌≤◌, min, Option, Some, None, List, length, nat_lt, if◌then◌else◌, IsSome, Contains}
 use Rattle.squawk_kinds.specs.Kinds.{EOF}
-use Rattle.squawk_table.specs.ParserInput.{Entry, kind_in, contextual_kind_in}
+use Rattle.squawk_table.specs.ParserInput.{Entry, HasNoEndToken, kind_in, contextual_kind_in}
 use Rattle.squawk_parser.specs.LookAhead.{seen_from}
 use Rattle.squawk_parser.specs.Words.{Words, HasNoEnd}
 use Rattle.squawk_output.specs.Draft.{Draft, nothing, Hole, IsLogged, Open, Mark, Node, errors_of, plain}
@@ -66,7 +66,27 @@ limited s n = record s { limit = min s.limit (s.position + n) }
 abbrev pub with_limit_of : State → State → State
 with_limit_of s other = record s { limit = other.limit }
 
--- the input, the words and the limits stay, and so does a first reason to fail; no token is given back
+-- what every parser keeps, failed or not
+pub record IsSound (s : State) : Type 0 where
+  pub position : s.position ≤ s.limit
+  pub limit : s.limit ≤ length s.input
+  pub words : HasNoEnd s.words
+  pub no_end : HasNoEndToken s.input
+  pub recorded : s.draft.recorded ≤ s.max_events
+  pub logged : IsLogged s.draft
+  pub errors : errors_of s.draft.items ≤ s.max_errors
+  -- a parser that was refused an event has recorded as many as it may
+  pub refused : s.first_reason ≡ Some TooManyEvents → s.draft.recorded ≡ s.max_events
+  -- one that was refused an error has recorded as many errors as it may, and fewer events
+  pub refused_error : s.first_reason ≡ Some TooManyErrors → (errors_of s.draft.items ≡ s.max_errors) × (s.draft.recorded < s.max_events)
+  -- holes aside
+  pub balanced : IsBalanced (plain s.draft.items)
+  pub over : IsOver (plain s.draft.items) s.input
+  pub behind : eaten (plain s.draft.items) ≤ s.position
+  -- the position is what the tokens of a parser that goes on have eaten
+  pub exact : HasNotFailed s → eaten (plain s.draft.items) ≡ s.position
+
+-- the input, the words and the limits stay, and so does a first reason to fail; no token is given back, and the parser is sound
 pub record Keeps (old new : State) : Type 0 where
   pub input : new.input ≡ old.input
   pub words : new.words ≡ old.words
@@ -75,6 +95,7 @@ pub record Keeps (old new : State) : Type 0 where
   pub max_events : new.max_events ≡ old.max_events
   pub max_errors : new.max_errors ≡ old.max_errors
   pub reason : IsSome old.first_reason → new.first_reason ≡ old.first_reason
+  pub sound : IsSound new
 
 -- Why a parser that has recorded so many events and errors, both within its limits, is refused one event more, which may be an error.
 -- The limit of events is tested first, then that of errors, and memory last.
@@ -107,22 +128,4 @@ HasNode s node = HasNotFailed s → Contains s.draft.items (Open node.id node.ki
 pub record Changes (old new : State) (edited : Draft) : Type 0 where
   pub goes : HasNotFailed old → new ≡ record old { draft = edited }
   pub stays : IsSome old.first_reason → new ≡ old
-
--- what every parser keeps, failed or not
-pub record IsSound (s : State) : Type 0 where
-  pub position : s.position ≤ s.limit
-  pub limit : s.limit ≤ length s.input
-  pub words : HasNoEnd s.words
-  pub recorded : s.draft.recorded ≤ s.max_events
-  pub logged : IsLogged s.draft
-  pub errors : errors_of s.draft.items ≤ s.max_errors
-  -- a parser that was refused an event has recorded as many as it may
-  pub refused : s.first_reason ≡ Some TooManyEvents → s.draft.recorded ≡ s.max_events
-  -- one that was refused an error has recorded as many errors as it may, and fewer events
-  pub refused_error : s.first_reason ≡ Some TooManyErrors → (errors_of s.draft.items ≡ s.max_errors) × (s.draft.recorded < s.max_events)
-  -- holes aside
-  pub balanced : IsBalanced (plain s.draft.items)
-  pub over : IsOver (plain s.draft.items) s.input
-  pub behind : eaten (plain s.draft.items) ≤ s.position
-  -- the position is what the tokens of a parser that goes on have eaten
-  pub exact : HasNotFailed s → eaten (plain s.draft.items) ≡ s.position
+  pub sound : IsSound new

@@ -6,7 +6,7 @@ use Rattle.std.proofs.lemmas.List.Elements.{All-contains_itself, All-weaker}
 use Rattle.std.proofs.lemmas.List.Sums.{fold-append}
 use Rattle.squawk_output.specs.Draft as draft
 use Rattle.squawk_output.specs.Draft.{HasNoHole, Item, Mark, errors_of, is_hole}
-use Rattle.squawk_parser.specs.State.{State, HasNotFailed, IsFresh, Keeps}
+use Rattle.squawk_parser.specs.State.{State, IsSound, HasNotFailed, IsFresh, Keeps}
 use Rattle.squawk_parser.specs.declared.parser.parse_error.ParseError.{ParseError}
 use Rattle.squawk_parser.specs.declared.parser.parse_error.ParseError.TheVariants.{OutOfMemory}
 use Rattle.squawk_parser.proofs.RecordedSteps.{Keeps-none, Keeps-then, went}
@@ -35,13 +35,13 @@ pub record Stands (start : State) (calls : List Call) (s : State) (slots : List 
   pub fails : FailsBy start (take i calls) s
 
 -- before the first call
-pub stands-begin : (start : State) (calls : List Call) → IsFresh start → Stands start calls start [] 0
-stands-begin start calls fresh = record {
+pub stands-begin : (start : State) (calls : List Call) → IsFresh start → IsSound start → Stands start calls start [] 0
+stands-begin start calls fresh sound = record {
   tied = record {
     holds = λ goes. subst (λ s. Holds s.draft.items []) (sym fresh) holds-begin;
     limit = ap (λ s. s.limit) fresh;
   };
-  keeps = Keeps-none start;
+  keeps = Keeps-none start sound;
   statuses = statuses-begin;
   at = λ goes. record {
     draft = sym (ap (λ s. s.draft) fresh);

@@ -8,7 +8,7 @@ use Rattle.squawk_parser.specs.Composites.{stands_at}
 use Rattle.squawk_parser.specs.Eaten.{eat_steps}
 use Rattle.squawk_parser.specs.LookAhead.{seen_from}
 use Rattle.squawk_parser.specs.Recorded.{Puts, items_for, with_steps}
-use Rattle.squawk_parser.specs.State.{State, ahead}
+use Rattle.squawk_parser.specs.State.{State, IsSound, Keeps, ahead}
 use Rattle.squawk_parser.proofs.RecordedSteps.{puts-none, went}
 use Rattle.squawk_parser.proofs.StepsAtEnd.{closed-items_for}
 use Rattle.squawk_script.specs.Events.{events_made}
@@ -56,7 +56,8 @@ puts-performs old new slots call tied puts stays leads makes =
 
 -- eating a kind puts its steps at the end where it stands, and nothing where it doesn't
 pub eat_puts : (old new : State) (kind : ℕ) (result : Bool) → result ≡ stands_at (has old.words.operator_first) kind (ahead old 0)
-    → (IsTrue result → Puts (eat_steps old.words kind (ahead old 0)) old new) → (IsTrue (not result) → new ≡ old) → Puts (call_steps old.words (ahead old 0) (calls.Eat kind)) old new
-eat_puts old new kind result at puts none =
+    → Keeps old new → (IsTrue result → Puts (eat_steps old.words kind (ahead old 0)) old new) → (IsTrue (not result) → new ≡ old)
+    → Puts (call_steps old.words (ahead old 0) (calls.Eat kind)) old new
+eat_puts old new kind result at keeps puts none =
     cond_both (stands_at (has old.words.operator_first) kind (ahead old 0)) (eat_steps old.words kind (ahead old 0)) [] (λ steps. Puts steps old new)
-    (λ e. puts (at ∙ e)) (λ e. subst (λ s. Puts [] old s) (sym (none (ap not (at ∙ e)))) (puts-none old))
+    (λ e. puts (at ∙ e)) (λ e. let same = none (ap not (at ∙ e)) in subst (λ s. Puts [] old s) (sym same) (puts-none old (subst IsSound same keeps.sound)))

@@ -5,7 +5,7 @@ ghost use Rattle.squawk_kinds.specs.TokenSets.{has};
 ghost use Rattle.squawk_output.specs.Draft.{HasNoHole};
 ghost use Rattle.squawk_parser.specs.Eaten.{recovery_steps};
 ghost use Rattle.squawk_parser.specs.Recorded.{Puts};
-ghost use Rattle.squawk_parser.specs.State.{HasNotFailed, IsFresh, Keeps, ahead};
+ghost use Rattle.squawk_parser.specs.State.{HasNotFailed, IsFresh, IsSound, Keeps, ahead};
 ghost use Rattle.squawk_script.specs.Accepted.{IsAccepted, makes_marker, markers_of};
 ghost use Rattle.squawk_script.specs.Events.{FailsByLimits, IsRunOf};
 ghost use Rattle.squawk_script.specs.Slots.{IsTied, Performs, is_admitted, statuses_of};
@@ -123,6 +123,7 @@ pub fn run_calls(
     p: &mut Parser<'_>,
 ) -> Result<(), AllocError>
     requires fresh { IsFresh p.old }
+    requires sound { IsSound p.old }
     requires accepted { IsAccepted calls.now }
     requires markers { markers ≡ markers_of calls.now }
     ensures keeps { Keeps p.old p.new }

@@ -32,10 +32,12 @@ impl Model for Input {
     ghost Value = { List Entry };
 
     ghost use Rattle.squawk_table.specs.InputView.{IsEven, entries_in};
+    ghost use Rattle.squawk_table.specs.ParserInput.{HasNoEndToken};
 
     ghost view = { λ input. entries_in input.kinds.items input.contextual_kinds.items input.joints };
 
-    ghost invariant = { λ input. IsEven input.kinds.items input.contextual_kinds.items input.joints };
+    ghost invariant = { λ input. IsEven input.kinds.items input.contextual_kinds.items input.joints
+        × HasNoEndToken (entries_in input.kinds.items input.contextual_kinds.items input.joints) };
 }
 
 impl Input {
@@ -50,9 +52,10 @@ impl Input {
         }
     }
 
-    /// How many tokens there are.
+    /// How many tokens there are. None of them is [`SyntaxKind::EOF`].
     pub fn len(&self) -> usize
-        ensures { result ≡ length self.now }
+        ensures len { result ≡ length self.now }
+        ensures no_end { HasNoEndToken self.now }
     {
         self.kinds.len()
     }
@@ -96,7 +99,6 @@ impl LexedStr<'_> {
         vocabulary: &V,
     ) -> Result<Input, AllocError>
         ensures input { IfOk result (λ input. input ≡ input_of (V.contextual_keyword vocabulary.now) self.now) }
-        ensures no_end { IfOk result HasNoEndToken }
         // So an output of a parse over it fits the table where it stands in one root.
         ensures over { IfOk result (λ input. (steps : List Step) → IsOver steps input → IsOver steps (input_of no_keywords self.now)) }
     {

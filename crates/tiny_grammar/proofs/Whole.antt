@@ -92,9 +92,9 @@ module _ {operator_kind : ℕ → Bool} {input : List Entry} {output : Walk} (ta
     over = IsOver-keywords k no_keywords output.steps (raw_tokens table) (subst (IsOver output.steps) is parse.over);
   }
 
-  pub tiny_whole : HasNoEndToken input → eaten output.steps ≡ length (input_of no_keywords table)
-  tiny_whole some =
-      let least = tiny-eaten operator_kind input some in
+  pub tiny_whole : eaten output.steps ≡ length (input_of no_keywords table)
+  tiny_whole =
+      let least = tiny-eaten operator_kind input parse.no_end in
       let same = ap eaten (parse.steps ∙ parse.left.items) in
       let most = eaten-le output.steps input parse.over in
       let len : length input ≡ length (input_of no_keywords table) = ap length is ∙ length-keywords k no_keywords (raw_tokens table) in

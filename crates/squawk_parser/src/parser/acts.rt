@@ -22,10 +22,11 @@ impl Parser<'_> {
         ensures begins { Begins result self.old self.new }
         ensures hole { HasHole self.new result }
     {
-        let id = self.log.next_id();
+        let id = self.next_id();
         if self.has_room() {
             note(&mut self.first_reason, self.log.start());
         }
+        self.witness_sound();
         let made = Made::ByStart;
         Marker { id, made }
     }
@@ -38,6 +39,7 @@ impl Parser<'_> {
         ensures position { kind_at self.old 0 ≢ EOF → self.new.position ≡ self.old.position + 1 }
     {
         let kind = self.current();
+        self.witness_sound();
         if kind == SyntaxKind::EOF {
             return;
         }
@@ -50,6 +52,7 @@ impl Parser<'_> {
         ensures end { kind_at self.old 0 ≡ EOF → self.new ≡ self.old }
         ensures position { kind_at self.old 0 ≢ EOF → self.new.position ≡ self.old.position + 1 }
     {
+        self.witness_sound();
         if self.current() != SyntaxKind::EOF {
             self.do_bump(kind, 1);
         }

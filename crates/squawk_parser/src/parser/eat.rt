@@ -7,7 +7,7 @@ ghost use Rattle.squawk_parser.specs.CompositeRows.{element_of, tail_of};
 ghost use Rattle.squawk_parser.specs.Composites.{ClosedBy, HasNoEndKind, NoTail, Operator, do_touch, normal_form, sequence_length, stands_at};
 ghost use Rattle.squawk_parser.specs.Eaten.{EatsWith, closing_steps, eat_steps, element_steps, expect_steps, form_steps, name_in, node, one, tail_of_kind};
 ghost use Rattle.squawk_parser.specs.Recorded.{Puts};
-ghost use Rattle.squawk_parser.specs.State.{Keeps, ahead};
+ghost use Rattle.squawk_parser.specs.State.{IsSound, Keeps, ahead};
 
 use crate::parser::Parser;
 use crate::parser::composite::{Form, Parts, Tail, composite};
@@ -30,6 +30,7 @@ impl Parser<'_> {
         ensures eats { IsTrue result → self.old.position < self.new.position }
         ensures none { IsTrue (not result) → self.new ≡ self.old }
     {
+        self.witness_sound();
         if !self.at(kind) {
             return false;
         }
@@ -59,6 +60,7 @@ impl Parser<'_> {
         ensures forward { IsTrue result → self.old.position < self.new.position }
         ensures none { IsTrue (not result) → self.new ≡ self.old }
     {
+        self.witness_sound();
         if !self.at(kind) {
             return false;
         }
@@ -71,15 +73,10 @@ impl Parser<'_> {
         else {
             unreachable!();
         };
-        // Each look at a field shows the proof that the parser is sound there.
         let node = self.start();
-        let _ = &self.limit;
         self.eat_elements(&parts);
-        let _ = &self.limit;
         tail.run(self);
-        let _ = &self.limit;
         self.close(closing);
-        let _ = &self.limit;
         node.complete(self, kind);
         true
     }
@@ -120,7 +117,8 @@ impl Parser<'_> {
 
     /// Expects what closes a tail, if something does.
     fn close(&mut self, tail: Tail)
-        requires { (kind : ℕ) → tail_of tail ≡ ClosedBy kind → kind ≡ R_PAREN }
+        requires sound { IsSound self.old }
+        requires closed { (kind : ℕ) → tail_of tail ≡ ClosedBy kind → kind ≡ R_PAREN }
         ensures { Puts (closing_steps self.old.words (tail_of tail) (ahead self.old 0)) self.old self.new }
     {
         match tail {
@@ -161,6 +159,7 @@ impl Parser<'_> {
 
     /// Eats the elements of a sequence that stands at the position.
     fn eat_elements(&mut self, parts: &Parts)
+        requires sound { IsSound self.old }
         requires no_end { HasNoEndKind parts.now }
         requires stands { IsSome (sequence_length (map element_of parts.now) (ahead self.old 0)) }
         ensures { Puts (element_steps (map element_of parts.now) (ahead self.old 0)) self.old self.new }
@@ -176,6 +175,7 @@ impl Parser<'_> {
 
     /// Eats a normal form of Unicode, if its keyword stands at the position.
     fn eat_normal_form(&mut self)
+        requires { IsSound self.old }
         ensures { Puts (element_steps (normal_form ∷ []) (ahead self.old 0)) self.old self.new }
     {
         if is_normal_form(self.current()) {

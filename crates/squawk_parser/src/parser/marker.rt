@@ -60,6 +60,7 @@ impl Marker {
         if p.has_room() {
             note(&mut p.first_reason, p.log.complete(id, kind));
         }
+        p.witness_sound();
         CompletedMarker { id, kind }
     }
 
@@ -75,6 +76,7 @@ impl Marker {
         if p.first_reason.is_none() {
             p.log.abandon(id, made);
         }
+        p.witness_sound();
     }
 
     /// Whether the marker was started before the node's. Of markers that a failed parser gave nothing
@@ -98,10 +100,11 @@ impl CompletedMarker {
         ensures hole { HasHole p.new result }
     {
         let CompletedMarker { id: node, kind } = self;
-        let id = p.log.next_id();
+        let id = p.next_id();
         if p.has_room() {
             note(&mut p.first_reason, p.log.precede(node, kind));
         }
+        p.witness_sound();
         let made = Made::ByPrecede;
         Marker { id, made }
     }
@@ -125,6 +128,7 @@ impl CompletedMarker {
         if p.first_reason.is_none() {
             p.log.extend(node, id);
         }
+        p.witness_sound();
         CompletedMarker { id: node, kind }
     }
 

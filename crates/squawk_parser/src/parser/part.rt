@@ -11,7 +11,7 @@ use crate::parser::Parser;
 pub trait Part: Sized {
     ghost use Rattle.std.specs.Prelude.{◌≡◌};
     ghost use Rattle.squawk_output.specs.Draft.{holes_of};
-    ghost use Rattle.squawk_parser.specs.State.{State, HasNotFailed, Keeps};
+    ghost use Rattle.squawk_parser.specs.State.{State, HasNotFailed, IsSound, Keeps};
 
     /// What a run answers.
     type Answer;
@@ -21,6 +21,8 @@ pub trait Part: Sized {
 
     /// Runs the part.
     fn run(self, p: &mut Parser<'_>) -> Self::Answer
+        // What every parser keeps.
+        requires { IsSound p.old }
         ensures keeps { Keeps p.old p.new }
         ensures holes { HasNotFailed p.new → holes_of p.new.draft.items ≡ holes_of p.old.draft.items }
         ensures does { does self p.old p.new result };
@@ -36,8 +38,10 @@ impl Parser<'_> {
     {
         let limit = self.limit;
         self.limit = limit.min(self.position.saturating_add(n));
+        self.witness_sound();
         let answer = f.run(self);
         self.limit = limit;
+        self.witness_sound();
         answer
     }
 }

@@ -6,7 +6,7 @@ ghost use Rattle.squawk_output.specs.Steps.{Error};
 ghost use Rattle.squawk_output.specs.Draft.{errors_of};
 ghost use Rattle.squawk_output.specs.Edits.{with_token};
 ghost use Rattle.squawk_parser.specs.Recorded.{Puts};
-ghost use Rattle.squawk_parser.specs.State.{HasNotFailed, Keeps, Records, ahead};
+ghost use Rattle.squawk_parser.specs.State.{HasNotFailed, IsSound, Keeps, Records, ahead};
 ghost use Rattle.squawk_parser.specs.declared.parser.parse_error.ParseError.TheVariants.{OutOfMemory, TooManyEvents};
 
 use crate::parser::Parser;
@@ -26,6 +26,15 @@ pub(super) fn note(first_reason: &mut Option<ParseError>, grown: Result<(), Allo
 }
 
 impl Parser<'_> {
+    /// The id of the next marker: how many entries the log has.
+    #[inline(always)]
+    pub(super) fn next_id(&self) -> u32
+        ensures id { result ≡ self.now.draft.entries }
+        ensures sound { IsSound self.now }
+    {
+        self.log.next_id()
+    }
+
     /// Eats the next `n` tokens of the input, which touch one another, as one token of this kind.
     #[inline(always)]
     pub(super) fn do_bump(&mut self, kind: SyntaxKind, n_input_tokens: u8)
@@ -38,6 +47,7 @@ impl Parser<'_> {
             note(&mut self.first_reason, self.log.token(kind, n_input_tokens));
         }
         self.position += n_input_tokens as usize;
+        self.witness_sound();
     }
 
     /// Records an error, if memory was found for its text.
@@ -85,6 +95,7 @@ impl Parser<'_> {
         }
         if self.log.errors() == self.limits.errors {
             self.first_reason = Some(ParseError::TooManyErrors);
+            self.witness_sound();
             return false;
         }
         true

@@ -6,7 +6,7 @@ ghost use Rattle.squawk_parser.specs.LookAhead.{seen_from};
 ghost use Rattle.squawk_parser.specs.Operators.{operator_length};
 ghost use Rattle.squawk_parser.specs.OperatorRuns.{AreRunsOf};
 ghost use Rattle.squawk_parser.specs.declared.parser.tokens.operator_runs.OperatorRuns.{OperatorRuns};
-ghost use Rattle.squawk_table.specs.ParserInput.{kind_in, contextual_kind_in, touches_in};
+ghost use Rattle.squawk_table.specs.ParserInput.{HasNoEndToken, kind_in, contextual_kind_in, touches_in};
 
 mod operator_runs;
 
@@ -43,7 +43,8 @@ impl<'t> Tokens<'t> {
 
     /// How many tokens there are.
     pub(super) fn len(&self) -> usize
-        ensures { result ≡ length self.now.input.now }
+        ensures len { result ≡ length self.now.input.now }
+        ensures no_end { HasNoEndToken self.now.input.now }
     {
         self.input.len()
     }

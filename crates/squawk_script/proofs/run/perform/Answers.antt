@@ -7,7 +7,7 @@ pub returns-in-Eat-clause-performs : goal.returns-in-Eat-clause-performs
 returns-in-Eat-clause-performs c =
     rw c.in-Eat.is
     (puts-performs _ _ _ (Eat c.in-Eat.kind) c.requires.tied
-    (eat_puts _ _ c.in-Eat.kind c.eat.result c.eat.ensures.at c.eat.ensures.puts c.eat.ensures.none) refl (λ run. refl) (λ tokens. refl))
+    (eat_puts _ _ c.in-Eat.kind c.eat.result c.eat.ensures.at c.eat.ensures.keeps c.eat.ensures.puts c.eat.ensures.none) refl (λ run. refl) (λ tokens. refl))
 
 pub returns-in-BumpAny-clause-performs : goal.returns-in-BumpAny-clause-performs
 returns-in-BumpAny-clause-performs c =

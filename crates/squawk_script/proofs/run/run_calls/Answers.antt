@@ -4,7 +4,7 @@ use Rattle.squawk_script.proofs.run.run_calls.Goals as goal
 
 pub loop-call-init : goal.loop-call-init
 loop-call-init c =
-    let begin = stands-begin c.args.p.now c.args.calls.now c.requires.fresh in
+    let begin = stands-begin c.args.p.now c.args.calls.now c.requires.fresh c.requires.sound in
     (subst (λ slots. Stands c.args.p.now c.args.calls.now c.args.p.now slots 0) (sym c.in_ok-slots.ensures.items) begin, c.in_ok-slots.ensures.exact ∙ c.requires.markers)
 
 pub loop-call-preserved : goal.loop-call-preserved

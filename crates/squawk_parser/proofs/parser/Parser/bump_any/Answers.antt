@@ -11,7 +11,7 @@ use Rattle.squawk_parser.proofs.parser.Parser.bump_any.Goals as goal
 pub returns-then-eq-clause-puts : goal.returns-then-eq-clause-puts
 returns-then-eq-clause-puts c =
     let end : kind_at c.args.self.now 0 ≡ EOF = grind arith in
-    current-none _ end
+    current-none _ c.witness_sound.ensures end
 
 pub returns-clause-puts : goal.returns-clause-puts
 returns-clause-puts c =

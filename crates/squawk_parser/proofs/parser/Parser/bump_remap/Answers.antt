@@ -14,4 +14,4 @@ returns-then-ne-clause-puts c =
 pub returns-else-ne-clause-puts : goal.returns-else-ne-clause-puts
 returns-else-ne-clause-puts c =
     let end : kind_at c.args.self.now 0 ≡ EOF = grind arith in
-    current-none _ end
+    current-none _ c.witness_sound.ensures end

@@ -29,4 +29,4 @@ pub returns-else-is_normal_form : goal.returns-else-is_normal_form
 returns-else-is_normal_form c =
     let old = c.args.self.now in
     let is = c.current.ensures ∙ kind_at-first old in
-    subst (λ steps. Puts steps old old) (sym (normal_form-left_out (ahead old 0) c.current.result is (sym c.is_normal_form.ensures ∙ c.if-is_normal_form.false))) (puts-none old)
+    subst (λ steps. Puts steps old old) (sym (normal_form-left_out (ahead old 0) c.current.result is (sym c.is_normal_form.ensures ∙ c.if-is_normal_form.false))) (puts-none old c.requires)

@@ -2,7 +2,7 @@ use Rattle.std.proofs.Common.{◌∙◌, ap, refl, sym, subst, Some}
 use Rattle.squawk_parser.specs.CompositeRows.{tail_of}
 use Rattle.squawk_parser.specs.Eaten.{closing_steps, element_steps}
 use Rattle.squawk_parser.specs.Recorded.{Completes, Puts}
-use Rattle.squawk_parser.specs.State.{IsSound, ahead}
+use Rattle.squawk_parser.specs.State.{ahead}
 use Rattle.squawk_parser.specs.declared.parser.composite.Form.TheVariants as form
 use Rattle.squawk_parser.proofs.CompositeFacts.{elements-row, is_row, sequence-closed, sequence-no_end, tail-row}
 use Rattle.squawk_parser.proofs.Markers.{hole-put}
@@ -15,8 +15,8 @@ eat_elements-requires-clause-no_end g c =
     let r = is_row c.args.kind c.composite.result (form.Sequence row.parts row.closing) (row.is ∙ ap Some row.field-0-is) c.composite.ensures in
     sequence-no_end c.args.kind row.parts (tail_of row.closing) r
 
-pub close-requires : goal.close-requires
-close-requires g c =
+pub close-requires-clause-closed : goal.close-requires-clause-closed
+close-requires-clause-closed g c =
     let row = c.in-Some-Sequence in
     let r = is_row c.args.kind c.composite.result (form.Sequence row.parts row.closing) (row.is ∙ ap Some row.field-0-is) c.composite.ensures in
     sequence-closed c.args.kind row.parts (tail_of row.closing) r
@@ -36,19 +36,15 @@ returns-clause-eats g c _ =
     let r = is_row c.args.kind c.composite.result (form.Sequence row.parts row.closing) (row.is ∙ ap Some row.field-0-is) c.composite.ensures in
     record {
       between = begun;
-      sound = subst IsSound c.self.view_is c.self.invariant;
       does_so = record { sound = begins.sound; is = refl; keeps = begins.keeps; position = begins.position; records = begins.records };
       goes_on = record {
         between = c.eat_elements.new.self;
-        sound = subst IsSound c.self-2.view_is c.self-2.invariant;
         does_so = subst (λ steps. Puts steps begun c.eat_elements.new.self) (ap (λ elements. element_steps elements (ahead begun 0)) (sym (elements-row r))) c.eat_elements.ensures;
         goes_on = record {
           between = ran;
-          sound = subst IsSound c.self-3.view_is c.self-3.invariant;
           does_so = record { keeps = c.run.ensures.keeps; runs = c.run.ensures.does; holes = c.run.ensures.holes };
           goes_on = record {
             between = c.close.new.self;
-            sound = subst IsSound c.self-4.view_is c.self-4.invariant;
             does_so = subst (λ steps. Puts steps ran c.close.new.self) (ap (λ tail. closing_steps ran.words tail (ahead ran 0)) (sym (tail-row r))) c.close.ensures;
             goes_on = subst (λ id. Completes id c.args.kind c.close.new.self c.complete.new.p) (ap (λ m. m.id) begins.is) c.complete.ensures.completes;
           };

@@ -17,4 +17,4 @@ returns-then-errors-self-clause-full c =
     let room = c.if-not-has_room.ensures.room refl in
     let same : s ≡ old = c.self.view_is ∙ room.0 in
     let full : errors_of s.draft.items ≡ s.max_errors = sym c.errors.ensures ∙ c.if-errors-self.true in
-    λ _ msg. Puts-refused s old msg TooManyErrors same room.1 (refl, cc, room.2)
+    λ _ msg. Puts-refused s old msg TooManyErrors same room.1 (refl, cc, room.2) c.witness_sound.ensures

@@ -16,7 +16,7 @@ use Rattle.squawk_parser.proofs.parser.Parser.put_error.Goals as goal
 pub returns-in-Err : goal.returns-in-Err
 returns-in-Err c =
     λ msg _. rw (c.note.ensures.err refl)
-    (Puts-refused (seen c.self.inside) c.args.self.now msg OutOfMemory c.self.view_is c.requires.goes (c.requires.room, omega (arith, c.requires.errors), λ _. c.requires.errors))
+    (Puts-refused (seen c.self.inside) c.args.self.now msg OutOfMemory c.self.view_is c.requires.goes (c.requires.room, omega (arith, c.requires.errors), λ _. c.requires.errors) (IsSound-failed (seen c.self.inside) c.self.invariant))
 
 pub invariant_of-self-2 : goal.invariant_of-self-2
 invariant_of-self-2 c =
@@ -36,7 +36,10 @@ returns c msg is =
     let old = c.args.self.now in
     let text = c.new-text.result in
     let same : text ≡ msg = c.new-text.ensures ∙ subst (λ t. IfOk t (λ s. chars (string_bytes s) ≡ msg)) c.in-Ok.is is in
-    let refused = Puts-refused s old msg OutOfMemory c.self.view_is c.requires.goes (c.requires.room, omega (arith, c.requires.errors), λ _. c.requires.errors) in
-    let put = subst (λ m. Puts (Error m ∷ []) old (record s { draft = with_error s.draft text })) same (Puts-error s old text c.self.view_is c.requires.goes) in
+    let refused = Puts-refused s old msg OutOfMemory c.self.view_is c.requires.goes (c.requires.room, omega (arith, c.requires.errors), λ _. c.requires.errors) (IsSound-failed s c.self.invariant) in
+    let can = has_room s old c.self.view_is (c.requires.goes, c.requires.room) in
+    let errors = errors_room s old c.self.view_is c.requires.errors in
+    let sound = IsSound-with_error s c.self.invariant can.goes text can.room errors in
+    let put : IsLogged (with_error s.draft text) → Puts (Error msg ∷ []) old (record s { draft = with_error s.draft text }) = λ logged. subst (λ m. Puts (Error m ∷ []) old (record s { draft = with_error s.draft text })) same (Puts-error s old text c.self.view_is c.requires.goes (sound logged)) in
     noted IsLogged (λ draft reason. Puts (Error msg ∷ []) old (record s { draft = draft; first_reason = reason })) s (with_error s.draft text) c.error.new.self
-    c.note-2.new.first_reason c.error.result c.error.ensures.logged (λ logged. put) refused c.error.ensures.ok c.error.ensures.err c.note-2.ensures.ok c.note-2.ensures.err
+    c.note-2.new.first_reason c.error.result c.error.ensures.logged put refused c.error.ensures.ok c.error.ensures.err c.note-2.ensures.ok c.note-2.ensures.err

@@ -9,10 +9,10 @@ use Rattle.squawk_parser.proofs.parser.Parser.start.Goals as goal
 
 pub invariant_of-self : goal.invariant_of-self
 invariant_of-self c =
-    let s = seen c.self-2.inside in
+    let s = seen c.self.inside in
     let room = c.if-has_room.ensures.room refl in
-    let same : s ≡ c.args.self.now = c.self-2.view_is ∙ room.0 in
+    let same : s ≡ c.args.self.now = c.self.view_is ∙ room.0 in
     let can = has_room s c.args.self.now same (room.1, room.2) in
-    let before = c.self-2.invariant in
+    let before = c.self.invariant in
     noted IsLogged (λ draft reason. IsSound (record s { draft = draft; first_reason = reason })) s (started s.draft) c.start.new.self c.note.new.first_reason c.start.result
     c.start.ensures.logged (IsSound-started s before can.goes can.room) (IsSound-failed s before) c.start.ensures.ok c.start.ensures.err c.note.ensures.ok c.note.ensures.err

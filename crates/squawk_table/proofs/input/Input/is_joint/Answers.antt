@@ -6,7 +6,7 @@ use Rattle.squawk_table.proofs.input.Input.is_joint.Goals as goal
 pub get-requires : goal.get-requires
 get-requires c =
     let all = length-entries_in c.self.inside.kinds.items c.self.inside.contextual_kinds.items c.self.inside.joints in
-    omega (arith, all, ap length c.self.view_is, c.requires, c.self.invariant.joint)
+    omega (arith, all, ap length c.self.view_is, c.requires, c.self.invariant.0.joint)
 
 pub returns : goal.returns
 returns c =

@@ -7,6 +7,8 @@ use Rattle.squawk_table.specs.Shape.{IsOver, no_keywords}
 use Rattle.squawk_table.proofs.InputSoFar.{within_next, unset_next, entries_next, entries_end, followed_at}
 use Rattle.squawk_table.proofs.NoEnd.{input-no_end}
 use Rattle.squawk_table.proofs.OverTable.{IsOver-keywords}
+use Rattle.std.proofs.lemmas.List.{length-take}
+use Rattle.squawk_table.proofs.lexed_str.LexedStr.to_input.Given.{Over}
 use Rattle.squawk_table.proofs.lexed_str.LexedStr.to_input.Goals as goal
 
 pub loop-i-preserved : goal.loop-i-preserved
@@ -37,17 +39,33 @@ loop-i-preserved g c =
       unset = rw c.set.ensures (λ k le. unset_next loop.joints loop.last loop.was_token _ in_joints before.unset k (subst (λ n. n ≤ k) before.next le));
     }
 
+-- what was written is the input of the table
+written : (g : Over) (c : goal.After-truncate-3 g) → let loop = c.loop-i in
+    entries_in (take loop.count loop.kinds.items) (take loop.count loop.contextual_kinds.items) (take loop.count loop.joints)
+    ≡ input_of (g.V.Vocabulary.contextual_keyword c.args.vocabulary.now) c.args.self.now
+written g c =
+    let loop = c.loop-i in
+    entries_end (g.V.Vocabulary.contextual_keyword c.args.vocabulary.now) c.args.self.now loop.i loop.kinds.items loop.contextual_kinds.items loop.joints _ loop.count loop.last loop.was_token (omega arith)
+    (loop.invariant.unset loop.last (omega arith)) loop.invariant.done
+
+pub invariant_of-result : goal.invariant_of-result
+invariant_of-result g c =
+    let loop = c.loop-i in
+    let before = loop.invariant in
+    rw (c.truncate.ensures.items, c.truncate-2.ensures.items, c.truncate-3.ensures) (
+      record {
+        contextual = omega (arith, length-take loop.count loop.contextual_kinds.items, length-take loop.count loop.kinds.items, before.kinds, before.contextual_kinds);
+        joint = omega (arith, length-take loop.count loop.joints, length-take loop.count loop.kinds.items, before.kinds, before.joints);
+      },
+      subst HasNoEndToken (sym (written g c)) (input-no_end (g.V.Vocabulary.contextual_keyword c.args.vocabulary.now) c.args.self.now c.len-len.ensures.table.no_end),
+    )
+
 pub returns : goal.returns
 returns g c =
-    let contextual = g.V.Vocabulary.contextual_keyword c.args.vocabulary.now in
     let t = c.args.self.now in
-    let loop = c.loop-i in
-    let made = entries_in (take loop.count loop.kinds.items) (take loop.count loop.contextual_kinds.items) (take loop.count loop.joints) in
-    let all : made ≡ input_of contextual t =
-    entries_end contextual t loop.i loop.kinds.items loop.contextual_kinds.items loop.joints _ loop.count loop.last loop.was_token (omega arith) (loop.invariant.unset loop.last (omega arith)) loop.invariant.done in
+    let all = written g c in
     rw (c.truncate.ensures.items, c.truncate-2.ensures.items, c.truncate-3.ensures)
     (record {
       input = all;
-      no_end = subst HasNoEndToken (sym all) (input-no_end contextual t c.len-len.ensures.table.no_end);
-      over = λ steps over. IsOver-keywords contextual no_keywords steps (raw_tokens t) (subst (IsOver steps) all over);
+      over = λ steps over. IsOver-keywords (g.V.Vocabulary.contextual_keyword c.args.vocabulary.now) no_keywords steps (raw_tokens t) (subst (IsOver steps) all over);
     })

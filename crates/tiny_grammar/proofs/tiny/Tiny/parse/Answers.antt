@@ -31,4 +31,4 @@ returns-clause-whole g c =
     let input = c.in_ok-input.input in
     let k = g.V.Vocabulary.contextual_keyword c.args.vocabulary.now in
     IfOk-weaker c.parse.result (IsParse (IsTiny (has c.args.self.now) input) input) (λ o. eaten o.steps ≡ length (input_of no_keywords c.args.table.now))
-    (λ o p. tiny_whole c.args.table.now k c.in_ok-input.ensures.input p c.in_ok-input.ensures.no_end) c.parse.ensures.output
+    (λ o p. tiny_whole c.args.table.now k c.in_ok-input.ensures.input p) c.parse.ensures.output

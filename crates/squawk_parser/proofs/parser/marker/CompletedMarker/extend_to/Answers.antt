@@ -39,8 +39,8 @@ returns-clause-changes c =
           let there = subst (λ t. Has t (record { id = c.self.inside.id; kind = c.self.inside.kind })) (sym c.p.view_is)
           (subst (Has c.args.p.now) (sym c.self.view_is) (c.requires.node (subst HasNotFailed c.p.view_is goes))) in
           Changes-edited c.args.p.now s c.if-is_none.p edited c.p.view_is goes
-          (w.p-is ∙ ap {A = Draft} (λ d. record s { draft = d }) (w.extend.ensures.extended c.self.inside.kind there ∙ same))
-      | else-is_none w ↦ Changes-failed c.args.p.now s c.if-is_none.p edited c.p.view_is (w.if-is_none.ensures) w.p-is
+          (w.p-is ∙ ap {A = Draft} (λ d. record s { draft = d }) (w.extend.ensures.extended c.self.inside.kind there ∙ same)) c.witness_sound.ensures
+      | else-is_none w ↦ Changes-failed c.args.p.now s c.if-is_none.p edited c.p.view_is (w.if-is_none.ensures) w.p-is c.witness_sound.ensures
     ]
 
 pub returns-clause-at_hand : goal.returns-clause-at_hand

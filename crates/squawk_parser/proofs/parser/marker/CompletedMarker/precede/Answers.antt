@@ -3,8 +3,8 @@ use Rattle.std.specs.Prelude.{true, Contains}
 use Rattle.squawk_output.specs.Draft.{IsLogged, Mark, Node, Open}
 use Rattle.squawk_output.specs.declared.log.Made.TheVariants.{ByPrecede}
 use Rattle.squawk_output.specs.Edits.{preceded}
-use Rattle.squawk_parser.specs.Recorded.{Precedes}
-use Rattle.squawk_parser.specs.State.{State, HasHole, HasNode, IsSound}
+use Rattle.squawk_parser.specs.Recorded.{preceding_mark}
+use Rattle.squawk_parser.specs.State.{State, HasHole, HasNode, IsSound, Records}
 use Rattle.squawk_parser.proofs.Noted.{noted}
 use Rattle.squawk_parser.proofs.Soundness.{IsSound-failed, IsSound-preceded}
 use Rattle.squawk_parser.proofs.ParserViews.{seen, has_room}
@@ -13,23 +13,24 @@ use Rattle.squawk_parser.proofs.parser.marker.CompletedMarker.precede.Goals as g
 
 pub invariant_of-p : goal.invariant_of-p
 invariant_of-p c =
-    let s = seen c.p-2.inside in
+    let s = seen c.p.inside in
     let room = c.if-has_room.ensures.room refl in
-    let same : s ≡ c.args.p.now = c.p-2.view_is ∙ room.0 in
+    let same : s ≡ c.args.p.now = c.p.view_is ∙ room.0 in
     let can = has_room s c.args.p.now same (room.1, room.2) in
     let node : Node = record { id = c.self.inside.id; kind = c.self.inside.kind } in
     let Has : State → Node → Type 0 = λ t m. Contains t.draft.items (Open m.id m.kind true) in
     let there = subst (λ t. Has t node) (sym same) (subst (Has c.args.p.now) (sym c.self.view_is) (c.requires room.1)) in
-    let before = c.p-2.invariant in
+    let before = c.p.invariant in
     noted IsLogged (λ draft reason. IsSound (record s { draft = draft; first_reason = reason })) s (preceded s.draft node.id) c.precede.new.self c.note.new.first_reason
     c.precede.result c.precede.ensures.logged (IsSound-preceded s before can.goes node.id node.kind can.room there) (IsSound-failed s before)
     c.precede.ensures.ok c.precede.ensures.err c.note.ensures.ok c.note.ensures.err
 
+pub returns-clause-precedes : goal.returns-clause-precedes
+returns-clause-precedes c = search rules
+
 pub returns-clause-hole : goal.returns-clause-hole
 returns-clause-hole c =
     let old = c.args.p.now in
-    let node : Node = record { id = c.self.inside.id; kind = c.self.inside.kind } in
-    let there : HasNode old node = subst (HasNode old) (sym c.self.view_is) c.requires in
-    let m : Mark = record { id = c.next_id-id.result; made = ByPrecede } in
-    let precedes : Precedes node m old c.if-has_room.p = search rules in
-    subst (HasHole c.if-has_room.p) (sym precedes.is) (hole-preceded node precedes.sound.logged.once there precedes.records)
+    let there : HasNode old c.args.self = c.requires in
+    let precedes = returns-clause-precedes c in
+    subst (HasHole c.if-has_room.p) (sym precedes.is) (hole-preceded c.args.self precedes.sound.logged.once there precedes.records)

@@ -11,9 +11,9 @@ loop-place-init c =
     let input = c.args.input.now in
     let zeros : c.in_ok-ends.ends.items ≡ replicate c.len-len.result 0 = c.in_ok-ends.ensures.items_if_clones_equal (λ y same. same) in
     record {
-      end = rw c.len-len.ensures (sym (end_of-limit operator_kind input));
-      within = omega (arith, c.len-len.ensures);
-      ends = record { count = ap length zeros ∙ (length-replicate c.len-len.result 0 ∙ c.len-len.ensures); at = λ k from to. absurd (omega (arith, c.len-len.ensures)) };
+      end = rw c.len-len.ensures.len (sym (end_of-limit operator_kind input));
+      within = omega (arith, c.len-len.ensures.len);
+      ends = record { count = ap length zeros ∙ (length-replicate c.len-len.result 0 ∙ c.len-len.ensures.len); at = λ k from to. absurd (omega (arith, c.len-len.ensures.len)) };
     }
 
 -- the end does not come to lie past the input
@@ -21,8 +21,8 @@ within_here : (c : Joined-not-contains) → c.if-not-contains.end ≤ length c.a
 within_here c =
     let before = c.loop-place.invariant.within in
     elim c.if-not-contains.branch [
-      | then-not-contains w ↦ omega (arith, w.end-is, c.len-len.ensures, c.loop-place-test.true)
-      | else-not-contains+then-not-is_joint w ↦ omega (arith, w.end-is, c.len-len.ensures, c.loop-place-test.true)
+      | then-not-contains w ↦ omega (arith, w.end-is, c.len-len.ensures.len, c.loop-place-test.true)
+      | else-not-contains+then-not-is_joint w ↦ omega (arith, w.end-is, c.len-len.ensures.len, c.loop-place-test.true)
       | else-not-contains+else-not-is_joint w ↦ omega (arith, w.end-is, before)
     ]
 
@@ -36,7 +36,7 @@ end_here c =
     let input = c.args.input.now in
     let place = c.loop-place.place - 1 in
     let before = c.loop-place.invariant in
-    let below : place < length input = omega (arith, c.loop-place-test.true, c.len-len.ensures) in
+    let below : place < length input = omega (arith, c.loop-place-test.true, c.len-len.ensures.len) in
     let next : suc place ≡ c.loop-place.place = omega (arith, c.loop-place-test.true) in
     let kind = sym (ap operator_kind c.kind.ensures) ∙ sym c.contains.ensures in
     elim c.if-not-contains.branch [
@@ -58,7 +58,7 @@ loop-place-preserved c =
     record {
       end = end;
       within = within_here (goal.at.loop-place-preserved c).Joined-not-contains;
-      ends = ends_more operator_kind input place c.loop-place.ends.items c.if-not-contains.end (omega (arith, c.loop-place-test.true, c.len-len.ensures))
+      ends = ends_more operator_kind input place c.loop-place.ends.items c.if-not-contains.end (omega (arith, c.loop-place-test.true, c.len-len.ensures.len))
           (subst (λ from. AreEndsFrom operator_kind input from c.loop-place.ends.items) next c.loop-place.invariant.ends) end;
     }
 
