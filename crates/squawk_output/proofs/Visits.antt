@@ -1,5 +1,5 @@
 -- One event visited.
-use Rattle.std.proofs.Common.{◌≡◌, ◌∙◌, ℕ, zero, suc, ◌+◌, ◌*◌, ◌^◌, ◌<◌, false, Some, None, Option, List, [], ◌∷◌, ◌++◌, length, get_or, set, drop, refl, sym, ap, arith, append_assoc, add-one}
+use Rattle.std.proofs.Common.{◌≡◌, ◌∙◌, ℕ, zero, suc, ◌+◌, ◌*◌, ◌^◌, ◌<◌, false, Some, None, Option, List, [], ◌∷◌, ◌++◌, length, get_or, drop, refl, sym, ap, arith, append_assoc, add-one}
 use Rattle.std.proofs.Math.Seq.{drop-cons}
 use Rattle.squawk_output.specs.Steps.{Passed}
 use Rattle.squawk_output.specs.declared.event.Event.{Event}
@@ -110,11 +110,6 @@ module _ (log : Log) (place : ℕ) (d : Event) (within : place < length log) (li
 entered-None : (log : Log) → entered None log ≡ []
 entered-None [] = refl
 entered-None (x ∷ xs) = refl
-
-pub drop-set : (log : Log) (place : ℕ) (event : Event) → drop (suc place) (set log place event) ≡ drop (suc place) log
-drop-set [] place event = refl
-drop-set (x ∷ xs) zero event = refl
-drop-set (x ∷ xs) (suc n) event = drop-set xs n event
 
 -- what the code finds at a place begins the rest of the log
 pub begins-with : (log : Log) (place : ℕ) (x d event : Event) → place < length log → x ≡ get_or log place d → x ≡ event

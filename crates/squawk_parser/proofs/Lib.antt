@@ -24,7 +24,6 @@ pub mod OneToken
 pub mod PlainKinds
 pub mod RefusedError
 pub mod EatenParts
-pub mod EatenWithTail
 pub mod EatenOperator
 pub mod SeenTokens
 pub mod SeenSteps

@@ -8,7 +8,6 @@ use Rattle.squawk_output.specs.Draft.{Draft, nothing, Hole, IsLogged, Open, Mark
 use Rattle.squawk_output.specs.Steps.{eaten}
 use Rattle.squawk_table.specs.Shape.{IsOver}
 use Rattle.squawk_output.specs.OneRoot.{IsBalanced}
-use Rattle.squawk_parser.specs.declared.parser.limits.Limits.{Limits}
 use Rattle.squawk_parser.specs.declared.parser.parse_error.ParseError.{ParseError}
 use Rattle.squawk_parser.specs.declared.parser.parse_error.ParseError.TheVariants.{OutOfMemory, TooManyEvents, TooManyErrors}
 
@@ -29,10 +28,6 @@ pub record State : Type 0 where
   pub max_errors : ℕ
   -- why the parser failed, if it did
   pub first_reason : Option ParseError
-
--- the limits of how many events and how many errors it may record
-abbrev pub limits_of : State → Limits
-limits_of s = record { events = s.max_events; errors = s.max_errors }
 
 -- the parser has not failed
 abbrev pub HasNotFailed : State → Type 0
