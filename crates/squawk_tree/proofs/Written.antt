@@ -3,8 +3,9 @@ use Rattle.std.proofs.Common.{◌≡◌, ◌∙◌, ℕ, suc, ◌<◌, ◌==◌,
 use Rattle.std.specs.Prelude.{Result, Ok, Err, OnOk, is_ok, if◌then◌else◌}
 use Rattle.std.specs.Borrow.{Bor}
 use Rattle.std.proofs.lemmas.List.{append-nil}
+use Rattle.squawk_kinds.specs.KindNames.{Names, kind_name}
 use Rattle.squawk_table.specs.declared.shortcuts.str_step.OwnedStep.{OwnedStep}
-use Rattle.squawk_tree.specs.TreeText.{Names, kind_name, tree_text}
+use Rattle.squawk_tree.specs.TreeText.{tree_text}
 use Rattle.squawk_tree.specs.Drawing.{Drawing, StandsAfter, lines_text}
 
 -- what an answer that isn't an error leaves

@@ -1,8 +1,9 @@
 -- Trees beside each other, and their text.
 use Rattle.std.specs.Prelude.{ℕ, suc, ◌+◌, List, [], ◌∷◌, ◌++◌, length, encode_utf8_all}
+use Rattle.squawk_kinds.specs.KindNames.{Names}
 use Rattle.squawk_table.specs.declared.shortcuts.str_step.OwnedStep.{OwnedStep}
 use Rattle.squawk_table.specs.declared.shortcuts.str_step.OwnedStep.TheVariants as step
-use Rattle.squawk_tree.specs.TreeText.{Names, error_shown, line, span, token_shown}
+use Rattle.squawk_tree.specs.TreeText.{error_shown, line, span, token_shown}
 
 -- trees beside each other
 pub data Forest : Type 0 where
