@@ -1,5 +1,5 @@
--- A link from a hole to a node that has none, and the hole's mark taken away: the hole goes, and the opening stands where the hole stood,
--- if that was before it.
+-- A link from a hole to a node that has none, and the hole's mark taken away: the hole goes, and the opening stands
+-- where the hole stood, if that was before it.
 use Rattle.std.proofs.Common.{◌≡◌, ◌≢◌, ◌∙◌, ◌⊎◌, ℕ, suc, ◌+◌, ◌==◌, ◌<◌, Bool, true, false, Some, None, List, [], ◌∷◌, length, get_or, set, refl, sym, ap, arith, if◌then◌else◌, inl, inr}
 use Rattle.std.specs.List.{flat_map}
 use Rattle.std.proofs.lemmas.Bool.{cases_order}

@@ -1,4 +1,5 @@
--- An event put at the end of a log, a hole that becomes something else, and a link to a hole at the end: each is an edit of the draft.
+-- An event put at the end of a log, a hole that becomes something else, and a link to a hole at the end: each is an
+-- edit of the draft.
 use Rattle.std.proofs.Common.{◌≡◌, ◌≢◌, ◌∙◌, ℕ, suc, ◌+◌, ◌==◌, ◌<◌, Bool, true, false, Some, None, List, [], ◌∷◌, ◌++◌, length, length-append, get_or, set, refl, sym, ap, arith, if◌then◌else◌, inl, inr}
 use Rattle.std.proofs.Math.ListN.{get_or-append}
 use Rattle.std.proofs.Math.Seq.{get_or-append_seam}
@@ -45,7 +46,8 @@ module _ (log : Log) (marks : List Bool) (event : Event) (mark : Bool) (links : 
       ∙ (ap (λ ys. gathered (least_owner log) (place_items log marks) (length log) ++ ys) pushed-last
       ∙ ap (λ ys. ys ++ items_of (length log) ByStart event mark) (sym (draft_items-gathered log marks)))))
 
--- a hole's event changed to one without a link, and its mark taken away: the hole gives place to what the event then stands for
+-- a hole's event changed to one without a link, and its mark taken away: the hole gives place to what the event then
+-- stands for
 pub draft_items-filled : (log : Log) (marks : List Bool) (id kind : ℕ) (event : Event) (f : Item → List Item) → id < length log → length marks ≡ length log
     → get_or log id Finish ≡ Start kind None → get_or marks id false ≡ true → linked_place event ≡ None → ((made : Made) → items_of id made event false ≡ f (Hole id made))
     → draft_items (set log id event) (set marks id false) ≡ replaced (is_hole_of id) f (draft_items log marks)

@@ -1,5 +1,5 @@
--- The list of a log begins with what the chain from its first place finds there. What follows is the list of the log behind that place,
--- with the chain taken out.
+-- The list of a log begins with what the chain from its first place finds there. What follows is the list of the log
+-- behind that place, with the chain taken out.
 use Rattle.std.proofs.Common.{◌≡◌, ◌∙◌, ℕ, zero, suc, ◌==◌, ◌<◌, Bool, true, false, Some, None, Option, List, [], ◌∷◌, ◌++◌, length, refl, sym, ap, arith, if◌then◌else◌}
 use Rattle.std.proofs.Math.Dec.{eqb-suc-suc, eqb-suc-zero, eqb-zero-suc}
 use Rattle.std.proofs.lemmas.List.{append-nil}

@@ -58,7 +58,8 @@ steps_of_event Finish = steps.Exit ∷ []
 steps_of_event (Token kind n) = steps.Token kind n ∷ []
 steps_of_event (Error text) = steps.Error text ∷ []
 
--- The list of a log: in order, for each place, the steps of the events that it owns, the farthest along the links first.
+-- The list of a log: in order, for each place, the steps of the events that it owns, the farthest along the links
+-- first.
 abbrev pub list_of : Log → List steps.Step
 list_of log = flat_map (λ (place, event). steps_of_event event) (in_list_order log)
 

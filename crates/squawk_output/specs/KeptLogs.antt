@@ -1,4 +1,5 @@
--- The draft of a log as it is kept, and what such a log keeps. The model of a log and its invariant alone speak of these.
+-- The draft of a log as it is kept, and what such a log keeps. The model of a log and its invariant alone speak of
+-- these.
 use Rattle.std.specs.Prelude.{◌≡◌, ℕ, ◌<◌, ◌≤◌, ◌^◌, Bool, true, false, List, length, map, slice_index_or}
 use Rattle.squawk_output.specs.Chain.{tombstone}
 use Rattle.squawk_output.specs.Draft.{Draft, errors_of}
@@ -8,7 +9,8 @@ use Rattle.squawk_output.specs.StoredEvents.{HaveEventTexts, is_open_event, log_
 use Rattle.squawk_output.specs.declared.event.Event.TheVariants.{Finish}
 use Rattle.squawk_output.specs.declared.log.stored_event.StoredEvent.{StoredEvent}
 
--- a log in which a parser records: each event has a mark, and one with its mark set is a Start without a kind and without a link
+-- a log in which a parser records: each event has a mark, and one with its mark set is a Start without a kind and
+-- without a link
 pub record IsRecord (log : Log) (marks : List Bool) (recorded wrong : ℕ) : Type 0 where
   pub same_length : length marks ≡ length log
   pub links : LinksLead log

@@ -126,8 +126,8 @@ pub record RunsTail (does : State → State → Type 0) (old new : State) : Type
   pub runs : does old new
   pub holes : HasNotFailed new → holes_of new.draft.items ≡ holes_of old.draft.items
 
--- A node is begun, the tokens of the kind's sequence are eaten, the tail runs once, what closes it is expected, and the node is
--- completed.
+-- A node is begun, the tokens of the kind's sequence are eaten, the tail runs once, what closes it is expected, and the
+-- node is completed.
 abbrev pub EatsWith : (State → State → Type 0) → ℕ → State → State → Type 0
 EatsWith does kind old new =
     (Begins (started_mark old)

@@ -71,15 +71,15 @@ pub record Keeps (old new : State) : Type 0 where
   pub max_errors : new.max_errors ≡ old.max_errors
   pub reason : IsSome old.first_reason → new.first_reason ≡ old.first_reason
 
--- Why a parser that has recorded so many events and errors, both within its limits, is refused one event more, which may be an error.
--- The limit of events is tested first, then that of errors, and memory last.
+-- Why a parser that has recorded so many events and errors, both within its limits, is refused one event more, which
+-- may be an error. The limit of events is tested first, then that of errors, and memory last.
 abbrev pub IsReason : ℕ → ℕ → ℕ → ℕ → Bool → ParseError → Type 0
 IsReason max_events max_errors events errors wrong TooManyEvents = (events ≡ max_events) × (errors ≤ max_errors)
 IsReason max_events max_errors events errors wrong TooManyErrors = (wrong ≡ true) × (errors ≡ max_errors) × (events < max_events)
 IsReason max_events max_errors events errors wrong OutOfMemory = (events < max_events) × (errors ≤ max_errors) × (wrong ≡ true → errors < max_errors)
 
--- An event that is no error is recorded. A parser that hasn't failed afterwards hadn't failed before, it had room for the event, and
--- its draft is this one.
+-- An event that is no error is recorded. A parser that hasn't failed afterwards hadn't failed before, it had room for
+-- the event, and its draft is this one.
 pub record Records (old new : State) (edited : Draft) : Type 0 where
   pub went : HasNotFailed new → HasNotFailed old
   pub room : HasNotFailed new → old.draft.recorded < old.max_events

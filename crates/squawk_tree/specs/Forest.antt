@@ -30,7 +30,8 @@ forest_bytes (Token kind text others) = length (encode_utf8_all text) + forest_b
 forest_bytes (Node kind inner others) = forest_bytes inner + forest_bytes others
 forest_bytes (Error text pos others) = forest_bytes others
 
--- Their text, inside of so many nodes and behind so many bytes. A node has its line, and what is in it stands two spaces deeper.
+-- Their text, inside of so many nodes and behind so many bytes. A node has its line, and what is in it stands two
+-- spaces deeper.
 abbrev pub forest_text : Names → ℕ → ℕ → Forest → List ℕ
 forest_text names depth start Nothing = []
 forest_text names depth start (Token kind text others) =

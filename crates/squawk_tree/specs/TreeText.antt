@@ -9,8 +9,8 @@ use Rattle.squawk_table.specs.declared.shortcuts.str_step.OwnedStep.TheVariants.
 
 -- ---- texts
 
--- a character between quotes: line feed, carriage return, tab, backslash and quote have a backslash and a letter or a sign, all
--- others stand as they are
+-- a character between quotes: line feed, carriage return, tab, backslash and quote have a backslash and a letter or a
+-- sign, all others stand as they are
 abbrev pub escaped : ℕ → List ℕ
 escaped c =
     if c == 10 then codes "\\n" else (
@@ -36,8 +36,8 @@ nodes_open_behind depth (Enter kind) = suc depth
 nodes_open_behind depth Exit = depth - 1
 nodes_open_behind depth (Error text pos) = depth
 
--- How many bytes of tokens are left of a node, in which so many other nodes are open: those before its closing, or all where no
--- closing closes it.
+-- How many bytes of tokens are left of a node, in which so many other nodes are open: those before its closing, or all
+-- where no closing closes it.
 abbrev pub bytes_left : List OwnedStep → ℕ → ℕ
 bytes_left [] inner = 0
 bytes_left (Token kind text ∷ steps) inner = length (encode_utf8_all text) + bytes_left steps inner
