@@ -2,3 +2,4 @@ pub mod Kinds
 pub mod Constants
 pub mod TokenSets
 pub mod Keywords
+pub mod KindNames

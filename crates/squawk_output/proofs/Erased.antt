@@ -1,6 +1,6 @@
 -- A log with a chain taken out.
 use Rattle.std.proofs.Common.{◌≡◌, ℕ, zero, suc, Bool, false, Some, None, Option, [], ◌∷◌, length, refl, sym, ap, if◌then◌else◌}
-use Rattle.squawk_output.specs.EventLog.{Log, ahead, leads, reaches}
+use Rattle.squawk_output.specs.EventLog.{Log, linked_place, leads, reaches}
 use Rattle.squawk_output.specs.Chain.{erased}
 use Rattle.squawk_output.proofs.Gathered.{steps_at}
 
@@ -11,7 +11,7 @@ comes from log j = leads from (λ place. reaches log place j)
 pub length-erased : (from : Option ℕ) (log : Log) → length (erased from log) ≡ length log
 length-erased from [] = refl
 length-erased None (x ∷ xs) = refl
-length-erased (Some zero) (x ∷ xs) = ap suc (length-erased (ahead x) xs)
+length-erased (Some zero) (x ∷ xs) = ap suc (length-erased (linked_place x) xs)
 length-erased (Some (suc n)) (x ∷ xs) = ap suc (length-erased (Some n) xs)
 
 pub leads-same : (link : Option ℕ) (p q : ℕ → Bool) → ((n : ℕ) → p n ≡ q n) → leads link p ≡ leads link q
@@ -24,10 +24,10 @@ reaches-erased from [] j away i = refl
 reaches-erased None (x ∷ xs) j away i = refl
 reaches-erased (Some zero) (x ∷ xs) zero away i = absurd (cc)
 reaches-erased (Some zero) (x ∷ xs) (suc j) away zero = sym away
-reaches-erased (Some zero) (x ∷ xs) (suc j) away (suc i) = reaches-erased (ahead x) xs j away i
+reaches-erased (Some zero) (x ∷ xs) (suc j) away (suc i) = reaches-erased (linked_place x) xs j away i
 reaches-erased (Some (suc n)) (x ∷ xs) zero away zero = refl
 reaches-erased (Some (suc n)) (x ∷ xs) zero away (suc i) = refl
-reaches-erased (Some (suc n)) (x ∷ xs) (suc j) away zero = leads-same (ahead x) (λ i. reaches (erased (Some n) xs) i j) (λ i. reaches xs i j) (reaches-erased (Some n) xs j away)
+reaches-erased (Some (suc n)) (x ∷ xs) (suc j) away zero = leads-same (linked_place x) (λ i. reaches (erased (Some n) xs) i j) (λ i. reaches xs i j) (reaches-erased (Some n) xs j away)
 reaches-erased (Some (suc n)) (x ∷ xs) (suc j) away (suc i) = reaches-erased (Some n) xs j away i
 
 -- where it comes, no steps are left
@@ -36,6 +36,6 @@ steps-erased None [] j = refl
 steps-erased (Some n) [] j = refl
 steps-erased None (x ∷ xs) j = refl
 steps-erased (Some zero) (x ∷ xs) zero = refl
-steps-erased (Some zero) (x ∷ xs) (suc j) = steps-erased (ahead x) xs j
+steps-erased (Some zero) (x ∷ xs) (suc j) = steps-erased (linked_place x) xs j
 steps-erased (Some (suc n)) (x ∷ xs) zero = refl
 steps-erased (Some (suc n)) (x ∷ xs) (suc j) = steps-erased (Some n) xs j

@@ -1,5 +1,5 @@
--- A link from a hole to a node that has none, and the hole's mark taken away: the hole goes, and the opening stands where the hole stood,
--- if that was before it.
+-- A link from a hole to a node that has none, and the hole's mark taken away: the hole goes, and the opening stands
+-- where the hole stood, if that was before it.
 use Rattle.std.proofs.Common.{◌≡◌, ◌≢◌, ◌∙◌, ◌⊎◌, ℕ, suc, ◌+◌, ◌==◌, ◌<◌, Bool, true, false, Some, None, List, [], ◌∷◌, length, get_or, set, refl, sym, ap, arith, if◌then◌else◌, inl, inr}
 use Rattle.std.specs.List.{flat_map}
 use Rattle.std.proofs.lemmas.Bool.{cases_order}
@@ -13,7 +13,7 @@ use Rattle.squawk_output.specs.declared.event.Event.TheVariants.{Start, Finish}
 use Rattle.squawk_output.specs.Chain.{tombstone}
 use Rattle.squawk_output.specs.Draft.{Item, Hole, Open}
 use Rattle.squawk_output.specs.Edits.{extended_items, is_hole_of, is_opening_of, moved, replaced, stands_before, without_hole}
-use Rattle.squawk_output.specs.EventLog.{Log, ahead}
+use Rattle.squawk_output.specs.EventLog.{Log, linked_place}
 use Rattle.squawk_output.proofs.Gathered.{flat_map-twice, gathered, least_owner, picked}
 use Rattle.squawk_output.specs.LogDraft.{draft_items}
 use Rattle.squawk_output.proofs.GatheredItems.{draft_items-gathered, draft_items-same, flat_map-draft_items, made_by, place_items}
@@ -45,13 +45,13 @@ module _ (log : Log) (marks : List Bool) (id node kind d : ℕ) (same : length m
   id_within : id < n
   id_within = omega (arith, far, is.within)
 
-  none : ahead (get_or log id Finish) ≡ None
+  none : linked_place (get_or log id Finish) ≡ None
   none = rw hole refl
 
-  ends : ahead (get_or log node Finish) ≡ None
+  ends : linked_place (get_or log node Finish) ≡ None
   ends = rw is.event refl
 
-  some_link : ahead linked ≡ Some d
+  some_link : linked_place linked ≡ Some d
   some_link = ap Some (omega arith)
 
   owns : (j : ℕ) → j ≢ node → least_owner new j ≡ least_owner log j

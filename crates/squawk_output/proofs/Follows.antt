@@ -6,7 +6,7 @@ use Rattle.squawk_kinds.specs.Kinds.{TOMBSTONE}
 use Rattle.squawk_output.specs.Steps.{Step, Passed}
 use Rattle.squawk_output.specs.declared.event.Event.{Event}
 use Rattle.squawk_output.specs.declared.event.Event.TheVariants.{Start}
-use Rattle.squawk_output.specs.EventLog.{LinksLead, Log, ahead}
+use Rattle.squawk_output.specs.EventLog.{LinksLead, Log, linked_place}
 use Rattle.squawk_output.specs.Chain.{LandsAt, chain, erased, hop, tombstone}
 use Rattle.squawk_output.specs.Pass.{Follows}
 use Rattle.squawk_output.proofs.Links.{LinksLead-unlinked, is_start_at-within}
@@ -22,7 +22,7 @@ chain-None (x ∷ xs) = refl
 pub length-chain : (from : Option ℕ) (log : Log) → length (chain from log) ≤ length log
 length-chain from [] = omega arith
 length-chain None (x ∷ xs) = omega arith
-length-chain (Some zero) (x ∷ xs) = omega (arith, length-chain (ahead x) xs)
+length-chain (Some zero) (x ∷ xs) = omega (arith, length-chain (linked_place x) xs)
 length-chain (Some (suc n)) (x ∷ xs) = omega (arith, length-chain (Some n) xs)
 
 chain-some : (log : Log) (place : ℕ) → place < length log → 0 < length (chain (Some place) log)

@@ -4,7 +4,7 @@ use Rattle.squawk_output.specs.declared.event.Event.{Event}
 use Rattle.squawk_output.specs.declared.event.Event.TheVariants.{Start}
 use Rattle.std.proofs.lemmas.List.{length-set}
 use Rattle.std.proofs.lemmas.List.Sums.{sum_by-append, sum_by-set}
-use Rattle.squawk_output.specs.EventLog.{Lands, LinksLead, Log, ahead, has_link, is_start, is_start_at, leads, reaches, turns_of}
+use Rattle.squawk_output.specs.EventLog.{Lands, LinksLead, Log, linked_place, has_link, is_start, is_start_at, leads, reaches, turns_of}
 use Rattle.squawk_output.proofs.Links.{LinksLead-set, Lands-still}
 use Rattle.squawk_output.proofs.LogTurns.{one_if, turns_at}
 use Rattle.squawk_output.proofs.Owners.{not_both}
@@ -53,7 +53,7 @@ start-front [] event (suc n) ne h = absurd (cc)
 start-front (x ∷ xs) event zero ne h = h
 start-front (x ∷ xs) event (suc n) ne h = start-front xs event n (λ e. ne (ap suc e)) h
 
-Lands-front : (x : Event) (log : Log) (event : Event) → Lands x (log ++ event ∷ []) → leads (ahead x) (λ place. reaches (log ++ event ∷ []) place (length log)) ≡ false
+Lands-front : (x : Event) (log : Log) (event : Event) → Lands x (log ++ event ∷ []) → leads (linked_place x) (λ place. reaches (log ++ event ∷ []) place (length log)) ≡ false
     → Lands x log
 Lands-front (Start kind None) log event lands away = tt
 Lands-front (Start kind (Some distance)) log event lands away =

@@ -17,7 +17,7 @@ use Rattle.squawk_output.specs.Edits.{abandoned, completed, extended, is_last_st
 use Rattle.squawk_output.specs.EventLog.{Log, is_error_event}
 use Rattle.squawk_output.specs.KeptLogs.{IsKeptRecord, draft_in}
 use Rattle.squawk_output.specs.LogDraft.{HasHoleOf}
-use Rattle.squawk_output.specs.StoredEvents.{HasEventText, HaveEventTexts, event_of, is_open, link_of, log_in}
+use Rattle.squawk_output.specs.StoredEvents.{HasEventText, HaveEventTexts, event_of, is_open_event, link_of, log_in}
 use Rattle.squawk_output.proofs.AbandonedLog.{record-cleared, record-front}
 use Rattle.squawk_output.proofs.EditedLog.{IsRecordOf, errors_are, record-completed, record-extended, record-preceded, record-put}
 use Rattle.squawk_output.proofs.LoggedDraft.{IsLogged-draft_of}
@@ -30,7 +30,7 @@ pub record IsKeptAs (texts : List (List ℕ)) (events : List StoredEvent) (recor
   pub is : draft_in texts events recorded ≡ d
 
 pub logged_kept : (texts : List (List ℕ)) (events : List StoredEvent) (recorded : ℕ) → IsKeptRecord texts events recorded → IsLogged (draft_in texts events recorded)
-logged_kept texts events recorded kept = IsLogged-draft_of (log_in texts events) (map is_open events) recorded (length texts) kept.log
+logged_kept texts events recorded kept = IsLogged-draft_of (log_in texts events) (map is_open_event events) recorded (length texts) kept.log
 
 -- there are fewer texts than 2^32
 pub few_texts : (texts : List (List ℕ)) (events : List StoredEvent) (recorded : ℕ) → IsKeptRecord texts events recorded → length texts < 2 ^ 32
@@ -38,7 +38,7 @@ few_texts texts events recorded kept =
     let log = log_in texts events in
     omega (
       arith,
-      errors_are log (map is_open events) recorded (length texts) kept.log,
+      errors_are log (map is_open_event events) recorded (length texts) kept.log,
       count_by-le-length is_error_event log,
       kept.log.few,
       kept.log.small,
@@ -47,7 +47,7 @@ few_texts texts events recorded kept =
 -- these events are those of the log, with these marks
 record Reads (texts : List (List ℕ)) (events : List StoredEvent) (log : Log) (marks : List Bool) : Type 0 where
   log_is : log_in texts events ≡ log
-  marks_are : map is_open events ≡ marks
+  marks_are : map is_open_event events ≡ marks
   have : HaveEventTexts texts events
 
 kept_as : {texts : List (List ℕ)} {events : List StoredEvent} {log : Log} {marks : List Bool} {recorded : ℕ} {d d' : Draft} → Reads texts events log marks
@@ -58,18 +58,18 @@ kept_as reads of same = record {
 }
 
 reads-push : {texts : List (List ℕ)} {events : List StoredEvent} {log : Log} {marks : List Bool} (x : StoredEvent) → Reads texts events log marks → HasEventText texts x
-    → Reads texts (events ++ x ∷ []) (log ++ event_of texts x ∷ []) (marks ++ is_open x ∷ [])
+    → Reads texts (events ++ x ∷ []) (log ++ event_of texts x ∷ []) (marks ++ is_open_event x ∷ [])
 reads-push {texts} {events} {log} {marks} x reads has = record {
   log_is = log_in-push texts events x ∙ ap (λ ys. ys ++ event_of texts x ∷ []) reads.log_is;
-  marks_are = map-append is_open events (x ∷ []) ∙ ap (λ ms. ms ++ is_open x ∷ []) reads.marks_are;
+  marks_are = map-append is_open_event events (x ∷ []) ∙ ap (λ ms. ms ++ is_open_event x ∷ []) reads.marks_are;
   have = All-append (HasEventText texts) events (x ∷ []) reads.have (All-cons (HasEventText texts) x [] has (All-nil (HasEventText texts)));
 }
 
 reads-set : {texts : List (List ℕ)} {events : List StoredEvent} {log : Log} {marks : List Bool} (place : ℕ) (x : StoredEvent) → Reads texts events log marks → HasEventText texts x
-    → Reads texts (set events place x) (set log place (event_of texts x)) (set marks place (is_open x))
+    → Reads texts (set events place x) (set log place (event_of texts x)) (set marks place (is_open_event x))
 reads-set {texts} {events} {log} {marks} place x reads has = record {
   log_is = map-set (event_of texts) events place x ∙ ap (λ ys. set ys place (event_of texts x)) reads.log_is;
-  marks_are = map-set is_open events place x ∙ ap (λ ms. set ms place (is_open x)) reads.marks_are;
+  marks_are = map-set is_open_event events place x ∙ ap (λ ms. set ms place (is_open_event x)) reads.marks_are;
   have = All-set (HasEventText texts) events place x has reads.have;
 }
 
@@ -79,7 +79,7 @@ module _ (texts : List (List ℕ)) (events : List StoredEvent) (recorded : ℕ) 
   log = log_in texts events
 
   abbrev marks : List Bool
-  marks = map is_open events
+  marks = map is_open_event events
 
   here : Reads texts events log marks
   here = record { log_is = refl; marks_are = refl; have = kept.have_texts }
@@ -108,7 +108,7 @@ module _ (texts : List (List ℕ)) (events : List StoredEvent) (recorded : ℕ) 
       (ap (λ d. with_token d kind n) view))
 
   pub kept-error : (text : List ℕ) (texts' : List (List ℕ)) (events' : List StoredEvent) → log_in texts' events' ≡ log ++ event.Error text ∷ []
-      → map is_open events' ≡ marks ++ false ∷ [] → HaveEventTexts texts' events' → length texts' ≡ length texts + 1 → old.recorded + 1 < 2 ^ 32
+      → map is_open_event events' ≡ marks ++ false ∷ [] → HaveEventTexts texts' events' → length texts' ≡ length texts + 1 → old.recorded + 1 < 2 ^ 32
       → IsKeptAs texts' events' (recorded + 1) (with_error old text)
   kept-error text texts' events' put unmarked have more room =
       kept_as (record { log_is = put; marks_are = unmarked; have = have })
@@ -153,9 +153,9 @@ module _ (texts : List (List ℕ)) (events : List StoredEvent) (recorded : ℕ) 
     kept-popped front entries len test None m n split cases count = absurd (omega (arith, cases.0, count, (at_hole id made there).within, length-log_in texts events))
     kept-popped front entries len test (Some x) m n split cases count =
         kept_as (record { log_is = refl; marks_are = refl; have = HaveEventTexts-front texts front x (rw split at kept.have_texts) })
-        (record-front log (log_in texts front) marks (map is_open front) (event_of texts x) (is_open x) recorded (length texts) id made kept.log (at_hole id made there)
+        (record-front log (log_in texts front) marks (map is_open_event front) (event_of texts x) (is_open_event x) recorded (length texts) id made kept.log (at_hole id made there)
         (ap (λ n. is_last_start n (draft.Hole id made)) (length-log_in texts events ∙ sym len) ∙ sym test)
-        (ap (log_in texts) split ∙ log_in-push texts front x) (ap (map is_open) split ∙ map-append is_open front (x ∷ [])))
+        (ap (log_in texts) split ∙ log_in-push texts front x) (ap (map is_open_event) split ∙ map-append is_open_event front (x ∷ [])))
         (ap (λ d. abandoned d id) view)
 
   module _ (node kind : ℕ) (opening : Contains old.items (draft.Open node kind true)) where

@@ -2,7 +2,7 @@
 use Rattle.std.proofs.Common.{◌≡◌, ℕ, zero, suc, ◌-◌, ◌<◌, true, Some, None, Option, [], ◌∷◌, length, get_or, set, drop, refl, arith}
 use Rattle.squawk_output.specs.declared.event.Event.{Event}
 use Rattle.squawk_output.specs.declared.event.Event.TheVariants.{Start}
-use Rattle.squawk_output.specs.EventLog.{Lands, LinksLead, Log, ahead, is_start, is_start_at}
+use Rattle.squawk_output.specs.EventLog.{Lands, LinksLead, Log, linked_place, is_start, is_start_at}
 use Rattle.squawk_output.specs.Chain.{LandsAt, erased}
 
 pub is_start_at-within : (log : Log) (place : ℕ) → is_start_at log place ≡ true → place < length log
@@ -21,10 +21,10 @@ Lands-still (Start kind None) xs ys still h = tt
 Lands-still (Start kind (Some distance)) xs ys still h = (h.0, still (distance - 1) h.1)
 Lands-still event xs ys still h = tt
 
-pub Lands-ahead : (event : Event) (log : Log) → Lands event log → LandsAt log (ahead event)
-Lands-ahead (Start kind None) log h = tt
-Lands-ahead (Start kind (Some distance)) log h = h.1
-Lands-ahead event log h = tt
+pub Lands-linked_place : (event : Event) (log : Log) → Lands event log → LandsAt log (linked_place event)
+Lands-linked_place (Start kind None) log h = tt
+Lands-linked_place (Start kind (Some distance)) log h = h.1
+Lands-linked_place event log h = tt
 
 -- ---- a Start in an event's place
 
@@ -50,14 +50,14 @@ start-erased : (from : Option ℕ) (log : Log) (j : ℕ) → is_start_at log j �
 start-erased from [] j h = absurd (cc)
 start-erased None (x ∷ xs) j h = h
 start-erased (Some zero) (x ∷ xs) zero h = refl
-start-erased (Some zero) (x ∷ xs) (suc j) h = start-erased (ahead x) xs j h
+start-erased (Some zero) (x ∷ xs) (suc j) h = start-erased (linked_place x) xs j h
 start-erased (Some (suc n)) (x ∷ xs) zero h = h
 start-erased (Some (suc n)) (x ∷ xs) (suc j) h = start-erased (Some n) xs j h
 
 pub LinksLead-erased : (from : Option ℕ) (log : Log) → LinksLead log → LinksLead (erased from log)
 LinksLead-erased from [] h = h
 LinksLead-erased None (x ∷ xs) h = h
-LinksLead-erased (Some zero) (x ∷ xs) h = (tt, LinksLead-erased (ahead x) xs h.1)
+LinksLead-erased (Some zero) (x ∷ xs) h = (tt, LinksLead-erased (linked_place x) xs h.1)
 LinksLead-erased (Some (suc n)) (x ∷ xs) h = (Lands-still x xs (erased (Some n) xs) (start-erased (Some n) xs) h.0, LinksLead-erased (Some n) xs h.1)
 
 -- ---- the events behind a place
@@ -67,7 +67,7 @@ LinksLead-drop log zero h = h
 LinksLead-drop [] (suc n) h = h
 LinksLead-drop (x ∷ xs) (suc n) h = LinksLead-drop xs n h.1
 
-pub LandsAt-ahead : (log : Log) (place : ℕ) (d : Event) → place < length log → LinksLead log → LandsAt (drop (suc place) log) (ahead (get_or log place d))
-LandsAt-ahead [] place d lt links = absurd (omega arith)
-LandsAt-ahead (x ∷ xs) zero d lt links = Lands-ahead x xs links.0
-LandsAt-ahead (x ∷ xs) (suc n) d lt links = LandsAt-ahead xs n d (omega arith) links.1
+pub LandsAt-linked_place : (log : Log) (place : ℕ) (d : Event) → place < length log → LinksLead log → LandsAt (drop (suc place) log) (linked_place (get_or log place d))
+LandsAt-linked_place [] place d lt links = absurd (omega arith)
+LandsAt-linked_place (x ∷ xs) zero d lt links = Lands-linked_place x xs links.0
+LandsAt-linked_place (x ∷ xs) (suc n) d lt links = LandsAt-linked_place xs n d (omega arith) links.1

@@ -1,4 +1,5 @@
--- An event put at the end of a log, a hole that becomes something else, and a link to a hole at the end: each is an edit of the draft.
+-- An event put at the end of a log, a hole that becomes something else, and a link to a hole at the end: each is an
+-- edit of the draft.
 use Rattle.std.proofs.Common.{◌≡◌, ◌≢◌, ◌∙◌, ℕ, suc, ◌+◌, ◌==◌, ◌<◌, Bool, true, false, Some, None, List, [], ◌∷◌, ◌++◌, length, length-append, get_or, set, refl, sym, ap, arith, if◌then◌else◌, inl, inr}
 use Rattle.std.proofs.Math.ListN.{get_or-append}
 use Rattle.std.proofs.Math.Seq.{get_or-append_seam}
@@ -12,7 +13,7 @@ use Rattle.squawk_output.specs.Draft.{Item, Hole, Open}
 use Rattle.squawk_output.specs.declared.log.Made.{Made}
 use Rattle.squawk_output.specs.declared.log.Made.TheVariants.{ByPrecede, ByStart}
 use Rattle.squawk_output.specs.Edits.{is_hole_of, is_opening_of, preceded_item, replaced}
-use Rattle.squawk_output.specs.EventLog.{LinksLead, Log, ahead}
+use Rattle.squawk_output.specs.EventLog.{LinksLead, Log, linked_place}
 use Rattle.squawk_output.proofs.Gathered.{gathered, least_owner}
 use Rattle.squawk_output.specs.LogDraft.{draft_items, items_of}
 use Rattle.squawk_output.proofs.GatheredItems.{draft_items-gathered, draft_items-same, flat_map-draft_items, made_by, place_items}
@@ -45,9 +46,10 @@ module _ (log : Log) (marks : List Bool) (event : Event) (mark : Bool) (links : 
       ∙ (ap (λ ys. gathered (least_owner log) (place_items log marks) (length log) ++ ys) pushed-last
       ∙ ap (λ ys. ys ++ items_of (length log) ByStart event mark) (sym (draft_items-gathered log marks)))))
 
--- a hole's event changed to one without a link, and its mark taken away: the hole gives place to what the event then stands for
+-- a hole's event changed to one without a link, and its mark taken away: the hole gives place to what the event then
+-- stands for
 pub draft_items-filled : (log : Log) (marks : List Bool) (id kind : ℕ) (event : Event) (f : Item → List Item) → id < length log → length marks ≡ length log
-    → get_or log id Finish ≡ Start kind None → get_or marks id false ≡ true → ahead event ≡ None → ((made : Made) → items_of id made event false ≡ f (Hole id made))
+    → get_or log id Finish ≡ Start kind None → get_or marks id false ≡ true → linked_place event ≡ None → ((made : Made) → items_of id made event false ≡ f (Hole id made))
     → draft_items (set log id event) (set marks id false) ≡ replaced (is_hole_of id) f (draft_items log marks)
 draft_items-filled log marks id kind event f lt same is marked alone gives =
     let owns : (j : ℕ) → least_owner (set log id event) j ≡ least_owner log j = owner-kept log id event Finish (rw is alone) in
@@ -87,13 +89,13 @@ module _ (log : Log) (marks : List Bool) (node kind d : ℕ) (links : LinksLead 
   n_within : n < length more
   n_within = omega (arith, length-push log tombstone)
 
-  none : ahead (get_or more node Finish) ≡ None
+  none : linked_place (get_or more node Finish) ≡ None
   none = rw (get_or-append log (tombstone ∷ []) Finish node is.within, is.event) refl
 
-  ends : ahead (get_or more n Finish) ≡ None
+  ends : linked_place (get_or more n Finish) ≡ None
   ends = rw (get_or-append_seam log tombstone [] Finish) refl
 
-  some : ahead linked ≡ Some d
+  some : linked_place linked ≡ Some d
   some = ap Some (omega arith)
 
   owns : (j : ℕ) → j < n → least_owner new j ≡ least_owner log j

@@ -9,7 +9,7 @@ use Rattle.squawk_output.specs.Steps.{Passed, Walk}
 use Rattle.squawk_output.specs.declared.event.Event.TheVariants as event
 use Rattle.squawk_output.specs.declared.log.stored_event.StoredEvent.{StoredEvent}
 use Rattle.squawk_output.specs.declared.log.stored_event.StoredEvent.TheVariants.{Start, Error}
-use Rattle.squawk_output.specs.EventLog.{LinksLead, ahead, has_link, is_start, list_of, steps_of_event, turns_of}
+use Rattle.squawk_output.specs.EventLog.{LinksLead, linked_place, has_link, is_start, list_of, steps_of_event, turns_of}
 use Rattle.squawk_output.specs.Pass.{PassesList, Visits}
 use Rattle.squawk_output.specs.StoredEvents.{HaveEventTexts, event_of, link_of, log_in}
 use Rattle.squawk_output.proofs.LogTurns.{one_if}
@@ -30,7 +30,7 @@ module _ (texts : List (List ℕ)) (events : List StoredEvent) (place : ℕ) (wi
   module _ (output turned : Passed) (turn : turned ≡ record output { turns = output.turns + 1 }) (links : LinksLead (log_in texts events)) (made : Passed) {T E : Type 0}
       (result : Result T E) where
     -- an event without a link gives its step
-    pub visits-alone : (y : StoredEvent) → x ≡ y → ahead (event_of texts y) ≡ None → has_link (event_of texts y) ≡ false → (turns : ℕ)
+    pub visits-alone : (y : StoredEvent) → x ≡ y → linked_place (event_of texts y) ≡ None → has_link (event_of texts y) ≡ false → (turns : ℕ)
         → turns ≡ turned.turns + one_if (is_start (event_of texts y)) → IfOk result (λ _. made ≡ record turned { steps = turned.steps ++ steps_of_event (event_of texts y); turns = turns })
         → IfOk result (λ _. Visits (log_in texts events) output (log_in texts events) made place)
     visits-alone y is alone unlinked turns count =

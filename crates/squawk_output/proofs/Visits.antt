@@ -1,15 +1,15 @@
 -- One event visited.
-use Rattle.std.proofs.Common.{◌≡◌, ◌∙◌, ℕ, zero, suc, ◌+◌, ◌*◌, ◌^◌, ◌<◌, false, Some, None, Option, List, [], ◌∷◌, ◌++◌, length, get_or, set, drop, refl, sym, ap, arith, append_assoc, add-one}
+use Rattle.std.proofs.Common.{◌≡◌, ◌∙◌, ℕ, zero, suc, ◌+◌, ◌*◌, ◌^◌, ◌<◌, false, Some, None, Option, List, [], ◌∷◌, ◌++◌, length, get_or, drop, refl, sym, ap, arith, append_assoc, add-one}
 use Rattle.std.proofs.Math.Seq.{drop-cons}
 use Rattle.squawk_output.specs.Steps.{Passed}
 use Rattle.squawk_output.specs.declared.event.Event.{Event}
 use Rattle.squawk_output.specs.declared.event.Event.TheVariants.{Start}
-use Rattle.squawk_output.specs.EventLog.{LinksLead, Log, ahead, entering, has_link, is_start, list_of, steps_of_event, turns_of}
+use Rattle.squawk_output.specs.EventLog.{LinksLead, Log, linked_place, entering, has_link, is_start, list_of, steps_of_event, turns_of}
 use Rattle.squawk_output.specs.Chain.{LandsAt, chain, entered_back, erased, hop, tombstone}
 use Rattle.squawk_output.specs.Pass.{Visits}
 use Rattle.squawk_output.proofs.Erased.{length-erased}
 use Rattle.squawk_output.proofs.Follows.{chain-hop, drop-hop, erased-None, length-chain}
-use Rattle.squawk_output.proofs.Links.{Lands-ahead, LandsAt-ahead, LinksLead-drop, LinksLead-erased}
+use Rattle.squawk_output.proofs.Links.{Lands-linked_place, LandsAt-linked_place, LinksLead-drop, LinksLead-erased}
 use Rattle.squawk_output.proofs.LogTurns.{one_if, turns_of-cons}
 use Rattle.squawk_output.proofs.Peel.{entered, list_of-cons}
 
@@ -20,7 +20,7 @@ entered-chain : (from : Option ℕ) (log : Log) → LinksLead log → LandsAt lo
 entered-chain from [] links lands = refl
 entered-chain None (x ∷ xs) links lands = refl
 entered-chain (Some zero) (Start kind link ∷ xs) links lands =
-    ap (λ ys. ys ++ entering kind) (entered-chain (ahead (Start kind link)) xs links.1 (Lands-ahead (Start kind link) xs links.0))
+    ap (λ ys. ys ++ entering kind) (entered-chain (linked_place (Start kind link)) xs links.1 (Lands-linked_place (Start kind link) xs links.0))
 entered-chain (Some zero) (x ∷ xs) links lands = absurd (cc)
 entered-chain (Some (suc n)) (x ∷ xs) links lands = entered-chain (Some n) xs links.1 lands
 
@@ -29,9 +29,9 @@ abbrev link_turns : Option ℕ → ℕ
 link_turns None = 0
 link_turns (Some n) = 2
 
-link_turns-ahead : (kind : ℕ) (link : Option ℕ) → link_turns (ahead (Start kind link)) ≡ 2 * one_if (has_link (Start kind link))
-link_turns-ahead kind None = refl
-link_turns-ahead kind (Some distance) = refl
+link_turns-linked_place : (kind : ℕ) (link : Option ℕ) → link_turns (linked_place (Start kind link)) ≡ 2 * one_if (has_link (Start kind link))
+link_turns-linked_place kind None = refl
+link_turns-linked_place kind (Some distance) = refl
 
 -- the turns of a log are two for each event of the chain, and those of the log without it
 turns-chain : (from : Option ℕ) (log : Log) → LinksLead log → LandsAt log from
@@ -40,13 +40,13 @@ turns-chain None [] links lands = refl
 turns-chain (Some n) [] links lands = absurd (cc)
 turns-chain None (x ∷ xs) links lands = omega arith
 turns-chain (Some zero) (Start kind link ∷ xs) links lands =
-    let on = ahead (Start kind link) in
+    let on = linked_place (Start kind link) in
     omega (
       arith,
       turns_of-cons (Start kind link) xs,
       turns_of-cons tombstone (erased on xs),
-      turns-chain on xs links.1 (Lands-ahead (Start kind link) xs links.0),
-      link_turns-ahead kind link,
+      turns-chain on xs links.1 (Lands-linked_place (Start kind link) xs links.0),
+      link_turns-linked_place kind link,
     )
 turns-chain (Some zero) (x ∷ xs) links lands = absurd (cc)
 turns-chain (Some (suc n)) (x ∷ xs) links lands =
@@ -55,7 +55,7 @@ turns-chain (Some (suc n)) (x ∷ xs) links lands =
 -- ---- the log from a place on
 
 drop-erased : (log : Log) (place : ℕ) (d : Event) → place < length log
-    → drop (suc place) (erased (Some place) log) ≡ erased (ahead (get_or log place d)) (drop (suc place) log)
+    → drop (suc place) (erased (Some place) log) ≡ erased (linked_place (get_or log place d)) (drop (suc place) log)
 drop-erased [] place d lt = absurd (omega arith)
 drop-erased (x ∷ xs) zero d lt = refl
 drop-erased (x ∷ xs) (suc n) d lt = drop-erased xs n d (omega arith)
@@ -67,7 +67,7 @@ chain-drop (x ∷ xs) (suc n) lt = chain-drop xs n (omega arith)
 
 module _ (log : Log) (place : ℕ) (d : Event) (within : place < length log) (links : LinksLead log) (kind : ℕ) (link : Option ℕ) (is : get_or log place d ≡ Start kind link) where
   abbrev on : Option ℕ
-  on = ahead (Start kind link)
+  on = linked_place (Start kind link)
 
   abbrev behind : Log
   behind = drop (suc place) log
@@ -76,7 +76,7 @@ module _ (log : Log) (place : ℕ) (d : Event) (within : place < length log) (li
   left = drop (suc place) (erased (Some place) log)
 
   lands : LandsAt behind on
-  lands = rw is at (LandsAt-ahead log place d within links)
+  lands = rw is at (LandsAt-linked_place log place d within links)
 
   begins : drop place log ≡ Start kind link ∷ behind
   begins = drop-cons log place d within ∙ ap (λ x. x ∷ behind) is
@@ -85,7 +85,7 @@ module _ (log : Log) (place : ℕ) (d : Event) (within : place < length log) (li
   chain-here = chain-drop log place within ∙ ap (chain (Some 0)) begins
 
   left-here : left ≡ erased on behind
-  left-here = drop-erased log place d within ∙ ap (λ x. erased (ahead x) behind) is
+  left-here = drop-erased log place d within ∙ ap (λ x. erased (linked_place x) behind) is
 
   list-here : list_of (drop place log) ≡ entered_back (chain (Some place) log) ++ list_of left
   list-here =
@@ -102,7 +102,7 @@ module _ (log : Log) (place : ℕ) (d : Event) (within : place < length log) (li
         turns-chain on behind (LinksLead-drop log (suc place) links) lands,
         ap length chain-here,
         ap turns_of left-here,
-        link_turns-ahead kind link,
+        link_turns-linked_place kind link,
       )
 
 -- ---- visits
@@ -111,11 +111,6 @@ entered-None : (log : Log) → entered None log ≡ []
 entered-None [] = refl
 entered-None (x ∷ xs) = refl
 
-pub drop-set : (log : Log) (place : ℕ) (event : Event) → drop (suc place) (set log place event) ≡ drop (suc place) log
-drop-set [] place event = refl
-drop-set (x ∷ xs) zero event = refl
-drop-set (x ∷ xs) (suc n) event = drop-set xs n event
-
 -- what the code finds at a place begins the rest of the log
 pub begins-with : (log : Log) (place : ℕ) (x d event : Event) → place < length log → x ≡ get_or log place d → x ≡ event
     → drop place log ≡ event ∷ drop (place + 1) log
@@ -123,7 +118,7 @@ begins-with log place x d event within got is = rw add-one (drop-cons log place 
 
 -- as the code has it
 module _ (log : Log) (output turned : Passed) (place : ℕ) (turn : turned ≡ record output { turns = output.turns + 1 }) where
-  module _ (event : Event) (begins : drop place log ≡ event ∷ drop (place + 1) log) (alone : ahead event ≡ None) where
+  module _ (event : Event) (begins : drop place log ≡ event ∷ drop (place + 1) log) (alone : linked_place event ≡ None) where
     -- an event without a link begins the list of the log with its step
     list-alone : list_of (drop place log) ≡ steps_of_event event ++ list_of (drop (place + 1) log)
     list-alone =

@@ -2,7 +2,7 @@
 use Rattle.std.specs.Prelude.{◌≡◌, ℕ, zero, suc, ◌+◌, true, Option, Some, None, List, [], ◌∷◌, ◌++◌}
 use Rattle.squawk_kinds.specs.Kinds.{TOMBSTONE}
 use Rattle.squawk_output.specs.Steps.{Step}
-use Rattle.squawk_output.specs.EventLog.{Log, ahead, entering, is_start_at}
+use Rattle.squawk_output.specs.EventLog.{Log, linked_place, entering, is_start_at}
 use Rattle.squawk_output.specs.declared.event.Event.{Event}
 use Rattle.squawk_output.specs.declared.event.Event.TheVariants.{Start}
 
@@ -34,14 +34,14 @@ forward_parent event = None
 abbrev pub chain : Option ℕ → Log → List ℕ
 chain place [] = []
 chain None (event ∷ log) = []
-chain (Some zero) (event ∷ log) = node_kind event ∷ chain (ahead event) log
+chain (Some zero) (event ∷ log) = node_kind event ∷ chain (linked_place event) log
 chain (Some (suc n)) (event ∷ log) = chain (Some n) log
 
 -- the log with those events taken out
 abbrev pub erased : Option ℕ → Log → Log
 erased place [] = []
 erased None (event ∷ log) = event ∷ log
-erased (Some zero) (event ∷ log) = tombstone ∷ erased (ahead event) log
+erased (Some zero) (event ∷ log) = tombstone ∷ erased (linked_place event) log
 erased (Some (suc n)) (event ∷ log) = event ∷ erased (Some n) log
 
 -- kinds that are entered from the last to the first

@@ -12,9 +12,9 @@ Log = List Event
 -- ---- links
 
 -- where the link of an event leads, counted from the event behind it
-abbrev pub ahead : Event → Option ℕ
-ahead (Start kind (Some distance)) = Some (distance - 1)
-ahead event = None
+abbrev pub linked_place : Event → Option ℕ
+linked_place (Start kind (Some distance)) = Some (distance - 1)
+linked_place event = None
 
 -- what a test says of the place where a link leads; no if there is no link
 abbrev pub leads : Option ℕ → (ℕ → Bool) → Bool
@@ -25,7 +25,7 @@ leads (Some place) p = p place
 abbrev pub reaches : Log → ℕ → ℕ → Bool
 reaches [] i j = false
 reaches (event ∷ log) zero zero = true
-reaches (event ∷ log) zero (suc j) = leads (ahead event) (λ place. reaches log place j)
+reaches (event ∷ log) zero (suc j) = leads (linked_place event) (λ place. reaches log place j)
 reaches (event ∷ log) (suc i) zero = false
 reaches (event ∷ log) (suc i) (suc j) = reaches log i j
 
@@ -58,7 +58,8 @@ steps_of_event Finish = steps.Exit ∷ []
 steps_of_event (Token kind n) = steps.Token kind n ∷ []
 steps_of_event (Error text) = steps.Error text ∷ []
 
--- The list of a log: in order, for each place, the steps of the events that it owns, the farthest along the links first.
+-- The list of a log: in order, for each place, the steps of the events that it owns, the farthest along the links
+-- first.
 abbrev pub list_of : Log → List steps.Step
 list_of log = flat_map (λ (place, event). steps_of_event event) (in_list_order log)
 

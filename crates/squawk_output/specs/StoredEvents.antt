@@ -25,9 +25,9 @@ event_of texts (Token kind n) = event.Token kind n
 event_of texts (Error number) = event.Error (slice_index_or texts number [])
 
 -- whether it is an open marker's
-abbrev pub is_open : StoredEvent → Bool
-is_open Hole = true
-is_open stored = false
+abbrev pub is_open_event : StoredEvent → Bool
+is_open_event Hole = true
+is_open_event stored = false
 
 -- the text is there
 abbrev pub HasEventText : List (List ℕ) → StoredEvent → Type 0

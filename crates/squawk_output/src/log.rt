@@ -5,7 +5,7 @@ ghost use Rattle.squawk_output.specs.Draft.{Hole, IsLogged, Open, errors_of, not
 ghost use Rattle.squawk_output.specs.Edits as spec;
 ghost use Rattle.squawk_output.specs.Edits.{abandoned, completed, extended, preceded, started, with_error, with_token};
 ghost use Rattle.squawk_output.specs.LogDraft.{HasHoleOf, HasNodeOf};
-ghost use Rattle.squawk_output.specs.StoredEvents.{HaveEventTexts, is_open, log_in};
+ghost use Rattle.squawk_output.specs.StoredEvents.{HaveEventTexts, is_open_event, log_in};
 ghost use Rattle.squawk_output.specs.declared.event.Event.{Event};
 
 pub(crate) mod stored_event;
@@ -220,7 +220,7 @@ pub(crate) fn push_error(
     requires few { length errors.old.items < 2 ^ 32 }
     requires texts { HaveEventTexts errors.old.items events.old.items }
     ensures events { OnOk result (log_in errors.new.items events.new.items ≡ log_in errors.old.items events.old.items ++ Event.Error msg ∷ []) }
-    ensures marks { OnOk result (map is_open events.new.items ≡ map is_open events.old.items ++ false ∷ []) }
+    ensures marks { OnOk result (map is_open_event events.new.items ≡ map is_open_event events.old.items ++ false ∷ []) }
     ensures texts { HaveEventTexts errors.new.items events.new.items }
     ensures count { OnOk result (length errors.new.items ≡ length errors.old.items + 1) }
     ensures err { OnErr result ((events.new.items ≡ events.old.items) × (errors.new.items ≡ errors.old.items)) }

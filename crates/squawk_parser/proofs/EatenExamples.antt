@@ -2,11 +2,12 @@
 use Rattle.std.proofs.Common.{◌≡◌, ℕ, Bool, true, false, [], ◌∷◌, refl}
 use Rattle.std.specs.Prelude.{codes}
 use Rattle.std.specs.Fmt as fmt
+use Rattle.squawk_kinds.specs.KindNames.{kind_name}
 use Rattle.squawk_kinds.specs.Kinds.{EOF, IDENT, COLON, EQ, R_ANGLE, PLUS, MINUS, AT, COLON_EQ, LONG_ARROW, COLON_COLON, IS_KW, NFC_KW, NORMALIZED_KW, IS_NORMALIZED, IS_JSON, OPERATOR_CALL, CUSTOM_OP, R_PAREN, UNICODE_NORMAL_FORM, ERROR}
 use Rattle.squawk_table.specs.ParserInput.{Entry}
 use Rattle.squawk_output.specs.Steps.{Token, Enter, Exit, Error}
 use Rattle.squawk_parser.specs.Composites.{NoTail, Open, ClosedBy}
-use Rattle.squawk_parser.specs.Eaten.{row_of, eaten_as, tail_of_kind, name_in, recovery_steps}
+use Rattle.squawk_parser.specs.Eaten.{row_of, eaten_as, tail_of_kind, recovery_steps}
 
 abbrev entry : ℕ → Bool → Entry
 entry kind touches = record { kind = kind; contextual_kind = EOF; touches = touches }
@@ -65,10 +66,10 @@ call_is_closed = refl
 
 -- ---- errors
 
-first_name_counts : name_in ((IDENT, codes "a") ∷ (IDENT, codes "b") ∷ []) IDENT ≡ codes "a"
+first_name_counts : kind_name ((IDENT, codes "a") ∷ (IDENT, codes "b") ∷ []) IDENT ≡ codes "a"
 first_name_counts = refl
 
-number_without_a_name : name_in ((IDENT, codes "a") ∷ []) COLON_EQ ≡ codes "45"
+number_without_a_name : kind_name ((IDENT, codes "a") ∷ []) COLON_EQ ≡ codes "45"
 unfolding fmt.digits
 number_without_a_name = refl
 

@@ -1,15 +1,15 @@
 -- The parts of a composite kind are eaten one after another.
-use Rattle.std.proofs.Common.{◌≡◌, ◌≢◌, ◌∙◌, ℕ, suc, ◌+◌, ◌<◌, ◌≤◌, ◌==◌, ◌&&◌, ◌||◌, Bool, true, false, Option, Some, None, List, [], ◌∷◌, ◌++◌, length, map, take, drop, get_or, add-one, ap, sym, refl, subst, append_assoc}
+use Rattle.std.proofs.Common.{◌≡◌, ◌∙◌, ℕ, suc, ◌+◌, ◌<◌, ◌≤◌, ◌==◌, ◌&&◌, ◌||◌, Bool, true, false, Option, Some, None, List, [], ◌∷◌, ◌++◌, length, map, take, drop, get_or, add-one, ap, sym, refl, subst, append_assoc}
 use Rattle.std.specs.Prelude.{IsSome, is_some, option_map}
 use Rattle.std.specs.List.{list_any}
 use Rattle.std.proofs.lemmas.Bool.{eqb-true}
 use Rattle.std.proofs.Math.Seq.{drop-cons, take-suc}
 use Rattle.std.proofs.lemmas.List.{map-append, take_all}
-use Rattle.squawk_kinds.specs.Kinds.{EOF, UNICODE_NORMAL_FORM}
+use Rattle.squawk_kinds.specs.Kinds.{UNICODE_NORMAL_FORM}
 use Rattle.squawk_table.specs.ParserInput.{Entry, kind_in}
 use Rattle.squawk_output.specs.Steps.{Step, eaten}
 use Rattle.squawk_parser.specs.CompositeRows.{element_of}
-use Rattle.squawk_parser.specs.Composites.{Element, One, HasNoEndKind, do_touch, normal_form, normal_forms, sequence_length}
+use Rattle.squawk_parser.specs.Composites.{Element, One, do_touch, normal_form, normal_forms, sequence_length}
 use Rattle.squawk_parser.specs.Eaten.{element_steps, one}
 use Rattle.squawk_output.specs.Edits.{with_token}
 use Rattle.squawk_parser.specs.LookAhead.{touches_next}
@@ -21,9 +21,6 @@ use Rattle.squawk_parser.proofs.SeenSteps.{ahead-moved, and-right, if-true, if-f
 -- the part at a place, and those behind it
 part_here : (parts : List ℕ) (i part : ℕ) → i < length parts → part ≡ get_or parts i part → drop i parts ≡ part ∷ drop (i + 1) parts
 part_here parts i part lt is = drop-cons parts i part lt ∙ (ap (λ k. k ∷ drop (suc i) parts) (sym is) ∙ ap (λ j. part ∷ drop j parts) (sym (add-one i)))
-
-some_kind : (parts : List ℕ) (i part : ℕ) → HasNoEndKind parts → i < length parts → part ≡ get_or parts i part → part ≢ EOF
-some_kind parts i part no_end lt is end = no_end i part lt (sym is ∙ end)
 
 -- ---- parts that touch
 

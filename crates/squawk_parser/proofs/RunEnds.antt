@@ -52,10 +52,6 @@ module _ (operator_kind : ℕ → Bool) (input : List Entry) where
   all_ends ends all = record { count = all.count; at = λ place lt. all.at place (omega arith) lt }
 
 module _ (test : ℕ → Bool) (input : List Entry) where
-  -- before the first token none passes
-  pub past_none : IsPastLast test input 0 0
-  past_none = record { within = omega arith; last = λ some. absurd (omega arith); none = λ k from to. absurd (omega arith) }
-
   -- one more token passes, or the last that did stays
   pub past_more : (end past : ℕ) → IsPastLast test input end past → IsPastLast test input (end + 1) (if test (kind_in input end) then end + 1 else past)
   past_more end past so_far = cases (test (kind_in input end)) refl
@@ -72,9 +68,6 @@ module _ (test : ℕ → Bool) (input : List Entry) where
           | inr other ↦ so_far.none k from (omega arith)
         ];
       }
-
-  pub places_none : ArePastLast test input 0 []
-  places_none = record { count = refl; at = λ i lt. absurd (omega arith) }
 
   -- one more place at the end
   pub places_more : (n past : ℕ) (places : List ℕ) → ArePastLast test input n places → IsPastLast test input (n + 1) past → ArePastLast test input (n + 1) (places ++ past ∷ [])

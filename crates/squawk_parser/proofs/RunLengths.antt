@@ -6,7 +6,7 @@ use Rattle.squawk_parser.specs.Operators.{is_sign, is_special, longest_name, ope
 use Rattle.squawk_parser.specs.OperatorRuns.{IsPastLast, is_no_sign}
 use Rattle.squawk_parser.proofs.LimitedRuns.{kind_at-run, length-run_at}
 use Rattle.squawk_parser.proofs.OperatorNames.{longest-special, longest-other}
-use Rattle.squawk_parser.proofs.TouchingRun.{run_at, run_at-limit}
+use Rattle.squawk_parser.proofs.TouchingRun.{run_at}
 
 sign-true : (kind : ℕ) → is_no_sign kind ≡ false → is_sign kind ≡ true
 sign-true kind fails = cases (is_sign kind) fails
@@ -31,10 +31,6 @@ module _ (operator_kind : ℕ → Bool) (input : List Entry) (limit place : ℕ)
   unfolding run_at
   by_run = refl
 
-  -- at the limit none stands
-  pub length-limit : limit ≤ place → operator_length operator_kind seen ≡ 0
-  length-limit end = by_run ∙ ap (λ kinds. longest_name kinds (length kinds)) (run_at-limit operator_kind input limit place end)
-
   module _ (within : limit ≤ length input) (end : ℕ) (before : place ≤ limit)
       (ends : end ≡ min limit (place + length (touching_run operator_kind (seen_from input (length input) place)))) where
     length-run : length run ≡ end - place
@@ -46,7 +42,7 @@ module _ (operator_kind : ℕ → Bool) (input : List Entry) (limit place : ℕ)
         let at : place + (k - place) ≡ k = omega arith in
         kind_at-run operator_kind input limit within (k - place) place (omega (arith, length-run)) ∙ ap (kind_in input) at
 
-    -- nor does one where the run ends at once
+    -- none stands where the run ends at once
     pub length-none : end ≤ place → operator_length operator_kind seen ≡ 0
     length-none none = let empty : length run ≡ 0 = omega (arith, length-run) in by_run ∙ ap (longest_name run) empty
 

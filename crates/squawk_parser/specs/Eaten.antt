@@ -1,8 +1,8 @@
 -- What acts eat, and what they record for it.
 use Rattle.std.specs.Prelude.{◌≡◌, ℕ, ◌==◌, ◌++◌, Bool, false, Option, Some, None, List, [], ◌∷◌, length, map, take, drop, option_map, unwrap_or, codes, if◌then◌else◌}
-use Rattle.std.specs.Fmt.{decimal}
 use Rattle.std.specs.List.{find, list_any}
 use Rattle.std.specs.Str.{chars}
+use Rattle.squawk_kinds.specs.KindNames.{kind_name}
 use Rattle.squawk_kinds.specs.Kinds.{EOF, ERROR}
 use Rattle.squawk_kinds.specs.TokenSets.{has}
 use Rattle.squawk_table.specs.ParserInput.{Entry, kind_in}
@@ -79,13 +79,9 @@ elements_of_kind kind = unwrap_or (option_map (λ composite. elements_in composi
 
 -- ---- expected kinds
 
--- the name of a kind: that of its first pair, else its number
-abbrev pub name_in : List (ℕ × List ℕ) → ℕ → List ℕ
-name_in names kind = unwrap_or (option_map (λ pair. pair.1) (find (λ pair. pair.0 == kind) names)) (decimal kind)
-
 -- the text of the error where a kind is expected and doesn't stand
 abbrev pub expected_text : Words → ℕ → List ℕ
-expected_text words kind = chars (codes "expected " ++ name_in words.names kind)
+expected_text words kind = chars (codes "expected " ++ kind_name words.names kind)
 
 -- what expecting a kind puts at the end of a draft
 abbrev pub expect_steps : Words → ℕ → List Entry → List Step
@@ -129,8 +125,8 @@ pub record RunsTail (does : State → State → Type 0) (old new : State) : Type
   pub runs : does old new
   pub holes : HasNotFailed new → holes_of new.draft.items ≡ holes_of old.draft.items
 
--- A node is begun, the tokens of the kind's sequence are eaten, the tail runs once, what closes it is expected, and the node is
--- completed.
+-- A node is begun, the tokens of the kind's sequence are eaten, the tail runs once, what closes it is expected, and the
+-- node is completed.
 abbrev pub EatsWith : (State → State → Type 0) → ℕ → State → State → Type 0
 EatsWith does kind old new =
     (Begins (started_mark old)

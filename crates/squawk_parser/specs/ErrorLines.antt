@@ -4,7 +4,7 @@ use Rattle.squawk_parser.specs.declared.parser.parse_error.ParseError.{ParseErro
 use Rattle.squawk_parser.specs.declared.parser.parse_error.ParseError.TheVariants.{OutOfMemory, TooManyEvents, TooManyErrors}
 
 -- what is printed for a refusal
-abbrev pub line_of : ParseError → List ℕ
-line_of OutOfMemory = codes "memory"
-line_of TooManyEvents = codes "too many events"
-line_of TooManyErrors = codes "too many errors"
+abbrev pub parse_error_line : ParseError → List ℕ
+parse_error_line OutOfMemory = codes "memory"
+parse_error_line TooManyEvents = codes "too many events"
+parse_error_line TooManyErrors = codes "too many errors"

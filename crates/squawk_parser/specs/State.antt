@@ -8,7 +8,6 @@ use Rattle.squawk_output.specs.Draft.{Draft, nothing, Hole, IsLogged, Open, Mark
 use Rattle.squawk_output.specs.Steps.{eaten}
 use Rattle.squawk_table.specs.Shape.{IsOver}
 use Rattle.squawk_output.specs.OneRoot.{IsBalanced}
-use Rattle.squawk_parser.specs.declared.parser.limits.Limits.{Limits}
 use Rattle.squawk_parser.specs.declared.parser.parse_error.ParseError.{ParseError}
 use Rattle.squawk_parser.specs.declared.parser.parse_error.ParseError.TheVariants.{OutOfMemory, TooManyEvents, TooManyErrors}
 
@@ -29,10 +28,6 @@ pub record State : Type 0 where
   pub max_errors : ℕ
   -- why the parser failed, if it did
   pub first_reason : Option ParseError
-
--- the limits of how many events and how many errors it may record
-abbrev pub limits_of : State → Limits
-limits_of s = record { events = s.max_events; errors = s.max_errors }
 
 -- the parser has not failed
 abbrev pub HasNotFailed : State → Type 0
@@ -97,15 +92,15 @@ pub record Keeps (old new : State) : Type 0 where
   pub reason : IsSome old.first_reason → new.first_reason ≡ old.first_reason
   pub sound : IsSound new
 
--- Why a parser that has recorded so many events and errors, both within its limits, is refused one event more, which may be an error.
--- The limit of events is tested first, then that of errors, and memory last.
+-- Why a parser that has recorded so many events and errors, both within its limits, is refused one event more, which
+-- may be an error. The limit of events is tested first, then that of errors, and memory last.
 abbrev pub IsReason : ℕ → ℕ → ℕ → ℕ → Bool → ParseError → Type 0
 IsReason max_events max_errors events errors wrong TooManyEvents = (events ≡ max_events) × (errors ≤ max_errors)
 IsReason max_events max_errors events errors wrong TooManyErrors = (wrong ≡ true) × (errors ≡ max_errors) × (events < max_events)
 IsReason max_events max_errors events errors wrong OutOfMemory = (events < max_events) × (errors ≤ max_errors) × (wrong ≡ true → errors < max_errors)
 
--- An event that is no error is recorded. A parser that hasn't failed afterwards hadn't failed before, it had room for the event, and
--- its draft is this one.
+-- An event that is no error is recorded. A parser that hasn't failed afterwards hadn't failed before, it had room for
+-- the event, and its draft is this one.
 pub record Records (old new : State) (edited : Draft) : Type 0 where
   pub went : HasNotFailed new → HasNotFailed old
   pub room : HasNotFailed new → old.draft.recorded < old.max_events

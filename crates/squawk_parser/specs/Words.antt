@@ -1,5 +1,6 @@
 -- What a grammar tells about its kinds.
-use Rattle.std.specs.Prelude.{◌≡◌, ℕ, false, List, [], map, refl}
+use Rattle.std.specs.Prelude.{◌≡◌, false, [], map, refl}
+use Rattle.squawk_kinds.specs.KindNames.{Names}
 use Rattle.squawk_kinds.specs.Kinds.{EOF}
 use Rattle.squawk_kinds.specs.TokenSets as sets
 use Rattle.squawk_kinds.specs.TokenSets.{has, no_kinds}
@@ -9,7 +10,7 @@ use Rattle.squawk_parser.specs.declared.parser.words.Words.{Words as Given}
 -- the kinds that operators are made of, and kinds with their names
 pub record Words : Type 0 where
   pub operator_first : TokenSet
-  pub names : List (ℕ × List ℕ)
+  pub names : Names
 
 abbrev pub words_of : Given → Words
 words_of words = record { operator_first = words.operator_first; names = map (λ pair. (pair.0, pair.1.now)) words.names.now }

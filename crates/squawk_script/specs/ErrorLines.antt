@@ -5,7 +5,7 @@ use Rattle.squawk_script.specs.declared.script_error.ScriptError.{ScriptError}
 use Rattle.squawk_script.specs.declared.script_error.ScriptError.TheVariants.{BadCall, Unspent, OutOfMemory}
 
 -- what is printed for a refusal
-abbrev pub line_of : ScriptError → List ℕ
-line_of (BadCall index) = codes "bad call " ++ decimal index
-line_of (Unspent marker) = codes "unspent " ++ decimal marker
-line_of OutOfMemory = codes "memory"
+abbrev pub script_error_line : ScriptError → List ℕ
+script_error_line (BadCall index) = codes "bad call " ++ decimal index
+script_error_line (Unspent marker) = codes "unspent " ++ decimal marker
+script_error_line OutOfMemory = codes "memory"

@@ -19,9 +19,9 @@ pub enum ScriptError {
 
 impl fmt::Display for ScriptError {
     ghost use Rattle.std.specs.Prelude.{Some};
-    ghost use Rattle.squawk_script.specs.ErrorLines.{line_of};
+    ghost use Rattle.squawk_script.specs.ErrorLines.{script_error_line};
 
-    ghost output = { λ error. Some (line_of error) };
+    ghost output = { λ error. Some (script_error_line error) };
 
     fn fmt<W: fmt::Write>(&self, f: &mut fmt::Formatter<W>) -> fmt::Result {
         match *self {

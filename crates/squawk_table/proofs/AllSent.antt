@@ -1,5 +1,5 @@
 -- The sent list, once all steps are sent.
-use Rattle.std.proofs.Common.{◌≡◌, ◌∙◌, ℕ, zero, suc, ◌≤◌, List, [], ◌++◌, length, drop, slice_index, arith, ap, sym, subst, inl, inr}
+use Rattle.std.proofs.Common.{◌≡◌, ◌∙◌, ℕ, ◌≤◌, List, [], ◌++◌, length, drop, slice_index, arith, ap, sym, subst, inl, inr}
 use Rattle.std.specs.Prelude.{encode_utf8_all}
 use Rattle.std.specs.Str.{chars}
 use Rattle.std.proofs.lemmas.Bool.{cases_lt}
@@ -21,11 +21,6 @@ use Rattle.squawk_table.proofs.SentSteps.{IsOverRaw}
 use Rattle.squawk_table.proofs.SentNumbered.{sent_list-numbered}
 use Rattle.squawk_table.proofs.SentTexts.{raw_chars, texts_of-sent_below}
 use Rattle.squawk_table.proofs.SourceChars.{AreTexts-raw_tokens, raw_chars-raw_after, raw_chars-raw_tokens}
-
--- the starts ascend, so that no table has more raw tokens than bytes
-pub start-ge : (t : Table) → IsTable t → (i : ℕ) → i ≤ length t.kinds → i ≤ slice_index t.starts i
-start-ge t table zero le = omega arith
-start-ge t table (suc i) le = omega (arith, start-ge t table i (omega arith), table.ascends i (suc i) (omega arith) (omega (arith, table.entries)), table.entries)
 
 -- errors moved, a walk that fits a table is over its raw tokens
 pub IsOverRaw-from_fits : (t : Table) (steps : List Step) → Fits t steps → IsOverRaw (raw_tokens t) (errors_moved steps)

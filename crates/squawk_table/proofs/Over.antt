@@ -60,9 +60,6 @@ pub IsOver-token_last : (steps : List Step) (input : List Entry) (kind n : ℕ) 
     → IsOver (steps ++ Token kind n ∷ []) input
 IsOver-token_last steps input kind n over one = IsOver-append steps (Token kind n ∷ []) input over (one, tt)
 
-pub IsOver-enter_last : (steps : List Step) (input : List Entry) (kind : ℕ) → IsOver steps input → IsOver (steps ++ Enter kind ∷ []) input
-IsOver-enter_last steps input kind over = IsOver-append steps (Enter kind ∷ []) input over tt
-
 pub IsOver-exit_last : (steps : List Step) (input : List Entry) → IsOver steps input → IsOver (steps ++ Exit ∷ []) input
 IsOver-exit_last steps input over = IsOver-append steps (Exit ∷ []) input over tt
 

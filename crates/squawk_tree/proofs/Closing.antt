@@ -4,9 +4,10 @@ use Rattle.std.specs.Prelude.{Some, None}
 use Rattle.std.proofs.Math.Seq.{append_snoc, get_or-append_seam, set-append_seam}
 use Rattle.std.proofs.lemmas.List.{append-nil, length-append}
 use Rattle.std.proofs.lemmas.List.Elements.{All-set}
+use Rattle.squawk_kinds.specs.KindNames.{Names}
 use Rattle.squawk_table.specs.declared.shortcuts.str_step.OwnedStep.{OwnedStep}
 use Rattle.squawk_table.specs.declared.shortcuts.str_step.OwnedStep.TheVariants as step
-use Rattle.squawk_tree.specs.TreeText.{Names, bytes_left, line, text_from, tree_text}
+use Rattle.squawk_tree.specs.TreeText.{bytes_left, line, text_from, tree_text}
 use Rattle.squawk_tree.specs.Drawing.{Drawing, StandsAfter, lines_text, open_count, openings_in, shown_until}
 use Rattle.squawk_tree.specs.SoundDrawings.{IsPart, IsSoundDrawing, closed_line, open_places}
 use Rattle.squawk_tree.specs.declared.line.Line.{Line}

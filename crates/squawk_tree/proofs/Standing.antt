@@ -5,9 +5,10 @@ use Rattle.std.specs.Str.{chars}
 use Rattle.std.proofs.Math.Seq.{append_snoc}
 use Rattle.std.proofs.lemmas.List.{append-nil, length-append}
 use Rattle.std.proofs.lemmas.List.Elements.{All-head, All-tail, All-push}
+use Rattle.squawk_kinds.specs.KindNames.{Names}
 use Rattle.squawk_table.specs.declared.shortcuts.str_step.OwnedStep.{OwnedStep}
 use Rattle.squawk_table.specs.declared.shortcuts.str_step.OwnedStep.TheVariants as step
-use Rattle.squawk_tree.specs.TreeText.{Names, bytes_in, bytes_left, nodes_open_behind, line, tree_line, text_from, token_shown, tree_text}
+use Rattle.squawk_tree.specs.TreeText.{bytes_in, bytes_left, nodes_open_behind, line, tree_line, text_from, token_shown, tree_text}
 use Rattle.squawk_tree.specs.Drawing.{Drawing, StandsAfter, lines_text, open_count, openings_in, shown_until}
 use Rattle.squawk_tree.specs.SoundDrawings.{IsPart, IsSoundDrawing, open_places}
 use Rattle.squawk_tree.specs.declared.line.Line.{Line}

@@ -6,7 +6,7 @@ use Rattle.std.proofs.Math.Seq.{drop-append_seam}
 use Rattle.std.proofs.lemmas.List.{length-append, drop-append-le, take-append-le, length-drop, take_all}
 use Rattle.std.proofs.lemmas.List.Elements.{All-weaker}
 use Rattle.std.proofs.lemmas.Str.{IsCharBoundary-from_drop, IsCharBoundary-at_seam, IsCharBoundary-end, IsUtf8-drop, IsUtf8-append, encodes-chars}
-use Rattle.squawk_tree.specs.TreeText.{Names}
+use Rattle.squawk_kinds.specs.KindNames.{Names}
 use Rattle.squawk_tree.specs.Drawing.{shown_until}
 use Rattle.squawk_tree.specs.SoundDrawings.{IsPart}
 use Rattle.squawk_tree.specs.declared.line.Line.{Line}

@@ -1,12 +1,12 @@
 -- What is written of names and lines.
-use Rattle.std.proofs.Common.{◌≡◌, ◌∙◌, ℕ, suc, ◌<◌, ◌==◌, true, List, [], ◌∷◌, ◌++◌, length, drop, map, get_or, ap, sym, refl, add-zero, drop-cons}
+use Rattle.std.proofs.Common.{◌≡◌, ◌∙◌, ℕ, suc, ◌<◌, ◌==◌, true, List, [], ◌∷◌, length, drop, map, get_or, ap, sym, refl, drop-cons}
 use Rattle.std.specs.Prelude.{Result, Ok, Err, OnOk, is_ok, if◌then◌else◌}
 use Rattle.std.specs.Borrow.{Bor}
 use Rattle.std.proofs.lemmas.List.{append-nil}
+use Rattle.squawk_kinds.specs.KindNames.{Names, kind_name}
 use Rattle.squawk_table.specs.declared.shortcuts.str_step.OwnedStep.{OwnedStep}
-use Rattle.squawk_tree.specs.TreeText.{Names, line, kind_name, tree_text}
-use Rattle.squawk_tree.specs.Drawing.{Drawing, StandsAfter, lines_text, shown_until}
-use Rattle.squawk_tree.specs.declared.line.Line.{Line}
+use Rattle.squawk_tree.specs.TreeText.{tree_text}
+use Rattle.squawk_tree.specs.Drawing.{Drawing, StandsAfter, lines_text}
 
 -- what an answer that isn't an error leaves
 pub OnOk-same : {T E : Type 0} (r : Result T E) (new x y z : List ℕ) → new ≡ (if is_ok r then x else y) → x ≡ z → OnOk r (new ≡ z)
@@ -27,13 +27,6 @@ pub kind_name-at : (names : List (ℕ × Bor (List ℕ))) (i kind : ℕ) (pair :
 kind_name-at names i kind pair below here e =
     ap (λ pairs. kind_name (map (λ pair. (pair.0, pair.1.now)) pairs) kind) (drop-cons names i pair below ∙ ap (λ first. first ∷ drop (suc i) names) (sym here))
     ∙ kind_name-first pair.0 kind pair.1.now (map (λ pair. (pair.0, pair.1.now)) (drop (suc i) names)) e
-
--- the next line, where no steps follow
-pub lines_text-next : (names : Names) (texts : List ℕ) (lines : List Line) (i : ℕ) (l : Line) → i < length lines → l ≡ get_or lines i l
-    → lines_text names texts [] (drop i lines) ≡ line l.depth (shown_until names texts (length texts) l.shown) ++ lines_text names texts [] (drop (suc i) lines)
-lines_text-next names texts lines i l below here =
-    ap (lines_text names texts []) (drop-cons lines i l below ∙ ap (λ first. first ∷ drop (suc i) lines) (sym here))
-    ∙ ap (λ at. line l.depth (shown_until names texts at l.shown) ++ lines_text names texts [] (drop (suc i) lines)) (add-zero (length texts))
 
 -- the lines of a drawing that stands after steps
 pub lines_text-stands : (drawing : Drawing) (names : Names) (steps : List OwnedStep) → StandsAfter drawing steps

@@ -1,8 +1,9 @@
 -- The lines that a sink keeps of a tree, and what steps they stand for.
 use Rattle.std.specs.Prelude.{◌≡◌, ℕ, ◌+◌, List, [], ◌∷◌, ◌++◌, Some, None, length, slice_range, unwrap_or}
 use Rattle.std.specs.Str.{chars}
+use Rattle.squawk_kinds.specs.KindNames.{Names}
 use Rattle.squawk_table.specs.declared.shortcuts.str_step.OwnedStep.{OwnedStep}
-use Rattle.squawk_tree.specs.TreeText.{Names, bytes_left, error_shown, line, span, text_from, token_shown, tree_text}
+use Rattle.squawk_tree.specs.TreeText.{bytes_left, error_shown, line, span, text_from, token_shown, tree_text}
 use Rattle.squawk_tree.specs.declared.line.Line.{Line}
 use Rattle.squawk_tree.specs.declared.line.Shown.{Shown}
 use Rattle.squawk_tree.specs.declared.line.Shown.TheVariants.{Node, Token, Error}

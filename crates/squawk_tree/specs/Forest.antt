@@ -1,8 +1,9 @@
 -- Trees beside each other, and their text.
 use Rattle.std.specs.Prelude.{ℕ, suc, ◌+◌, List, [], ◌∷◌, ◌++◌, length, encode_utf8_all}
+use Rattle.squawk_kinds.specs.KindNames.{Names}
 use Rattle.squawk_table.specs.declared.shortcuts.str_step.OwnedStep.{OwnedStep}
 use Rattle.squawk_table.specs.declared.shortcuts.str_step.OwnedStep.TheVariants as step
-use Rattle.squawk_tree.specs.TreeText.{Names, error_shown, line, span, token_shown}
+use Rattle.squawk_tree.specs.TreeText.{error_shown, line, span, token_shown}
 
 -- trees beside each other
 pub data Forest : Type 0 where
@@ -29,7 +30,8 @@ forest_bytes (Token kind text others) = length (encode_utf8_all text) + forest_b
 forest_bytes (Node kind inner others) = forest_bytes inner + forest_bytes others
 forest_bytes (Error text pos others) = forest_bytes others
 
--- Their text, inside of so many nodes and behind so many bytes. A node has its line, and what is in it stands two spaces deeper.
+-- Their text, inside of so many nodes and behind so many bytes. A node has its line, and what is in it stands two
+-- spaces deeper.
 abbrev pub forest_text : Names → ℕ → ℕ → Forest → List ℕ
 forest_text names depth start Nothing = []
 forest_text names depth start (Token kind text others) =

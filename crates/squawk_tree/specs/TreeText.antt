@@ -1,23 +1,16 @@
 -- The text of a tree.
-use Rattle.std.specs.Prelude.{ℕ, zero, suc, ◌+◌, ◌-◌, ◌==◌, if◌then◌else◌, List, [], ◌∷◌, ◌++◌, codes, length, find, option_map, unwrap_or, encode_utf8, encode_utf8_all}
+use Rattle.std.specs.Prelude.{ℕ, zero, suc, ◌+◌, ◌-◌, ◌==◌, if◌then◌else◌, List, [], ◌∷◌, ◌++◌, codes, length, encode_utf8, encode_utf8_all}
 use Rattle.std.specs.List.{flat_map}
 use Rattle.std.specs.Fmt.{decimal}
+use Rattle.squawk_kinds.specs.KindNames.{Names, kind_name}
 use Rattle.squawk_table.specs.Sent.{text_in}
 use Rattle.squawk_table.specs.declared.shortcuts.str_step.OwnedStep.{OwnedStep}
 use Rattle.squawk_table.specs.declared.shortcuts.str_step.OwnedStep.TheVariants.{Token, Enter, Exit, Error}
 
--- ---- names and texts
+-- ---- texts
 
--- kinds with their names
-abbrev pub Names : Type 0
-Names = List (ℕ × List ℕ)
-
--- the name of a kind: that of its first pair, else its number
-abbrev pub kind_name : Names → ℕ → List ℕ
-kind_name names kind = unwrap_or (option_map (λ pair. pair.1) (find (λ pair. pair.0 == kind) names)) (decimal kind)
-
--- a character between quotes: line feed, carriage return, tab, backslash and quote have a backslash and a letter or a sign, all
--- others stand as they are
+-- a character between quotes: line feed, carriage return, tab, backslash and quote have a backslash and a letter or a
+-- sign, all others stand as they are
 abbrev pub escaped : ℕ → List ℕ
 escaped c =
     if c == 10 then codes "\\n" else (
@@ -43,8 +36,8 @@ nodes_open_behind depth (Enter kind) = suc depth
 nodes_open_behind depth Exit = depth - 1
 nodes_open_behind depth (Error text pos) = depth
 
--- How many bytes of tokens are left of a node, in which so many other nodes are open: those before its closing, or all where no
--- closing closes it.
+-- How many bytes of tokens are left of a node, in which so many other nodes are open: those before its closing, or all
+-- where no closing closes it.
 abbrev pub bytes_left : List OwnedStep → ℕ → ℕ
 bytes_left [] inner = 0
 bytes_left (Token kind text ∷ steps) inner = length (encode_utf8_all text) + bytes_left steps inner

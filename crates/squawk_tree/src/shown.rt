@@ -1,7 +1,8 @@
 //! The text of what a line shows.
 ghost use Rattle.std.specs.Prelude.{◌≡◌, ◌++◌, map, length, string_bytes, OnOk};
 ghost use Rattle.std.specs.Str.{chars};
-ghost use Rattle.squawk_tree.specs.TreeText.{escaped, indentation, kind_name, quoted_text, span};
+ghost use Rattle.squawk_kinds.specs.KindNames.{kind_name};
+ghost use Rattle.squawk_tree.specs.TreeText.{escaped, indentation, quoted_text, span};
 ghost use Rattle.squawk_tree.specs.Drawing.{shown_until};
 ghost use Rattle.squawk_tree.specs.SoundDrawings.{IsPart};
 

@@ -18,7 +18,7 @@ use Rattle.squawk_parser.proofs.Progress.{operator-eats}
 use Rattle.squawk_parser.proofs.RecordedItems.{eaten-append}
 use Rattle.squawk_parser.proofs.SeenSteps.{ahead-moved, ahead-still, if-false, if-true}
 use Rattle.squawk_parser.proofs.StepsInOrder.{RecordsSteps-before, RecordsSteps-puts, RecordsSteps-then}
-use Rattle.tiny_grammar.specs.Expressions.{behind, bin, expression_in_order, expression_steps, in_order, nested, operand_steps, operator_steps, part_in_order, rest_of, right_steps, rights, rights_of, tail_of}
+use Rattle.tiny_grammar.specs.Expressions.{behind, bin, expression_in_order, expression_steps, in_order, nested, operand_steps, operator_steps, part_in_order, rest_of, right_steps, rights, rights_of, behind_expression}
 
 -- one operator more
 pub nested-push : (first part : List Step) (parts : List (List Step)) → Enter bin ∷ (nested first parts ++ part) ++ Exit ∷ [] ≡ nested first (parts ++ part ∷ [])
@@ -45,7 +45,7 @@ pub record Expressing (old now : State) (left : Node) : Type 0 where
   pub enough : length (ahead now 0) ≤ most
   pub parts : rights_of (has old.words.operator_first) (ahead old 0)
       ≡ done ++ rights (has old.words.operator_first) most (ahead now 0)
-  pub rest : tail_of (has old.words.operator_first) (ahead old 0)
+  pub rest : behind_expression (has old.words.operator_first) (ahead old 0)
       ≡ rest_of (has old.words.operator_first) most (ahead now 0)
 
 pub expressing-first : {old now : State} {left : Node} → AddsNode (operand_steps (ahead old 0)) left old now → RecordsSteps (operand_steps (ahead old 0)) old now
@@ -135,7 +135,7 @@ module _ {old s : State} (w : State) {left : Node} (no_end : HasNoEnd old.words)
     where
       cases : (most : ℕ) → length (ahead s 0) ≤ most
           → rights_of (has old.words.operator_first) (ahead old 0) ≡ e.done ++ rights (has old.words.operator_first) most (ahead s 0)
-          → tail_of (has old.words.operator_first) (ahead old 0) ≡ rest_of (has old.words.operator_first) most (ahead s 0)
+          → behind_expression (has old.words.operator_first) (ahead old 0) ≡ rest_of (has old.words.operator_first) most (ahead s 0)
           → Expressing old w n
       cases zero enough parts rest = let lt = expressing-fewer e in absurd (omega (arith, lt, enough))
       cases (suc most) enough parts rest =
@@ -177,5 +177,5 @@ module _ {old now : State} {left : Node} (is : has now.words.operator_first (kin
       subst (λ parts. RecordsSteps (in_order (operand_steps (ahead old 0)) parts) old now)
       (sym (e.parts ∙ (ap (λ zs. e.done ++ zs) (parts-end (has old.words.operator_first) (ahead now 0) e.most ends) ∙ append-nil e.done))) e.records
 
-  pub expressing-rest : ahead now 0 ≡ tail_of (has old.words.operator_first) (ahead old 0)
+  pub expressing-rest : ahead now 0 ≡ behind_expression (has old.words.operator_first) (ahead old 0)
   expressing-rest = sym (e.rest ∙ rest-end (has old.words.operator_first) (ahead now 0) e.most ends)

@@ -7,7 +7,7 @@ use Rattle.std.proofs.lemmas.List.Sums.{sum_by-append}
 use Rattle.squawk_table.specs.ParserInput.{Entry}
 use Rattle.squawk_output.specs.Steps.{Step, Enter, Exit, errors_in, is_error}
 use Rattle.squawk_parser.specs.Eaten.{node}
-use Rattle.tiny_grammar.specs.Expressions.{bin, expression_in_order, expression_steps, in_order, nested, operand_steps, part_in_order, rights_of, source, tail_of, tail_steps, tiny_in_order, tiny_steps}
+use Rattle.tiny_grammar.specs.Expressions.{bin, expression_in_order, expression_steps, in_order, nested, operand_steps, part_in_order, rights_of, source, behind_expression, tail_steps, tiny_in_order, tiny_steps}
 
 errors-append : (xs ys : List Step) → errors_in (xs ++ ys) ≡ errors_in xs + errors_in ys
 errors-append xs ys = sum_by-append (λ step. cond (is_error step) 1 0) xs ys
@@ -46,7 +46,7 @@ errors-nested first parts =
 
 pub tiny-errors : (operator_kind : ℕ → Bool) (input : List Entry) → errors_in (tiny_in_order operator_kind input) ≡ errors_in (tiny_steps operator_kind input)
 tiny-errors operator_kind input =
-    let rest = tail_steps (tail_of operator_kind input) in
+    let rest = tail_steps (behind_expression operator_kind input) in
     omega (
       arith,
       errors-nested (operand_steps input) (rights_of operator_kind input),

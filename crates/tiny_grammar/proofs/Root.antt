@@ -10,7 +10,7 @@ use Rattle.squawk_output.specs.Steps.{Step, Enter, Exit, Error, without_errors}
 use Rattle.squawk_parser.specs.Eaten.{node, one}
 use Rattle.squawk_parser.specs.Operators.{operator_length}
 use Rattle.squawk_parser.proofs.WholeSteps.{IsWhole, root-node, whole-append, whole-node, whole-tokens}
-use Rattle.tiny_grammar.specs.Expressions.{behind, bin, expected_end, expected_operand, is_operand, nested, operand, operand_step, operand_steps, operator_steps, right_steps, rights, rights_of, source, tail_of, tail_steps, tiny_steps}
+use Rattle.tiny_grammar.specs.Expressions.{behind, bin, expected_end, expected_operand, is_operand, nested, operand, operand_step, operand_steps, operator_steps, right_steps, rights, rights_of, source, behind_expression, tail_steps, tiny_steps}
 
 -- ---- the parts
 
@@ -67,6 +67,6 @@ pub tiny_root : (operator_kind : ℕ → Bool) (input : List Entry) → StandsIn
 tiny_root operator_kind input =
     let first = operand_steps input in
     let inside = nested first (rights_of operator_kind input) in
-    let tail = tail_of operator_kind input in
+    let tail = behind_expression operator_kind input in
     root-node source (inside ++ tail_steps tail)
     (whole-append inside (tail_steps tail) (whole-nested operator_kind (length input) (behind first input) first (whole-operand input)) (whole-tail tail))

@@ -10,28 +10,28 @@ use Rattle.squawk_parser.specs.State.{State, HasNotFailed, IsFresh, Keeps, ahead
 use Rattle.squawk_parser.proofs.AddedSteps.{Adds-node, Adds-puts, Adds-then, closed-fresh, plain-fresh}
 use Rattle.squawk_parser.proofs.SeenSteps.{ahead-fresh, ahead-still}
 use Rattle.squawk_parser.proofs.StepsInOrder.{RecordsSteps-puts, RecordsSteps-then}
-use Rattle.tiny_grammar.specs.Expressions.{FailsTiny, IsTiny, expression_in_order, expression_steps, tail_of, tail_steps, tiny_in_order, tiny_steps}
+use Rattle.tiny_grammar.specs.Expressions.{FailsTiny, IsTiny, expression_in_order, expression_steps, behind_expression, tail_steps, tiny_in_order, tiny_steps}
 
 -- what stands in the root: an expression and the tail
 module _ {a b c d : State} {set : TokenSet} (fresh : IsFresh a) (words : a.words.operator_first ≡ set) (keeps : Keeps a b) (here : b.position ≡ a.position)
-    (rest : ahead c 0 ≡ tail_of (has b.words.operator_first) (ahead b 0)) (tail : Puts (tail_steps (ahead c 0)) c d) where
+    (rest : ahead c 0 ≡ behind_expression (has b.words.operator_first) (ahead b 0)) (tail : Puts (tail_steps (ahead c 0)) c d) where
   -- behind the root's marker the parser sees all of the input
   from_start : (P : (ℕ → Bool) → List Entry → Type 0) → P (has b.words.operator_first) (ahead b 0) → P (has set) a.input
   from_start P p =
       subst (λ (other : TokenSet). P (has other) a.input) (ap (λ words. words.operator_first) keeps.words ∙ words)
       (subst (P (has b.words.operator_first)) (ahead-still keeps here ∙ ahead-fresh fresh) p)
 
-  left : Puts (tail_steps (tail_of (has b.words.operator_first) (ahead b 0))) c d
+  left : Puts (tail_steps (behind_expression (has b.words.operator_first) (ahead b 0))) c d
   left = subst (λ seen. Puts (tail_steps seen) c d) rest tail
 
   pub inside_adds : Adds (expression_steps (has b.words.operator_first) (ahead b 0)) b c
-      → Adds (expression_steps (has set) a.input ++ tail_steps (tail_of (has set) a.input)) b d
-  inside_adds adds = from_start (λ operator_kind input. Adds (expression_steps operator_kind input ++ tail_steps (tail_of operator_kind input)) b d) (Adds-then adds (Adds-puts left))
+      → Adds (expression_steps (has set) a.input ++ tail_steps (behind_expression (has set) a.input)) b d
+  inside_adds adds = from_start (λ operator_kind input. Adds (expression_steps operator_kind input ++ tail_steps (behind_expression operator_kind input)) b d) (Adds-then adds (Adds-puts left))
 
   pub inside_records : RecordsSteps (expression_in_order (has b.words.operator_first) (ahead b 0)) b c
-      → RecordsSteps (expression_in_order (has set) a.input ++ tail_steps (tail_of (has set) a.input)) b d
+      → RecordsSteps (expression_in_order (has set) a.input ++ tail_steps (behind_expression (has set) a.input)) b d
   inside_records records =
-      from_start (λ operator_kind input. RecordsSteps (expression_in_order operator_kind input ++ tail_steps (tail_of operator_kind input)) b d)
+      from_start (λ operator_kind input. RecordsSteps (expression_in_order operator_kind input ++ tail_steps (behind_expression operator_kind input)) b d)
       (RecordsSteps-then records (RecordsSteps-puts left))
 
 -- all of a run

@@ -20,7 +20,7 @@ use Rattle.squawk_parser.specs.Parse.{IsParse}
 use Rattle.squawk_parser.proofs.Progress.{eaten-node}
 use Rattle.squawk_parser.proofs.RecordedItems.{eaten-append}
 use Rattle.squawk_parser.proofs.SeenSteps.{if-false}
-use Rattle.tiny_grammar.specs.Expressions.{IsTiny, behind, bin, expected_end, nested, operand_steps, rest_of, right_steps, rights, rights_of, source, tail_of, tail_steps, tiny_steps}
+use Rattle.tiny_grammar.specs.Expressions.{IsTiny, behind, bin, expected_end, nested, operand_steps, rest_of, right_steps, rights, rights_of, source, behind_expression, tail_steps, tiny_steps}
 use Rattle.tiny_grammar.proofs.Root.{tiny_root}
 
 tail-eaten : (seen : List Entry) → HasNoEndToken seen → eaten (tail_steps seen) ≡ length seen
@@ -72,7 +72,7 @@ tiny-eaten operator_kind input some =
     let first = operand_steps input in
     let seen = behind first input in
     let parts = rights_of operator_kind input in
-    let rest = tail_of operator_kind input in
+    let rest = behind_expression operator_kind input in
     let left = rest-some operator_kind (length input) seen (All-drop (λ e. e.kind ≢ EOF) (eaten first) input some) in
     omega (
       arith,

@@ -79,8 +79,8 @@ rest_of operator_kind (suc n) seen =
 abbrev pub rights_of : (ℕ → Bool) → List Entry → List (List Step)
 rights_of operator_kind seen = rights operator_kind (length seen) (behind (operand_steps seen) seen)
 
-abbrev pub tail_of : (ℕ → Bool) → List Entry → List Entry
-tail_of operator_kind seen = rest_of operator_kind (length seen) (behind (operand_steps seen) seen)
+abbrev pub behind_expression : (ℕ → Bool) → List Entry → List Entry
+behind_expression operator_kind seen = rest_of operator_kind (length seen) (behind (operand_steps seen) seen)
 
 -- ---- the plain list
 
@@ -98,7 +98,7 @@ tail_steps (e ∷ seen) = if e.kind == EOF then [] else node ERROR (Error expect
 
 -- all of an input
 abbrev pub tiny_steps : (ℕ → Bool) → List Entry → List Step
-tiny_steps operator_kind input = node source (expression_steps operator_kind input ++ tail_steps (tail_of operator_kind input))
+tiny_steps operator_kind input = node source (expression_steps operator_kind input ++ tail_steps (behind_expression operator_kind input))
 
 -- ---- the order in which the steps are recorded
 
@@ -114,7 +114,7 @@ expression_in_order operator_kind seen = in_order (operand_steps seen) (rights_o
 
 -- all of an input
 abbrev pub tiny_in_order : (ℕ → Bool) → List Entry → List Step
-tiny_in_order operator_kind input = node source (expression_in_order operator_kind input ++ tail_steps (tail_of operator_kind input))
+tiny_in_order operator_kind input = node source (expression_in_order operator_kind input ++ tail_steps (behind_expression operator_kind input))
 
 -- ---- a run
 

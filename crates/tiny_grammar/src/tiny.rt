@@ -10,7 +10,7 @@ ghost use Rattle.squawk_parser.specs.Recorded.{Puts};
 ghost use Rattle.squawk_parser.specs.State.{State, HasNode, ahead, fresh};
 ghost use Rattle.squawk_parser.specs.Words.{HasNoEnd};
 ghost use Rattle.squawk_parser.specs.declared.parser.parse_error.ParseError.TheVariants.{OutOfMemory};
-ghost use Rattle.tiny_grammar.specs.Expressions.{FailsTiny, IsTiny, behind, bin, expression_in_order, expression_steps, is_operand, is_operator_kind, operand_step, operand_steps, operator_steps, part_in_order, right_steps, tail_of, tail_steps};
+ghost use Rattle.tiny_grammar.specs.Expressions.{FailsTiny, IsTiny, behind, bin, expression_in_order, expression_steps, is_operand, is_operator_kind, operand_step, operand_steps, operator_steps, part_in_order, right_steps, behind_expression, tail_steps};
 
 use squawk_parser::{
     CompletedMarker, EntryPoint, Grammar, LexedStr, Output, ParseError, Parser, SyntaxKind,
@@ -128,7 +128,7 @@ fn expression(p: &mut Parser<'_>)
     requires { HasNoEnd p.old.words }
     ensures adds { Adds (expression_steps (has p.old.words.operator_first) (ahead p.old 0)) p.old p.new }
     ensures records { RecordsSteps (expression_in_order (has p.old.words.operator_first) (ahead p.old 0)) p.old p.new }
-    ensures rest { ahead p.new 0 ≡ tail_of (has p.old.words.operator_first) (ahead p.old 0) }
+    ensures rest { ahead p.new 0 ≡ behind_expression (has p.old.words.operator_first) (ahead p.old 0) }
 {
     let mut left = operand(p);
     while p.at(SyntaxKind::CUSTOM_OP) {

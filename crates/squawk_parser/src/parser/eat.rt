@@ -1,11 +1,12 @@
 //! Acts that eat a kind where it stands, a composite one as its row says.
 ghost use Rattle.std.specs.Prelude.{ℕ, ◌≡◌, ◌≢◌, ◌<◌, ◌∷◌, ◌++◌, [], codes, string_bytes, map, IfOk, IsTrue, IsSome, not};
+ghost use Rattle.squawk_kinds.specs.KindNames.{kind_name};
 ghost use Rattle.squawk_kinds.specs.Kinds.{EOF, R_PAREN, TOMBSTONE};
 ghost use Rattle.squawk_kinds.specs.TokenSets.{has};
 ghost use Rattle.squawk_table.specs.ParserInput.{kind_in};
 ghost use Rattle.squawk_parser.specs.CompositeRows.{element_of, tail_of};
 ghost use Rattle.squawk_parser.specs.Composites.{ClosedBy, HasNoEndKind, NoTail, Operator, do_touch, normal_form, sequence_length, stands_at};
-ghost use Rattle.squawk_parser.specs.Eaten.{EatsWith, closing_steps, eat_steps, element_steps, expect_steps, form_steps, name_in, node, one, tail_of_kind};
+ghost use Rattle.squawk_parser.specs.Eaten.{EatsWith, closing_steps, eat_steps, element_steps, expect_steps, form_steps, node, one, tail_of_kind};
 ghost use Rattle.squawk_parser.specs.Recorded.{Puts};
 ghost use Rattle.squawk_parser.specs.State.{IsSound, Keeps, ahead};
 
@@ -193,7 +194,7 @@ fn expected(
     names: &[(SyntaxKind, &str)],
     kind: SyntaxKind,
 ) -> Result<String, AllocError>
-    ensures { IfOk result (λ s. string_bytes s ≡ codes "expected " ++ name_in (map (λ pair. (pair.0, pair.1.now)) names.now) kind) }
+    ensures { IfOk result (λ s. string_bytes s ≡ codes "expected " ++ kind_name (map (λ pair. (pair.0, pair.1.now)) names.now) kind) }
 {
     for (named, name) in names {
         if *named == kind {

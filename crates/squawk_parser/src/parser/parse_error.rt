@@ -19,9 +19,9 @@ pub enum ParseError {
 
 impl fmt::Display for ParseError {
     ghost use Rattle.std.specs.Prelude.{Some};
-    ghost use Rattle.squawk_parser.specs.ErrorLines.{line_of};
+    ghost use Rattle.squawk_parser.specs.ErrorLines.{parse_error_line};
 
-    ghost output = { λ error. Some (line_of error) };
+    ghost output = { λ error. Some (parse_error_line error) };
 
     fn fmt<W: fmt::Write>(&self, f: &mut fmt::Formatter<W>) -> fmt::Result {
         match *self {

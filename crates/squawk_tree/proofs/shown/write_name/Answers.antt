@@ -1,7 +1,7 @@
 use Rattle.std.proofs.Common.{◌≡◌, ◌∙◌, ◌++◌, [], arith, ap, drop, map, string_bytes, sym}
 use Rattle.std.specs.Fmt.{decimal}
 use Rattle.std.proofs.lemmas.List.{drop_all}
-use Rattle.squawk_tree.specs.TreeText.{kind_name}
+use Rattle.squawk_kinds.specs.KindNames.{kind_name}
 use Rattle.squawk_tree.proofs.Written.{OnOk-becomes, OnOk-same, kind_name-at}
 use Rattle.squawk_tree.proofs.shown.write_name.Goals as goal
 

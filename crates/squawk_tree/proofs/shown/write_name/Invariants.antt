@@ -1,5 +1,5 @@
 use Rattle.std.proofs.Common.{◌≡◌, map, drop, string_bytes}
-use Rattle.squawk_tree.specs.TreeText.{kind_name}
+use Rattle.squawk_kinds.specs.KindNames.{kind_name}
 use Rattle.squawk_tree.proofs.shown.write_name.Given as goal
 
 -- nothing is written, and the name of the kind is that among the pairs that are left

@@ -2,11 +2,12 @@ use Rattle.std.proofs.Common.{◌≡◌, ◌∙◌, ◌++◌, ℕ, List, [], ◌
 use Rattle.std.specs.Prelude.{codes, string_bytes}
 use Rattle.std.specs.Str.{chars}
 use Rattle.std.proofs.lemmas.Result.{IfOk-weaker}
+use Rattle.squawk_kinds.specs.KindNames.{kind_name}
 use Rattle.squawk_kinds.specs.TokenSets.{has}
 use Rattle.squawk_table.specs.ParserInput.{Entry}
 use Rattle.squawk_output.specs.Steps.{Error}
 use Rattle.squawk_parser.specs.Composites.{stands_at}
-use Rattle.squawk_parser.specs.Eaten.{expect_steps, expected_text, name_in}
+use Rattle.squawk_parser.specs.Eaten.{expect_steps, expected_text}
 use Rattle.squawk_parser.specs.Recorded.{Puts}
 use Rattle.squawk_parser.specs.State.{ahead}
 use Rattle.squawk_parser.specs.Words.{Words}
@@ -23,7 +24,7 @@ returns-then-has_room_for_error-clause-puts c =
     let old = c.args.self.now in
     let room : c.has_room_for_error.new.self ≡ old = (c.has_room_for_error.ensures.room c.if-has_room_for_error.true).0 ∙ c.eat.ensures.none (ap not c.if-eat.false) in
     let names : map (λ pair. (pair.0, pair.1.now)) c.self.inside.names.now ≡ old.words.names = ap (λ s. s.words.names) (c.self.view_is ∙ room) in
-    let text = λ (names : List (ℕ × List ℕ)). codes "expected " ++ name_in names c.args.kind in
+    let text = λ (names : List (ℕ × List ℕ)). codes "expected " ++ kind_name names c.args.kind in
     let own = map (λ pair. (pair.0, pair.1.now)) c.self.inside.names.now in
     let reads = IfOk-weaker c.expected-text.result (λ s. string_bytes s ≡ text own) (λ s. chars (string_bytes s) ≡ expected_text old.words c.args.kind)
     (λ s is. ap chars (is ∙ ap text names)) c.expected-text.ensures in

@@ -1,6 +1,6 @@
 use Rattle.std.proofs.Common.{◌≡◌, ◌∙◌, ◌++◌, [], arith, ap, drop, length, map, string_bytes, sym}
 use Rattle.std.proofs.lemmas.List.{append-nil, drop_all}
-use Rattle.squawk_tree.specs.TreeText.{Names}
+use Rattle.squawk_kinds.specs.KindNames.{Names}
 use Rattle.squawk_tree.specs.Drawing.{lines_text}
 use Rattle.squawk_tree.specs.Forest.{forest_steps}
 use Rattle.squawk_tree.proofs.Forests.{tree_text-forest}
