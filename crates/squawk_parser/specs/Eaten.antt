@@ -10,7 +10,7 @@ use Rattle.squawk_output.specs.Steps.{Step, Token, Enter, Exit, Error}
 use Rattle.squawk_parser.specs.Composites.{Element, One, AtMostOne, Tail, NoTail, Open, ClosedBy, Form, Glued, Touching, Sequence, Operator, Composite, composites, stands_at}
 use Rattle.squawk_output.specs.Draft.{holes_of}
 use Rattle.squawk_parser.specs.Operators.{operator_length}
-use Rattle.squawk_parser.specs.State.{State, HasNotFailed, IsSound, Keeps, ahead}
+use Rattle.squawk_parser.specs.State.{State, HasNotFailed, Keeps, ahead}
 use Rattle.squawk_parser.specs.Recorded.{Begins, Completes, Puts, started_mark}
 use Rattle.squawk_parser.specs.Words.{Words}
 

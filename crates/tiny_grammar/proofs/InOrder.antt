@@ -1,5 +1,5 @@
 -- The steps in the order in which they are recorded have the errors of the plain list.
-use Rattle.std.proofs.Common.{◌≡◌, ℕ, ◌+◌, ◌*◌, Bool, List, [], ◌∷◌, ◌++◌, length, cond, arith, refl}
+use Rattle.std.proofs.Common.{◌≡◌, ℕ, ◌+◌, ◌*◌, List, [], ◌∷◌, ◌++◌, length, cond, arith, refl}
 use Rattle.std.specs.Prelude.{replicate}
 use Rattle.std.specs.List.{flat_map}
 use Rattle.std.proofs.lemmas.List.Folds.{sum_by-replicate}
@@ -44,14 +44,14 @@ errors-nested first parts =
       errors-append ones first,
     )
 
-pub tiny-errors : (operator_kind : ℕ → Bool) (input : List Entry) → errors_in (tiny_in_order operator_kind input) ≡ errors_in (tiny_steps operator_kind input)
-tiny-errors operator_kind input =
-    let rest = tail_steps (behind_expression operator_kind input) in
+pub tiny-errors : (input : List Entry) → errors_in (tiny_in_order input) ≡ errors_in (tiny_steps input)
+tiny-errors input =
+    let rest = tail_steps (behind_expression input) in
     omega (
       arith,
-      errors-nested (operand_steps input) (rights_of operator_kind input),
-      errors-node source (expression_in_order operator_kind input ++ rest),
-      errors-node source (expression_steps operator_kind input ++ rest),
-      errors-append (expression_in_order operator_kind input) rest,
-      errors-append (expression_steps operator_kind input) rest,
+      errors-nested (operand_steps input) (rights_of input),
+      errors-node source (expression_in_order input ++ rest),
+      errors-node source (expression_steps input ++ rest),
+      errors-append (expression_in_order input) rest,
+      errors-append (expression_steps input) rest,
     )

@@ -10,7 +10,7 @@ use Rattle.squawk_output.specs.Steps.{Step, Enter, Exit, Error, without_errors}
 use Rattle.squawk_parser.specs.Eaten.{node, one}
 use Rattle.squawk_parser.specs.Operators.{operator_length}
 use Rattle.squawk_parser.proofs.WholeSteps.{IsWhole, root-node, whole-append, whole-node, whole-tokens}
-use Rattle.tiny_grammar.specs.Expressions.{behind, bin, expected_end, expected_operand, is_operand, nested, operand, operand_step, operand_steps, operator_steps, right_steps, rights, rights_of, source, behind_expression, tail_steps, tiny_steps}
+use Rattle.tiny_grammar.specs.Expressions.{behind, is_operator_kind, bin, expected_end, expected_operand, is_operand, nested, operand, operand_step, operand_steps, operator_steps, right_steps, rights, rights_of, source, behind_expression, tail_steps, tiny_steps}
 
 -- ---- the parts
 
@@ -21,11 +21,11 @@ whole-operand seen = whole-node operand (operand_step seen ∷ []) (cases (is_op
     cases true = refl
     cases false = refl
 
-whole-right : (operator_kind : ℕ → Bool) (seen : List Entry) → IsWhole (right_steps operator_kind seen)
-whole-right operator_kind seen =
-    let operator = operator_steps operator_kind seen in
+whole-right : (seen : List Entry) → IsWhole (right_steps seen)
+whole-right seen =
+    let operator = operator_steps seen in
     whole-append operator (operand_steps (behind operator seen))
-    (whole-node CUSTOM_OP (map (λ e. one e.kind) (take (operator_length operator_kind seen) seen)) (whole-tokens (take (operator_length operator_kind seen) seen)))
+    (whole-node CUSTOM_OP (map (λ e. one e.kind) (take (operator_length is_operator_kind seen) seen)) (whole-tokens (take (operator_length is_operator_kind seen) seen)))
     (whole-operand (behind operator seen))
 
 whole-tail : (seen : List Entry) → IsWhole (tail_steps seen)
@@ -49,24 +49,24 @@ nested-cons first part parts =
     let two : ((ones ++ Enter bin ∷ []) ++ first) ++ ((part ++ Exit ∷ []) ++ rest) ≡ (ones ++ (Enter bin ∷ (first ++ part) ++ Exit ∷ [])) ++ rest = simp append_assoc in
     one ∙ two
 
-whole-nested : (operator_kind : ℕ → Bool) (n : ℕ) (seen : List Entry) (first : List Step) → IsWhole first → IsWhole (nested first (rights operator_kind n seen))
-whole-nested operator_kind zero seen first whole = subst IsWhole (sym (append-nil first)) whole
-whole-nested operator_kind (suc n) seen first whole =
-    let right = right_steps operator_kind seen in
-    cases (operator_kind (kind_in seen 0))
-    (whole-nested operator_kind n (behind right seen) (node bin (first ++ right)) (whole-node bin (first ++ right) (whole-append first right whole (whole-right operator_kind seen))))
+whole-nested : (n : ℕ) (seen : List Entry) (first : List Step) → IsWhole first → IsWhole (nested first (rights n seen))
+whole-nested zero seen first whole = subst IsWhole (sym (append-nil first)) whole
+whole-nested (suc n) seen first whole =
+    let right = right_steps seen in
+    cases (is_operator_kind (kind_in seen 0))
+    (whole-nested n (behind right seen) (node bin (first ++ right)) (whole-node bin (first ++ right) (whole-append first right whole (whole-right seen))))
   where
-    cases : (b : Bool) → IsWhole (nested (node bin (first ++ right_steps operator_kind seen)) (rights operator_kind n (behind (right_steps operator_kind seen) seen)))
-        → IsWhole (nested first (if b then right_steps operator_kind seen ∷ rights operator_kind n (behind (right_steps operator_kind seen) seen) else []))
-    cases true rest = subst IsWhole (sym (nested-cons first (right_steps operator_kind seen) (rights operator_kind n (behind (right_steps operator_kind seen) seen)))) rest
+    cases : (b : Bool) → IsWhole (nested (node bin (first ++ right_steps seen)) (rights n (behind (right_steps seen) seen)))
+        → IsWhole (nested first (if b then right_steps seen ∷ rights n (behind (right_steps seen) seen) else []))
+    cases true rest = subst IsWhole (sym (nested-cons first (right_steps seen) (rights n (behind (right_steps seen) seen)))) rest
     cases false rest = subst IsWhole (sym (append-nil first)) whole
 
 -- ---- the root
 
-pub tiny_root : (operator_kind : ℕ → Bool) (input : List Entry) → StandsInOneRoot (without_errors (tiny_steps operator_kind input))
-tiny_root operator_kind input =
+pub tiny_root : (input : List Entry) → StandsInOneRoot (without_errors (tiny_steps input))
+tiny_root input =
     let first = operand_steps input in
-    let inside = nested first (rights_of operator_kind input) in
-    let tail = behind_expression operator_kind input in
+    let inside = nested first (rights_of input) in
+    let tail = behind_expression input in
     root-node source (inside ++ tail_steps tail)
-    (whole-append inside (tail_steps tail) (whole-nested operator_kind (length input) (behind first input) first (whole-operand input)) (whole-tail tail))
+    (whole-append inside (tail_steps tail) (whole-nested (length input) (behind first input) first (whole-operand input)) (whole-tail tail))

@@ -1,8 +1,5 @@
 -- A whole run.
-use Rattle.std.proofs.Common.{◌≡◌, ◌∙◌, ℕ, Bool, List, ◌++◌, arith, ap, subst}
-use Rattle.squawk_kinds.specs.TokenSets.{has}
-use Rattle.squawk_kinds.specs.declared.token_set.TokenSet.{TokenSet}
-use Rattle.squawk_table.specs.ParserInput.{Entry}
+use Rattle.std.proofs.Common.{◌≡◌, ◌∙◌, ◌++◌, arith, ap, subst}
 use Rattle.squawk_output.specs.Draft.{Node, HasNoHole}
 use Rattle.squawk_parser.specs.Composed.{Adds, AddsNode, RecordsSteps}
 use Rattle.squawk_parser.specs.Recorded.{Puts}
@@ -13,37 +10,32 @@ use Rattle.squawk_parser.proofs.StepsInOrder.{RecordsSteps-puts, RecordsSteps-th
 use Rattle.tiny_grammar.specs.Expressions.{FailsTiny, IsTiny, expression_in_order, expression_steps, behind_expression, tail_steps, tiny_in_order, tiny_steps}
 
 -- what stands in the root: an expression and the tail
-module _ {a b c d : State} {set : TokenSet} (fresh : IsFresh a) (words : a.words.operator_first ≡ set) (keeps : Keeps a b) (here : b.position ≡ a.position)
-    (rest : ahead c 0 ≡ behind_expression (has b.words.operator_first) (ahead b 0)) (tail : Puts (tail_steps (ahead c 0)) c d) where
+module _ {a b c d : State} (fresh : IsFresh a) (keeps : Keeps a b) (here : b.position ≡ a.position) (rest : ahead c 0 ≡ behind_expression (ahead b 0))
+    (tail : Puts (tail_steps (ahead c 0)) c d) where
   -- behind the root's marker the parser sees all of the input
-  from_start : (P : (ℕ → Bool) → List Entry → Type 0) → P (has b.words.operator_first) (ahead b 0) → P (has set) a.input
-  from_start P p =
-      subst (λ (other : TokenSet). P (has other) a.input) (ap (λ words. words.operator_first) keeps.words ∙ words)
-      (subst (P (has b.words.operator_first)) (ahead-still keeps here ∙ ahead-fresh fresh) p)
+  from_start : ahead b 0 ≡ a.input
+  from_start = ahead-still keeps here ∙ ahead-fresh fresh
 
-  left : Puts (tail_steps (behind_expression (has b.words.operator_first) (ahead b 0))) c d
+  left : Puts (tail_steps (behind_expression (ahead b 0))) c d
   left = subst (λ seen. Puts (tail_steps seen) c d) rest tail
 
-  pub inside_adds : Adds (expression_steps (has b.words.operator_first) (ahead b 0)) b c
-      → Adds (expression_steps (has set) a.input ++ tail_steps (behind_expression (has set) a.input)) b d
-  inside_adds adds = from_start (λ operator_kind input. Adds (expression_steps operator_kind input ++ tail_steps (behind_expression operator_kind input)) b d) (Adds-then adds (Adds-puts left))
+  pub inside_adds : Adds (expression_steps (ahead b 0)) b c → Adds (expression_steps a.input ++ tail_steps (behind_expression a.input)) b d
+  inside_adds adds = subst (λ input. Adds (expression_steps input ++ tail_steps (behind_expression input)) b d) from_start (Adds-then adds (Adds-puts left))
 
-  pub inside_records : RecordsSteps (expression_in_order (has b.words.operator_first) (ahead b 0)) b c
-      → RecordsSteps (expression_in_order (has set) a.input ++ tail_steps (behind_expression (has set) a.input)) b d
+  pub inside_records : RecordsSteps (expression_in_order (ahead b 0)) b c → RecordsSteps (expression_in_order a.input ++ tail_steps (behind_expression a.input)) b d
   inside_records records =
-      from_start (λ operator_kind input. RecordsSteps (expression_in_order operator_kind input ++ tail_steps (behind_expression operator_kind input)) b d)
-      (RecordsSteps-then records (RecordsSteps-puts left))
+      subst (λ input. RecordsSteps (expression_in_order input ++ tail_steps (behind_expression input)) b d) from_start (RecordsSteps-then records (RecordsSteps-puts left))
 
 -- all of a run
-module _ {a e : State} (operator_kind : ℕ → Bool) (fresh : IsFresh a) (records : RecordsSteps (tiny_in_order operator_kind a.input) a e) where
-  pub source_fails : FailsTiny operator_kind a e
+module _ {a e : State} (fresh : IsFresh a) (records : RecordsSteps (tiny_in_order a.input) a e) where
+  pub source_fails : FailsTiny a e
   source_fails = records.refused (ap (λ s. s.first_reason) fresh)
 
-  module _ {n : Node} (adds : AddsNode (tiny_steps operator_kind a.input) n a e) where
+  module _ {n : Node} (adds : AddsNode (tiny_steps a.input) n a e) where
     pub source_closed : HasNotFailed e → HasNoHole e.draft.items
     source_closed = closed-fresh fresh (Adds-node adds)
 
-    pub source_leaves : HasNotFailed e → IsTiny operator_kind a.input e.draft
+    pub source_leaves : HasNotFailed e → IsTiny a.input e.draft
     source_leaves goes = record {
       items = plain-fresh fresh (Adds-node adds) goes;
       recorded = omega (arith, records.recorded goes, ap (λ s. s.draft.recorded) fresh);

@@ -20,7 +20,7 @@ use Rattle.squawk_parser.specs.Parse.{IsParse}
 use Rattle.squawk_parser.proofs.Progress.{eaten-node}
 use Rattle.squawk_parser.proofs.RecordedItems.{eaten-append}
 use Rattle.squawk_parser.proofs.SeenSteps.{if-false}
-use Rattle.tiny_grammar.specs.Expressions.{IsTiny, behind, bin, expected_end, nested, operand_steps, rest_of, right_steps, rights, rights_of, source, behind_expression, tail_steps, tiny_steps}
+use Rattle.tiny_grammar.specs.Expressions.{IsTiny, behind, bin, is_operator_kind, expected_end, nested, operand_steps, rest_of, right_steps, rights, rights_of, source, behind_expression, tail_steps, tiny_steps}
 use Rattle.tiny_grammar.proofs.Root.{tiny_root}
 
 tail-eaten : (seen : List Entry) → HasNoEndToken seen → eaten (tail_steps seen) ≡ length seen
@@ -35,29 +35,29 @@ tail-eaten (e ∷ seen) some =
 abbrev closed_parts : List (List Step) → List Step
 closed_parts parts = flat_map (λ part. part ++ Exit ∷ []) parts
 
-rights-eaten : (operator_kind : ℕ → Bool) (n : ℕ) (seen : List Entry) → length seen ≤ eaten (closed_parts (rights operator_kind n seen)) + length (rest_of operator_kind n seen)
-rights-eaten operator_kind zero seen = omega arith
-rights-eaten operator_kind (suc n) seen =
-    let right = right_steps operator_kind seen in
-    cases (operator_kind (kind_in seen 0)) (rights-eaten operator_kind n (behind right seen))
+rights-eaten : (n : ℕ) (seen : List Entry) → length seen ≤ eaten (closed_parts (rights n seen)) + length (rest_of n seen)
+rights-eaten zero seen = omega arith
+rights-eaten (suc n) seen =
+    let right = right_steps seen in
+    cases (is_operator_kind (kind_in seen 0)) (rights-eaten n (behind right seen))
   where
     cases : (b : Bool)
-        → length (behind (right_steps operator_kind seen) seen) ≤ eaten (closed_parts (rights operator_kind n (behind (right_steps operator_kind seen) seen))) + length (rest_of operator_kind n (behind (right_steps operator_kind seen) seen))
-        → length seen ≤ eaten (closed_parts (if b then right_steps operator_kind seen ∷ rights operator_kind n (behind (right_steps operator_kind seen) seen) else [])) + length (if b then rest_of operator_kind n (behind (right_steps operator_kind seen) seen) else seen)
+        → length (behind (right_steps seen) seen) ≤ eaten (closed_parts (rights n (behind (right_steps seen) seen))) + length (rest_of n (behind (right_steps seen) seen))
+        → length seen ≤ eaten (closed_parts (if b then right_steps seen ∷ rights n (behind (right_steps seen) seen) else [])) + length (if b then rest_of n (behind (right_steps seen) seen) else seen)
     cases true rest =
-        let right = right_steps operator_kind seen in
-        let parts = rights operator_kind n (behind right seen) in
+        let right = right_steps seen in
+        let parts = rights n (behind right seen) in
         omega (arith, rest, length-drop (eaten right) seen, eaten-append (right ++ Exit ∷ []) (closed_parts parts), eaten-append right (Exit ∷ []))
     cases false rest = omega arith
 
-rest-some : (operator_kind : ℕ → Bool) (n : ℕ) (seen : List Entry) → HasNoEndToken seen → HasNoEndToken (rest_of operator_kind n seen)
-rest-some operator_kind zero seen some = some
-rest-some operator_kind (suc n) seen some =
-    let right = right_steps operator_kind seen in
-    cases (operator_kind (kind_in seen 0)) (rest-some operator_kind n (behind right seen) (All-drop (λ e. e.kind ≢ EOF) (eaten right) seen some))
+rest-some : (n : ℕ) (seen : List Entry) → HasNoEndToken seen → HasNoEndToken (rest_of n seen)
+rest-some zero seen some = some
+rest-some (suc n) seen some =
+    let right = right_steps seen in
+    cases (is_operator_kind (kind_in seen 0)) (rest-some n (behind right seen) (All-drop (λ e. e.kind ≢ EOF) (eaten right) seen some))
   where
-    cases : (b : Bool) → HasNoEndToken (rest_of operator_kind n (behind (right_steps operator_kind seen) seen))
-        → HasNoEndToken (if b then rest_of operator_kind n (behind (right_steps operator_kind seen) seen) else seen)
+    cases : (b : Bool) → HasNoEndToken (rest_of n (behind (right_steps seen) seen))
+        → HasNoEndToken (if b then rest_of n (behind (right_steps seen) seen) else seen)
     cases true rest = rest
     cases false rest = some
 
@@ -67,16 +67,16 @@ nested-eaten first parts =
     let none : eaten ones ≡ length parts * 0 = sum_by-replicate count_of (length parts) (Enter bin) in
     omega (arith, none, eaten-append (ones ++ first) (closed_parts parts), eaten-append ones first)
 
-tiny-eaten : (operator_kind : ℕ → Bool) (input : List Entry) → HasNoEndToken input → length input ≤ eaten (tiny_steps operator_kind input)
-tiny-eaten operator_kind input some =
+tiny-eaten : (input : List Entry) → HasNoEndToken input → length input ≤ eaten (tiny_steps input)
+tiny-eaten input some =
     let first = operand_steps input in
     let seen = behind first input in
-    let parts = rights_of operator_kind input in
-    let rest = behind_expression operator_kind input in
-    let left = rest-some operator_kind (length input) seen (All-drop (λ e. e.kind ≢ EOF) (eaten first) input some) in
+    let parts = rights_of input in
+    let rest = behind_expression input in
+    let left = rest-some (length input) seen (All-drop (λ e. e.kind ≢ EOF) (eaten first) input some) in
     omega (
       arith,
-      rights-eaten operator_kind (length input) seen,
+      rights-eaten (length input) seen,
       tail-eaten rest left,
       nested-eaten first parts,
       length-drop (eaten first) input,
@@ -84,17 +84,17 @@ tiny-eaten operator_kind input some =
       eaten-node source (nested first parts ++ tail_steps rest),
     )
 
-module _ {operator_kind : ℕ → Bool} {input : List Entry} {output : Walk} (table : Table) (k : Keywords) (is : input ≡ input_of k table)
-    (parse : IsParse (IsTiny operator_kind input) input output) where
+module _ {input : List Entry} {output : Walk} (table : Table) (k : Keywords) (is : input ≡ input_of k table)
+    (parse : IsParse (IsTiny input) input output) where
   pub tiny_fits : Fits table output.steps
   tiny_fits = record {
-    root = subst (λ steps. StandsInOneRoot (without_errors steps)) (sym (parse.steps ∙ parse.left.items)) (tiny_root operator_kind input);
+    root = subst (λ steps. StandsInOneRoot (without_errors steps)) (sym (parse.steps ∙ parse.left.items)) (tiny_root input);
     over = IsOver-keywords k no_keywords output.steps (raw_tokens table) (subst (IsOver output.steps) is parse.over);
   }
 
   pub tiny_whole : eaten output.steps ≡ length (input_of no_keywords table)
   tiny_whole =
-      let least = tiny-eaten operator_kind input parse.no_end in
+      let least = tiny-eaten input parse.no_end in
       let same = ap eaten (parse.steps ∙ parse.left.items) in
       let most = eaten-le output.steps input parse.over in
       let len : length input ≡ length (input_of no_keywords table) = ap length is ∙ length-keywords k no_keywords (raw_tokens table) in

@@ -7,10 +7,9 @@ ghost use Rattle.squawk_output.specs.Steps.{Step, Enter, Exit, eaten, errors_in}
 ghost use Rattle.squawk_parser.specs.Composed.{Adds, AddsNode, RecordsSteps};
 ghost use Rattle.squawk_parser.specs.Parse.{IsParse, IsRefused};
 ghost use Rattle.squawk_parser.specs.Recorded.{Puts};
-ghost use Rattle.squawk_parser.specs.State.{State, HasNode, ahead, fresh};
-ghost use Rattle.squawk_parser.specs.Words.{HasNoEnd};
+ghost use Rattle.squawk_parser.specs.State.{State, HasNode, IsSound, ahead, fresh};
 ghost use Rattle.squawk_parser.specs.declared.parser.parse_error.ParseError.TheVariants.{OutOfMemory};
-ghost use Rattle.tiny_grammar.specs.Expressions.{FailsTiny, IsTiny, behind, bin, expression_in_order, expression_steps, is_operand, is_operator_kind, operand_step, operand_steps, operator_steps, part_in_order, right_steps, behind_expression, tail_steps};
+ghost use Rattle.tiny_grammar.specs.Expressions.{FailsTiny, HasTinyOperators, IsTiny, behind, bin, expression_in_order, expression_steps, is_operand, is_operator_kind, operand_step, operand_steps, operator_steps, part_in_order, right_steps, behind_expression, tail_steps};
 
 use squawk_parser::{
     CompletedMarker, EntryPoint, Grammar, LexedStr, Output, ParseError, Parser, SyntaxKind,
@@ -33,22 +32,22 @@ pub struct Tiny {
 }
 
 impl Model for Tiny {
-    ghost use Rattle.std.specs.Prelude.{◌≡◌, false};
-    ghost use Rattle.squawk_kinds.specs.Kinds.{EOF};
+    ghost use Rattle.std.specs.Prelude.{◌≡◌};
     ghost use Rattle.squawk_kinds.specs.TokenSets.{has};
     ghost use Rattle.squawk_kinds.specs.declared.token_set.TokenSet.{TokenSet};
+    ghost use Rattle.tiny_grammar.specs.Expressions.{is_operator_kind};
 
     ghost Value = { TokenSet };
 
     ghost view = { λ tiny. tiny.operator_first };
 
-    ghost invariant = { λ tiny. has tiny.operator_first EOF ≡ false };
+    ghost invariant = { λ tiny. has tiny.operator_first ≡ is_operator_kind };
 }
 
 impl Tiny {
     /// The grammar, with the kinds that its operators are made of.
     pub fn new() -> Tiny
-        ensures { (kind : ℕ) → has result kind ≡ is_operator_kind kind }
+        ensures { has result ≡ is_operator_kind }
     {
         Tiny {
             operator_first: TokenSet::new(&[
@@ -81,9 +80,9 @@ impl Tiny {
         vocabulary: &V,
         entry: EntryPoint,
     ) -> Result<Output, ParseError>
-        ensures output { IfOk result (λ output. IsParse (IsTiny (has self.now) (input_of (V.contextual_keyword vocabulary.now) table.now)) (input_of (V.contextual_keyword vocabulary.now) table.now) output) }
+        ensures output { IfOk result (λ output. IsParse (IsTiny (input_of (V.contextual_keyword vocabulary.now) table.now)) (input_of (V.contextual_keyword vocabulary.now) table.now) output) }
         ensures within { IfOk result (λ output. (output.recorded ≤ 4294967295) × (errors_in output.steps ≤ 2147483648)) }
-        ensures refused { IfErr result (λ reason. (reason ≡ OutOfMemory) ⊎ IsRefused (FailsTiny (has self.now)) (fresh (input_of (V.contextual_keyword vocabulary.now) table.now) (record { operator_first = self.now; names = [] }) 4294967295 2147483648) reason) }
+        ensures refused { IfErr result (λ reason. (reason ≡ OutOfMemory) ⊎ IsRefused (FailsTiny) (fresh (input_of (V.contextual_keyword vocabulary.now) table.now) (record { operator_first = self.now; names = [] }) 4294967295 2147483648) reason) }
         ensures fits { IfOk result (λ output. Fits table.now output.steps) }
         ensures whole { IfOk result (λ output. eaten output.steps ≡ length (input_of no_keywords table.now)) }
     {
@@ -97,9 +96,9 @@ impl Grammar for Tiny {
     ghost use Rattle.squawk_kinds.specs.TokenSets.{has};
     ghost use Rattle.tiny_grammar.specs.Expressions.{FailsTiny, IsTiny};
 
-    ghost leaves = { λ tiny _ input draft. IsTiny (has tiny) input draft };
+    ghost leaves = { λ _ _ input draft. IsTiny input draft };
 
-    ghost runs = { λ tiny _ begun left. FailsTiny (has tiny) begun left };
+    ghost runs = { λ _ _ begun left. FailsTiny begun left };
 
     ghost meaning = { λ tiny. record { operator_first = tiny; names = [] } };
 
@@ -111,6 +110,8 @@ impl Grammar for Tiny {
     }
 
     fn entry_point(&self, p: &mut Parser<'_>) -> Result<(), AllocError> {
+        // A look at the set shows which kinds it has.
+        let _ = &self.operator_first;
         let root = p.start();
         expression(p);
         rest(p);
@@ -125,10 +126,10 @@ impl Grammar for Tiny {
 
 /// An operand, and operators behind it, each with its right operand.
 fn expression(p: &mut Parser<'_>)
-    requires { HasNoEnd p.old.words }
-    ensures adds { Adds (expression_steps (has p.old.words.operator_first) (ahead p.old 0)) p.old p.new }
-    ensures records { RecordsSteps (expression_in_order (has p.old.words.operator_first) (ahead p.old 0)) p.old p.new }
-    ensures rest { ahead p.new 0 ≡ behind_expression (has p.old.words.operator_first) (ahead p.old 0) }
+    requires { HasTinyOperators p.old.words }
+    ensures adds { Adds (expression_steps (ahead p.old 0)) p.old p.new }
+    ensures records { RecordsSteps (expression_in_order (ahead p.old 0)) p.old p.new }
+    ensures rest { ahead p.new 0 ≡ behind_expression (ahead p.old 0) }
 {
     let mut left = operand(p);
     while p.at(SyntaxKind::CUSTOM_OP) {
@@ -139,11 +140,12 @@ fn expression(p: &mut Parser<'_>)
 /// An operator with its right operand, behind its left one.
 fn operation(left: CompletedMarker, p: &mut Parser<'_>) -> CompletedMarker
     requires at_hand { HasNode p.old left }
-    requires operator { IsTrue (has p.old.words.operator_first (kind_in (ahead p.old 0) 0)) }
+    requires operators { HasTinyOperators p.old.words }
+    requires operator { IsTrue (is_operator_kind (kind_in (ahead p.old 0) 0)) }
     ensures adds { (begun : State) (steps : List Step) → AddsNode steps left begun p.old
-        → AddsNode (Enter bin ∷ (steps ++ right_steps (has p.old.words.operator_first) (ahead p.old 0)) ++ Exit ∷ []) result begun p.new }
-    ensures records { RecordsSteps (part_in_order (right_steps (has p.old.words.operator_first) (ahead p.old 0))) p.old p.new }
-    ensures behind { ahead p.new 0 ≡ behind (right_steps (has p.old.words.operator_first) (ahead p.old 0)) (ahead p.old 0) }
+        → AddsNode (Enter bin ∷ (steps ++ right_steps (ahead p.old 0)) ++ Exit ∷ []) result begun p.new }
+    ensures records { RecordsSteps (part_in_order (right_steps (ahead p.old 0))) p.old p.new }
+    ensures behind { ahead p.new 0 ≡ behind (right_steps (ahead p.old 0)) (ahead p.old 0) }
 {
     let node = left.precede(p);
     operator(p);
@@ -153,8 +155,9 @@ fn operation(left: CompletedMarker, p: &mut Parser<'_>) -> CompletedMarker
 
 /// The operator at the position.
 fn operator(p: &mut Parser<'_>)
-    requires { IsTrue (has p.old.words.operator_first (kind_in (ahead p.old 0) 0)) }
-    ensures { Puts (operator_steps (has p.old.words.operator_first) (ahead p.old 0)) p.old p.new }
+    requires operators { HasTinyOperators p.old.words }
+    requires operator { IsTrue (is_operator_kind (kind_in (ahead p.old 0) 0)) }
+    ensures { Puts (operator_steps (ahead p.old 0)) p.old p.new }
 {
     p.bump(SyntaxKind::CUSTOM_OP);
 }
@@ -189,6 +192,7 @@ fn is_operand(kind: SyntaxKind) -> bool
 
 /// What is left, each token as an error.
 fn rest(p: &mut Parser<'_>)
+    requires { IsSound p.old }
     ensures { Puts (tail_steps (ahead p.old 0)) p.old p.new }
 {
     while p.current() != SyntaxKind::EOF {

@@ -16,7 +16,8 @@ use squawk_kinds::{SyntaxKind, TokenSet};
 use squawk_output::Made;
 
 impl Parser<'_> {
-    /// Begins a node: all that is recorded until its marker is completed will stand in it.
+    /// Begins a node: where markers are completed in the order of nesting, all that is recorded until
+    /// this one is completed stands in the node. [`squawk_output::Event`] draws the other cases.
     #[inline(always)]
     pub fn start(&mut self) -> Marker
         ensures begins { Begins result self.old self.new }

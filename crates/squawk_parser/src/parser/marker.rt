@@ -45,9 +45,9 @@ impl Model for CompletedMarker {
 impl Marker {
     /// Ends the node here, and gives it its kind.
     ///
-    /// All that was recorded since the marker was started stands in the node. The kind isn't
-    /// [`SyntaxKind::TOMBSTONE`], and the marker's hole is in the parser's draft or the parser has
-    /// failed.
+    /// Where markers are completed in the order of nesting, all that was recorded since this one was
+    /// started stands in the node. The kind isn't [`SyntaxKind::TOMBSTONE`], and the marker's hole is
+    /// in the parser's draft or the parser has failed.
     #[inline(always)]
     pub fn complete(self, p: &mut Parser<'_>, kind: SyntaxKind) -> CompletedMarker
         requires hole { HasHole p.old self }

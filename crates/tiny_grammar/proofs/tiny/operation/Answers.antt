@@ -1,5 +1,4 @@
 use Rattle.std.proofs.Common.{arith}
-use Rattle.squawk_kinds.specs.TokenSets.{has}
 use Rattle.squawk_output.specs.Steps.{eaten}
 use Rattle.squawk_parser.specs.State.{ahead}
 use Rattle.squawk_parser.proofs.AddedSteps.{node_before}
@@ -23,5 +22,5 @@ returns-clause-behind c =
     let before = c.precede-node.ensures.precedes in
     let done = c.complete.ensures.completes in
     let right = operation_adds before c.operator.ensures c.operand.ensures.adds in
-    ahead-moved (eaten (right_steps (has c.args.p.now.words.operator_first) (ahead c.args.p.now 0))) (Keeps-then before.keeps (Keeps-then right.keeps done.keeps))
+    ahead-moved (eaten (right_steps (ahead c.args.p.now 0))) (Keeps-then before.keeps (Keeps-then right.keeps done.keeps))
     (omega (arith, done.position, right.position, before.position))

@@ -1,34 +1,41 @@
-use Rattle.std.proofs.Common.{ap}
+use Rattle.std.proofs.Common.{◌≡◌, ◌∙◌, ap, subst}
 use Rattle.squawk_kinds.specs.TokenSets.{has}
 use Rattle.squawk_parser.specs.Composed.{AddsNode, RecordsSteps}
 use Rattle.squawk_parser.proofs.AddedSteps.{node_around}
 use Rattle.squawk_parser.proofs.StepsInOrder.{RecordsSteps-node}
-use Rattle.tiny_grammar.specs.Expressions.{source, tiny_in_order, tiny_steps}
+use Rattle.tiny_grammar.specs.Expressions.{is_operator_kind, source, tiny_in_order, tiny_steps}
 use Rattle.tiny_grammar.proofs.Source.{inside_adds, inside_records, source_closed, source_fails, source_leaves}
 use Rattle.tiny_grammar.proofs.tiny.TinyGrammar.entry_point.Goals as goal
 
 -- all that is added is one node
-root : (c : goal.After-complete) → AddsNode (tiny_steps (has c.args.self.now) c.args.p.now.input) c.complete.result c.args.p.now c.complete.new.p
+root : (c : goal.After-complete) → AddsNode (tiny_steps c.args.p.now.input) c.complete.result c.args.p.now c.complete.new.p
 root c =
     let start = c.start-root.ensures in
     let done = c.complete.ensures in
-    let inside = inside_adds c.requires.fresh (ap (λ words. words.operator_first) c.requires.words) start.begins.keeps start.begins.position c.expression.ensures.rest c.rest.ensures c.expression.ensures.adds in
+    let inside = inside_adds c.requires.fresh start.begins.keeps start.begins.position c.expression.ensures.rest c.rest.ensures c.expression.ensures.adds in
     node_around start.begins inside (rw c.from.ensures at done.completes) (rw c.from.ensures at done.node)
 
 -- and its steps are recorded in their order
-recorded : (c : goal.After-complete) → RecordsSteps (tiny_in_order (has c.args.self.now) c.args.p.now.input) c.args.p.now c.complete.new.p
+recorded : (c : goal.After-complete) → RecordsSteps (tiny_in_order c.args.p.now.input) c.args.p.now c.complete.new.p
 recorded c =
     let start = c.start-root.ensures in
     let done = c.complete.ensures in
-    let inside = inside_records c.requires.fresh (ap (λ words. words.operator_first) c.requires.words) start.begins.keeps start.begins.position c.expression.ensures.rest c.rest.ensures
+    let inside = inside_records c.requires.fresh start.begins.keeps start.begins.position c.expression.ensures.rest c.rest.ensures
     c.expression.ensures.records in
     RecordsSteps-node source start.begins inside done.completes
 
+pub expression-requires : goal.expression-requires
+expression-requires c =
+    ap (λ words. has words.operator_first) (c.start-root.ensures.begins.keeps.words ∙ c.requires.words) ∙ subst (λ set. has set ≡ is_operator_kind) c.self.view_is c.self.invariant
+
+pub rest-requires : goal.rest-requires
+rest-requires c = c.expression.ensures.adds.keeps.sound
+
 pub returns-clause-closed : goal.returns-clause-closed
-returns-clause-closed c = source_closed (has c.args.self.now) c.requires.fresh (recorded c) (root c)
+returns-clause-closed c = source_closed c.requires.fresh (recorded c) (root c)
 
 pub returns-clause-leaves : goal.returns-clause-leaves
-returns-clause-leaves c = source_leaves (has c.args.self.now) c.requires.fresh (recorded c) (root c)
+returns-clause-leaves c = source_leaves c.requires.fresh (recorded c) (root c)
 
 pub returns-clause-runs : goal.returns-clause-runs
-returns-clause-runs c = source_fails (has c.args.self.now) c.requires.fresh (recorded c)
+returns-clause-runs c = source_fails c.requires.fresh (recorded c)

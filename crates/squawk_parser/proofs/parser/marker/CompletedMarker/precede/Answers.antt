@@ -1,10 +1,8 @@
 use Rattle.std.proofs.Common.{rules, ◌≡◌, ◌∙◌, sym, refl, subst}
 use Rattle.std.specs.Prelude.{true, Contains}
-use Rattle.squawk_output.specs.Draft.{IsLogged, Mark, Node, Open}
-use Rattle.squawk_output.specs.declared.log.Made.TheVariants.{ByPrecede}
+use Rattle.squawk_output.specs.Draft.{IsLogged, Node, Open}
 use Rattle.squawk_output.specs.Edits.{preceded}
-use Rattle.squawk_parser.specs.Recorded.{preceding_mark}
-use Rattle.squawk_parser.specs.State.{State, HasHole, HasNode, IsSound, Records}
+use Rattle.squawk_parser.specs.State.{State, HasHole, HasNode, IsSound}
 use Rattle.squawk_parser.proofs.Noted.{noted}
 use Rattle.squawk_parser.proofs.Soundness.{IsSound-failed, IsSound-preceded}
 use Rattle.squawk_parser.proofs.ParserViews.{seen, has_room}
