@@ -56,7 +56,12 @@ fn assert_watched(
     assert_end(rt, &reads, (result, &written), wanted);
     assert_same(rt, &"reads", &reader.reads, &reads);
     let is_answered = wanted.0.is_ok();
-    assert_tells(rt, &reads, &watch, (reads, is_answered, !is_answered, false));
+    assert_tells(
+        rt,
+        &reads,
+        &watch,
+        (reads, is_answered, !is_answered, false),
+    );
 }
 
 /// So many interruptions in a row are as many reads more, before any of the reads of a run.
