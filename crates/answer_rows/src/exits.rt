@@ -3,7 +3,7 @@
 use crate::asserts::assert_same;
 use crate::documents::{ESCAPE, ESCAPE_LINES, Members, PLAIN};
 use crate::streams::Takes;
-use squawk_answer::program;
+use squawk_answer::{Watch, program};
 use std::alloc::Global;
 use std::io::{ErrorKind, Write};
 use std::process::{Abort, ExitCode};
@@ -16,7 +16,16 @@ fn ended<W: Write, E: Write>(
     writer: &mut W,
     error_writer: &mut E,
 ) -> ExitCode {
-    program(alloc, &mut input.as_bytes(), writer, error_writer)
+    let mut reader = input.as_bytes();
+    let mut watch = Watch::new();
+    program(
+        alloc,
+        &mut watch,
+        &mut reader,
+        writer,
+        &mut Watch::new(),
+        error_writer,
+    )
 }
 
 /// The program ends with the code, and has written this, and printed that.

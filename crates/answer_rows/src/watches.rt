@@ -29,9 +29,17 @@ fn interrupted_at(
     Ok(plan)
 }
 
-/// The watch tells so many reads, and whether one or a write failed.
-fn assert_tells(rt: &impl Abort, case: &impl Debug, watch: &Watch, wanted: (u64, bool)) {
-    assert_same(rt, case, &(watch.reads(), watch.failed()), &wanted);
+/// The watch tells so many reads, whether one has found the end, and whether one or a write failed.
+fn assert_tells(
+    rt: &impl Abort,
+    case: &impl Debug,
+    watch: &Watch,
+    (reads, ended, read_failed, write_failed): (u64, bool, bool, bool),
+) {
+    assert_same(rt, case, &watch.reads(), &reads);
+    assert_same(rt, case, &watch.ended(), &ended);
+    assert_same(rt, case, &watch.read_failed(), &read_failed);
+    assert_same(rt, case, &watch.write_failed(), &write_failed);
 }
 
 /// The document of a name, read by this plan, ends in this after so many reads, as its watch tells too.
@@ -47,7 +55,13 @@ fn assert_watched(
     let result = run_watched(rt.alloc(), &mut watch, &mut reader, &mut written);
     assert_end(rt, &reads, (result, &written), wanted);
     assert_same(rt, &"reads", &reader.reads, &reads);
-    assert_tells(rt, &reads, &watch, (reads, wanted.0.is_err()));
+    let is_answered = wanted.0.is_ok();
+    assert_tells(
+        rt,
+        &reads,
+        &watch,
+        (reads, is_answered, !is_answered, false),
+    );
 }
 
 /// So many interruptions in a row are as many reads more, before any of the reads of a run.
@@ -74,7 +88,9 @@ fn assert_outcome(rt: &impl Abort, turn: Turn, outcome: ReadOutcome) {
     let read = watch.read(&mut reader, &mut buffer);
     assert!(rt; read == outcome);
     assert_same(rt, &"reads", &reader.reads, &1);
-    assert_tells(rt, &"one read", &watch, (1, outcome == ReadOutcome::Failed));
+    let ended = outcome == ReadOutcome::Bytes(0);
+    let failed = outcome == ReadOutcome::Failed;
+    assert_tells(rt, &"one read", &watch, (1, ended, failed, false));
 }
 
 /// The bytes are written or not, and the watch then tells whether a write has failed.
@@ -86,7 +102,7 @@ fn assert_write(
     (is_written, failed): (bool, bool),
 ) {
     assert_same(rt, &bytes, &watch.write_all(writer, bytes), &is_written);
-    assert_tells(rt, &bytes, watch, (0, failed));
+    assert_tells(rt, &bytes, watch, (0, false, false, failed));
 }
 
 /// The writer has taken this, in so many writes.

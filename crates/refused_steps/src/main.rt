@@ -1,15 +1,17 @@
 //! The program, run on a document that is refused: one raw token has no bytes.
 #![tactic(auto)]
 
-use squawk_answer::program;
+use squawk_answer::{Watch, program};
 use std::io;
 use std::process::ExitCode;
 
 fn main(rt: HostRuntime) -> ExitCode {
     program(
         rt.alloc(),
+        &mut Watch::new(),
         &mut rt.reader(),
         &mut io::writer(&rt),
+        &mut Watch::new(),
         &mut rt.stderr(),
     )
 }

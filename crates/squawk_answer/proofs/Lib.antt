@@ -1,4 +1,5 @@
 mod Answered
 mod Laws
+mod Parts
 mod PlainTexts
 mod TinyAnswered

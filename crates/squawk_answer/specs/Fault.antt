@@ -1,5 +1,5 @@
 -- The statuses and the lines of faults.
-use Rattle.std.specs.Prelude.{ℕ, List, ◌++◌, codes}
+use Rattle.std.specs.Prelude.{ℕ, Option, None, Some, List, [], ◌++◌, codes}
 use Rattle.std.specs.Fmt.{decimal}
 use Rattle.squawk_document.specs.declared.document_error.DocumentError.{DocumentError}
 use Rattle.squawk_document.specs.declared.document_error.DocumentError.TheVariants as document
@@ -27,7 +27,7 @@ fault_status DoesNotFit = 6
 fault_status Memory = 7
 fault_status Io = 8
 
--- the line that it prints
+-- what it prints as
 abbrev pub fault_line : Fault → List ℕ
 fault_line Json = codes "json"
 fault_line Shape = codes "shape"
@@ -41,6 +41,15 @@ fault_line TooManyErrors = codes "too many errors"
 fault_line DoesNotFit = codes "does not fit"
 fault_line Memory = codes "memory"
 fault_line Io = codes "io"
+
+-- the line that the program prints
+abbrev pub printed_line : Fault → List ℕ
+printed_line fault = fault_line fault ++ codes "\n"
+
+-- a number behind words, if there is one
+abbrev pub number_text : Option ℕ → List ℕ
+number_text None = []
+number_text (Some n) = decimal n
 
 -- the fault of what can't be read as a document
 abbrev pub fault_of_document : DocumentError → Fault

@@ -1,11 +1,34 @@
 -- What is known of the reads and the writes of a run.
-use Rattle.std.specs.Prelude.{ℕ, Bool}
+use Rattle.std.specs.Prelude.{◌≡◌, ℕ, ◌+◌, ◌==◌, Bool, true, false, if◌then◌else◌, ◌⊎◌}
+use Rattle.squawk_answer.specs.declared.watch.ReadOutcome.{ReadOutcome}
+use Rattle.squawk_answer.specs.declared.watch.ReadOutcome.TheVariants.{Bytes, Interrupted, Failed}
 
--- how often it has read, and whether a read or a write has failed
+-- how often it has read, whether a read has found the end, and whether a read or a write has failed
 pub record Watched : Type 0 where
   pub reads : ℕ
-  pub failed : Bool
+  pub ended : Bool
+  pub read_failed : Bool
+  pub write_failed : Bool
+
+-- nothing was read or written yet
+abbrev pub new_watch : Watched
+new_watch = record { reads = 0; ended = false; read_failed = false; write_failed = false }
+
+-- a read more, with this outcome
+abbrev pub after_read : Watched → ReadOutcome → Watched
+after_read w (Bytes n) = record { reads = w.reads + 1; ended = if n == 0 then true else w.ended; read_failed = w.read_failed; write_failed = w.write_failed }
+after_read w Interrupted = record { reads = w.reads + 1; ended = w.ended; read_failed = w.read_failed; write_failed = w.write_failed }
+after_read w Failed = record { reads = w.reads + 1; ended = w.ended; read_failed = true; write_failed = w.write_failed }
+
+-- bytes were written, all of them or not
+abbrev pub after_write : Watched → Bool → Watched
+after_write w true = w
+after_write w false = record { reads = w.reads; ended = w.ended; read_failed = w.read_failed; write_failed = true }
 
 -- the most reads of a run, interrupted ones too
 abbrev pub most_reads : ℕ
 most_reads = 4294967296
+
+-- a read failed, or the reads ran out before the end
+abbrev pub IsUnread : Watched → Type 0
+IsUnread w = (w.read_failed ≡ true) ⊎ ((w.reads ≡ most_reads) × (w.ended ≡ false))

@@ -1,36 +1,54 @@
 //! What the program does with a run, and how it ends.
-ghost use Rattle.std.specs.Prelude.{◌≡◌, ◌≢◌, Ok, Err, IfSome};
-ghost use Rattle.std.specs.Io.KnownBytes.{Appends};
+ghost use Rattle.std.specs.Prelude.{◌≡◌, ◌≢◌, ◌≤◌, false, true, ◌⊎◌};
+ghost use Rattle.std.specs.Io.KnownBytes.{IsAtEnd};
 ghost use Rattle.std.specs.Process.{exit_status};
-ghost use Rattle.squawk_answer.specs.Answers.{IsTheAnswer};
-ghost use Rattle.squawk_answer.specs.Fault.{fault_status};
-ghost use Rattle.squawk_answer.specs.Lines.{Texts, joined};
+ghost use Rattle.squawk_answer.specs.Fault.{fault_status, printed_line};
+ghost use Rattle.squawk_answer.specs.Runs.{AnswersFault, WritesAnswer, WritesPart};
+ghost use Rattle.squawk_answer.specs.Watched.{IsUnread, most_reads, new_watch};
+ghost use Rattle.squawk_answer.specs.Writes.{WritesOrFails};
 
 use crate::fault::Fault;
-use crate::running::run;
+use crate::print::print_line;
+use crate::running::run_watched;
+use crate::watch::Watch;
 use std::alloc::Global;
 use std::io::{Read, Write};
 use std::process::ExitCode;
 
 /// Runs, and ends with success, or with the status of a fault, whose line it prints. A line that
 /// can't be printed changes nothing.
+///
+/// One watch is that of the run, the other that of the line.
+#[tactic(auto, using(crate::proofs::Parts::writes_or_fails))]
 pub fn program<R: Read, W: Write, E: Write>(
     alloc: Global,
+    watch: &mut Watch,
     reader: &mut R,
     writer: &mut W,
-    error_writer: &mut E,
+    line_watch: &mut Watch,
+    line_writer: &mut E,
 ) -> ExitCode
-    ensures success { exit_status result ≡ 0 → IfSome (R.remaining reader.old) (λ input. (texts : Texts)
-        × IsTheAnswer input (Ok texts) × Appends (W.contents writer.old) (W.contents writer.new) (joined texts)) }
-    ensures silent { exit_status result ≡ 0 → error_writer.new ≡ error_writer.old }
+    requires { watch.old ≡ new_watch }
+    ensures success { exit_status result ≡ 0 → WritesAnswer (R.remaining reader.old) (W.contents writer.old) (W.contents writer.new) }
+    ensures silent { exit_status result ≡ 0 → line_writer.new ≡ line_writer.old }
+    // Its line is printed, or a beginning of it where a write failed.
     ensures failure { exit_status result ≢ 0 → (fault : Fault) × (exit_status result ≡ fault_status fault)
-        × IfSome (R.remaining reader.old) (λ input. IsTheAnswer input (Err fault))
-        × (fault ≢ Fault.Io → writer.new ≡ writer.old) }
+        × AnswersFault (R.remaining reader.old) fault
+        × (fault ≢ Fault.Io → writer.new ≡ writer.old)
+        × WritesOrFails line_watch.old line_watch.new (E.contents line_writer.old) (E.contents line_writer.new) (printed_line fault) }
+    ensures unread { exit_status result ≢ 0 → (writer.new ≡ writer.old) ⊎ IsAtEnd (R.remaining reader.new) }
+    ensures part { exit_status result ≢ 0 → (writer.new ≡ writer.old) ⊎ WritesPart (R.remaining reader.old) (W.contents writer.old) (W.contents writer.new) }
+    // It reads no more often than it may, and has status 8 only where a read or a write failed, or the
+    // reads ran out before the end.
+    ensures reads { watch.new.reads ≤ most_reads }
+    ensures io { exit_status result ≡ 8 → (watch.new.write_failed ≡ true) ⊎ IsUnread watch.new }
+    ensures unfailed { exit_status result ≢ 8 → (watch.new.read_failed ≡ false) × (watch.new.write_failed ≡ false) }
+    ensures no_write_failed { exit_status result ≢ 0 → watch.new.write_failed ≡ false → writer.new ≡ writer.old }
 {
-    match run(alloc, reader, writer) {
+    match run_watched(alloc, watch, reader, writer) {
         Ok(()) => ExitCode::SUCCESS,
         Err(fault) => {
-            let _ = writeln!(error_writer, "{fault}");
+            print_line(line_watch, line_writer, fault);
             ExitCode::from(fault.status())
         }
     }

@@ -1,6 +1,6 @@
 //! Why there is no answer.
-ghost use Rattle.std.specs.Prelude.{◌≡◌};
-ghost use Rattle.squawk_answer.specs.Fault.{fault_status};
+ghost use Rattle.std.specs.Prelude.{◌≡◌, ◌++◌};
+ghost use Rattle.squawk_answer.specs.Fault.{fault_line, fault_status, number_text};
 
 use squawk_document::DocumentError;
 use squawk_parser::{ParseError, TableError};
@@ -9,7 +9,10 @@ use std::alloc::AllocError;
 use std::error::Error;
 use std::fmt;
 
-/// A reason to end without an answer. Of several reasons the first of this list is told.
+/// A reason to end without an answer.
+///
+/// If several apply, the first one listed is returned; running out of memory and failures to read or
+/// write come when they occur.
 #[derive(Clone, Copy, Debug, PartialEq, Eq)]
 pub enum Fault {
     /// What was read is no JSON, or no UTF-8.
@@ -41,7 +44,8 @@ pub enum Fault {
 impl Fault {
     /// The status that the program ends with.
     pub fn status(&self) -> u8
-        ensures { result ≡ fault_status self.now }
+        ensures status { result ≡ fault_status self.now }
+        ensures io { result ≡ 8 → self.now ≡ Fault.Io }
     {
         match *self {
             Fault::Json | Fault::Shape => 2,
@@ -53,6 +57,26 @@ impl Fault {
             Fault::Io => 8,
         }
     }
+
+    /// The words of what it prints as, and the number behind them, if there is one.
+    pub(crate) fn parts(&self) -> (&'static str, Option<usize>)
+        ensures { fault_line self.now ≡ result.0.now ++ number_text result.1 }
+    {
+        match *self {
+            Fault::Json => ("json", None),
+            Fault::Shape => ("shape", None),
+            Fault::TextTooLong => ("text too long", None),
+            Fault::BadToken { index } => ("bad token ", Some(index)),
+            Fault::TextLeft { at } => ("text left at ", Some(at)),
+            Fault::BadCall { index } => ("bad call ", Some(index)),
+            Fault::Unspent { marker } => ("unspent ", Some(marker as usize)),
+            Fault::TooManyEvents => ("too many events", None),
+            Fault::TooManyErrors => ("too many errors", None),
+            Fault::DoesNotFit => ("does not fit", None),
+            Fault::Memory => ("memory", None),
+            Fault::Io => ("io", None),
+        }
+    }
 }
 
 impl fmt::Display for Fault {
@@ -62,19 +86,9 @@ impl fmt::Display for Fault {
     ghost output = { λ fault. Some (fault_line fault) };
 
     fn fmt<W: fmt::Write>(&self, f: &mut fmt::Formatter<W>) -> fmt::Result {
-        match *self {
-            Fault::Json => write!(f, "json"),
-            Fault::Shape => write!(f, "shape"),
-            Fault::TextTooLong => write!(f, "text too long"),
-            Fault::BadToken { index } => write!(f, "bad token {index}"),
-            Fault::TextLeft { at } => write!(f, "text left at {at}"),
-            Fault::BadCall { index } => write!(f, "bad call {index}"),
-            Fault::Unspent { marker } => write!(f, "unspent {marker}"),
-            Fault::TooManyEvents => write!(f, "too many events"),
-            Fault::TooManyErrors => write!(f, "too many errors"),
-            Fault::DoesNotFit => write!(f, "does not fit"),
-            Fault::Memory => write!(f, "memory"),
-            Fault::Io => write!(f, "io"),
+        match self.parts() {
+            (words, None) => write!(f, "{words}"),
+            (words, Some(number)) => write!(f, "{words}{number}"),
         }
     }
 }

@@ -17,6 +17,7 @@ mod exit;
 mod fault;
 mod lines;
 mod parse;
+mod print;
 mod read;
 mod running;
 mod watch;

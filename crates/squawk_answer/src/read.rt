@@ -1,7 +1,7 @@
 //! Reading to the end.
-ghost use Rattle.std.specs.Prelude.{◌≡◌, ◌≢◌, ◌≤◌, true, Err, IfOk, IfErr, OnOk, IfSome, ◌⊎◌};
+ghost use Rattle.std.specs.Prelude.{◌≡◌, ◌≢◌, ◌≤◌, false, Err, IfOk, IfErr, OnOk, IfSome, ◌⊎◌};
 ghost use Rattle.std.specs.Io.KnownBytes.{IsAtEnd};
-ghost use Rattle.squawk_answer.specs.Watched.{most_reads};
+ghost use Rattle.squawk_answer.specs.Watched.{IsUnread, most_reads, new_watch};
 
 use crate::fault::Fault;
 use crate::watch::{ReadOutcome, Watch};
@@ -16,14 +16,14 @@ pub const MOST_READS: u64 = 4294967296;
 
 /// All that a reader gives, in at most [`MOST_READS`] reads.
 pub fn read_all<R: Read>(alloc: Global, watch: &mut Watch, reader: &mut R) -> Result<Vec<u8>, Fault>
-    requires { watch.old.reads ≡ 0 }
+    requires { watch.old ≡ new_watch }
     ensures bytes { IfOk result (λ v. IfSome (R.remaining reader.old) (λ input. v.items ≡ input)) }
     ensures end { OnOk result (IsAtEnd (R.remaining reader.new)) }
     ensures reads { watch.new.reads ≤ most_reads }
-    ensures fault { IfErr result (λ e. (e ≡ Fault.Memory)
-        ⊎ ((e ≡ Fault.Io) × ((watch.new.failed ≡ true) ⊎ (watch.new.reads ≡ most_reads)))) }
+    ensures fault { IfErr result (λ e. (e ≡ Fault.Memory) ⊎ ((e ≡ Fault.Io) × IsUnread watch.new)) }
     // A read that fails is the last one.
-    ensures unfailed { result ≢ Err Fault.Io → watch.new.failed ≡ watch.old.failed }
+    ensures unfailed { result ≢ Err Fault.Io → watch.new.read_failed ≡ false }
+    ensures unwritten { watch.new.write_failed ≡ false }
 {
     let mut bytes = Vec::new(alloc);
     let mut buffer = [0u8; LONGEST_READ];

@@ -1,10 +1,11 @@
 //! From a reader to a writer.
-ghost use Rattle.std.specs.Prelude.{◌≡◌, ◌≢◌, ◌≤◌, true, false, Ok, Err, IfErr, IfSome, OnOk, OnErr, ◌⊎◌};
+ghost use Rattle.std.specs.Prelude.{◌≡◌, ◌≢◌, ◌≤◌, false, true, is_ok, Err, IfErr, OnOk, OnErr, ◌⊎◌};
 ghost use Rattle.std.specs.Io.KnownBytes.{Appends, IsAtEnd};
 ghost use Rattle.squawk_answer.specs.AnswerLines.{answer_texts};
-ghost use Rattle.squawk_answer.specs.Answers.{IsTheAnswer};
-ghost use Rattle.squawk_answer.specs.Lines.{Texts, joined};
-ghost use Rattle.squawk_answer.specs.Watched.{most_reads};
+ghost use Rattle.squawk_answer.specs.Lines.{joined};
+ghost use Rattle.squawk_answer.specs.Runs.{AnswersFault, WritesAnswer, WritesPart};
+ghost use Rattle.squawk_answer.specs.Watched.{IsUnread, after_write, most_reads, new_watch};
+ghost use Rattle.squawk_answer.specs.Writes.{AppendsPart};
 
 use crate::answer::Answer;
 use crate::fault::Fault;
@@ -19,12 +20,12 @@ use std::io::{Read, Write};
 /// It is [`run_watched`] over a new watch. When [`Fault::Io`] comes, and how often it reads, is said
 /// there, since that watch is gone when `run` ends.
 pub fn run<R: Read, W: Write>(alloc: Global, reader: &mut R, writer: &mut W) -> Result<(), Fault>
-    ensures ok { OnOk result (IfSome (R.remaining reader.old) (λ input. (texts : Texts)
-        × IsTheAnswer input (Ok texts) × Appends (W.contents writer.old) (W.contents writer.new) (joined texts))) }
-    ensures fault { IfErr result (λ fault. IfSome (R.remaining reader.old) (λ input. IsTheAnswer input (Err fault))) }
-    // Only a fault of writing can have written anything.
+    ensures ok { OnOk result (WritesAnswer (R.remaining reader.old) (W.contents writer.old) (W.contents writer.new)) }
+    ensures fault { IfErr result (λ fault. AnswersFault (R.remaining reader.old) fault) }
     ensures unwritten { IfErr result (λ fault. fault ≢ Fault.Io → writer.new ≡ writer.old) }
+    // Reading is over before anything is written, and that is the answer.
     ensures unread { OnErr result ((writer.new ≡ writer.old) ⊎ IsAtEnd (R.remaining reader.new)) }
+    ensures part { OnErr result ((writer.new ≡ writer.old) ⊎ WritesPart (R.remaining reader.old) (W.contents writer.old) (W.contents writer.new)) }
 {
     run_watched(alloc, &mut Watch::new(), reader, writer)
 }
@@ -36,17 +37,18 @@ pub fn run_watched<R: Read, W: Write>(
     reader: &mut R,
     writer: &mut W,
 ) -> Result<(), Fault>
-    requires unread { watch.old.reads ≡ 0 }
-    requires unfailed { watch.old.failed ≡ false }
-    ensures ok { OnOk result (IfSome (R.remaining reader.old) (λ input. (texts : Texts)
-        × IsTheAnswer input (Ok texts) × Appends (W.contents writer.old) (W.contents writer.new) (joined texts))) }
-    ensures fault { IfErr result (λ fault. IfSome (R.remaining reader.old) (λ input. IsTheAnswer input (Err fault))) }
+    requires { watch.old ≡ new_watch }
+    ensures ok { OnOk result (WritesAnswer (R.remaining reader.old) (W.contents writer.old) (W.contents writer.new)) }
+    ensures fault { IfErr result (λ fault. AnswersFault (R.remaining reader.old) fault) }
     ensures unwritten { IfErr result (λ fault. fault ≢ Fault.Io → writer.new ≡ writer.old) }
     ensures unread { OnErr result ((writer.new ≡ writer.old) ⊎ IsAtEnd (R.remaining reader.new)) }
-    // It reads no more often than it may, and `Io` comes where a read or a write failed, or there.
+    ensures part { OnErr result ((writer.new ≡ writer.old) ⊎ WritesPart (R.remaining reader.old) (W.contents writer.old) (W.contents writer.new)) }
+    // It reads no more often than it may. `Io` comes where a read or a write failed, or the reads ran
+    // out before the end, and nothing else comes then. Only where a write failed is anything written.
     ensures reads { watch.new.reads ≤ most_reads }
-    ensures io { result ≡ Err Fault.Io → (watch.new.failed ≡ true) ⊎ (watch.new.reads ≡ most_reads) }
-    ensures unfailed { result ≢ Err Fault.Io → watch.new.failed ≡ false }
+    ensures io { result ≡ Err Fault.Io → (watch.new.write_failed ≡ true) ⊎ IsUnread watch.new }
+    ensures unfailed { result ≢ Err Fault.Io → (watch.new.read_failed ≡ false) × (watch.new.write_failed ≡ false) }
+    ensures no_write_failed { OnErr result (watch.new.write_failed ≡ false → writer.new ≡ writer.old) }
 {
     let input = read_all(alloc, watch, reader)?;
     let answer = Answer::new(alloc, input)?;
@@ -54,18 +56,18 @@ pub fn run_watched<R: Read, W: Write>(
 }
 
 /// Writes an answer.
+#[tactic(auto, using(crate::proofs::Parts::part_second))]
 fn write<W: Write>(answer: &Answer, watch: &mut Watch, writer: &mut W) -> Result<(), Fault>
-    ensures ok { OnOk result (Appends (W.contents writer.old) (W.contents writer.new) (joined (answer_texts answer.now))) }
+    ensures all { OnOk result (Appends (W.contents writer.old) (W.contents writer.new) (joined (answer_texts answer.now))) }
+    ensures part { OnErr result (AppendsPart (W.contents writer.old) (W.contents writer.new) (joined (answer_texts answer.now))) }
     ensures fault { IfErr result (λ fault. fault ≡ Fault.Io) }
-    ensures reads { watch.new.reads ≡ watch.old.reads }
-    ensures failed { OnErr result (watch.new.failed ≡ true) }
-    ensures unfailed { OnOk result (watch.new.failed ≡ watch.old.failed) }
+    ensures noted { watch.new ≡ after_write watch.old (is_ok result) }
 {
-    if watch.write_all(writer, answer.errors.as_bytes())
-        && watch.write_all(writer, answer.steps.as_bytes())
-    {
-        Ok(())
-    } else {
-        Err(Fault::Io)
+    if !watch.write_all(writer, answer.errors.as_bytes()) {
+        return Err(Fault::Io);
     }
+    if !watch.write_all(writer, answer.steps.as_bytes()) {
+        return Err(Fault::Io);
+    }
+    Ok(())
 }

@@ -1,19 +1,24 @@
 //! The reads and the writes of a run, watched.
-ghost use Rattle.std.specs.Prelude.{◌≡◌, ◌≢◌, ◌+◌, ◌<◌, ◌^◌, true, false, is_ok, IfOk, IfErr};
-ghost use Rattle.std.specs.Io.KnownBytes.{Appends};
+ghost use Rattle.std.specs.Prelude.{◌≡◌, ◌≢◌, ◌+◌, ◌<◌, ◌≤◌, ◌^◌, [], length, take, true, false, is_some, IfOk, IfErr, IfSome, IfNone, Ok};
+ghost use Rattle.std.specs.Io.{WritesAtMost};
+ghost use Rattle.std.specs.Io.KnownBytes.{Appends, WriteAppends};
 ghost use Rattle.std.specs.IoError.{error_kind};
 ghost use Rattle.squawk_answer.specs.Reads.{OutcomeConsumes};
+ghost use Rattle.squawk_answer.specs.Watched.{after_read, after_write, new_watch};
+ghost use Rattle.squawk_answer.specs.Writes.{AppendsPart};
 
 use std::io;
 use std::io::{ErrorKind, Read, Write};
 use std::marker::Model;
 
-/// How often a run has read, and whether a read or a write of it has failed. An interrupted read is
-/// counted, and is no failure.
+/// How often a run has read, whether a read has found the end, and whether a read or a write has
+/// failed. An interrupted read is counted, and is no failure.
 #[derive(Drop)]
 pub struct Watch {
     reads: u64,
-    failed: bool,
+    ended: bool,
+    read_failed: bool,
+    write_failed: bool,
 }
 
 impl Model for Watch {
@@ -21,7 +26,7 @@ impl Model for Watch {
 
     ghost Value = { Watched };
 
-    ghost view = { λ w. record { reads = w.reads; failed = w.failed } };
+    ghost view = { λ w. record { reads = w.reads; ended = w.ended; read_failed = w.read_failed; write_failed = w.write_failed } };
 }
 
 /// What one read gave.
@@ -36,12 +41,13 @@ pub enum ReadOutcome {
 impl Watch {
     /// Nothing was read or written yet.
     pub fn new() -> Watch
-        ensures reads { result.reads ≡ 0 }
-        ensures failed { result.failed ≡ false }
+        ensures { result ≡ new_watch }
     {
         Watch {
             reads: 0,
-            failed: false,
+            ended: false,
+            read_failed: false,
+            write_failed: false,
         }
     }
 
@@ -49,23 +55,26 @@ impl Watch {
     pub fn read<R: Read>(&mut self, reader: &mut R, buffer: &mut [u8]) -> ReadOutcome
         requires { self.old.reads < 2 ^ 63 }
         ensures bytes { OutcomeConsumes (R.remaining reader.old) (R.remaining reader.new) result buffer.new }
-        ensures reads { self.new.reads ≡ self.old.reads + 1 }
-        ensures failed { result ≡ ReadOutcome.Failed → self.new.failed ≡ true }
-        ensures same { result ≢ ReadOutcome.Failed → self.new.failed ≡ self.old.failed }
+        ensures noted { self.new ≡ after_read self.old result }
     {
         let answer = reader.read(buffer);
         self.note_read(answer)
     }
 
-    /// Writes all of these bytes. Whether it could.
+    /// Writes all of these bytes, or a beginning of them where a write fails. Whether it wrote all.
     pub fn write_all<W: Write>(&mut self, writer: &mut W, bytes: &[u8]) -> bool
-        ensures bytes { result ≡ true → Appends (W.contents writer.old) (W.contents writer.new) bytes.now }
-        ensures reads { self.new.reads ≡ self.old.reads }
-        ensures failed { result ≡ false → self.new.failed ≡ true }
-        ensures same { result ≡ true → self.new.failed ≡ self.old.failed }
+        ensures all { result ≡ true → Appends (W.contents writer.old) (W.contents writer.new) bytes.now }
+        ensures part { result ≡ false → AppendsPart (W.contents writer.old) (W.contents writer.new) bytes.now }
+        ensures noted { self.new ≡ after_write self.old result }
     {
-        let answer = writer.write_all(bytes);
-        self.note_write(answer)
+        let mut rest = bytes;
+        while !rest.is_empty() {
+            match self.write(writer, rest) {
+                Some(n) => rest = &rest[n..],
+                None => return false,
+            }
+        }
+        true
     }
 
     /// How often it was read.
@@ -75,11 +84,25 @@ impl Watch {
         self.reads
     }
 
-    /// Whether a read or a write has failed.
-    pub fn failed(&self) -> bool
-        ensures { result ≡ self.now.failed }
+    /// Whether a read has found the end.
+    pub fn ended(&self) -> bool
+        ensures { result ≡ self.now.ended }
     {
-        self.failed
+        self.ended
+    }
+
+    /// Whether a read has failed.
+    pub fn read_failed(&self) -> bool
+        ensures { result ≡ self.now.read_failed }
+    {
+        self.read_failed
+    }
+
+    /// Whether a write has failed.
+    pub fn write_failed(&self) -> bool
+        ensures { result ≡ self.now.write_failed }
+    {
+        self.write_failed
     }
 
     /// Counts a read with this answer of its reader, and tells its outcome.
@@ -90,32 +113,58 @@ impl Watch {
             error_kind e ≡ ErrorKind.Interrupted → result ≡ ReadOutcome.Interrupted) }
         ensures refused { IfErr answer (λ e.
             error_kind e ≢ ErrorKind.Interrupted → result ≡ ReadOutcome.Failed) }
-        ensures reads { self.new.reads ≡ self.old.reads + 1 }
-        ensures failed { result ≡ ReadOutcome.Failed → self.new.failed ≡ true }
-        ensures same { result ≢ ReadOutcome.Failed → self.new.failed ≡ self.old.failed }
+        ensures noted { self.new ≡ after_read self.old result }
     {
         self.reads += 1;
         match answer {
-            Ok(n) => ReadOutcome::Bytes(n),
+            Ok(n) => {
+                self.ended = n == 0 || self.ended;
+                ReadOutcome::Bytes(n)
+            }
             Err(e) if e.kind() == ErrorKind::Interrupted => ReadOutcome::Interrupted,
             Err(_) => {
-                self.failed = true;
+                self.read_failed = true;
                 ReadOutcome::Failed
             }
         }
     }
 
-    /// Notes whether a write with this answer of its writer has failed. Whether it could write.
-    fn note_write(&mut self, answer: io::Result<()>) -> bool
-        ensures ok { result ≡ is_ok answer }
-        ensures reads { self.new.reads ≡ self.old.reads }
-        ensures failed { result ≡ false → self.new.failed ≡ true }
-        ensures same { result ≡ true → self.new.failed ≡ self.old.failed }
+    /// One write, tried again where it is interrupted. How many bytes it took; none where it failed.
+    fn write<W: Write>(&mut self, writer: &mut W, bytes: &[u8]) -> Option<usize>
+        ensures some { IfSome result (λ n. (0 < n) × (n ≤ length bytes.now) × Appends (W.contents writer.old) (W.contents writer.new) (take n bytes.now)) }
+        ensures none { IfNone result (Appends (W.contents writer.old) (W.contents writer.new) []) }
+        ensures noted { self.new ≡ after_write self.old (is_some result) }
     {
-        if answer.is_err() {
-            self.failed = true;
-            return false;
-        }
-        true
+        let answer = write_uninterrupted(writer, bytes);
+        self.note_write(answer)
     }
+
+    /// Notes whether a write with this answer of its writer has failed: one that takes nothing has.
+    fn note_write(&mut self, answer: io::Result<usize>) -> Option<usize>
+        ensures some { IfSome result (λ n. (0 < n) × (answer ≡ Ok n)) }
+        ensures none { IfNone result (IfOk answer (λ n. n ≡ 0)) }
+        ensures noted { self.new ≡ after_write self.old (is_some result) }
+    {
+        match answer {
+            Ok(n) if n > 0 => Some(n),
+            _ => {
+                self.write_failed = true;
+                None
+            }
+        }
+    }
+}
+
+/// The answer of a write that isn't interrupted.
+fn write_uninterrupted<W: Write>(writer: &mut W, bytes: &[u8]) -> io::Result<usize>
+    ensures bound { WritesAtMost result bytes.now }
+    ensures bytes { WriteAppends (W.contents writer.old) (W.contents writer.new) result bytes.now }
+{
+    for _ in 0..u64::MAX {
+        match writer.write(bytes) {
+            Err(e) if e.kind() == ErrorKind::Interrupted => {}
+            answer => return answer,
+        }
+    }
+    Err(io::Error::from(ErrorKind::Interrupted))
 }

@@ -6,3 +6,4 @@ mod WrittenTokens
 mod WrittenCalls
 mod KeywordPairLemmas
 mod WordPlaceLemmas
+mod MemberNames

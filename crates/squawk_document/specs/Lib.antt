@@ -10,4 +10,5 @@ pub mod Calls
 pub mod WrittenCalls
 pub mod DocumentGrammars
 pub mod Documents
+pub mod MemberNames
 pub mod WordPlaces

@@ -4,7 +4,8 @@ use std::alloc::AllocError;
 use std::error::Error;
 use std::fmt;
 
-/// Why a list of calls is refused. Of several reasons the first of this list is answered.
+/// Why a list of calls is refused. If both a bad call and an open marker apply, the bad call is
+/// returned; running out of memory comes when it occurs.
 #[derive(Clone, Copy, Debug, PartialEq, Eq)]
 pub enum ScriptError {
     /// The call at this place is the first that can't be made: its marker isn't there or is spent,
