@@ -110,13 +110,7 @@ impl Given {
         if entry.word == "more" {
             source.text.push('\n')?;
         }
-        let value = entry.value.as_str();
-        let Some((line, tokens)) = value
-            .strip_prefix('|')
-            .and_then(|rest| rest.rsplit_once('|'))
-        else {
-            return Err(malformed(entry.line, "a text stands between two bars"));
-        };
+        let (line, tokens) = entry.in_bars()?;
         source.text.push_str(line)?;
         if !tokens.is_empty() {
             source.tokens = Some(tokens_in(alloc, tokens, entry.line)?);

@@ -84,11 +84,7 @@ pub fn look_line(
     operator_first: TokenSet,
     entry: &Entry<'_>,
 ) -> Result<String, Trouble> {
-    let words = entry
-        .value
-        .rsplit_once(' ')
-        .map(|(words, _)| words)
-        .unwrap_or("");
+    let (words, _) = entry.value.rsplit_once(' ').unwrap_or(("", ""));
     let Some(question) = question_of(words) else {
         return Err(malformed(entry.line, "a look and its answer are wanted"));
     };
@@ -115,11 +111,7 @@ pub fn stands_line(
     operator_first: TokenSet,
     entry: &Entry<'_>,
 ) -> Result<String, Trouble> {
-    let word = entry
-        .value
-        .split_once(' ')
-        .map(|(word, _)| word)
-        .unwrap_or("");
+    let (word, _) = entry.value.split_once(' ').unwrap_or(("", ""));
     let Some(kind) = kind(word) else {
         return Err(malformed(entry.line, "a kind and its length are wanted"));
     };

@@ -24,6 +24,20 @@ pub struct Entry<'f> {
     pub value: String,
 }
 
+impl<'f> Entry<'f> {
+    /// The text between two bars, and what stands behind it.
+    pub fn in_bars(&self) -> Result<(&str, &str), Trouble> {
+        match self
+            .value
+            .strip_prefix('|')
+            .and_then(|rest| rest.rsplit_once('|'))
+        {
+            Some(pieces) => Ok(pieces),
+            None => Err(malformed(self.line, "a text stands between two bars")),
+        }
+    }
+}
+
 #[derive(Drop)]
 pub struct Case<'f> {
     pub line: usize,

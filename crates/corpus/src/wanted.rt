@@ -37,7 +37,8 @@ use std::fmt::Display;
 pub fn judge(alloc: Global, case: &Case<'_>, report: &mut Report) -> Result<(), Trouble> {
     report.begin();
     let given = Given::new(alloc, case)?;
-    if case.wanted.is_empty() {
+    let is_called = !given.doings.is_empty();
+    if case.wanted.is_empty() || is_called && case.wanted.iter().all(|entry| entry.word == "lex") {
         return Err(malformed(case.line, "nothing is wanted of this case"));
     }
     for source in &given.sources {
@@ -250,13 +251,7 @@ fn sent(alloc: Global, table: &LexedStr<'_>, output: &Output) -> Result<String, 
 
 /// The line of what is sent of an output over another text.
 fn over(alloc: Global, entry: &Entry<'_>, output: &Output) -> Result<String, Trouble> {
-    let text = entry
-        .value
-        .strip_prefix('|')
-        .and_then(|rest| rest.rsplit_once("| "));
-    let Some((text, _)) = text else {
-        return Err(malformed(entry.line, "a text stands between two bars"));
-    };
+    let (text, _) = entry.in_bars()?;
     let tokens = tokens_of(alloc, text)?;
     match table(alloc, text, &tokens) {
         Ok(table) => Ok(format!(in alloc;
