@@ -3,7 +3,7 @@
 //!
 //! The values that they want were worked out by hand. Calls are written as lists and steps as lines, in
 //! the notations of `row_fixtures`; `call_lists` and `notation` have the tests of both, and `raw_tokens` those
-//! of the raw tokens of texts.
+//! of the raw tokens of texts. What is a text, calls and steps is a case of `corpus`.
 #![tactic(auto)]
 
 #[cfg(test)]
@@ -19,13 +19,13 @@ mod front_page;
 #[cfg(test)]
 mod many;
 #[cfg(test)]
+mod markers;
+#[cfg(test)]
 mod memory;
 #[cfg(test)]
 mod notation;
 #[cfg(test)]
 mod raw_tokens;
-#[cfg(test)]
-mod script_errors;
 #[cfg(test)]
 mod script_memory;
 #[cfg(test)]
@@ -38,5 +38,3 @@ mod statement;
 mod str_steps;
 #[cfg(test)]
 mod tree_texts;
-#[cfg(test)]
-mod trivia;

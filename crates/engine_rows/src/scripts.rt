@@ -6,50 +6,14 @@ use row_fixtures::kinds::{NAME, ROOT};
 use row_fixtures::lexer::tokens_of;
 use row_fixtures::output::enter;
 use row_fixtures::rows::{Kinds, LIMITS, parse_within};
-use row_fixtures::scripts::{parse_script, script_of};
+use row_fixtures::scripts::script_of;
 use row_fixtures::tokens::table;
 use row_fixtures::words::no_words;
-use squawk_parser::{EntryPoint, Input, LexedStr, Output, Step, SyntaxKind};
+use squawk_parser::{EntryPoint, Input, Output, Step, SyntaxKind};
 use squawk_script::{Call, Script};
 use std::alloc::{AllocError, Global};
 use std::process::Abort;
 use std::test::Fail;
-
-/// Ends the test if the output fits the table.
-fn assert_unfit(rt: &impl Abort, table: &LexedStr<'_>, output: &Output) {
-    assert!(rt; !table.fits(output));
-}
-
-/// Ends the test unless the script of the calls over the text has these steps and records so many events,
-/// and its output doesn't fit.
-fn assert_loose(
-    rt: &(impl Abort + AllocGlobal),
-    text: &str,
-    calls: &str,
-    line: &str,
-    recorded: u32,
-) -> Result<(), Fail> {
-    let tokens = tokens_of(rt.alloc(), text)?;
-    let table = table(rt.alloc(), text, &tokens)?;
-    let output = parse_script(rt.alloc(), &table, calls)?;
-    assert_recorded(rt, &output, line, recorded)?;
-    assert_unfit(rt, &table, &output);
-    Ok(())
-}
-
-#[test]
-fn script_without_calls_records_nothing(rt: HostRuntime) -> Result<(), Fail> {
-    for text in ["", " ", "a b"] {
-        assert_loose(&rt, text, "", "", 0)?;
-    }
-    Ok(())
-}
-
-#[test]
-fn token_may_stand_outside_of_all_nodes(rt: HostRuntime) -> Result<(), Fail> {
-    let calls = "start, start, bump_any, abandon 0, abandon 1";
-    assert_loose(&rt, "a", calls, "IDENT", 3)
-}
 
 /// The input of a text of simple tokens.
 fn input_of(alloc: Global, text: &str) -> Result<Input, Fail> {

@@ -7,7 +7,7 @@ use crate::fixture::memory::{
 };
 use row_fixtures::cases::{EXPECTED_NAME, EXPECTED_NUMBER, SKIPPED_TOKEN, STATEMENT};
 use row_fixtures::kinds::{LITERAL, ROOT, SELECT, SELECT_CLAUSE, SOURCE_FILE, TARGET, TARGET_LIST};
-use row_fixtures::parts::{Act, Message, PartGrammar, node, then};
+use row_fixtures::parts::{Act, PartGrammar, node, then};
 use row_fixtures::rows::{Case, Kinds, names};
 use squawk_parser::{EntryPoint, Part, SyntaxKind};
 use std::process::Abort;
@@ -47,7 +47,7 @@ fn statement_has_its_nodes(rt: HostRuntime) {
 
 #[test]
 fn skipped_token_is_whole(rt: HostRuntime) {
-    let part = node(ROOT, Act::ErrAndBump(Message::M));
+    let part = node(ROOT, Act::ErrAndBump);
     assert_whole(&rt, Kinds::Plain, part, SKIPPED_TOKEN);
 }
 

@@ -1,5 +1,4 @@
 //! What the tests share.
 
 pub mod looks;
-pub mod notes;
 pub mod output;

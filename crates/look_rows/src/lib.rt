@@ -1,12 +1,10 @@
-//! Tests of what a grammar sees of its input: looks, composite kinds and operators, also under a
-//! limit.
+//! Tests of what a grammar sees of its input that are no cases of `corpus`: parts under limits, long
+//! operators, and looks of other kinds.
 //!
 //! The values that they want were worked out by hand. A grammar tells what it saw by the kinds of empty
 //! nodes.
 #![tactic(auto)]
 
-#[cfg(test)]
-mod composites;
 #[cfg(test)]
 mod fixture;
 #[cfg(test)]
@@ -16,8 +14,4 @@ mod long_operators;
 #[cfg(test)]
 mod looks;
 #[cfg(test)]
-mod operators;
-#[cfg(test)]
 mod parser;
-#[cfg(test)]
-mod three_signs;

@@ -1,36 +1,16 @@
 //! Parts of a grammar that see only so many tokens.
 ghost use Rattle.squawk_parser.specs.State.{HasNotFailed};
 
-use crate::fixture::looks::{Look, ask, ask_under, assert_answers, at_under, length};
-use crate::fixture::notes::{note, yes_or_no};
 use crate::fixture::output::assert_output;
 use row_fixtures::keywords::NO_KEYWORDS;
-use row_fixtures::kinds::{NO, YES};
+use row_fixtures::kinds::YES;
+use row_fixtures::looks::{Look, length};
+use row_fixtures::notes::{note, yes_or_no};
 use row_fixtures::tokens::{space, table, word};
 use row_fixtures::words::no_words;
-use squawk_parser::{EntryPoint, Grammar, Parser, Part, SyntaxKind, TokenSet, Words};
+use squawk_parser::{EntryPoint, Grammar, Parser, Part, Words};
 use std::alloc::AllocError;
 use std::test::Fail;
-
-#[test]
-fn limit_hides_what_stands_behind_it(rt: HostRuntime) -> Result<(), Fail> {
-    let input = table(rt.alloc(), "a", &[word(1)])?.to_input(rt.alloc(), &NO_KEYWORDS)?;
-    let questions = [
-        ask(Look::Kind(usize::MAX, 0)),
-        at_under(0, SyntaxKind::EOF),
-        ask_under(usize::MAX, Look::Kind(0, 3)),
-        // The limit doesn't stay.
-        ask_under(0, Look::Kind(0, 3)),
-        ask(Look::Kind(0, 3)),
-    ];
-    assert_answers(
-        &rt,
-        &input,
-        TokenSet::EMPTY,
-        &questions,
-        &[YES, YES, YES, NO, YES],
-    )
-}
 
 /// Tries to eat two tokens, and answers the position.
 struct EatTwo;

@@ -1,10 +1,13 @@
-//! Operators in runs of hundreds of signs: how long each is, and under a limit inside of the run.
+//! Operators in runs of hundreds of signs: how long each is, and under a limit inside of the run. And those of
+//! one kind alone.
 
-use crate::fixture::looks::{Look, ask_under, assert_answers, length};
+use crate::fixture::looks::assert_answers;
 use row_fixtures::keywords::NO_KEYWORDS;
-use row_fixtures::signs::{AT, MINUS, PLUS, STAR, operator_first};
+use row_fixtures::kinds::NO;
+use row_fixtures::looks::{Look, ask, ask_under, at, length};
+use row_fixtures::signs::{AT, COLON, EQ, MINUS, PLUS, STAR, operator_first};
 use row_fixtures::tokens::table;
-use squawk_parser::{EntryPoint, Input, Output, Step, SyntaxKind, Token, Words};
+use squawk_parser::{EntryPoint, Input, Output, Step, SyntaxKind, Token, TokenSet, Words};
 use squawk_script::{Call, Script};
 use std::alloc::{AllocError, Global};
 use std::process::Abort;
@@ -102,6 +105,15 @@ fn assert_len_under(
     let input = signs.input(rt.alloc())?;
     let questions = [ask_under(limit, Look::OpLen)];
     assert_answers(rt, &input, operator_first(), &questions, &[answer])
+}
+
+#[test]
+fn operator_has_only_the_kinds_that_a_grammar_tells(rt: HostRuntime) -> Result<(), Fail> {
+    // The colon alone is one of an operator, which ends before the equal sign.
+    let input = table(rt.alloc(), ":=:", &[COLON, EQ, COLON])?.to_input(rt.alloc(), &NO_KEYWORDS)?;
+    let only_colons = TokenSet::new(&[SyntaxKind::COLON]);
+    let questions = [at(SyntaxKind::COLON_EQ), ask(Look::OpLen)];
+    assert_answers(&rt, &input, only_colons, &questions, &[NO, length(1)])
 }
 
 #[test]

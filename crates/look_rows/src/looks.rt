@@ -1,8 +1,8 @@
 //! What a parser sees ahead of its position.
 
-use crate::fixture::notes::{note_three, yes_or_no};
 use crate::fixture::output::assert_output;
 use row_fixtures::keywords::Keywords;
+use row_fixtures::notes::{note_three, yes_or_no};
 use row_fixtures::tokens::{space, word};
 use row_fixtures::words::no_words;
 use squawk_parser::{EntryPoint, Grammar, LexedStr, Parser, SyntaxKind, TokenSet, Words};

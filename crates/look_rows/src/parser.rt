@@ -2,12 +2,12 @@
 ghost use Rattle.squawk_output.specs.Draft.{HasNoHole};
 ghost use Rattle.squawk_parser.specs.State.{HasNotFailed, Keeps};
 
-use crate::fixture::notes::note_three;
 use crate::fixture::output::assert_output;
-use row_fixtures::calls::{Calls, FixedGrammar, parse};
+use row_fixtures::calls::{Calls, FixedGrammar};
 use row_fixtures::keywords::{Keywords, NO_KEYWORDS};
-use row_fixtures::scripts::{parse_script, script_of};
-use row_fixtures::tokens::{space, table, word};
+use row_fixtures::notes::note_three;
+use row_fixtures::scripts::script_of;
+use row_fixtures::tokens::{table, word};
 use row_fixtures::words::no_words;
 use squawk_parser::{
     EntryPoint, Grammar, Input, LexedStr, Output, ParseError, Parser, SyntaxKind, Words,
@@ -15,17 +15,6 @@ use squawk_parser::{
 use std::alloc::AllocError;
 use std::process::Abort;
 use std::test::Fail;
-
-#[test]
-fn output_has_the_tokens_without_trivia(rt: HostRuntime) -> Result<(), Fail> {
-    let table = table(rt.alloc(), "a b", &[word(1), space(1), word(1)])?;
-    let calls = Calls::NodeAroundTwoTokens;
-    let by_grammar = parse(rt.alloc(), &table, calls)?;
-    assert_output(&rt, &by_grammar, "ROOT(IDENT IDENT)")?;
-    let by_script = parse_script(rt.alloc(), &table, calls.list())?;
-    assert_output(&rt, &by_script, "ROOT(IDENT IDENT)")?;
-    Ok(())
-}
 
 /// Ends the test unless the entry point makes these calls, by a grammar and in a script, with this
 /// line and so many events.

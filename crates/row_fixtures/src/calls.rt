@@ -3,7 +3,7 @@ ghost use Rattle.squawk_output.specs.Draft.{HasNoHole};
 ghost use Rattle.squawk_parser.specs.State.{HasNotFailed, Keeps, IsFresh};
 
 use crate::keywords::NO_KEYWORDS;
-use crate::kinds::{CALL, FIELD, ROOT};
+use crate::kinds::ROOT;
 use crate::words::no_words;
 use squawk_parser::{EntryPoint, Grammar, LexedStr, Output, Parser, SyntaxKind, Words};
 use std::alloc::{AllocError, Global};
@@ -13,19 +13,12 @@ use std::test::Fail;
 #[derive(Clone, Copy)]
 pub enum Calls {
     Nothing,
-    /// A root around nothing.
-    Node,
     /// A root around nothing, twice.
     TwoNodes,
-    /// A root around nothing, and a token behind it.
-    NodeBeforeToken,
     /// A root around one token.
     NodeAroundToken,
     /// A root around two tokens.
     NodeAroundTwoTokens,
-    /// A root around three tokens. One node begins before the first of them and ends behind the
-    /// second, and another begins before the second and ends behind the third.
-    CrossingNodes,
 }
 
 impl Calls {
@@ -36,12 +29,9 @@ impl Calls {
     {
         match self {
             Calls::Nothing => {}
-            Calls::Node => node(p),
             Calls::TwoNodes => two_nodes(p),
-            Calls::NodeBeforeToken => node_before_token(p),
             Calls::NodeAroundToken => node_around_token(p),
             Calls::NodeAroundTwoTokens => node_around_two_tokens(p),
-            Calls::CrossingNodes => crossing_nodes(p),
         }
     }
 
@@ -49,26 +39,11 @@ impl Calls {
     pub fn list(self) -> &'static str {
         match self {
             Calls::Nothing => "",
-            Calls::Node => "start, complete 0 ROOT",
             Calls::TwoNodes => "start, complete 0 ROOT, start, complete 1 ROOT",
-            Calls::NodeBeforeToken => "start, complete 0 ROOT, bump_any",
             Calls::NodeAroundToken => "start, bump_any, complete 0 ROOT",
             Calls::NodeAroundTwoTokens => "start, bump_any, bump_any, complete 0 ROOT",
-            Calls::CrossingNodes => {
-                "start, start, bump_any, start, bump_any, complete 1 CALL, bump_any, \
-                 complete 2 FIELD, complete 0 ROOT"
-            }
         }
     }
-}
-
-fn node(p: &mut Parser<'_>)
-    requires { IsFresh p.old }
-    ensures keeps { Keeps p.old p.new }
-    ensures closed { HasNotFailed p.new → HasNoHole p.new.draft.items }
-{
-    let root = p.start();
-    let _ = root.complete(p, SyntaxKind::from(ROOT));
 }
 
 fn two_nodes(p: &mut Parser<'_>)
@@ -80,16 +55,6 @@ fn two_nodes(p: &mut Parser<'_>)
     let _ = first.complete(p, SyntaxKind::from(ROOT));
     let second = p.start();
     let _ = second.complete(p, SyntaxKind::from(ROOT));
-}
-
-fn node_before_token(p: &mut Parser<'_>)
-    requires { IsFresh p.old }
-    ensures keeps { Keeps p.old p.new }
-    ensures closed { HasNotFailed p.new → HasNoHole p.new.draft.items }
-{
-    let root = p.start();
-    let _ = root.complete(p, SyntaxKind::from(ROOT));
-    p.bump_any();
 }
 
 fn node_around_token(p: &mut Parser<'_>)
@@ -110,22 +75,6 @@ fn node_around_two_tokens(p: &mut Parser<'_>)
     let root = p.start();
     p.bump_any();
     p.bump_any();
-    let _ = root.complete(p, SyntaxKind::from(ROOT));
-}
-
-fn crossing_nodes(p: &mut Parser<'_>)
-    requires { IsFresh p.old }
-    ensures keeps { Keeps p.old p.new }
-    ensures closed { HasNotFailed p.new → HasNoHole p.new.draft.items }
-{
-    let root = p.start();
-    let left = p.start();
-    p.bump_any();
-    let right = p.start();
-    p.bump_any();
-    let _ = left.complete(p, SyntaxKind::from(CALL));
-    p.bump_any();
-    let _ = right.complete(p, SyntaxKind::from(FIELD));
     let _ = root.complete(p, SyntaxKind::from(ROOT));
 }
 

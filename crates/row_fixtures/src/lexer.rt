@@ -65,6 +65,7 @@ fn kind_of(c: char) -> TokenKind {
         '@' => TokenKind::At,
         '-' => TokenKind::Minus,
         '+' => TokenKind::Plus,
+        '*' => TokenKind::Star,
         '(' => TokenKind::OpenParen,
         ')' => TokenKind::CloseParen,
         _ => TokenKind::Unknown,

@@ -12,6 +12,8 @@ pub mod keywords;
 pub mod kinds;
 pub mod lexer;
 pub mod lines;
+pub mod looks;
+pub mod notes;
 pub mod output;
 pub mod parts;
 pub mod rows;

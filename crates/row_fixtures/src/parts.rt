@@ -11,34 +11,11 @@ use std::alloc::AllocError;
 #[derive(Clone, Copy)]
 pub enum Act {
     BumpAny,
-    BumpRemap(SyntaxKind),
-    Eat(SyntaxKind),
     /// With the current token as its tail.
     EatWith(SyntaxKind),
     Expect(SyntaxKind),
-    /// An error with this text: `e`, `f` or `m`.
-    Error(Message),
-    /// The same, and one kind to go on from.
-    ErrRecover(Message, SyntaxKind),
-    ErrAndBump(Message),
-}
-
-/// The text of an error.
-#[derive(Clone, Copy)]
-pub enum Message {
-    E,
-    F,
-    M,
-}
-
-impl Message {
-    fn text(self) -> &'static str {
-        match self {
-            Message::E => "e",
-            Message::F => "f",
-            Message::M => "m",
-        }
-    }
+    /// With the error `m`.
+    ErrAndBump,
 }
 
 impl Part for Act {
@@ -49,23 +26,10 @@ impl Part for Act {
     fn run(self, p: &mut Parser<'_>) {
         match self {
             Act::BumpAny => p.bump_any(),
-            Act::BumpRemap(kind) => p.bump_remap(kind),
-            Act::Eat(kind) => eat(p, kind),
             Act::EatWith(kind) => eat_with(p, kind),
             Act::Expect(kind) => expect(p, kind),
-            Act::Error(msg) => p.error(msg.text()),
-            Act::ErrRecover(msg, kind) => err_recover(p, msg, kind),
-            Act::ErrAndBump(msg) => p.err_and_bump(msg.text()),
+            Act::ErrAndBump => p.err_and_bump("m"),
         }
-    }
-}
-
-fn eat(p: &mut Parser<'_>, kind: SyntaxKind)
-    ensures keeps { Keeps p.old p.new }
-    ensures holes { HasNotFailed p.new → holes_of p.new.draft.items ≡ holes_of p.old.draft.items }
-{
-    if kind != SyntaxKind::EOF && !has_tail(kind) {
-        p.eat(kind);
     }
 }
 
@@ -84,15 +48,6 @@ fn expect(p: &mut Parser<'_>, kind: SyntaxKind)
 {
     if kind != SyntaxKind::EOF && !has_tail(kind) {
         p.expect(kind);
-    }
-}
-
-fn err_recover(p: &mut Parser<'_>, msg: Message, kind: SyntaxKind)
-    ensures keeps { Keeps p.old p.new }
-    ensures holes { HasNotFailed p.new → holes_of p.new.draft.items ≡ holes_of p.old.draft.items }
-{
-    if u16::from(kind) < 640 {
-        p.err_recover(msg.text(), TokenSet::new(&[kind]));
     }
 }
 
@@ -156,18 +111,6 @@ impl<F: Part<Answer = ()>, G: Part<Answer = ()>> Part for InOrder<F, G> {
         first.run(p);
         second.run(p);
     }
-}
-
-/// No call.
-#[derive(Clone, Copy)]
-pub struct Nothing;
-
-impl Part for Nothing {
-    type Answer = ();
-
-    ghost does = { λ _ _ _ _. Unit {0} };
-
-    fn run(self, _p: &mut Parser<'_>) {}
 }
 
 /// A grammar whose entry points run a part. A set of operators' kinds that has the end counts as the

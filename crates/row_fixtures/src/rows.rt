@@ -5,7 +5,7 @@ ghost use Rattle.squawk_kinds.specs.TokenSets.{has};
 ghost use Rattle.squawk_parser.specs.Words.{HasNoEnd, words_of};
 
 use crate::keywords::{KEYWORDS, Keywords, NO_KEYWORDS};
-use crate::kinds::SELECT_KW;
+use crate::kinds::{MESSAGE_KW, RAISE_KW, SELECT_KW};
 use crate::lexer::tokens_of;
 use crate::parts::PartGrammar;
 use crate::signs::operator_first;
@@ -22,7 +22,7 @@ pub enum Kinds {
     Plain,
     /// The keywords of composite kinds.
     Keywords,
-    /// `select` is a keyword.
+    /// `select` is a keyword, `message` and `raise` are contextual ones.
     Select,
     /// The kinds of operators.
     Operators,
@@ -32,7 +32,7 @@ pub enum Kinds {
 
 const SELECT_KEYWORD: Keywords<'static> = Keywords {
     keywords: &[("select", SELECT_KW)],
-    contextual_keywords: &[],
+    contextual_keywords: &[("message", MESSAGE_KW), ("raise", RAISE_KW)],
 };
 
 impl Kinds {
@@ -99,19 +99,6 @@ pub fn parse_within<G: Grammar>(
     Ok(EntryPoint::SourceFile.parse_within(alloc, &input, grammar, limits))
 }
 
-/// The answer of a part over a text under limits.
-pub fn answer_within<F: Part<Answer = ()> + Copy>(
-    alloc: Global,
-    text: &str,
-    kinds: Kinds,
-    part: F,
-    limits: Limits,
-) -> Result<Result<Output, ParseError>, Fail> {
-    let names = names();
-    let grammar = PartGrammar::new(kinds.words(&names), part);
-    parse_within(alloc, text, kinds, &grammar, limits)
-}
-
 /// The output of a part over a text.
 pub fn output_of<F: Part<Answer = ()> + Copy>(
     alloc: Global,
@@ -119,7 +106,9 @@ pub fn output_of<F: Part<Answer = ()> + Copy>(
     kinds: Kinds,
     part: F,
 ) -> Result<Output, Fail> {
-    let answer = answer_within(alloc, text, kinds, part, LIMITS)?;
+    let names = names();
+    let grammar = PartGrammar::new(kinds.words(&names), part);
+    let answer = parse_within(alloc, text, kinds, &grammar, LIMITS)?;
     Ok(answer?)
 }
 

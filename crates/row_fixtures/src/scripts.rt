@@ -4,7 +4,7 @@ use crate::call_list::calls_of;
 use crate::keywords::NO_KEYWORDS;
 use crate::rows::{Kinds, LIMITS, names, parse_within};
 use crate::words::no_words;
-use squawk_parser::{EntryPoint, LexedStr, Limits, Output, ParseError};
+use squawk_parser::{EntryPoint, LexedStr, Output};
 use squawk_script::Script;
 use std::alloc::Global;
 use std::test::Fail;
@@ -21,19 +21,6 @@ pub fn parse_script(alloc: Global, table: &LexedStr<'_>, calls: &str) -> Result<
     Ok(EntryPoint::SourceFile.parse(alloc, &input, &script)?)
 }
 
-/// The answer of the script of the calls over a text under limits.
-pub fn script_answer_within(
-    alloc: Global,
-    text: &str,
-    kinds: Kinds,
-    calls: &str,
-    limits: Limits,
-) -> Result<Result<Output, ParseError>, Fail> {
-    let names = names();
-    let script = Script::new(alloc, calls_of(alloc, calls)?, kinds.words(&names))?;
-    parse_within(alloc, text, kinds, &script, limits)
-}
-
 /// The output of the script of the calls over a text.
 pub fn script_output_of(
     alloc: Global,
@@ -41,6 +28,8 @@ pub fn script_output_of(
     kinds: Kinds,
     calls: &str,
 ) -> Result<Output, Fail> {
-    let answer = script_answer_within(alloc, text, kinds, calls, LIMITS)?;
+    let names = names();
+    let script = Script::new(alloc, calls_of(alloc, calls)?, kinds.words(&names))?;
+    let answer = parse_within(alloc, text, kinds, &script, LIMITS)?;
     Ok(answer?)
 }

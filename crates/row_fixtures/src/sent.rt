@@ -4,7 +4,7 @@ use crate::lexer::tokens_of;
 use crate::lines::whole_line_of;
 use crate::tokens::table;
 use squawk_parser::{LexedStr, Output, OwnedStep, StepList, StrStep};
-use std::alloc::Global;
+use std::alloc::{AllocError, Global};
 use std::test::Fail;
 
 /// What was sent of an output over a text.
@@ -20,6 +20,15 @@ pub struct Sent {
 pub fn sent_over(alloc: Global, output: &Output, text: &str) -> Result<Option<Sent>, Fail> {
     let tokens = tokens_of(alloc, text)?;
     let table = table(alloc, text, &tokens)?;
+    Ok(sent_over_table(alloc, &table, output)?)
+}
+
+/// What is sent of the output over the table, if it fits.
+pub fn sent_over_table(
+    alloc: Global,
+    table: &LexedStr<'_>,
+    output: &Output,
+) -> Result<Option<Sent>, AllocError> {
     if !table.fits(output) {
         return Ok(None);
     }
@@ -27,7 +36,7 @@ pub fn sent_over(alloc: Global, output: &Output, text: &str) -> Result<Option<Se
     let is_whole = table.intersperse_trivia(output, &mut list)?;
     Ok(Some(Sent {
         line: whole_line_of(alloc, list.steps(), is_whole)?,
-        is_given: gives(&table, output, list.steps(), is_whole),
+        is_given: gives(table, output, list.steps(), is_whole),
     }))
 }
 

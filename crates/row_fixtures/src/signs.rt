@@ -10,11 +10,6 @@ pub const AT: Token = Token {
     len: 1,
 };
 
-pub const BANG: Token = Token {
-    kind: TokenKind::Bang,
-    len: 1,
-};
-
 pub const COLON: Token = Token {
     kind: TokenKind::Colon,
     len: 1,
@@ -27,16 +22,6 @@ pub const COMMA: Token = Token {
 
 pub const EQ: Token = Token {
     kind: TokenKind::Eq,
-    len: 1,
-};
-
-pub const GT: Token = Token {
-    kind: TokenKind::Gt,
-    len: 1,
-};
-
-pub const LT: Token = Token {
-    kind: TokenKind::Lt,
     len: 1,
 };
 

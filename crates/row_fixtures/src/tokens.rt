@@ -32,11 +32,6 @@ pub fn int(base: Base, trailing_junk_start: u32) -> TokenKind {
     })
 }
 
-/// A number of one digit.
-pub fn digit() -> Token {
-    token(int(Base::Decimal, 1), 1)
-}
-
 /// The length of a text in bytes.
 pub fn len_of(text: &str) -> u32 {
     u32::try_from(text.len()).unwrap_or(u32::MAX)

@@ -13,16 +13,10 @@ mod input;
 #[cfg(test)]
 mod kinds;
 #[cfg(test)]
-mod lexical_errors;
-#[cfg(test)]
 mod memory;
 #[cfg(test)]
 mod raw_tokens;
 #[cfg(test)]
 mod sets;
 #[cfg(test)]
-mod string_errors;
-#[cfg(test)]
 mod text;
-#[cfg(test)]
-mod token_kinds;

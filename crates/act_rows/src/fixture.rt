@@ -1,6 +1,0 @@
-//! What the tests share.
-
-pub mod acts;
-pub mod moves;
-pub mod output;
-pub mod rows;

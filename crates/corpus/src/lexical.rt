@@ -1,0 +1,38 @@
+//! Lexical errors as lines.
+
+use crate::sections::Entry;
+use squawk_parser::{LexError, LexedStr};
+use std::alloc::{AllocError, Global};
+use std::fmt::Write;
+
+/// The lines of the errors of a table, as the program prints them.
+pub fn error_lines(alloc: Global, table: &LexedStr<'_>) -> Result<String, AllocError> {
+    let mut lines = String::new(alloc);
+    for error in table.errors() {
+        push_error(&mut lines, error)?;
+    }
+    Ok(lines)
+}
+
+fn push_error(lines: &mut String, error: &LexError) -> Result<(), AllocError> {
+    let range = error.range();
+    let (start, end) = (range.start, range.end);
+    let message = error.message();
+    write!(lines, "\n    lex {start}..{end} {message:?}")?;
+    match error.hint() {
+        Some(hint) => write!(lines, " {hint:?}"),
+        None => Ok(()),
+    }
+}
+
+/// The lines of the errors that are wanted, of which `lex none` is none.
+pub fn wanted_lines(alloc: Global, wanted: &[Entry<'_>]) -> Result<String, AllocError> {
+    let mut lines = String::new(alloc);
+    for entry in wanted {
+        if entry.word == "lex" && entry.value.as_str() != "none" {
+            lines.push_str("\n    lex ")?;
+            lines.push_str(entry.value.as_str())?;
+        }
+    }
+    Ok(lines)
+}

@@ -1,0 +1,42 @@
+//! Empty nodes whose kinds tell what a parser answered.
+ghost use Rattle.std.specs.Prelude.{◌≢◌};
+ghost use Rattle.squawk_output.specs.Draft.{HasNoHole};
+ghost use Rattle.squawk_kinds.specs.Kinds.{TOMBSTONE};
+ghost use Rattle.squawk_parser.specs.State.{HasNotFailed, Keeps};
+
+use crate::kinds::{NO, YES};
+use squawk_parser::{Parser, SyntaxKind};
+
+pub fn yes_or_no(answer: bool) -> u16
+    ensures { result ≢ TOMBSTONE }
+{
+    if answer { YES } else { NO }
+}
+
+/// Completes an empty node of this kind. Its marker has the kind, or another node follows.
+pub fn note(p: &mut Parser<'_>, kind: u16)
+    requires { kind ≢ TOMBSTONE }
+    ensures keeps { Keeps p.old p.new }
+    ensures went { HasNotFailed p.new → HasNotFailed p.old }
+    ensures closed { HasNoHole p.old.draft.items → HasNotFailed p.new → HasNoHole p.new.draft.items }
+{
+    let kind = SyntaxKind::from(kind);
+    let node = p.start().complete(p, kind);
+    if node.kind() != kind {
+        let _ = p.start().complete(p, SyntaxKind::ERROR);
+    }
+}
+
+/// Completes three empty nodes of these kinds.
+pub fn note_three(p: &mut Parser<'_>, first: u16, second: u16, third: u16)
+    requires first { first ≢ TOMBSTONE }
+    requires second { second ≢ TOMBSTONE }
+    requires third { third ≢ TOMBSTONE }
+    ensures keeps { Keeps p.old p.new }
+    ensures went { HasNotFailed p.new → HasNotFailed p.old }
+    ensures closed { HasNoHole p.old.draft.items → HasNotFailed p.new → HasNoHole p.new.draft.items }
+{
+    note(p, first);
+    note(p, second);
+    note(p, third);
+}
