@@ -1,6 +1,6 @@
 //! Grammars that look at nothing: their entry points always make the same calls.
 ghost use Rattle.squawk_output.specs.Draft.{HasNoHole};
-ghost use Rattle.squawk_parser.specs.State.{HasNotFailed, Keeps, IsFresh};
+ghost use Rattle.squawk_parser.specs.State.{HasNotFailed, IsSound, Keeps, IsFresh};
 
 use crate::keywords::NO_KEYWORDS;
 use crate::kinds::ROOT;
@@ -23,7 +23,8 @@ pub enum Calls {
 
 impl Calls {
     fn make(self, p: &mut Parser<'_>)
-        requires { IsFresh p.old }
+        requires fresh { IsFresh p.old }
+        requires sound { IsSound p.old }
         ensures keeps { Keeps p.old p.new }
         ensures closed { HasNotFailed p.new → HasNoHole p.new.draft.items }
     {

@@ -1,7 +1,7 @@
 //! Parts of grammars that make calls, and grammars that are put together from them.
 ghost use Rattle.std.specs.Prelude.{◌≡◌};
 ghost use Rattle.squawk_output.specs.Draft.{holes_of};
-ghost use Rattle.squawk_parser.specs.State.{HasNotFailed, Keeps};
+ghost use Rattle.squawk_parser.specs.State.{HasNotFailed, IsSound, Keeps};
 
 use crate::kinds::ROOT;
 use squawk_parser::{Grammar, Parser, Part, SyntaxKind, TokenSet, Words, has_tail};
@@ -34,6 +34,7 @@ impl Part for Act {
 }
 
 fn eat_with(p: &mut Parser<'_>, kind: SyntaxKind)
+    requires { IsSound p.old }
     ensures keeps { Keeps p.old p.new }
     ensures holes { HasNotFailed p.new → holes_of p.new.draft.items ≡ holes_of p.old.draft.items }
 {
@@ -43,6 +44,7 @@ fn eat_with(p: &mut Parser<'_>, kind: SyntaxKind)
 }
 
 fn expect(p: &mut Parser<'_>, kind: SyntaxKind)
+    requires { IsSound p.old }
     ensures keeps { Keeps p.old p.new }
     ensures holes { HasNotFailed p.new → holes_of p.new.draft.items ≡ holes_of p.old.draft.items }
 {

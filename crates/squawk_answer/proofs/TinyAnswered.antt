@@ -1,10 +1,7 @@
 -- What a parse by the small grammar answers.
 use Rattle.std.proofs.Common.{◌≡◌, ◌≢◌, ◌∙◌, ℕ, ◌+◌, ◌≤◌, Bool, Some, None, Ok, Err, List, [], ◌∷◌, length, map, arith, ap, refl, sym, subst, inl, inr}
 use Rattle.std.specs.Prelude.{◌⊎◌, MatchResult, Result}
-use Rattle.std.proofs.Math.Path.{fun_ext}
 use Rattle.std.proofs.lemmas.List.{length-map, map-append}
-use Rattle.squawk_kinds.specs.TokenSets.{has}
-use Rattle.squawk_kinds.specs.declared.token_set.TokenSet.{TokenSet}
 use Rattle.squawk_document.specs.DocumentGrammars.{ToldGrammar, by_tiny}
 use Rattle.squawk_table.specs.ParserInput.{Entry}
 use Rattle.squawk_table.specs.RawTable.{Table}
@@ -18,7 +15,7 @@ use Rattle.squawk_parser.specs.declared.parser.parse_error.ParseError.{ParseErro
 use Rattle.squawk_parser.specs.declared.parser.parse_error.ParseError.TheVariants as parse
 use Rattle.squawk_script.specs.Events.{errors_among, refusal}
 use Rattle.squawk_script.proofs.Laws.{none-refused, refused-first}
-use Rattle.tiny_grammar.specs.Expressions.{FailsTiny, IsTiny, is_operator_kind, tiny_in_order, tiny_steps}
+use Rattle.tiny_grammar.specs.Expressions.{FailsTiny, IsTiny, tiny_in_order, tiny_steps}
 use Rattle.tiny_grammar.proofs.InOrder.{tiny-errors}
 use Rattle.squawk_answer.specs.Answers.{ParseTells, refusal_by}
 use Rattle.squawk_answer.specs.declared.fault.Fault.{Fault}
@@ -46,35 +43,28 @@ refused-first-step input words events errors steps reason limit step =
       limit = limit;
     })
 
-module _ (set : TokenSet) (is : (kind : ℕ) → has set kind ≡ is_operator_kind kind) (words : Words) (input : List Entry) where
-  kinds : has set ≡ is_operator_kind
-  kinds = fun_ext is
-
+module _ (words : Words) (input : List Entry) where
   pub refusal-tiny : (own : Words) (reason : ParseError)
-      → (reason ≡ parse.OutOfMemory) ⊎ IsRefused (FailsTiny (has set)) (fresh input own 4294967295 2147483648) reason
+      → (reason ≡ parse.OutOfMemory) ⊎ IsRefused FailsTiny (fresh input own 4294967295 2147483648) reason
       → reason ≢ parse.OutOfMemory → refusal_by by_tiny words input ≡ Some reason
   refusal-tiny own reason (inl memory) other = absurd (other memory)
   refusal-tiny own reason (inr refused) other = cases refused.refusal
     where
       cases : IsRefusalOf refused.left reason → refusal_by by_tiny words input ≡ Some reason
       cases (inl first) =
-          refused-first-step input own 4294967295 2147483648 (tiny_in_order is_operator_kind input) reason other
-          (subst (λ kind. IsRefusedStep (fresh input own 4294967295 2147483648) (tiny_in_order kind input) reason) kinds (refused.ran reason first))
+          refused-first-step input own 4294967295 2147483648 (tiny_in_order input) reason other (refused.ran reason first)
       cases (inr memory) = absurd (other memory.1)
 
-  module _ (output : Walk) (parse : IsParse (IsTiny (has set) input) input output) where
-    run : IsTiny is_operator_kind input parse.draft
-    run = subst (λ kind. IsTiny kind input parse.draft) kinds parse.left
-
-    pub steps-tiny : output.steps ≡ tiny_steps is_operator_kind input
-    steps-tiny = parse.steps ∙ run.items
+  module _ (output : Walk) (parse : IsParse (IsTiny input) input output) where
+    pub steps-tiny : output.steps ≡ tiny_steps input
+    steps-tiny = parse.steps ∙ parse.left.items
 
     pub none-tiny : (output.recorded ≤ 4294967295) × (errors_in output.steps ≤ 2147483648) → refusal_by by_tiny words input ≡ None
     none-tiny within =
-        let events = tiny_in_order is_operator_kind input in
+        let events = tiny_in_order input in
         none-refused 4294967295 2147483648 (map is_error events) (
-          omega (arith, within.0, parse.recorded, run.recorded, length-map events is_error),
-          omega (arith, within.1, ap errors_in steps-tiny, errors_among-steps events, tiny-errors is_operator_kind input),
+          omega (arith, within.0, parse.recorded, parse.left.recorded, length-map events is_error),
+          omega (arith, within.1, ap errors_in steps-tiny, errors_among-steps events, tiny-errors input),
         )
 
 -- what is told of the small grammar, whose steps no words change, is told of a grammar that is it

@@ -21,7 +21,7 @@ use Rattle.squawk_script.specs.Events.{events_of, refusal}
 use Rattle.squawk_script.specs.Meaning.{run_of}
 use Rattle.squawk_script.specs.declared.script_error.ScriptError.{ScriptError}
 use Rattle.squawk_script.specs.declared.script_error.ScriptError.TheVariants as calls
-use Rattle.tiny_grammar.specs.Expressions.{is_operator_kind, tiny_in_order, tiny_steps}
+use Rattle.tiny_grammar.specs.Expressions.{tiny_in_order, tiny_steps}
 use Rattle.squawk_answer.specs.Lines.{Texts, last_line, lex_lines, step_lines}
 use Rattle.squawk_answer.specs.declared.fault.Fault.{Fault}
 use Rattle.squawk_answer.specs.declared.fault.Fault.TheVariants.{Json, Shape, TextTooLong, BadToken, TextLeft, BadCall, Unspent, TooManyEvents, TooManyErrors, DoesNotFit, Memory, Io}
@@ -55,12 +55,12 @@ RefusesCalls by_tiny e = ⊥
 -- the steps that its run leaves over an input
 abbrev pub steps_by : ToldGrammar → Words → List Entry → List Step
 steps_by (by_calls entry cs) words input = plain (run_of words input cs).draft.items
-steps_by by_tiny words input = tiny_steps is_operator_kind input
+steps_by by_tiny words input = tiny_steps input
 
 -- the events that its run records, in their order, each as whether it is an error
 abbrev pub events_by : ToldGrammar → Words → List Entry → List Bool
 events_by (by_calls entry cs) words input = events_of words input cs
-events_by by_tiny words input = map is_error (tiny_in_order is_operator_kind input)
+events_by by_tiny words input = map is_error (tiny_in_order input)
 
 -- why the run is refused, if it is: it may record 4294967295 events, and 2147483648 errors among them
 abbrev pub refusal_by : ToldGrammar → Words → List Entry → Option ParseError

@@ -15,11 +15,11 @@ returns-in_err-output-clause-parsed c =
     let reason = c.in_err-output.field-0.0 in
     fault-told c.from_residual.result _ (λ fault. (words : Words) → ParseTells by_tiny words input c.args.table.now (Err fault)) (fault_of_parse reason)
     c.from_residual.ensures.1
-    (λ words. refusal-told by_tiny words input c.args.table.now reason tt (refusal-tiny c.new.result c.new.ensures words input _ reason c.in_err-output.ensures.refused))
+    (λ words. refusal-told by_tiny words input c.args.table.now reason tt (refusal-tiny words input _ reason c.in_err-output.ensures.refused))
 
 pub returns-clause-parsed : goal.returns-clause-parsed
 returns-clause-parsed c =
     let input = input_of (answers c.args.vocabulary.now).contextual.kind_of c.args.table.now in
     let output = c.in_ok-output.output in
     let told = c.in_ok-output.ensures in
-    λ words. ((tt, none-tiny c.new.result c.new.ensures words input output told.output told.within), told.fits, steps-tiny c.new.result c.new.ensures words input output told.output)
+    λ words. ((tt, none-tiny words input output told.output told.within), told.fits, steps-tiny words input output told.output)
