@@ -1,20 +1,8 @@
 //! The kinds of raw tokens, and of those that a parser sees, as lines.
 
-use row_fixtures::kinds::name_of;
-use squawk_parser::{Input, LexedStr, SyntaxKind};
+use row_fixtures::lines::push_kind;
+use squawk_parser::{Input, LexedStr};
 use std::alloc::{AllocError, Global};
-use std::fmt::Write;
-
-/// Adds the name of a kind, or its number if it has none.
-fn push_kind(line: &mut String, kind: SyntaxKind) -> Result<(), AllocError> {
-    match name_of(kind) {
-        Some(name) => line.push_str(name),
-        None => {
-            let number = u16::from(kind);
-            write!(line, "{number}")
-        }
-    }
-}
 
 /// The line of the syntax kinds of raw tokens, as `raw IDENT WHITESPACE 44`.
 pub fn raw_line(alloc: Global, table: &LexedStr<'_>) -> Result<String, AllocError> {

@@ -125,7 +125,8 @@ fn push_space(line: &mut String) -> Result<(), AllocError> {
     }
 }
 
-fn push_kind(line: &mut String, kind: SyntaxKind) -> Result<(), AllocError> {
+/// Adds the name of a kind, or its number if it has none.
+pub fn push_kind(line: &mut String, kind: SyntaxKind) -> Result<(), AllocError> {
     match name_of(kind) {
         Some(name) => line.push_str(name),
         None => {

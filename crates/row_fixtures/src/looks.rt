@@ -5,6 +5,7 @@ ghost use Rattle.squawk_output.specs.Draft.{HasNoHole};
 ghost use Rattle.squawk_parser.specs.State.{HasNotFailed, Keeps};
 
 use crate::notes::{note, yes_or_no};
+use crate::words::without_end;
 use squawk_parser::{Grammar, Parser, Part, SyntaxKind, TokenSet, Words};
 use std::alloc::AllocError;
 
@@ -132,15 +133,9 @@ impl<'a> Grammar for Answering<'a> {
 
     ghost meaning = { λ g. record { operator_first = if has g.operator_first EOF then no_kinds else g.operator_first; names = [] } };
 
-    #[tactic(auto, using(squawk_parser::specs::Words::no_words_has_no_end))]
     fn words(&self) -> Words<'_> {
-        let has_end = self.operator_first.contains(SyntaxKind::EOF);
         Words {
-            operator_first: if has_end {
-                TokenSet::EMPTY
-            } else {
-                self.operator_first
-            },
+            operator_first: without_end(self.operator_first),
             names: &[],
         }
     }

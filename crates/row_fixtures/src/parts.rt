@@ -4,6 +4,7 @@ ghost use Rattle.squawk_output.specs.Draft.{holes_of};
 ghost use Rattle.squawk_parser.specs.State.{HasNotFailed, IsSound, Keeps};
 
 use crate::kinds::ROOT;
+use crate::words::without_end;
 use squawk_parser::{Grammar, Parser, Part, SyntaxKind, TokenSet, Words, has_tail};
 use std::alloc::AllocError;
 
@@ -149,15 +150,9 @@ impl<'t, F: Part<Answer = ()> + Copy> Grammar for PartGrammar<'t, F> {
 
     ghost meaning = { λ g. record { operator_first = if has g.operator_first EOF then no_kinds else g.operator_first; names = map (λ pair. (pair.0, pair.1.now)) g.names.now } };
 
-    #[tactic(auto, using(squawk_parser::specs::Words::no_words_has_no_end))]
     fn words(&self) -> Words<'_> {
-        let has_end = self.operator_first.contains(SyntaxKind::EOF);
         Words {
-            operator_first: if has_end {
-                TokenSet::EMPTY
-            } else {
-                self.operator_first
-            },
+            operator_first: without_end(self.operator_first),
             names: self.names,
         }
     }

@@ -1,5 +1,5 @@
 -- What is known of the reads and the writes of a run.
-use Rattle.std.specs.Prelude.{◌≡◌, ℕ, ◌+◌, ◌==◌, Bool, true, false, if◌then◌else◌, ◌⊎◌}
+use Rattle.std.specs.Prelude.{◌≡◌, ℕ, ◌+◌, ◌==◌, ◌||◌, Bool, true, false, ◌⊎◌}
 use Rattle.squawk_answer.specs.declared.watch.ReadOutcome.{ReadOutcome}
 use Rattle.squawk_answer.specs.declared.watch.ReadOutcome.TheVariants.{Bytes, Interrupted, Failed}
 
@@ -16,14 +16,14 @@ new_watch = record { reads = 0; ended = false; read_failed = false; write_failed
 
 -- a read more, with this outcome
 abbrev pub after_read : Watched → ReadOutcome → Watched
-after_read w (Bytes n) = record { reads = w.reads + 1; ended = if n == 0 then true else w.ended; read_failed = w.read_failed; write_failed = w.write_failed }
-after_read w Interrupted = record { reads = w.reads + 1; ended = w.ended; read_failed = w.read_failed; write_failed = w.write_failed }
-after_read w Failed = record { reads = w.reads + 1; ended = w.ended; read_failed = true; write_failed = w.write_failed }
+after_read w (Bytes n) = record w { reads = w.reads + 1; ended = (n == 0) || w.ended }
+after_read w Interrupted = record w { reads = w.reads + 1 }
+after_read w Failed = record w { reads = w.reads + 1; read_failed = true }
 
 -- bytes were written, all of them or not
 abbrev pub after_write : Watched → Bool → Watched
 after_write w true = w
-after_write w false = record { reads = w.reads; ended = w.ended; read_failed = w.read_failed; write_failed = true }
+after_write w false = record w { write_failed = true }
 
 -- the most reads of a run, interrupted ones too
 abbrev pub most_reads : ℕ
