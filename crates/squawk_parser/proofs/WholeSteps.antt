@@ -1,32 +1,34 @@
--- What grammars may rely on: steps that leave all nodes that they enter, and a node around them as a root.
-use Rattle.std.proofs.Common.{◌≡◌, ◌∙◌, ℕ, zero, suc, ◌<◌, ◌≤◌, not, Some, List, [], ◌∷◌, ◌++◌, length, map, take, arith, ap, sym, refl, subst, length-append}
+-- What grammars may rely on: a node around all that a parser recorded, up to the end of its input.
+use Rattle.std.proofs.Common.{◌≡◌, ◌≢◌, ◌∙◌, ℕ, zero, suc, ◌+◌, ◌<◌, ◌≤◌, Bool, true, false, not, List, [], ◌∷◌, ◌++◌, length, nat_lt, take, if◌then◌else◌, arith, ap, sym, refl, subst, length-append}
 use Rattle.std.proofs.lemmas.List.{take-append-le}
-use Rattle.std.proofs.lemmas.List.Elements.{filter-append}
-use Rattle.squawk_output.specs.Steps.{Step, Enter, Exit, is_enter, is_exit, is_error, openings, closings, without_errors}
-use Rattle.squawk_output.proofs.Sums.{count_by-cons}
-use Rattle.squawk_table.specs.ParserInput.{Entry}
+use Rattle.std.proofs.lemmas.List.Elements.{All-head, All-tail, filter-append}
+use Rattle.squawk_kinds.specs.Kinds.{EOF}
+use Rattle.squawk_output.specs.Draft.{Mark, Hole, plain}
+use Rattle.squawk_output.specs.declared.log.Made.TheVariants.{ByStart}
 use Rattle.squawk_output.specs.OneRoot.{IsBalanced, StandsInOneRoot}
-use Rattle.squawk_parser.specs.Eaten.{node, one}
-use Rattle.squawk_parser.proofs.Balance.{depth_after, depth_after-append, depth_after-suc, IsBalanced-depth_after}
+use Rattle.squawk_output.specs.Steps.{Step, Token, Enter, Exit, Error, is_enter, is_exit, is_error, openings, closings, without_errors}
+use Rattle.squawk_output.proofs.Sums.{count_by-cons}
+use Rattle.squawk_table.specs.ParserInput.{Entry, HasNoEndToken, kind_in}
+use Rattle.squawk_parser.specs.Composed.{Adds}
+use Rattle.squawk_parser.specs.Eaten.{node}
+use Rattle.squawk_parser.specs.Recorded.{Begins, Completes}
+use Rattle.squawk_parser.specs.State.{State, HasNotFailed, IsFresh, kind_at}
+use Rattle.squawk_parser.specs.Whole.{IsWholeFile}
+use Rattle.squawk_parser.proofs.AddedSteps.{Adds-node, node_around, plain-fresh}
+use Rattle.squawk_parser.proofs.Balance.{depth_after, depth_after-balanced, IsBalanced-depth_after}
+use Rattle.squawk_parser.proofs.RecordedSteps.{went}
 use Rattle.squawk_parser.proofs.Splits.{count_by-append}
 
--- errors aside, all that the steps enter they leave
-abbrev pub IsWhole : List Step → Type 0
-IsWhole xs = depth_after 0 (without_errors xs) ≡ Some 0
+-- ---- the root
 
-no_errors-append : (xs ys : List Step) → without_errors (xs ++ ys) ≡ without_errors xs ++ without_errors ys
-no_errors-append xs ys = filter-append (λ step. not (is_error step)) xs ys
-
-pub whole-append : (xs ys : List Step) → IsWhole xs → IsWhole ys → IsWhole (xs ++ ys)
-whole-append xs ys first second = ap (depth_after 0) (no_errors-append xs ys) ∙ (depth_after-append 0 0 (without_errors xs) (without_errors ys) first ∙ second)
-
-pub whole-node : (kind : ℕ) (xs : List Step) → IsWhole xs → IsWhole (node kind xs)
-whole-node kind xs inside =
-    ap (depth_after 1) (no_errors-append xs (Exit ∷ [])) ∙ depth_after-append 1 1 (without_errors xs) (Exit ∷ []) (depth_after-suc 0 0 (without_errors xs) inside)
-
-pub whole-tokens : (seen : List Entry) → IsWhole (map (λ e. one e.kind) seen)
-whole-tokens [] = refl
-whole-tokens (e ∷ seen) = whole-tokens seen
+-- errors change no depth
+depth-without : (d : ℕ) (steps : List Step) → depth_after d (without_errors steps) ≡ depth_after d steps
+depth-without d [] = refl
+depth-without d (Token kind n ∷ steps) = depth-without d steps
+depth-without d (Enter kind ∷ steps) = depth-without (suc d) steps
+depth-without zero (Exit ∷ steps) = refl
+depth-without (suc d) (Exit ∷ steps) = depth-without d steps
+depth-without d (Error text ∷ steps) = depth-without d steps
 
 one_root : (kind : ℕ) (ys : List Step) → IsBalanced ys → StandsInOneRoot (node kind ys)
 one_root kind ys balanced = record {
@@ -44,7 +46,43 @@ one_root kind ys balanced = record {
         let open_ones = ap openings front in
         omega (arith, shut, open_ones, balanced.never_below j, count_by-cons is_exit (Enter kind) (take j (ys ++ Exit ∷ [])), count_by-cons is_enter (Enter kind) (take j (ys ++ Exit ∷ [])))
 
--- so steps in a node that leave all nodes that they enter stand in one root
-pub root-node : (kind : ℕ) (xs : List Step) → IsWhole xs → StandsInOneRoot (without_errors (node kind xs))
-root-node kind xs whole =
-    subst StandsInOneRoot (sym (ap (λ zs. Enter kind ∷ zs) (no_errors-append xs (Exit ∷ [])))) (one_root kind (without_errors xs) (IsBalanced-depth_after (without_errors xs) whole))
+-- balanced steps in a node stand in one root, errors aside
+pub root-node : (kind : ℕ) (xs : List Step) → IsBalanced xs → StandsInOneRoot (without_errors (node kind xs))
+root-node kind xs balanced =
+    subst StandsInOneRoot (sym (ap (λ zs. Enter kind ∷ zs) (filter-append (λ step. not (is_error step)) xs (Exit ∷ []))))
+    (one_root kind (without_errors xs) (IsBalanced-depth_after (without_errors xs) (depth-without 0 xs ∙ depth_after-balanced xs balanced)))
+
+-- ---- the end
+
+no_end : (input : List Entry) (place : ℕ) → HasNoEndToken input → place < length input → kind_in input place ≢ EOF
+no_end [] place some lt = absurd (omega arith)
+no_end (e ∷ input) zero some lt = All-head (λ e. e.kind ≢ EOF) e input some
+no_end (e ∷ input) (suc place) some lt = no_end input place (All-tail (λ e. e.kind ≢ EOF) e input some) (omega arith)
+
+-- a parser that sees the end, under no limit but that of its input, has eaten all of it
+pub at_end : (s : State) → HasNoEndToken s.input → s.limit ≡ length s.input → kind_at s 0 ≡ EOF → length s.input ≤ s.position
+at_end s some limit end = cases (nat_lt (s.position + 0) s.limit) refl end
+  where
+    cases : (b : Bool) → nat_lt (s.position + 0) s.limit ≡ b → (if b then kind_in s.input (s.position + 0) else EOF) ≡ EOF → length s.input ≤ s.position
+    cases true e seen = absurd (no_end s.input (s.position + 0) some (grind (arith, e, limit)) seen)
+    cases false e seen = grind (arith, e, limit)
+
+-- ---- the file
+
+-- A node is begun at the beginning, steps are added up to the end, and it is completed: what is left is one node over all of the input.
+pub whole_file : {a b c d : State} {m : Mark} {kind : ℕ} {steps : List Step} → IsFresh a → Begins m a b → Adds steps b c → Completes m.id kind c d → kind_at c 0 ≡ EOF
+    → HasNotFailed d → IsWholeFile a.input d.draft
+whole_file {a} {b} {c} {d} {m} {kind} {steps} fresh begins adds done end goes =
+    let sound = adds.keeps.sound in
+    let before = went done.keeps goes in
+    let added = adds.draft before in
+    let start : b.draft.items ≡ Hole a.draft.entries ByStart ∷ [] =
+    ap (λ d. d.items) (begins.records.draft (went adds.keeps before)) ∙ ap (λ s. s.draft.items ++ Hole a.draft.entries ByStart ∷ []) fresh in
+    let inside : plain c.draft.items ≡ steps = ap plain added.items ∙ (ap (λ items. plain (items ++ added.made)) start ∙ added.steps_made) in
+    let is : plain d.draft.items ≡ node kind steps = plain-fresh fresh (Adds-node (node_around begins adds done refl)) goes in
+    let input : c.input ≡ a.input = adds.keeps.input ∙ begins.keeps.input in
+    let limit : c.limit ≡ length c.input = adds.keeps.limit ∙ (begins.keeps.limit ∙ (ap (λ s. s.limit) fresh ∙ ap length (sym input))) in
+    record {
+      root = subst (λ steps. StandsInOneRoot (without_errors steps)) (sym is) (root-node kind steps (subst IsBalanced inside sound.balanced));
+      all = omega (arith, at_end c sound.no_end limit end, ap length input, done.position, done.keeps.sound.exact goes);
+    }

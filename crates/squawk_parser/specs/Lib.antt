@@ -11,3 +11,5 @@ pub mod Eaten
 pub mod Parse
 pub mod ErrorLines
 pub mod Composed
+pub mod Whole
+pub mod Pipeline

@@ -82,10 +82,14 @@
 #![tactic(auto)]
 
 pub mod parser;
+pub mod pipeline;
 
 pub use parser::{
-    CompletedMarker, EntryPoint, Grammar, Limits, Marker, ParseError, Parser, Part, Words, has_tail,
+    CompletedMarker, EntryPoint, Grammar, Limits, Marker, ParseError, Parser, Part, WholeGrammar,
+    Words, has_tail,
 };
+pub use pipeline::errors::{ParseIntoError, ParseWholeError};
+pub use pipeline::{Sent, parse_into, parse_whole_into};
 pub use squawk_kinds::{
     NoKeywords, SyntaxKind, TokenSet, Vocabulary, classes, is_col_name_keyword,
     is_reserved_keyword, is_type_func_name_keyword, no_keywords, syntax_kind, token_set,

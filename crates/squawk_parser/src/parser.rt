@@ -19,6 +19,7 @@ mod recording;
 pub mod tails;
 mod tokens;
 mod view;
+pub mod whole_grammar;
 pub mod words;
 
 pub use grammar::{EntryPoint, Grammar};
@@ -32,6 +33,7 @@ use std::alloc::{AllocError, Global};
 use std::marker::Model;
 pub use tails::has_tail;
 use tokens::Tokens;
+pub use whole_grammar::WholeGrammar;
 pub use words::Words;
 
 /// For how many events there is room at first, a token of the input: about what a grammar records.

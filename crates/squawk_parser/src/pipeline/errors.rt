@@ -1,0 +1,108 @@
+//! Why a text isn't sent to a sink, or not all of it.
+ghost use Rattle.std.specs.Prelude.{◌≡◌};
+
+use crate::parser::ParseError;
+use squawk_table::TableError;
+use std::alloc::AllocError;
+use std::error::Error;
+use std::fmt;
+
+/// Which stage of [`parse_into`](crate::parse_into) refused, with the error of its own.
+#[derive(Debug, Drop)]
+pub enum ParseIntoError<R> {
+    /// The raw tokens aren't those of the text, or memory was refused to their table.
+    Table(TableError),
+    /// Memory was refused to the parser's input.
+    Input(AllocError),
+    /// The parse was refused.
+    Parse(ParseError),
+    /// What the grammar left isn't one node, errors aside.
+    NoRoot,
+    /// The sink refused a step.
+    Sink(R),
+}
+
+impl<R: fmt::Display> fmt::Display for ParseIntoError<R> {
+    fn fmt<W: fmt::Write>(&self, f: &mut fmt::Formatter<W>) -> fmt::Result {
+        match self {
+            ParseIntoError::Table(reason) => write!(f, "{reason}"),
+            ParseIntoError::Input(reason) => write!(f, "{reason}"),
+            ParseIntoError::Parse(reason) => write!(f, "{reason}"),
+            ParseIntoError::NoRoot => write!(f, "no root"),
+            ParseIntoError::Sink(answer) => write!(f, "{answer}"),
+        }
+    }
+}
+
+impl<R: Error> Error for ParseIntoError<R> {}
+
+impl<R> From<ParseWholeError<R>> for ParseIntoError<R> {
+    ghost use Rattle.squawk_parser.specs.Pipeline.{asking};
+
+    ghost from_gives = { λ reason error. error ≡ asking reason };
+
+    fn from(reason: ParseWholeError<R>) -> ParseIntoError<R> {
+        match reason {
+            ParseWholeError::Table(reason) => ParseIntoError::Table(reason),
+            ParseWholeError::Input(reason) => ParseIntoError::Input(reason),
+            ParseWholeError::Parse(reason) => ParseIntoError::Parse(reason),
+            ParseWholeError::Sink(answer) => ParseIntoError::Sink(answer),
+        }
+    }
+}
+
+/// The same of [`parse_whole_into`](crate::parse_whole_into), which asks for no root.
+#[derive(Debug, Drop)]
+pub enum ParseWholeError<R> {
+    /// The raw tokens aren't those of the text, or memory was refused to their table.
+    Table(TableError),
+    /// Memory was refused to the parser's input.
+    Input(AllocError),
+    /// The parse was refused.
+    Parse(ParseError),
+    /// The sink refused a step.
+    Sink(R),
+}
+
+impl<R: fmt::Display> fmt::Display for ParseWholeError<R> {
+    fn fmt<W: fmt::Write>(&self, f: &mut fmt::Formatter<W>) -> fmt::Result {
+        match self {
+            ParseWholeError::Table(reason) => write!(f, "{reason}"),
+            ParseWholeError::Input(reason) => write!(f, "{reason}"),
+            ParseWholeError::Parse(reason) => write!(f, "{reason}"),
+            ParseWholeError::Sink(answer) => write!(f, "{answer}"),
+        }
+    }
+}
+
+impl<R: Error> Error for ParseWholeError<R> {}
+
+impl<R> From<TableError> for ParseWholeError<R> {
+    ghost use Rattle.squawk_parser.specs.declared.pipeline.errors.ParseWholeError.TheVariants.{Table};
+
+    ghost from_gives = { λ reason error. error ≡ Table reason };
+
+    fn from(reason: TableError) -> ParseWholeError<R> {
+        ParseWholeError::Table(reason)
+    }
+}
+
+impl<R> From<AllocError> for ParseWholeError<R> {
+    ghost use Rattle.squawk_parser.specs.declared.pipeline.errors.ParseWholeError.TheVariants.{Input};
+
+    ghost from_gives = { λ reason error. error ≡ Input reason };
+
+    fn from(reason: AllocError) -> ParseWholeError<R> {
+        ParseWholeError::Input(reason)
+    }
+}
+
+impl<R> From<ParseError> for ParseWholeError<R> {
+    ghost use Rattle.squawk_parser.specs.declared.pipeline.errors.ParseWholeError.TheVariants.{Parse};
+
+    ghost from_gives = { λ reason error. error ≡ Parse reason };
+
+    fn from(reason: ParseError) -> ParseWholeError<R> {
+        ParseWholeError::Parse(reason)
+    }
+}
