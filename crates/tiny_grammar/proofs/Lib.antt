@@ -2,6 +2,4 @@ pub mod Operand
 pub mod Expression
 pub mod Tail
 pub mod Source
-pub mod Root
-pub mod Whole
 pub mod InOrder

@@ -4,6 +4,7 @@ use Rattle.squawk_output.specs.Draft.{Node, HasNoHole}
 use Rattle.squawk_parser.specs.Composed.{Adds, AddsNode, RecordsSteps}
 use Rattle.squawk_parser.specs.Recorded.{Puts}
 use Rattle.squawk_parser.specs.State.{State, HasNotFailed, IsFresh, Keeps, ahead}
+use Rattle.squawk_parser.specs.Whole.{IsWholeFile}
 use Rattle.squawk_parser.proofs.AddedSteps.{Adds-node, Adds-puts, Adds-then, closed-fresh, plain-fresh}
 use Rattle.squawk_parser.proofs.SeenSteps.{ahead-fresh, ahead-still}
 use Rattle.squawk_parser.proofs.StepsInOrder.{RecordsSteps-puts, RecordsSteps-then}
@@ -35,8 +36,9 @@ module _ {a e : State} (fresh : IsFresh a) (records : RecordsSteps (tiny_in_orde
     pub source_closed : HasNotFailed e → HasNoHole e.draft.items
     source_closed = closed-fresh fresh (Adds-node adds)
 
-    pub source_leaves : HasNotFailed e → IsTiny a.input e.draft
-    source_leaves goes = record {
+    pub source_leaves : (HasNotFailed e → IsWholeFile a.input e.draft) → HasNotFailed e → IsTiny a.input e.draft
+    source_leaves whole goes = record {
+      whole = whole goes;
       items = plain-fresh fresh (Adds-node adds) goes;
       recorded = omega (arith, records.recorded goes, ap (λ s. s.draft.recorded) fresh);
     }

@@ -11,6 +11,7 @@ use Rattle.squawk_parser.specs.Eaten.{node, one}
 use Rattle.squawk_parser.specs.Operators.{operator_length, special_kinds}
 use Rattle.squawk_parser.specs.Recorded.{IsRefusedStep}
 use Rattle.squawk_parser.specs.State.{State}
+use Rattle.squawk_parser.specs.Whole.{IsWholeFile}
 use Rattle.squawk_parser.specs.Words.{Words}
 use Rattle.squawk_parser.specs.declared.parser.parse_error.ParseError.{ParseError}
 
@@ -126,6 +127,7 @@ tiny_in_order input = node source (expression_in_order input ++ tail_steps (behi
 
 -- what a run leaves over an input
 pub record IsTiny (input : List Entry) (draft : Draft) : Type 0 where
+  pub whole : IsWholeFile input draft
   pub items : plain draft.items ≡ tiny_steps input
   pub recorded : draft.recorded ≡ length (tiny_in_order input)
 

@@ -1,5 +1,6 @@
 //! Operands, with operators between them.
 ghost use Rattle.std.specs.Prelude.{ℕ, List, ◌≡◌, ◌≤◌, ◌∷◌, ◌++◌, [], ◌⊎◌, length, IfOk, IfErr, IsTrue};
+ghost use Rattle.squawk_kinds.specs.Kinds.{EOF};
 ghost use Rattle.squawk_kinds.specs.TokenSets.{has};
 ghost use Rattle.squawk_table.specs.ParserInput.{input_of, kind_in};
 ghost use Rattle.squawk_table.specs.Shape.{Fits, no_keywords};
@@ -7,13 +8,13 @@ ghost use Rattle.squawk_output.specs.Steps.{Step, Enter, Exit, eaten, errors_in}
 ghost use Rattle.squawk_parser.specs.Composed.{Adds, AddsNode, RecordsSteps};
 ghost use Rattle.squawk_parser.specs.Parse.{IsParse, IsRefused};
 ghost use Rattle.squawk_parser.specs.Recorded.{Puts};
-ghost use Rattle.squawk_parser.specs.State.{State, HasNode, IsSound, ahead, fresh};
+ghost use Rattle.squawk_parser.specs.State.{State, HasNode, IsSound, ahead, fresh, kind_at};
 ghost use Rattle.squawk_parser.specs.declared.parser.parse_error.ParseError.TheVariants.{OutOfMemory};
 ghost use Rattle.tiny_grammar.specs.Expressions.{FailsTiny, HasTinyOperators, IsTiny, behind, bin, expression_in_order, expression_steps, is_operand, is_operator_kind, operand_step, operand_steps, operator_steps, part_in_order, right_steps, behind_expression, tail_steps};
 
 use squawk_parser::{
     CompletedMarker, EntryPoint, Grammar, LexedStr, Output, ParseError, Parser, SyntaxKind,
-    TokenSet, Vocabulary, Words,
+    TokenSet, Vocabulary, WholeGrammar, Words,
 };
 use std::alloc::{AllocError, Global};
 use std::marker::Model;
@@ -87,7 +88,8 @@ impl Tiny {
         ensures whole { IfOk result (λ output. eaten output.steps ≡ length (input_of no_keywords table.now)) }
     {
         let input = table.to_input(alloc, vocabulary)?;
-        entry.parse(alloc, &input, self)
+        let output = entry.parse(alloc, &input, self)?;
+        Ok(output)
     }
 }
 
@@ -122,6 +124,10 @@ impl Grammar for Tiny {
     fn plpgsql_entry_point(&self, p: &mut Parser<'_>) -> Result<(), AllocError> {
         self.entry_point(p)
     }
+}
+
+impl WholeGrammar for Tiny {
+    ghost leaves_whole = { λ _ _ _ _ _ left. left.whole };
 }
 
 /// An operand, and operators behind it, each with its right operand.
@@ -193,7 +199,8 @@ fn is_operand(kind: SyntaxKind) -> bool
 /// What is left, each token as an error.
 fn rest(p: &mut Parser<'_>)
     requires { IsSound p.old }
-    ensures { Puts (tail_steps (ahead p.old 0)) p.old p.new }
+    ensures puts { Puts (tail_steps (ahead p.old 0)) p.old p.new }
+    ensures end { kind_at p.new 0 ≡ EOF }
 {
     while p.current() != SyntaxKind::EOF {
         p.err_and_bump("expected end");

@@ -9,7 +9,7 @@ loop-p-preserved c =
     let some : kind_at c.loop-p.p 0 ≢ EOF = grind arith in
     eating-next some c.err_and_bump.ensures.puts c.loop-p.invariant
 
-pub returns : goal.returns
-returns c =
+pub returns-clause-puts : goal.returns-clause-puts
+returns-clause-puts c =
     let end : kind_at c.loop-p.p 0 ≡ EOF = grind arith in
     eating-all c.loop-p.invariant end
