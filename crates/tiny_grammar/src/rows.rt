@@ -3,8 +3,8 @@ ghost use Rattle.std.specs.Prelude.{◌≤◌};
 
 use crate::Tiny;
 use squawk_parser::{
-    Base, EntryPoint, LexedStr, Limits, LiteralKind, NoKeywords, OwnedStep, ParseError, StepList,
-    Token, TokenKind,
+    Base, EntryPoint, LexedStr, Limits, LiteralKind, NoKeywords, OwnedStep, ParseError, Sent,
+    StepList, Token, TokenKind, parse_whole_into,
 };
 use std::alloc::{AllocError, Global};
 use std::fmt::Write;
@@ -74,14 +74,23 @@ fn assert_row(
     wanted: &str,
 ) -> Result<(), Fail> {
     let tokens = tokens_of(rt.alloc(), text)?;
-    let table = LexedStr::new(rt.alloc(), text, &tokens, &NoKeywords)?;
+    let wanted_counts = Sent {
+        all: true,
+        recorded,
+        turns,
+    };
     for entry in [EntryPoint::SourceFile, EntryPoint::Plpgsql] {
-        let output = Tiny::new().parse(rt.alloc(), &table, &NoKeywords, entry)?;
-        assert_eq!(rt; output.recorded(), recorded);
-        assert_eq!(rt; output.turns() as u64, turns);
         let mut list = StepList::new(rt.alloc());
-        assert!(rt; output.stands_in_one_root() && table.fits(&output));
-        assert!(rt; table.intersperse_trivia(&output, &mut list)?);
+        let sent = parse_whole_into(
+            rt.alloc(),
+            text,
+            &tokens,
+            &NoKeywords,
+            &Tiny::new(),
+            entry,
+            &mut list,
+        )?;
+        assert_eq!(rt; sent, wanted_counts);
         let line = line_of(rt.alloc(), list.steps())?;
         assert_eq!(rt; line.as_str(), wanted);
     }
