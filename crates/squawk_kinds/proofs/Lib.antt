@@ -1,2 +1,3 @@
 pub mod TokenSetLemmas
 pub mod TokenKinds
+pub mod ConstantSets

@@ -10,7 +10,7 @@ use std::marker::Model;
 /// tokens, those from 700 on the caller's nodes. The other numbers are the engine's; those without
 /// a constant are kept for it, and nothing refuses them. Contracts see a kind as its number.
 #[derive(Clone, Copy, PartialEq, Eq, PartialOrd, Ord, Hash, Debug)]
-pub struct SyntaxKind(u16);
+pub struct SyntaxKind(pub u16);
 
 impl Model for SyntaxKind {
     ghost use Rattle.std.specs.Prelude.{ℕ};

@@ -10,12 +10,37 @@ use std::marker::Model;
 
 /// A set of token kinds: of the kinds up to [`SyntaxKind::WHITESPACE`].
 ///
-/// A set is 80 bytes, one bit for each token kind, and is copied like a number. [`TokenSet::new`]
-/// and [`TokenSet::union`] are plain functions and give no constants. So make a set once, keep it in
-/// the value that needs it, as in that of the grammar or of the vocabulary, and ask it as often as
-/// you like: a question reads one word.
+/// A set is 80 bytes, one bit for each token kind, and is copied like a number. Token kind `k` is in it
+/// where bit `k % 64` of word `k / 64` is 1, counted from the lowest bit. A question reads one word.
+///
+/// [`token_set!`](crate::token_set!) makes a constant of kinds; [`TokenSet::new`] makes a set of a list.
 #[derive(Clone, Copy, PartialEq, Eq, Debug)]
-pub struct TokenSet([u64; 10]);
+pub struct TokenSet(pub [u64; 10]);
+
+/// The set of these kinds, as the value of a constant:
+/// `const FIRST: TokenSet = token_set![SyntaxKind::IDENT, SyntaxKind::L_PAREN];`
+///
+/// Each is a token kind; others are in no set. `has-words_of` tells which kinds the constant has.
+#[macro_export]
+macro_rules! token_set {
+    (@word $word:expr; $($kind:expr),*) => {
+        0u64 $(| ((($kind.0 / 64 == $word) as u64) << ($kind.0 % 64)))*
+    };
+    ($($kind:expr),* $(,)?) => {
+        $crate::TokenSet([
+            $crate::token_set!(@word 0; $($kind),*),
+            $crate::token_set!(@word 1; $($kind),*),
+            $crate::token_set!(@word 2; $($kind),*),
+            $crate::token_set!(@word 3; $($kind),*),
+            $crate::token_set!(@word 4; $($kind),*),
+            $crate::token_set!(@word 5; $($kind),*),
+            $crate::token_set!(@word 6; $($kind),*),
+            $crate::token_set!(@word 7; $($kind),*),
+            $crate::token_set!(@word 8; $($kind),*),
+            $crate::token_set!(@word 9; $($kind),*),
+        ])
+    };
+}
 
 impl Model for TokenSet {
     ghost use Rattle.std.specs.Prelude.{List, ℕ};
@@ -46,8 +71,7 @@ impl TokenSet {
         set
     }
 
-    /// The set with these words: token kind `k` is in it where bit `k % 64` of word `k / 64` is 1,
-    /// counted from the lowest bit.
+    /// The set with these words.
     pub fn from_words(words: [u64; 10]) -> TokenSet
         ensures words { result ≡ words }
         ensures kinds { (kind : ℕ) → IsTrue (has result kind)

@@ -32,7 +32,7 @@ impl Grammar for Flat {
         while p.current() != SyntaxKind::EOF {
             p.bump_any();
         }
-        file.complete(p, SyntaxKind::from(700));
+        file.complete(p, SyntaxKind(700));
         Ok(())
     }
 

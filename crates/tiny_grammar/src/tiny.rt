@@ -14,16 +14,37 @@ ghost use Rattle.tiny_grammar.specs.Expressions.{FailsTiny, HasTinyOperators, Is
 
 use squawk_parser::{
     CompletedMarker, EntryPoint, Grammar, LexedStr, Output, ParseError, Parser, SyntaxKind,
-    TokenSet, Vocabulary, WholeGrammar, Words,
+    TokenSet, Vocabulary, WholeGrammar, Words, token_set,
 };
 use std::alloc::{AllocError, Global};
 use std::marker::Model;
 
-const SOURCE: u16 = 720;
+const SOURCE: SyntaxKind = SyntaxKind(720);
 
-const BIN: u16 = 721;
+const BIN: SyntaxKind = SyntaxKind(721);
 
-const OPERAND: u16 = 722;
+const OPERAND: SyntaxKind = SyntaxKind(722);
+
+/// The kinds that operators are made of.
+const OPERATORS: TokenSet = token_set![
+    SyntaxKind::PLUS,
+    SyntaxKind::MINUS,
+    SyntaxKind::STAR,
+    SyntaxKind::SLASH,
+    SyntaxKind::L_ANGLE,
+    SyntaxKind::R_ANGLE,
+    SyntaxKind::EQ,
+    SyntaxKind::TILDE,
+    SyntaxKind::BANG,
+    SyntaxKind::AT,
+    SyntaxKind::POUND,
+    SyntaxKind::PERCENT,
+    SyntaxKind::CARET,
+    SyntaxKind::AMP,
+    SyntaxKind::PIPE,
+    SyntaxKind::BACKTICK,
+    SyntaxKind::QUESTION,
+];
 
 /// A grammar of operands with operators between them. An operator takes all that stands before it as
 /// its left operand.
@@ -51,25 +72,7 @@ impl Tiny {
         ensures { has result ≡ is_operator_kind }
     {
         Tiny {
-            operator_first: TokenSet::new(&[
-                SyntaxKind::PLUS,
-                SyntaxKind::MINUS,
-                SyntaxKind::STAR,
-                SyntaxKind::SLASH,
-                SyntaxKind::L_ANGLE,
-                SyntaxKind::R_ANGLE,
-                SyntaxKind::EQ,
-                SyntaxKind::TILDE,
-                SyntaxKind::BANG,
-                SyntaxKind::AT,
-                SyntaxKind::POUND,
-                SyntaxKind::PERCENT,
-                SyntaxKind::CARET,
-                SyntaxKind::AMP,
-                SyntaxKind::PIPE,
-                SyntaxKind::BACKTICK,
-                SyntaxKind::QUESTION,
-            ]),
+            operator_first: OPERATORS,
         }
     }
 
@@ -117,7 +120,7 @@ impl Grammar for Tiny {
         let root = p.start();
         expression(p);
         rest(p);
-        root.complete(p, SyntaxKind::from(SOURCE));
+        root.complete(p, SOURCE);
         Ok(())
     }
 
@@ -156,7 +159,7 @@ fn operation(left: CompletedMarker, p: &mut Parser<'_>) -> CompletedMarker
     let node = left.precede(p);
     operator(p);
     operand(p);
-    node.complete(p, SyntaxKind::from(BIN))
+    node.complete(p, BIN)
 }
 
 /// The operator at the position.
@@ -175,7 +178,7 @@ fn operand(p: &mut Parser<'_>) -> CompletedMarker
 {
     let node = p.start();
     operand_token(p);
-    node.complete(p, SyntaxKind::from(OPERAND))
+    node.complete(p, OPERAND)
 }
 
 /// The token of an operand, or the error.

@@ -16,7 +16,7 @@ inside c =
 pub returns-clause-adds : goal.returns-clause-adds
 returns-clause-adds c =
     let done = c.complete.ensures in
-    node_around c.start-node.ensures.begins (Adds-puts (inside c)) (rw c.from.ensures at done.completes) (rw c.from.ensures at done.node)
+    node_around c.start-node.ensures.begins (Adds-puts (inside c)) done.completes done.node
 
 pub returns-clause-records : goal.returns-clause-records
 returns-clause-records c = RecordsSteps-node operand c.start-node.ensures.begins (RecordsSteps-puts (inside c)) c.complete.ensures.completes

@@ -12,7 +12,7 @@ pub returns-clause-adds : goal.returns-clause-adds
 returns-clause-adds c begun steps adds =
     let before = c.precede-node.ensures.precedes in
     let done = c.complete.ensures in
-    node_before adds before (operation_adds before c.operator.ensures c.operand.ensures.adds) (rw c.from.ensures at done.completes) (rw c.from.ensures at done.node)
+    node_before adds before (operation_adds before c.operator.ensures c.operand.ensures.adds) done.completes done.node
 
 pub returns-clause-records : goal.returns-clause-records
 returns-clause-records c = operation_records c.precede-node.ensures.precedes c.operator.ensures c.operand.ensures.records c.complete.ensures.completes

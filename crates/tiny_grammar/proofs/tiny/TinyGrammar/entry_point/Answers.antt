@@ -18,7 +18,7 @@ inside c =
 root : (c : goal.After-complete) → AddsNode (tiny_steps c.args.p.now.input) c.complete.result c.args.p.now c.complete.new.p
 root c =
     let done = c.complete.ensures in
-    node_around c.start-root.ensures.begins (inside c) (rw c.from.ensures at done.completes) (rw c.from.ensures at done.node)
+    node_around c.start-root.ensures.begins (inside c) done.completes done.node
 
 -- and its steps are recorded in their order
 recorded : (c : goal.After-complete) → RecordsSteps (tiny_in_order c.args.p.now.input) c.args.p.now c.complete.new.p
