@@ -15,8 +15,6 @@ mod fitting;
 #[cfg(test)]
 mod fixture;
 #[cfg(test)]
-mod front_page;
-#[cfg(test)]
 mod many;
 #[cfg(test)]
 mod markers;

@@ -1,27 +1,37 @@
 //! An event-parser engine for SQL grammars.
 //!
 //! A grammar is an `impl` of [`Grammar`]: it looks at the tokens ahead, starts nodes, eats tokens and
-//! completes nodes. [`EntryPoint::parse`] runs it over the tokens that aren't trivia, and
-//! [`LexedStr::intersperse_trivia`] sends what it recorded, with the trivia, to a [`StepSink`];
-//! [`LexedStr::str_steps`] gives it step by step. This one is of names:
+//! completes nodes. [`parse_into`] goes from a text and its raw tokens to a [`StepSink`]. Its stages are
+//! [`LexedStr::new`], [`LexedStr::to_input`], [`EntryPoint::parse`], [`Output::stands_in_one_root`] and
+//! [`LexedStr::intersperse_trivia`]; [`LexedStr::str_steps`] gives the same step by step. This grammar is
+//! of names:
 //!
 //! ```rust
-//! const SOURCE_FILE: u16 = 710;
+//! ghost use Rattle.std.specs.Prelude.{◌<◌, ◌≢◌, List};
+//! ghost use Rattle.squawk_kinds.specs.Kinds.{EOF};
+//! ghost use Rattle.squawk_output.specs.Steps.{Step};
+//! ghost use Rattle.squawk_parser.specs.Recorded.{Puts};
+//! ghost use Rattle.squawk_parser.specs.State.{kind_at};
 //!
-//! const NAME_REF: u16 = 702;
+//! use squawk_parser::{
+//!     EntryPoint, Grammar, NoKeywords, ParseWholeError, Parser, Sent, StepList, SyntaxKind, Token,
+//!     TokenSet, WholeGrammar, Words, parse_whole_into,
+//! };
+//! use std::alloc::{AllocError, Global};
+//!
+//! const SOURCE_FILE: SyntaxKind = SyntaxKind(710);
+//!
+//! const NAME_REF: SyntaxKind = SyntaxKind(702);
 //!
 //! /// A source file of names: each in a node of its own, and what is no name in an error node.
-//! struct Names;
+//! pub struct Names;
 //!
 //! impl Grammar for Names {
-//!     ghost use Rattle.std.specs.Prelude.{List, ◌≡◌};
-//!     ghost use Rattle.squawk_output.specs.Draft.{plain};
-//!     ghost use Rattle.squawk_output.specs.Steps.{Step};
-//!     ghost use Rattle.squawk_parser.specs.Eaten.{node};
+//!     ghost use Rattle.squawk_parser.specs.Whole.{IsWholeFile};
 //!     ghost use Rattle.squawk_parser.specs.Words.{no_words};
 //!
-//!     // All stands in one SOURCE_FILE.
-//!     ghost leaves = { λ _ _ _ draft. (inner : List Step) × (plain draft.items ≡ node 710 inner) };
+//!     // One node over all tokens.
+//!     ghost leaves = { λ _ _ input draft. IsWholeFile input draft };
 //!
 //!     ghost runs = { λ _ _ _ _. Unit {0} };
 //!
@@ -40,13 +50,17 @@
 //!         while p.current() != SyntaxKind::EOF {
 //!             name(p);
 //!         }
-//!         file.complete(p, SyntaxKind::from(SOURCE_FILE));
+//!         file.complete(p, SOURCE_FILE);
 //!         Ok(())
 //!     }
 //!
 //!     fn plpgsql_entry_point(&self, p: &mut Parser<'_>) -> Result<(), AllocError> {
 //!         self.entry_point(p)
 //!     }
+//! }
+//!
+//! impl WholeGrammar for Names {
+//!     ghost leaves_whole = { λ _ _ _ _ _ left. left };
 //! }
 //!
 //! /// A name, or an error with the token that is none.
@@ -58,18 +72,21 @@
 //!     if p.current() == SyntaxKind::IDENT {
 //!         let node = p.start();
 //!         p.bump_any();
-//!         node.complete(p, SyntaxKind::from(NAME_REF));
+//!         node.complete(p, NAME_REF);
 //!     } else {
 //!         p.err_and_bump("expected a name");
 //!     }
 //! }
 //!
-//! /// Sends the steps of a text with these raw tokens, and tells whether they have all of it.
-//! fn send(alloc: Global, text: &str, tokens: &[Token], sink: &mut StepList) -> Result<bool, Fail> {
-//!     let table = LexedStr::new(alloc, text, tokens, &NoKeywords)?;
-//!     let input = table.to_input(alloc, &NoKeywords)?;
-//!     let output = EntryPoint::SourceFile.parse(alloc, &input, &Names)?;
-//!     Ok(output.stands_in_one_root() && table.intersperse_trivia(&output, sink)?)
+//! /// Sends the tree of a text with these raw tokens to a list of steps.
+//! pub fn send(
+//!     alloc: Global,
+//!     text: &str,
+//!     tokens: &[Token],
+//!     sink: &mut StepList,
+//! ) -> Result<Sent, ParseWholeError<AllocError>> {
+//!     let entry = EntryPoint::SourceFile;
+//!     parse_whole_into(alloc, text, tokens, &NoKeywords, &Names, entry, sink)
 //! }
 //! ```
 //!
@@ -78,7 +95,8 @@
 //!
 //! The ghost members are what the grammar promises beyond what holds of every parse: `leaves` tells
 //! what it leaves over an input, `runs` what it does to the parser, also where that fails, and
-//! `meaning` what `words` gives.
+//! `meaning` what `words` gives. This one always leaves one node over all tokens, so it is a
+//! [`WholeGrammar`]; [`parse_into`] takes any grammar, and asks for a root.
 #![tactic(auto)]
 
 pub mod parser;

@@ -1,5 +1,5 @@
 use Rattle.squawk_parser.proofs.RecordedSteps.{node_puts}
-use Rattle.engine_rows.proofs.front_page.name.Goals as goal
+use Rattle.names_grammar.proofs.name.Goals as goal
 
 pub returns-then-eq-clause-puts : goal.returns-then-eq-clause-puts
 returns-then-eq-clause-puts c =

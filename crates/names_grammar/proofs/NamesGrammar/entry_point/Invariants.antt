@@ -1,7 +1,7 @@
 use Rattle.std.proofs.Common.{◌-◌, List}
 use Rattle.squawk_output.specs.Steps.{Step}
 use Rattle.squawk_parser.specs.Recorded.{Puts}
-use Rattle.engine_rows.proofs.front_page.NamesGrammar.entry_point.Given as goal
+use Rattle.names_grammar.proofs.NamesGrammar.entry_point.Given as goal
 
 -- steps were put behind the marker
 abbrev pub invariant-loop-p : goal.invariant-loop-p
