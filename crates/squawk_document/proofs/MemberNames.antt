@@ -1,14 +1,14 @@
 -- What is read as a document is an object with its six members, and so are the two objects in it.
 use Rattle.std.proofs.Common.{◌≡◌, ◌∙◌, ℕ, List, [], ◌∷◌, Bool, true, false, Ok, Err, Some, None, ap, refl, subst, sym}
-use Rattle.std.specs.Prelude.{◌==◌, Option, Result, IfSome, IsSome, codes, if◌then◌else◌, length}
+use Rattle.std.specs.Prelude.{◌==◌, Option, Result, IfSome, IsSome, codes, if◌then◌else◌}
 use Rattle.std.specs.Option.{ok_or}
 use Rattle.serde_json.specs.Data.{Data, Members}
 use Rattle.serde_json.specs.Find.{as_object, get}
 use Rattle.squawk_document.specs.DocumentParts.{MemberData, members_in}
 use Rattle.squawk_document.specs.Documents.{Told, document_in, words_in}
-use Rattle.squawk_document.specs.GrammarWords.{WordData, word_members_in}
+use Rattle.squawk_document.specs.GrammarWords.{word_members_in}
 use Rattle.squawk_document.specs.KeywordPairs.{answered, keyword_list_in, vocabulary_in}
-use Rattle.squawk_document.specs.MemberNames.{HasEach, HasMembers, IsDocument, document_names, vocabulary_names, words_names}
+use Rattle.squawk_document.specs.MemberNames.{HasMembers, IsDocument, vocabulary_names, words_names}
 use Rattle.squawk_document.specs.TokenShapes.{tokens_in}
 use Rattle.squawk_document.specs.Values.{◌>>=◌, has_members, member_in, members_len, string_in}
 use Rattle.squawk_document.specs.declared.document_error.DocumentError.{DocumentError}

@@ -101,11 +101,12 @@ no_other reads = absurd (let p = reads in cc)
 
 plain-is : (w : List ℕ) (kind : TokenKind) → plain_kind w ≡ Ok kind → IsWritten w [] kind
 plain-is w kind =
-    plain Unknown refl (plain LineComment refl (plain Whitespace refl (plain Ident refl (plain Semi refl (plain Comma refl
-    (plain Dot refl (plain DotDot refl (plain OpenParen refl (plain CloseParen refl (plain OpenBracket refl (plain CloseBracket refl
-    (plain OpenCurly refl (plain CloseCurly refl (plain At refl (plain Pound refl (plain Tilde refl (plain Question refl
-    (plain Colon refl (plain Eq refl (plain Bang refl (plain Lt refl (plain Gt refl (plain Minus refl (plain And refl (plain Or refl
-    (plain Plus refl (plain Star refl (plain Slash refl (plain Caret refl (plain Percent refl (plain Backtick refl (plain Eof refl
+    plain Unknown refl (plain LineComment refl (plain Whitespace refl (plain Ident refl (plain Eof refl (
+    plain Semi refl (plain Comma refl (plain Dot refl (plain DotDot refl (plain OpenParen refl (plain CloseParen refl (
+    plain OpenBracket refl (plain CloseBracket refl (plain OpenCurly refl (plain CloseCurly refl (plain Colon refl (
+    plain At refl (plain Pound refl (plain Tilde refl (plain Question refl (plain Eq refl (plain Bang refl (
+    plain Lt refl (plain Gt refl (plain Minus refl (plain And refl (plain Or refl (plain Plus refl (plain Star refl (
+    plain Slash refl (plain Caret refl (plain Percent refl (plain Backtick refl
     no_other))))))))))))))))))))))))))))))))
 
 -- the same for the literals that say only whether they are terminated

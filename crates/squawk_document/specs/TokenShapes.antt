@@ -30,28 +30,13 @@ base_in d = u32_in d >>= λ n.
 
 -- ---- spellings
 
--- the kinds without fields
-abbrev pub plain_kind : List ℕ → Result TokenKind DocumentError
-plain_kind w =
-    if is_word w (codes "unknown") then Ok Unknown else
-    if is_word w (codes "line_comment") then Ok LineComment else
-    if is_word w (codes "whitespace") then Ok Whitespace else
-    if is_word w (codes "ident") then Ok Ident else
-    if is_word w (codes "semi") then Ok Semi else
-    if is_word w (codes "comma") then Ok Comma else
-    if is_word w (codes "dot") then Ok Dot else
-    if is_word w (codes "dot_dot") then Ok DotDot else
-    if is_word w (codes "open_paren") then Ok OpenParen else
-    if is_word w (codes "close_paren") then Ok CloseParen else
-    if is_word w (codes "open_bracket") then Ok OpenBracket else
-    if is_word w (codes "close_bracket") then Ok CloseBracket else
-    if is_word w (codes "open_curly") then Ok OpenCurly else
-    if is_word w (codes "close_curly") then Ok CloseCurly else
+-- the signs that operators are made of
+abbrev pub operator_sign : List ℕ → Result TokenKind DocumentError
+operator_sign w =
     if is_word w (codes "at") then Ok At else
     if is_word w (codes "pound") then Ok Pound else
     if is_word w (codes "tilde") then Ok Tilde else
     if is_word w (codes "question") then Ok Question else
-    if is_word w (codes "colon") then Ok Colon else
     if is_word w (codes "eq") then Ok Eq else
     if is_word w (codes "bang") then Ok Bang else
     if is_word w (codes "lt") then Ok Lt else
@@ -65,8 +50,33 @@ plain_kind w =
     if is_word w (codes "caret") then Ok Caret else
     if is_word w (codes "percent") then Ok Percent else
     if is_word w (codes "backtick") then Ok Backtick else
-    if is_word w (codes "eof") then Ok Eof else
     Err Shape
+
+-- those that separate or enclose, or an operator's
+abbrev pub punctuation : List ℕ → Result TokenKind DocumentError
+punctuation w =
+    if is_word w (codes "semi") then Ok Semi else
+    if is_word w (codes "comma") then Ok Comma else
+    if is_word w (codes "dot") then Ok Dot else
+    if is_word w (codes "dot_dot") then Ok DotDot else
+    if is_word w (codes "open_paren") then Ok OpenParen else
+    if is_word w (codes "close_paren") then Ok CloseParen else
+    if is_word w (codes "open_bracket") then Ok OpenBracket else
+    if is_word w (codes "close_bracket") then Ok CloseBracket else
+    if is_word w (codes "open_curly") then Ok OpenCurly else
+    if is_word w (codes "close_curly") then Ok CloseCurly else
+    if is_word w (codes "colon") then Ok Colon else
+    operator_sign w
+
+-- the kinds without fields
+abbrev pub plain_kind : List ℕ → Result TokenKind DocumentError
+plain_kind w =
+    if is_word w (codes "unknown") then Ok Unknown else
+    if is_word w (codes "line_comment") then Ok LineComment else
+    if is_word w (codes "whitespace") then Ok Whitespace else
+    if is_word w (codes "ident") then Ok Ident else
+    if is_word w (codes "eof") then Ok Eof else
+    punctuation w
 
 -- the literals that say only whether they are terminated
 abbrev pub quoted_literal : List ℕ → Bool → Result LiteralKind DocumentError

@@ -2,7 +2,7 @@
 ghost use Rattle.std.specs.Prelude.{map};
 ghost use Rattle.serde_json.specs.View.{view};
 ghost use Rattle.squawk_document.specs.Values.{GivesExactly};
-ghost use Rattle.squawk_document.specs.TokenShapes.{spelled_kind, kind_of_one, kind_of_three, kind_of_two, plain_kind, quoted_literal};
+ghost use Rattle.squawk_document.specs.TokenShapes.{spelled_kind, kind_of_one, kind_of_three, kind_of_two, operator_sign, plain_kind, punctuation, quoted_literal};
 
 use crate::document_error::DocumentError;
 use crate::token::field::{base, place};
@@ -32,6 +32,16 @@ fn plain_kind(word: &str) -> Result<TokenKind, DocumentError>
         "line_comment" => Ok(TokenKind::LineComment),
         "whitespace" => Ok(TokenKind::Whitespace),
         "ident" => Ok(TokenKind::Ident),
+        "eof" => Ok(TokenKind::Eof),
+        _ => punctuation(word),
+    }
+}
+
+/// A sign that separates or encloses, or an operator's.
+fn punctuation(word: &str) -> Result<TokenKind, DocumentError>
+    ensures { GivesExactly (λ k. k) result (punctuation word.now) }
+{
+    match word {
         "semi" => Ok(TokenKind::Semi),
         "comma" => Ok(TokenKind::Comma),
         "dot" => Ok(TokenKind::Dot),
@@ -42,11 +52,20 @@ fn plain_kind(word: &str) -> Result<TokenKind, DocumentError>
         "close_bracket" => Ok(TokenKind::CloseBracket),
         "open_curly" => Ok(TokenKind::OpenCurly),
         "close_curly" => Ok(TokenKind::CloseCurly),
+        "colon" => Ok(TokenKind::Colon),
+        _ => operator_sign(word),
+    }
+}
+
+/// A sign that operators are made of.
+fn operator_sign(word: &str) -> Result<TokenKind, DocumentError>
+    ensures { GivesExactly (λ k. k) result (operator_sign word.now) }
+{
+    match word {
         "at" => Ok(TokenKind::At),
         "pound" => Ok(TokenKind::Pound),
         "tilde" => Ok(TokenKind::Tilde),
         "question" => Ok(TokenKind::Question),
-        "colon" => Ok(TokenKind::Colon),
         "eq" => Ok(TokenKind::Eq),
         "bang" => Ok(TokenKind::Bang),
         "lt" => Ok(TokenKind::Lt),
@@ -60,7 +79,6 @@ fn plain_kind(word: &str) -> Result<TokenKind, DocumentError>
         "caret" => Ok(TokenKind::Caret),
         "percent" => Ok(TokenKind::Percent),
         "backtick" => Ok(TokenKind::Backtick),
-        "eof" => Ok(TokenKind::Eof),
         _ => Err(DocumentError::Shape),
     }
 }
