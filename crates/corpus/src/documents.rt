@@ -1,0 +1,157 @@
+//! The documents that go into a case.
+//!
+//! | line | what it gives |
+//! |---|---|
+//! | `json {"text":"x"}` | a document, as it stands |
+//! | `more  "entry":"sql"}` | its next line |
+//! | `document` | a document of the members below it |
+//! | `document plain` | or of those and of the others of another case of this file, which has this name |
+//! | `text "x"` | a member, or `tokens`, `words`, `vocabulary`, `entry`, `calls` |
+//! | `? 1.5` | what stands where a member or a document has this sign |
+//!
+//! A line may have several values, with ` | ` between them, and a word several lines. All documents that
+//! they make, each value of a member with each of the others, must come to the same.
+
+use crate::sections::Case;
+use crate::trouble::{Trouble, malformed};
+use std::alloc::{AllocError, Global};
+
+/// A document without its members.
+const FRAME: &str =
+    r#"{"text":<text>,"tokens":<tokens>,"words":<words>,"vocabulary":<vocabulary>,"entry":<entry>,"calls":<calls>}"#;
+
+/// The words of values, and where these stand.
+const PLACES: [(&str, &str); 7] = [
+    ("text", "<text>"),
+    ("tokens", "<tokens>"),
+    ("words", "<words>"),
+    ("vocabulary", "<vocabulary>"),
+    ("entry", "<entry>"),
+    ("calls", "<calls>"),
+    ("?", "?"),
+];
+
+/// Whether a case is one of documents.
+pub fn has_documents(case: &Case<'_>) -> bool {
+    match case.given.first() {
+        Some(entry) => matches!(entry.word, "document" | "json"),
+        None => false,
+    }
+}
+
+/// The documents of a case, which stands in a file with these.
+pub fn documents_of(
+    alloc: Global,
+    cases: &[Case<'_>],
+    case: &Case<'_>,
+) -> Result<Vec<String>, Trouble> {
+    let mut documents = whole_documents(alloc, case)?;
+    let is_whole = !documents.is_empty();
+    if !is_whole {
+        documents
+            .push(String::from_str(alloc, FRAME)?)
+            .map_err(AllocError::from)?;
+    }
+    let base = base_of(cases, case)?;
+    for (word, place) in PLACES {
+        let mut values = values_of(alloc, case, word)?;
+        if values.is_empty() {
+            values = values_of(alloc, base, word)?;
+        }
+        if !values.is_empty() {
+            documents = filled(alloc, case, &documents, place, &values)?;
+        } else if !is_whole && word != "?" {
+            return Err(malformed(case.line, "a document has six members"));
+        }
+    }
+    Ok(documents)
+}
+
+/// The documents that stand whole in a case, which then has no members.
+fn whole_documents(alloc: Global, case: &Case<'_>) -> Result<Vec<String>, Trouble> {
+    let is_whole = case.given.iter().any(|entry| entry.word == "json");
+    let mut documents = Vec::new(alloc);
+    for (i, entry) in case.given.iter().enumerate() {
+        match (entry.word, documents.last_mut()) {
+            ("json", _) => push_values(alloc, &mut documents, entry.value.as_str())?,
+            ("more", Some(document)) => push_line(document, entry.value.as_str())?,
+            ("document", _) if i == 0 => {}
+            (word, _) if has_place(word) && (word == "?" || !is_whole) => {}
+            _ => return Err(malformed(entry.line, "no document has this line")),
+        }
+    }
+    Ok(documents)
+}
+
+fn has_place(word: &str) -> bool {
+    PLACES.iter().any(|(placed, _)| *placed == word)
+}
+
+fn push_line(document: &mut String, line: &str) -> Result<(), AllocError> {
+    document.push('\n')?;
+    document.push_str(line)
+}
+
+/// The case whose members a case has besides its own.
+fn base_of<'c, 'f>(cases: &'c [Case<'f>], case: &'c Case<'f>) -> Result<&'c Case<'f>, Trouble> {
+    let name = match case.given.first() {
+        Some(entry) if entry.word == "document" => entry.value.as_str(),
+        _ => "",
+    };
+    if name.is_empty() {
+        return Ok(case);
+    }
+    match cases.iter().find(|other| other.name == name) {
+        Some(base) => Ok(base),
+        None => Err(malformed(case.line, "no case of this file has the name of its base")),
+    }
+}
+
+/// The values that the lines of a word have.
+fn values_of(alloc: Global, case: &Case<'_>, word: &str) -> Result<Vec<String>, AllocError> {
+    let mut values = Vec::new(alloc);
+    for entry in &case.given {
+        if entry.word == word {
+            push_values(alloc, &mut values, entry.value.as_str())?;
+        }
+    }
+    Ok(values)
+}
+
+fn push_values(alloc: Global, values: &mut Vec<String>, line: &str) -> Result<(), AllocError> {
+    for value in line.split(" | ") {
+        values.push(String::from_str(alloc, value)?)?;
+    }
+    Ok(())
+}
+
+/// Each of the documents with each of the values at its place.
+fn filled(
+    alloc: Global,
+    case: &Case<'_>,
+    documents: &[String],
+    place: &str,
+    values: &[String],
+) -> Result<Vec<String>, Trouble> {
+    let mut all = Vec::new(alloc);
+    for document in documents {
+        if !document.as_str().contains(place) {
+            return Err(malformed(case.line, "a document has no place for a value"));
+        }
+        push_filled(alloc, &mut all, document.as_str(), place, values)?;
+    }
+    Ok(all)
+}
+
+fn push_filled(
+    alloc: Global,
+    all: &mut Vec<String>,
+    document: &str,
+    place: &str,
+    values: &[String],
+) -> Result<(), AllocError> {
+    for value in values {
+        all.push(document.replace(alloc, place, value.as_str())?)?;
+    }
+    Ok(())
+}
