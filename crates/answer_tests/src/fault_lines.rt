@@ -1,7 +1,8 @@
 //! The lines and the statuses of faults.
 
-use crate::asserts::assert_told;
+use crate::asserts::assert_same;
 use squawk_answer::Fault;
+use std::process::Abort;
 use std::test::Fail;
 
 /// The faults, each with its line and its status.
@@ -20,10 +21,23 @@ const FAULTS: [(Fault, &str, u8); 12] = [
     (Fault::Io, "io", 8),
 ];
 
+/// The fault ends with this status and prints this line.
+fn assert_told(
+    rt: &(impl Abort + AllocGlobal),
+    fault: Fault,
+    line: &str,
+    status: u8,
+) -> Result<(), Fail> {
+    assert_same(rt, &line, &fault.status(), &status);
+    let printed = format!(in rt.alloc(); "{fault}")?;
+    assert_same(rt, &fault, &printed.as_str(), &line);
+    Ok(())
+}
+
 #[test]
 fn fault_prints_its_line(rt: HostRuntime) -> Result<(), Fail> {
     for (fault, line, status) in FAULTS {
-        assert_told(&rt, fault, status, line)?;
+        assert_told(&rt, fault, line, status)?;
     }
     Ok(())
 }

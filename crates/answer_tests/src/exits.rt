@@ -1,8 +1,8 @@
 //! How the program ends: its status, and what it prints of a fault.
 
 use crate::asserts::assert_same;
-use crate::documents::{ESCAPE, ESCAPE_LINES, Members, PLAIN};
-use crate::streams::Takes;
+use crate::documents::{ESCAPE, ESCAPE_LINES};
+use crate::streams::{Plan, Takes, Turn};
 use squawk_answer::{Watch, program};
 use std::alloc::Global;
 use std::io::{ErrorKind, Write};
@@ -49,39 +49,26 @@ fn ends_with_success_and_prints_no_fault(rt: HostRuntime) {
     assert_exit(&rt, ESCAPE, ExitCode::SUCCESS, ESCAPE_LINES, "");
 }
 
-/// Members of a document, the line of its fault, and the status.
-const FAULTY: [(Members<'static>, &str, u8); 4] = [
-    (Members { text: "7", ..PLAIN }, "shape\n", 2),
+/// The text, the raw tokens and the calls of a document, the line of its fault, and the status.
+const FAULTY: [(&str, &str, &str, &str, u8); 4] = [
+    ("7", "[]", "[]", "shape\n", 2),
+    (r#""x""#, r#"[["ident",0]]"#, "[]", "bad token 0\n", 3),
     (
-        Members {
-            tokens: r#"[["ident",0]]"#,
-            ..PLAIN
-        },
-        "bad token 0\n",
-        3,
-    ),
-    (
-        Members {
-            calls: r#"[["start"],["start"],["complete",1,700]]"#,
-            ..PLAIN
-        },
+        r#""""#,
+        "[]",
+        r#"[["start"],["start"],["complete",1,700]]"#,
         "unspent 0\n",
         4,
     ),
-    (
-        Members {
-            calls: "[]",
-            ..PLAIN
-        },
-        "does not fit\n",
-        6,
-    ),
+    (r#""""#, "[]", "[]", "does not fit\n", 6),
 ];
 
 #[test]
 fn ends_with_the_status_of_a_fault_and_prints_its_line(rt: HostRuntime) -> Result<(), Fail> {
-    for (members, line, status) in FAULTY {
-        let document = members.document(rt.alloc())?;
+    for (text, tokens, calls, line, status) in FAULTY {
+        let document = format!(in rt.alloc();
+            r#"{{"text":{text},"tokens":{tokens},"words":{{"operator_first":[],"names":[]}},"vocabulary":{{"keywords":[],"contextual":[]}},"entry":"sql","calls":{calls}}}"#
+        )?;
         assert_exit(&rt, &document, ExitCode::from(status), "", line);
     }
     Ok(())
@@ -89,13 +76,11 @@ fn ends_with_the_status_of_a_fault_and_prints_its_line(rt: HostRuntime) -> Resul
 
 #[test]
 fn ends_with_its_status_where_the_line_cannot_be_printed(rt: HostRuntime) {
+    let turns = [Turn::Refuses(ErrorKind::BrokenPipe)];
     let mut written = Vec::new(rt.alloc());
     let mut errors = Takes {
         taken: Vec::new(rt.alloc()),
-        most: 10,
-        writes: 0,
-        fails_at: 1,
-        kind: ErrorKind::BrokenPipe,
+        plan: Plan::at(0, &turns),
     };
     let code = ended(rt.alloc(), "[", &mut written, &mut errors);
     assert_same(&rt, &"a code", &code, &ExitCode::from(2));

@@ -1,0 +1,74 @@
+//! Signs round and in a document that no file of cases can have, and deep documents.
+
+use crate::asserts::{assert_ends, assert_fault};
+use crate::documents::{NAME, NAME_LINES};
+use squawk_answer::Fault;
+use std::alloc::{AllocError, Global};
+use std::process::Abort;
+use std::test::Fail;
+
+/// So many signs more.
+fn push_signs(text: &mut String, sign: char, times: usize) -> Result<(), AllocError> {
+    for _ in 0..times {
+        text.push(sign)?;
+    }
+    Ok(())
+}
+
+/// A list in a list and so on, this many, between these.
+fn nested(alloc: Global, front: &str, lists: usize, back: &str) -> Result<String, AllocError> {
+    let mut text = String::from_str(alloc, front)?;
+    push_signs(&mut text, '[', lists)?;
+    push_signs(&mut text, ']', lists)?;
+    text.push_str(back)?;
+    Ok(text)
+}
+
+/// So many lists, and one less as a member, have this fault.
+fn assert_nested(rt: &(impl Abort + AllocGlobal), lists: u8, fault: Fault) -> Result<(), Fail> {
+    let lists = usize::from(lists);
+    let document = nested(rt.alloc(), "", lists, "")?;
+    assert_fault(rt, document.as_bytes(), &lists, fault);
+    let document = nested(rt.alloc(), r#"{"text":"#, lists.saturating_sub(1), "}")?;
+    assert_fault(rt, document.as_bytes(), &lists, fault);
+    Ok(())
+}
+
+#[test]
+fn nesting_of_127_is_read_and_one_of_128_is_no_json(rt: HostRuntime) -> Result<(), Fail> {
+    assert_nested(&rt, 127, Fault::Shape)?;
+    assert_nested(&rt, 128, Fault::Json)
+}
+
+/// The document of a name with this in front of it and that behind it has this fault or its answer.
+fn assert_framed(
+    rt: &(impl Abort + AllocGlobal),
+    front: &str,
+    back: &str,
+    wanted: (Result<(), Fault>, &str),
+) -> Result<(), Fail> {
+    let document = format!(in rt.alloc(); "{front}{NAME}{back}")?;
+    assert_ends(rt, document.as_bytes(), &(front, back), wanted);
+    Ok(())
+}
+
+#[test]
+fn white_space_may_stand_round_a_document(rt: HostRuntime) -> Result<(), Fail> {
+    assert_framed(&rt, " \t\r\n", "\n\r\t ", (Ok(()), NAME_LINES))
+}
+
+#[test]
+fn other_signs_round_a_document_are_no_json(rt: HostRuntime) -> Result<(), Fail> {
+    for sign in ["\0", "\u{a0}", "\u{feff}"] {
+        assert_framed(&rt, "", sign, (Err(Fault::Json), ""))?;
+        assert_framed(&rt, sign, "", (Err(Fault::Json), ""))?;
+    }
+    Ok(())
+}
+
+#[test]
+fn white_space_alone_and_a_string_with_a_newline_are_no_json(rt: HostRuntime) {
+    for document in ["", " \t\r\n", "{\"text\":\"\n\"}"] {
+        assert_fault(&rt, document.as_bytes(), &document, Fault::Json);
+    }
+}
