@@ -1,9 +1,9 @@
-//! How the program ends: its status, and what it prints of a fault.
+//! How the program ends: its status, and what it prints of a fault, and both for each fault.
 
 use crate::asserts::assert_same;
 use crate::documents::{ESCAPE, ESCAPE_LINES};
 use crate::streams::{Plan, Takes, Turn};
-use squawk_answer::{Watch, program};
+use squawk_answer::{Fault, Watch, program};
 use std::alloc::Global;
 use std::io::{ErrorKind, Write};
 use std::process::{Abort, ExitCode};
@@ -86,4 +86,30 @@ fn ends_with_its_status_where_the_line_cannot_be_printed(rt: HostRuntime) {
     assert_same(&rt, &"a code", &code, &ExitCode::from(2));
     assert_same(&rt, &"the answer", &written.len(), &0);
     assert_same(&rt, &"the line", &errors.taken.len(), &0);
+}
+
+/// The faults, each with its line and its status.
+const FAULTS: [(Fault, &str, u8); 12] = [
+    (Fault::Json, "json", 2),
+    (Fault::Shape, "shape", 2),
+    (Fault::TextTooLong, "text too long", 3),
+    (Fault::BadToken { index: 12 }, "bad token 12", 3),
+    (Fault::TextLeft { at: 0 }, "text left at 0", 3),
+    (Fault::BadCall { index: 3 }, "bad call 3", 4),
+    (Fault::Unspent { marker: 10 }, "unspent 10", 4),
+    (Fault::TooManyEvents, "too many events", 5),
+    (Fault::TooManyErrors, "too many errors", 5),
+    (Fault::DoesNotFit, "does not fit", 6),
+    (Fault::Memory, "memory", 7),
+    (Fault::Io, "io", 8),
+];
+
+#[test]
+fn fault_has_its_status_and_its_line(rt: HostRuntime) -> Result<(), Fail> {
+    for (fault, line, status) in FAULTS {
+        assert_same(&rt, &line, &fault.status(), &status);
+        let printed = format!(in rt.alloc(); "{fault}")?;
+        assert_same(&rt, &fault, &printed.as_str(), &line);
+    }
+    Ok(())
 }

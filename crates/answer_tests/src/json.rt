@@ -1,4 +1,4 @@
-//! Signs round and in a document that no file of cases can have, and deep documents.
+//! Signs round and in a document that no file of cases can have, and deep and long documents.
 
 use crate::asserts::{assert_ends, assert_fault};
 use crate::documents::{NAME, NAME_LINES};
@@ -7,10 +7,10 @@ use std::alloc::{AllocError, Global};
 use std::process::Abort;
 use std::test::Fail;
 
-/// So many signs more.
-fn push_signs(text: &mut String, sign: char, times: usize) -> Result<(), AllocError> {
+/// So many of an item more.
+fn push_items(text: &mut String, item: &str, times: usize) -> Result<(), AllocError> {
     for _ in 0..times {
-        text.push(sign)?;
+        text.push_str(item)?;
     }
     Ok(())
 }
@@ -18,8 +18,8 @@ fn push_signs(text: &mut String, sign: char, times: usize) -> Result<(), AllocEr
 /// A list in a list and so on, this many, between these.
 fn nested(alloc: Global, front: &str, lists: usize, back: &str) -> Result<String, AllocError> {
     let mut text = String::from_str(alloc, front)?;
-    push_signs(&mut text, '[', lists)?;
-    push_signs(&mut text, ']', lists)?;
+    push_items(&mut text, "[", lists)?;
+    push_items(&mut text, "]", lists)?;
     text.push_str(back)?;
     Ok(text)
 }
@@ -71,4 +71,31 @@ fn white_space_alone_and_a_string_with_a_newline_are_no_json(rt: HostRuntime) {
     for document in ["", " \t\r\n", "{\"text\":\"\n\"}"] {
         assert_fault(&rt, document.as_bytes(), &document, Fault::Json);
     }
+}
+
+/// How many names a long document has.
+const NAMES: usize = 5000;
+
+/// A document of so many names and a sign behind them.
+fn long_document(alloc: Global) -> Result<String, AllocError> {
+    let mut text = String::from_str(alloc, "{\"text\":\"")?;
+    push_items(&mut text, "x", NAMES)?;
+    text.push_str(";\",\"tokens\":[")?;
+    push_items(&mut text, "[\"ident\",1], ", NAMES)?;
+    text.push_str("[\"semi\",1]],\"calls\":[[\"start\"], ")?;
+    push_items(&mut text, "[\"bump_any\"], ", NAMES)?;
+    text.push_str(
+        r#"["bump_any"],["complete",0,700]],"entry":"sql","words":{"operator_first":[],"names":[]},"vocabulary":{"keywords":[],"contextual":[]}}"#,
+    )?;
+    Ok(text)
+}
+
+#[test]
+fn thousands_of_tokens_and_calls_have_their_lines(rt: HostRuntime) -> Result<(), Fail> {
+    let document = long_document(rt.alloc())?;
+    let mut lines = String::from_str(rt.alloc(), "enter 700\n")?;
+    push_items(&mut lines, "token 3 \"x\"\n", NAMES)?;
+    lines.push_str("token 5 \";\"\nexit\nall\n")?;
+    assert_ends(&rt, document.as_bytes(), &NAMES, (Ok(()), &lines));
+    Ok(())
 }

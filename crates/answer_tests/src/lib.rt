@@ -13,19 +13,15 @@ mod documents;
 #[cfg(test)]
 mod exits;
 #[cfg(test)]
-mod fault_lines;
-#[cfg(test)]
 mod json;
 #[cfg(test)]
-mod many;
-#[cfg(test)]
 mod memory;
-#[cfg(test)]
-mod parts;
 #[cfg(test)]
 mod readers;
 #[cfg(test)]
 mod streams;
+#[cfg(test)]
+mod vocabulary;
 #[cfg(test)]
 mod watches;
 #[cfg(test)]

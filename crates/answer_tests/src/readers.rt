@@ -105,26 +105,13 @@ fn does_not_read_behind_the_end(rt: HostRuntime) {
 }
 
 #[test]
-fn says_io_whatever_the_error_of_reading_is(rt: HostRuntime) {
+fn says_io_at_the_first_failure_whatever_its_kind_is(rt: HostRuntime) {
     for kind in [
         ErrorKind::NotFound,
         ErrorKind::WouldBlock,
         ErrorKind::UnexpectedEof,
         ErrorKind::TimedOut,
         ErrorKind::InvalidData,
-        ErrorKind::Other,
-    ] {
-        let turns = [Turn::Moves(100), Turn::Refuses(kind)];
-        assert_read(&rt, NAME.as_bytes(), Plan::at(0, &turns), UNREAD, 2);
-    }
-}
-
-#[test]
-fn failure_behind_interruptions_is_the_last_read(rt: HostRuntime) {
-    for kind in [
-        ErrorKind::WouldBlock,
-        ErrorKind::UnexpectedEof,
-        ErrorKind::TimedOut,
         ErrorKind::Other,
     ] {
         let turns = [

@@ -17,22 +17,23 @@ use squawk_script::Script;
 use std::alloc::{AllocError, Global};
 use tiny_grammar::Tiny;
 
-/// Runs the documents of a case, which stands in a file with these, and tells what doesn't hold.
+/// Runs the documents of a case, which stands in a file with these, and tells what doesn't hold. Each of
+/// them counts, so that a value which is lost is seen.
 pub fn judge_documents(
     alloc: Global,
     cases: &[Case<'_>],
     case: &Case<'_>,
     report: &mut Report,
 ) -> Result<(), Trouble> {
-    report.begin();
     if case.wanted.is_empty() {
         return Err(malformed(case.line, "nothing is wanted of this case"));
     }
     let wanted = wanted_of(alloc, case)?;
     for document in &documents_of(alloc, cases, case)? {
+        report.begin();
         judge_document(alloc, case, document.as_str(), wanted.as_str(), report)?;
+        report.end();
     }
-    report.end();
     Ok(())
 }
 
@@ -56,10 +57,17 @@ fn judge_document(
 ) -> Result<(), Trouble> {
     let came = came(alloc, document)?;
     if came.as_str() != wanted {
-        let came = format!(in alloc; "of {document}\n{}", came.as_str())?;
-        report.compare(case, case.line, wanted, came.as_str())?;
+        let wanted = indented(alloc, wanted)?;
+        let came = format!(in alloc; "{}of {document}", came.as_str())?;
+        let came = indented(alloc, came.as_str())?;
+        report.compare(case, case.line, wanted.as_str(), came.as_str())?;
     }
     Ok(())
+}
+
+/// The lines as a report has them.
+fn indented(alloc: Global, lines: &str) -> Result<String, AllocError> {
+    lines.replace(alloc, "\n", "\n    ")
 }
 
 /// What a run over the document writes, or its status and its line, for which it writes nothing.

@@ -75,7 +75,7 @@ fn whole_documents(alloc: Global, case: &Case<'_>) -> Result<Vec<String>, Troubl
         match (entry.word, documents.last_mut()) {
             ("json", _) => push_values(alloc, &mut documents, entry.value.as_str())?,
             ("more", Some(document)) => push_line(document, entry.value.as_str())?,
-            ("document", _) if i == 0 => {}
+            ("document", _) if i == 0 && !is_whole => {}
             (word, _) if has_place(word) && (word == "?" || !is_whole) => {}
             _ => return Err(malformed(entry.line, "no document has this line")),
         }
