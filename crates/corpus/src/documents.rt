@@ -45,14 +45,8 @@ pub fn documents_of(
     cases: &[Case<'_>],
     case: &Case<'_>,
 ) -> Result<Vec<String>, Trouble> {
-    let mut documents = whole_documents(alloc, case)?;
-    let is_whole = !documents.is_empty();
-    if !is_whole {
-        documents
-            .push(String::from_str(alloc, FRAME)?)
-            .map_err(AllocError::from)?;
-    }
     let base = base_of(cases, case)?;
+    let mut documents = frames_of(alloc, case)?;
     for (word, place) in PLACES {
         let mut values = values_of(alloc, case, word)?;
         if values.is_empty() {
@@ -60,51 +54,43 @@ pub fn documents_of(
         }
         if !values.is_empty() {
             documents = filled(alloc, case, &documents, place, &values)?;
-        } else if !is_whole && word != "?" {
+        } else if word != "?" && documents.iter().any(|frame| frame.as_str().contains(place)) {
             return Err(malformed(case.line, "a document has six members"));
         }
     }
     Ok(documents)
 }
 
-/// The documents that stand whole in a case, which then has no members.
-fn whole_documents(alloc: Global, case: &Case<'_>) -> Result<Vec<String>, Trouble> {
-    let is_whole = case.given.iter().any(|entry| entry.word == "json");
-    let mut documents = Vec::new(alloc);
-    for (i, entry) in case.given.iter().enumerate() {
-        match (entry.word, documents.last_mut()) {
-            ("json", _) => push_values(alloc, &mut documents, entry.value.as_str())?,
-            ("more", Some(document)) => push_line(document, entry.value.as_str())?,
-            ("document", _) if i == 0 && !is_whole => {}
-            (word, _) if has_place(word) && (word == "?" || !is_whole) => {}
+/// The case whose members a case has besides its own.
+fn base_of<'c, 'f>(cases: &'c [Case<'f>], case: &'c Case<'f>) -> Result<&'c Case<'f>, Trouble> {
+    match case.given.first() {
+        Some(entry) if entry.word == "document" && !entry.value.is_empty() => cases
+            .iter()
+            .find(|other| other.name == entry.value.as_str())
+            .ok_or(malformed(entry.line, "no case of this file has this name")),
+        _ => Ok(case),
+    }
+}
+
+/// The documents of a case, before the values are at their places.
+fn frames_of(alloc: Global, case: &Case<'_>) -> Result<Vec<String>, Trouble> {
+    let mut frames = Vec::new(alloc);
+    for entry in &case.given {
+        let value = entry.value.as_str();
+        match (entry.word, frames.last_mut()) {
+            ("document", None) => push_values(alloc, &mut frames, FRAME)?,
+            ("json", _) => push_values(alloc, &mut frames, value)?,
+            ("more", Some(frame)) => push_line(frame, value)?,
+            (word, _) if PLACES.iter().any(|(placed, _)| *placed == word) => {}
             _ => return Err(malformed(entry.line, "no document has this line")),
         }
     }
-    Ok(documents)
-}
-
-fn has_place(word: &str) -> bool {
-    PLACES.iter().any(|(placed, _)| *placed == word)
+    Ok(frames)
 }
 
 fn push_line(document: &mut String, line: &str) -> Result<(), AllocError> {
     document.push('\n')?;
     document.push_str(line)
-}
-
-/// The case whose members a case has besides its own.
-fn base_of<'c, 'f>(cases: &'c [Case<'f>], case: &'c Case<'f>) -> Result<&'c Case<'f>, Trouble> {
-    let name = match case.given.first() {
-        Some(entry) if entry.word == "document" => entry.value.as_str(),
-        _ => "",
-    };
-    if name.is_empty() {
-        return Ok(case);
-    }
-    match cases.iter().find(|other| other.name == name) {
-        Some(base) => Ok(base),
-        None => Err(malformed(case.line, "no case of this file has the name of its base")),
-    }
 }
 
 /// The values that the lines of a word have.
@@ -125,20 +111,20 @@ fn push_values(alloc: Global, values: &mut Vec<String>, line: &str) -> Result<()
     Ok(())
 }
 
-/// Each of the documents with each of the values at its place.
+/// Each of the frames with each of the values at its place.
 fn filled(
     alloc: Global,
     case: &Case<'_>,
-    documents: &[String],
+    frames: &[String],
     place: &str,
     values: &[String],
 ) -> Result<Vec<String>, Trouble> {
+    if !frames.iter().all(|frame| frame.as_str().contains(place)) {
+        return Err(malformed(case.line, "a document has no place for a value"));
+    }
     let mut all = Vec::new(alloc);
-    for document in documents {
-        if !document.as_str().contains(place) {
-            return Err(malformed(case.line, "a document has no place for a value"));
-        }
-        push_filled(alloc, &mut all, document.as_str(), place, values)?;
+    for frame in frames {
+        push_filled(alloc, &mut all, frame.as_str(), place, values)?;
     }
     Ok(all)
 }
@@ -146,12 +132,12 @@ fn filled(
 fn push_filled(
     alloc: Global,
     all: &mut Vec<String>,
-    document: &str,
+    frame: &str,
     place: &str,
     values: &[String],
 ) -> Result<(), AllocError> {
     for value in values {
-        all.push(document.replace(alloc, place, value.as_str())?)?;
+        all.push(frame.replace(alloc, place, value.as_str())?)?;
     }
     Ok(())
 }

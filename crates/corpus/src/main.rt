@@ -2,8 +2,8 @@
 //! what must come out (`sections` has the form, `given` and `wanted` the words, and those of documents are in
 //! `documents` and `answers`).
 //!
-//! For each file a line says how many cases held. What didn't hold is told on standard error, and the
-//! status is then 1.
+//! For each file a line says how many cases held, of which each document counts. What didn't hold is told
+//! on standard error, and the status is then 1.
 #![tactic(auto)]
 
 mod answers;
