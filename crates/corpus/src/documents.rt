@@ -12,7 +12,7 @@
 //! A line may have several values, with ` | ` between them, and a word several lines. All documents that
 //! they make, each value of a member with each of the others, must come to the same.
 
-use crate::sections::Case;
+use crate::sections::{Case, Entry};
 use crate::trouble::{Trouble, malformed};
 use std::alloc::{AllocError, Global};
 
@@ -76,21 +76,25 @@ fn base_of<'c, 'f>(cases: &'c [Case<'f>], case: &'c Case<'f>) -> Result<&'c Case
 fn frames_of(alloc: Global, case: &Case<'_>) -> Result<Vec<String>, Trouble> {
     let mut frames = Vec::new(alloc);
     for entry in &case.given {
-        let value = entry.value.as_str();
-        match (entry.word, frames.last_mut()) {
-            ("document", None) => push_values(alloc, &mut frames, FRAME)?,
-            ("json", _) => push_values(alloc, &mut frames, value)?,
-            ("more", Some(frame)) => push_line(frame, value)?,
-            (word, _) if PLACES.iter().any(|(placed, _)| *placed == word) => {}
+        match entry.word {
+            "document" if frames.is_empty() => push_values(alloc, &mut frames, FRAME)?,
+            "json" => push_values(alloc, &mut frames, entry.value.as_str())?,
+            "more" => go_on(&mut frames, entry)?,
+            word if PLACES.iter().any(|(placed, _)| *placed == word) => {}
             _ => return Err(malformed(entry.line, "no document has this line")),
         }
     }
     Ok(frames)
 }
 
-fn push_line(document: &mut String, line: &str) -> Result<(), AllocError> {
+/// Puts a line behind the last of the documents.
+fn go_on(documents: &mut Vec<String>, entry: &Entry<'_>) -> Result<(), Trouble> {
+    let Some(document) = documents.last_mut() else {
+        return Err(malformed(entry.line, "no document to go on"));
+    };
     document.push('\n')?;
-    document.push_str(line)
+    document.push_str(entry.value.as_str())?;
+    Ok(())
 }
 
 /// The values that the lines of a word have.
