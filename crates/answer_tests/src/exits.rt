@@ -1,7 +1,7 @@
 //! How the program ends: its status, and what it prints of a fault, and both for each fault.
 
 use crate::asserts::assert_same;
-use crate::documents::{ESCAPE, ESCAPE_LINES};
+use crate::documents::{ESCAPE, ESCAPE_LINES, NAME};
 use crate::streams::{Plan, Takes, Turn};
 use squawk_answer::{Fault, Watch, program};
 use std::alloc::Global;
@@ -49,26 +49,23 @@ fn ends_with_success_and_prints_no_fault(rt: HostRuntime) {
     assert_exit(&rt, ESCAPE, ExitCode::SUCCESS, ESCAPE_LINES, "");
 }
 
-/// The text, the raw tokens and the calls of a document, the line of its fault, and the status.
-const FAULTY: [(&str, &str, &str, &str, u8); 4] = [
-    ("7", "[]", "[]", "shape\n", 2),
-    (r#""x""#, r#"[["ident",0]]"#, "[]", "bad token 0\n", 3),
+/// What the document of a name has, and has in its place, with the line of the fault and the status.
+const FAULTY: [(&str, &str, &str, u8); 4] = [
+    (r#""x ""#, "7", "shape\n", 2),
+    (r#"["ident",1]"#, r#"["ident",0]"#, "bad token 0\n", 3),
+    (r#",["complete",0,700]"#, "", "unspent 0\n", 4),
     (
-        r#""""#,
-        "[]",
-        r#"[["start"],["start"],["complete",1,700]]"#,
-        "unspent 0\n",
-        4,
+        r#"["error","e"],["complete",0,700]"#,
+        r#"["abandon",0],["start"],["complete",2,700]"#,
+        "does not fit\n",
+        6,
     ),
-    (r#""""#, "[]", "[]", "does not fit\n", 6),
 ];
 
 #[test]
 fn ends_with_the_status_of_a_fault_and_prints_its_line(rt: HostRuntime) -> Result<(), Fail> {
-    for (text, tokens, calls, line, status) in FAULTY {
-        let document = format!(in rt.alloc();
-            r#"{{"text":{text},"tokens":{tokens},"words":{{"operator_first":[],"names":[]}},"vocabulary":{{"keywords":[],"contextual":[]}},"entry":"sql","calls":{calls}}}"#
-        )?;
+    for (part, other, line, status) in FAULTY {
+        let document = NAME.replace(rt.alloc(), part, other)?;
         assert_exit(&rt, &document, ExitCode::from(status), "", line);
     }
     Ok(())
