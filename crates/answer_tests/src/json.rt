@@ -85,7 +85,8 @@ fn long_document(alloc: Global) -> Result<String, AllocError> {
     text.push_str("[\"semi\",1]],\"calls\":[[\"start\"], ")?;
     push_items(&mut text, "[\"bump_any\"], ", NAMES)?;
     text.push_str(
-        r#"["bump_any"],["complete",0,700]],"entry":"sql","words":{"operator_first":[],"names":[]},"vocabulary":{"keywords":[],"contextual":[]}}"#,
+        r#"["bump_any"],["complete",0,700]],"entry":"sql",
+"words":{"operator_first":[],"names":[]},"vocabulary":{"keywords":[],"contextual":[]}}"#,
     )?;
     Ok(text)
 }
