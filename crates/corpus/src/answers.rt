@@ -12,7 +12,7 @@ use crate::trouble::{Trouble, malformed};
 use row_fixtures::sent::sent_over_table;
 use squawk_answer::{Fault, run};
 use squawk_document::{Document, DocumentGrammar, value};
-use squawk_parser::{EntryPoint, LexedStr, Output, Words};
+use squawk_parser::{EntryPoint, LexedStr, Words};
 use squawk_script::Script;
 use std::alloc::{AllocError, Global};
 use tiny_grammar::Tiny;
@@ -109,27 +109,20 @@ fn is_given(alloc: Global, document: &str) -> Result<bool, Fault> {
         grammar,
     } = Document::from_value(alloc, &value)?;
     let table = LexedStr::new(alloc, text, &tokens, &vocabulary)?;
-    match grammar {
+    let output = match grammar {
         DocumentGrammar::Calls { entry, calls } => {
             let words = Words {
                 operator_first,
                 names: &names,
             };
             let script = Script::new(alloc, calls, words)?;
-            let input = table.to_input(alloc, &vocabulary)?;
-            is_sent(alloc, &table, &entry.parse(alloc, &input, &script)?)
+            entry.parse(alloc, &table.to_input(alloc, &vocabulary)?, &script)?
         }
         DocumentGrammar::Tiny => {
-            let entry = EntryPoint::SourceFile;
-            let output = Tiny::new().parse(alloc, &table, &vocabulary, entry)?;
-            is_sent(alloc, &table, &output)
+            Tiny::new().parse(alloc, &table, &vocabulary, EntryPoint::SourceFile)?
         }
-    }
-}
-
-/// Whether the output fits, and its steps are the same both ways.
-fn is_sent(alloc: Global, table: &LexedStr<'_>, output: &Output) -> Result<bool, Fault> {
-    match sent_over_table(alloc, table, output)? {
+    };
+    match sent_over_table(alloc, &table, &output)? {
         Some(sent) => Ok(sent.is_given),
         None => Ok(false),
     }

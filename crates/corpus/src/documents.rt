@@ -33,10 +33,9 @@ const PLACES: [(&str, &str); 7] = [
 
 /// Whether a case is one of documents.
 pub fn has_documents(case: &Case<'_>) -> bool {
-    match case.given.first() {
-        Some(entry) => matches!(entry.word, "document" | "json"),
-        None => false,
-    }
+    case.given
+        .first()
+        .is_some_and(|entry| matches!(entry.word, "document" | "json"))
 }
 
 /// The documents of a case, which stands in a file with these.
