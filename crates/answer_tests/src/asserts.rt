@@ -1,6 +1,6 @@
-//! What a run of one document ends in.
+//! What a run of one document ends in, and what a watch tells of it.
 
-use squawk_answer::{Fault, run};
+use squawk_answer::{Fault, Watch, run};
 use std::alloc::Global;
 use std::fmt::Debug;
 use std::io::{Read, Write};
@@ -57,4 +57,17 @@ pub fn assert_fault(
     fault: Fault,
 ) {
     assert_ends(rt, input, case, (Err(fault), ""));
+}
+
+/// The watch tells so many reads, whether one has found the end, and whether one or a write failed.
+pub fn assert_tells(
+    rt: &impl Abort,
+    case: &impl Debug,
+    watch: &Watch,
+    (reads, ended, read_failed, write_failed): (u64, bool, bool, bool),
+) {
+    assert_same(rt, case, &watch.reads(), &reads);
+    assert_same(rt, case, &watch.ended(), &ended);
+    assert_same(rt, case, &watch.read_failed(), &read_failed);
+    assert_same(rt, case, &watch.write_failed(), &write_failed);
 }

@@ -16,12 +16,10 @@ fn ended<W: Write, E: Write>(
     writer: &mut W,
     error_writer: &mut E,
 ) -> ExitCode {
-    let mut reader = input.as_bytes();
-    let mut watch = Watch::new();
     program(
         alloc,
-        &mut watch,
-        &mut reader,
+        &mut Watch::new(),
+        &mut input.as_bytes(),
         writer,
         &mut Watch::new(),
         error_writer,

@@ -7,8 +7,6 @@
 #[cfg(test)]
 mod asserts;
 #[cfg(test)]
-mod broken;
-#[cfg(test)]
 mod documents;
 #[cfg(test)]
 mod exits;
@@ -22,7 +20,5 @@ mod readers;
 mod streams;
 #[cfg(test)]
 mod vocabulary;
-#[cfg(test)]
-mod watches;
 #[cfg(test)]
 mod writers;

@@ -1,10 +1,9 @@
 //! Readers in pieces, readers that are interrupted, and readers that fail, with what a watch tells of them.
 
-use crate::asserts::{assert_end, assert_ends, assert_same};
+use crate::asserts::{assert_end, assert_ends, assert_same, assert_tells};
 use crate::documents::{NAME, NAME_LINES};
 use crate::streams::{Gives, Plan, Turn};
-use crate::watches::assert_tells;
-use squawk_answer::{Fault, Watch, run_watched};
+use squawk_answer::{Fault, ReadOutcome, Watch, run_watched};
 use std::io::ErrorKind;
 use std::process::Abort;
 use std::test::Fail;
@@ -136,4 +135,39 @@ fn says_io_before_it_looks_at_what_was_read(rt: HostRuntime) {
         Turn::Refuses(ErrorKind::Other),
     ];
     assert_read(&rt, b"no document", Plan::at(0, &turns), UNREAD, 4);
+}
+
+/// The watch tells this outcome of a read that does this.
+fn assert_outcome(rt: &impl Abort, turn: Turn, outcome: ReadOutcome) {
+    let turns = [turn];
+    let mut reader = Gives {
+        rest: b"four",
+        plan: Plan::at(0, &turns),
+    };
+    let mut watch = Watch::new();
+    let mut buffer = [0; 8];
+    let read = watch.read(&mut reader, &mut buffer);
+    assert!(rt; read == outcome);
+    assert_same(rt, &"reads", &reader.plan.calls, &1);
+    let ended = outcome == ReadOutcome::Bytes(0);
+    let failed = outcome == ReadOutcome::Failed;
+    assert_tells(rt, &"one read", &watch, (1, ended, failed, false));
+}
+
+#[test]
+fn watch_tells_what_a_read_gave(rt: HostRuntime) {
+    for (turn, outcome) in [
+        (Turn::Moves(3), ReadOutcome::Bytes(3)),
+        (Turn::Moves(9), ReadOutcome::Bytes(4)),
+        (Turn::Moves(0), ReadOutcome::Bytes(0)),
+        (
+            Turn::Refuses(ErrorKind::Interrupted),
+            ReadOutcome::Interrupted,
+        ),
+        (Turn::Refuses(ErrorKind::WouldBlock), ReadOutcome::Failed),
+        (Turn::Refuses(ErrorKind::UnexpectedEof), ReadOutcome::Failed),
+        (Turn::Refuses(ErrorKind::Other), ReadOutcome::Failed),
+    ] {
+        assert_outcome(&rt, turn, outcome);
+    }
 }

@@ -37,10 +37,9 @@ impl<'a> Plan<'a> {
     /// Each moves a byte but for these, before which there are so many.
     pub fn at(before: usize, turns: &'a [Turn]) -> Plan<'a> {
         Plan {
-            most: 1,
             before,
             turns,
-            calls: 0,
+            ..Plan::of(1)
         }
     }
 

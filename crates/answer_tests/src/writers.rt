@@ -1,9 +1,10 @@
-//! Writers that take a little at a time, writers that are interrupted, and writers that fail.
+//! Writers that take a little at a time, writers that are interrupted, and writers that fail, with what a watch tells
+//! of them.
 
-use crate::asserts::{assert_end, assert_same, ended};
+use crate::asserts::{assert_end, assert_same, assert_tells, ended};
 use crate::documents::{ESCAPE, ESCAPE_LINES, NAME, NAME_LINES};
 use crate::streams::{Plan, Takes, Turn};
-use squawk_answer::Fault;
+use squawk_answer::{Fault, Watch};
 use std::io::ErrorKind;
 use std::process::Abort;
 use std::test::Fail;
@@ -106,4 +107,36 @@ fn says_io_whatever_the_error_of_writing_is(rt: HostRuntime) {
 #[test]
 fn says_io_where_a_write_takes_nothing(rt: HostRuntime) {
     assert_taken(&rt, NAME, Plan::of(0), Err(Fault::Io), b"");
+}
+
+/// The bytes are written or not, and the watch then tells whether a write has failed.
+fn assert_write(
+    rt: &impl Abort,
+    watch: &mut Watch,
+    writer: &mut Takes<'_>,
+    bytes: &[u8],
+    (is_written, failed): (bool, bool),
+) {
+    assert_same(rt, &bytes, &watch.write_all(writer, bytes), &is_written);
+    assert_tells(rt, &bytes, watch, (0, false, false, failed));
+}
+
+#[test]
+fn watch_tells_whether_a_write_failed(rt: HostRuntime) {
+    let turns = [
+        Turn::Moves(2),
+        Turn::Moves(2),
+        Turn::Refuses(ErrorKind::StorageFull),
+    ];
+    let mut writer = Takes {
+        taken: Vec::new(rt.alloc()),
+        plan: Plan::at(0, &turns),
+    };
+    let mut watch = Watch::new();
+    assert_write(&rt, &mut watch, &mut writer, b"", (true, false));
+    assert_write(&rt, &mut watch, &mut writer, b"four", (true, false));
+    assert_write(&rt, &mut watch, &mut writer, b"five", (false, true));
+    assert_write(&rt, &mut watch, &mut writer, b"", (true, true));
+    assert_same(&rt, &"taken", &writer.taken.as_slice(), &b"four".as_slice());
+    assert_same(&rt, &"writes", &writer.plan.calls, &3);
 }
