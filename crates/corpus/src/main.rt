@@ -1,10 +1,13 @@
 //! Runs cases that are data: each file that an argument names has some, and a case says what goes in and
-//! what must come out (`sections` has the form, `given` and `wanted` the words).
+//! what must come out (`sections` has the form, `given` and `wanted` the words, and those of documents are in
+//! `documents` and `answers`).
 //!
-//! For each file a line says how many cases held. What didn't hold is told on standard error, and the
-//! status is then 1.
+//! For each file a line says how many cases held, of which each document counts. What didn't hold is told
+//! on standard error, and the status is then 1.
 #![tactic(auto)]
 
+mod answers;
+mod documents;
 mod given;
 mod lexical;
 mod limits;
@@ -16,6 +19,8 @@ mod tokens;
 mod trouble;
 mod wanted;
 
+use crate::answers::judge_documents;
+use crate::documents::has_documents;
 use crate::report::Report;
 use crate::sections::cases_of;
 use crate::trouble::Trouble;
@@ -71,7 +76,11 @@ fn run_file(rt: &HostRuntime, path: &str) -> io::Result<bool> {
 fn run_cases(alloc: Global, text: &str, report: &mut Report) -> Result<(), Trouble> {
     let cases = cases_of(alloc, text)?;
     for case in &cases {
-        judge(alloc, case, report)?;
+        if has_documents(case) {
+            judge_documents(alloc, &cases, case, report)?;
+        } else {
+            judge(alloc, case, report)?;
+        }
     }
     Ok(())
 }

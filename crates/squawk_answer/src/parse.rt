@@ -9,8 +9,7 @@ ghost use Rattle.squawk_table.specs.ParserInput.{input_of};
 ghost use Rattle.squawk_answer.specs.Answers.{ParseTells};
 
 use crate::fault::Fault;
-use squawk_document::DocumentGrammar;
-use squawk_document::keyword_lists::KeywordLists;
+use squawk_document::{DocumentGrammar, KeywordLists};
 use squawk_parser::{EntryPoint, LexedStr, Output, SyntaxKind, TokenSet, Words};
 use squawk_script::{Call, Script};
 use std::alloc::Global;

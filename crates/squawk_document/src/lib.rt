@@ -9,19 +9,20 @@
 //! ```
 #![tactic(auto)]
 
-pub mod calls;
+mod calls;
 mod document;
 mod document_error;
-pub mod grammar;
+mod grammar;
 mod keyword_list;
-pub mod keyword_lists;
-pub mod kind_set;
-pub mod members;
+mod keyword_lists;
+mod kind_set;
+mod members;
 pub mod token;
 pub mod value;
 mod word_places;
-pub mod words;
+mod words;
 
 pub use document::Document;
 pub use document_error::DocumentError;
 pub use grammar::DocumentGrammar;
+pub use keyword_lists::KeywordLists;

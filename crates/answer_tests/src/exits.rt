@@ -1,9 +1,9 @@
-//! How the program ends: its status, and what it prints of a fault.
+//! How the program ends: its status, and what it prints of a fault, and both for each fault.
 
 use crate::asserts::assert_same;
-use crate::documents::{ESCAPE, ESCAPE_LINES, Members, PLAIN};
-use crate::streams::Takes;
-use squawk_answer::{Watch, program};
+use crate::documents::{ESCAPE, ESCAPE_LINES, NAME};
+use crate::streams::{Plan, Takes, Turn};
+use squawk_answer::{Fault, Watch, program};
 use std::alloc::Global;
 use std::io::{ErrorKind, Write};
 use std::process::{Abort, ExitCode};
@@ -16,12 +16,10 @@ fn ended<W: Write, E: Write>(
     writer: &mut W,
     error_writer: &mut E,
 ) -> ExitCode {
-    let mut reader = input.as_bytes();
-    let mut watch = Watch::new();
     program(
         alloc,
-        &mut watch,
-        &mut reader,
+        &mut Watch::new(),
+        &mut input.as_bytes(),
         writer,
         &mut Watch::new(),
         error_writer,
@@ -49,30 +47,14 @@ fn ends_with_success_and_prints_no_fault(rt: HostRuntime) {
     assert_exit(&rt, ESCAPE, ExitCode::SUCCESS, ESCAPE_LINES, "");
 }
 
-/// Members of a document, the line of its fault, and the status.
-const FAULTY: [(Members<'static>, &str, u8); 4] = [
-    (Members { text: "7", ..PLAIN }, "shape\n", 2),
+/// What the document of a name has, and has in its place, with the line of the fault and the status.
+const FAULTY: [(&str, &str, &str, u8); 4] = [
+    (r#""x ""#, "7", "shape\n", 2),
+    (r#"["ident",1]"#, r#"["ident",0]"#, "bad token 0\n", 3),
+    (r#",["complete",0,700]"#, "", "unspent 0\n", 4),
     (
-        Members {
-            tokens: r#"[["ident",0]]"#,
-            ..PLAIN
-        },
-        "bad token 0\n",
-        3,
-    ),
-    (
-        Members {
-            calls: r#"[["start"],["start"],["complete",1,700]]"#,
-            ..PLAIN
-        },
-        "unspent 0\n",
-        4,
-    ),
-    (
-        Members {
-            calls: "[]",
-            ..PLAIN
-        },
+        r#"["error","e"],["complete",0,700]"#,
+        r#"["abandon",0],["start"],["complete",2,700]"#,
         "does not fit\n",
         6,
     ),
@@ -80,8 +62,8 @@ const FAULTY: [(Members<'static>, &str, u8); 4] = [
 
 #[test]
 fn ends_with_the_status_of_a_fault_and_prints_its_line(rt: HostRuntime) -> Result<(), Fail> {
-    for (members, line, status) in FAULTY {
-        let document = members.document(rt.alloc())?;
+    for (part, other, line, status) in FAULTY {
+        let document = NAME.replace(rt.alloc(), part, other)?;
         assert_exit(&rt, &document, ExitCode::from(status), "", line);
     }
     Ok(())
@@ -89,16 +71,40 @@ fn ends_with_the_status_of_a_fault_and_prints_its_line(rt: HostRuntime) -> Resul
 
 #[test]
 fn ends_with_its_status_where_the_line_cannot_be_printed(rt: HostRuntime) {
+    let turns = [Turn::Refuses(ErrorKind::BrokenPipe)];
     let mut written = Vec::new(rt.alloc());
     let mut errors = Takes {
         taken: Vec::new(rt.alloc()),
-        most: 10,
-        writes: 0,
-        fails_at: 1,
-        kind: ErrorKind::BrokenPipe,
+        plan: Plan::at(0, &turns),
     };
     let code = ended(rt.alloc(), "[", &mut written, &mut errors);
     assert_same(&rt, &"a code", &code, &ExitCode::from(2));
     assert_same(&rt, &"the answer", &written.len(), &0);
     assert_same(&rt, &"the line", &errors.taken.len(), &0);
+}
+
+/// The faults, each with its line and its status.
+const FAULTS: [(Fault, &str, u8); 12] = [
+    (Fault::Json, "json", 2),
+    (Fault::Shape, "shape", 2),
+    (Fault::TextTooLong, "text too long", 3),
+    (Fault::BadToken { index: 12 }, "bad token 12", 3),
+    (Fault::TextLeft { at: 0 }, "text left at 0", 3),
+    (Fault::BadCall { index: 3 }, "bad call 3", 4),
+    (Fault::Unspent { marker: 10 }, "unspent 10", 4),
+    (Fault::TooManyEvents, "too many events", 5),
+    (Fault::TooManyErrors, "too many errors", 5),
+    (Fault::DoesNotFit, "does not fit", 6),
+    (Fault::Memory, "memory", 7),
+    (Fault::Io, "io", 8),
+];
+
+#[test]
+fn fault_has_its_status_and_its_line(rt: HostRuntime) -> Result<(), Fail> {
+    for (fault, line, status) in FAULTS {
+        assert_same(&rt, &line, &fault.status(), &status);
+        let printed = format!(in rt.alloc(); "{fault}")?;
+        assert_same(&rt, &fault, &printed.as_str(), &line);
+    }
+    Ok(())
 }
