@@ -23,10 +23,14 @@ pub enum ParseIntoError<R> {
 }
 
 impl<R: fmt::Display> fmt::Display for ParseIntoError<R> {
+    ghost use Rattle.squawk_parser.specs.ErrorLines.{parse_into_error_line};
+
+    ghost output = { parse_into_error_line R.output };
+
     fn fmt<W: fmt::Write>(&self, f: &mut fmt::Formatter<W>) -> fmt::Result {
         match self {
             ParseIntoError::Table(reason) => write!(f, "{reason}"),
-            ParseIntoError::Input(reason) => write!(f, "{reason}"),
+            ParseIntoError::Input(_reason) => write!(f, "memory"),
             ParseIntoError::Parse(reason) => write!(f, "{reason}"),
             ParseIntoError::NoRoot => write!(f, "no root"),
             ParseIntoError::Sink(answer) => write!(f, "{answer}"),
@@ -65,10 +69,15 @@ pub enum ParseWholeError<R> {
 }
 
 impl<R: fmt::Display> fmt::Display for ParseWholeError<R> {
+    ghost use Rattle.squawk_parser.specs.ErrorLines.{parse_into_error_line};
+    ghost use Rattle.squawk_parser.specs.Pipeline.{asking};
+
+    ghost output = { λ error. parse_into_error_line R.output (asking error) };
+
     fn fmt<W: fmt::Write>(&self, f: &mut fmt::Formatter<W>) -> fmt::Result {
         match self {
             ParseWholeError::Table(reason) => write!(f, "{reason}"),
-            ParseWholeError::Input(reason) => write!(f, "{reason}"),
+            ParseWholeError::Input(_reason) => write!(f, "memory"),
             ParseWholeError::Parse(reason) => write!(f, "{reason}"),
             ParseWholeError::Sink(answer) => write!(f, "{answer}"),
         }
