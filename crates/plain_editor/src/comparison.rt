@@ -4,13 +4,12 @@ use crate::counts::Counts;
 use crate::draft::Draft;
 use crate::editor::edit;
 use crate::generator::{Random, Sample};
-use crate::looks::Seen;
-use crate::pieces::Piece;
-use crate::trivia::{Raw, Sent, raws, send, stands_in_one_root};
+use crate::source::Source;
+use crate::trivia::{Sent, send, stands_in_one_root};
 use crate::words::{names, words};
 use row_fixtures::keywords::KEYWORDS;
 use row_fixtures::sent::sent_over_table;
-use squawk_parser::{EntryPoint, LexedStr, Output, Step, Token};
+use squawk_parser::{EntryPoint, LexedStr, Output, Step};
 use squawk_script::{Script, ScriptError};
 use std::alloc::{AllocError, Global};
 use std::fmt::Display;
@@ -30,46 +29,6 @@ struct Answer<'a> {
 /// An answer, or the line of a refusal.
 type Told<'a> = Result<Answer<'a>, String>;
 
-/// A text with its raw tokens, and those that aren't trivia.
-#[derive(Drop)]
-struct Source {
-    text: String,
-    tokens: Vec<Token>,
-    raws: Vec<Raw>,
-    seen: Vec<Seen>,
-}
-
-impl Source {
-    fn new(alloc: Global, pieces: &[Piece]) -> Result<Source, AllocError> {
-        let mut text = String::new(alloc);
-        let mut tokens = Vec::new(alloc);
-        let mut seen = Vec::new(alloc);
-        for (i, piece) in pieces.iter().enumerate() {
-            text.push_str(piece.text.as_str())?;
-            let len = u32::try_from(piece.text.len()).unwrap_or(0);
-            tokens.push(Token {
-                kind: piece.raw,
-                len,
-            })?;
-            if !piece.kind.is_trivia() {
-                let next = pieces.get(i.saturating_add(1));
-                let touches = next.is_some_and(|next| !next.kind.is_trivia());
-                seen.push(Seen {
-                    kind: piece.kind,
-                    touches,
-                })?;
-            }
-        }
-        let raws = raws(alloc, pieces)?;
-        Ok(Source {
-            text,
-            tokens,
-            raws,
-            seen,
-        })
-    }
-}
-
 /// Runs the next sample, and tells it in full with both answers if they differ.
 pub fn compare(
     alloc: Global,
@@ -82,7 +41,7 @@ pub fn compare(
     let source = Source::new(alloc, &sample.pieces)?;
     let draft = edit(
         alloc,
-        &source.seen,
+        &source.tokens,
         words(sample.operators, &names),
         &sample.calls,
     )?;
@@ -110,7 +69,7 @@ fn judge(
     script: Result<Script<'_>, ScriptError>,
     edited: &Told<'_>,
 ) -> Result<Option<String>, AllocError> {
-    let table = match LexedStr::new(alloc, source.text.as_str(), &source.tokens, &KEYWORDS) {
+    let table = match LexedStr::new(alloc, source.text.as_str(), &source.raw_tokens, &KEYWORDS) {
         Ok(table) => table,
         Err(error) => return refused(alloc, error, edited),
     };
@@ -194,7 +153,7 @@ fn edited<'a>(
         turns: draft.turns,
         stands_in_one_root: is_root,
         sent: if is_root {
-            Some(send(alloc, source.text.as_str(), &source.raws, items)?)
+            Some(send(alloc, source, items)?)
         } else {
             None
         },

@@ -3,7 +3,8 @@
 //! It has no log, no links and no pass. What a call may name is told by looking for it in the list.
 
 use crate::draft::{Draft, Item};
-use crate::looks::{Ahead, Seen, is_edible, is_normal_form};
+use crate::looks::{Ahead, is_edible, is_normal_form};
+use crate::source::Raw;
 use squawk_parser::{SyntaxKind, TokenSet, Words};
 use squawk_script::{Call, ScriptError};
 use std::alloc::{AllocError, Global};
@@ -20,7 +21,7 @@ struct Editor<'i> {
 /// What calls leave, or why they are refused.
 pub fn edit(
     alloc: Global,
-    tokens: &[Seen],
+    tokens: &[Raw],
     words: Words<'_>,
     calls: &[Call],
 ) -> Result<Result<Draft, ScriptError>, AllocError> {

@@ -1,15 +1,8 @@
 //! What stands at the editor's place, by the rules on operators and composite kinds.
 
 use crate::pieces::kinds_of;
+use crate::source::Raw;
 use squawk_parser::{SyntaxKind, TokenSet};
-
-/// A token that isn't trivia.
-#[derive(Clone, Copy)]
-pub struct Seen {
-    pub kind: SyntaxKind,
-    /// Whether nothing stands between it and the next.
-    pub touches: bool,
-}
 
 /// How many tokens a kind has where it stands, or 0, and whether it is a node with a token for each.
 #[derive(Clone, Copy)]
@@ -21,7 +14,7 @@ pub struct Standing {
 /// The tokens from a place on.
 #[derive(Clone, Copy)]
 pub struct Ahead<'i> {
-    pub tokens: &'i [Seen],
+    pub tokens: &'i [Raw],
     pub operator_first: TokenSet,
 }
 
@@ -32,8 +25,12 @@ impl Ahead<'_> {
             .map_or(SyntaxKind::EOF, |token| token.kind)
     }
 
+    /// Whether nothing stands between a token and the next.
     fn touches(&self, n: usize) -> bool {
-        self.tokens.get(n).is_some_and(|token| token.touches)
+        match (self.tokens.get(n), self.tokens.get(n.saturating_add(1))) {
+            (Some(token), Some(next)) => token.end == next.start,
+            _ => false,
+        }
     }
 
     /// Whether an operator may have the token.

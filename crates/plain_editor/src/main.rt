@@ -12,6 +12,7 @@ mod editor;
 mod generator;
 mod looks;
 mod pieces;
+mod source;
 mod trivia;
 mod words;
 

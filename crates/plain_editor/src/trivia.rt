@@ -1,7 +1,7 @@
 //! Trivia and errors put back into the editor's list, by the words of the rules.
 
 use crate::draft::Item;
-use crate::pieces::Piece;
+use crate::source::{Raw, Source};
 use squawk_parser::{StrStep, SyntaxKind};
 use std::alloc::{AllocError, Global};
 
@@ -55,86 +55,93 @@ fn with_errors_moved(alloc: Global, items: &[Item]) -> Result<Vec<usize>, AllocE
     Ok(moved)
 }
 
-/// What is sent, before it has its text.
+/// A step with places in place of texts: where a token starts and ends, and which item an error is.
 #[derive(Clone, Copy)]
 enum Placed {
-    Trivia(Raw),
-    /// The item at a place, behind so many tokens that aren't trivia and so many bytes.
-    Item {
+    Token {
+        kind: SyntaxKind,
+        start: usize,
+        end: usize,
+    },
+    Enter {
+        kind: SyntaxKind,
+    },
+    Exit,
+    Error {
         place: usize,
-        eaten: usize,
-        bytes: usize,
+        pos: usize,
     },
 }
 
 /// What is sent of the items over a text.
 pub fn send<'i>(
     alloc: Global,
-    text: &'i str,
-    raws: &[Raw],
+    source: &'i Source,
     items: &'i [Item],
 ) -> Result<Sent<'i>, AllocError> {
+    let Source {
+        text,
+        tokens,
+        trivia,
+        ..
+    } = source;
     let order = with_errors_moved(alloc, items)?;
     let mut placed = Vec::new(alloc);
-    let (mut eaten, mut bytes) = (0usize, 0usize);
-    // The least run of trivia that doesn't stand yet. Run c is what lies behind c tokens that aren't trivia.
+    let mut eaten = 0usize;
+    // The least run of trivia that doesn't stand yet. Run c is what lies behind c tokens.
     let mut next_run = 0usize;
     for (n, place) in order.iter().enumerate() {
-        let place = *place;
         if receives_trivia(items, &order, n) && next_run <= eaten {
-            bytes = bytes.saturating_add(put_run(&mut placed, raws, eaten)?);
+            put_run(&mut placed, trivia, eaten)?;
             next_run = eaten.saturating_add(1);
         }
-        placed.push(Placed::Item {
-            place,
-            eaten,
-            bytes,
+        let (place, pos) = (*place, bytes_of(&placed));
+        placed.push(match items.get(place) {
+            None | Some(Item::Hole { .. }) => continue,
+            Some(Item::Open { kind, .. }) => Placed::Enter { kind: *kind },
+            Some(Item::Close) => Placed::Exit,
+            Some(Item::Error { .. }) => Placed::Error { place, pos },
+            Some(Item::Token { kind, count }) => {
+                let start = tokens.get(eaten).map_or(0, |token| token.start);
+                eaten = eaten.saturating_add(*count);
+                let last = tokens.get(eaten.saturating_sub(1));
+                let end = last.map_or(0, |token| token.end);
+                Placed::Token {
+                    kind: *kind,
+                    start,
+                    end,
+                }
+            }
         })?;
-        if let Some(Item::Token { count, .. }) = items.get(place) {
-            bytes = bytes.saturating_add(text_of(text, raws, eaten, *count).len());
-            eaten = eaten.saturating_add(*count);
-        }
     }
+    let text = text.as_str();
     let steps = placed
         .iter()
-        .filter_map(|it| step_of(it, text, raws, items))
+        .map(|it| step_of(it, text, items))
         .collect(alloc)?;
-    let is_whole = token_at(raws, eaten).is_none();
-    Ok(Sent { steps, is_whole })
+    Ok(Sent {
+        steps,
+        is_whole: eaten == tokens.len(),
+    })
 }
 
 /// The step with its text.
-fn step_of<'i>(
-    placed: &Placed,
-    text: &'i str,
-    raws: &[Raw],
-    items: &'i [Item],
-) -> Option<StrStep<'i>> {
-    let (place, eaten, pos) = match *placed {
-        Placed::Trivia(raw) => {
-            let kind = raw.kind;
-            let text = text.get(raw.start..raw.end)?;
-            return Some(StrStep::Token { kind, text });
+fn step_of<'i>(placed: &Placed, text: &'i str, items: &'i [Item]) -> StrStep<'i> {
+    match *placed {
+        Placed::Enter { kind } => StrStep::Enter { kind },
+        Placed::Exit => StrStep::Exit,
+        Placed::Token { kind, start, end } => {
+            let text = text.get(start..end).unwrap_or("");
+            StrStep::Token { kind, text }
         }
-        Placed::Item {
-            place,
-            eaten,
-            bytes,
-        } => (place, eaten, bytes),
-    };
-    Some(match items.get(place)? {
-        Item::Hole { .. } => return None,
-        Item::Open { kind, .. } => StrStep::Enter { kind: *kind },
-        Item::Close => StrStep::Exit,
-        Item::Error { message } => StrStep::Error {
-            msg: message.as_str(),
-            pos,
-        },
-        Item::Token { kind, count } => StrStep::Token {
-            kind: *kind,
-            text: text_of(text, raws, eaten, *count),
-        },
-    })
+        Placed::Error { place, pos } => {
+            let msg = match items.get(place) {
+                Some(Item::Error { message }) => message.as_str(),
+                _ => "",
+            };
+            StrStep::Error { msg, pos }
+        }
+    }
 }
 
 /// Whether trivia may stand directly before the item at a place of this order: a token, an opening other than
@@ -153,58 +160,29 @@ fn receives_trivia(items: &[Item], order: &[usize], n: usize) -> bool {
     }
 }
 
-/// Puts the trivia behind so many tokens that aren't trivia, and gives its bytes.
-fn put_run(placed: &mut Vec<Placed>, raws: &[Raw], eaten: usize) -> Result<usize, AllocError> {
-    let mut bytes = 0usize;
-    for raw in raws {
-        if raw.before == eaten && raw.kind.is_trivia() {
-            placed.push(Placed::Trivia(*raw))?;
-            bytes = bytes.saturating_add(raw.end.saturating_sub(raw.start));
+/// Puts the trivia behind so many tokens.
+fn put_run(placed: &mut Vec<Placed>, trivia: &[Raw], eaten: usize) -> Result<(), AllocError> {
+    for raw in trivia {
+        if raw.before == eaten {
+            let Raw {
+                kind,
+                start,
+                end,
+                ..
+            } = *raw;
+            placed.push(Placed::Token { kind, start, end })?;
         }
     }
-    Ok(bytes)
+    Ok(())
 }
 
-/// The text of so many tokens that aren't trivia, behind those that are eaten.
-fn text_of<'i>(text: &'i str, raws: &[Raw], eaten: usize, count: usize) -> &'i str {
-    let last = eaten.saturating_add(count).saturating_sub(1);
-    match (token_at(raws, eaten), token_at(raws, last)) {
-        (Some(first), Some(last)) => text.get(first.start..last.end).unwrap_or(""),
-        _ => "",
+/// How many bytes are sent.
+fn bytes_of(placed: &[Placed]) -> usize {
+    let mut bytes = 0usize;
+    for it in placed {
+        if let Placed::Token { start, end, .. } = it {
+            bytes = bytes.saturating_add(end.saturating_sub(*start));
+        }
     }
-}
-
-/// The raw token that isn't trivia and that so many others stand before.
-fn token_at(raws: &[Raw], before: usize) -> Option<Raw> {
-    let is_it = |raw: &&Raw| raw.before == before && !raw.kind.is_trivia();
-    raws.iter().find(is_it).copied()
-}
-
-/// A raw token of the text.
-#[derive(Clone, Copy)]
-pub struct Raw {
-    kind: SyntaxKind,
-    /// Where it starts and ends, in bytes.
-    start: usize,
-    end: usize,
-    /// How many raw tokens that aren't trivia stand before it.
-    before: usize,
-}
-
-pub fn raws(alloc: Global, pieces: &[Piece]) -> Result<Vec<Raw>, AllocError> {
-    let mut raws = Vec::new(alloc);
-    let (mut start, mut before) = (0usize, 0usize);
-    for piece in pieces {
-        let kind = piece.kind;
-        let end = start.saturating_add(piece.text.len());
-        raws.push(Raw {
-            kind,
-            start,
-            end,
-            before,
-        })?;
-        start = end;
-        before = before.saturating_add(usize::from(!kind.is_trivia()));
-    }
-    Ok(raws)
+    bytes
 }
