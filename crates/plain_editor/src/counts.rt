@@ -11,7 +11,7 @@ pub struct Counts {
     in_one_root: usize,
     bad_call: usize,
     unspent: usize,
-    crossing: u64,
+    crossing: usize,
     abandoned: usize,
     preceded: usize,
     extended: usize,
@@ -22,19 +22,20 @@ pub struct Counts {
 impl Counts {
     pub fn note(&mut self, calls: &[Call], draft: &Result<Draft, ScriptError>) {
         match draft {
-            Ok(draft) => self.note_answer(calls, draft),
             Err(ScriptError::BadCall { .. }) => add(&mut self.bad_call, 1),
             Err(_) => add(&mut self.unspent, 1),
+            Ok(draft) => {
+                let roots = usize::from(stands_in_one_root(&draft.items));
+                add(&mut self.answered, 1);
+                add(&mut self.in_one_root, roots);
+                add(&mut self.crossing, draft.crossings);
+                self.note_calls(calls);
+                self.note_items(&draft.items);
+            }
         }
     }
 
-    fn note_answer(&mut self, calls: &[Call], draft: &Draft) {
-        add(&mut self.answered, 1);
-        add(
-            &mut self.in_one_root,
-            usize::from(stands_in_one_root(&draft.items)),
-        );
-        self.crossing = self.crossing.saturating_add(draft.crossings);
+    fn note_calls(&mut self, calls: &[Call]) {
         for call in calls {
             match call {
                 Call::Abandon { .. } => add(&mut self.abandoned, 1),
@@ -43,7 +44,6 @@ impl Counts {
                 _ => {}
             }
         }
-        self.note_items(&draft.items);
     }
 
     fn note_items(&mut self, items: &[Item]) {

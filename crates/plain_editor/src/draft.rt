@@ -57,7 +57,7 @@ pub struct Draft {
     /// The turns that are due.
     pub turns: u64,
     /// How many nodes were completed with a hole behind their opening.
-    pub crossings: u64,
+    pub crossings: usize,
 }
 
 impl Draft {
@@ -131,7 +131,7 @@ impl Draft {
         self.items[place] = Item::Open { kind, node };
         let mut inside = self.items.iter().skip(place);
         let is_crossing = inside.any(|item| matches!(item, Item::Hole { .. }));
-        self.crossings = self.crossings.saturating_add(u64::from(is_crossing));
+        self.crossings = self.crossings.saturating_add(usize::from(is_crossing));
         self.put(Item::Close, 1)?;
         Ok(true)
     }

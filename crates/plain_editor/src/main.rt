@@ -1,8 +1,9 @@
 //! A second body to compare the engine with: a list of items, which each call edits where it stands.
 //!
-//! It makes texts with calls at random, runs each by the engine and by the editor (`editor`, `trivia`), and compares
-//! what they tell. It prints the first script of which they tell otherwise, with status 1, or else what the scripts
-//! had. Two arguments say how many scripts there are, and the seed; without them it is 10000, from the seed 1.
+//! It makes texts with calls at random, runs each by the engine and by the editor (`draft`, `editor`, `looks`,
+//! `trivia`), and compares what they tell. It prints the first script of which they tell otherwise, with status 1,
+//! or else what the scripts had. Two arguments say how many scripts there are, and the seed; without them it is
+//! 10000, from the seed 1.
 #![tactic(auto)]
 
 mod comparison;

@@ -34,11 +34,8 @@ impl Source {
             let (kind, start, before) = (piece.kind, text.len(), tokens.len());
             text.push_str(piece.text.as_str())?;
             let end = text.len();
-            let list = if kind.is_trivia() {
-                &mut trivia
-            } else {
-                &mut tokens
-            };
+            let is_trivia = kind == SyntaxKind::WHITESPACE || kind == SyntaxKind::COMMENT;
+            let list = if is_trivia { &mut trivia } else { &mut tokens };
             list.push(Raw {
                 kind,
                 start,
