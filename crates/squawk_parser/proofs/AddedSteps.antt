@@ -90,6 +90,19 @@ closed_up old inner made d e id kind is ends above closed =
 closed_end : (inner : List Item) → HasNoHole inner → HasNoHole (inner ++ Close ∷ [])
 closed_end inner closed = All-append no_hole inner (Close ∷ []) closed (All-cons no_hole Close [] refl (All-nil no_hole))
 
+-- a started marker's id is above all that were before
+pub is_below : {a b : State} {m : Mark} → Begins m a b → IsAboveIds m.id a.draft.items
+is_below {a} {b} {m} begins = subst (λ id. IsAboveIds id a.draft.items) (sym (ap (λ m. m.id) begins.is)) begins.sound.logged.below
+
+-- and behind its hole stand the items of what is added
+pub begun_items : {a b c : State} {m : Mark} {xs : List Step} (begins : Begins m a b) (adds : Adds xs b c) (goes : HasNotFailed c)
+    → c.draft.items ≡ a.draft.items ++ Hole m.id ByStart ∷ (adds.draft goes).made
+begun_items {a} {b} {c} {m} {xs} begins adds goes =
+    let made = (adds.draft goes).made in
+    (adds.draft goes).items
+    ∙ (ap (λ d. d.items ++ made) (begins.records.draft (went adds.keeps goes))
+    ∙ (append_assoc a.draft.items (Hole a.draft.entries ByStart ∷ []) made ∙ ap (λ m. a.draft.items ++ Hole m.id ByStart ∷ made) (sym begins.is)))
+
 -- a node is begun, steps are added, and it is completed
 pub node_around : {a b c d : State} {m : Mark} {n : Node} {xs : List Step} {kind : ℕ} → Begins m a b → Adds xs b c → Completes m.id kind c d
     → n ≡ record { id = m.id; kind = kind } → AddsNode (node kind xs) n a d
@@ -101,16 +114,9 @@ node_around {a} {b} {c} {d} {m} {n} {xs} {kind} begins adds completes is =
       draft = λ goes.
           let before = went completes.keeps goes in
           let put = adds.draft before in
-          let start = ap (λ d. d.items) (begins.records.draft (went adds.keeps before)) in
-          let id = ap (λ m. m.id) begins.is in
-          let items : c.draft.items ≡ a.draft.items ++ Hole m.id ByStart ∷ put.made =
-          put.items
-          ∙ (ap (λ zs. zs ++ put.made) start
-          ∙ (append_assoc a.draft.items (Hole a.draft.entries ByStart ∷ []) put.made ∙ ap (λ id. a.draft.items ++ Hole id ByStart ∷ put.made) (sym id))) in
           record {
             inner = put.made ++ Close ∷ [];
-            items = closed_up a.draft.items put.made ByStart c.draft d.draft m.id kind items (completes.records.draft goes)
-                (subst (λ id. IsAboveIds id a.draft.items) (sym id) begins.sound.logged.below) put.closed;
+            items = closed_up a.draft.items put.made ByStart c.draft d.draft m.id kind (begun_items begins adds before) (completes.records.draft goes) (is_below begins) put.closed;
             steps_made = ap (λ zs. Enter kind ∷ zs) (plain-append put.made (Close ∷ []) ∙ ap (λ zs. zs ++ Exit ∷ []) put.steps_made);
             closed = closed_end put.made put.closed;
           };

@@ -33,6 +33,7 @@ pub mod EatenExamples
 pub mod AddedSteps
 pub mod StepsInOrder
 pub mod WholeSteps
+pub mod MovedNodes
 pub mod WholeGrammars
 pub mod Holes
 pub mod MovedHoles

@@ -44,7 +44,7 @@ closed_one id Close closed = refl
 closed_one id (Token kind n) closed = refl
 closed_one id (Error text) closed = refl
 
-none_closed : (id : ℕ) (items : List Item) → HasNoHole items → count_by (is_hole_of id) items ≡ 0
+pub none_closed : (id : ℕ) (items : List Item) → HasNoHole items → count_by (is_hole_of id) items ≡ 0
 none_closed id [] closed = refl
 none_closed id (item ∷ items) closed =
     count_by-fails (is_hole_of id) item items (closed_one id item (All-head (λ item. is_hole item ≡ false) item items closed))

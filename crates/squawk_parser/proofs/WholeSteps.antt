@@ -14,7 +14,7 @@ use Rattle.squawk_parser.specs.Eaten.{node}
 use Rattle.squawk_parser.specs.Recorded.{Begins, Completes}
 use Rattle.squawk_parser.specs.State.{State, HasNotFailed, IsFresh, kind_at}
 use Rattle.squawk_parser.specs.Whole.{IsWholeFile}
-use Rattle.squawk_parser.proofs.AddedSteps.{Adds-node, node_around, plain-fresh}
+use Rattle.squawk_parser.proofs.AddedSteps.{Adds-node, begun_items, node_around, plain-fresh}
 use Rattle.squawk_parser.proofs.Balance.{depth_after, depth_after-balanced, IsBalanced-depth_after}
 use Rattle.squawk_parser.proofs.RecordedSteps.{went}
 use Rattle.squawk_parser.proofs.Splits.{count_by-append}
@@ -76,9 +76,7 @@ whole_file {a} {b} {c} {d} {m} {kind} {steps} fresh begins adds done end goes =
     let sound = adds.keeps.sound in
     let before = went done.keeps goes in
     let added = adds.draft before in
-    let start : b.draft.items ≡ Hole a.draft.entries ByStart ∷ [] =
-    ap (λ d. d.items) (begins.records.draft (went adds.keeps before)) ∙ ap (λ s. s.draft.items ++ Hole a.draft.entries ByStart ∷ []) fresh in
-    let inside : plain c.draft.items ≡ steps = ap plain added.items ∙ (ap (λ items. plain (items ++ added.made)) start ∙ added.steps_made) in
+    let inside : plain c.draft.items ≡ steps = ap plain (begun_items begins adds before ∙ ap (λ s. s.draft.items ++ Hole m.id ByStart ∷ added.made) fresh) ∙ added.steps_made in
     let is : plain d.draft.items ≡ node kind steps = plain-fresh fresh (Adds-node (node_around begins adds done refl)) goes in
     let input : c.input ≡ a.input = adds.keeps.input ∙ begins.keeps.input in
     let limit : c.limit ≡ length c.input = adds.keeps.limit ∙ (begins.keeps.limit ∙ (ap (λ s. s.limit) fresh ∙ ap length (sym input))) in
