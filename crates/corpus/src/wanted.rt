@@ -4,29 +4,33 @@
 //! |---|---|
 //! | `lex 0..2 "empty .."` | a lexical error, as the program prints it; `lex none`: a case names them all |
 //! | `raw IDENT 44` | the syntax kinds of the raw tokens, by their names or else their numbers |
+//! | `table IDENT@0..1'a' 1` | the same with their places and texts, and the end of the text |
+//! | `range 0 2 \|a b\|` | the text of the raw tokens from one to before another |
 //! | `input IDENT/RAISE_KW+ .. EOF/EOF EOF/EOF` | the kinds and contextual kinds that a parser sees, `+` where a token touches the next; the end, and what lies far behind it |
 //! | `refused bad call 3` | that the raw tokens, the calls or the parse are refused, for this reason |
 //! | `tree ROOT(a _) ...` | what is sent (`row_fixtures::lines`), to a list and one by one |
+//! | `shown ROOT@0..1` | a line of the tree that is shown; `shown none`: a case names them all |
 //! | `unfit` | that the output doesn't fit the text |
 //! | `over \|x y\| ROOT(x) ...` | what is sent of it over another text, or `over \|x y\| unfit` |
 //! | `steps ROOT(IDENT)` | the steps of the output, which have no texts |
 //! | `recorded 2 + 1` | so many recorded events, and no lower limit of them or of errors that is enough |
 //! | `turns 3 + 1` | in so many turns |
-//! | `within 2 0 too many events` | what comes within a limit of events and one of errors, or `recorded 3` |
+//! | `within 2 - too many events` | what comes within a limit of events and one of errors, `-` being that of a parse that is given none, or `recorded 3` |
 //! | `look ..`, `stands ..` | what a parser sees at the first token (`crate::looks`) |
 
 use crate::given::{Doing, Given};
-use crate::lexical::{error_lines, wanted_lines};
+use crate::lexical::{error_lines, lines_of, wanted_lines};
 use crate::limits::{is_refused_below, within};
 use crate::looks::{look_line, stands_line};
-use crate::parses::{CaseGrammar, grammar_of};
+use crate::parses::{CaseGrammar, calling, eating, tiny};
 use crate::report::{Report, line_of};
 use crate::sections::{Case, Entry};
-use crate::tokens::{input_line, raw_line};
+use crate::sent::{shown, shown_over};
+use crate::tokens::{input_line, range_line, raw_line, table_line};
 use crate::trouble::{Trouble, malformed};
 use row_fixtures::lexer::tokens_of;
+use row_fixtures::lines;
 use row_fixtures::output::written;
-use row_fixtures::rows::{Kinds, names};
 use row_fixtures::sent::sent_over_table;
 use row_fixtures::tokens::table;
 use squawk_parser::{Input, LexedStr, Output, TableError, Token, TokenSet, check_tokens};
@@ -56,13 +60,13 @@ pub fn judge(alloc: Global, case: &Case<'_>, report: &mut Report) -> Result<(), 
 fn judge_text(
     alloc: Global,
     case: &Case<'_>,
-    given: &Given,
+    given: &Given<'_>,
     text: &str,
     tokens: &[Token],
     report: &mut Report,
 ) -> Result<(), Trouble> {
     let check = check_tokens(text, tokens);
-    match LexedStr::new(alloc, text, tokens, &given.kinds.keywords()) {
+    match LexedStr::new(alloc, text, tokens, &given.vocabulary()) {
         Ok(table) if check == Ok(()) => judge_table(alloc, case, given, &table, report),
         Err(TableError::OutOfMemory) => Err(Trouble::OutOfMemory),
         Err(error) if check == Err(error) => Ok(judge_refusal(alloc, case, &error, report)?),
@@ -106,16 +110,16 @@ fn compare(
 fn judge_table(
     alloc: Global,
     case: &Case<'_>,
-    given: &Given,
+    given: &Given<'_>,
     table: &LexedStr<'_>,
     report: &mut Report,
 ) -> Result<(), Trouble> {
-    let wanted = wanted_lines(alloc, &case.wanted)?;
     let came = error_lines(alloc, table)?;
-    report.compare(case, case.line, wanted.as_str(), came.as_str())?;
+    compare_all(alloc, case, "lex", came.as_str(), report)?;
 
-    let input = table.to_input(alloc, &given.kinds.keywords())?;
-    let operator_first = given.kinds.words(&[]).operator_first;
+    let input = table.to_input(alloc, &given.vocabulary())?;
+    let words = given.words();
+    let operator_first = words.operator_first;
     let seen = Seen {
         table: &*table,
         input: &input,
@@ -125,24 +129,51 @@ fn judge_table(
         return judge_lines(alloc, case, &seen, None, report);
     }
     for doing in &given.doings {
-        judge_calls(alloc, case, doing, given.kinds, &seen, report)?;
+        judge_doing(alloc, case, given, doing, &seen, report)?;
     }
     Ok(())
 }
 
-/// Runs the calls of a case.
-fn judge_calls(
+/// Compares the lines of a word that a case wants with those that came.
+fn compare_all(
     alloc: Global,
     case: &Case<'_>,
+    word: &str,
+    came: &str,
+    report: &mut Report,
+) -> Result<(), AllocError> {
+    let wanted = wanted_lines(alloc, &case.wanted, word)?;
+    report.compare(case, case.line, wanted.as_str(), came)
+}
+
+/// Runs what is called.
+fn judge_doing(
+    alloc: Global,
+    case: &Case<'_>,
+    given: &Given<'_>,
     doing: &Doing,
-    kinds: Kinds,
     seen: &Seen<'_>,
     report: &mut Report,
 ) -> Result<(), Trouble> {
-    let names = names();
-    match grammar_of(alloc, doing, kinds, &names)? {
-        Ok(grammar) => judge_grammar(alloc, case, &grammar, seen, report),
-        Err(error) => Ok(judge_refusal(alloc, case, &error, report)?),
+    match doing {
+        Doing::Calls(calls) => match calling(alloc, calls.as_str(), given)? {
+            Ok(grammar) => judge_grammar(alloc, case, given, &grammar, seen, report),
+            Err(error) => Ok(judge_refusal(alloc, case, &error, report)?),
+        },
+        Doing::EatWith(kind) => {
+            judge_grammar(alloc, case, given, &eating(given, *kind), seen, report)
+        }
+        Doing::Tiny => judge_grammar(alloc, case, given, &tiny(given), seen, report),
+        Doing::Empty => judge_output(
+            alloc,
+            case,
+            given,
+            None,
+            &Output::empty(alloc),
+            seen,
+            report,
+        ),
+        Doing::Sent => judge_sent(alloc, case, given, report),
     }
 }
 
@@ -150,35 +181,76 @@ fn judge_calls(
 fn judge_grammar(
     alloc: Global,
     case: &Case<'_>,
+    given: &Given<'_>,
     grammar: &CaseGrammar<'_>,
     seen: &Seen<'_>,
     report: &mut Report,
 ) -> Result<(), Trouble> {
     match grammar.parse(alloc, seen.input, None)? {
-        Ok(output) => {
-            let parsed = Parsed {
-                grammar: &*grammar,
-                output: &output,
-            };
-            judge_lines(alloc, case, seen, Some(parsed), report)
-        }
+        Ok(output) => judge_output(alloc, case, given, Some(grammar), &output, seen, report),
         Err(error) => Ok(judge_refusal(alloc, case, &error, report)?),
     }
 }
 
+/// Compares the output of a case, which a grammar left, or which is the empty one.
+fn judge_output(
+    alloc: Global,
+    case: &Case<'_>,
+    given: &Given<'_>,
+    grammar: Option<&CaseGrammar<'_>>,
+    output: &Output,
+    seen: &Seen<'_>,
+    report: &mut Report,
+) -> Result<(), Trouble> {
+    if case.wants("shown") {
+        let text = shown_over(alloc, seen.table, output, &given.names)?;
+        let came = lines_of(alloc, text.as_str(), "shown")?;
+        compare_all(alloc, case, "shown", came.as_str(), report)?;
+    }
+    let parsed = Parsed { grammar, output };
+    judge_lines(alloc, case, seen, Some(parsed), report)
+}
+
+/// Compares the steps that a case gives.
+fn judge_sent(
+    alloc: Global,
+    case: &Case<'_>,
+    given: &Given<'_>,
+    report: &mut Report,
+) -> Result<(), Trouble> {
+    if case.wants("shown") {
+        let text = shown(alloc, &given.sent, &given.names)?;
+        let came = lines_of(alloc, text.as_str(), "shown")?;
+        compare_all(alloc, case, "shown", came.as_str(), report)?;
+    }
+    let line = lines::line_of(alloc, &given.sent)?;
+    let came = line_of(alloc, "tree", line.as_str())?;
+    for entry in &case.wanted {
+        if !is_of_all(entry) {
+            compare(alloc, case, entry, came.as_str(), report)?;
+        }
+    }
+    Ok(())
+}
+
 /// What the calls of a case see.
 #[derive(Clone, Copy)]
-struct Seen<'c> {
-    table: &'c LexedStr<'c>,
-    input: &'c Input,
-    operator_first: TokenSet,
+pub struct Seen<'c> {
+    pub table: &'c LexedStr<'c>,
+    pub input: &'c Input,
+    pub operator_first: TokenSet,
 }
 
 /// What the calls of a case gave.
 #[derive(Clone, Copy)]
 struct Parsed<'c> {
-    grammar: &'c CaseGrammar<'c>,
+    grammar: Option<&'c CaseGrammar<'c>>,
     output: &'c Output,
+}
+
+/// Whether the line is one of those that are compared together.
+fn is_of_all(entry: &Entry<'_>) -> bool {
+    entry.word == "lex" || entry.word == "shown"
 }
 
 fn judge_lines(
@@ -189,7 +261,7 @@ fn judge_lines(
     report: &mut Report,
 ) -> Result<(), Trouble> {
     for entry in &case.wanted {
-        if entry.word == "lex" {
+        if is_of_all(entry) {
             continue;
         }
         let line = match (seen_line(alloc, seen, entry)?, &parsed) {
@@ -206,9 +278,11 @@ fn judge_lines(
 fn seen_line(alloc: Global, seen: &Seen<'_>, entry: &Entry<'_>) -> Result<Option<String>, Trouble> {
     Ok(match entry.word {
         "raw" => Some(raw_line(alloc, seen.table)?),
+        "table" => Some(table_line(alloc, seen.table)?),
+        "range" => Some(range_line(alloc, seen.table, entry)?),
         "input" => Some(input_line(alloc, seen.input)?),
-        "look" => Some(look_line(alloc, seen.input, seen.operator_first, entry)?),
-        "stands" => Some(stands_line(alloc, seen.input, seen.operator_first, entry)?),
+        "look" => Some(look_line(alloc, seen, entry)?),
+        "stands" => Some(stands_line(alloc, seen, entry)?),
         _ => None,
     })
 }
@@ -221,22 +295,33 @@ fn came(
     entry: &Entry<'_>,
 ) -> Result<String, Trouble> {
     let Parsed { grammar, output } = *parsed;
-    match entry.word {
-        "tree" => Ok(format!(in alloc; "tree {}", sent(alloc, seen.table, output)?.as_str())?),
-        "unfit" => Ok(sent(alloc, seen.table, output)?),
-        "over" => over(alloc, entry, output),
-        "steps" => Ok(steps(alloc, output)?),
-        "refused" => Ok(String::from_str(alloc, "no refusal")?),
-        "recorded" => {
-            let recorded = u64::from(output.recorded());
-            if !is_refused_below(alloc, grammar, seen.input, output)? {
-                return Ok(format!(in alloc; "recorded {recorded}, and otherwise within limits")?);
-            }
-            count(alloc, entry, recorded)
-        }
-        "turns" => count(alloc, entry, output.turns()),
-        "within" => within(alloc, grammar, seen.input, entry),
+    match (entry.word, grammar) {
+        ("tree", _) => Ok(format!(in alloc; "tree {}", sent(alloc, seen.table, output)?.as_str())?),
+        ("unfit", _) => Ok(sent(alloc, seen.table, output)?),
+        ("over", _) => over(alloc, entry, output),
+        ("steps", _) => Ok(steps(alloc, output)?),
+        ("refused", _) => Ok(String::from_str(alloc, "no refusal")?),
+        ("turns", _) => count(alloc, entry, output.turns()),
+        ("recorded", None) => count(alloc, entry, u64::from(output.recorded())),
+        ("recorded", Some(grammar)) => recorded(alloc, seen, grammar, output, entry),
+        ("within", Some(grammar)) => within(alloc, grammar, seen.input, entry),
         _ => Err(malformed(entry.line, "nothing like this is wanted")),
+    }
+}
+
+/// The line of how many events a grammar recorded, if no lower limits are enough.
+fn recorded(
+    alloc: Global,
+    seen: &Seen<'_>,
+    grammar: &CaseGrammar<'_>,
+    output: &Output,
+    entry: &Entry<'_>,
+) -> Result<String, Trouble> {
+    let recorded = output.recorded();
+    if is_refused_below(alloc, grammar, seen.input, output)? {
+        count(alloc, entry, u64::from(recorded))
+    } else {
+        Ok(format!(in alloc; "recorded {recorded}, and otherwise within limits")?)
     }
 }
 

@@ -1,0 +1,6 @@
+use Rattle.squawk_parser.proofs.RecordedSteps.{node_puts}
+use Rattle.engine_tests.proofs.front_page.name.Goals as goal
+
+pub returns-then-eq-clause-puts : goal.returns-then-eq-clause-puts
+returns-then-eq-clause-puts c =
+    (_, node_puts c.start-node.ensures.begins c.bump_any.ensures.puts c.complete.ensures.completes)
