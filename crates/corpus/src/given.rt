@@ -56,6 +56,8 @@ pub struct Source {
 
 #[derive(Drop)]
 pub struct Given<'c> {
+    pub alloc: Global,
+    pub case: &'c Case<'c>,
     pub sources: Vec<Source>,
     keywords: Vec<(&'c str, u16)>,
     contextual_keywords: Vec<(&'c str, u16)>,
@@ -68,8 +70,10 @@ pub struct Given<'c> {
 }
 
 impl<'c> Given<'c> {
-    pub fn new(alloc: Global, case: &'c Case<'_>) -> Result<Given<'c>, Trouble> {
+    pub fn new(alloc: Global, case: &'c Case<'c>) -> Result<Given<'c>, Trouble> {
         let mut given = Given {
+            alloc,
+            case,
             sources: Vec::new(alloc),
             keywords: Vec::new(alloc),
             contextual_keywords: Vec::new(alloc),
@@ -189,7 +193,10 @@ fn push_names<'c>(
 ) -> Result<(), Trouble> {
     for pair in entry.value.split(", ") {
         match kind_and_name(pair) {
-            Some(named) => names.push(named).map_err(AllocError::from)?,
+            Some(named) => {
+                names.reserve(1)?;
+                names.push_reserved(named);
+            }
             None => return Err(malformed(entry.line, "a kind and its name are given")),
         }
     }

@@ -36,15 +36,7 @@ pub fn wanted_lines(alloc: Global, wanted: &[Entry<'_>], word: &str) -> Result<S
     Ok(lines)
 }
 
-/// Each line of a text, with the word before it.
-pub fn lines_of(alloc: Global, text: &str, word: &str) -> Result<String, AllocError> {
-    let mut lines = String::new(alloc);
-    for line in text.lines() {
-        push_line(&mut lines, word, line)?;
-    }
-    Ok(lines)
-}
-
-fn push_line(lines: &mut String, word: &str, line: &str) -> Result<(), AllocError> {
+/// Adds a line of a word.
+pub fn push_line(lines: &mut String, word: &str, line: &str) -> Result<(), AllocError> {
     write!(lines, "\n    {word} {line}")
 }

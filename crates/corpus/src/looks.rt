@@ -9,6 +9,7 @@
 //! | `look op_len 3`, `look next_not_joined_op yes` | the operator there |
 //! | `look under 2 op_len 1` | any of these, of a part that sees so many tokens |
 //! | `look behind 16 under 2 op_len 1` | the same, where so many tokens have been eaten |
+//! | `look op_len 3, behind 1 op_len 2` | several of these |
 //!
 //! `stands LTEQ 2` says that the kind stands there and is two tokens long: it is seen under each limit
 //! from 2 on, and it doesn't stand at the second token.
@@ -20,7 +21,7 @@ use row_fixtures::kinds::{NO, YES, kind_named};
 use row_fixtures::lines::push_kind;
 use row_fixtures::looks::{Answering, Look, Question, ask};
 use squawk_parser::{EntryPoint, Output, Step, SyntaxKind};
-use std::alloc::Global;
+use std::alloc::AllocError;
 use std::fmt::Write;
 
 /// A place or a limit, of which `max` is the greatest.
@@ -87,12 +88,13 @@ fn led_by<'w>(word: &str, words: &'w str) -> Option<(Option<usize>, &'w str)> {
 }
 
 /// What the grammar of looks answers: the number of a kind. None is told where it makes no node.
-fn answer_of(alloc: Global, seen: &Seen<'_>, question: Question) -> Result<Option<u16>, Trouble> {
+fn answer_of(seen: &Seen<'_>, question: Question) -> Result<Option<u16>, Trouble> {
+    let words = seen.given.words();
     let grammar = Answering {
-        operator_first: seen.operator_first,
+        operator_first: words.operator_first,
         questions: &[question],
     };
-    match EntryPoint::SourceFile.parse(alloc, seen.input, &grammar) {
+    match EntryPoint::SourceFile.parse(seen.given.alloc, seen.input, &grammar) {
         Ok(output) => Ok(entered(&output)),
         Err(_) => Err(Trouble::OutOfMemory),
     }
@@ -108,32 +110,41 @@ fn entered(output: &Output) -> Option<u16> {
     None
 }
 
-/// The line of the entry's look with the answer that came.
-pub fn look_line(alloc: Global, seen: &Seen<'_>, entry: &Entry<'_>) -> Result<String, Trouble> {
-    let (words, _) = entry.value.rsplit_once(' ').unwrap_or(("", ""));
-    let Some(question) = question_of(words) else {
-        return Err(malformed(entry.line, "a look and its answer are wanted"));
-    };
-    let answer = answer_of(alloc, seen, question)?.unwrap_or(0);
-    let mut line = format!(in alloc; "look {words} ")?;
-    if words.ends_with("op_len") {
-        let len = answer.saturating_sub(720);
-        write!(line, "{len}")?;
-    } else if answer == YES {
-        line.push_str("yes")?;
-    } else if answer == NO {
-        line.push_str("no")?;
-    } else {
-        push_kind(&mut line, SyntaxKind::from(answer))?;
+/// The line of the entry's looks, each with the answer that came.
+pub fn look_line(seen: &Seen<'_>, entry: &Entry<'_>) -> Result<String, Trouble> {
+    let mut line = String::from_str(seen.given.alloc, "look")?;
+    for (i, look) in entry.value.split(", ").enumerate() {
+        let (words, _) = look.rsplit_once(' ').unwrap_or(("", ""));
+        let Some(question) = question_of(words) else {
+            return Err(malformed(entry.line, "a look and its answer are wanted"));
+        };
+        let answer = answer_of(seen, question)?.unwrap_or(0);
+        let comma = if i == 0 { "" } else { "," };
+        write!(line, "{comma} {words} ")?;
+        push_answer(&mut line, words, answer)?;
     }
     Ok(line)
+}
+
+/// Adds the answer that a kind tells.
+fn push_answer(line: &mut String, words: &str, answer: u16) -> Result<(), AllocError> {
+    match answer {
+        _ if words.ends_with("op_len") => {
+            let len = answer.saturating_sub(720);
+            write!(line, "{len}")
+        }
+        YES => line.push_str("yes"),
+        NO => line.push_str("no"),
+        _ => push_kind(line, SyntaxKind::from(answer)),
+    }
 }
 
 /// More than the longest of these kinds has tokens.
 const LIMITS: usize = 6;
 
 /// The line of the entry's kind with its length as it came: the least limit under which it is seen.
-pub fn stands_line(alloc: Global, seen: &Seen<'_>, entry: &Entry<'_>) -> Result<String, Trouble> {
+pub fn stands_line(seen: &Seen<'_>, entry: &Entry<'_>) -> Result<String, Trouble> {
+    let alloc = seen.given.alloc;
     let (word, _) = entry.value.split_once(' ').unwrap_or(("", ""));
     let Some(kind) = kind(word) else {
         return Err(malformed(entry.line, "a kind and its length are wanted"));
@@ -146,15 +157,15 @@ pub fn stands_line(alloc: Global, seen: &Seen<'_>, entry: &Entry<'_>) -> Result<
             limit: Some(limit),
             look,
         };
-        let answer = answer_of(alloc, seen, question)?;
+        let answer = answer_of(seen, question)?;
         if answer == Some(NO) && len == limit {
             len = limit.saturating_add(1);
         } else if answer != Some(YES) {
             return Ok(format!(in alloc; "stands {word}, but not under {limit}")?);
         }
     }
-    let first = answer_of(alloc, seen, ask(look))?;
-    let second = answer_of(alloc, seen, ask(Look::At(1, u16::from(kind))))?;
+    let first = answer_of(seen, ask(look))?;
+    let second = answer_of(seen, ask(Look::At(1, u16::from(kind))))?;
     Ok(match (first, second) {
         (Some(YES), Some(NO)) => format!(in alloc; "stands {word} {len}")?,
         (Some(YES), _) => format!(in alloc; "stands {word} {len}, and at the second token")?,

@@ -7,7 +7,6 @@ use row_fixtures::parts::EatingWith;
 use squawk_parser::{EntryPoint, Grammar, Input, Limits, Output, ParseError, SyntaxKind, Words};
 use squawk_script::{Script, ScriptError};
 use std::alloc::Global;
-use std::fmt;
 use tiny_grammar::Tiny;
 
 /// The grammar of a case, with the entry point from which it is run.
@@ -22,24 +21,6 @@ enum Calls<'t> {
     Script(Script<'t>),
     EatWith(EatingWith<'t>),
     Tiny(Tiny),
-}
-
-/// Why there is no grammar.
-#[derive(Clone, Copy)]
-pub enum NoGrammar {
-    /// The text isn't a list of calls.
-    NoCalls(CallListError),
-    /// The calls are none of a script.
-    NoScript(ScriptError),
-}
-
-impl fmt::Display for NoGrammar {
-    fn fmt<W: fmt::Write>(&self, f: &mut fmt::Formatter<W>) -> fmt::Result {
-        match self {
-            NoGrammar::NoCalls(error) => write!(f, "{error}"),
-            NoGrammar::NoScript(error) => write!(f, "{error}"),
-        }
-    }
 }
 
 /// A root in which the kind is eaten, with its tail.
@@ -67,16 +48,16 @@ pub fn tiny<'t>(given: &'t Given<'_>) -> CaseGrammar<'t> {
     }
 }
 
-/// The script of the calls, or why there is none.
+/// The script of the calls, or the line of why there is none.
 pub fn calling<'t>(
-    alloc: Global,
-    calls: &str,
     given: &'t Given<'_>,
-) -> Result<Result<CaseGrammar<'t>, NoGrammar>, Trouble> {
+    calls: &str,
+) -> Result<Result<CaseGrammar<'t>, String>, Trouble> {
+    let alloc = given.alloc;
     let calls = match calls_of(alloc, calls) {
         Ok(calls) => calls,
         Err(CallListError::OutOfMemory) => return Err(Trouble::OutOfMemory),
-        Err(error) => return Ok(Err(NoGrammar::NoCalls(error))),
+        Err(error) => return Ok(Err(format!(in alloc; "{error}")?)),
     };
     match Script::new(alloc, calls, given.words()) {
         Ok(script) => Ok(Ok(CaseGrammar {
@@ -84,7 +65,7 @@ pub fn calling<'t>(
             calls: Calls::Script(script),
         })),
         Err(ScriptError::OutOfMemory) => Err(Trouble::OutOfMemory),
-        Err(error) => Ok(Err(NoGrammar::NoScript(error))),
+        Err(error) => Ok(Err(format!(in alloc; "{error}")?)),
     }
 }
 

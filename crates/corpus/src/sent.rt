@@ -3,6 +3,7 @@
 //! `sent enter ROOT`, `sent token IDENT "a"`, `sent error 1 "e"` and `sent exit` are steps; `sent` alone is
 //! none.
 
+use crate::lexical::push_line;
 use crate::looks::kind;
 use crate::sections::Entry;
 use crate::trouble::{Trouble, json_trouble, malformed};
@@ -56,7 +57,7 @@ fn text_of(alloc: Global, json: &str, line: usize) -> Result<Text, Trouble> {
     }
 }
 
-/// The text of a tree that is sent the steps.
+/// The lines of a tree that is sent the steps.
 pub fn shown(
     alloc: Global,
     steps: &[OwnedStep],
@@ -77,10 +78,10 @@ pub fn shown(
             })?,
         }
     }
-    tree.finish(alloc, names)
+    lines_of(alloc, &tree, names)
 }
 
-/// The text of a tree that is sent an output over a table.
+/// The lines of a tree that is sent an output over a table.
 pub fn shown_over(
     alloc: Global,
     table: &LexedStr<'_>,
@@ -91,5 +92,18 @@ pub fn shown_over(
     if table.fits(output) {
         table.intersperse_trivia(output, &mut tree)?;
     }
-    tree.finish(alloc, names)
+    lines_of(alloc, &tree, names)
+}
+
+fn lines_of(
+    alloc: Global,
+    tree: &TreeText,
+    names: &[(SyntaxKind, &str)],
+) -> Result<String, AllocError> {
+    let text = tree.finish(alloc, names)?;
+    let mut lines = String::new(alloc);
+    for line in text.lines() {
+        push_line(&mut lines, "shown", line)?;
+    }
+    Ok(lines)
 }

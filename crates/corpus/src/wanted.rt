@@ -19,7 +19,7 @@
 //! | `look ..`, `stands ..` | what a parser sees at the first token (`crate::looks`) |
 
 use crate::given::{Doing, Given};
-use crate::lexical::{error_lines, lines_of, wanted_lines};
+use crate::lexical::{error_lines, wanted_lines};
 use crate::limits::{is_refused_below, within};
 use crate::looks::{look_line, stands_line};
 use crate::parses::{CaseGrammar, calling, eating, tiny};
@@ -33,7 +33,7 @@ use row_fixtures::lines;
 use row_fixtures::output::written;
 use row_fixtures::sent::sent_over_table;
 use row_fixtures::tokens::table;
-use squawk_parser::{Input, LexedStr, Output, TableError, Token, TokenSet, check_tokens};
+use squawk_parser::{Input, LexedStr, Output, TableError, Token, check_tokens};
 use std::alloc::{AllocError, Global};
 use std::fmt::Display;
 
@@ -48,8 +48,8 @@ pub fn judge(alloc: Global, case: &Case<'_>, report: &mut Report) -> Result<(), 
     for source in &given.sources {
         let text = source.text.as_str();
         match &source.tokens {
-            Some(tokens) => judge_text(alloc, case, &given, text, tokens, report)?,
-            None => judge_text(alloc, case, &given, text, &tokens_of(alloc, text)?, report)?,
+            Some(tokens) => judge_text(&given, text, tokens, report)?,
+            None => judge_text(&given, text, &tokens_of(alloc, text)?, report)?,
         }
     }
     report.end();
@@ -58,35 +58,33 @@ pub fn judge(alloc: Global, case: &Case<'_>, report: &mut Report) -> Result<(), 
 
 /// Runs a case over one of its texts.
 fn judge_text(
-    alloc: Global,
-    case: &Case<'_>,
     given: &Given<'_>,
     text: &str,
     tokens: &[Token],
     report: &mut Report,
 ) -> Result<(), Trouble> {
     let check = check_tokens(text, tokens);
-    match LexedStr::new(alloc, text, tokens, &given.vocabulary()) {
-        Ok(table) if check == Ok(()) => judge_table(alloc, case, given, &table, report),
+    match LexedStr::new(given.alloc, text, tokens, &given.vocabulary()) {
+        Ok(table) if check == Ok(()) => judge_table(given, &table, report),
         Err(TableError::OutOfMemory) => Err(Trouble::OutOfMemory),
-        Err(error) if check == Err(error) => Ok(judge_refusal(alloc, case, &error, report)?),
-        _ => Ok(report.compare(case, case.line, "one answer", "check_tokens has another")?),
+        Err(error) if check == Err(error) => Ok(judge_refusal(given, &error, report)?),
+        _ => Err(malformed(given.case.line, "check_tokens has another answer")),
     }
 }
 
 /// Compares each wanted line with the refusal, but for those of lexical errors. There must be one.
 fn judge_refusal<E: Display>(
-    alloc: Global,
-    case: &Case<'_>,
+    given: &Given<'_>,
     error: &E,
     report: &mut Report,
 ) -> Result<(), AllocError> {
-    let came = format!(in alloc; "refused {error}")?;
+    let case = given.case;
+    let came = format!(in given.alloc; "refused {error}")?;
     let mut is_wanted = false;
     for entry in &case.wanted {
         if entry.word != "lex" {
             is_wanted = true;
-            compare(alloc, case, entry, came.as_str(), report)?;
+            compare(given, entry, came.as_str(), report)?;
         }
     }
     if is_wanted {
@@ -96,156 +94,25 @@ fn judge_refusal<E: Display>(
 }
 
 fn compare(
-    alloc: Global,
-    case: &Case<'_>,
+    given: &Given<'_>,
     entry: &Entry<'_>,
     came: &str,
     report: &mut Report,
 ) -> Result<(), AllocError> {
-    let wanted = line_of(alloc, entry.word, entry.value.as_str())?;
-    report.compare(case, entry.line, wanted.as_str(), came)
-}
-
-/// Runs a case whose raw tokens are good.
-fn judge_table(
-    alloc: Global,
-    case: &Case<'_>,
-    given: &Given<'_>,
-    table: &LexedStr<'_>,
-    report: &mut Report,
-) -> Result<(), Trouble> {
-    let came = error_lines(alloc, table)?;
-    compare_all(alloc, case, "lex", came.as_str(), report)?;
-
-    let input = table.to_input(alloc, &given.vocabulary())?;
-    let words = given.words();
-    let operator_first = words.operator_first;
-    let seen = Seen {
-        table: &*table,
-        input: &input,
-        operator_first,
-    };
-    if given.doings.is_empty() {
-        return judge_lines(alloc, case, &seen, None, report);
-    }
-    for doing in &given.doings {
-        judge_doing(alloc, case, given, doing, &seen, report)?;
-    }
-    Ok(())
+    let wanted = line_of(given.alloc, entry.word, entry.value.as_str())?;
+    report.compare(given.case, entry.line, wanted.as_str(), came)
 }
 
 /// Compares the lines of a word that a case wants with those that came.
 fn compare_all(
-    alloc: Global,
-    case: &Case<'_>,
+    given: &Given<'_>,
     word: &str,
     came: &str,
     report: &mut Report,
 ) -> Result<(), AllocError> {
-    let wanted = wanted_lines(alloc, &case.wanted, word)?;
+    let case = given.case;
+    let wanted = wanted_lines(given.alloc, &case.wanted, word)?;
     report.compare(case, case.line, wanted.as_str(), came)
-}
-
-/// Runs what is called.
-fn judge_doing(
-    alloc: Global,
-    case: &Case<'_>,
-    given: &Given<'_>,
-    doing: &Doing,
-    seen: &Seen<'_>,
-    report: &mut Report,
-) -> Result<(), Trouble> {
-    match doing {
-        Doing::Calls(calls) => match calling(alloc, calls.as_str(), given)? {
-            Ok(grammar) => judge_grammar(alloc, case, given, &grammar, seen, report),
-            Err(error) => Ok(judge_refusal(alloc, case, &error, report)?),
-        },
-        Doing::EatWith(kind) => {
-            judge_grammar(alloc, case, given, &eating(given, *kind), seen, report)
-        }
-        Doing::Tiny => judge_grammar(alloc, case, given, &tiny(given), seen, report),
-        Doing::Empty => judge_output(
-            alloc,
-            case,
-            given,
-            None,
-            &Output::empty(alloc),
-            seen,
-            report,
-        ),
-        Doing::Sent => judge_sent(alloc, case, given, report),
-    }
-}
-
-/// Runs the grammar of a case.
-fn judge_grammar(
-    alloc: Global,
-    case: &Case<'_>,
-    given: &Given<'_>,
-    grammar: &CaseGrammar<'_>,
-    seen: &Seen<'_>,
-    report: &mut Report,
-) -> Result<(), Trouble> {
-    match grammar.parse(alloc, seen.input, None)? {
-        Ok(output) => judge_output(alloc, case, given, Some(grammar), &output, seen, report),
-        Err(error) => Ok(judge_refusal(alloc, case, &error, report)?),
-    }
-}
-
-/// Compares the output of a case, which a grammar left, or which is the empty one.
-fn judge_output(
-    alloc: Global,
-    case: &Case<'_>,
-    given: &Given<'_>,
-    grammar: Option<&CaseGrammar<'_>>,
-    output: &Output,
-    seen: &Seen<'_>,
-    report: &mut Report,
-) -> Result<(), Trouble> {
-    if case.wants("shown") {
-        let text = shown_over(alloc, seen.table, output, &given.names)?;
-        let came = lines_of(alloc, text.as_str(), "shown")?;
-        compare_all(alloc, case, "shown", came.as_str(), report)?;
-    }
-    let parsed = Parsed { grammar, output };
-    judge_lines(alloc, case, seen, Some(parsed), report)
-}
-
-/// Compares the steps that a case gives.
-fn judge_sent(
-    alloc: Global,
-    case: &Case<'_>,
-    given: &Given<'_>,
-    report: &mut Report,
-) -> Result<(), Trouble> {
-    if case.wants("shown") {
-        let text = shown(alloc, &given.sent, &given.names)?;
-        let came = lines_of(alloc, text.as_str(), "shown")?;
-        compare_all(alloc, case, "shown", came.as_str(), report)?;
-    }
-    let line = lines::line_of(alloc, &given.sent)?;
-    let came = line_of(alloc, "tree", line.as_str())?;
-    for entry in &case.wanted {
-        if !is_of_all(entry) {
-            compare(alloc, case, entry, came.as_str(), report)?;
-        }
-    }
-    Ok(())
-}
-
-/// What the calls of a case see.
-#[derive(Clone, Copy)]
-pub struct Seen<'c> {
-    pub table: &'c LexedStr<'c>,
-    pub input: &'c Input,
-    pub operator_first: TokenSet,
-}
-
-/// What the calls of a case gave.
-#[derive(Clone, Copy)]
-struct Parsed<'c> {
-    grammar: Option<&'c CaseGrammar<'c>>,
-    output: &'c Output,
 }
 
 /// Whether the line is one of those that are compared together.
@@ -253,47 +120,140 @@ fn is_of_all(entry: &Entry<'_>) -> bool {
     entry.word == "lex" || entry.word == "shown"
 }
 
+/// What the calls of a case see.
+#[derive(Clone, Copy)]
+pub struct Seen<'c> {
+    pub given: &'c Given<'c>,
+    pub table: &'c LexedStr<'c>,
+    pub input: &'c Input,
+}
+
+/// What the calls of a case gave: an output, of a grammar if it isn't the empty one.
+#[derive(Clone, Copy)]
+struct Parsed<'c> {
+    grammar: Option<&'c CaseGrammar<'c>>,
+    output: &'c Output,
+}
+
+/// Runs a case whose raw tokens are good.
+fn judge_table(
+    given: &Given<'_>,
+    table: &LexedStr<'_>,
+    report: &mut Report,
+) -> Result<(), Trouble> {
+    let came = error_lines(given.alloc, table)?;
+    compare_all(given, "lex", came.as_str(), report)?;
+    let input = table.to_input(given.alloc, &given.vocabulary())?;
+    let seen = Seen {
+        given: &*given,
+        table: &*table,
+        input: &input,
+    };
+    if given.doings.is_empty() {
+        return judge_lines(&seen, None, report);
+    }
+    for doing in &given.doings {
+        judge_doing(&seen, doing, report)?;
+    }
+    Ok(())
+}
+
+/// Runs what is called.
+fn judge_doing(seen: &Seen<'_>, doing: &Doing, report: &mut Report) -> Result<(), Trouble> {
+    let given = seen.given;
+    match doing {
+        Doing::Calls(calls) => match calling(given, calls.as_str())? {
+            Ok(grammar) => judge_grammar(seen, &grammar, report),
+            Err(error) => Ok(judge_refusal(given, &error.as_str(), report)?),
+        },
+        Doing::EatWith(kind) => judge_grammar(seen, &eating(given, *kind), report),
+        Doing::Tiny => judge_grammar(seen, &tiny(given), report),
+        Doing::Empty => judge_output(seen, None, &Output::empty(given.alloc), report),
+        Doing::Sent => judge_sent(given, report),
+    }
+}
+
+/// Runs the grammar of a case.
+fn judge_grammar(
+    seen: &Seen<'_>,
+    grammar: &CaseGrammar<'_>,
+    report: &mut Report,
+) -> Result<(), Trouble> {
+    match grammar.parse(seen.given.alloc, seen.input, None)? {
+        Ok(output) => judge_output(seen, Some(grammar), &output, report),
+        Err(error) => Ok(judge_refusal(seen.given, &error, report)?),
+    }
+}
+
+/// Compares the output of a case.
+fn judge_output(
+    seen: &Seen<'_>,
+    grammar: Option<&CaseGrammar<'_>>,
+    output: &Output,
+    report: &mut Report,
+) -> Result<(), Trouble> {
+    let given = seen.given;
+    if given.case.wants("shown") {
+        let text = shown_over(given.alloc, seen.table, output, &given.names)?;
+        compare_all(given, "shown", text.as_str(), report)?;
+    }
+    judge_lines(seen, Some(Parsed { grammar, output }), report)
+}
+
+/// Compares the steps that a case gives.
+fn judge_sent(given: &Given<'_>, report: &mut Report) -> Result<(), Trouble> {
+    let alloc = given.alloc;
+    if given.case.wants("shown") {
+        let text = shown(alloc, &given.sent, &given.names)?;
+        compare_all(given, "shown", text.as_str(), report)?;
+    }
+    let line = lines::line_of(alloc, &given.sent)?;
+    let came = line_of(alloc, "tree", line.as_str())?;
+    for entry in &given.case.wanted {
+        if !is_of_all(entry) {
+            compare(given, entry, came.as_str(), report)?;
+        }
+    }
+    Ok(())
+}
+
+/// Compares each line that a case wants with the one that came.
 fn judge_lines(
-    alloc: Global,
-    case: &Case<'_>,
     seen: &Seen<'_>,
     parsed: Option<Parsed<'_>>,
     report: &mut Report,
 ) -> Result<(), Trouble> {
-    for entry in &case.wanted {
+    for entry in &seen.given.case.wanted {
         if is_of_all(entry) {
             continue;
         }
-        let line = match (seen_line(alloc, seen, entry)?, &parsed) {
+        let line = match (seen_line(seen, entry)?, &parsed) {
             (Some(line), _) => line,
-            (None, Some(parsed)) => came(alloc, seen, parsed, entry)?,
+            (None, Some(parsed)) => came(seen, parsed, entry)?,
             (None, None) => return Err(malformed(entry.line, "this needs calls")),
         };
-        compare(alloc, case, entry, line.as_str(), report)?;
+        compare(seen.given, entry, line.as_str(), report)?;
     }
     Ok(())
 }
 
 /// The line of an entry's word as it came, where that needs no calls.
-fn seen_line(alloc: Global, seen: &Seen<'_>, entry: &Entry<'_>) -> Result<Option<String>, Trouble> {
+fn seen_line(seen: &Seen<'_>, entry: &Entry<'_>) -> Result<Option<String>, Trouble> {
+    let alloc = seen.given.alloc;
     Ok(match entry.word {
         "raw" => Some(raw_line(alloc, seen.table)?),
         "table" => Some(table_line(alloc, seen.table)?),
         "range" => Some(range_line(alloc, seen.table, entry)?),
         "input" => Some(input_line(alloc, seen.input)?),
-        "look" => Some(look_line(alloc, seen, entry)?),
-        "stands" => Some(stands_line(alloc, seen, entry)?),
+        "look" => Some(look_line(seen, entry)?),
+        "stands" => Some(stands_line(seen, entry)?),
         _ => None,
     })
 }
 
 /// The line of an entry's word as it came.
-fn came(
-    alloc: Global,
-    seen: &Seen<'_>,
-    parsed: &Parsed<'_>,
-    entry: &Entry<'_>,
-) -> Result<String, Trouble> {
+fn came(seen: &Seen<'_>, parsed: &Parsed<'_>, entry: &Entry<'_>) -> Result<String, Trouble> {
+    let alloc = seen.given.alloc;
     let Parsed { grammar, output } = *parsed;
     match (entry.word, grammar) {
         ("tree", _) => Ok(format!(in alloc; "tree {}", sent(alloc, seen.table, output)?.as_str())?),
@@ -303,7 +263,7 @@ fn came(
         ("refused", _) => Ok(String::from_str(alloc, "no refusal")?),
         ("turns", _) => count(alloc, entry, output.turns()),
         ("recorded", None) => count(alloc, entry, u64::from(output.recorded())),
-        ("recorded", Some(grammar)) => recorded(alloc, seen, grammar, output, entry),
+        ("recorded", Some(grammar)) => recorded(alloc, seen.input, grammar, output, entry),
         ("within", Some(grammar)) => within(alloc, grammar, seen.input, entry),
         _ => Err(malformed(entry.line, "nothing like this is wanted")),
     }
@@ -312,13 +272,13 @@ fn came(
 /// The line of how many events a grammar recorded, if no lower limits are enough.
 fn recorded(
     alloc: Global,
-    seen: &Seen<'_>,
+    input: &Input,
     grammar: &CaseGrammar<'_>,
     output: &Output,
     entry: &Entry<'_>,
 ) -> Result<String, Trouble> {
     let recorded = output.recorded();
-    if is_refused_below(alloc, grammar, seen.input, output)? {
+    if is_refused_below(alloc, grammar, input, output)? {
         count(alloc, entry, u64::from(recorded))
     } else {
         Ok(format!(in alloc; "recorded {recorded}, and otherwise within limits")?)

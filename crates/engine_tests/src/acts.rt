@@ -1,4 +1,4 @@
-//! What a parser and its markers answer to a grammar in code.
+//! What a parser and its markers answer to a grammar in code, whose two entry points differ.
 ghost use Rattle.std.specs.Prelude.{◌≡◌};
 ghost use Rattle.squawk_output.specs.Draft.{holes_of};
 ghost use Rattle.squawk_parser.specs.State.{HasNotFailed, IsSound, Keeps};

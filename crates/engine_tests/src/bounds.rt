@@ -1,9 +1,9 @@
-//! The bounds of iterators.
+//! The bounds of iterators, and of the input without tokens.
 
 use row_fixtures::keywords::NO_KEYWORDS;
 use row_fixtures::scripts::parse_script;
 use row_fixtures::tokens::{int, space, table, token, word};
-use squawk_parser::{Base, LexedStr, Output};
+use squawk_parser::{Base, Input, LexedStr, Output, SyntaxKind};
 use std::process::Abort;
 use std::test::Fail;
 
@@ -56,4 +56,18 @@ fn errors_know_how_many_are_left(rt: HostRuntime) -> Result<(), Fail> {
     let table = table(rt.alloc(), "0b234", &[token(int(Base::Binary, 5), 5)])?;
     assert_counted(&rt, &table);
     Ok(())
+}
+
+/// Ends the test unless the input has no tokens, and the end everywhere.
+fn assert_empty(rt: &impl Abort, input: &Input) {
+    assert_eq!(rt; input.len(), 0);
+    for past in [0, usize::MAX] {
+        assert_eq!(rt; input.kind(past), SyntaxKind::EOF);
+        assert_eq!(rt; input.contextual_kind(past), SyntaxKind::EOF);
+    }
+}
+
+#[test]
+fn empty_input_is_at_its_end(rt: HostRuntime) {
+    assert_empty(&rt, &Input::empty(rt.alloc()));
 }

@@ -12,8 +12,6 @@ mod bounds;
 #[cfg(test)]
 mod cases;
 #[cfg(test)]
-mod entry_points;
-#[cfg(test)]
 mod error_lines;
 #[cfg(test)]
 mod events;
