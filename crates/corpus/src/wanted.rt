@@ -227,32 +227,29 @@ fn judge_lines(
         if is_of_all(entry) {
             continue;
         }
-        let line = match (seen_line(seen, entry)?, &parsed) {
-            (Some(line), _) => line,
-            (None, Some(parsed)) => came(seen, parsed, entry)?,
-            (None, None) => return Err(malformed(entry.line, "this needs calls")),
-        };
+        let line = came(seen, parsed, entry)?;
         compare(seen.given, entry, line.as_str(), report)?;
     }
     Ok(())
 }
 
-/// The line of an entry's word as it came, where that needs no calls.
-fn seen_line(seen: &Seen<'_>, entry: &Entry<'_>) -> Result<Option<String>, Trouble> {
+/// The line of an entry's word as it came.
+fn came(seen: &Seen<'_>, parsed: Option<Parsed<'_>>, entry: &Entry<'_>) -> Result<String, Trouble> {
     let alloc = seen.given.alloc;
-    Ok(match entry.word {
-        "raw" => Some(raw_line(alloc, seen.table)?),
-        "table" => Some(table_line(alloc, seen.table)?),
-        "range" => Some(range_line(alloc, seen.table, entry)?),
-        "input" => Some(input_line(alloc, seen.input)?),
-        "look" => Some(look_line(seen, entry)?),
-        "stands" => Some(stands_line(seen, entry)?),
-        _ => None,
-    })
+    match (entry.word, parsed) {
+        ("raw", _) => Ok(raw_line(alloc, seen.table)?),
+        ("table", _) => Ok(table_line(alloc, seen.table)?),
+        ("range", _) => range_line(alloc, seen.table, entry),
+        ("input", _) => Ok(input_line(alloc, seen.input)?),
+        ("look", _) => look_line(seen, entry),
+        ("stands", _) => stands_line(seen, entry),
+        (_, Some(parsed)) => came_of(seen, &parsed, entry),
+        (_, None) => Err(malformed(entry.line, "this needs calls")),
+    }
 }
 
-/// The line of an entry's word as it came.
-fn came(seen: &Seen<'_>, parsed: &Parsed<'_>, entry: &Entry<'_>) -> Result<String, Trouble> {
+/// The same of a word that is of an output.
+fn came_of(seen: &Seen<'_>, parsed: &Parsed<'_>, entry: &Entry<'_>) -> Result<String, Trouble> {
     let alloc = seen.given.alloc;
     let Parsed { grammar, output } = *parsed;
     match (entry.word, grammar) {

@@ -22,7 +22,14 @@ pub const SKIPPED_TOKEN: Case = Case {
     line: "ROOT(_ ERROR(!'m'@1 ,))",
 };
 
-/// A kind that has no name.
+/// A kind that has a name.
+pub const EXPECTED_NAME: Case = Case {
+    calls: "start, bump_any, expect SEMICOLON, complete 0 ROOT",
+    text: "a",
+    line: "ROOT(a !'expected SEMICOLON'@1)",
+};
+
+/// The same where it has none.
 pub const EXPECTED_NUMBER: Case = Case {
     calls: "start, bump_any, expect SEMICOLON, complete 0 ROOT",
     text: "a",

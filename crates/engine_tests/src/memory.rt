@@ -3,17 +3,17 @@
 //! These tests also pass where one allocation is refused: so each is asked for at most twice.
 
 use crate::cases::{
-    Case, EXPECTED_NUMBER, EXTENDED_IN_FRONT, EXTENDED_TO_THE_OLDEST_FIRST, EXTENDED_TWICE, SELECT,
-    SKIPPED_TOKEN, STATEMENT,
+    Case, EXPECTED_NAME, EXPECTED_NUMBER, EXTENDED_IN_FRONT, EXTENDED_TO_THE_OLDEST_FIRST,
+    EXTENDED_TWICE, SELECT, SKIPPED_TOKEN, STATEMENT,
 };
 use row_fixtures::call_list::{CallListError, calls_of};
 use row_fixtures::lexer::tokens_of;
 use row_fixtures::lines::{is_beginning, line_of, whole_line_of};
 use row_fixtures::tokens::{literal, space, token};
-use row_fixtures::words::no_words;
+use row_fixtures::words::words_with;
 use squawk_parser::{
     EntryPoint, Input, LexError, LexedStr, LiteralKind, Output, OwnedStep, ParseError, StepList,
-    StepSink, StrStep, SyntaxKind, TableError, Token,
+    StepSink, StrStep, SyntaxKind, TableError, Token, TokenSet,
 };
 use squawk_script::{Call, Script, ScriptError};
 use squawk_tree::TreeText;
@@ -62,10 +62,15 @@ fn calls(rt: &(impl Abort + AllocGlobal), text: &str) -> Vec<Call> {
     panic!(rt; "memory is wanting twice")
 }
 
-/// The script of the calls of a text. A refusal drops the calls.
-fn script(rt: &(impl Abort + AllocGlobal), text: &str) -> Script<'static> {
+/// The script of the calls of a text, with these names. A refusal drops the calls.
+fn script<'t>(
+    rt: &(impl Abort + AllocGlobal),
+    text: &str,
+    names: &'t [(SyntaxKind, &'t str)],
+) -> Script<'t> {
     for _ in 0..2 {
-        match Script::new(rt.alloc(), calls(rt, text), no_words()) {
+        let words = words_with(TokenSet::EMPTY, names);
+        match Script::new(rt.alloc(), calls(rt, text), words) {
             Ok(script) => return script,
             Err(error) => assert_eq!(rt; error, ScriptError::OutOfMemory),
         }
@@ -128,10 +133,10 @@ fn assert_beginning(rt: &impl Abort, line: &str, wanted: &str) {
 }
 
 /// Ends the test unless the script of the calls has the line, sent to one of two lists.
-fn assert_case(rt: &(impl Abort + AllocGlobal), case: Case) {
+fn assert_case(rt: &(impl Abort + AllocGlobal), case: Case, names: &[(SyntaxKind, &str)]) {
     let table = table(rt, case.text, &tokens(rt, case.text));
     let input = input(rt, &table);
-    let output = output(rt, &input, &script(rt, case.calls));
+    let output = output(rt, &input, &script(rt, case.calls, names));
     let is_first = is_sent(rt, &table, &output, case.line);
     let is_second = is_sent(rt, &table, &output, case.line);
     assert!(rt; is_first || is_second, "{}", case.line);
@@ -139,32 +144,37 @@ fn assert_case(rt: &(impl Abort + AllocGlobal), case: Case) {
 
 #[test]
 fn node_that_is_extended_twice_is_whole(rt: HostRuntime) {
-    assert_case(&rt, EXTENDED_TWICE);
+    assert_case(&rt, EXTENDED_TWICE, &[]);
 }
 
 #[test]
 fn node_that_is_extended_to_the_oldest_first_is_whole(rt: HostRuntime) {
-    assert_case(&rt, EXTENDED_TO_THE_OLDEST_FIRST);
+    assert_case(&rt, EXTENDED_TO_THE_OLDEST_FIRST, &[]);
 }
 
 #[test]
 fn extended_node_in_front_of_another_is_whole(rt: HostRuntime) {
-    assert_case(&rt, EXTENDED_IN_FRONT);
+    assert_case(&rt, EXTENDED_IN_FRONT, &[]);
 }
 
 #[test]
 fn skipped_token_is_whole(rt: HostRuntime) {
-    assert_case(&rt, SKIPPED_TOKEN);
+    assert_case(&rt, SKIPPED_TOKEN, &[]);
 }
 
 #[test]
-fn expected_kind_is_whole(rt: HostRuntime) {
-    assert_case(&rt, EXPECTED_NUMBER);
+fn expected_number_is_whole(rt: HostRuntime) {
+    assert_case(&rt, EXPECTED_NUMBER, &[]);
+}
+
+#[test]
+fn expected_name_is_whole(rt: HostRuntime) {
+    assert_case(&rt, EXPECTED_NAME, &[(SyntaxKind::SEMICOLON, "SEMICOLON")]);
 }
 
 #[test]
 fn statement_is_whole(rt: HostRuntime) {
-    assert_case(&rt, STATEMENT);
+    assert_case(&rt, STATEMENT, &[]);
 }
 
 /// Where an error is wanted, its message, and its hint.
