@@ -28,6 +28,10 @@ mod memory;
 #[cfg(test)]
 mod names;
 #[cfg(test)]
+mod plain;
+#[cfg(test)]
+mod plain_runs;
+#[cfg(test)]
 mod sets;
 #[cfg(test)]
 mod sinks;
