@@ -198,14 +198,14 @@ fn assert_text(rt: &impl Abort, text: &str, wanted: &str, script: u32) {
     assert_eq!(rt; text, wanted, "script {script}");
 }
 
-/// Ends the test unless the output is that of the plain list.
+/// Ends the test unless the output is that of the plain list. Tells whether it was sent.
 fn assert_plain(
     rt: &(impl Abort + AllocGlobal),
     table: &LexedStr<'_>,
     output: &Output,
     plain: &Plain,
     script: u32,
-) -> Result<(), Fail> {
+) -> Result<bool, Fail> {
     let steps = written(rt.alloc(), output)?;
     let items = line_of_items(rt.alloc(), &plain.items)?;
     assert_text(rt, steps.line.as_str(), items.as_str(), script);
@@ -214,22 +214,19 @@ fn assert_plain(
         (plain.recorded, plain.turns),
         "script {script}"
     );
-    if table.fits(output) {
-        assert_sent(rt, table, output, plain, script)?;
-    }
-    Ok(())
+    assert_sent(rt, table, output, plain, script)
 }
 
-/// Ends the test unless what is sent of the output is what the rule says of the plain list.
+/// Ends the test unless what is sent of the output, if it fits, is what the rule says of the plain list.
 fn assert_sent(
     rt: &(impl Abort + AllocGlobal),
     table: &LexedStr<'_>,
     output: &Output,
     plain: &Plain,
     script: u32,
-) -> Result<(), Fail> {
+) -> Result<bool, Fail> {
     if !table.fits(output) {
-        return Ok(());
+        return Ok(false);
     }
     let mut list = StepList::new(rt.alloc());
     let is_whole = table.intersperse_trivia(output, &mut list)?;
@@ -237,17 +234,17 @@ fn assert_sent(
     let wanted = line_of(rt.alloc(), &sent(rt.alloc(), table, &plain.items)?)?;
     assert_text(rt, line.as_str(), wanted.as_str(), script);
     assert_eq!(rt; is_whole, plain.is_at_end, "script {script}");
-    Ok(())
+    Ok(true)
 }
 
-/// Runs a script both ways.
+/// Runs a script both ways, and tells whether its output was sent.
 fn run_both(
     rt: &(impl Abort + AllocGlobal),
     table: &LexedStr<'_>,
     input: &Input,
     dice: &mut Dice,
     script: u32,
-) -> Result<(), Fail> {
+) -> Result<bool, Fail> {
     let calls = calls_of(rt.alloc(), dice)?;
     let plain = plain_of(rt.alloc(), input, &calls)?;
     let engine = Script::new(rt.alloc(), calls, no_words())?;
@@ -261,8 +258,13 @@ fn engine_does_what_plain_editing_does(rt: HostRuntime) -> Result<(), Fail> {
     let table = table(rt.alloc(), TEXT, &tokens)?;
     let input = table.to_input(rt.alloc(), &NO_KEYWORDS)?;
     let mut dice = Dice { state: 20260 };
+    let mut sent = 0u32;
     for script in 0..SCRIPTS {
-        run_both(&rt, &table, &input, &mut dice, script)?;
+        if run_both(&rt, &table, &input, &mut dice, script)? {
+            sent = sent.saturating_add(1);
+        }
     }
+    // Seven of eight scripts stand in a root.
+    assert!(rt; sent > 8000, "{sent}");
     Ok(())
 }
