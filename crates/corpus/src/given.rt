@@ -6,26 +6,45 @@
 //! | `text \|'\| [["str",1,false]]` | one with its raw tokens as in a document, where the small lexer can't cut it |
 //! | `bom \|x \|` | a text behind a byte order mark |
 //! | `more \|x \|` | the next line of the text, behind which its raw tokens may stand |
-//! | `kinds keywords` | what is told about kinds: `keywords`, `select`, `operators` or `named` (`row_fixtures::rows`) |
+//! | `keywords is 70, json 77` | keywords with their kinds; `keywords all` are those of composite kinds |
+//! | `contextual raise 202` | contextual keywords |
+//! | `operators =<>-` | the signs of which operators are made |
+//! | `names SEMICOLON semi, 700 SOURCE` | names of kinds |
+//! | `plpgsql` | the parse begins at the other entry point |
 //! | `calls start, ..` | the calls of a script (`row_fixtures::call_list`) |
 //! | `eat_with IS_JSON` | or a root in which the kind is eaten, the current token being its tail |
+//! | `tiny` | or a parse by the small grammar |
+//! | `empty` | or no parse: the empty output |
+//! | `sent enter ROOT` | or these steps, one a line (`crate::sent`) |
 //!
 //! Of several texts, and of several lines of calls, the same is wanted.
 
+ghost use Rattle.squawk_parser.specs.Words.{HasNoEnd, words_of};
+
+use crate::looks::kind;
 use crate::sections::{Case, Entry};
+use crate::sent::push_step;
 use crate::trouble::{Trouble, json_trouble, malformed};
-use row_fixtures::kinds::kind_named;
-use row_fixtures::rows::Kinds;
+use row_fixtures::call_list::set_of;
+use row_fixtures::keywords::{KEYWORDS, Keywords};
+use row_fixtures::lexer::tokens_of;
+use row_fixtures::tokens::table;
+use row_fixtures::words::words_with;
 use squawk_document::{token, value};
-use squawk_parser::{SyntaxKind, Token};
+use squawk_parser::{EntryPoint, OwnedStep, SyntaxKind, Token, TokenSet, Words};
 use std::alloc::{AllocError, Global};
 
 /// What is called.
 #[derive(Drop)]
 pub enum Doing {
-    /// These calls, which stand at this line of the file.
-    Calls { line: usize, calls: String },
+    Calls(String),
     EatWith(SyntaxKind),
+    /// The calls of the small grammar.
+    Tiny,
+    /// Nothing: the output is the empty one.
+    Empty,
+    /// Nothing: the steps are given.
+    Sent,
 }
 
 /// A text, and its raw tokens if they are given.
@@ -36,18 +55,33 @@ pub struct Source {
 }
 
 #[derive(Drop)]
-pub struct Given {
+pub struct Given<'c> {
+    pub alloc: Global,
+    pub case: &'c Case<'c>,
     pub sources: Vec<Source>,
-    pub kinds: Kinds,
+    keywords: Vec<(&'c str, u16)>,
+    contextual_keywords: Vec<(&'c str, u16)>,
+    operator_first: TokenSet,
+    pub names: Vec<(SyntaxKind, &'c str)>,
+    pub entry_point: EntryPoint,
     pub doings: Vec<Doing>,
+    /// The steps that are given.
+    pub sent: Vec<OwnedStep>,
 }
 
-impl Given {
-    pub fn new(alloc: Global, case: &Case<'_>) -> Result<Given, Trouble> {
+impl<'c> Given<'c> {
+    pub fn new(alloc: Global, case: &'c Case<'c>) -> Result<Given<'c>, Trouble> {
         let mut given = Given {
+            alloc,
+            case,
             sources: Vec::new(alloc),
-            kinds: Kinds::Plain,
+            keywords: Vec::new(alloc),
+            contextual_keywords: Vec::new(alloc),
+            operator_first: TokenSet::EMPTY,
+            names: Vec::new(alloc),
+            entry_point: EntryPoint::SourceFile,
             doings: Vec::new(alloc),
+            sent: Vec::new(alloc),
         };
         for entry in &case.given {
             given.add(alloc, entry)?;
@@ -58,42 +92,70 @@ impl Given {
         Ok(given)
     }
 
-    /// Adds a line.
-    fn add(&mut self, alloc: Global, entry: &Entry<'_>) -> Result<(), Trouble> {
-        match entry.word {
-            "text" => {
-                self.add_source(String::new(alloc))?;
-                self.go_on(alloc, entry)
-            }
-            "bom" => {
-                self.add_source(String::from_str(alloc, "\u{feff}")?)?;
-                self.go_on(alloc, entry)
-            }
-            "more" => self.go_on(alloc, entry),
-            "kinds" => {
-                self.kinds = kinds_in(entry)?;
-                Ok(())
-            }
-            "calls" => Ok(self.add_calls(alloc, entry)?),
-            "eat_with" => self.add_eaten(entry),
-            _ => Err(malformed(entry.line, "nothing like this is given")),
+    /// The keywords of the case.
+    pub fn vocabulary(&self) -> Keywords<'_> {
+        Keywords {
+            keywords: self.keywords.as_slice(),
+            contextual_keywords: self.contextual_keywords.as_slice(),
         }
     }
 
-    fn add_calls(&mut self, alloc: Global, entry: &Entry<'_>) -> Result<(), AllocError> {
-        let calls = String::from_str(alloc, entry.value.as_str())?;
-        let line = entry.line;
-        self.doings.push(Doing::Calls { line, calls })?;
+    /// What the grammar of the case tells.
+    pub fn words(&self) -> Words<'_>
+        ensures { HasNoEnd (words_of result) }
+    {
+        words_with(self.operator_first, self.names.as_slice())
+    }
+
+    /// Adds a line.
+    fn add(&mut self, alloc: Global, entry: &'c Entry<'_>) -> Result<(), Trouble> {
+        let value = entry.value.as_str();
+        match entry.word {
+            "text" | "bom" | "more" => self.add_text(alloc, entry),
+            "keywords" if value == "all" => Ok(push_all(&mut self.keywords, KEYWORDS.keywords)?),
+            "keywords" => push_words(&mut self.keywords, entry),
+            "contextual" => push_words(&mut self.contextual_keywords, entry),
+            "operators" => self.add_operators(alloc, entry),
+            "names" => push_names(&mut self.names, entry),
+            "plpgsql" => {
+                self.entry_point = EntryPoint::Plpgsql;
+                Ok(())
+            }
+            "sent" => self.add_step(alloc, entry),
+            _ => self.add_doing(alloc, entry),
+        }
+    }
+
+    /// Adds what is called.
+    fn add_doing(&mut self, alloc: Global, entry: &Entry<'_>) -> Result<(), Trouble> {
+        let doing = match (entry.word, kind(entry.value.as_str())) {
+            ("calls", _) => Doing::Calls(String::from_str(alloc, entry.value.as_str())?),
+            ("eat_with", Some(kind)) => Doing::EatWith(kind),
+            ("tiny", _) => Doing::Tiny,
+            ("empty", _) => Doing::Empty,
+            _ => return Err(malformed(entry.line, "nothing like this is given")),
+        };
+        self.doings.push(doing).map_err(AllocError::from)?;
         Ok(())
     }
 
-    fn add_eaten(&mut self, entry: &Entry<'_>) -> Result<(), Trouble> {
-        let Some(kind) = kind_named(entry.value.as_str()) else {
-            return Err(malformed(entry.line, "no kind has this name"));
+    fn add_step(&mut self, alloc: Global, entry: &Entry<'_>) -> Result<(), Trouble> {
+        if self.doings.is_empty() {
+            self.doings.push(Doing::Sent).map_err(AllocError::from)?;
+        }
+        push_step(alloc, &mut self.sent, entry)
+    }
+
+    /// Adds the kinds of signs.
+    fn add_operators(&mut self, alloc: Global, entry: &Entry<'_>) -> Result<(), Trouble> {
+        let signs = entry.value.as_str();
+        let tokens = tokens_of(alloc, signs)?;
+        let Ok(table) = table(alloc, signs, &tokens) else {
+            return Err(malformed(entry.line, "these are no signs"));
         };
-        self.doings
-            .push(Doing::EatWith(kind))
-            .map_err(AllocError::from)?;
+        for i in 0..table.len() {
+            self.operator_first = self.operator_first.union(set_of(table.kind(i)));
+        }
         Ok(())
     }
 
@@ -102,8 +164,13 @@ impl Given {
         Ok(())
     }
 
-    /// Adds the text of a line to the last source, and the raw tokens behind it.
-    fn go_on(&mut self, alloc: Global, entry: &Entry<'_>) -> Result<(), Trouble> {
+    /// Adds a text, or the text of a line to the last source, and the raw tokens behind it.
+    fn add_text(&mut self, alloc: Global, entry: &Entry<'_>) -> Result<(), Trouble> {
+        match entry.word {
+            "text" => self.add_source(String::new(alloc))?,
+            "bom" => self.add_source(String::from_str(alloc, "\u{feff}")?)?,
+            _ => {}
+        }
         let Some(source) = self.sources.last_mut() else {
             return Err(malformed(entry.line, "no text to go on"));
         };
@@ -119,6 +186,51 @@ impl Given {
     }
 }
 
+/// Adds names of kinds, each behind its kind.
+fn push_names<'c>(
+    names: &mut Vec<(SyntaxKind, &'c str)>,
+    entry: &'c Entry<'_>,
+) -> Result<(), Trouble> {
+    for pair in entry.value.split(", ") {
+        match kind_and_name(pair) {
+            Some(named) => {
+                names.reserve(1)?;
+                names.push_reserved(named);
+            }
+            None => return Err(malformed(entry.line, "a kind and its name are given")),
+        }
+    }
+    Ok(())
+}
+
+fn kind_and_name(pair: &str) -> Option<(SyntaxKind, &str)> {
+    let (word, name) = pair.split_once(' ')?;
+    Some((kind(word)?, name))
+}
+
+/// Adds keywords, each before its kind.
+fn push_words<'c>(words: &mut Vec<(&'c str, u16)>, entry: &'c Entry<'_>) -> Result<(), Trouble> {
+    for pair in entry.value.split(", ") {
+        match word_and_kind(pair) {
+            Some(word) => words.push(word).map_err(AllocError::from)?,
+            None => return Err(malformed(entry.line, "a word and its kind are given")),
+        }
+    }
+    Ok(())
+}
+
+fn word_and_kind(pair: &str) -> Option<(&str, u16)> {
+    let (word, kind) = pair.split_once(' ')?;
+    Some((word, kind.parse::<u16>().ok()?))
+}
+
+fn push_all<'c>(words: &mut Vec<(&'c str, u16)>, all: &[(&'c str, u16)]) -> Result<(), AllocError> {
+    for word in all {
+        words.push(*word)?;
+    }
+    Ok(())
+}
+
 /// The raw tokens that JSON says.
 fn tokens_in(alloc: Global, json: &str, line: usize) -> Result<Vec<Token>, Trouble> {
     let what = "these are no raw tokens";
@@ -129,15 +241,5 @@ fn tokens_in(alloc: Global, json: &str, line: usize) -> Result<Vec<Token>, Troub
     match token::tokens(alloc, &value) {
         Ok(tokens) => Ok(tokens),
         Err(error) => Err(json_trouble(error, line, what)),
-    }
-}
-
-fn kinds_in(entry: &Entry<'_>) -> Result<Kinds, Trouble> {
-    match entry.value.as_str() {
-        "keywords" => Ok(Kinds::Keywords),
-        "select" => Ok(Kinds::Select),
-        "operators" => Ok(Kinds::Operators),
-        "named" => Ok(Kinds::Named),
-        _ => Err(malformed(entry.line, "there are no such kinds")),
     }
 }

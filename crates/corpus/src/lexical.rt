@@ -1,4 +1,4 @@
-//! Lexical errors as lines.
+//! What is wanted in several lines of one word, as lexical errors are.
 
 use crate::sections::Entry;
 use squawk_parser::{LexError, LexedStr};
@@ -25,14 +25,18 @@ fn push_error(lines: &mut String, error: &LexError) -> Result<(), AllocError> {
     }
 }
 
-/// The lines of the errors that are wanted, of which `lex none` is none.
-pub fn wanted_lines(alloc: Global, wanted: &[Entry<'_>]) -> Result<String, AllocError> {
+/// The wanted lines of a word, of which `none` is none.
+pub fn wanted_lines(alloc: Global, wanted: &[Entry<'_>], word: &str) -> Result<String, AllocError> {
     let mut lines = String::new(alloc);
     for entry in wanted {
-        if entry.word == "lex" && entry.value.as_str() != "none" {
-            lines.push_str("\n    lex ")?;
-            lines.push_str(entry.value.as_str())?;
+        if entry.word == word && entry.value.as_str() != "none" {
+            push_line(&mut lines, word, entry.value.as_str())?;
         }
     }
     Ok(lines)
+}
+
+/// Adds a line of a word.
+pub fn push_line(lines: &mut String, word: &str, line: &str) -> Result<(), AllocError> {
+    write!(lines, "\n    {word} {line}")
 }

@@ -1,62 +1,71 @@
 //! The parses of a case.
 
-use crate::given::Doing;
-use crate::trouble::{Trouble, malformed};
+use crate::given::Given;
+use crate::trouble::Trouble;
 use row_fixtures::call_list::{CallListError, calls_of};
-use row_fixtures::kinds::ROOT;
-use row_fixtures::parts::{Act, Around, PartGrammar, node};
-use row_fixtures::rows::Kinds;
-use squawk_parser::{EntryPoint, Grammar, Input, Limits, Output, ParseError, SyntaxKind};
+use row_fixtures::parts::EatingWith;
+use squawk_parser::{EntryPoint, Grammar, Input, Limits, Output, ParseError, SyntaxKind, Words};
 use squawk_script::{Script, ScriptError};
 use std::alloc::Global;
+use tiny_grammar::Tiny;
 
-/// The grammar of a case.
+/// The grammar of a case, with the entry point from which it is run.
 #[derive(Drop)]
-pub enum CaseGrammar<'t> {
-    Calls(Script<'t>),
-    EatWith(PartGrammar<'t, Around<Act>>),
+pub struct CaseGrammar<'t> {
+    entry_point: EntryPoint,
+    calls: Calls<'t>,
 }
 
-/// The grammar of what is called, or why there is no script.
-pub fn grammar_of<'t>(
-    alloc: Global,
-    doing: &Doing,
-    kinds: Kinds,
-    names: &'t [(SyntaxKind, &'t str)],
-) -> Result<Result<CaseGrammar<'t>, ScriptError>, Trouble> {
-    match doing {
-        Doing::EatWith(kind) => Ok(Ok(eating(*kind, kinds, names))),
-        Doing::Calls { line, calls } => calling(alloc, *line, calls.as_str(), kinds, names),
-    }
+#[derive(Drop)]
+enum Calls<'t> {
+    Script(Script<'t>),
+    EatWith(EatingWith<'t>),
+    Tiny(Tiny),
 }
 
 /// A root in which the kind is eaten, with its tail.
-fn eating<'t>(
-    kind: SyntaxKind,
-    kinds: Kinds,
-    names: &'t [(SyntaxKind, &'t str)],
-) -> CaseGrammar<'t> {
-    let part = node(ROOT, Act::EatWith(kind));
-    CaseGrammar::EatWith(PartGrammar::new(kinds.words(names), part))
+pub fn eating<'t>(given: &'t Given<'_>, kind: SyntaxKind) -> CaseGrammar<'t> {
+    let Words {
+        operator_first,
+        names,
+    } = given.words();
+    let grammar = EatingWith {
+        operator_first,
+        names,
+        kind,
+    };
+    CaseGrammar {
+        entry_point: given.entry_point,
+        calls: Calls::EatWith(grammar),
+    }
 }
 
-/// The script of the calls of a line.
-fn calling<'t>(
-    alloc: Global,
-    line: usize,
+/// The small grammar.
+pub fn tiny<'t>(given: &'t Given<'_>) -> CaseGrammar<'t> {
+    CaseGrammar {
+        entry_point: given.entry_point,
+        calls: Calls::Tiny(Tiny::new()),
+    }
+}
+
+/// The script of the calls, or the line of why there is none.
+pub fn calling<'t>(
+    given: &'t Given<'_>,
     calls: &str,
-    kinds: Kinds,
-    names: &'t [(SyntaxKind, &'t str)],
-) -> Result<Result<CaseGrammar<'t>, ScriptError>, Trouble> {
+) -> Result<Result<CaseGrammar<'t>, String>, Trouble> {
+    let alloc = given.alloc;
     let calls = match calls_of(alloc, calls) {
         Ok(calls) => calls,
         Err(CallListError::OutOfMemory) => return Err(Trouble::OutOfMemory),
-        Err(CallListError::NoCall { .. }) => return Err(malformed(line, "one of these is no call")),
+        Err(error) => return Ok(Err(format!(in alloc; "{error}")?)),
     };
-    match Script::new(alloc, calls, kinds.words(names)) {
-        Ok(script) => Ok(Ok(CaseGrammar::Calls(script))),
+    match Script::new(alloc, calls, given.words()) {
+        Ok(script) => Ok(Ok(CaseGrammar {
+            entry_point: given.entry_point,
+            calls: Calls::Script(script),
+        })),
         Err(ScriptError::OutOfMemory) => Err(Trouble::OutOfMemory),
-        Err(error) => Ok(Err(error)),
+        Err(error) => Ok(Err(format!(in alloc; "{error}")?)),
     }
 }
 
@@ -68,9 +77,10 @@ impl<'t> CaseGrammar<'t> {
         input: &Input,
         limits: Option<Limits>,
     ) -> Result<Result<Output, ParseError>, Trouble> {
-        let answer = match self {
-            CaseGrammar::Calls(script) => parse(alloc, input, script, limits),
-            CaseGrammar::EatWith(grammar) => parse(alloc, input, grammar, limits),
+        let answer = match &self.calls {
+            Calls::Script(script) => parse(alloc, self.entry_point, input, script, limits),
+            Calls::EatWith(grammar) => parse(alloc, self.entry_point, input, grammar, limits),
+            Calls::Tiny(grammar) => parse(alloc, self.entry_point, input, grammar, limits),
         };
         match answer {
             Err(ParseError::OutOfMemory) => Err(Trouble::OutOfMemory),
@@ -81,16 +91,17 @@ impl<'t> CaseGrammar<'t> {
 
 fn parse<G: Grammar>(
     alloc: Global,
+    entry_point: EntryPoint,
     input: &Input,
     grammar: &G,
     limits: Option<Limits>,
 ) -> Result<Output, ParseError> {
     match limits {
-        None => EntryPoint::SourceFile.parse(alloc, input, grammar),
+        None => entry_point.parse(alloc, input, grammar),
         Some(Limits { events, errors }) => {
             let errors = errors.min(2147483648);
             let limits = Limits { events, errors };
-            EntryPoint::SourceFile.parse_within(alloc, input, grammar, limits)
+            entry_point.parse_within(alloc, input, grammar, limits)
         }
     }
 }

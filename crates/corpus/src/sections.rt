@@ -11,7 +11,9 @@
 //! ```
 //!
 //! A line is a word and what stands behind it. One that begins with four spaces goes on the line before it.
+//! Pieces that are repeated may be written once (`repeats`).
 
+use crate::repeats::push_repeated;
 use crate::trouble::{Trouble, malformed};
 use std::alloc::{AllocError, Global};
 
@@ -91,6 +93,11 @@ impl<'f> Case<'f> {
         }
     }
 
+    /// Whether a line of this word is wanted.
+    pub fn wants(&self, word: &str) -> bool {
+        self.wanted.iter().any(|entry| entry.word == word)
+    }
+
     fn add_line(&mut self, alloc: Global, number: usize, line: &'f str) -> Result<(), Trouble> {
         if line == "---" {
             if self.has_dashes {
@@ -126,8 +133,9 @@ fn add_entry<'f>(
     line: usize,
     text: &'f str,
 ) -> Result<(), AllocError> {
-    let (word, value) = text.split_once(' ').unwrap_or((text, ""));
-    let value = String::from_str(alloc, value)?;
+    let (word, rest) = text.split_once(' ').unwrap_or((text, ""));
+    let mut value = String::new(alloc);
+    push_repeated(&mut value, rest)?;
     entries.push(Entry { line, word, value })?;
     Ok(())
 }
@@ -138,6 +146,6 @@ fn go_on(entries: &mut Vec<Entry<'_>>, line: usize, rest: &str) -> Result<(), Tr
         return Err(malformed(line, "no line to go on"));
     };
     entry.value.push(' ')?;
-    entry.value.push_str(rest)?;
+    push_repeated(&mut entry.value, rest)?;
     Ok(())
 }

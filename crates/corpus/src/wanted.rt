@@ -4,32 +4,36 @@
 //! |---|---|
 //! | `lex 0..2 "empty .."` | a lexical error, as the program prints it; `lex none`: a case names them all |
 //! | `raw IDENT 44` | the syntax kinds of the raw tokens, by their names or else their numbers |
+//! | `table IDENT@0..1'a' 1` | the same with their places and texts, and the end of the text |
+//! | `range 0 2 \|a b\|` | the text of the raw tokens from one to before another |
 //! | `input IDENT/RAISE_KW+ .. EOF/EOF EOF/EOF` | the kinds and contextual kinds that a parser sees, `+` where a token touches the next; the end, and what lies far behind it |
 //! | `refused bad call 3` | that the raw tokens, the calls or the parse are refused, for this reason |
 //! | `tree ROOT(a _) ...` | what is sent (`row_fixtures::lines`), to a list and one by one |
+//! | `shown ROOT@0..1` | a line of the tree that is shown; `shown none`: a case names them all |
 //! | `unfit` | that the output doesn't fit the text |
 //! | `over \|x y\| ROOT(x) ...` | what is sent of it over another text, or `over \|x y\| unfit` |
 //! | `steps ROOT(IDENT)` | the steps of the output, which have no texts |
 //! | `recorded 2 + 1` | so many recorded events, and no lower limit of them or of errors that is enough |
 //! | `turns 3 + 1` | in so many turns |
-//! | `within 2 0 too many events` | what comes within a limit of events and one of errors, or `recorded 3` |
+//! | `within 2 - too many events` | what comes within a limit of events and one of errors, `-` being that of a parse that is given none, or `recorded 3` |
 //! | `look ..`, `stands ..` | what a parser sees at the first token (`crate::looks`) |
 
 use crate::given::{Doing, Given};
 use crate::lexical::{error_lines, wanted_lines};
 use crate::limits::{is_refused_below, within};
 use crate::looks::{look_line, stands_line};
-use crate::parses::{CaseGrammar, grammar_of};
+use crate::parses::{CaseGrammar, calling, eating, tiny};
 use crate::report::{Report, line_of};
 use crate::sections::{Case, Entry};
-use crate::tokens::{input_line, raw_line};
+use crate::sent::{shown, shown_over};
+use crate::tokens::{input_line, range_line, raw_line, table_line};
 use crate::trouble::{Trouble, malformed};
 use row_fixtures::lexer::tokens_of;
+use row_fixtures::lines;
 use row_fixtures::output::written;
-use row_fixtures::rows::{Kinds, names};
 use row_fixtures::sent::sent_over_table;
 use row_fixtures::tokens::table;
-use squawk_parser::{Input, LexedStr, Output, TableError, Token, TokenSet, check_tokens};
+use squawk_parser::{Input, LexedStr, Output, TableError, Token, check_tokens};
 use std::alloc::{AllocError, Global};
 use std::fmt::Display;
 
@@ -44,8 +48,8 @@ pub fn judge(alloc: Global, case: &Case<'_>, report: &mut Report) -> Result<(), 
     for source in &given.sources {
         let text = source.text.as_str();
         match &source.tokens {
-            Some(tokens) => judge_text(alloc, case, &given, text, tokens, report)?,
-            None => judge_text(alloc, case, &given, text, &tokens_of(alloc, text)?, report)?,
+            Some(tokens) => judge_text(&given, text, tokens, report)?,
+            None => judge_text(&given, text, &tokens_of(alloc, text)?, report)?,
         }
     }
     report.end();
@@ -54,35 +58,33 @@ pub fn judge(alloc: Global, case: &Case<'_>, report: &mut Report) -> Result<(), 
 
 /// Runs a case over one of its texts.
 fn judge_text(
-    alloc: Global,
-    case: &Case<'_>,
-    given: &Given,
+    given: &Given<'_>,
     text: &str,
     tokens: &[Token],
     report: &mut Report,
 ) -> Result<(), Trouble> {
     let check = check_tokens(text, tokens);
-    match LexedStr::new(alloc, text, tokens, &given.kinds.keywords()) {
-        Ok(table) if check == Ok(()) => judge_table(alloc, case, given, &table, report),
+    match LexedStr::new(given.alloc, text, tokens, &given.vocabulary()) {
+        Ok(table) if check == Ok(()) => judge_table(given, &table, report),
         Err(TableError::OutOfMemory) => Err(Trouble::OutOfMemory),
-        Err(error) if check == Err(error) => Ok(judge_refusal(alloc, case, &error, report)?),
-        _ => Ok(report.compare(case, case.line, "one answer", "check_tokens has another")?),
+        Err(error) if check == Err(error) => Ok(judge_refusal(given, &error, report)?),
+        _ => Err(malformed(given.case.line, "check_tokens has another answer")),
     }
 }
 
 /// Compares each wanted line with the refusal, but for those of lexical errors. There must be one.
 fn judge_refusal<E: Display>(
-    alloc: Global,
-    case: &Case<'_>,
+    given: &Given<'_>,
     error: &E,
     report: &mut Report,
 ) -> Result<(), AllocError> {
-    let came = format!(in alloc; "refused {error}")?;
+    let case = given.case;
+    let came = format!(in given.alloc; "refused {error}")?;
     let mut is_wanted = false;
     for entry in &case.wanted {
         if entry.word != "lex" {
             is_wanted = true;
-            compare(alloc, case, entry, came.as_str(), report)?;
+            compare(given, entry, came.as_str(), report)?;
         }
     }
     if is_wanted {
@@ -92,151 +94,191 @@ fn judge_refusal<E: Display>(
 }
 
 fn compare(
-    alloc: Global,
-    case: &Case<'_>,
+    given: &Given<'_>,
     entry: &Entry<'_>,
     came: &str,
     report: &mut Report,
 ) -> Result<(), AllocError> {
-    let wanted = line_of(alloc, entry.word, entry.value.as_str())?;
-    report.compare(case, entry.line, wanted.as_str(), came)
+    let wanted = line_of(given.alloc, entry.word, entry.value.as_str())?;
+    report.compare(given.case, entry.line, wanted.as_str(), came)
+}
+
+/// Compares the lines of a word that a case wants with those that came.
+fn compare_all(
+    given: &Given<'_>,
+    word: &str,
+    came: &str,
+    report: &mut Report,
+) -> Result<(), AllocError> {
+    let case = given.case;
+    let wanted = wanted_lines(given.alloc, &case.wanted, word)?;
+    report.compare(case, case.line, wanted.as_str(), came)
+}
+
+/// Whether the line is one of those that are compared together.
+fn is_of_all(entry: &Entry<'_>) -> bool {
+    entry.word == "lex" || entry.word == "shown"
+}
+
+/// What the calls of a case see.
+#[derive(Clone, Copy)]
+pub struct Seen<'c> {
+    pub given: &'c Given<'c>,
+    pub table: &'c LexedStr<'c>,
+    pub input: &'c Input,
+}
+
+/// What the calls of a case gave: an output, of a grammar if it isn't the empty one.
+#[derive(Clone, Copy)]
+struct Parsed<'c> {
+    grammar: Option<&'c CaseGrammar<'c>>,
+    output: &'c Output,
 }
 
 /// Runs a case whose raw tokens are good.
 fn judge_table(
-    alloc: Global,
-    case: &Case<'_>,
-    given: &Given,
+    given: &Given<'_>,
     table: &LexedStr<'_>,
     report: &mut Report,
 ) -> Result<(), Trouble> {
-    let wanted = wanted_lines(alloc, &case.wanted)?;
-    let came = error_lines(alloc, table)?;
-    report.compare(case, case.line, wanted.as_str(), came.as_str())?;
-
-    let input = table.to_input(alloc, &given.kinds.keywords())?;
-    let operator_first = given.kinds.words(&[]).operator_first;
+    let came = error_lines(given.alloc, table)?;
+    compare_all(given, "lex", came.as_str(), report)?;
+    let input = table.to_input(given.alloc, &given.vocabulary())?;
     let seen = Seen {
+        given: &*given,
         table: &*table,
         input: &input,
-        operator_first,
     };
     if given.doings.is_empty() {
-        return judge_lines(alloc, case, &seen, None, report);
+        return judge_lines(&seen, None, report);
     }
     for doing in &given.doings {
-        judge_calls(alloc, case, doing, given.kinds, &seen, report)?;
+        judge_doing(&seen, doing, report)?;
     }
     Ok(())
 }
 
-/// Runs the calls of a case.
-fn judge_calls(
-    alloc: Global,
-    case: &Case<'_>,
-    doing: &Doing,
-    kinds: Kinds,
-    seen: &Seen<'_>,
-    report: &mut Report,
-) -> Result<(), Trouble> {
-    let names = names();
-    match grammar_of(alloc, doing, kinds, &names)? {
-        Ok(grammar) => judge_grammar(alloc, case, &grammar, seen, report),
-        Err(error) => Ok(judge_refusal(alloc, case, &error, report)?),
+/// Runs what is called.
+fn judge_doing(seen: &Seen<'_>, doing: &Doing, report: &mut Report) -> Result<(), Trouble> {
+    let given = seen.given;
+    match doing {
+        Doing::Calls(calls) => match calling(given, calls.as_str())? {
+            Ok(grammar) => judge_grammar(seen, &grammar, report),
+            Err(error) => Ok(judge_refusal(given, &error.as_str(), report)?),
+        },
+        Doing::EatWith(kind) => judge_grammar(seen, &eating(given, *kind), report),
+        Doing::Tiny => judge_grammar(seen, &tiny(given), report),
+        Doing::Empty => judge_output(seen, None, &Output::empty(given.alloc), report),
+        Doing::Sent => judge_sent(given, report),
     }
 }
 
 /// Runs the grammar of a case.
 fn judge_grammar(
-    alloc: Global,
-    case: &Case<'_>,
-    grammar: &CaseGrammar<'_>,
     seen: &Seen<'_>,
+    grammar: &CaseGrammar<'_>,
     report: &mut Report,
 ) -> Result<(), Trouble> {
-    match grammar.parse(alloc, seen.input, None)? {
-        Ok(output) => {
-            let parsed = Parsed {
-                grammar: &*grammar,
-                output: &output,
-            };
-            judge_lines(alloc, case, seen, Some(parsed), report)
-        }
-        Err(error) => Ok(judge_refusal(alloc, case, &error, report)?),
+    match grammar.parse(seen.given.alloc, seen.input, None)? {
+        Ok(output) => judge_output(seen, Some(grammar), &output, report),
+        Err(error) => Ok(judge_refusal(seen.given, &error, report)?),
     }
 }
 
-/// What the calls of a case see.
-#[derive(Clone, Copy)]
-struct Seen<'c> {
-    table: &'c LexedStr<'c>,
-    input: &'c Input,
-    operator_first: TokenSet,
-}
-
-/// What the calls of a case gave.
-#[derive(Clone, Copy)]
-struct Parsed<'c> {
-    grammar: &'c CaseGrammar<'c>,
-    output: &'c Output,
-}
-
-fn judge_lines(
-    alloc: Global,
-    case: &Case<'_>,
+/// Compares the output of a case.
+fn judge_output(
     seen: &Seen<'_>,
-    parsed: Option<Parsed<'_>>,
+    grammar: Option<&CaseGrammar<'_>>,
+    output: &Output,
     report: &mut Report,
 ) -> Result<(), Trouble> {
-    for entry in &case.wanted {
-        if entry.word == "lex" {
-            continue;
+    let given = seen.given;
+    if given.case.wants("shown") {
+        let text = shown_over(given.alloc, seen.table, output, &given.names)?;
+        compare_all(given, "shown", text.as_str(), report)?;
+    }
+    judge_lines(seen, Some(Parsed { grammar, output }), report)
+}
+
+/// Compares the steps that a case gives.
+fn judge_sent(given: &Given<'_>, report: &mut Report) -> Result<(), Trouble> {
+    let alloc = given.alloc;
+    if given.case.wants("shown") {
+        let text = shown(alloc, &given.sent, &given.names)?;
+        compare_all(given, "shown", text.as_str(), report)?;
+    }
+    let line = lines::line_of(alloc, &given.sent)?;
+    let came = line_of(alloc, "tree", line.as_str())?;
+    for entry in &given.case.wanted {
+        if !is_of_all(entry) {
+            compare(given, entry, came.as_str(), report)?;
         }
-        let line = match (seen_line(alloc, seen, entry)?, &parsed) {
-            (Some(line), _) => line,
-            (None, Some(parsed)) => came(alloc, seen, parsed, entry)?,
-            (None, None) => return Err(malformed(entry.line, "this needs calls")),
-        };
-        compare(alloc, case, entry, line.as_str(), report)?;
     }
     Ok(())
 }
 
-/// The line of an entry's word as it came, where that needs no calls.
-fn seen_line(alloc: Global, seen: &Seen<'_>, entry: &Entry<'_>) -> Result<Option<String>, Trouble> {
-    Ok(match entry.word {
-        "raw" => Some(raw_line(alloc, seen.table)?),
-        "input" => Some(input_line(alloc, seen.input)?),
-        "look" => Some(look_line(alloc, seen.input, seen.operator_first, entry)?),
-        "stands" => Some(stands_line(alloc, seen.input, seen.operator_first, entry)?),
-        _ => None,
-    })
+/// Compares each line that a case wants with the one that came.
+fn judge_lines(
+    seen: &Seen<'_>,
+    parsed: Option<Parsed<'_>>,
+    report: &mut Report,
+) -> Result<(), Trouble> {
+    for entry in &seen.given.case.wanted {
+        if is_of_all(entry) {
+            continue;
+        }
+        let line = came(seen, parsed, entry)?;
+        compare(seen.given, entry, line.as_str(), report)?;
+    }
+    Ok(())
 }
 
 /// The line of an entry's word as it came.
-fn came(
+fn came(seen: &Seen<'_>, parsed: Option<Parsed<'_>>, entry: &Entry<'_>) -> Result<String, Trouble> {
+    let alloc = seen.given.alloc;
+    match (entry.word, parsed) {
+        ("raw", _) => Ok(raw_line(alloc, seen.table)?),
+        ("table", _) => Ok(table_line(alloc, seen.table)?),
+        ("range", _) => range_line(alloc, seen.table, entry),
+        ("input", _) => Ok(input_line(alloc, seen.input)?),
+        ("look", _) => look_line(seen, entry),
+        ("stands", _) => stands_line(seen, entry),
+        (_, Some(parsed)) => came_of(seen, &parsed, entry),
+        (_, None) => Err(malformed(entry.line, "this needs calls")),
+    }
+}
+
+/// The same of a word that is of an output.
+fn came_of(seen: &Seen<'_>, parsed: &Parsed<'_>, entry: &Entry<'_>) -> Result<String, Trouble> {
+    let alloc = seen.given.alloc;
+    let Parsed { grammar, output } = *parsed;
+    match (entry.word, grammar) {
+        ("tree", _) => Ok(format!(in alloc; "tree {}", sent(alloc, seen.table, output)?.as_str())?),
+        ("unfit", _) => Ok(sent(alloc, seen.table, output)?),
+        ("over", _) => over(alloc, entry, output),
+        ("steps", _) => Ok(steps(alloc, output)?),
+        ("refused", _) => Ok(String::from_str(alloc, "no refusal")?),
+        ("turns", _) => count(alloc, entry, output.turns()),
+        ("recorded", None) => count(alloc, entry, u64::from(output.recorded())),
+        ("recorded", Some(grammar)) => recorded(alloc, seen.input, grammar, output, entry),
+        ("within", Some(grammar)) => within(alloc, grammar, seen.input, entry),
+        _ => Err(malformed(entry.line, "nothing like this is wanted")),
+    }
+}
+
+/// The line of how many events a grammar recorded, if no lower limits are enough.
+fn recorded(
     alloc: Global,
-    seen: &Seen<'_>,
-    parsed: &Parsed<'_>,
+    input: &Input,
+    grammar: &CaseGrammar<'_>,
+    output: &Output,
     entry: &Entry<'_>,
 ) -> Result<String, Trouble> {
-    let Parsed { grammar, output } = *parsed;
-    match entry.word {
-        "tree" => Ok(format!(in alloc; "tree {}", sent(alloc, seen.table, output)?.as_str())?),
-        "unfit" => Ok(sent(alloc, seen.table, output)?),
-        "over" => over(alloc, entry, output),
-        "steps" => Ok(steps(alloc, output)?),
-        "refused" => Ok(String::from_str(alloc, "no refusal")?),
-        "recorded" => {
-            let recorded = u64::from(output.recorded());
-            if !is_refused_below(alloc, grammar, seen.input, output)? {
-                return Ok(format!(in alloc; "recorded {recorded}, and otherwise within limits")?);
-            }
-            count(alloc, entry, recorded)
-        }
-        "turns" => count(alloc, entry, output.turns()),
-        "within" => within(alloc, grammar, seen.input, entry),
-        _ => Err(malformed(entry.line, "nothing like this is wanted")),
+    let recorded = output.recorded();
+    if is_refused_below(alloc, grammar, input, output)? {
+        count(alloc, entry, u64::from(recorded))
+    } else {
+        Ok(format!(in alloc; "recorded {recorded}, and otherwise within limits")?)
     }
 }
 

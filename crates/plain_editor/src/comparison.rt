@@ -6,9 +6,8 @@ use crate::editor::edit;
 use crate::generator::{Random, Sample};
 use crate::source::Source;
 use crate::trivia::{Sent, send, stands_in_one_root};
-use crate::words::words;
+use crate::words::{NAMES, words};
 use row_fixtures::keywords::KEYWORDS;
-use row_fixtures::rows::names;
 use row_fixtures::sent::sent_over_table;
 use squawk_parser::{EntryPoint, LexedStr, Output, Step};
 use squawk_script::{Script, ScriptError};
@@ -38,12 +37,11 @@ pub fn compare(
 ) -> Result<Option<String>, AllocError> {
     let mut again = *random;
     let sample = Sample::new(alloc, random)?;
-    let names = names();
     let source = Source::new(alloc, &sample.pieces)?;
     let draft = edit(
         alloc,
         &source.tokens,
-        words(sample.operators, &names),
+        words(sample.operators, &NAMES),
         &sample.calls,
     )?;
     counts.note(&sample.calls, &draft);
@@ -53,7 +51,7 @@ pub fn compare(
         calls,
         ..
     } = sample;
-    let script = Script::new(alloc, calls, words(operators, &names));
+    let script = Script::new(alloc, calls, words(operators, &NAMES));
     match judge(alloc, &source, script, &told)? {
         None => Ok(None),
         Some(difference) => {

@@ -6,6 +6,7 @@ use crate::kinds::kind_named;
 use squawk_parser::{SyntaxKind, Text, TokenSet};
 use squawk_script::Call;
 use std::alloc::{AllocError, Global};
+use std::fmt;
 
 /// Why a text has no calls.
 #[derive(Clone, Copy, Debug, PartialEq, Eq)]
@@ -18,6 +19,15 @@ pub enum CallListError {
 impl From<AllocError> for CallListError {
     fn from(_e: AllocError) -> CallListError {
         CallListError::OutOfMemory
+    }
+}
+
+impl fmt::Display for CallListError {
+    fn fmt<W: fmt::Write>(&self, f: &mut fmt::Formatter<W>) -> fmt::Result {
+        match *self {
+            CallListError::OutOfMemory => write!(f, "memory"),
+            CallListError::NoCall { index } => write!(f, "no call {index}"),
+        }
     }
 }
 
@@ -115,7 +125,7 @@ fn number(word: &str) -> Option<u32> {
 }
 
 /// The set of one kind. A kind that no set has makes it empty.
-fn set_of(kind: SyntaxKind) -> TokenSet {
+pub fn set_of(kind: SyntaxKind) -> TokenSet {
     if u16::from(kind) < 640 {
         TokenSet::new(&[kind])
     } else {

@@ -39,9 +39,9 @@ pub const MESSAGE_KW: u16 = 201;
 pub const RAISE_KW: u16 = 202;
 
 // Kinds of nodes that tell an answer.
-pub const YES: u16 = 750;
+pub const YES: u16 = NAME;
 
-pub const NO: u16 = 751;
+pub const NO: u16 = NAME_REF;
 
 /// A name and its kind.
 type Named = (&'static str, SyntaxKind);
@@ -79,11 +79,10 @@ const COMPOSITES: [Named; 26] = constants![
 ];
 
 #[rattlefmt::skip]
-static NUMBERS: [(&str, u16); 19] = numbers![
+static NUMBERS: [(&str, u16); 17] = numbers![
     ROOT NAME NAME_REF CALL FIELD BINARY PATH PAREN
     SOURCE_FILE SELECT SELECT_CLAUSE TARGET_LIST TARGET LITERAL
     SELECT_KW MESSAGE_KW RAISE_KW
-    YES NO
 ];
 
 // A table is written out in one function alone: wherever it stands, the check takes the square of its
@@ -117,10 +116,10 @@ fn kind_in(table: &[Named], name: &str) -> Option<SyntaxKind> {
 
 /// The name of a kind that has one here.
 pub fn name_of(kind: SyntaxKind) -> Option<&'static str> {
-    name_in(&tokens(), kind)
+    name_of_number(u16::from(kind))
+        .or_else(|| name_in(&tokens(), kind))
         .or_else(|| name_in(&keywords(), kind))
         .or_else(|| name_in(&composites(), kind))
-        .or_else(|| name_of_number(u16::from(kind)))
 }
 
 fn name_of_number(kind: u16) -> Option<&'static str> {
@@ -132,10 +131,10 @@ fn name_of_number(kind: u16) -> Option<&'static str> {
 
 /// The kind that has the name.
 pub fn kind_named(name: &str) -> Option<SyntaxKind> {
-    kind_in(&tokens(), name)
+    kind_of_number(name)
+        .or_else(|| kind_in(&tokens(), name))
         .or_else(|| kind_in(&keywords(), name))
         .or_else(|| kind_in(&composites(), name))
-        .or_else(|| kind_of_number(name))
 }
 
 fn kind_of_number(name: &str) -> Option<SyntaxKind> {

@@ -68,6 +68,15 @@ fn kind_of(c: char) -> TokenKind {
         '*' => TokenKind::Star,
         '(' => TokenKind::OpenParen,
         ')' => TokenKind::CloseParen,
+        '/' => TokenKind::Slash,
+        '~' => TokenKind::Tilde,
+        '#' => TokenKind::Pound,
+        '%' => TokenKind::Percent,
+        '^' => TokenKind::Caret,
+        '&' => TokenKind::And,
+        '|' => TokenKind::Or,
+        '`' => TokenKind::Backtick,
+        '?' => TokenKind::Question,
         _ => TokenKind::Unknown,
     }
 }

@@ -2,20 +2,31 @@
 ghost use Rattle.std.specs.Prelude.{◌≡◌, ◌≢◌};
 ghost use Rattle.squawk_kinds.specs.Kinds.{TOMBSTONE};
 ghost use Rattle.squawk_output.specs.Draft.{HasNoHole};
-ghost use Rattle.squawk_parser.specs.State.{HasNotFailed, Keeps};
+ghost use Rattle.squawk_parser.specs.State.{HasNotFailed, IsSound, Keeps};
 
+use crate::call_list::set_of;
 use crate::notes::{note, yes_or_no};
 use crate::words::without_end;
 use squawk_parser::{Grammar, Parser, Part, SyntaxKind, TokenSet, Words};
 use std::alloc::AllocError;
 
-/// A look.
+/// A look. A place is counted from the position.
 #[derive(Clone, Copy)]
 pub enum Look {
-    /// Whether the kind, which may be a composite one, stands so many places ahead.
+    /// The kind of the current token.
+    Current,
+    /// The kind at a place.
+    Kind(usize),
+    /// The contextual kind at a place.
+    ContextualKind(usize),
+    /// Whether the kind, which may be a composite one, stands at the place.
     At(usize, u16),
-    /// Whether the token so many places ahead has the kind.
-    Kind(usize, u16),
+    /// Whether the kind at the place is in the set of this kind.
+    AtSet(usize, u16),
+    /// Whether the contextual kind at the place is this one.
+    AtContextualKeyword(usize, u16),
+    /// Whether the contextual kind at the place is in the set of this kind.
+    AtContextualSet(usize, u16),
     /// How long the operator at the position is.
     OpLen,
     /// Whether no operator joins the current token and the next.
@@ -23,15 +34,33 @@ pub enum Look {
 }
 
 impl Look {
-    /// The kind of the node that tells the answer: yes, no, or a length.
+    /// The kind of the node that tells the answer: `YES` or `NO`, 720 and a length, or the kind itself.
     fn answer(self, p: &Parser<'_>) -> u16
         ensures { result ≢ TOMBSTONE }
     {
         match self {
-            Look::At(n, kind) => yes_or_no(stands(p, n, SyntaxKind::from(kind))),
-            Look::Kind(n, kind) => yes_or_no(p.nth(n) == SyntaxKind::from(kind)),
+            Look::Current => telling(p.current()),
+            Look::Kind(n) => telling(p.nth(n)),
+            Look::ContextualKind(n) => telling(p.nth_contextual_kind(n)),
             Look::OpLen => length(p.op_len()),
-            Look::NextNotJoinedOp => yes_or_no(p.next_not_joined_op()),
+            _ => yes_or_no(self.holds(p)),
+        }
+    }
+
+    /// Whether what is asked holds.
+    fn holds(self, p: &Parser<'_>) -> bool {
+        match self {
+            Look::At(0, kind) => p.at(SyntaxKind::from(kind)),
+            Look::At(n, kind) => p.nth_at(n, SyntaxKind::from(kind)),
+            Look::AtSet(0, kind) => p.at_ts(set_of(SyntaxKind::from(kind))),
+            Look::AtSet(n, kind) => p.nth_at_ts(n, set_of(SyntaxKind::from(kind))),
+            Look::AtContextualKeyword(0, kind) => p.at_contextual_kw(SyntaxKind::from(kind)),
+            Look::AtContextualKeyword(n, kind) => p.nth_at_contextual_kw(n, SyntaxKind::from(kind)),
+            Look::AtContextualSet(n, kind) => {
+                p.nth_at_contextual_ts(n, set_of(SyntaxKind::from(kind)))
+            }
+            Look::NextNotJoinedOp => p.next_not_joined_op(),
+            _ => false,
         }
     }
 }
@@ -49,12 +78,14 @@ impl Part for Look {
     }
 }
 
-/// Whether the kind stands so many places ahead.
-fn stands(p: &Parser<'_>, n: usize, kind: SyntaxKind) -> bool {
-    if n == 0 {
-        p.at(kind)
+/// The kind of the node that tells a kind. No node has the kind of a tombstone.
+fn telling(kind: SyntaxKind) -> u16
+    ensures { result ≢ TOMBSTONE }
+{
+    if kind == SyntaxKind::TOMBSTONE {
+        u16::from(SyntaxKind::ERROR)
     } else {
-        p.nth_at(n, kind)
+        u16::from(kind)
     }
 }
 
@@ -62,55 +93,54 @@ fn stands(p: &Parser<'_>, n: usize, kind: SyntaxKind) -> bool {
 pub fn length(len: usize) -> u16
     ensures { result ≢ TOMBSTONE }
 {
-    if len < 10 { 720 + len as u16 } else { 739 }
+    if len < 60000 {
+        720 + len as u16
+    } else {
+        u16::MAX
+    }
 }
 
-/// A look, and the limit under which it is answered.
+/// A look, how many tokens are eaten before it, and the limit under which it is answered.
 #[derive(Clone, Copy)]
 pub struct Question {
-    limit: Option<usize>,
-    look: Look,
+    pub behind: usize,
+    pub limit: Option<usize>,
+    pub look: Look,
 }
 
-/// The look without a limit.
+/// The look at the position, without a limit.
 pub fn ask(look: Look) -> Question {
-    Question { limit: None, look }
-}
-
-/// The look of a part that sees so many tokens.
-pub fn ask_under(limit: usize, look: Look) -> Question {
     Question {
-        limit: Some(limit),
+        behind: 0,
+        limit: None,
         look,
     }
 }
 
-/// Whether the kind stands at the position under the limit.
-pub fn at_under(limit: usize, kind: SyntaxKind) -> Question {
-    ask_under(limit, Look::At(0, u16::from(kind)))
-}
-
-/// Whether the kind stands at the position.
-pub fn at(kind: SyntaxKind) -> Question {
-    ask(Look::At(0, u16::from(kind)))
-}
-
-/// Whether the kind stands so many places ahead.
-pub fn nth_at(n: usize, kind: SyntaxKind) -> Question {
-    ask(Look::At(n, u16::from(kind)))
-}
-
 impl Question {
     fn tell(self, p: &mut Parser<'_>)
+        requires { IsSound p.old }
         ensures keeps { Keeps p.old p.new }
         ensures went { HasNotFailed p.new → HasNotFailed p.old }
         ensures closed { HasNoHole p.old.draft.items → HasNotFailed p.new → HasNoHole p.new.draft.items }
     {
+        skip(p, self.behind);
         let kind = match self.limit {
             Some(limit) => p.with_limit(limit, self.look),
             None => self.look.answer(p),
         };
         note(p, kind);
+    }
+}
+
+/// Eats so many tokens.
+fn skip(p: &mut Parser<'_>, count: usize)
+    requires { IsSound p.old }
+    ensures keeps { Keeps p.old p.new }
+    ensures closed { HasNoHole p.old.draft.items → HasNotFailed p.new → HasNoHole p.new.draft.items }
+{
+    for _ in 0..count {
+        p.bump_any();
     }
 }
 

@@ -26,17 +26,3 @@ pub fn note(p: &mut Parser<'_>, kind: u16)
         let _ = p.start().complete(p, SyntaxKind::ERROR);
     }
 }
-
-/// Completes three empty nodes of these kinds.
-pub fn note_three(p: &mut Parser<'_>, first: u16, second: u16, third: u16)
-    requires first { first ≢ TOMBSTONE }
-    requires second { second ≢ TOMBSTONE }
-    requires third { third ≢ TOMBSTONE }
-    ensures keeps { Keeps p.old p.new }
-    ensures went { HasNotFailed p.new → HasNotFailed p.old }
-    ensures closed { HasNoHole p.old.draft.items → HasNotFailed p.new → HasNoHole p.new.draft.items }
-{
-    note(p, first);
-    note(p, second);
-    note(p, third);
-}

@@ -1,15 +1,8 @@
 //! The steps of an output to compare with.
 
 use crate::lines::push_step;
-use squawk_parser::{Output, Step, Steps, SyntaxKind};
+use squawk_parser::{Output, Steps};
 use std::alloc::{AllocError, Global};
-
-/// The beginning of a node.
-pub fn enter(kind: u16) -> Step<'static> {
-    Step::Enter {
-        kind: SyntaxKind::from(kind),
-    }
-}
 
 /// The steps of an output.
 #[derive(Drop)]

@@ -1,4 +1,4 @@
-//! Parts of grammars that make calls, and grammars that are put together from them.
+//! A grammar that eats a kind with a tail.
 ghost use Rattle.std.specs.Prelude.{◌≡◌};
 ghost use Rattle.squawk_output.specs.Draft.{holes_of};
 ghost use Rattle.squawk_parser.specs.State.{HasNotFailed, IsSound, Keeps};
@@ -7,52 +7,6 @@ use crate::kinds::ROOT;
 use crate::words::without_end;
 use squawk_parser::{Grammar, Parser, Part, SyntaxKind, TokenSet, Words, has_tail};
 use std::alloc::AllocError;
-
-/// A call without a marker. A kind that the call doesn't take makes it do nothing.
-#[derive(Clone, Copy)]
-pub enum Act {
-    BumpAny,
-    /// With the current token as its tail.
-    EatWith(SyntaxKind),
-    Expect(SyntaxKind),
-    /// With the error `m`.
-    ErrAndBump,
-}
-
-impl Part for Act {
-    type Answer = ();
-
-    ghost does = { λ _ _ _ _. Unit {0} };
-
-    fn run(self, p: &mut Parser<'_>) {
-        match self {
-            Act::BumpAny => p.bump_any(),
-            Act::EatWith(kind) => eat_with(p, kind),
-            Act::Expect(kind) => expect(p, kind),
-            Act::ErrAndBump => p.err_and_bump("m"),
-        }
-    }
-}
-
-fn eat_with(p: &mut Parser<'_>, kind: SyntaxKind)
-    requires { IsSound p.old }
-    ensures keeps { Keeps p.old p.new }
-    ensures holes { HasNotFailed p.new → holes_of p.new.draft.items ≡ holes_of p.old.draft.items }
-{
-    if has_tail(kind) {
-        p.eat_with(kind, CurrentToken);
-    }
-}
-
-fn expect(p: &mut Parser<'_>, kind: SyntaxKind)
-    requires { IsSound p.old }
-    ensures keeps { Keeps p.old p.new }
-    ensures holes { HasNotFailed p.new → holes_of p.new.draft.items ≡ holes_of p.old.draft.items }
-{
-    if kind != SyntaxKind::EOF && !has_tail(kind) {
-        p.expect(kind);
-    }
-}
 
 /// The current token.
 #[derive(Clone, Copy)]
@@ -68,78 +22,38 @@ impl Part for CurrentToken {
     }
 }
 
-/// A node around a part. A kind that no node may have counts as `ROOT`.
-#[derive(Clone, Copy)]
-pub struct Around<F> {
-    kind: u16,
-    inner: F,
-}
-
-pub fn node<F>(kind: u16, inner: F) -> Around<F> {
-    Around { kind, inner }
-}
-
-impl<F: Part<Answer = ()>> Part for Around<F> {
-    type Answer = ();
-
-    ghost does = { λ _ _ _ _. Unit {0} };
-
-    fn run(self, p: &mut Parser<'_>) {
-        let Around { kind, inner } = self;
-        let kind = if kind == 1 { ROOT } else { kind };
-        let marker = p.start();
-        inner.run(p);
-        let _ = marker.complete(p, SyntaxKind::from(kind));
+/// Eats the kind, with the current token as its tail. A kind without a tail isn't eaten.
+fn eat_with(p: &mut Parser<'_>, kind: SyntaxKind)
+    requires { IsSound p.old }
+    ensures keeps { Keeps p.old p.new }
+    ensures holes { HasNotFailed p.new → holes_of p.new.draft.items ≡ holes_of p.old.draft.items }
+{
+    if has_tail(kind) {
+        p.eat_with(kind, CurrentToken);
     }
 }
 
-/// A part, and then another.
+/// A root in which the kind is eaten.
+fn eat_in_root(p: &mut Parser<'_>, kind: SyntaxKind)
+    requires { IsSound p.old }
+    ensures keeps { Keeps p.old p.new }
+    ensures holes { HasNotFailed p.new → holes_of p.new.draft.items ≡ holes_of p.old.draft.items }
+{
+    let root = p.start();
+    eat_with(p, kind);
+    let _ = root.complete(p, SyntaxKind::from(ROOT));
+}
+
+/// A root in which a kind is eaten that has a tail. A set of operators' kinds that has the end counts as
+/// the empty one.
 #[derive(Clone, Copy)]
-pub struct InOrder<F, G> {
-    first: F,
-    second: G,
+pub struct EatingWith<'t> {
+    pub operator_first: TokenSet,
+    pub names: &'t [(SyntaxKind, &'t str)],
+    pub kind: SyntaxKind,
 }
 
-pub fn then<F, G>(first: F, second: G) -> InOrder<F, G> {
-    InOrder { first, second }
-}
-
-impl<F: Part<Answer = ()>, G: Part<Answer = ()>> Part for InOrder<F, G> {
-    type Answer = ();
-
-    ghost does = { λ _ _ _ _. Unit {0} };
-
-    fn run(self, p: &mut Parser<'_>) {
-        let InOrder { first, second } = self;
-        first.run(p);
-        second.run(p);
-    }
-}
-
-/// A grammar whose entry points run a part. A set of operators' kinds that has the end counts as the
-/// empty one.
-#[derive(Clone, Copy)]
-pub struct PartGrammar<'t, F> {
-    operator_first: TokenSet,
-    names: &'t [(SyntaxKind, &'t str)],
-    part: F,
-}
-
-impl<'t, F> PartGrammar<'t, F> {
-    pub fn new(words: Words<'t>, part: F) -> PartGrammar<'t, F> {
-        let Words {
-            operator_first,
-            names,
-        } = words;
-        PartGrammar {
-            operator_first,
-            names,
-            part,
-        }
-    }
-}
-
-impl<'t, F: Part<Answer = ()> + Copy> Grammar for PartGrammar<'t, F> {
+impl<'t> Grammar for EatingWith<'t> {
     ghost use Rattle.std.specs.Prelude.{if◌then◌else◌, map};
     ghost use Rattle.squawk_kinds.specs.Kinds.{EOF};
     ghost use Rattle.squawk_kinds.specs.TokenSets.{has, no_kinds};
@@ -158,12 +72,11 @@ impl<'t, F: Part<Answer = ()> + Copy> Grammar for PartGrammar<'t, F> {
     }
 
     fn entry_point(&self, p: &mut Parser<'_>) -> Result<(), AllocError> {
-        self.part.run(p);
+        eat_in_root(p, self.kind);
         Ok(())
     }
 
     fn plpgsql_entry_point(&self, p: &mut Parser<'_>) -> Result<(), AllocError> {
-        self.part.run(p);
-        Ok(())
+        self.entry_point(p)
     }
 }

@@ -1,8 +1,7 @@
 //! Scripts of the calls of a text.
 
 use crate::call_list::calls_of;
-use crate::keywords::NO_KEYWORDS;
-use crate::rows::{Kinds, LIMITS, names, parse_within};
+use crate::keywords::Keywords;
 use crate::words::no_words;
 use squawk_parser::{EntryPoint, LexedStr, Output};
 use squawk_script::Script;
@@ -14,22 +13,14 @@ pub fn script_of(alloc: Global, calls: &str) -> Result<Script<'static>, Fail> {
     Ok(Script::new(alloc, calls_of(alloc, calls)?, no_words())?)
 }
 
-/// The output of the script of the calls over a table.
-pub fn parse_script(alloc: Global, table: &LexedStr<'_>, calls: &str) -> Result<Output, Fail> {
-    let input = table.to_input(alloc, &NO_KEYWORDS)?;
-    let script = script_of(alloc, calls)?;
-    Ok(EntryPoint::SourceFile.parse(alloc, &input, &script)?)
-}
-
-/// The output of the script of the calls over a text.
-pub fn script_output_of(
+/// The output of the script of the calls over a table with these keywords.
+pub fn parse_script(
     alloc: Global,
-    text: &str,
-    kinds: Kinds,
+    table: &LexedStr<'_>,
+    keywords: &Keywords<'_>,
     calls: &str,
 ) -> Result<Output, Fail> {
-    let names = names();
-    let script = Script::new(alloc, calls_of(alloc, calls)?, kinds.words(&names))?;
-    let answer = parse_within(alloc, text, kinds, &script, LIMITS)?;
-    Ok(answer?)
+    let input = table.to_input(alloc, keywords)?;
+    let script = script_of(alloc, calls)?;
+    Ok(EntryPoint::SourceFile.parse(alloc, &input, &script)?)
 }

@@ -1,11 +1,8 @@
 //! Outputs sent over texts.
 
-use crate::lexer::tokens_of;
 use crate::lines::whole_line_of;
-use crate::tokens::table;
 use squawk_parser::{LexedStr, Output, OwnedStep, StepList, StrStep};
 use std::alloc::{AllocError, Global};
-use std::test::Fail;
 
 /// What was sent of an output over a text.
 #[derive(Drop)]
@@ -14,13 +11,6 @@ pub struct Sent {
     pub line: String,
     /// Whether the iterator over the output gives the steps of that list.
     pub is_given: bool,
-}
-
-/// What is sent of the output over the text, if it fits.
-pub fn sent_over(alloc: Global, output: &Output, text: &str) -> Result<Option<Sent>, Fail> {
-    let tokens = tokens_of(alloc, text)?;
-    let table = table(alloc, text, &tokens)?;
-    Ok(sent_over_table(alloc, &table, output)?)
 }
 
 /// What is sent of the output over the table, if it fits.

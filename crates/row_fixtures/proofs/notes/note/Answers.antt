@@ -1,5 +1,4 @@
-use Rattle.std.proofs.Common.{◌∙◌, [], ◌∷◌}
-use Rattle.squawk_output.specs.Draft.{Hole}
+use Rattle.std.proofs.Common.{◌∙◌, []}
 use Rattle.squawk_output.specs.declared.log.Made.TheVariants.{ByStart}
 use Rattle.squawk_parser.proofs.Holes.{none_open, HasNoHole-none_open, HasHoles-start, HasHoles-complete, without-one}
 use Rattle.row_fixtures.proofs.notes.note.Goals as goal

@@ -1,5 +1,0 @@
-//! What the tests share.
-
-pub mod memory;
-pub mod output;
-pub mod sent;

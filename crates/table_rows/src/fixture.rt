@@ -1,3 +1,0 @@
-//! What the tests share.
-
-pub mod text;
