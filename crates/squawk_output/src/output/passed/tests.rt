@@ -1,7 +1,9 @@
 //! The words of steps, worked out by their layout: the kind above four hexadecimal digits, then two
 //! digits with the number of input tokens, one with the tag, and a 1.
 
-use crate::output::passed::PassedSteps;
+ghost use Rattle.std.specs.Prelude.{◌≡◌, None};
+
+use crate::event::{Event, process};
 use crate::output::stored::StoredStep;
 use crate::output::text::Text;
 use squawk_kinds::SyntaxKind;
@@ -36,25 +38,35 @@ fn token_of_three_has_its_word(rt: HostRuntime) {
     assert_eq!(rt; long_arrow.pack(), 0x00350301);
 }
 
+/// The start of a node of this kind, without a link.
+fn start(kind: u16) -> Event
+    ensures { result ≡ Event.Start kind None }
+{
+    Event::Start {
+        kind: SyntaxKind(kind),
+        forward_parent: None,
+    }
+}
+
 #[test]
 fn an_output_has_a_word_for_each_step(rt: HostRuntime) -> Result<(), Fail> {
-    let mut errors = Vec::new(rt.alloc());
-    errors.push(Text::new(String::from_str(rt.alloc(), "first")?))?;
-    errors.push(Text::new(String::from_str(rt.alloc(), "second")?))?;
-    let mut passed = PassedSteps::with_capacity(rt.alloc(), 7, errors)?;
-    passed.enter_node(SyntaxKind::from(700u16))?;
-    passed.enter_node(SyntaxKind::from(701u16))?;
-    passed.token(SyntaxKind::IDENT, 1)?;
-    passed.leave_node()?;
-    passed.error(0)?;
-    passed.leave_node()?;
-    passed.error(1)?;
-    let words = [
-        0x02bc0011, 0x02bd0011, 0x00030101, 0x00000021, 0x00000000, 0x00000021, 0x00000002,
+    let msg = Text::new(String::from_str(rt.alloc(), "e")?);
+    let ident = Event::Token {
+        kind: SyntaxKind::IDENT,
+        n_raw_tokens: 1,
+    };
+    let events = vec![in rt.alloc();
+        start(700),
+        start(701),
+        ident,
+        Event::Finish,
+        Event::Error { msg },
+        Event::Finish,
+    ]?;
+    let output = process(rt.alloc(), events, 6)?;
+    let wanted = [
+        0x02bc0011, 0x02bd0011, 0x00030101, 0x00000021, 0x00000000, 0x00000021,
     ];
-    assert_eq!(rt; passed.words.len(), 7);
-    for (i, (word, wanted)) in passed.words.iter().zip(&words).enumerate() {
-        assert_eq!(rt; *word, *wanted, "word {i}");
-    }
+    assert_eq!(rt; output.passed.words.as_slice(), wanted.as_slice());
     Ok(())
 }
