@@ -209,7 +209,7 @@ def keywords(n):
 
 
 def colliding(n):
-    """n keywords with one hash, by the standard library's hash, whose seed is fixed: an ordered map isn't slower for them."""
+    """n keywords with one hash, by the standard library's hash, whose seed is fixed."""
     beginning = beginning_of_one_hash()
     pairs = [f'["{beginning}{i:08}",{200 + i % 400}]' for i in range(n)]
     lines = {"enter": 1, "token": 1, "exit": 1, "all": 1}
@@ -240,9 +240,8 @@ def expects(n):
 
 LINEAR = (
     words, nodes, precedes, errors, nesting, abandoned, extended, extended_newest, crossing, strings, comments, escapes, controls, digits,
-    number, great_number, members, unspent, operator, signs, signs_of_tiny, arrow_looks, arrows, operators, keywords,
-    colliding)
-OTHERS = (expects,)
+    number, great_number, members, unspent, operator, signs, signs_of_tiny, arrow_looks, arrows, operators, keywords)
+OTHERS = (expects, colliding)
 SIZES = {**{shape.__name__: 1000000 for shape in LINEAR}, **{shape.__name__: 20000 for shape in OTHERS}}
 SECONDS = 300
 

@@ -1,5 +1,5 @@
 -- What a vocabulary of two lists of words answers.
-use Rattle.std.specs.BTreeMap.{get_by_text}
+use Rattle.std.specs.HashMap.{get_by_text}
 use Rattle.squawk_kinds.specs.TokenSets.{has}
 use Rattle.squawk_document.specs.declared.keyword_lists.KeywordLists.{KeywordLists}
 use Rattle.squawk_document.specs.KeywordPairs.{VocabularyAnswers}

@@ -1,6 +1,6 @@
 //! Words with their kinds.
 ghost use Rattle.std.specs.Prelude.{◌≡◌, ℕ, ◌||◌, List, [], ◌∷◌, Some, None, false, IfOk, IfSome, OnOk, OnErr, if◌then◌else◌};
-ghost use Rattle.std.specs.BTreeMap.{IsUnchanged, get_by_text};
+ghost use Rattle.std.specs.HashMap.{IsUnchanged, get_by_text};
 ghost use Rattle.std.specs.Option.{option_or};
 ghost use Rattle.std.specs.Str.{bytes_eq};
 ghost use Rattle.std.proofs.Props.{props};
@@ -17,12 +17,12 @@ use crate::word_places::WordPlaces;
 use serde_json::Value;
 use squawk_kinds::{SyntaxKind, TokenSet};
 use std::alloc::{AllocError, Global};
-use std::collections::BTreeMap;
+use std::collections::HashMap;
 
 /// Words, each with the kind of a keyword, and the set of these kinds.
 #[derive(Drop)]
 pub struct KeywordList {
-    kinds: BTreeMap<String, SyntaxKind>,
+    kinds: HashMap<String, SyntaxKind>,
     set: TokenSet,
     places: WordPlaces,
     ghost keywords: { (text : List ℕ) → IfSome (get_by_text kinds text) IsKeyword } by { Prim.hlevel props },
@@ -30,16 +30,17 @@ pub struct KeywordList {
 }
 
 impl KeywordList {
-    /// No words.
-    fn new(alloc: Global) -> KeywordList
-        ensures kinds { (text : List ℕ) → get_by_text result.kinds text ≡ None }
-        ensures set { (kind : ℕ) → has result.set kind ≡ false }
+    /// No words, with room for this many.
+    fn with_capacity(alloc: Global, words: usize) -> Result<KeywordList, AllocError>
+        ensures kinds { IfOk result (λ list. (text : List ℕ) → get_by_text list.kinds text ≡ None) }
+        ensures set { IfOk result (λ list. (kind : ℕ) → has list.set kind ≡ false) }
     {
-        KeywordList {
-            kinds: BTreeMap::new(alloc),
+        let kinds = HashMap::with_capacity(alloc, words)?;
+        Ok(KeywordList {
+            kinds,
             set: TokenSet::EMPTY,
             places: WordPlaces::FREE,
-        }
+        })
     }
 
     /// Adds the kind of a word. A word that is there keeps its kind.
@@ -84,7 +85,7 @@ impl KeywordList {
 
 /// Puts the kind of a word where it has none.
 fn put_first(
-    kinds: &mut BTreeMap<String, SyntaxKind>,
+    kinds: &mut HashMap<String, SyntaxKind>,
     alloc: Global,
     word: &str,
     kind: SyntaxKind,
@@ -130,7 +131,7 @@ pub fn keyword_list(alloc: Global, value: &Value) -> Result<KeywordList, Documen
     ensures { Gives (λ list. record { kind_of = get_by_text list.kinds; kinds = has list.set }) result (list_answered (keyword_list_in (view value.now))) }
 {
     let items = value::items(value)?;
-    let mut list = KeywordList::new(alloc);
+    let mut list = KeywordList::with_capacity(alloc, items.len())?;
     for item in items {
         let (word, kind) = keyword(item)?;
         list.add(alloc, word, SyntaxKind::from(kind))?;

@@ -35,7 +35,7 @@ pub fn vocabulary(alloc: Global, value: &Value) -> Result<KeywordLists, Document
 }
 
 impl Vocabulary for KeywordLists {
-    ghost use Rattle.std.specs.BTreeMap.{get_by_text};
+    ghost use Rattle.std.specs.HashMap.{get_by_text};
     ghost use Rattle.squawk_kinds.specs.TokenSets.{no_kinds};
 
     ghost keyword = { λ v text. get_by_text v.keywords.kinds text };

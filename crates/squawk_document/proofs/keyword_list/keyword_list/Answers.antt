@@ -1,5 +1,5 @@
 use Rattle.std.proofs.Common.{◌∙◌, sym, ap, Ok, arith}
-use Rattle.std.specs.BTreeMap.{get_by_text}
+use Rattle.std.specs.HashMap.{get_by_text}
 use Rattle.squawk_kinds.specs.TokenSets.{has}
 use Rattle.squawk_document.specs.KeywordPairs.{ListAnswers, keyword_in}
 use Rattle.squawk_document.proofs.ReadingLemmas.{each-item}

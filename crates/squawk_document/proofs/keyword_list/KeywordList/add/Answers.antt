@@ -1,4 +1,4 @@
-use Rattle.std.specs.BTreeMap.{get_by_text}
+use Rattle.std.specs.HashMap.{get_by_text}
 use Rattle.std.specs.Str.{bytes_eq}
 use Rattle.squawk_document.proofs.KeywordPairLemmas.{keyword_more}
 use Rattle.squawk_document.proofs.WordPlaceLemmas.{taken_more}
