@@ -1,1 +1,3 @@
 pub mod Separators
+pub mod Reading
+pub mod Written

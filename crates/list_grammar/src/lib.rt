@@ -10,12 +10,13 @@
 #[cfg(test)]
 mod tests;
 
-ghost use Rattle.std.specs.Prelude.{◌≡◌, ◌≢◌, ◌<◌, ◌==◌, ◌||◌, List, false};
-ghost use Rattle.squawk_kinds.specs.Kinds.{EOF, L_PAREN, R_PAREN};
+ghost use Rattle.std.specs.Prelude.{◌≡◌, ◌≢◌, ◌<◌, ◌==◌, ◌||◌, ◌∷◌, ℕ, List, drop, false};
+ghost use Rattle.squawk_kinds.specs.Kinds.{COMMA, EOF, L_PAREN, R_PAREN};
 ghost use Rattle.squawk_kinds.specs.TokenSets.{has};
 ghost use Rattle.squawk_output.specs.Steps.{Step};
 ghost use Rattle.squawk_parser.specs.Recorded.{Puts};
 ghost use Rattle.squawk_parser.specs.State.{IsSound, kind_at};
+ghost use Rattle.list_grammar.specs.Trees.{Item, list, Items, Reads, kinds_of, with_commas};
 
 use squawk_parser::{
     EntryPoint, Grammar, NoKeywords, ParseWholeError, Parser, Sent, StepList, SyntaxKind, Token,
@@ -39,10 +40,10 @@ pub struct Lists<'n> {
 impl<'n> Grammar for Lists<'n> {
     ghost use Rattle.std.specs.Prelude.{map};
     ghost use Rattle.squawk_kinds.specs.TokenSets.{no_kinds};
-    ghost use Rattle.squawk_parser.specs.Whole.{IsWholeFile};
+    ghost use Rattle.list_grammar.specs.Trees.{IsFile};
 
-    // One node over all tokens.
-    ghost leaves = { λ _ _ input draft. IsWholeFile input draft };
+    // One node over all tokens, and of well-formed lists exactly their tree.
+    ghost leaves = { λ _ _ input draft. IsFile input draft };
 
     ghost runs = { λ _ _ _ _. Unit {0} };
 
@@ -71,7 +72,7 @@ impl<'n> Grammar for Lists<'n> {
 }
 
 impl<'n> WholeGrammar for Lists<'n> {
-    ghost leaves_whole = { λ _ _ _ _ _ left. left };
+    ghost leaves_whole = { λ _ _ _ _ _ left. left.whole };
 }
 
 /// A name, a number or a list. Where none stands, an error, with the token unless the set has its kind.
@@ -80,6 +81,7 @@ fn item(p: &mut Parser<'_>, recovery: TokenSet)
     ensures puts { (steps : List Step) × Puts steps p.old p.new }
     ensures eats { has recovery (kind_at p.old 0) ≡ false → kind_at p.old 0 ≢ EOF
         → p.old.position < p.new.position }
+    ensures reads { (one : Item) (rest : List ℕ) → Reads (kinds_of one) rest p.old p.new }
 {
     match p.current() {
         SyntaxKind::IDENT | SyntaxKind::INT_NUMBER => p.bump_any(),
@@ -94,6 +96,7 @@ fn list(p: &mut Parser<'_>)
     requires { kind_at p.old 0 ≡ L_PAREN }
     ensures puts { (steps : List Step) × Puts steps p.old p.new }
     ensures eats { p.old.position < p.new.position }
+    ensures reads { (items : Items) (rest : List ℕ) → Reads (kinds_of (list items)) rest p.old p.new }
 {
     let node = p.start();
     p.bump_any();
@@ -106,7 +109,9 @@ fn list(p: &mut Parser<'_>)
 #[cycle(lists)]
 fn items(p: &mut Parser<'_>)
     requires { IsSound p.old }
-    ensures { (steps : List Step) × Puts steps p.old p.new }
+    ensures puts { (steps : List Step) × Puts steps p.old p.new }
+    ensures reads { (items : Items) (rest : List ℕ)
+        → Reads (drop 1 (with_commas items)) (R_PAREN ∷ rest) p.old p.new }
 {
     if is_end(p.current()) {
         return;
@@ -124,6 +129,7 @@ fn next_item(p: &mut Parser<'_>)
     requires closed { kind_at p.old 0 ≢ R_PAREN }
     ensures puts { (steps : List Step) × Puts steps p.old p.new }
     ensures eats { p.old.position < p.new.position }
+    ensures reads { (one : Item) (rest : List ℕ) → Reads (COMMA ∷ kinds_of one) rest p.old p.new }
 {
     p.expect(SyntaxKind::COMMA);
     item(p, RECOVERY);
