@@ -1,18 +1,15 @@
 -- Kinds of well-formed lists are read one after another.
-use Rattle.std.proofs.Common.{◌≡◌, ◌≢◌, ◌∙◌, ℕ, ◌+◌, ◌==◌, Bool, true, false, List, [], ◌∷◌, ◌++◌, length, map, drop, arith, ap, sym, refl, subst, append_assoc, if◌then◌else◌}
-use Rattle.std.proofs.lemmas.Bool.{eq-eqb, ne_eqb}
+use Rattle.std.proofs.Common.{◌≡◌, ◌≢◌, ◌∙◌, ℕ, ◌+◌, List, [], ◌∷◌, ◌++◌, drop, ap, sym, refl, subst, append_assoc}
 use Rattle.std.proofs.lemmas.Grind.{flat_map-append}
 use Rattle.std.proofs.lemmas.List.{append-nil, drop-map}
-use Rattle.squawk_kinds.specs.Kinds.{EOF, L_PAREN, R_PAREN}
+use Rattle.squawk_kinds.specs.Kinds.{EOF}
 use Rattle.squawk_table.specs.ParserInput.{Entry, kind_in}
-use Rattle.squawk_output.specs.Steps.{Step, eaten}
-use Rattle.squawk_parser.specs.Eaten.{current_as, one}
+use Rattle.squawk_parser.specs.Eaten.{one}
 use Rattle.squawk_parser.specs.Recorded.{Puts}
 use Rattle.squawk_parser.specs.State.{State, IsSound, Keeps, ahead, kind_at}
-use Rattle.squawk_parser.proofs.RecordedItems.{eaten-append}
 use Rattle.squawk_parser.proofs.RecordedSteps.{puts-none, puts-then}
-use Rattle.squawk_parser.proofs.SeenSteps.{ahead-moved, ahead-still, bump_puts, kind_at-first}
-use Rattle.list_grammar.specs.Trees.{HasRead, Item, Items, Reads, kinds_in, more, none, steps_at, steps_of}
+use Rattle.squawk_parser.proofs.SeenSteps.{ahead-moved, kind_at-first}
+use Rattle.list_grammar.specs.Trees.{HasRead, Item, Items, Reads, kinds_in, more, none, steps_at}
 
 -- ---- the kinds ahead
 

@@ -7,7 +7,7 @@ use Rattle.squawk_kinds.specs.Kinds.{COMMA, EOF, IDENT, INT_NUMBER, L_PAREN, R_P
 use Rattle.squawk_kinds.specs.TokenSets.{has}
 use Rattle.squawk_table.specs.ParserInput.{kind_in}
 use Rattle.squawk_output.specs.Draft.{Mark}
-use Rattle.squawk_output.specs.Steps.{Step, Enter, Exit}
+use Rattle.squawk_output.specs.Steps.{Enter, Exit}
 use Rattle.squawk_parser.specs.Composites.{stands_at}
 use Rattle.squawk_parser.specs.Eaten.{current_as, eat_steps, expect_steps, node, one}
 use Rattle.squawk_parser.specs.Recorded.{Begins, Completes, Puts}

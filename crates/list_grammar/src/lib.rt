@@ -81,7 +81,7 @@ fn item(p: &mut Parser<'_>, recovery: TokenSet)
     ensures puts { (steps : List Step) × Puts steps p.old p.new }
     ensures eats { has recovery (kind_at p.old 0) ≡ false → kind_at p.old 0 ≢ EOF
         → p.old.position < p.new.position }
-    ensures reads { (one : Item) (rest : List ℕ) → Reads (kinds_of one) rest p.old p.new }
+    ensures reads { (item : Item) (rest : List ℕ) → Reads (kinds_of item) rest p.old p.new }
 {
     match p.current() {
         SyntaxKind::IDENT | SyntaxKind::INT_NUMBER => p.bump_any(),
@@ -129,7 +129,7 @@ fn next_item(p: &mut Parser<'_>)
     requires closed { kind_at p.old 0 ≢ R_PAREN }
     ensures puts { (steps : List Step) × Puts steps p.old p.new }
     ensures eats { p.old.position < p.new.position }
-    ensures reads { (one : Item) (rest : List ℕ) → Reads (COMMA ∷ kinds_of one) rest p.old p.new }
+    ensures reads { (item : Item) (rest : List ℕ) → Reads (COMMA ∷ kinds_of item) rest p.old p.new }
 {
     p.expect(SyntaxKind::COMMA);
     item(p, RECOVERY);

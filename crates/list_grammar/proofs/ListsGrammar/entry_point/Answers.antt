@@ -1,4 +1,4 @@
-use Rattle.std.proofs.Common.{◌≡◌, ◌≢◌, ◌∙◌, ◌++◌, ◌<◌, [], ap, arith, refl}
+use Rattle.std.proofs.Common.{◌≡◌, ◌≢◌, ◌∙◌, ◌++◌, [], ap, arith, refl}
 use Rattle.squawk_kinds.specs.Kinds.{EOF}
 use Rattle.squawk_kinds.proofs.ConstantSets.{has-words_of}
 use Rattle.squawk_parser.specs.State.{kind_at}
