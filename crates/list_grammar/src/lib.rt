@@ -10,13 +10,15 @@
 #[cfg(test)]
 mod tests;
 
-ghost use Rattle.std.specs.Prelude.{◌≡◌, ◌≢◌, ◌<◌, ◌==◌, ◌||◌, ◌∷◌, ℕ, List, drop, false};
+ghost use Rattle.std.specs.Prelude.{◌≡◌, ◌≢◌, ◌<◌, ◌==◌, ◌||◌, ◌∷◌, ℕ, List, IfOk, drop, false, true};
 ghost use Rattle.squawk_kinds.specs.Kinds.{COMMA, EOF, L_PAREN, R_PAREN};
 ghost use Rattle.squawk_kinds.specs.TokenSets.{has};
 ghost use Rattle.squawk_output.specs.Steps.{Step};
+ghost use Rattle.squawk_table.specs.Shape.{no_keywords};
+ghost use Rattle.squawk_parser.specs.Pipeline.{IsParsedInto, given};
 ghost use Rattle.squawk_parser.specs.Recorded.{Puts};
 ghost use Rattle.squawk_parser.specs.State.{IsSound, kind_at};
-ghost use Rattle.list_grammar.specs.Trees.{Item, list, Items, Reads, kinds_of, with_commas};
+ghost use Rattle.list_grammar.specs.Trees.{IsFile, Item, Items, Reads, kinds_of, list, with_commas};
 
 use squawk_parser::{
     EntryPoint, Grammar, NoKeywords, ParseWholeError, Parser, Sent, StepList, SyntaxKind, Token,
@@ -142,14 +144,19 @@ fn is_end(kind: SyntaxKind) -> bool
     kind == SyntaxKind::EOF || kind == SyntaxKind::R_PAREN
 }
 
-/// Sends the tree of a text with these raw tokens to a list of steps.
+/// Sends the tree of a text with these raw tokens to a list of steps: all of the text, and of well-formed
+/// lists exactly their tree.
 pub fn send(
     alloc: Global,
     text: &str,
     tokens: &[Token],
     entry: EntryPoint,
     sink: &mut StepList,
-) -> Result<Sent, ParseWholeError<AllocError>> {
+) -> Result<Sent, ParseWholeError<AllocError>>
+    ensures sent { IfOk result (IsParsedInto (given no_keywords no_keywords text.now tokens.now) IsFile
+        (λ steps. sink.old ≡ steps) (λ steps. sink.new ≡ steps)) }
+    ensures all { IfOk result (λ sent. sent.all ≡ true) }
+{
     let names = [(SyntaxKind::COMMA, ","), (SyntaxKind::R_PAREN, ")")];
     let lists = Lists { names: &names };
     parse_whole_into(alloc, text, tokens, &NoKeywords, &lists, entry, sink)
