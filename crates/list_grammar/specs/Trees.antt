@@ -1,13 +1,15 @@
 -- Well-formed lists: how they are written, and which tree they have.
-use Rattle.std.specs.Prelude.{◌≡◌, ℕ, ◌==◌, List, [], ◌∷◌, ◌++◌, drop, map, if◌then◌else◌}
+use Rattle.std.specs.Prelude.{◌≡◌, ℕ, ◌==◌, List, [], ◌∷◌, ◌++◌, drop, codes, map, if◌then◌else◌}
 use Rattle.std.specs.List.{flat_map}
 use Rattle.squawk_kinds.specs.Kinds.{COMMA, IDENT, INT_NUMBER, L_PAREN, R_PAREN}
+use Rattle.squawk_kinds.specs.TokenSets.{no_kinds}
 use Rattle.squawk_table.specs.ParserInput.{Entry}
 use Rattle.squawk_output.specs.Draft.{Draft, plain}
 use Rattle.squawk_output.specs.Steps.{Step, Enter, Exit}
 use Rattle.squawk_parser.specs.Eaten.{node, one}
 use Rattle.squawk_parser.specs.Recorded.{Puts}
 use Rattle.squawk_parser.specs.State.{State, ahead}
+use Rattle.squawk_parser.specs.Words.{Words}
 use Rattle.squawk_parser.specs.Whole.{IsWholeFile}
 
 mutual
@@ -40,6 +42,10 @@ file_kinds (more item items) = kinds_of item ++ file_kinds items
 
 abbrev pub kinds_in : List Entry → List ℕ
 kinds_in seen = map (λ e. e.kind) seen
+
+-- no kinds of operators, and the names of the kinds that errors speak of
+abbrev pub list_words : Words
+list_words = record { operator_first = no_kinds; names = (COMMA, codes ",") ∷ (R_PAREN, codes ")") ∷ [] }
 
 -- ---- the tree
 

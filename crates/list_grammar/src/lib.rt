@@ -10,15 +10,15 @@
 #[cfg(test)]
 mod tests;
 
-ghost use Rattle.std.specs.Prelude.{◌≡◌, ◌≢◌, ◌<◌, ◌==◌, ◌||◌, ◌∷◌, ℕ, List, IfOk, drop, false, true};
+ghost use Rattle.std.specs.Prelude.{◌≡◌, ◌≢◌, ◌<◌, ◌==◌, ◌||◌, ◌∷◌, ℕ, List, IfErr, IfOk, drop, false, true};
 ghost use Rattle.squawk_kinds.specs.Kinds.{COMMA, EOF, L_PAREN, R_PAREN};
 ghost use Rattle.squawk_kinds.specs.TokenSets.{has};
 ghost use Rattle.squawk_output.specs.Steps.{Step};
 ghost use Rattle.squawk_table.specs.Shape.{no_keywords};
-ghost use Rattle.squawk_parser.specs.Pipeline.{IsParsedInto, given};
+ghost use Rattle.squawk_parser.specs.Pipeline.{IsParsedInto, IsRefusal, asking, given};
 ghost use Rattle.squawk_parser.specs.Recorded.{Puts};
 ghost use Rattle.squawk_parser.specs.State.{IsSound, kind_at};
-ghost use Rattle.list_grammar.specs.Trees.{IsFile, Item, Items, Reads, kinds_of, list, with_commas};
+ghost use Rattle.list_grammar.specs.Trees.{IsFile, Item, Items, Reads, kinds_of, list, list_words, with_commas};
 
 use squawk_parser::{
     EntryPoint, Grammar, NoKeywords, ParseWholeError, Parser, Sent, StepList, SyntaxKind, Token,
@@ -156,6 +156,9 @@ pub fn send(
     ensures sent { IfOk result (IsParsedInto (given no_keywords no_keywords text.now tokens.now) IsFile
         (λ steps. sink.old ≡ steps) (λ steps. sink.new ≡ steps)) }
     ensures all { IfOk result (λ sent. sent.all ≡ true) }
+    ensures refused { IfErr result (λ reason. IsRefusal (given no_keywords no_keywords text.now tokens.now)
+        IsFile (λ _ _. Unit {0}) list_words (λ steps. sink.old ≡ steps) (λ steps. sink.new ≡ steps) (λ _ _ _. Unit {0})
+        (sink.new ≡ sink.old) (asking reason)) }
 {
     let names = [(SyntaxKind::COMMA, ","), (SyntaxKind::R_PAREN, ")")];
     let lists = Lists { names: &names };
