@@ -1,0 +1,4 @@
+pub mod Separators
+pub mod Reading
+pub mod Written
+pub mod Examples
