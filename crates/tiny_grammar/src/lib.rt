@@ -7,5 +7,3 @@ pub use tiny::Tiny;
 
 #[cfg(test)]
 mod flat;
-#[cfg(test)]
-mod rows;

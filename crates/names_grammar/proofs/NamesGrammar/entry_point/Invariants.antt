@@ -1,11 +1,7 @@
 use Rattle.std.proofs.Common.{◌-◌, List}
 use Rattle.squawk_output.specs.Steps.{Step}
 use Rattle.squawk_parser.specs.Recorded.{Puts}
-<<<<<<<< HEAD:crates/names_grammar/proofs/NamesGrammar/entry_point/Invariants.antt
 use Rattle.names_grammar.proofs.NamesGrammar.entry_point.Given as goal
-========
-use Rattle.engine_tests.proofs.front_page.NamesGrammar.entry_point.Given as goal
->>>>>>>> h2:crates/engine_tests/proofs/front_page/NamesGrammar/entry_point/Invariants.antt
 
 -- steps were put behind the marker
 abbrev pub invariant-loop-p : goal.invariant-loop-p
