@@ -41,7 +41,9 @@ def main():
             tally.expect(f"{test}: growth {growth} of {counts.growths} refused", answer, "passed", passed)
         print(f"{test}: {counts.growths} growths")
     print(f"tests: {growths} growths, {tally}")
-    return 1 if tally.wrong else 0
+    if growths == 0:
+        print("WRONG: no test with such a name asks for memory")
+    return 1 if tally.wrong or growths == 0 else 0
 
 
 if __name__ == "__main__":
