@@ -3,7 +3,7 @@ ghost use Rattle.std.specs.Prelude.{◌≤◌};
 
 use squawk_parser::{
     SyntaxKind, TokenSet, Vocabulary, is_col_name_keyword, is_reserved_keyword,
-    is_type_func_name_keyword,
+    is_type_func_name_keyword, token_set,
 };
 
 /// A vocabulary of sets alone, without a word.
@@ -175,4 +175,32 @@ fn keywords_in_names_are_those_of_their_sets(rt: HostRuntime) {
     assert!(rt; !is_col_name_keyword(SyntaxKind::from(205), &vocabulary));
     assert!(rt; is_type_func_name_keyword(SyntaxKind::from(205), &vocabulary));
     assert!(rt; !is_type_func_name_keyword(SyntaxKind::from(204), &vocabulary));
+}
+
+/// A kind of each of the ten words of a set, and one that is no token's.
+const OF_EACH_WORD: TokenSet = token_set![
+    SyntaxKind(0),
+    SyntaxKind(127),
+    SyntaxKind(128),
+    SyntaxKind(200),
+    SyntaxKind(319),
+    SyntaxKind(320),
+    SyntaxKind(400),
+    SyntaxKind(511),
+    SyntaxKind(512),
+    SyntaxKind(639),
+    SyntaxKind(700),
+];
+
+#[test]
+fn constant_set_has_its_token_kinds_and_no_others(rt: HostRuntime) {
+    let kinds = [0u16, 127, 128, 200, 319, 320, 400, 511, 512, 639];
+    for number in 0..1000u16 {
+        let is_there = kinds.iter().any(|kind| *kind == number);
+        assert_eq!(rt;
+            OF_EACH_WORD.contains(SyntaxKind(number)),
+            is_there,
+            "kind {number}"
+        );
+    }
 }
