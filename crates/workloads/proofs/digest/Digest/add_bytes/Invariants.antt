@@ -1,0 +1,6 @@
+use Rattle.std.proofs.Common.{length}
+use Rattle.workloads.proofs.digest.Digest.add_bytes.Given as goal
+
+-- the bytes that are left
+abbrev pub decreases-loop-word : goal.decreases-loop-word
+decreases-loop-word l = length l.rest

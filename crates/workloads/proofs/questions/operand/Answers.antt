@@ -1,0 +1,7 @@
+use Rattle.squawk_parser.proofs.RecordedSteps.{node_puts, puts-then}
+use Rattle.workloads.proofs.questions.operand.Goals as goal
+
+pub returns-clause-puts : goal.returns-clause-puts
+returns-clause-puts c =
+    let inside = puts-then c.bump_any.ensures.puts c.more.ensures.puts.1 in
+    (_, node_puts c.start-node.ensures.begins inside c.complete.ensures.completes)
