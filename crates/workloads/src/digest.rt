@@ -18,13 +18,14 @@ fn of(kind: SyntaxKind) -> u64 {
 /// The length of a text, its first byte and its last one.
 #[inline(always)]
 fn of_text(text: &str) -> u64 {
-    match text.as_bytes() {
+    let bytes = text.as_bytes();
+    match bytes {
         [] => 0,
-        [only] => u64::from(*only),
-        [first, .., last] => {
-            (text.len() as u64).wrapping_mul(65536)
+        [first, ..] => {
+            let last = bytes[bytes.len() - 1];
+            (bytes.len() as u64).wrapping_mul(65536)
                 ^ u64::from(*first).wrapping_mul(256)
-                ^ u64::from(*last)
+                ^ u64::from(last)
         }
     }
 }
