@@ -29,3 +29,6 @@ pub mod StepPlaces
 pub mod Trimmed
 pub mod Trivia
 pub mod WithoutErrors
+mod Stops
+mod StepWhole
+mod SentWhole
