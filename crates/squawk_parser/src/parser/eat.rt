@@ -3,10 +3,11 @@ ghost use Rattle.std.specs.Prelude.{ℕ, ◌≡◌, ◌≢◌, ◌<◌, ◌∷�
 ghost use Rattle.squawk_kinds.specs.KindNames.{kind_name};
 ghost use Rattle.squawk_kinds.specs.Kinds.{EOF, R_PAREN, TOMBSTONE};
 ghost use Rattle.squawk_kinds.specs.TokenSets.{has};
+ghost use Rattle.squawk_output.specs.Steps.{Error};
 ghost use Rattle.squawk_table.specs.ParserInput.{kind_in};
 ghost use Rattle.squawk_parser.specs.CompositeRows.{element_of, tail_of};
 ghost use Rattle.squawk_parser.specs.Composites.{ClosedBy, HasNoEndKind, NoTail, Operator, do_touch, normal_form, sequence_length, stands_at};
-ghost use Rattle.squawk_parser.specs.Eaten.{EatsWith, closing_steps, eat_steps, element_steps, expect_steps, form_steps, node, one, tail_of_kind};
+ghost use Rattle.squawk_parser.specs.Eaten.{EatsWith, closing_steps, eat_steps, element_steps, expect_steps, expected_text, form_steps, node, one, tail_of_kind};
 ghost use Rattle.squawk_parser.specs.Recorded.{Puts};
 ghost use Rattle.squawk_parser.specs.State.{IsSound, Keeps, ahead};
 
@@ -22,6 +23,7 @@ impl Parser<'_> {
     /// it does. Where it doesn't, nothing happens.
     ///
     /// The kind isn't [`SyntaxKind::EOF`], and it has no tail: [`Parser::eat_with`] eats those.
+    #[inline(always)]
     pub fn eat(&mut self, kind: SyntaxKind) -> bool
         requires end { kind ≢ EOF }
         requires tail { tail_of_kind kind ≡ NoTail }
@@ -35,17 +37,7 @@ impl Parser<'_> {
         if !self.at(kind) {
             return false;
         }
-        match composite(kind) {
-            None => self.do_bump(kind, 1),
-            Some(Form::Glued(parts)) => self.do_bump(kind, parts.as_slice().len() as u8),
-            Some(Form::Touching(parts)) => self.eat_touching(kind, &parts),
-            Some(Form::Sequence { parts, tail: _ }) => {
-                let node = self.start();
-                self.eat_elements(&parts);
-                node.complete(self, kind);
-            }
-            Some(Form::Operator) => self.eat_operator(kind),
-        }
+        self.bump(kind);
         true
     }
 
@@ -92,13 +84,25 @@ impl Parser<'_> {
         ensures puts { Puts (eat_steps self.old.words kind (ahead self.old 0)) self.old self.new }
         ensures eats { self.old.position < self.new.position }
     {
-        self.eat(kind);
+        self.witness_sound();
+        match composite(kind) {
+            None => self.do_bump(kind, 1),
+            Some(Form::Glued(parts)) => self.do_bump(kind, parts.as_slice().len() as u8),
+            Some(Form::Touching(parts)) => self.eat_touching(kind, &parts),
+            Some(Form::Sequence { parts, tail: _ }) => {
+                let node = self.start();
+                self.eat_elements(&parts);
+                node.complete(self, kind);
+            }
+            Some(Form::Operator) => self.eat_operator(kind),
+        }
     }
 
     /// Eats the kind if it stands at the position, else records the error that it is expected. Tells
     /// whether it stands.
     ///
     /// The kind isn't [`SyntaxKind::EOF`], and it has no tail.
+    #[inline(always)]
     pub fn expect(&mut self, kind: SyntaxKind) -> bool
         requires end { kind ≢ EOF }
         requires tail { tail_of_kind kind ≡ NoTail }
@@ -109,11 +113,20 @@ impl Parser<'_> {
         if self.eat(kind) {
             return true;
         }
+        self.put_expected(kind);
+        false
+    }
+
+    /// Records the error that the kind is expected.
+    #[cold]
+    #[inline(never)]
+    fn put_expected(&mut self, kind: SyntaxKind)
+        ensures { Puts (Error (expected_text self.old.words kind) ∷ []) self.old self.new }
+    {
         if self.has_room_for_error() {
             let text = expected(self.alloc, self.names, kind);
             self.put_error(text);
         }
-        false
     }
 
     /// Expects what closes a tail, if something does.

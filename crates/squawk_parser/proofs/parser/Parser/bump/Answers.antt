@@ -15,7 +15,7 @@ use Rattle.squawk_parser.proofs.CompositeFacts.{IsRow, eat_steps-none, eat_steps
 use Rattle.squawk_parser.proofs.Markers.{hole-put}
 use Rattle.squawk_parser.proofs.RecordedSteps.{node_puts, token_puts}
 use Rattle.squawk_parser.proofs.SeenSteps.{ahead-still, and-left, seen_one, touching_all}
-use Rattle.squawk_parser.proofs.parser.Parser.eat.Goals as goal
+use Rattle.squawk_parser.proofs.parser.Parser.bump.Goals as goal
 
 -- glued tokens that stand are one
 glued_one : (kind : ℕ) (parts slice : List ℕ) (seen : List Entry) (operator_kind : ℕ → Bool) → IsRow kind (Glued parts)
@@ -35,14 +35,14 @@ pub do_bump-requires : goal.do_bump-requires
 do_bump-requires c =
     let old = c.args.self.now in
     let none = is_no_row c.args.kind c.composite.result c.in-None.is c.composite.ensures in
-    plain_one c.args.kind (ahead old 0) (has old.words.operator_first) none (sym c.at.ensures ∙ c.if-not-at.false) c.requires.end
+    plain_one c.args.kind (ahead old 0) (has old.words.operator_first) none c.requires.at c.requires.end
 
 pub do_bump-requires-in-Some-Glued : goal.do_bump-requires-in-Some-Glued
 do_bump-requires-in-Some-Glued c =
     let old = c.args.self.now in
     let row = c.in-Some-Glued in
     let r = is_row c.args.kind c.composite.result (form.Glued row.parts) (row.is ∙ ap Some row.field-0-is) c.composite.ensures in
-    glued_one c.args.kind row.parts c.as_slice.result.now (ahead old 0) (has old.words.operator_first) r (sym c.at.ensures ∙ c.if-not-at.false) c.as_slice.ensures
+    glued_one c.args.kind row.parts c.as_slice.result.now (ahead old 0) (has old.words.operator_first) r c.requires.at c.as_slice.ensures
 
 pub eat_elements-requires-clause-no_end : goal.eat_elements-requires-clause-no_end
 eat_elements-requires-clause-no_end c =
@@ -56,14 +56,14 @@ complete-requires-clause-hole c =
     hole-put c.start-node.result start.hole c.eat_elements.ensures
 
 pub returns-in-None-clause-puts : goal.returns-in-None-clause-puts
-returns-in-None-clause-puts c _ =
+returns-in-None-clause-puts c =
     let old = c.args.self.now in
     let bump = c.do_bump.ensures in
     let none = is_no_row c.args.kind c.composite.result c.in-None.is c.composite.ensures in
     subst (λ steps. Puts steps old c.do_bump.new.self) (sym (eat_steps-none c.args.kind old.words (ahead old 0) none)) (token_puts c.args.kind 1 bump.keeps bump.records bump.position)
 
 pub returns-in-Some-Glued-clause-puts : goal.returns-in-Some-Glued-clause-puts
-returns-in-Some-Glued-clause-puts c _ =
+returns-in-Some-Glued-clause-puts c =
     let old = c.args.self.now in
     let row = c.in-Some-Glued in
     let bump = c.do_bump-in-Some-Glued.ensures in
@@ -73,21 +73,21 @@ returns-in-Some-Glued-clause-puts c _ =
     (token_puts c.args.kind (length c.as_slice.result.now) bump.keeps bump.records bump.position)
 
 pub returns-in-Some-Touching-clause-puts : goal.returns-in-Some-Touching-clause-puts
-returns-in-Some-Touching-clause-puts c _ =
+returns-in-Some-Touching-clause-puts c =
     let old = c.args.self.now in
     let row = c.in-Some-Touching in
     let r = is_row c.args.kind c.composite.result (form.Touching row.parts) (row.is ∙ ap Some row.field-0-is) c.composite.ensures in
     subst (λ steps. Puts steps old c.eat_touching.new.self) (sym (eat_steps-row old.words (ahead old 0) r)) c.eat_touching.ensures
 
 pub returns-in-Some-Operator-clause-puts : goal.returns-in-Some-Operator-clause-puts
-returns-in-Some-Operator-clause-puts c _ =
+returns-in-Some-Operator-clause-puts c =
     let old = c.args.self.now in
     let row = c.in-Some-Operator in
     let r = is_row c.args.kind c.composite.result form.Operator (row.is ∙ ap Some row.field-0-is) c.composite.ensures in
     subst (λ steps. Puts steps old c.eat_operator.new.self) (sym (eat_steps-row old.words (ahead old 0) r)) c.eat_operator.ensures.puts
 
 pub returns-in-Some-Sequence-clause-puts : goal.returns-in-Some-Sequence-clause-puts
-returns-in-Some-Sequence-clause-puts c _ =
+returns-in-Some-Sequence-clause-puts c =
     let old = c.args.self.now in
     let row = c.in-Some-Sequence in
     let start = c.start-node.ensures in
