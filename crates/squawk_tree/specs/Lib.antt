@@ -2,3 +2,4 @@ pub mod TreeText
 pub mod Drawing
 pub mod SoundDrawings
 pub mod Forest
+pub mod FirstPlaces

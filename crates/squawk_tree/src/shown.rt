@@ -5,7 +5,9 @@ ghost use Rattle.squawk_kinds.specs.KindNames.{kind_name};
 ghost use Rattle.squawk_tree.specs.TreeText.{escaped, indentation, quoted_text, span};
 ghost use Rattle.squawk_tree.specs.Drawing.{shown_until};
 ghost use Rattle.squawk_tree.specs.SoundDrawings.{IsPart};
+ghost use Rattle.squawk_tree.specs.FirstPlaces.{Tell};
 
+use crate::first_places::FirstPlaces;
 use crate::line::Shown;
 use squawk_kinds::SyntaxKind;
 use std::alloc::AllocError;
@@ -15,19 +17,29 @@ use std::fmt::Write;
 pub(crate) fn write_shown(
     out: &mut String,
     names: &[(SyntaxKind, &str)],
+    places: &mut FirstPlaces,
     texts: &str,
     shown: &Shown,
 ) -> Result<(), AllocError>
-    requires { IsPart texts.now shown.now }
-    ensures { OnOk result (string_bytes out.new ≡ string_bytes out.old
+    requires part { IsPart texts.now shown.now }
+    requires tell { Tell (map (λ pair. (pair.0, pair.1.now)) names.now) places.old.slots }
+    ensures shown { OnOk result (string_bytes out.new ≡ string_bytes out.old
         ++ shown_until (map (λ pair. (pair.0, pair.1.now)) names.now) texts.now (length texts.now) shown.now) }
+    ensures tell { Tell (map (λ pair. (pair.0, pair.1.now)) names.now) places.new.slots }
 {
     match shown {
         Shown::Node { kind, start, end } => {
-            write_span(out, names, *kind, *start, end.unwrap_or(texts.len()))
+            write_span(
+                out,
+                names,
+                places,
+                *kind,
+                *start,
+                end.unwrap_or(texts.len()),
+            )
         }
         Shown::Token { kind, start, end } => {
-            write_span(out, names, *kind, *start, *end)?;
+            write_span(out, names, places, *kind, *start, *end)?;
             out.push(' ')?;
             write_quoted(out, &texts[*start..*end])
         }
@@ -52,14 +64,17 @@ pub(crate) fn write_indentation(out: &mut String, depth: usize) -> Result<(), Al
 fn write_span(
     out: &mut String,
     names: &[(SyntaxKind, &str)],
+    places: &mut FirstPlaces,
     kind: SyntaxKind,
     start: usize,
     end: usize,
 ) -> Result<(), AllocError>
-    ensures { OnOk result (string_bytes out.new ≡ string_bytes out.old
+    requires { Tell (map (λ pair. (pair.0, pair.1.now)) names.now) places.old.slots }
+    ensures span { OnOk result (string_bytes out.new ≡ string_bytes out.old
         ++ span (map (λ pair. (pair.0, pair.1.now)) names.now) kind start end) }
+    ensures tell { Tell (map (λ pair. (pair.0, pair.1.now)) names.now) places.new.slots }
 {
-    write_name(out, names, kind)?;
+    write_name(out, names, places, kind)?;
     write!(out, "@{start}..{end}")
 }
 
@@ -67,15 +82,16 @@ fn write_span(
 fn write_name(
     out: &mut String,
     names: &[(SyntaxKind, &str)],
+    places: &mut FirstPlaces,
     kind: SyntaxKind,
 ) -> Result<(), AllocError>
-    ensures { OnOk result (string_bytes out.new ≡ string_bytes out.old
+    requires { Tell (map (λ pair. (pair.0, pair.1.now)) names.now) places.old.slots }
+    ensures name { OnOk result (string_bytes out.new ≡ string_bytes out.old
         ++ kind_name (map (λ pair. (pair.0, pair.1.now)) names.now) kind) }
+    ensures tell { Tell (map (λ pair. (pair.0, pair.1.now)) names.now) places.new.slots }
 {
-    for (named, name) in names {
-        if *named == kind {
-            return out.push_str(name);
-        }
+    if let Some((_, name)) = names.get(places.place(names, kind)) {
+        return out.push_str(name);
     }
     let number = u16::from(kind);
     write!(out, "{number}")

@@ -5,6 +5,7 @@ ghost use Rattle.squawk_tree.specs.TreeText.{tree_text};
 ghost use Rattle.squawk_tree.specs.Forest.{Forest, forest_text, forest_steps};
 ghost use Rattle.squawk_tree.specs.Drawing.{StandsAfter};
 
+use crate::first_places::FirstPlaces;
 use crate::line::{Line, Shown};
 use crate::shown::{write_indentation, write_shown};
 use squawk_kinds::SyntaxKind;
@@ -75,9 +76,10 @@ impl TreeText {
             → string_bytes text ≡ forest_text (map (λ pair. (pair.0, pair.1.now)) names.now) 0 0 forest) }
     {
         let mut text = String::new(alloc);
+        let mut places = FirstPlaces::new();
         for line in &self.lines {
             write_indentation(&mut text, line.depth)?;
-            write_shown(&mut text, names, &self.texts, &line.shown)?;
+            write_shown(&mut text, names, &mut places, &self.texts, &line.shown)?;
             text.push('\n')?;
         }
         Ok(text)

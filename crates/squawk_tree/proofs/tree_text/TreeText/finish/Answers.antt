@@ -17,7 +17,7 @@ module _ (c : goal.After-loop-line) where
       let same = ap (λ drawing. length drawing.lines) c.self.view_is in
       let end : drop c.loop-line.line-index c.args.self.now.lines ≡ [] = drop_all c.loop-line.line-index c.args.self.now.lines (omega (arith, same, ap length c.deref-line-items.ensures.value)) in
       sym (append-nil (string_bytes c.loop-line.text))
-      ∙ (ap (λ rest. string_bytes c.loop-line.text ++ lines_text names c.args.self.now.texts [] rest) (sym end) ∙ c.loop-line.invariant)
+      ∙ (ap (λ rest. string_bytes c.loop-line.text ++ lines_text names c.args.self.now.texts [] rest) (sym end) ∙ c.loop-line.invariant.written)
 
 pub returns-clause-forest : goal.returns-clause-forest
 returns-clause-forest c = λ forest stands.

@@ -1,0 +1,7 @@
+use Rattle.std.proofs.Common.{arith}
+use Rattle.std.proofs.lemmas.List.Elements.{All-replicate}
+use Rattle.squawk_tree.specs.FirstPlaces.{Tells}
+use Rattle.squawk_tree.proofs.first_places.FirstPlaces.new.Goals as goal
+
+pub returns : goal.returns
+returns c = λ names. All-replicate (Tells names) 256 _ (λ filled. absurd (omega arith))
