@@ -5,3 +5,4 @@ pub mod Closing
 pub mod Forests
 pub mod Written
 pub mod NamePlaces
+pub mod Quoted

@@ -1,8 +1,9 @@
 //! The text of what a line shows.
-ghost use Rattle.std.specs.Prelude.{◌≡◌, ◌++◌, map, length, string_bytes, OnOk};
+ghost use Rattle.std.specs.Prelude.{◌≡◌, ◌++◌, true, map, length, string_bytes, OnOk};
 ghost use Rattle.std.specs.Str.{chars};
 ghost use Rattle.squawk_kinds.specs.KindNames.{kind_name};
 ghost use Rattle.squawk_tree.specs.TreeText.{escaped, indentation, quoted_text, span};
+ghost use Rattle.squawk_tree.specs.Escapes.{has_escape};
 ghost use Rattle.squawk_tree.specs.Drawing.{shown_until};
 ghost use Rattle.squawk_tree.specs.SoundDrawings.{IsPart};
 ghost use Rattle.squawk_tree.specs.FirstPlaces.{Tell};
@@ -98,26 +99,46 @@ fn write_name(
 }
 
 /// Writes a text in quotes.
+///
+/// What stands between two bytes that have an escape is written at once.
 fn write_quoted(out: &mut String, text: &str) -> Result<(), AllocError>
     ensures { OnOk result (string_bytes out.new ≡ string_bytes out.old ++ quoted_text (chars text.now)) }
 {
     out.push('"')?;
-    for c in text.chars() {
-        write_escaped(out, c)?;
+    let mut start = 0;
+    for (at, byte) in text.as_bytes().iter().enumerate() {
+        if has_escape(*byte) {
+            out.push_str(&text[start..at])?;
+            out.push_str(escape(*byte))?;
+            start = at + 1;
+        }
     }
+    out.push_str(&text[start..])?;
     out.push('"')
 }
 
-/// Writes a character between quotes.
-fn write_escaped(out: &mut String, c: char) -> Result<(), AllocError>
-    ensures { OnOk result (string_bytes out.new ≡ string_bytes out.old ++ escaped c) }
+/// Whether a byte is a character that doesn't stand as it is between quotes. Most bytes are told by
+/// the first two tests.
+#[inline(always)]
+fn has_escape(byte: u8) -> bool
+    ensures { result ≡ has_escape byte }
 {
-    match c {
-        '\n' => out.push_str("\\n"),
-        '\r' => out.push_str("\\r"),
-        '\t' => out.push_str("\\t"),
-        '\\' => out.push_str("\\\\"),
-        '"' => out.push_str("\\\""),
-        _ => out.push(c),
+    if byte > b'"' {
+        return byte == b'\\';
+    }
+    matches!(byte, b'\n' | b'\r' | b'\t' | b'"')
+}
+
+/// The text of such a character.
+fn escape(byte: u8) -> &'static str
+    requires { has_escape byte ≡ true }
+    ensures { result.now ≡ escaped byte }
+{
+    match byte {
+        b'\n' => "\\n",
+        b'\r' => "\\r",
+        b'\t' => "\\t",
+        b'\\' => "\\\\",
+        _ => "\\\"",
     }
 }
