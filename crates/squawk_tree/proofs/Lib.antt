@@ -6,3 +6,4 @@ pub mod Forests
 pub mod Written
 pub mod NamePlaces
 pub mod Quoted
+pub mod Indentations

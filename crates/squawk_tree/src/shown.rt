@@ -1,5 +1,5 @@
 //! The text of what a line shows.
-ghost use Rattle.std.specs.Prelude.{◌≡◌, ◌++◌, true, map, length, string_bytes, OnOk};
+ghost use Rattle.std.specs.Prelude.{◌≡◌, ◌≤◌, ◌++◌, true, map, length, string_bytes, OnOk};
 ghost use Rattle.std.specs.Str.{chars};
 ghost use Rattle.squawk_kinds.specs.KindNames.{kind_name};
 ghost use Rattle.squawk_tree.specs.TreeText.{escaped, indentation, quoted_text, span};
@@ -13,6 +13,9 @@ use crate::line::Shown;
 use squawk_kinds::SyntaxKind;
 use std::alloc::AllocError;
 use std::fmt::Write;
+
+/// The indentation of what stands in 32 nodes.
+const SPACES: &str = "                                                                ";
 
 /// Writes what a line shows, where an open node ends behind all texts.
 pub(crate) fn write_shown(
@@ -55,10 +58,19 @@ pub(crate) fn write_shown(
 pub(crate) fn write_indentation(out: &mut String, depth: usize) -> Result<(), AllocError>
     ensures { OnOk result (string_bytes out.new ≡ string_bytes out.old ++ indentation depth) }
 {
-    for _ in 0..depth {
-        out.push_str("  ")?;
+    for _ in 0..depth / 32 {
+        out.push_str(spaces(32))?;
     }
-    Ok(())
+    out.push_str(spaces(depth % 32))
+}
+
+/// The indentation of what stands in so many nodes.
+#[inline(always)]
+fn spaces(depth: usize) -> &'static str
+    requires { depth ≤ 32 }
+    ensures { result.now ≡ indentation depth }
+{
+    &SPACES[..2 * depth]
 }
 
 /// Writes the name of a kind, and from which byte to which it goes.
