@@ -7,3 +7,4 @@ pub mod Written
 pub mod NamePlaces
 pub mod Quoted
 pub mod Indentations
+pub mod Decimals
