@@ -27,10 +27,10 @@ pub(crate) fn write_shown(
     shown: &Shown,
 ) -> Result<(), AllocError>
     requires part { IsPart texts.now shown.now }
-    requires tell { Tell (map (λ pair. (pair.0, pair.1.now)) names.now) places.old.slots }
+    requires tell { Tell (map (λ pair. (pair.0, pair.1.now)) names.now) places.old }
     ensures shown { OnOk result (string_bytes out.new ≡ string_bytes out.old
         ++ shown_until (map (λ pair. (pair.0, pair.1.now)) names.now) texts.now (length texts.now) shown.now) }
-    ensures tell { Tell (map (λ pair. (pair.0, pair.1.now)) names.now) places.new.slots }
+    ensures tell { Tell (map (λ pair. (pair.0, pair.1.now)) names.now) places.new }
 {
     match shown {
         Shown::Node { kind, start, end } => {
@@ -83,10 +83,10 @@ fn write_span(
     start: usize,
     end: usize,
 ) -> Result<(), AllocError>
-    requires { Tell (map (λ pair. (pair.0, pair.1.now)) names.now) places.old.slots }
+    requires { Tell (map (λ pair. (pair.0, pair.1.now)) names.now) places.old }
     ensures span { OnOk result (string_bytes out.new ≡ string_bytes out.old
         ++ span (map (λ pair. (pair.0, pair.1.now)) names.now) kind start end) }
-    ensures tell { Tell (map (λ pair. (pair.0, pair.1.now)) names.now) places.new.slots }
+    ensures tell { Tell (map (λ pair. (pair.0, pair.1.now)) names.now) places.new }
 {
     write_name(out, names, places, kind)?;
     out.push('@')?;
@@ -136,10 +136,10 @@ fn write_name(
     places: &mut FirstPlaces,
     kind: SyntaxKind,
 ) -> Result<(), AllocError>
-    requires { Tell (map (λ pair. (pair.0, pair.1.now)) names.now) places.old.slots }
+    requires { Tell (map (λ pair. (pair.0, pair.1.now)) names.now) places.old }
     ensures name { OnOk result (string_bytes out.new ≡ string_bytes out.old
         ++ kind_name (map (λ pair. (pair.0, pair.1.now)) names.now) kind) }
-    ensures tell { Tell (map (λ pair. (pair.0, pair.1.now)) names.now) places.new.slots }
+    ensures tell { Tell (map (λ pair. (pair.0, pair.1.now)) names.now) places.new }
 {
     if let Some((_, name)) = names.get(places.place(names, kind)) {
         return out.push_str(name);

@@ -1,4 +1,4 @@
-use Rattle.std.proofs.Common.{◌≡◌, ◌∙◌, ◌++◌, [], arith, ap, drop, length, map, string_bytes, sym}
+use Rattle.std.proofs.Common.{rules, ◌≡◌, ◌∙◌, ◌++◌, [], arith, ap, drop, length, map, string_bytes, sym}
 use Rattle.std.proofs.lemmas.List.{append-nil, drop_all}
 use Rattle.squawk_kinds.specs.KindNames.{Names}
 use Rattle.squawk_tree.specs.Drawing.{lines_text}
@@ -18,6 +18,9 @@ module _ (c : goal.After-loop-line) where
       let end : drop c.loop-line.line-index c.args.self.now.lines ≡ [] = drop_all c.loop-line.line-index c.args.self.now.lines (omega (arith, same, ap length c.deref-line-items.ensures.value)) in
       sym (append-nil (string_bytes c.loop-line.text))
       ∙ (ap (λ rest. string_bytes c.loop-line.text ++ lines_text names c.args.self.now.texts [] rest) (sym end) ∙ c.loop-line.invariant.written)
+
+pub loop-line-init : goal.loop-line-init
+loop-line-init c = record { written = search rules; tell = c.new-places.ensures _ }
 
 pub returns-clause-forest : goal.returns-clause-forest
 returns-clause-forest c = λ forest stands.

@@ -8,5 +8,5 @@ abbrev pub invariant-loop-line : goal.invariant-loop-line
 invariant-loop-line l = record {
   written : string_bytes l.text ++ lines_text (map (λ pair. (pair.0, pair.1.now)) l.names) l.self.texts [] (drop l.line-index l.self.lines)
       ≡ lines_text (map (λ pair. (pair.0, pair.1.now)) l.names) l.self.texts [] l.self.lines;
-  tell : Tell (map (λ pair. (pair.0, pair.1.now)) l.names) l.places.slots;
+  tell : Tell (map (λ pair. (pair.0, pair.1.now)) l.names) l.places;
 }
