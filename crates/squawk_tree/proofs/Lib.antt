@@ -7,4 +7,3 @@ pub mod Written
 pub mod NamePlaces
 pub mod Quoted
 pub mod Indentations
-pub mod Decimals

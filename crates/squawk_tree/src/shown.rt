@@ -1,6 +1,5 @@
 //! The text of what a line shows.
-ghost use Rattle.std.specs.Prelude.{◌≡◌, ◌+◌, ◌/◌, ◌%◌, ◌<◌, ◌≤◌, [], ◌∷◌, ◌++◌, true, map, length, string_bytes, OnOk};
-ghost use Rattle.std.specs.Fmt.{decimal};
+ghost use Rattle.std.specs.Prelude.{◌≡◌, ◌≤◌, ◌++◌, true, map, length, string_bytes, OnOk};
 ghost use Rattle.std.specs.Str.{chars};
 ghost use Rattle.squawk_kinds.specs.KindNames.{kind_name};
 ghost use Rattle.squawk_tree.specs.TreeText.{escaped, indentation, quoted_text, span};
@@ -89,44 +88,7 @@ fn write_span(
     ensures tell { Tell (map (λ pair. (pair.0, pair.1.now)) names.now) places.new }
 {
     write_name(out, names, places, kind)?;
-    out.push('@')?;
-    write_decimal(out, start)?;
-    out.push_str("..")?;
-    write_decimal(out, end)
-}
-
-/// Writes a number in decimal, by two digits at a time.
-#[tactic(auto, using(std::proofs::lemmas::Fmt::decimal_digit))]
-fn write_decimal(out: &mut String, n: usize) -> Result<(), AllocError>
-    ensures { OnOk result (string_bytes out.new ≡ string_bytes out.old ++ decimal n) }
-{
-    if n < 10 {
-        return write_digit(out, n);
-    }
-    if n < 100 {
-        return write_pair(out, n);
-    }
-    write_decimal(out, n / 100)?;
-    write_pair(out, n % 100)
-}
-
-/// Writes two digits.
-#[inline(always)]
-fn write_pair(out: &mut String, n: usize) -> Result<(), AllocError>
-    requires { n < 100 }
-    ensures { OnOk result (string_bytes out.new ≡ string_bytes out.old ++ (48 + n / 10) ∷ (48 + n % 10) ∷ []) }
-{
-    write_digit(out, n / 10)?;
-    write_digit(out, n % 10)
-}
-
-/// Writes a digit.
-#[inline(always)]
-fn write_digit(out: &mut String, digit: usize) -> Result<(), AllocError>
-    requires { digit < 10 }
-    ensures { OnOk result (string_bytes out.new ≡ string_bytes out.old ++ (48 + digit) ∷ []) }
-{
-    out.push((b'0' + digit as u8) as char)
+    write!(out, "@{start}..{end}")
 }
 
 /// Writes the name of a kind.
