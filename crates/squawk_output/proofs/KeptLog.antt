@@ -1,5 +1,5 @@
 -- A log as it is kept, after each act: its draft is edited so.
-use Rattle.std.proofs.Common.{◌≡◌, ◌≢◌, ◌∙◌, ℕ, ◌+◌, ◌-◌, ◌<◌, ◌^◌, Bool, true, false, Some, None, Option, List, [], ◌∷◌, ◌++◌, ap, arith, length, map, refl, set, sym}
+use Rattle.std.proofs.Common.{◌≡◌, ◌≢◌, ◌∙◌, ℕ, ◌+◌, ◌-◌, ◌<◌, ◌≤◌, ◌^◌, Bool, true, false, Some, None, Option, List, [], ◌∷◌, ◌++◌, ap, arith, length, map, refl, set, sym}
 use Rattle.std.specs.Prelude.{Contains, MatchOption}
 use Rattle.std.specs.Option.{option_to_list}
 use Rattle.std.proofs.lemmas.List.{map-append, map-set}
@@ -32,17 +32,19 @@ pub record IsKeptAs (texts : List (List ℕ)) (events : List StoredEvent) (recor
 pub logged_kept : (texts : List (List ℕ)) (events : List StoredEvent) (recorded : ℕ) → IsKeptRecord texts events recorded → IsLogged (draft_in texts events recorded)
 logged_kept texts events recorded kept = IsLogged-draft_of (log_in texts events) (map is_open_event events) recorded (length texts) kept.log
 
--- there are fewer texts than 2^32
-pub few_texts : (texts : List (List ℕ)) (events : List StoredEvent) (recorded : ℕ) → IsKeptRecord texts events recorded → length texts < 2 ^ 32
-few_texts texts events recorded kept =
+-- there are no more texts than recorded events, and fewer than 2^32
+pub texts-recorded : (texts : List (List ℕ)) (events : List StoredEvent) (recorded : ℕ) → IsKeptRecord texts events recorded → length texts ≤ recorded
+texts-recorded texts events recorded kept =
     let log = log_in texts events in
     omega (
       arith,
       errors_are log (map is_open_event events) recorded (length texts) kept.log,
       count_by-le-length is_error_event log,
       kept.log.few,
-      kept.log.small,
     )
+
+pub few_texts : (texts : List (List ℕ)) (events : List StoredEvent) (recorded : ℕ) → IsKeptRecord texts events recorded → length texts < 2 ^ 32
+few_texts texts events recorded kept = omega (arith, texts-recorded texts events recorded kept, kept.log.small)
 
 -- these events are those of the log, with these marks
 record Reads (texts : List (List ℕ)) (events : List StoredEvent) (log : Log) (marks : List Bool) : Type 0 where

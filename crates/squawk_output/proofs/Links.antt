@@ -1,9 +1,10 @@
 -- Logs whose links lead to later Starts.
-use Rattle.std.proofs.Common.{◌≡◌, ℕ, zero, suc, ◌-◌, ◌<◌, true, Some, None, Option, [], ◌∷◌, length, get_or, set, drop, refl, arith}
+use Rattle.std.proofs.Common.{◌≡◌, ℕ, zero, suc, ◌-◌, ◌^◌, ◌<◌, true, Some, None, Option, [], ◌∷◌, length, get_or, set, drop, refl, ap, arith}
 use Rattle.squawk_output.specs.declared.event.Event.{Event}
 use Rattle.squawk_output.specs.declared.event.Event.TheVariants.{Start}
 use Rattle.squawk_output.specs.EventLog.{Lands, LinksLead, Log, linked_place, is_start, is_start_at}
 use Rattle.squawk_output.specs.Chain.{LandsAt, erased}
+use Rattle.squawk_output.specs.StoredEvents.{LeadsOn}
 
 pub is_start_at-within : (log : Log) (place : ℕ) → is_start_at log place ≡ true → place < length log
 is_start_at-within [] place h = absurd (cc)
@@ -71,3 +72,11 @@ pub LandsAt-linked_place : (log : Log) (place : ℕ) (d : Event) → place < len
 LandsAt-linked_place [] place d lt links = absurd (omega arith)
 LandsAt-linked_place (x ∷ xs) zero d lt links = Lands-linked_place x xs links.0
 LandsAt-linked_place (x ∷ xs) (suc n) d lt links = LandsAt-linked_place xs n d (omega arith) links.1
+
+-- a link that leads within fewer than 2^32 events
+pub LeadsOn-Lands : (event : Event) (behind left : Log) → left ≡ event ∷ behind → LinksLead left → length left < 2 ^ 32 → LeadsOn event
+LeadsOn-Lands (Start kind (Some distance)) behind left is links few =
+    let lands = (rw is at links).0 in
+    (lands.0, omega (arith, is_start_at-within behind (distance - 1) lands.1, ap length is))
+LeadsOn-Lands (Start kind None) behind left is links few = tt
+LeadsOn-Lands other behind left is links few = tt

@@ -4,6 +4,7 @@ pub mod RootNote
 pub mod StepViews
 pub mod StoredSteps
 pub mod StoredEvents
+pub mod PackedEvents
 pub mod EventLog
 pub mod Chain
 pub mod Pass

@@ -1,5 +1,5 @@
 -- The events of a log as a list keeps them.
-use Rattle.std.specs.Prelude.{ℕ, ◌==◌, ◌<◌, Bool, true, false, Option, Some, None, All, List, [], length, map, slice_index_or, if◌then◌else◌}
+use Rattle.std.specs.Prelude.{ℕ, ◌+◌, ◌==◌, ◌<◌, ◌^◌, Bool, true, false, Option, Some, None, All, List, [], length, map, slice_index_or, if◌then◌else◌}
 use Rattle.squawk_output.specs.Chain.{tombstone}
 use Rattle.squawk_output.specs.EventLog.{Log}
 use Rattle.squawk_output.specs.declared.event.Event.{Event}
@@ -11,9 +11,9 @@ use Rattle.squawk_output.specs.declared.log.stored_event.StoredEvent.TheVariants
 abbrev pub link_of : ℕ → Option ℕ
 link_of link = if link == 0 then None else Some link
 
--- the link of an event, if it has one, doesn't lead to its own place
+-- the link of an event, if it has one, doesn't lead to its own place, nor past the last place that a log can have
 abbrev pub LeadsOn : Event → Type 0
-LeadsOn (event.Start kind (Some distance)) = 0 < distance
+LeadsOn (event.Start kind (Some distance)) = (0 < distance) × (distance + 1 < 2 ^ 32)
 LeadsOn other = Unit {0}
 
 -- the event that is kept so, beside the texts of a list's errors

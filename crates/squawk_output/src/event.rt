@@ -4,7 +4,7 @@ ghost use Rattle.squawk_output.specs.EventLog.{LinksLead, errors_logged, list_of
 ghost use Rattle.squawk_output.specs.StoredEvents.{HaveEventTexts, LeadsOn, log_in};
 
 use crate::log::push_error;
-use crate::log::stored_event::StoredEvent;
+use crate::log::stored_event::{PackedEvent, StoredEvent};
 use crate::output::{Output, Text};
 use crate::pass::pass;
 use squawk_kinds::SyntaxKind;
@@ -81,14 +81,14 @@ pub fn process(alloc: Global, events: Vec<Event>, recorded: u32) -> Result<Outpu
 
 /// Puts an event at the end, and its text, if it is an error, at the end of theirs.
 ///
-/// A link doesn't lead to its own place.
+/// A link doesn't lead to its own place, nor past the last place of a log.
 fn store(
-    events: &mut Vec<StoredEvent>,
+    events: &mut Vec<PackedEvent>,
     errors: &mut Vec<Text>,
     event: Event,
 ) -> Result<(), AllocError>
     requires leads { LeadsOn event }
-    requires few { length errors.old.items < 2 ^ 32 }
+    requires few { length errors.old.items + 1 < 2 ^ 32 }
     requires texts { HaveEventTexts errors.old.items events.old.items }
     ensures events { IfOk result (λ _. log_in errors.new.items events.new.items ≡ log_in errors.old.items events.old.items ++ event ∷ []) }
     ensures texts { IfOk result (λ _. HaveEventTexts errors.new.items events.new.items) }
@@ -100,13 +100,27 @@ fn store(
             forward_parent,
         } => {
             let link = forward_parent.unwrap_or(0);
-            events.push(StoredEvent::Start { kind, link })?;
+            events.push(start(kind, link))?;
         }
-        Event::Finish => events.push(StoredEvent::Finish)?,
+        Event::Finish => events.push(PackedEvent::finish())?,
         Event::Token { kind, n_raw_tokens } => {
-            events.push(StoredEvent::Token { kind, n_raw_tokens })?;
+            events.push(PackedEvent::token(kind, n_raw_tokens))?;
         }
         Event::Error { msg } => return push_error(events, errors, msg),
     }
     Ok(())
+}
+
+/// A `Start`, with a link unless that is 0.
+fn start(kind: SyntaxKind, link: u32) -> PackedEvent
+    requires { link + 1 < 2 ^ 32 }
+    ensures { result ≡ StoredEvent.Start kind link }
+{
+    if link > 0 {
+        return PackedEvent::linked(kind, link);
+    }
+    if kind == SyntaxKind::TOMBSTONE {
+        return PackedEvent::tombstone();
+    }
+    PackedEvent::start(kind)
 }

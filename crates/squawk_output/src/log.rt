@@ -15,7 +15,7 @@ use crate::pass::pass;
 use squawk_kinds::SyntaxKind;
 use std::alloc::{AllocError, Global};
 use std::marker::Model;
-use stored_event::StoredEvent;
+use stored_event::PackedEvent;
 
 /// How a hole was made.
 #[derive(Clone, Copy, Debug)]
@@ -33,7 +33,7 @@ pub enum Made {
 /// The events tell an open marker from one that was given up. No code asks for that, but contracts do.
 #[derive(Drop)]
 pub struct EventLog {
-    events: Vec<StoredEvent>,
+    events: Vec<PackedEvent>,
     /// The texts of the errors, at their numbers.
     errors: Vec<Text>,
     recorded: u32,
@@ -96,7 +96,7 @@ impl EventLog {
         ensures err { OnErr result (self.new ≡ self.old) }
         ensures logged { IsLogged self.new }
     {
-        self.events.push(StoredEvent::Hole)?;
+        self.events.push(PackedEvent::hole())?;
         self.recorded += 1;
         Ok(())
     }
@@ -111,8 +111,8 @@ impl EventLog {
         ensures err { OnErr result (self.new ≡ self.old) }
         ensures logged { IsLogged self.new }
     {
-        self.events.push(StoredEvent::Finish)?;
-        self.events[id as usize] = StoredEvent::Start { kind, link: 0 };
+        self.events.push(PackedEvent::finish())?;
+        self.events[id as usize] = PackedEvent::start(kind);
         self.recorded += 1;
         Ok(())
     }
@@ -125,7 +125,7 @@ impl EventLog {
         ensures err { OnErr result (self.new ≡ self.old) }
         ensures logged { IsLogged self.new }
     {
-        self.events.push(StoredEvent::Token { kind, n_raw_tokens })?;
+        self.events.push(PackedEvent::token(kind, n_raw_tokens))?;
         self.recorded += 1;
         Ok(())
     }
@@ -150,10 +150,10 @@ impl EventLog {
         ensures err { OnErr result (self.new ≡ self.old) }
         ensures logged { IsLogged self.new }
     {
-        let hole = StoredEvent::Hole;
+        let hole = PackedEvent::hole();
         let link = (self.events.len() - node as usize) as u32;
         self.events.push(hole)?;
-        self.events[node as usize] = StoredEvent::Start { kind, link };
+        self.events[node as usize] = PackedEvent::linked(kind, link);
         self.recorded += 1;
         Ok(())
     }
@@ -167,7 +167,7 @@ impl EventLog {
         if is_last_start(self.events.len(), id, made) {
             let _ = self.events.pop();
         } else {
-            self.events[id as usize] = StoredEvent::tombstone();
+            self.events[id as usize] = PackedEvent::tombstone();
         }
     }
 
@@ -180,10 +180,8 @@ impl EventLog {
         ensures extended { (kind : ℕ) → Contains self.old.items (Open node kind true) → self.new ≡ extended self.old (record { id = node; kind = kind }) id }
         ensures logged { IsLogged self.new }
     {
-        self.events[id as usize] = StoredEvent::Start {
-            kind: SyntaxKind::TOMBSTONE,
-            link: node - id,
-        };
+        let events = &mut self.events;
+        events[id as usize] = PackedEvent::linked(SyntaxKind::TOMBSTONE, node - id);
     }
 
     /// The items as an output; holes are left out. It is made in one pass.
@@ -213,11 +211,11 @@ fn is_last_start(entries: usize, id: u32, made: Made) -> bool
 
 /// Puts an error at the end of the events, and its text at the end of theirs, or neither.
 pub(crate) fn push_error(
-    events: &mut Vec<StoredEvent>,
+    events: &mut Vec<PackedEvent>,
     errors: &mut Vec<Text>,
     msg: Text,
 ) -> Result<(), AllocError>
-    requires few { length errors.old.items < 2 ^ 32 }
+    requires few { length errors.old.items + 1 < 2 ^ 32 }
     requires texts { HaveEventTexts errors.old.items events.old.items }
     ensures events { OnOk result (log_in errors.new.items events.new.items ≡ log_in errors.old.items events.old.items ++ Event.Error msg ∷ []) }
     ensures marks { OnOk result (map is_open_event events.new.items ≡ map is_open_event events.old.items ++ false ∷ []) }
@@ -228,6 +226,6 @@ pub(crate) fn push_error(
     events.reserve(1)?;
     let number = errors.len() as u32;
     errors.push(msg)?;
-    events.push_reserved(StoredEvent::Error { number });
+    events.push_reserved(PackedEvent::error(number));
     Ok(())
 }

@@ -5,7 +5,7 @@ ghost use Rattle.squawk_output.specs.EventLog.{LinksLead, entering, list_of, tur
 ghost use Rattle.squawk_output.specs.Pass.{Visits};
 ghost use Rattle.squawk_output.specs.StoredEvents.{HaveEventTexts, link_of, log_in};
 
-use crate::log::stored_event::StoredEvent;
+use crate::log::stored_event::{PackedEvent, StoredEvent};
 use crate::output::passed::PassedSteps;
 use crate::output::{Output, Text};
 use squawk_kinds::SyntaxKind;
@@ -16,7 +16,7 @@ use std::alloc::{AllocError, Global};
 /// The errors keep their numbers: the texts are the output's, as they stand.
 pub(crate) fn pass(
     alloc: Global,
-    mut events: Vec<StoredEvent>,
+    mut events: Vec<PackedEvent>,
     errors: Vec<Text>,
     recorded: u32,
 ) -> Result<Output, AllocError>
@@ -37,7 +37,7 @@ pub(crate) fn pass(
 /// Visits the event at a place. All to which links lead from there is taken out; the event itself
 /// stays, since nothing comes back to it.
 fn visit(
-    events: &mut Vec<StoredEvent>,
+    events: &mut Vec<PackedEvent>,
     kinds: &mut Vec<SyntaxKind>,
     passed: &mut PassedSteps,
     place: usize,
@@ -54,7 +54,7 @@ fn visit(
     ensures none { IfOk result (λ _. kinds.new.items ≡ []) }
 {
     passed.turn();
-    match events[place] {
+    match events[place].unpack() {
         StoredEvent::Hole => enter(passed, SyntaxKind::TOMBSTONE),
         StoredEvent::Start { kind, link } => {
             if link == 0 {
@@ -72,7 +72,7 @@ fn visit(
 
 /// Follows the links from a place, and pushes the kinds that they lead to. Each link is a turn.
 fn follow(
-    events: &mut Vec<StoredEvent>,
+    events: &mut Vec<PackedEvent>,
     kinds: &mut Vec<SyntaxKind>,
     passed: &mut PassedSteps,
     place: usize,
@@ -93,8 +93,8 @@ fn follow(
     while next > 0 {
         passed.turn();
         at += next as usize;
-        let event = events[at];
-        events[at] = StoredEvent::tombstone();
+        let event = events[at].unpack();
+        events[at] = PackedEvent::tombstone();
         kinds.push(event.kind())?;
         next = event.link();
     }

@@ -1,12 +1,15 @@
 //! Events as a log keeps them.
-ghost use Rattle.std.specs.Prelude.{◌≡◌, ℕ, List};
+ghost use Rattle.std.specs.Prelude.{◌≡◌, ◌≢◌, ℕ, List, ◌<◌, ◌+◌, ◌^◌, IsTrue, ◌↔◌, true, false, IfSome};
 ghost use Rattle.squawk_kinds.specs.Kinds.{TOMBSTONE};
 ghost use Rattle.squawk_output.specs.Chain.{forward_parent, node_kind};
+ghost use Rattle.squawk_output.specs.PackedEvents.{IsAlone, IsAside, alone_event};
 ghost use Rattle.squawk_output.specs.StoredEvents.{event_of, link_of};
 
+use crate::output::stored::StoredStep;
 use squawk_kinds::SyntaxKind;
+use std::marker::Model;
 
-/// An event in eight bytes. The text of an error is kept elsewhere.
+/// An event whose text, if it is an error, is kept elsewhere.
 #[derive(Clone, Copy, Debug)]
 pub(crate) enum StoredEvent {
     /// The `Start` of an open marker, which has neither a kind nor a link.
@@ -20,17 +23,6 @@ pub(crate) enum StoredEvent {
 }
 
 impl StoredEvent {
-    /// The `Start` of no node.
-    #[inline(always)]
-    pub(crate) fn tombstone() -> StoredEvent
-        ensures { result ≡ StoredEvent.Start TOMBSTONE 0 }
-    {
-        StoredEvent::Start {
-            kind: SyntaxKind::TOMBSTONE,
-            link: 0,
-        }
-    }
-
     /// The kind of a `Start`; of any other event that of no node.
     #[inline(always)]
     pub(crate) fn kind(&self) -> SyntaxKind
@@ -54,13 +46,181 @@ impl StoredEvent {
     }
 }
 
+/// The link of an event that gives no step. None leads so far: a log has fewer events.
+const ASIDE: u32 = 4294967295;
+
+/// The word of an open marker, beside that link: `TOMBSTONE` as its kind, and no step's tag.
+const HOLE: u32 = 65537;
+
+/// An event in eight bytes, ready for the pass.
+///
+/// An event that gives exactly its step where it stands has the word of that step, and no link. Any
+/// other has a link that is not 0: a `Start` with a link its own, beside the word that it would have
+/// without; one of no node and an open marker `ASIDE`; an error, whose word is 0, its number and one.
+#[derive(Drop)]
+pub(crate) struct PackedEvent {
+    word: u32,
+    link: u32,
+}
+
+impl Model for PackedEvent {
+    ghost use Rattle.squawk_output.specs.declared.log.stored_event.StoredEvent.{StoredEvent};
+
+    ghost Value = { StoredEvent };
+
+    ghost use Rattle.squawk_output.specs.PackedEvents.{IsPacked, event_in};
+
+    ghost view = { λ e. event_in e.word e.link };
+
+    ghost invariant = { λ e. IsPacked e.word e.link };
+}
+
+impl PackedEvent {
+    /// An open marker.
+    #[inline(always)]
+    pub(crate) fn hole() -> PackedEvent
+        ensures { result ≡ StoredEvent.Hole }
+    {
+        PackedEvent {
+            word: HOLE,
+            link: ASIDE,
+        }
+    }
+
+    /// The `Start` of no node.
+    #[inline(always)]
+    pub(crate) fn tombstone() -> PackedEvent
+        ensures { result ≡ StoredEvent.Start TOMBSTONE 0 }
+    {
+        PackedEvent {
+            word: StoredStep::Enter {
+                kind: SyntaxKind::TOMBSTONE,
+            }
+            .pack(),
+            link: ASIDE,
+        }
+    }
+
+    /// The beginning of a node, without a link.
+    #[inline(always)]
+    pub(crate) fn start(kind: SyntaxKind) -> PackedEvent
+        requires { kind ≢ TOMBSTONE }
+        ensures { result ≡ StoredEvent.Start kind 0 }
+    {
+        PackedEvent {
+            word: StoredStep::Enter { kind }.pack(),
+            link: 0,
+        }
+    }
+
+    /// A `Start` with a link.
+    #[inline(always)]
+    pub(crate) fn linked(kind: SyntaxKind, link: u32) -> PackedEvent
+        requires leads { 0 < link }
+        requires near { link + 1 < 2 ^ 32 }
+        ensures { result ≡ StoredEvent.Start kind link }
+    {
+        PackedEvent {
+            word: StoredStep::Enter { kind }.pack(),
+            link,
+        }
+    }
+
+    /// The end of a node.
+    #[inline(always)]
+    pub(crate) fn finish() -> PackedEvent
+        ensures { result ≡ StoredEvent.Finish }
+    {
+        PackedEvent {
+            word: StoredStep::Exit.pack(),
+            link: 0,
+        }
+    }
+
+    /// A token.
+    #[inline(always)]
+    pub(crate) fn token(kind: SyntaxKind, n_raw_tokens: u8) -> PackedEvent
+        ensures { result ≡ StoredEvent.Token kind n_raw_tokens }
+    {
+        PackedEvent {
+            word: StoredStep::Token {
+                kind,
+                n_input_tokens: n_raw_tokens,
+            }
+            .pack(),
+            link: 0,
+        }
+    }
+
+    /// The error of this number.
+    #[inline(always)]
+    pub(crate) fn error(number: u32) -> PackedEvent
+        requires { number + 1 < 2 ^ 32 }
+        ensures { result ≡ StoredEvent.Error number }
+    {
+        PackedEvent {
+            word: 0,
+            link: number + 1,
+        }
+    }
+
+    /// The word of the step that the event gives, if it gives exactly that where it stands.
+    #[inline(always)]
+    pub(crate) fn alone(&self) -> Option<u32>
+        ensures { IfSome result (λ word. IsAlone word × (self.now ≡ alone_event word)) }
+    {
+        if self.link == 0 {
+            Some(self.word)
+        } else {
+            None
+        }
+    }
+
+    /// Whether the event gives no step. One that is reached by a link is such a one behind it.
+    #[inline(always)]
+    pub(crate) fn is_aside(&self) -> bool
+        ensures { result ≡ true → IsAside self.now }
+    {
+        self.link == ASIDE && self.word != 0
+    }
+
+    /// The event.
+    #[inline(always)]
+    pub(crate) fn unpack(&self) -> StoredEvent
+        ensures { result ≡ self.now }
+    {
+        if self.word == 0 {
+            return StoredEvent::Error {
+                number: self.link - 1,
+            };
+        }
+        let kind = SyntaxKind::from((self.word >> 16) as u16);
+        match self.link {
+            0 => match StoredStep::unpack(self.word) {
+                StoredStep::Enter { kind } => StoredEvent::Start { kind, link: 0 },
+                StoredStep::Token {
+                    kind,
+                    n_input_tokens,
+                } => StoredEvent::Token {
+                    kind,
+                    n_raw_tokens: n_input_tokens,
+                },
+                _ => StoredEvent::Finish,
+            },
+            ASIDE if self.word == HOLE => StoredEvent::Hole,
+            ASIDE => StoredEvent::Start { kind, link: 0 },
+            link => StoredEvent::Start { kind, link },
+        }
+    }
+}
+
 #[cfg(test)]
 mod tests {
-    use super::StoredEvent;
+    use super::PackedEvent;
     use std::mem::size_of;
 
     #[test]
     fn an_event_has_eight_bytes(rt: HostRuntime) {
-        assert_eq!(rt; size_of::<StoredEvent>(), 8);
+        assert_eq!(rt; size_of::<PackedEvent>(), 8);
     }
 }

@@ -1,6 +1,6 @@
 use Rattle.std.proofs.lemmas.List.{map-set}
 use Rattle.std.proofs.lemmas.List.Elements.{All-set}
-use Rattle.std.proofs.Common.{◌+◌, ap, arith}
+use Rattle.std.proofs.Common.{◌∙◌, ◌+◌, ap, arith}
 use Rattle.squawk_output.specs.StoredEvents.{HasEventText, event_of, link_of}
 use Rattle.squawk_output.proofs.Follows.{Follows-next, chain-shorter, ends-events, ends-kinds, ends-passed, turn_fits}
 use Rattle.squawk_output.proofs.StoredEvents.{landed, length-log_in, link_of-none, link_of-some, link_within}
@@ -38,7 +38,7 @@ loop-next-smaller c =
     let more = c.loop-next-test.true in
     rw (map-set (event_of texts) c.loop-next.events.items (c.loop-next.at + next) c.tombstone.result)
     (chain-shorter _ _ _ _ _ _ _ c.loop-next.at next (link_of next) (link_of-some next more) c.loop-next.invariant.0 c.kind.result (link_of c.link-next.result) _ _
-    (landed texts _ c.loop-next.at next more c.loop-next.invariant.0.lands c.kind.result c.link-next.result c.index.result.now _ c.index.ensures (c.kind.ensures texts) (c.link-next.ensures texts))
+    (landed texts _ c.loop-next.at next more c.loop-next.invariant.0.lands c.kind.result c.link-next.result c.unpack-event.result _ (c.unpack-event.ensures ∙ c.index.ensures) (c.kind.ensures texts) (c.link-next.ensures texts))
     (ap (event_of texts) c.tombstone.ensures))
 
 pub loop-next-preserved : goal.loop-next-preserved
@@ -48,7 +48,7 @@ loop-next-preserved c =
     let more = c.loop-next-test.true in (
       rw (map-set (event_of texts) c.loop-next.events.items (c.loop-next.at + next) c.tombstone.result)
           (Follows-next _ _ _ _ _ _ _ c.loop-next.at next (link_of next) (link_of-some next more) c.loop-next.invariant.0 c.kind.result (link_of c.link-next.result) _ _
-          (landed texts _ c.loop-next.at next more c.loop-next.invariant.0.lands c.kind.result c.link-next.result c.index.result.now _ c.index.ensures (c.kind.ensures texts) (c.link-next.ensures texts))
+          (landed texts _ c.loop-next.at next more c.loop-next.invariant.0.lands c.kind.result c.link-next.result c.unpack-event.result _ (c.unpack-event.ensures ∙ c.index.ensures) (c.kind.ensures texts) (c.link-next.ensures texts))
           (ap (event_of texts) c.tombstone.ensures) c.push.new.self.items c.turn.new.self c.in_ok-push.ensures.items c.turn.ensures),
       All-set (HasEventText texts) c.loop-next.events.items (c.loop-next.at + next) c.tombstone.result (rw c.tombstone.ensures tt) c.loop-next.invariant.1,
     )

@@ -6,10 +6,10 @@ pub returns-in_err-push-clause-logged : goal.returns-in_err-push-clause-logged
 returns-in_err-push-clause-logged c = rw c.in_err-push.ensures.items (logged_kept _ _ _ c.self.invariant)
 
 pub invariant_of-self-2 : goal.invariant_of-self-2
-invariant_of-self-2 c = (kept-completed _ _ _ _ c.self.invariant c.self.view_is c.args.id c.requires.hole c.args.kind c.push.new.self.items _ c.in_ok-push.ensures.items refl c.requires.kind c.requires.room).kept
+invariant_of-self-2 c = (kept-completed _ _ _ _ c.self.invariant c.self.view_is c.args.id c.requires.hole c.args.kind c.push.new.self.items _ (rw c.finish.ensures at c.in_ok-push.ensures.items) (rw c.start.ensures refl) c.requires.kind c.requires.room).kept
 
 pub returns-clause-ok : goal.returns-clause-ok
-returns-clause-ok c = (kept-completed _ _ _ _ c.self.invariant c.self.view_is c.args.id c.requires.hole c.args.kind c.push.new.self.items _ c.in_ok-push.ensures.items refl c.requires.kind c.requires.room).is
+returns-clause-ok c = (kept-completed _ _ _ _ c.self.invariant c.self.view_is c.args.id c.requires.hole c.args.kind c.push.new.self.items _ (rw c.finish.ensures at c.in_ok-push.ensures.items) (rw c.start.ensures refl) c.requires.kind c.requires.room).is
 
 pub returns-clause-logged : goal.returns-clause-logged
 returns-clause-logged c = logged_kept _ _ _ (invariant_of-self-2 c)

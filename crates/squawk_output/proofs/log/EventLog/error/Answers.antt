@@ -1,8 +1,9 @@
-use Rattle.squawk_output.proofs.KeptLog.{few_texts, kept-error, logged_kept}
+use Rattle.std.proofs.Common.{ap, arith}
+use Rattle.squawk_output.proofs.KeptLog.{kept-error, logged_kept, texts-recorded}
 use Rattle.squawk_output.proofs.log.EventLog.error.Goals as goal
 
 pub push_error-requires-clause-few : goal.push_error-requires-clause-few
-push_error-requires-clause-few c = few_texts _ _ _ c.self.invariant
+push_error-requires-clause-few c = omega (arith, texts-recorded _ _ _ c.self.invariant, ap (λ d. d.recorded) c.self.view_is, c.requires)
 
 pub returns-in_err-push_error-clause-logged : goal.returns-in_err-push_error-clause-logged
 returns-in_err-push_error-clause-logged c = rw (c.in_err-push_error.ensures.err.0, c.in_err-push_error.ensures.err.1) (logged_kept _ _ _ c.self.invariant)

@@ -5,10 +5,10 @@ pub returns-in_err-push-clause-logged : goal.returns-in_err-push-clause-logged
 returns-in_err-push-clause-logged c = rw c.in_err-push.ensures.items (logged_kept _ _ _ c.self.invariant)
 
 pub invariant_of-self-2 : goal.invariant_of-self-2
-invariant_of-self-2 c = (kept-token _ _ _ _ c.self.invariant c.self.view_is c.args.kind c.args.n_raw_tokens _ c.in_ok-push.ensures.items c.requires).kept
+invariant_of-self-2 c = (kept-token _ _ _ _ c.self.invariant c.self.view_is c.args.kind c.args.n_raw_tokens _ (rw c.token.ensures at c.in_ok-push.ensures.items) c.requires).kept
 
 pub returns-clause-ok : goal.returns-clause-ok
-returns-clause-ok c = (kept-token _ _ _ _ c.self.invariant c.self.view_is c.args.kind c.args.n_raw_tokens _ c.in_ok-push.ensures.items c.requires).is
+returns-clause-ok c = (kept-token _ _ _ _ c.self.invariant c.self.view_is c.args.kind c.args.n_raw_tokens _ (rw c.token.ensures at c.in_ok-push.ensures.items) c.requires).is
 
 pub returns-clause-logged : goal.returns-clause-logged
 returns-clause-logged c = logged_kept _ _ _ (invariant_of-self-2 c)
