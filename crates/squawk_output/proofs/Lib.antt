@@ -9,6 +9,7 @@ pub mod Follows
 pub mod LogTurns
 pub mod Visits
 pub mod StoredVisits
+pub mod AloneVisits
 pub mod Examples
 pub mod NotedRoot
 pub mod StoredEvents

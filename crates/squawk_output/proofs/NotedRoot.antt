@@ -1,39 +1,38 @@
 -- A note of steps tells whether they stand in one root, errors aside.
-use Rattle.std.proofs.Common.{◌≡◌, ◌∙◌, ℕ, zero, suc, ◌+◌, ◌-◌, ◌<◌, ◌≤◌, Bool, true, false, not, List, [], ◌∷◌, cond, length, take, arith, ap, sym, subst, refl}
-use Rattle.std.specs.Prelude.{◌==◌, ◌&&◌, ◌↔◌, IsTrue}
+use Rattle.std.proofs.Common.{◌≡◌, ◌∙◌, ℕ, zero, suc, ◌+◌, ◌-◌, ◌<◌, List, [], ◌∷◌, cond, length, take, arith, sym, subst, refl}
+use Rattle.std.specs.Prelude.{◌==◌, ◌↔◌, IsTrue}
 use Rattle.std.specs.List.{fold}
 use Rattle.std.proofs.Math.Dec.{eqb-suc-zero}
-use Rattle.std.proofs.lemmas.Bool.{and_parts, eq-eqb, eqb-true, false≢true, ne_eqb}
+use Rattle.std.proofs.lemmas.Bool.{and_parts, eqb-true, false≢true, ne_eqb}
 use Rattle.squawk_output.specs.OneRoot.{StandsInOneRoot}
 use Rattle.squawk_output.specs.RootNote.{Noted, note_of, noted, tells_root}
 use Rattle.squawk_output.specs.Steps.{Step, Token, Enter, Exit, Error, is_enter, is_exit, closings, openings, without_errors}
 use Rattle.squawk_output.proofs.Sums.{count_by-cons}
 use Rattle.squawk_output.specs.declared.output.root_note.RootNote.{RootNote}
 
--- so many steps, with so many nodes open, whether one stands outside, and how many there were when none was open
-abbrev behind : ℕ → ℕ → Bool → ℕ → Noted
-behind count depth outside closed = record { count = count; note = record { depth = depth; outside = outside; closed = closed } }
+-- so many steps, with so many nodes open, and how many found none open
+abbrev behind : ℕ → ℕ → ℕ → Noted
+behind count depth outside = record { count = count; note = record { depth = depth; outside = outside } }
 
 -- what a note tells with more steps
 abbrev tells : Noted → List Step → Type 0
 tells so_far steps = IsTrue (tells_root (fold noted so_far steps).note (fold noted so_far steps).count)
 
--- a node outside stays there
-spoilt : (count depth closed : ℕ) (steps : List Step) → ¬ (tells (behind count depth true closed) steps)
-spoilt count depth closed [] told = false≢true told
-spoilt count depth closed (Token kind n ∷ steps) told = spoilt (count + 1) depth closed steps told
-spoilt count depth closed (Enter kind ∷ steps) told = spoilt (count + 1) (depth + 1) closed steps told
-spoilt count depth closed (Exit ∷ steps) told = spoilt (count + 1) (depth - 1) (cond (depth - 1 == 0) (count + 1) closed) steps told
-spoilt count depth closed (Error text ∷ steps) told = spoilt count depth closed steps told
+-- two steps that found none open are not in one root
+spoilt : (count depth outside : ℕ) (steps : List Step) → 1 < outside → ¬ (tells (behind count depth outside) steps)
+spoilt count depth outside [] more told = omega (arith, more, eqb-true outside 1 (and_parts _ _ told).0)
+spoilt count depth outside (Token kind n ∷ steps) more told = spoilt (count + 1) depth (outside + cond (depth == 0) 1 0) steps (omega (arith, more)) told
+spoilt count depth outside (Enter kind ∷ steps) more told = spoilt (count + 1) (depth + 1) (outside + cond (depth == 0) 1 0) steps (omega (arith, more)) told
+spoilt count depth outside (Exit ∷ steps) more told = spoilt (count + 1) (depth - 1) (outside + cond (depth == 0) 1 0) steps (omega (arith, more)) told
+spoilt count depth outside (Error text ∷ steps) more told = spoilt count depth outside steps more told
 
--- nor is a step behind the closing that left no node open one of the root
-late : (count closed : ℕ) (steps : List Step) → 0 < count → closed ≤ count → (length (without_errors steps) ≡ 0 → closed < count) → ¬ (tells (behind count 0 false closed) steps)
-late count closed [] some le lt told = omega (arith, lt refl, eqb-true closed count (and_parts _ _ told).0)
-late count closed (Token kind n ∷ steps) some le lt told = late (count + 1) closed steps (omega arith) (omega (arith, le)) (λ none. omega (arith, le)) told
-late count closed (Enter kind ∷ steps) some le lt told =
-    spoilt (count + 1) 1 closed steps (subst (λ b. tells (behind (count + 1) 1 (not b) closed) steps) (ne_eqb count 0 (λ none. omega (arith, some, none))) told)
-late count closed (Exit ∷ steps) some le lt told = spoilt (count + 1) 0 (count + 1) steps told
-late count closed (Error text ∷ steps) some le lt told = late count closed steps some le lt told
+-- nor is one alone that leaves none open
+late : (steps : List Step) → ¬ (tells (behind 1 0 1) steps)
+late [] told = false≢true told
+late (Token kind n ∷ steps) told = spoilt 2 0 2 steps (omega arith) told
+late (Enter kind ∷ steps) told = spoilt 2 1 2 steps (omega arith) told
+late (Exit ∷ steps) told = spoilt 2 0 2 steps (omega arith) told
+late (Error text ∷ steps) told = late steps told
 
 -- steps that close so many nodes, and the last of these by the last step
 record Closes (depth : ℕ) (steps : List Step) : Type 0 where
@@ -67,43 +66,43 @@ inside A depth after step steps counts both = (
 )
 
 -- where no node is open nothing may follow
-ended : (count : ℕ) (step : Step) (steps : List Step) → 0 < count → (without_errors (step ∷ steps) ≡ step ∷ without_errors steps)
-    → tells (behind count 0 false count) (step ∷ steps) ↔ Closes 0 (step ∷ without_errors steps)
-ended count step steps some plain = (
-  λ told. absurd (late count count (step ∷ steps) some (omega arith) (λ none. absurd (omega (arith, none, ap length plain))) told),
-  λ closes. absurd (omega (arith, closes.inside 0 (omega arith))),
-)
+ended : (count : ℕ) (step : Step) (steps : List Step) → ¬ (tells (behind count 0 1) (step ∷ steps)) → tells (behind count 0 1) (step ∷ steps) ↔ Closes 0 (step ∷ without_errors steps)
+ended count step steps spoils = (λ told. absurd (spoils told), λ closes. absurd (omega (arith, closes.inside 0 (omega arith))))
 
 -- a note of a node that was entered tells whether it is closed by the last step
-tells-closes : (count closed depth : ℕ) (steps : List Step) → 0 < count → (depth ≡ 0 → closed ≡ count) → tells (behind count depth false closed) steps ↔ Closes depth (without_errors steps)
-tells-closes count closed zero [] some is = (
+tells-closes : (count depth : ℕ) (steps : List Step) → 0 < count → (depth ≡ 0 → 1 < count) → tells (behind count depth 1) steps ↔ Closes depth (without_errors steps)
+tells-closes count zero [] some more = (
   λ told. record { inside = λ k lt. absurd (omega arith); closed = refl },
-  λ closes. rw (is refl, eq-eqb count count refl, ne_eqb count 0 (λ none. omega (arith, some, none))) refl,
+  λ closes. rw (ne_eqb count 0 (λ none. omega (arith, some, none)), ne_eqb count 1 (λ one. omega (arith, more refl, one))) refl,
 )
-tells-closes count closed (suc depth) [] some is = (λ told. absurd (false≢true (sym (eqb-suc-zero depth) ∙ (and_parts _ _ told).0)), λ closes. absurd (omega (arith, closes.closed)))
-tells-closes count closed zero (Token kind n ∷ steps) some is = rw (is refl) (ended count (Token kind n) steps some refl)
-tells-closes count closed zero (Enter kind ∷ steps) some is = rw (is refl) (ended count (Enter kind) steps some refl)
-tells-closes count closed zero (Exit ∷ steps) some is = rw (is refl) (ended count Exit steps some refl)
-tells-closes count closed (suc depth) (Token kind n ∷ steps) some is =
-    inside (tells (behind count (suc depth) false closed) (Token kind n ∷ steps)) depth (suc depth) (Token kind n) (without_errors steps) refl
-    (tells-closes (count + 1) closed (suc depth) steps (omega arith) (λ none. absurd (omega (arith, none))))
-tells-closes count closed (suc depth) (Enter kind ∷ steps) some is =
-    inside (tells (behind count (suc depth) false closed) (Enter kind ∷ steps)) depth (suc depth + 1) (Enter kind) (without_errors steps) (omega arith)
-    (subst (λ b. tells (behind (count + 1) (suc depth + 1) (b && not (count == 0)) closed) steps ↔ Closes (suc depth + 1) (without_errors steps)) (sym (eqb-suc-zero depth))
-    (tells-closes (count + 1) closed (suc depth + 1) steps (omega arith) (λ none. absurd (omega (arith, none)))))
-tells-closes count closed (suc depth) (Exit ∷ steps) some is =
-    inside (tells (behind count (suc depth) false closed) (Exit ∷ steps)) depth (suc depth - 1) Exit (without_errors steps) (omega arith)
-    (subst (λ b. tells (behind (count + 1) (suc depth - 1) b (cond (suc depth - 1 == 0) (count + 1) closed)) steps ↔ Closes (suc depth - 1) (without_errors steps)) (sym (eqb-suc-zero depth))
-    (tells-closes (count + 1) (cond (suc depth - 1 == 0) (count + 1) closed) (suc depth - 1) steps (omega arith) (λ none. rw none refl)))
-tells-closes count closed depth (Error text ∷ steps) some is = tells-closes count closed depth steps some is
+tells-closes count (suc depth) [] some more = (
+  λ told. absurd (false≢true (sym (eqb-suc-zero depth) ∙ (and_parts _ _ told).0)),
+  λ closes. absurd (omega (arith, closes.closed)),
+)
+tells-closes count zero (Token kind n ∷ steps) some more = ended count (Token kind n) steps (spoilt (count + 1) 0 2 steps (omega arith))
+tells-closes count zero (Enter kind ∷ steps) some more = ended count (Enter kind) steps (spoilt (count + 1) 1 2 steps (omega arith))
+tells-closes count zero (Exit ∷ steps) some more = ended count Exit steps (spoilt (count + 1) 0 2 steps (omega arith))
+tells-closes count (suc depth) (Token kind n ∷ steps) some more =
+    inside (tells (behind count (suc depth) 1) (Token kind n ∷ steps)) depth (suc depth) (Token kind n) (without_errors steps) refl
+    (subst (λ b. tells (behind (count + 1) (suc depth) (1 + cond b 1 0)) steps ↔ Closes (suc depth) (without_errors steps)) (sym (eqb-suc-zero depth))
+    (tells-closes (count + 1) (suc depth) steps (omega arith) (λ none. absurd (omega (arith, none)))))
+tells-closes count (suc depth) (Enter kind ∷ steps) some more =
+    inside (tells (behind count (suc depth) 1) (Enter kind ∷ steps)) depth (suc depth + 1) (Enter kind) (without_errors steps) (omega arith)
+    (subst (λ b. tells (behind (count + 1) (suc depth + 1) (1 + cond b 1 0)) steps ↔ Closes (suc depth + 1) (without_errors steps)) (sym (eqb-suc-zero depth))
+    (tells-closes (count + 1) (suc depth + 1) steps (omega arith) (λ none. absurd (omega (arith, none)))))
+tells-closes count (suc depth) (Exit ∷ steps) some more =
+    inside (tells (behind count (suc depth) 1) (Exit ∷ steps)) depth (suc depth - 1) Exit (without_errors steps) (omega arith)
+    (subst (λ b. tells (behind (count + 1) (suc depth - 1) (1 + cond b 1 0)) steps ↔ Closes (suc depth - 1) (without_errors steps)) (sym (eqb-suc-zero depth))
+    (tells-closes (count + 1) (suc depth - 1) steps (omega arith) (λ none. omega (arith, some))))
+tells-closes count depth (Error text ∷ steps) some more = tells-closes count depth steps some more
 
 root-told : (steps : List Step) → IsTrue (tells_root (note_of steps).note (note_of steps).count) ↔ StandsInOneRoot (without_errors steps)
 root-told [] = (λ told. absurd (false≢true told), λ root. absurd root.begins)
-root-told (Token kind n ∷ steps) = (λ told. absurd (late 1 0 steps (omega arith) (omega arith) (λ none. omega arith) told), λ root. absurd root.begins)
-root-told (Exit ∷ steps) = (λ told. absurd (spoilt 1 0 1 steps told), λ root. absurd root.begins)
+root-told (Token kind n ∷ steps) = (λ told. absurd (late steps told), λ root. absurd root.begins)
+root-told (Exit ∷ steps) = (λ told. absurd (late steps told), λ root. absurd root.begins)
 root-told (Enter kind ∷ steps) =
     let rest = without_errors steps in
-    let told-closes = tells-closes 1 0 1 steps (omega arith) (λ none. absurd (omega (arith, none))) in (
+    let told-closes = tells-closes 1 1 steps (omega arith) (λ none. absurd (omega (arith, none))) in (
       λ told.
           let closes = told-closes.0 told in
           record {

@@ -10,7 +10,7 @@ use Rattle.squawk_output.specs.declared.event.Event.TheVariants as event
 use Rattle.squawk_output.specs.declared.log.stored_event.StoredEvent.{StoredEvent}
 use Rattle.squawk_output.specs.declared.log.stored_event.StoredEvent.TheVariants.{Start, Error}
 use Rattle.squawk_output.specs.EventLog.{LinksLead, linked_place, has_link, is_start, list_of, steps_of_event, turns_of}
-use Rattle.squawk_output.specs.Pass.{PassesList, Visits}
+use Rattle.squawk_output.specs.Pass.{PassesList, Visits, VisitsTo}
 use Rattle.squawk_output.specs.StoredEvents.{HaveEventTexts, event_of, link_of, log_in}
 use Rattle.squawk_output.proofs.LogTurns.{one_if}
 use Rattle.squawk_output.proofs.StoredEvents.{event_at, length-log_in}
@@ -64,6 +64,24 @@ module _ (events : List StoredEvent) (texts : List (List ℕ)) (before : List St
           none = none;
         };
         have_texts = rw list.same_texts at have;
+        same_texts = visit.texts ∙ list.same_texts;
+      }
+
+  -- events without links are visited up to another place
+  pub passes-to : (slice : List StoredEvent) (made : Passed) (place' : ℕ) → slice ≡ before → VisitsTo (log_in output.texts slice) output made place place'
+      → PassesList events texts before made kinds place'
+  passes-to slice made place' whole visits =
+      let here : VisitsTo (log_in output.texts before) output made place place' = subst (λ (xs : List StoredEvent). VisitsTo (log_in output.texts xs) output made place place') whole visits in
+      let visit : VisitsTo (log_in texts before) output made place place' = subst (λ (ts : List (List ℕ)). VisitsTo (log_in ts before) output made place place') list.same_texts here in
+      record {
+        passes = record {
+          same_length = list.passes.same_length;
+          links = list.passes.links;
+          steps = visit.steps ∙ list.passes.steps;
+          turns = visit.turns ∙ list.passes.turns;
+          none = list.passes.none;
+        };
+        have_texts = list.have_texts;
         same_texts = visit.texts ∙ list.same_texts;
       }
 

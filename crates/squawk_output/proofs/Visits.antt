@@ -116,15 +116,16 @@ pub begins-with : (log : Log) (place : ℕ) (x d event : Event) → place < leng
     → drop place log ≡ event ∷ drop (place + 1) log
 begins-with log place x d event within got is = rw add-one (drop-cons log place d within ∙ ap (λ y. y ∷ drop (suc place) log) (sym got ∙ is))
 
+-- an event without a link begins the list of the log with its step
+pub list-alone : (log : Log) (place : ℕ) (event : Event) → drop place log ≡ event ∷ drop (place + 1) log → linked_place event ≡ None
+    → list_of (drop place log) ≡ steps_of_event event ++ list_of (drop (place + 1) log)
+list-alone log place event begins alone =
+    let behind = drop (place + 1) log in
+    ap list_of begins ∙ (list_of-cons event behind ∙ rw (alone, entered-None behind, erased-None behind) refl)
+
 -- as the code has it
 module _ (log : Log) (output turned : Passed) (place : ℕ) (turn : turned ≡ record output { turns = output.turns + 1 }) where
   module _ (event : Event) (begins : drop place log ≡ event ∷ drop (place + 1) log) (alone : linked_place event ≡ None) where
-    -- an event without a link begins the list of the log with its step
-    list-alone : list_of (drop place log) ≡ steps_of_event event ++ list_of (drop (place + 1) log)
-    list-alone =
-        let behind = drop (place + 1) log in
-        ap list_of begins ∙ (list_of-cons event behind ∙ rw (alone, entered-None behind, erased-None behind) refl)
-
     -- and it gives that step
     pub Visits-alone : (after : Log) (made : Passed) → length after ≡ length log → LinksLead after → drop (suc place) after ≡ drop (suc place) log
         → has_link event ≡ false → made.steps ≡ turned.steps ++ steps_of_event event → made.turns ≡ turned.turns + one_if (is_start event)
@@ -135,7 +136,7 @@ module _ (log : Log) (output turned : Passed) (place : ℕ) (turn : turned ≡ r
         record {
           same_length = same;
           links = links;
-          steps = rw (steps, rest) (append_assoc output.steps (steps_of_event event) (list_of (drop (place + 1) log)) ∙ ap (λ ys. output.steps ++ ys) (sym list-alone));
+          steps = rw (steps, rest) (append_assoc output.steps (steps_of_event event) (list_of (drop (place + 1) log)) ∙ ap (λ ys. output.steps ++ ys) (sym (list-alone log place event begins alone)));
           turns =
               omega (
                 arith,

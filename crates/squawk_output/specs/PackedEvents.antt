@@ -1,5 +1,5 @@
 -- Events as a log keeps them: the word of a step, and a link.
-use Rattle.std.specs.Prelude.{◌≡◌, ◌≢◌, ℕ, ◌+◌, ◌-◌, ◌/◌, ◌%◌, ◌<◌, ◌==◌, List, if◌then◌else◌}
+use Rattle.std.specs.Prelude.{◌≡◌, ◌≢◌, ℕ, ◌-◌, ◌/◌, ◌%◌, ◌<◌, ◌==◌, if◌then◌else◌}
 use Rattle.squawk_kinds.specs.Kinds.{TOMBSTONE}
 use Rattle.squawk_output.specs.declared.log.stored_event.StoredEvent.{StoredEvent}
 use Rattle.squawk_output.specs.declared.log.stored_event.StoredEvent.TheVariants.{Hole, Start, Finish, Token, Error}
@@ -13,6 +13,13 @@ pub record IsAlone (word : ℕ) : Type 0 where
   pub odd : word % 2 ≡ 1
   pub tag : tag_of word < 3
   pub node : tag_of word ≡ 1 → word / 65536 ≢ TOMBSTONE
+
+-- how many nodes the step of such a word enters and leaves
+abbrev pub enters_of : ℕ → ℕ
+enters_of word = word / 16 % 2
+
+abbrev pub leaves_of : ℕ → ℕ
+leaves_of word = word / 32 % 2
 
 -- an event by its word and the word's tag
 abbrev pub tagged_event : ℕ → ℕ → StoredEvent

@@ -1,7 +1,8 @@
 -- What the loops keep that put events in, and those of the pass.
-use Rattle.std.specs.Prelude.{◌≡◌, ℕ, ◌+◌, Option, List, [], ◌++◌, length, drop}
+use Rattle.std.specs.Prelude.{◌≡◌, ℕ, ◌+◌, ◌≤◌, cond, false, Option, None, List, [], ◌++◌, length, drop}
 use Rattle.squawk_output.specs.Steps.{Passed}
-use Rattle.squawk_output.specs.EventLog.{Log, LinksLead, errors_logged, list_of, turns_of}
+use Rattle.squawk_output.specs.EventLog.{Log, LinksLead, errors_logged, has_link, is_start, linked_place, list_of, steps_of_event, turns_of}
+use Rattle.squawk_output.specs.declared.event.Event.{Event}
 use Rattle.squawk_output.specs.Chain.{LandsAt, chain, entered_back, erased}
 use Rattle.squawk_output.specs.StoredEvents.{HaveEventTexts, log_in}
 use Rattle.squawk_output.specs.declared.log.stored_event.StoredEvent.{StoredEvent}
@@ -29,6 +30,22 @@ pub record Visits (log : Log) (output : Passed) (log' : Log) (output' : Passed) 
   pub links : LinksLead log'
   pub steps : output'.steps ++ list_of (drop (place + 1) log') ≡ output.steps ++ list_of (drop place log)
   pub turns : output'.turns + turns_of (drop (place + 1) log') ≡ output.turns + turns_of (drop place log)
+  pub texts : output'.texts ≡ output.texts
+
+-- An event is visited that has no link: it gives its step where it stands.
+pub record GivesAlone (event : Event) (output output' : Passed) : Type 0 where
+  pub alone : linked_place event ≡ None
+  pub unlinked : has_link event ≡ false
+  pub steps : output'.steps ≡ output.steps ++ steps_of_event event
+  pub turns : output'.turns ≡ output.turns + 1 + cond (is_start event) 1 0
+  pub texts : output'.texts ≡ output.texts
+
+-- The events from a place to another are visited, and none of them has a link.
+pub record VisitsTo (log : Log) (output output' : Passed) (place place' : ℕ) : Type 0 where
+  pub forward : place ≤ place'
+  pub within : place' ≤ length log
+  pub steps : output'.steps ++ list_of (drop place' log) ≡ output.steps ++ list_of (drop place log)
+  pub turns : output'.turns + turns_of (drop place' log) ≡ output.turns + turns_of (drop place log)
   pub texts : output'.texts ≡ output.texts
 
 -- The events before a place were visited.

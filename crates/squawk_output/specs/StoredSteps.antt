@@ -33,6 +33,11 @@ FitsWord (Enter kind) = kind < 65536
 FitsWord Exit = Unit {0}
 FitsWord (Error number) = number < 2147483648
 
+-- a step that is no error
+abbrev pub IsNoError : StoredStep → Type 0
+IsNoError (Error number) = ⊥
+IsNoError step = Unit {0}
+
 -- ---- texts of errors
 
 -- the step with its text, if it is an error: the one that has its number

@@ -1,9 +1,9 @@
 //! The one pass that makes an output of a log of events.
-ghost use Rattle.std.specs.Prelude.{◌≡◌, ◌<◌, ◌≤◌, ◌+◌, ◌^◌, length, IfOk, ◌++◌, []};
+ghost use Rattle.std.specs.Prelude.{◌≡◌, ◌<◌, ◌≤◌, ◌+◌, ◌^◌, false, length, true, IfOk, ◌++◌, []};
 ghost use Rattle.squawk_output.specs.Chain.{LandsAt, chain, entered_back, erased, hop};
 ghost use Rattle.squawk_output.specs.EventLog.{LinksLead, entering, list_of, turns_of};
-ghost use Rattle.squawk_output.specs.Pass.{Visits};
-ghost use Rattle.squawk_output.specs.StoredEvents.{HaveEventTexts, link_of, log_in};
+ghost use Rattle.squawk_output.specs.Pass.{GivesAlone, Visits, VisitsTo};
+ghost use Rattle.squawk_output.specs.StoredEvents.{HasEventText, HaveEventTexts, event_of, link_of, log_in};
 
 use crate::log::stored_event::{PackedEvent, StoredEvent};
 use crate::output::passed::PassedSteps;
@@ -28,14 +28,60 @@ pub(crate) fn pass(
 {
     let mut passed = PassedSteps::with_capacity(alloc, events.len(), errors)?;
     let mut kinds = Vec::new(alloc);
-    for place in 0..events.len() {
-        visit(&mut events, &mut kinds, &mut passed, place)?;
+    let mut place = 0;
+    while place < events.len() {
+        place = visit_alone(&events, &mut passed, place);
+        if place < events.len() {
+            visit(&mut events, &mut kinds, &mut passed, place)?;
+            place += 1;
+        }
     }
     Ok(Output::new(passed, recorded))
 }
 
+/// Visits events from a place on, as long as they have no link and there is room for their steps. Gives
+/// the place where it stops.
+fn visit_alone(events: &[PackedEvent], passed: &mut PassedSteps, place: usize) -> usize
+    requires few { length events.now < 2 ^ 32 }
+    requires turns { passed.old.turns < 2 ^ 35 }
+    requires within { place ≤ length events.now }
+    requires texts { HaveEventTexts passed.old.texts events.now }
+    requires errors { length passed.old.texts ≤ 2147483648 }
+    ensures { VisitsTo (log_in passed.old.texts events.now) passed.old passed.new place result }
+{
+    let mut at = place;
+    while at < events.len() && gives_alone(&events[at], passed) {
+        at += 1;
+    }
+    at
+}
+
+/// Visits an event, unless it has a link or there is no room for its step. Tells whether it did.
+#[inline(always)]
+fn gives_alone(event: &PackedEvent, passed: &mut PassedSteps) -> bool
+    requires turns { passed.old.turns + 2 < 2 ^ 64 }
+    requires text { HasEventText passed.old.texts event.now }
+    requires errors { length passed.old.texts ≤ 2147483648 }
+    ensures gives { result ≡ true → GivesAlone (event_of passed.old.texts event.now) passed.old passed.new }
+    ensures stays { result ≡ false → passed.new ≡ passed.old }
+{
+    if let Some(word) = event.alone() {
+        return passed.put_alone(word);
+    }
+    if let Some(number) = event.error_number() {
+        return passed.put_error(number);
+    }
+    if event.is_aside() {
+        passed.turn();
+        passed.turn();
+        return true;
+    }
+    false
+}
+
 /// Visits the event at a place. All to which links lead from there is taken out; the event itself
 /// stays, since nothing comes back to it.
+#[inline(never)]
 fn visit(
     events: &mut Vec<PackedEvent>,
     kinds: &mut Vec<SyntaxKind>,

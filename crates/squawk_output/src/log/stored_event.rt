@@ -49,7 +49,7 @@ impl StoredEvent {
 /// The link of an event that gives no step. None leads so far: a log has fewer events.
 const ASIDE: u32 = 4294967295;
 
-/// The word of an open marker, beside that link: `TOMBSTONE` as its kind, and no step's tag.
+/// The word of an open marker, beside that link. It has the kind of no node, and enters none.
 const HOLE: u32 = 65537;
 
 /// An event in eight bytes, ready for the pass.
@@ -171,6 +171,18 @@ impl PackedEvent {
     {
         if self.link == 0 {
             Some(self.word)
+        } else {
+            None
+        }
+    }
+
+    /// The number of an error.
+    #[inline(always)]
+    pub(crate) fn error_number(&self) -> Option<u32>
+        ensures { IfSome result (λ number. self.now ≡ StoredEvent.Error number) }
+    {
+        if self.word == 0 {
+            Some(self.link - 1)
         } else {
             None
         }

@@ -1,7 +1,9 @@
 //! The steps that a pass makes.
-ghost use Rattle.std.specs.Prelude.{◌≡◌, [], ◌∷◌, ◌++◌, ◌+◌, ◌<◌, ◌^◌, ◌↔◌, IfOk, IsTrue, length, slice_index_or};
+ghost use Rattle.std.specs.Prelude.{◌≡◌, [], ◌∷◌, ◌++◌, ◌+◌, ◌<◌, ◌^◌, ◌↔◌, IfOk, IsTrue, false, length, slice_index_or, true};
 ghost use Rattle.squawk_output.specs.OneRoot.{StandsInOneRoot};
+ghost use Rattle.squawk_output.specs.PackedEvents.{IsAlone, enters_of};
 ghost use Rattle.squawk_output.specs.Steps.{Token, Enter, Exit, Error, without_errors};
+ghost use Rattle.squawk_output.specs.StoredSteps.{step_in};
 
 use crate::output::root_note::RootNote;
 use crate::output::steps::Steps;
@@ -41,6 +43,7 @@ impl Model for PassedSteps {
       note : note_of (map (step_in p.errors.items) p.words.items) ≡ record { count = length p.words.items - p.told; note = p.note };
       told : p.told ≤ length p.words.items;
       low : p.note.depth ≤ length p.words.items;
+      few : p.note.outside ≤ length p.words.items;
     } };
 }
 
@@ -76,11 +79,54 @@ impl PassedSteps {
     }
 
     /// Counts a turn of the pass.
+    #[inline(always)]
     pub(crate) fn turn(&mut self)
         requires { self.old.turns + 1 < 2 ^ 64 }
         ensures { self.new ≡ record self.old { turns = self.old.turns + 1 } }
     {
         self.turns += 1;
+    }
+
+    /// Puts the step of a word at the end, if there is room for it, and says whether there was. It makes
+    /// a turn, and one more for the beginning of a node.
+    ///
+    /// No jump depends on what the step is.
+    #[inline(always)]
+    pub(crate) fn put_alone(&mut self, word: u32) -> bool
+        requires alone { IsAlone word }
+        requires turns { self.old.turns + 2 < 2 ^ 64 }
+        ensures put { result ≡ true → self.new ≡ record self.old { steps = self.old.steps ++ step_in self.old.texts word ∷ []; turns = self.old.turns + 1 + enters_of word } }
+        ensures full { result ≡ false → self.new ≡ self.old }
+    {
+        if self.words.len() == self.words.capacity() {
+            return false;
+        }
+        let enters = (word >> 4) % 2;
+        let leaves = (word >> 5) % 2;
+        self.words.push_reserved(word);
+        self.note.step(enters as usize, leaves as usize);
+        self.turns += u64::from(1 + enters);
+        true
+    }
+
+    /// The same for the error of a number, which makes a turn. Numbers of errors have 31 bits.
+    #[inline(always)]
+    pub(crate) fn put_error(&mut self, number: u32) -> bool
+        requires text { number < length self.old.texts }
+        requires fits { number < 2147483648 }
+        requires turns { self.old.turns + 1 < 2 ^ 64 }
+        ensures put { result ≡ true → self.new ≡ record self.old { steps = self.old.steps ++ Error (slice_index_or self.old.texts number []) ∷ []; turns = self.old.turns + 1 } }
+        ensures full { result ≡ false → self.new ≡ self.old }
+    {
+        if self.words.len() == self.words.capacity() {
+            return false;
+        }
+        let told = self.told + 1;
+        self.words
+            .push_reserved(StoredStep::Error { number }.pack());
+        self.told = told;
+        self.turn();
+        true
     }
 
     /// Puts a token at the end.
@@ -92,6 +138,7 @@ impl PassedSteps {
             n_input_tokens,
         };
         self.words.push(token.pack())?;
+        self.note.step(0, 0);
         Ok(())
     }
 
@@ -99,9 +146,8 @@ impl PassedSteps {
     pub(crate) fn enter_node(&mut self, kind: SyntaxKind) -> Result<(), AllocError>
         ensures { IfOk result (λ _. self.new ≡ record self.old { steps = self.old.steps ++ Enter kind ∷ [] }) }
     {
-        let before = self.words.len() - self.told;
         self.words.push(StoredStep::Enter { kind }.pack())?;
-        self.note.enter(before);
+        self.note.step(1, 0);
         Ok(())
     }
 
@@ -109,9 +155,8 @@ impl PassedSteps {
     pub(crate) fn leave_node(&mut self) -> Result<(), AllocError>
         ensures { IfOk result (λ _. self.new ≡ record self.old { steps = self.old.steps ++ Exit ∷ [] }) }
     {
-        let before = self.words.len() - self.told;
         self.words.push(StoredStep::Exit.pack())?;
-        self.note.leave(before);
+        self.note.step(0, 1);
         Ok(())
     }
 

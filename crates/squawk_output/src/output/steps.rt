@@ -39,19 +39,16 @@ impl<'a> Steps<'a> {
     }
 
     /// Takes the next step if it is an error, and gives its text. Any other step stays.
+    #[inline(always)]
     pub fn next_error(&mut self) -> Option<&'a str>
         ensures error { IfSome result (λ msg. self.old ≡ Error (chars msg.now) ∷ self.new) }
         ensures none { IsNone result → begins_with_error self.old ≡ false }
         ensures stays { IsNone result → self.new ≡ self.old }
     {
         let (word, rest) = self.words.split_first()?;
-        match StoredStep::unpack(*word) {
-            StoredStep::Error { number } => {
-                self.words = rest;
-                Some(self.errors[number as usize].as_str())
-            }
-            _ => None,
-        }
+        let number = StoredStep::error_number(*word)?;
+        self.words = rest;
+        Some(self.errors[number as usize].as_str())
     }
 }
 
@@ -67,6 +64,7 @@ impl<'a> Iterator for Steps<'a> {
 
     ghost remaining = { item_count (λ s. s) };
 
+    #[inline(always)]
     fn next(&mut self) -> Option<Step<'a>> {
         let (first, rest) = self.words.split_first()?;
         self.words = rest;

@@ -1,7 +1,7 @@
 //! The steps of an output as it keeps them, in a word each.
-ghost use Rattle.std.specs.Prelude.{◌≡◌, ◌<◌};
+ghost use Rattle.std.specs.Prelude.{◌≡◌, ◌<◌, IfSome, IsNone};
 ghost use Rattle.squawk_output.specs.StepViews.{step_of};
-ghost use Rattle.squawk_output.specs.StoredSteps.{FitsWord, HasText, odd_word, packed, unpacked, with_text};
+ghost use Rattle.squawk_output.specs.StoredSteps.{FitsWord, HasText, IsNoError, odd_word, packed, unpacked, with_text};
 
 use crate::output::step::Step;
 use crate::output::text::Text;
@@ -36,6 +36,7 @@ impl StoredStep {
     /// An even word is twice an error's number. An odd one has 1 in its lowest four bits, and above
     /// them four bits that tell a token, the beginning of a node, or its end; eight with the number of
     /// input tokens; and sixteen with the kind.
+    #[inline(always)]
     pub(crate) fn pack(self) -> u32
         requires { FitsWord self }
         ensures word { result ≡ packed self }
@@ -52,14 +53,21 @@ impl StoredStep {
         }
     }
 
-    /// The step of a word.
+    /// The step of a word. A token, of which there are the most, is told by one test.
+    #[inline(always)]
     pub(crate) fn unpack(word: u32) -> StoredStep
         ensures { result ≡ unpacked word }
     {
+        let kind = SyntaxKind::from((word >> 16) as u16);
+        if word % 256 == (TOKEN << 4) + 1 {
+            return StoredStep::Token {
+                kind,
+                n_input_tokens: ((word >> 8) % 256) as u8,
+            };
+        }
         if word % 2 == 0 {
             return StoredStep::Error { number: word / 2 };
         }
-        let kind = SyntaxKind::from((word >> 16) as u16);
         match (word >> 4) % 16 {
             TOKEN => StoredStep::Token {
                 kind,
@@ -70,7 +78,17 @@ impl StoredStep {
         }
     }
 
+    /// The number of an error by its word; none of any other step.
+    #[inline(always)]
+    pub(crate) fn error_number(word: u32) -> Option<u32>
+        ensures error { IfSome result (λ number. unpacked word ≡ StoredStep.Error number) }
+        ensures none { IsNone result → IsNoError (unpacked word) }
+    {
+        if word % 2 == 0 { Some(word / 2) } else { None }
+    }
+
     /// The step, with the text of its error out of all of them.
+    #[inline(always)]
     pub(crate) fn lend(self, errors: &[Text]) -> Step<'_>
         requires { HasText errors.now self }
         ensures { step_of result ≡ with_text errors.now self }
@@ -93,6 +111,7 @@ impl StoredStep {
 }
 
 /// The word of a step that is no error.
+#[inline(always)]
 fn odd_word(kind: SyntaxKind, n_input_tokens: u8, tag: u32) -> u32
     requires { tag < 16 }
     ensures { result ≡ odd_word kind n_input_tokens tag }

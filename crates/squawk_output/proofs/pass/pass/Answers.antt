@@ -1,14 +1,34 @@
 use Rattle.std.proofs.Common.{ap, arith}
 use Rattle.squawk_output.proofs.StoredEvents.{length-log_in}
-use Rattle.squawk_output.proofs.StoredVisits.{passes-end, passes-next}
+use Rattle.squawk_output.proofs.StoredVisits.{passes-end, passes-next, passes-to}
 use Rattle.squawk_output.proofs.pass.pass.Goals as goal
 
+pub loop-place-preserved-then-place-len : goal.loop-place-preserved-then-place-len
+loop-place-preserved-then-place-len c =
+    let texts = c.in_ok-passed.passed.texts in
+    let ran = passes-to _ _ _ _ _ _ c.loop-place.invariant.0 c.deref.result.now c.visit_alone-place.new.passed c.visit_alone-place.result c.deref.ensures.value c.visit_alone-place.ensures in
+    let list = passes-next _ _ _ _ _ _ ran _ _ _ c.in_ok-visit.ensures.visits c.in_ok-visit.ensures.texts c.in_ok-visit.ensures.none in (
+      list,
+      omega (
+        arith,
+        c.if-place-len.true,
+        list.passes.same_length,
+        ran.passes.same_length,
+        length-log_in texts c.loop-place.events.items,
+        length-log_in texts c.visit.new.events.items,
+      ),
+    )
+
 pub loop-place-preserved : goal.loop-place-preserved
-loop-place-preserved c = passes-next _ _ _ _ _ _ c.loop-place.invariant _ _ _ c.in_ok-visit.ensures.visits c.in_ok-visit.ensures.texts c.in_ok-visit.ensures.none
+loop-place-preserved c = (
+  passes-to _ _ _ _ _ _ c.loop-place.invariant.0 c.deref.result.now c.visit_alone-place.new.passed c.visit_alone-place.result c.deref.ensures.value c.visit_alone-place.ensures,
+  omega (arith, c.visit_alone-place.ensures.within, c.deref.ensures.len, length-log_in c.loop-place.passed.texts c.deref.result.now),
+)
 
 pub returns : goal.returns
 returns c =
     let texts = c.in_ok-passed.passed.texts in
-    passes-end _ _ _ _ _ _ c.loop-place.invariant
-    (omega (arith, c.loop-place.invariant.passes.same_length, length-log_in texts c.args.events.items, length-log_in texts c.loop-place.events.items))
+    let list = c.loop-place.invariant.0 in
+    passes-end _ _ _ _ _ _ list
+    (omega (arith, list.passes.same_length, length-log_in texts c.args.events.items, length-log_in texts c.loop-place.events.items))
     c.args.errors.items c.args.recorded c.new.result (ap (λ w. w.texts) c.in_ok-passed.ensures) c.new.ensures
