@@ -1,6 +1,6 @@
 -- Words and their kinds, one after another.
 use Rattle.std.proofs.Common.{◌≡◌, ℕ, ◌≤◌, List, [], ◌∷◌, length, drop, Bool, true, false, cond, Option, Some, None, Ok, Err, refl, sym, ◌∙◌}
-use Rattle.std.specs.Prelude.{Result, IfSome, ◌||◌, ◌==◌, is_some, map}
+use Rattle.std.specs.Prelude.{Result, IfSome, OnErr, OnOk, ◌||◌, ◌==◌, is_some, map}
 use Rattle.std.proofs.Math.Bool.{or-false, or_assoc}
 use Rattle.std.proofs.lemmas.List.{drop_all}
 use Rattle.std.proofs.lemmas.Slice.Eq.{bytes_eq-Decides}
@@ -22,7 +22,7 @@ with_pairs answers reading = reading >>= λ pairs. Ok (record {
   kinds = λ kind. answers.kinds kind || has_kind pairs kind;
 })
 
-or_none : (o : Option ℕ) → option_or o None ≡ o
+pub or_none : (o : Option ℕ) → option_or o None ≡ o
 or_none None = refl
 or_none (Some x) = refl
 
@@ -70,19 +70,38 @@ keyword_more (Some x) same kind was is = was
 keyword_more None true kind was is = is
 keyword_more None false kind was is = tt
 
--- a word that has no kind gets this one
-pub put_first-new : (old new : Keywords) (word bytes : List ℕ) (kind : ℕ)
-    → bytes ≡ word → is_some (old word) ≡ false → ((text : List ℕ) → new text ≡ cond (bytes_eq bytes text) (Some kind) (old text))
-    → (text : List ℕ) → new text ≡ option_or (old text) (cond (bytes_eq word text) (Some kind) None)
-put_first-new old new word bytes kind is missing puts text = by_test (bytes_eq word text) refl
-  where
-    none_of : (o : Option ℕ) → is_some o ≡ false → o ≡ None
-    none_of None e = refl
-    none_of (Some x) e = absurd (cc)
+-- where nothing is, there is none
+none_of : (o : Option ℕ) → is_some o ≡ false → o ≡ None
+none_of None e = refl
+none_of (Some x) e = absurd (cc)
 
+-- what has a kind keeps it
+pub put_first-same : (old : Keywords) (word : List ℕ) (kind : ℕ) → is_some (old word) ≡ true
+    → (text : List ℕ) → old text ≡ option_or (old text) (cond (bytes_eq word text) (Some kind) None)
+put_first-same old word kind there text = by_kind (old text) refl (bytes_eq word text) refl
+  where
+    by_kind : (had : Option ℕ) → old text ≡ had → (same : Bool) → bytes_eq word text ≡ same → had ≡ option_or had (cond same (Some kind) None)
+    by_kind (Some k) e same s = refl
+    by_kind None e false s = refl
+    by_kind None e true s =
+        let equal : word ≡ text = (bytes_eq-Decides word text).0 s in
+        let gone : is_some (old word) ≡ false = rw (equal, e) refl in
+        absurd (cc)
+
+-- what holds whether the words have one more or stay
+pub by_result : {X E : Type 0} (result : Result X E) (Puts Stays P : Type 0) → OnOk result Puts → OnErr result Stays → (Puts → P) → (Stays → P) → P
+by_result (Ok x) Puts Stays P puts stays more same = more puts
+by_result (Err e) Puts Stays P puts stays more same = same stays
+
+-- a word that has no kind gets this one
+pub put-new : (old new : Keywords) (word bytes : List ℕ) (kind : ℕ)
+    → bytes ≡ word → old word ≡ None → ((text : List ℕ) → new text ≡ cond (bytes_eq bytes text) (Some kind) (old text))
+    → (text : List ℕ) → new text ≡ option_or (old text) (cond (bytes_eq word text) (Some kind) None)
+put-new old new word bytes kind is missing puts text = by_test (bytes_eq word text) refl
+  where
     by_test : (same : Bool) → bytes_eq word text ≡ same → new text ≡ option_or (old text) (cond (bytes_eq word text) (Some kind) None)
     by_test true e =
         let equal : word ≡ text = (bytes_eq-Decides word text).0 e in
-        let gone : old text ≡ None = rw (← equal) (none_of (old word) missing) in
+        let gone : old text ≡ None = rw (← equal) missing in
         rw (puts text, is, e, gone) refl
     by_test false e = rw (puts text, is, e) (sym (or_none (old text)))

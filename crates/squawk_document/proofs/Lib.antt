@@ -5,5 +5,6 @@ mod WrittenValues
 mod WrittenTokens
 mod WrittenCalls
 mod KeywordPairLemmas
-mod WordPlaceLemmas
 mod MemberNames
+mod WordPlaceLemmas
+mod TextHalfLemmas

@@ -11,4 +11,5 @@ pub mod WrittenCalls
 pub mod DocumentGrammars
 pub mod Documents
 pub mod MemberNames
+pub mod TextHalves
 pub mod WordPlaces

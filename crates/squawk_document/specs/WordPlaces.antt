@@ -1,17 +1,42 @@
 -- Places that words take. Only the look-up of words and its invariant speak of them.
-use Rattle.std.specs.Prelude.{◌≡◌, ℕ, ◌+◌, ◌-◌, ◌*◌, ◌%◌, Bool, true, false, List, [], ◌∷◌, length, Some, slice_index}
-use Rattle.std.specs.List.{slice_index_or}
+use Rattle.std.specs.Prelude.{◌≡◌, ℕ, ◌+◌, ◌-◌, ◌*◌, ◌/◌, ◌%◌, ◌^◌, ◌<◌, ◌≤◌, ◌==◌, cond, List, [], ◌∷◌, ◌++◌, ◌⊎◌, length, Option, Some, None, slice_get, slice_index}
+use Rattle.std.specs.Str.{bytes_eq}
 use Rattle.squawk_kinds.specs.Keywords.{Keywords}
+use Rattle.squawk_document.specs.TextHalves.{halves_of}
+
+-- the place of a text with these halves: the upper ten bits of a product
+abbrev pub place_at : ℕ × ℕ → ℕ
+place_at halves = (halves.0 + halves.1) % 2 ^ 64 * 0x9e37_79b9_7f4a_7c15 % 2 ^ 64 / 2 ^ 54
 
 -- the place of a text
 abbrev pub place_of : List ℕ → ℕ
-place_of [] = 0
-place_of (first ∷ rest) = (32 * first + slice_index (first ∷ rest) (length (first ∷ rest) - 1) + 5 * (length (first ∷ rest) % 32)) % 1024
+place_of text = place_at (halves_of text)
 
--- whether it is taken
-abbrev pub is_taken : List Bool → List ℕ → Bool
-is_taken places text = slice_index_or places (place_of text) false
+-- what the word of a slot tells of a text, where the next slot tells the rest
+abbrev pub told_of : Option (List ℕ × ℕ) → List ℕ → Option (Option ℕ) → Option (Option ℕ)
+told_of None text rest = None
+told_of (Some word) text rest = cond (bytes_eq word.0 text) (Some (Some word.1)) rest
 
--- each word that has a kind has taken its place
-abbrev pub HaveTaken : Keywords → List Bool → Type 0
-HaveTaken kind_of places = (text : List ℕ) (kind : ℕ) → kind_of text ≡ Some kind → is_taken places text ≡ true
+-- what a slot tells
+abbrev pub told_by : List (List ℕ × ℕ) → ℕ → List ℕ → Option (Option ℕ) → Option (Option ℕ)
+told_by words slot text rest = cond (slot == 0) (Some None) (told_of (slice_get words (slot - 1)) text rest)
+
+-- what the two slots of its place tell of a text: its kind, or that it is no word, or nothing
+abbrev pub told : List ℕ → List (List ℕ × ℕ) → List ℕ → Option (Option ℕ)
+told slots words text =
+    let at = 2 * place_of text in
+    told_by words (slice_index slots at) text (told_by words (slice_index slots (at + 1)) text None)
+
+-- there are two slots for each place, and they are of these words: one that isn't past all words is of a word that is there
+pub record AreSlots (slots : List ℕ) (words : List (List ℕ × ℕ)) : Type 0 where
+  pub size : length slots ≡ 2048
+  pub few : length words ≤ 2048
+  pub known : (i : ℕ) → slice_index slots i < 65535 → slice_index slots i ≤ length words
+
+-- a word is kept behind the words, or isn't, and this is its slot
+abbrev pub IsKept : List (List ℕ × ℕ) → List ℕ × ℕ → ℕ → List (List ℕ × ℕ) → Type 0
+IsKept old word slot new = ((length old < 2048) × (slot ≡ length old + 1) × (new ≡ old ++ word ∷ [])) ⊎ ((slot ≡ 65535) × (new ≡ old))
+
+-- what the places tell is so
+abbrev pub TellOf : Keywords → List ℕ → List (List ℕ × ℕ) → Type 0
+TellOf kind_of slots words = (text : List ℕ) (answer : Option ℕ) → told slots words text ≡ Some answer → kind_of text ≡ answer

@@ -1,15 +1,16 @@
 //! Words with their kinds.
-ghost use Rattle.std.specs.Prelude.{◌≡◌, ℕ, ◌||◌, List, [], ◌∷◌, Some, None, false, IfOk, IfSome, OnOk, OnErr, if◌then◌else◌};
+ghost use Rattle.std.specs.Prelude.{◌≡◌, ℕ, ◌||◌, ◌==◌, List, [], ◌∷◌, Some, None, false, IfOk, IfSome, OnOk, OnErr, if◌then◌else◌};
 ghost use Rattle.std.specs.HashMap.{IsUnchanged, get_by_text};
 ghost use Rattle.std.specs.Option.{option_or};
 ghost use Rattle.std.specs.Str.{bytes_eq};
 ghost use Rattle.std.proofs.Props.{props};
 ghost use Rattle.serde_json.specs.View.{view};
-ghost use Rattle.squawk_kinds.specs.Kinds.{IsKeyword};
+ghost use Rattle.squawk_kinds.specs.Kinds.{IsKeyword, IsTokenKind};
 ghost use Rattle.squawk_kinds.specs.TokenSets.{has};
 ghost use Rattle.squawk_document.specs.Values.{Gives, GivesExactly};
 ghost use Rattle.squawk_document.specs.KeywordPairs.{ListAnswers, has_kind, keyword_in, keyword_kind_in, list_answered, keyword_list_in};
-ghost use Rattle.squawk_document.specs.WordPlaces.{HaveTaken};
+ghost use Rattle.squawk_document.specs.WordPlaces.{TellOf};
+ghost use Rattle.squawk_document.specs.declared.word_places.WordPlaces.{WordPlaces as Places};
 
 use crate::document_error::DocumentError;
 use crate::value;
@@ -24,9 +25,10 @@ use std::collections::HashMap;
 pub struct KeywordList {
     kinds: HashMap<String, SyntaxKind>,
     set: TokenSet,
-    places: WordPlaces,
+    /// None where there are no words, or memory was refused.
+    places: Option<WordPlaces>,
     ghost keywords: { (text : List ℕ) → IfSome (get_by_text kinds text) IsKeyword } by { Prim.hlevel props },
-    ghost taken: { HaveTaken (get_by_text kinds) places },
+    ghost told: { (p : Places) → places ≡ Some p → TellOf (get_by_text kinds) p.slots.items p.words.items },
 }
 
 impl KeywordList {
@@ -39,7 +41,7 @@ impl KeywordList {
         Ok(KeywordList {
             kinds,
             set: TokenSet::EMPTY,
-            places: WordPlaces::FREE,
+            places: WordPlaces::of_list(alloc, words),
         })
     }
 
@@ -50,10 +52,25 @@ impl KeywordList {
             ≡ option_or (get_by_text self.old.kinds text) (if bytes_eq word.now text then Some kind else None)) }
         ensures set { OnOk result ((one : ℕ) → has self.new.set one ≡ (has self.old.set one || has_kind ((word.now, kind) ∷ []) one)) }
     {
-        self.places.take(word);
-        put_first(&mut self.kinds, alloc, word, kind)?;
-        self.set = self.set.union(TokenSet::new(&[kind]));
+        self.put(alloc, word, kind)?;
+        insert_kind(&mut self.set, kind);
         Ok(())
+    }
+
+    /// Puts the kind of a word where it has none. The set stays.
+    fn put(&mut self, alloc: Global, word: &str, kind: SyntaxKind) -> Result<(), AllocError>
+        requires { IsKeyword kind }
+        ensures kinds { OnOk result ((text : List ℕ) → get_by_text self.new.kinds text
+            ≡ option_or (get_by_text self.old.kinds text) (if bytes_eq word.now text then Some kind else None)) }
+        ensures set { self.new.set ≡ self.old.set }
+    {
+        match &mut self.places {
+            Some(places) => put_in_place(places, &mut self.kinds, alloc, word, kind),
+            None => {
+                put_first(&mut self.kinds, alloc, word, kind)?;
+                Ok(())
+            }
+        }
     }
 
     /// The kind of a word.
@@ -61,10 +78,22 @@ impl KeywordList {
     pub fn kind_of(&self, word: &str) -> Option<SyntaxKind>
         ensures { result ≡ get_by_text self.now.kinds word.now }
     {
-        if !self.places.is_taken(word) {
-            return None;
+        match self.told(word) {
+            Some(kind) => kind,
+            None => self.looked_up(word),
         }
-        self.looked_up(word)
+    }
+
+    /// What is known of a word before it is looked up.
+    #[inline(always)]
+    fn told(&self, word: &str) -> Option<Option<SyntaxKind>>
+        ensures { IfSome result (λ kind. kind ≡ get_by_text self.now.kinds word.now) }
+    {
+        match &self.places {
+            Some(places) => places.told(word),
+            None if self.kinds.is_empty() => Some(None),
+            None => None,
+        }
     }
 
     /// The same by the map.
@@ -83,6 +112,31 @@ impl KeywordList {
     }
 }
 
+/// The same where words have places, which tell of the words.
+fn put_in_place(
+    places: &mut WordPlaces,
+    kinds: &mut HashMap<String, SyntaxKind>,
+    alloc: Global,
+    word: &str,
+    kind: SyntaxKind,
+) -> Result<(), AllocError>
+    requires { TellOf (get_by_text kinds.old) places.old.slots.items places.old.words.items }
+    ensures puts { OnOk result ((text : List ℕ) → get_by_text kinds.new text
+        ≡ option_or (get_by_text kinds.old text) (if bytes_eq word.now text then Some kind else None)) }
+    ensures stays { OnErr result (IsUnchanged kinds.old kinds.new) }
+    ensures tell { TellOf (get_by_text kinds.new) places.new.slots.items places.new.words.items }
+{
+    match places.told(word) {
+        Some(None) => {
+            insert(kinds, alloc, word, kind)?;
+            places.take(word, kind);
+            Ok(())
+        }
+        Some(Some(_)) => Ok(()),
+        None => put_first(kinds, alloc, word, kind),
+    }
+}
+
 /// Puts the kind of a word where it has none.
 fn put_first(
     kinds: &mut HashMap<String, SyntaxKind>,
@@ -97,9 +151,33 @@ fn put_first(
     if kinds.contains_key(word) {
         return Ok(());
     }
+    insert(kinds, alloc, word, kind)
+}
+
+/// Puts the kind of a word that has none.
+fn insert(
+    kinds: &mut HashMap<String, SyntaxKind>,
+    alloc: Global,
+    word: &str,
+    kind: SyntaxKind,
+) -> Result<(), AllocError>
+    requires { get_by_text kinds.old word.now ≡ None }
+    ensures puts { OnOk result ((text : List ℕ) → get_by_text kinds.new text
+        ≡ option_or (get_by_text kinds.old text) (if bytes_eq word.now text then Some kind else None)) }
+    ensures stays { OnErr result (IsUnchanged kinds.old kinds.new) }
+{
     let key = String::from_str(alloc, word)?;
     kinds.insert(key, kind)?;
     Ok(())
+}
+
+/// Puts a kind into a set.
+fn insert_kind(set: &mut TokenSet, kind: SyntaxKind)
+    requires { IsTokenKind kind }
+    ensures { (one : ℕ) → has set.new one ≡ (has set.old one || kind == one) }
+{
+    let number = usize::from(u16::from(kind));
+    set.0[number / 64] |= 1 << (number % 64);
 }
 
 /// The kind of a keyword: a token kind other than the end, an open marker, a comment and white
