@@ -29,6 +29,3 @@ pub mod StepPlaces
 pub mod Trimmed
 pub mod Trivia
 pub mod WithoutErrors
-mod Stops
-mod StepWhole
-mod SentWhole

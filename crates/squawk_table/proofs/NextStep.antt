@@ -79,7 +79,7 @@ module _ (t : Table) (place depth : ℕ) (step : Step) (left : List Step) where
 
 -- ---- none goes before it
 
-pub no_trivia : (t : Table) (place : ℕ) → ((place < length t.kinds) → is_trivia (slice_index t.kinds place) ≡ true → ⊥) → leading_trivia (raw_after t place) ≡ []
+no_trivia : (t : Table) (place : ℕ) → ((place < length t.kinds) → is_trivia (slice_index t.kinds place) ≡ true → ⊥) → leading_trivia (raw_after t place) ≡ []
 no_trivia t place none =
     elim (cases_lt place (length t.kinds)) [
       | inl lt ↦
@@ -90,13 +90,13 @@ no_trivia t place none =
       | inr past ↦ ap leading_trivia (raw_after-end t place past)
     ]
 
-pub next_place-within : (t : Table) (place : ℕ) (step : Step) → place ≤ length t.kinds → HasTokens t place step → (place ≤ next_place place step) × (next_place place step ≤ length t.kinds)
+next_place-within : (t : Table) (place : ℕ) (step : Step) → place ≤ length t.kinds → HasTokens t place step → (place ≤ next_place place step) × (next_place place step ≤ length t.kinds)
 next_place-within t place (Token kind n) within has = (omega arith, has.1)
 next_place-within t place (Enter kind) within has = (omega arith, within)
 next_place-within t place Exit within has = (omega arith, within)
 next_place-within t place (Error text) within has = (omega arith, within)
 
-pub depth_behind-le : (depth : ℕ) (step : Step) → depth_behind depth step ≤ depth + 1
+depth_behind-le : (depth : ℕ) (step : Step) → depth_behind depth step ≤ depth + 1
 depth_behind-le depth (Token kind n) = omega arith
 depth_behind-le depth (Enter kind) = omega arith
 depth_behind-le depth Exit = omega arith

@@ -24,7 +24,7 @@ use Rattle.squawk_table.proofs.Trivia.{leading_trivia-append-past_trivia}
 -- ---- behind trivia
 
 module _ (t : Table) (place : ℕ) (within : place ≤ length t.kinds) where
-  abbrev pub front : ℕ
+  abbrev front : ℕ
   front = length (leading_trivia (raw_after t place))
 
   front-le : place + front ≤ length t.kinds
@@ -38,7 +38,7 @@ module _ (t : Table) (place : ℕ) (within : place ≤ length t.kinds) where
       )
 
   -- the raw tokens behind the trivia at a place, if it is sent
-  pub left_behind : (b : Bool) → let at = place + length (if b then leading_trivia (raw_after t place) else []) in
+  left_behind : (b : Bool) → let at = place + length (if b then leading_trivia (raw_after t place) else []) in
       (at ≤ length t.kinds) × (raw_after t at ≡ (if b then past_trivia (raw_after t place) else raw_after t place))
   left_behind true =
       let raw = raw_after t place in (

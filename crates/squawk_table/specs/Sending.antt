@@ -46,10 +46,6 @@ trivia_here table place depth step = if receives_at depth step then leading_triv
 abbrev pub place_here : Table → ℕ → ℕ → Step → ℕ
 place_here table place depth step = place + length (trivia_here table place depth step)
 
--- what is sent for a step from a raw place inside of so many nodes on
-abbrev pub sent_at : Table → ℕ → ℕ → Step → List OwnedStep
-sent_at table place depth step = map sent_raw (trivia_here table place depth step) ++ sent_here table (place_here table place depth step) step ∷ []
-
 -- what is sent for steps from a raw place inside of so many nodes on
 abbrev pub sent_from : Table → ℕ → ℕ → List Step → List OwnedStep
 sent_from table place depth [] = []

@@ -9,13 +9,11 @@ ghost use Rattle.squawk_table.specs.declared.shortcuts.str_step.OwnedStep.{Owned
 
 mod fit;
 mod moved;
-mod sending;
 pub mod step_list;
 pub mod str_step;
 pub mod str_steps;
 
 use crate::lexed_str::LexedStr;
-use crate::shortcuts::moved::MovedErrors;
 use squawk_output::Output;
 pub use step_list::StepList;
 pub use str_step::{OwnedStep, StepSink, StrStep};
@@ -55,8 +53,10 @@ impl LexedStr<'_> {
         ensures err { IfErr result (λ answer. (l : List OwnedStep) → S.stands_after sink.old l
             → StopsWithin (S.stands_after sink.new) S.refuses l (sent_list self.now output.now.steps) answer) }
     {
-        // A look at the length shows what every table keeps.
-        let _ = self.len();
-        self.send_steps(MovedErrors::new(output.iter()), sink)
+        let mut steps = self.str_steps(output);
+        while let Some(step) = steps.next() {
+            sink.step(step)?;
+        }
+        Ok(steps.eaten_all())
     }
 }

@@ -87,8 +87,7 @@ impl LexedStr<'_> {
     }
 
     /// A raw token by itself.
-    #[inline(always)]
-    pub(super) fn raw_step(&self, place: usize) -> StrStep<'_>
+    fn raw_step(&self, place: usize) -> StrStep<'_>
         requires { place < length self.now.kinds }
         ensures { owned_step_of result ≡ sent_raw (raw_at self.now place) }
     {
@@ -99,8 +98,7 @@ impl LexedStr<'_> {
     }
 
     /// A step at a raw place, where a token has the raw tokens from there on, and the place behind it.
-    #[inline(always)]
-    pub(super) fn str_step<'s>(&'s self, step: Step<'s>, place: usize) -> (StrStep<'s>, usize)
+    fn str_step<'s>(&'s self, step: Step<'s>, place: usize) -> (StrStep<'s>, usize)
         requires counted { length self.now.kinds < 2 ^ 64 }
         requires within { place ≤ length self.now.kinds }
         requires tokens { HasTokens self.now place (step_of step) }
@@ -184,8 +182,7 @@ impl<'s> Iterator for StrSteps<'s> {
 }
 
 /// Whether trivia may stand directly before a step inside of so many nodes.
-#[inline(always)]
-pub(super) fn receives_trivia(step: &Step<'_>, depth: usize) -> bool
+fn receives_trivia(step: &Step<'_>, depth: usize) -> bool
     ensures { result ≡ receives_at depth (step_of step.now) }
 {
     match step {
@@ -197,8 +194,7 @@ pub(super) fn receives_trivia(step: &Step<'_>, depth: usize) -> bool
 }
 
 /// In how many nodes the place behind a step is.
-#[inline(always)]
-pub(super) fn depth_behind(step: &Step<'_>, depth: usize) -> usize
+fn depth_behind(step: &Step<'_>, depth: usize) -> usize
     requires { depth + 1 < 2 ^ 64 }
     ensures { result ≡ depth_behind depth (step_of step.now) }
 {

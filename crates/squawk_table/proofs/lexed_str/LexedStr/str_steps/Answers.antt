@@ -1,8 +1,11 @@
-use Rattle.std.proofs.Common.{◌≡◌, ◌∙◌, arith, ap}
+use Rattle.std.proofs.Common.{◌≡◌, ◌∙◌, length, arith, ap}
+use Rattle.std.proofs.lemmas.Bool.{eqb-true, eq-eqb}
+use Rattle.squawk_table.specs.Sending.{end_from}
 use Rattle.squawk_table.specs.Sent.{errors_moved}
+use Rattle.squawk_table.proofs.AllSent.{all_eaten, end_if_eaten, beginning, whole_text, end_if_whole}
 use Rattle.squawk_table.proofs.ErrorsMoved.{length-moved}
-use Rattle.squawk_table.proofs.SentFrom.{sent_from-sent_list}
-use Rattle.squawk_table.proofs.SentWhole.{can_send, is_beginning, tells_all, tells_whole}
+use Rattle.squawk_table.proofs.NextStep.{end_within}
+use Rattle.squawk_table.proofs.SentFrom.{sends_all, sent_from-sent_list}
 use Rattle.squawk_table.proofs.lexed_str.LexedStr.str_steps.Goals as goal
 use Rattle.squawk_table.proofs.lexed_str.LexedStr.str_steps.Goals.{After-len}
 
@@ -12,8 +15,17 @@ moved c = c.new.ensures ∙ ap errors_moved c.iter.ensures.steps
 
 pub invariant_of-result : goal.invariant_of-result
 invariant_of-result c =
-    rw (moved (goal.at.invariant_of-result c).After-len)
-    (c.len.ensures.len, can_send c.args.self.now c.len.ensures.table c.args.output.now.steps c.requires (omega arith) (omega (arith, c.iter.ensures.few)))
+    let t = c.args.self.now in
+    let steps = c.args.output.now.steps in
+    rw (moved (goal.at.invariant_of-result c).After-len) (
+      c.len.ensures.len,
+      record {
+        within = omega arith;
+        tokens = (sends_all t c.len.ensures.table steps c.requires).tokens;
+        few = omega arith;
+        low = omega (arith, length-moved steps, c.iter.ensures.few);
+      },
+    )
 
 pub returns-clause-steps : goal.returns-clause-steps
 returns-clause-steps c =
@@ -27,11 +39,33 @@ returns-clause-left c =
 
 pub returns-clause-all : goal.returns-clause-all
 returns-clause-all c =
-    rw (moved (goal.at.returns-clause-all c).After-len) (tells_all c.args.self.now c.len.ensures.table c.args.output.now.steps c.requires)
+    let t = c.args.self.now in
+    let steps = c.args.output.now.steps in
+    let table = c.len.ensures.table in
+    let all = sends_all t table steps c.requires in
+    let end = end_from t 0 0 (errors_moved steps) in
+    let within = end_within t 0 0 (errors_moved steps) all.tokens in
+    rw (moved (goal.at.returns-clause-all c).After-len) (
+      λ e. all_eaten t table steps c.requires end within all.raw_left (eqb-true end (length t.kinds) e),
+      λ e. eq-eqb end (length t.kinds) (end_if_eaten t table steps c.requires end within all.raw_left e),
+    )
 
 pub returns-clause-whole : goal.returns-clause-whole
 returns-clause-whole c =
-    rw (moved (goal.at.returns-clause-whole c).After-len) (tells_whole c.args.self.now c.len.ensures.table c.args.output.now.steps c.requires)
+    let t = c.args.self.now in
+    let steps = c.args.output.now.steps in
+    let table = c.len.ensures.table in
+    let all = sends_all t table steps c.requires in
+    let end = end_from t 0 0 (errors_moved steps) in
+    let within = end_within t 0 0 (errors_moved steps) all.tokens in
+    rw (moved (goal.at.returns-clause-whole c).After-len) (
+      λ e. whole_text t table steps c.requires end within all.raw_left (eqb-true end (length t.kinds) e),
+      λ e. eq-eqb end (length t.kinds) (end_if_whole t table steps c.requires end within all.raw_left e),
+    )
 
 pub returns-clause-beginning : goal.returns-clause-beginning
-returns-clause-beginning c = is_beginning c.args.self.now c.len.ensures.table c.args.output.now.steps c.requires
+returns-clause-beginning c =
+    let t = c.args.self.now in
+    let steps = c.args.output.now.steps in
+    let all = sends_all t c.len.ensures.table steps c.requires in
+    beginning t c.len.ensures.table steps c.requires (end_from t 0 0 (errors_moved steps)) (end_within t 0 0 (errors_moved steps) all.tokens) all.raw_left
