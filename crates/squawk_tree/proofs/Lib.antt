@@ -5,5 +5,3 @@ pub mod Closing
 pub mod Forests
 pub mod Written
 pub mod NamePlaces
-pub mod Quoted
-pub mod Indentations

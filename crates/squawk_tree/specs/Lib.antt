@@ -3,4 +3,3 @@ pub mod Drawing
 pub mod SoundDrawings
 pub mod Forest
 pub mod FirstPlaces
-pub mod Escapes

@@ -1,9 +1,8 @@
 //! The text of what a line shows.
-ghost use Rattle.std.specs.Prelude.{◌≡◌, ◌≤◌, ◌++◌, true, map, length, string_bytes, OnOk};
+ghost use Rattle.std.specs.Prelude.{◌≡◌, ◌++◌, map, length, string_bytes, OnOk};
 ghost use Rattle.std.specs.Str.{chars};
 ghost use Rattle.squawk_kinds.specs.KindNames.{kind_name};
 ghost use Rattle.squawk_tree.specs.TreeText.{escaped, indentation, quoted_text, span};
-ghost use Rattle.squawk_tree.specs.Escapes.{has_escape};
 ghost use Rattle.squawk_tree.specs.Drawing.{shown_until};
 ghost use Rattle.squawk_tree.specs.SoundDrawings.{IsPart};
 ghost use Rattle.squawk_tree.specs.FirstPlaces.{Tell};
@@ -13,9 +12,6 @@ use crate::line::Shown;
 use squawk_kinds::SyntaxKind;
 use std::alloc::AllocError;
 use std::fmt::Write;
-
-/// The indentation of what stands in 32 nodes.
-const SPACES: &str = "                                                                ";
 
 /// Writes what a line shows, where an open node ends behind all texts.
 pub(crate) fn write_shown(
@@ -58,19 +54,10 @@ pub(crate) fn write_shown(
 pub(crate) fn write_indentation(out: &mut String, depth: usize) -> Result<(), AllocError>
     ensures { OnOk result (string_bytes out.new ≡ string_bytes out.old ++ indentation depth) }
 {
-    for _ in 0..depth / 32 {
-        out.push_str(spaces(32))?;
+    for _ in 0..depth {
+        out.push_str("  ")?;
     }
-    out.push_str(spaces(depth % 32))
-}
-
-/// The indentation of what stands in so many nodes.
-#[inline(always)]
-fn spaces(depth: usize) -> &'static str
-    requires { depth ≤ 32 }
-    ensures { result.now ≡ indentation depth }
-{
-    &SPACES[..2 * depth]
+    Ok(())
 }
 
 /// Writes the name of a kind, and from which byte to which it goes.
@@ -111,46 +98,26 @@ fn write_name(
 }
 
 /// Writes a text in quotes.
-///
-/// What stands between two bytes that have an escape is written at once.
 fn write_quoted(out: &mut String, text: &str) -> Result<(), AllocError>
     ensures { OnOk result (string_bytes out.new ≡ string_bytes out.old ++ quoted_text (chars text.now)) }
 {
     out.push('"')?;
-    let mut start = 0;
-    for (at, byte) in text.as_bytes().iter().enumerate() {
-        if has_escape(*byte) {
-            out.push_str(&text[start..at])?;
-            out.push_str(escape(*byte))?;
-            start = at + 1;
-        }
+    for c in text.chars() {
+        write_escaped(out, c)?;
     }
-    out.push_str(&text[start..])?;
     out.push('"')
 }
 
-/// Whether a byte is a character that doesn't stand as it is between quotes. Most bytes are told by
-/// the first two tests.
-#[inline(always)]
-fn has_escape(byte: u8) -> bool
-    ensures { result ≡ has_escape byte }
+/// Writes a character between quotes.
+fn write_escaped(out: &mut String, c: char) -> Result<(), AllocError>
+    ensures { OnOk result (string_bytes out.new ≡ string_bytes out.old ++ escaped c) }
 {
-    if byte > b'"' {
-        return byte == b'\\';
-    }
-    matches!(byte, b'\n' | b'\r' | b'\t' | b'"')
-}
-
-/// The text of such a character.
-fn escape(byte: u8) -> &'static str
-    requires { has_escape byte ≡ true }
-    ensures { result.now ≡ escaped byte }
-{
-    match byte {
-        b'\n' => "\\n",
-        b'\r' => "\\r",
-        b'\t' => "\\t",
-        b'\\' => "\\\\",
-        _ => "\\\"",
+    match c {
+        '\n' => out.push_str("\\n"),
+        '\r' => out.push_str("\\r"),
+        '\t' => out.push_str("\\t"),
+        '\\' => out.push_str("\\\\"),
+        '"' => out.push_str("\\\""),
+        _ => out.push(c),
     }
 }
