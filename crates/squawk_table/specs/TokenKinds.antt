@@ -61,12 +61,14 @@ kind_of keyword Percent text = PERCENT
 kind_of keyword Backtick text = BACKTICK
 kind_of keyword Eof text = EOF
 
--- the kinds whose tokens may have lexical errors, or whose fields say the syntax kind, and the end's
-abbrev pub IsSpecial : TokenKind → Type 0
-IsSpecial (BlockComment terminated) = Unit {0}
-IsSpecial (QuotedIdent terminated uescape) = Unit {0}
-IsSpecial (PsqlCommand ends_query) = Unit {0}
-IsSpecial (PositionalParam junk) = Unit {0}
-IsSpecial (Literal kind) = Unit {0}
-IsSpecial Eof = Unit {0}
-IsSpecial kind = ⊥
+-- the kind says the syntax kind without the text
+abbrev pub IsNoIdent : TokenKind → Type 0
+IsNoIdent Ident = ⊥
+IsNoIdent kind = Unit {0}
+
+-- and without fields of its own
+abbrev pub IsConstant : TokenKind → Type 0
+IsConstant Ident = ⊥
+IsConstant (PsqlCommand ends_query) = ⊥
+IsConstant (Literal kind) = ⊥
+IsConstant kind = Unit {0}

@@ -1,21 +1,18 @@
 //! The table of a text's raw tokens.
-ghost use Rattle.std.specs.Prelude.{◌≡◌, ◌+◌, ◌^◌, ◌<◌, ◌≤◌, ◌++◌, [], ◌∷◌, List, length, slice_index, slice_range, IfOk, IfErr, IsCharBoundary, OnOk};
-ghost use Rattle.squawk_tokens.specs.AcceptedTokens.{AreAcceptedTokens, IsGoodToken, RefusesTokens};
-ghost use Rattle.squawk_tokens.specs.Conversion.{HasRead};
-ghost use Rattle.squawk_tokens.specs.declared.token.Token.{Token as RawToken};
-ghost use Rattle.squawk_table.specs.TokenKinds.{kind_of};
+ghost use Rattle.std.specs.Prelude.{◌≡◌, ◌+◌, ◌<◌, ◌≤◌, length, slice_index, slice_range, IfOk, IfErr};
+ghost use Rattle.squawk_tokens.specs.AcceptedTokens.{AreAcceptedTokens, RefusesTokens};
 ghost use Rattle.squawk_tokens.specs.ErrorRanges.{StandApart};
 ghost use Rattle.squawk_table.specs.RawTable.{Table, IsTable, table_of, piece};
 
 mod kind;
 pub mod lex_errors;
 
-use crate::lexed_str::kind::{plain_kind, special_kind, word_kind};
+use crate::lexed_str::kind::syntax_kind;
 pub use lex_errors::LexErrors;
 use squawk_kinds::{SyntaxKind, Vocabulary};
 use squawk_tokens::Converter;
 pub use squawk_tokens::{Base, LexError, LiteralKind, TableError, Token, TokenKind, check_tokens};
-use std::alloc::{AllocError, Global};
+use std::alloc::Global;
 use std::marker::Model;
 use std::ops::Range;
 
@@ -64,8 +61,8 @@ impl<'a> LexedStr<'a> {
             let end = at + token.len;
             let piece = &text[at as usize..end as usize];
             starts.push_reserved(at);
-            let kind = read_token(&mut converter, token, piece, vocabulary)?;
-            kinds.push_reserved(kind);
+            kinds.push_reserved(syntax_kind(&token.kind, piece, vocabulary));
+            converter.extend_token(token)?;
             at = end;
         }
         starts.push(at)?;
@@ -144,28 +141,4 @@ impl<'a> LexedStr<'a> {
     {
         LexErrors::new(&self.errors)
     }
-}
-
-/// Reads a token more, which has this text, and tells its syntax kind.
-#[inline(always)]
-fn read_token<V: Vocabulary>(
-    converter: &mut Converter<'_>,
-    token: &Token,
-    text: &str,
-    vocabulary: &V,
-) -> Result<SyntaxKind, AllocError>
-    requires short { length converter.old.text < 2 ^ 32 }
-    requires start { IsCharBoundary converter.old.text converter.old.at }
-    requires good { IsGoodToken converter.old.text converter.old.at token.now }
-    ensures kind { IfOk result (λ kind. kind ≡ kind_of (V.keyword vocabulary.now) token.now.kind text.now) }
-    ensures text { converter.new.text ≡ converter.old.text }
-    ensures read { OnOk result ((tokens : List RawToken) → HasRead tokens converter.old → HasRead (tokens ++ token.now ∷ []) converter.new) }
-{
-    let kind = plain_kind(&token.kind);
-    if kind == SyntaxKind::EOF {
-        converter.extend_token(token)?;
-        return Ok(special_kind(&token.kind));
-    }
-    converter.extend_plain(token);
-    Ok(word_kind(kind, text, vocabulary))
 }

@@ -1,31 +1,65 @@
 //! The syntax kinds of raw tokens.
-ghost use Rattle.std.specs.Prelude.{◌≡◌, ◌≢◌, ◌==◌, ℕ, List, if◌then◌else◌, unwrap_or};
-ghost use Rattle.squawk_kinds.specs.Kinds.{EOF, IDENT};
+ghost use Rattle.std.specs.Prelude.{◌≡◌, ◌≢◌, ℕ, List};
+ghost use Rattle.squawk_kinds.specs.Kinds.{EOF};
 ghost use Rattle.squawk_kinds.specs.Keywords.{Keywords};
-ghost use Rattle.squawk_tokens.specs.PlainTokens.{IsPlain};
-ghost use Rattle.squawk_table.specs.TokenKinds.{IsSpecial, kind_of, literal_kind_of};
-ghost use Rattle.squawk_tokens.specs.declared.token.TokenKind.TheVariants.{Ident};
+ghost use Rattle.squawk_table.specs.TokenKinds.{IsConstant, IsNoIdent, kind_of, literal_kind_of};
 
 use squawk_kinds::{SyntaxKind, Vocabulary};
 use squawk_tokens::{LiteralKind, TokenKind};
 
-/// The syntax kind of a raw token whose kind is plain and says it without fields; of an identifier
-/// IDENT, and of any other the end's.
+/// The syntax kind of a raw token with this text.
+#[inline(always)]
+pub(super) fn syntax_kind<V: Vocabulary>(kind: &TokenKind, text: &str, vocabulary: &V) -> SyntaxKind
+    ensures { result ≡ kind_of (V.keyword vocabulary.now) kind.now text.now }
+{
+    match *kind {
+        TokenKind::Ident => vocabulary.from_keyword(text).unwrap_or(SyntaxKind::IDENT),
+        _ => kind_alone(kind),
+    }
+}
+
+/// The syntax kind of a raw token that is no identifier.
+#[inline(always)]
+fn kind_alone(kind: &TokenKind) -> SyntaxKind
+    requires { IsNoIdent kind.now }
+    ensures { (keyword : Keywords) → (text : List ℕ) → result ≡ kind_of keyword kind.now text }
+{
+    let constant = constant_kind(kind);
+    if constant == SyntaxKind::EOF {
+        return kind_by_fields(kind);
+    }
+    constant
+}
+
+/// The same, for the few whose fields may say it.
+#[inline(never)]
+fn kind_by_fields(kind: &TokenKind) -> SyntaxKind
+    requires { IsNoIdent kind.now }
+    ensures { (keyword : Keywords) → (text : List ℕ) → result ≡ kind_of keyword kind.now text }
+{
+    match *kind {
+        TokenKind::PsqlCommand { ends_query: true } => SyntaxKind::PSQL_TERMINATOR_TEXT,
+        TokenKind::PsqlCommand { ends_query: false } => SyntaxKind::PSQL_COMMAND_TEXT,
+        TokenKind::Literal { kind } => literal_kind(kind),
+        _ => constant_kind(kind),
+    }
+}
+
+/// The syntax kind of a raw token which its kind says without its fields, and else the end's.
 ///
 /// All arms are constants and the function isn't inlined, so that it is a look-up in a table and no
 /// jump that is hard to foresee.
 #[inline(never)]
-pub(super) fn plain_kind(kind: &TokenKind) -> SyntaxKind
-    ensures plain { result ≢ EOF → IsPlain kind.now }
-    ensures constant { result ≢ EOF → result ≢ IDENT → (keyword : Keywords) → (text : List ℕ) → kind_of keyword kind.now text ≡ result }
-    ensures ident { result ≡ IDENT → kind.now ≡ Ident }
-    ensures special { result ≡ EOF → IsSpecial kind.now }
+fn constant_kind(kind: &TokenKind) -> SyntaxKind
+    ensures constant { IsConstant kind.now → (keyword : Keywords) → (text : List ℕ) → result ≡ kind_of keyword kind.now text }
+    ensures others { result ≢ EOF → IsConstant kind.now }
 {
     match *kind {
         TokenKind::Unknown => SyntaxKind::ERROR,
-        TokenKind::LineComment => SyntaxKind::COMMENT,
+        TokenKind::LineComment | TokenKind::BlockComment { .. } => SyntaxKind::COMMENT,
         TokenKind::Whitespace => SyntaxKind::WHITESPACE,
-        TokenKind::Ident => SyntaxKind::IDENT,
+        TokenKind::QuotedIdent { .. } => SyntaxKind::IDENT,
+        TokenKind::PositionalParam { .. } => SyntaxKind::POSITIONAL_PARAM,
         TokenKind::Semi => SyntaxKind::SEMICOLON,
         TokenKind::Comma => SyntaxKind::COMMA,
         TokenKind::Dot => SyntaxKind::DOT,
@@ -54,45 +88,10 @@ pub(super) fn plain_kind(kind: &TokenKind) -> SyntaxKind
         TokenKind::Caret => SyntaxKind::CARET,
         TokenKind::Percent => SyntaxKind::PERCENT,
         TokenKind::Backtick => SyntaxKind::BACKTICK,
-        TokenKind::BlockComment { .. }
-        | TokenKind::QuotedIdent { .. }
-        | TokenKind::PsqlCommand { .. }
-        | TokenKind::PositionalParam { .. }
-        | TokenKind::Literal { .. }
-        | TokenKind::Eof => SyntaxKind::EOF,
-    }
-}
-
-/// The same of a raw token with this text, where an identifier may be a keyword.
-#[inline(always)]
-pub(super) fn word_kind<V: Vocabulary>(
-    plain_kind: SyntaxKind,
-    text: &str,
-    vocabulary: &V,
-) -> SyntaxKind
-    ensures { result ≡ (if plain_kind == IDENT then unwrap_or (V.keyword vocabulary.now text.now) IDENT else plain_kind) }
-{
-    if plain_kind == SyntaxKind::IDENT {
-        vocabulary.from_keyword(text).unwrap_or(SyntaxKind::IDENT)
-    } else {
-        plain_kind
-    }
-}
-
-/// The syntax kind of a raw token that has no plain kind.
-#[inline(never)]
-pub(super) fn special_kind(kind: &TokenKind) -> SyntaxKind
-    requires { IsSpecial kind.now }
-    ensures { (keyword : Keywords) → (text : List ℕ) → result ≡ kind_of keyword kind.now text }
-{
-    match *kind {
-        TokenKind::BlockComment { .. } => SyntaxKind::COMMENT,
-        TokenKind::QuotedIdent { .. } => SyntaxKind::IDENT,
-        TokenKind::PsqlCommand { ends_query: true } => SyntaxKind::PSQL_TERMINATOR_TEXT,
-        TokenKind::PsqlCommand { ends_query: false } => SyntaxKind::PSQL_COMMAND_TEXT,
-        TokenKind::PositionalParam { .. } => SyntaxKind::POSITIONAL_PARAM,
-        TokenKind::Literal { kind } => literal_kind(kind),
-        _ => SyntaxKind::EOF,
+        TokenKind::Eof => SyntaxKind::EOF,
+        TokenKind::Ident | TokenKind::PsqlCommand { .. } | TokenKind::Literal { .. } => {
+            SyntaxKind::EOF
+        }
     }
 }
 

@@ -16,8 +16,8 @@ range-piece-requires-clause-start_boundary g c = λ _.
     rw c.loop-token.invariant.sum
     (boundary (g.V.Vocabulary.keyword c.args.vocabulary.now) c.args.text.now c.args.tokens.now c.in_ok-check_tokens.ensures.answer c.utf8.text c.loop-token.token-index (omega arith))
 
-pub read_token-requires-clause-start : goal.read_token-requires-clause-start
-read_token-requires-clause-start g c =
+pub extend_token-requires-clause-start : goal.extend_token-requires-clause-start
+extend_token-requires-clause-start g c =
     let loop = c.loop-token in
     let tokens = c.args.tokens.now in
     let read = take loop.token-index tokens in
