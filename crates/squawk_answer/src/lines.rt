@@ -1,13 +1,11 @@
 //! A line for each lexical error, and one for each step.
 ghost use Rattle.std.specs.Prelude.{◌≡◌, ◌++◌, ◌↔◌, option_map, string_bytes, All, IfOk, IsTrue, OnOk};
-ghost use Rattle.std.specs.Fmt.{decimal};
 ghost use Rattle.std.specs.Str.{chars};
 ghost use Rattle.squawk_table.specs.SinkViews.{owned_step_of};
-ghost use Rattle.squawk_table.specs.declared.shortcuts.str_step.OwnedStep.TheVariants.{Enter, Token};
+ghost use Rattle.squawk_table.specs.declared.shortcuts.str_step.OwnedStep.TheVariants.{Token};
 ghost use Rattle.squawk_answer.specs.Lines.{hint_part, json_of, last_line, lex_line, lex_lines, json_string, step_line, step_lines};
 ghost use Rattle.squawk_answer.specs.PlainBytes.{IsPlain};
 
-use itoa::Buffer;
 use serde_json::Value;
 use squawk_table::{LexError, LexErrors, StrStep, StrSteps};
 use std::alloc::{AllocError, Global};
@@ -35,8 +33,11 @@ pub fn push_step_line(
 {
     match step {
         StrStep::Token { kind, text } => push_token_line(alloc, lines, u16::from(kind), text),
-        StrStep::Enter { kind } => push_enter_line(lines, u16::from(kind)),
-        StrStep::Exit => lines.push_str("exit\n"),
+        StrStep::Enter { kind } => {
+            let kind = u16::from(kind);
+            writeln!(lines, "enter {kind}")
+        }
+        StrStep::Exit => writeln!(lines, "exit"),
         StrStep::Error { msg, pos } => {
             write!(lines, "error {pos} ")?;
             push_json(alloc, lines, msg)?;
@@ -57,33 +58,11 @@ fn push_token_line(
     ensures { OnOk result (string_bytes lines.new ≡ string_bytes lines.old ++ step_line (Token kind (chars text.now))) }
 {
     if needs_no_escape(text) {
-        lines.push_str("token ")?;
-        push_number(lines, kind)?;
-        lines.push_str(" \"")?;
-        lines.push_str(text)?;
-        lines.push_str("\"\n")
+        writeln!(lines, "token {kind} \"{text}\"")
     } else {
         let text = json_text(alloc, text)?;
         writeln!(lines, "token {kind} {text}")
     }
-}
-
-/// Puts the line of a beginning node behind others.
-fn push_enter_line(lines: &mut String, kind: u16) -> Result<(), AllocError>
-    ensures { OnOk result (string_bytes lines.new ≡ string_bytes lines.old ++ step_line (Enter kind)) }
-{
-    lines.push_str("enter ")?;
-    push_number(lines, kind)?;
-    lines.push_str("\n")
-}
-
-/// Puts a number in decimal behind others, without the formatter.
-#[inline(always)]
-fn push_number(lines: &mut String, number: u16) -> Result<(), AllocError>
-    ensures { OnOk result (string_bytes lines.new ≡ string_bytes lines.old ++ decimal number) }
-{
-    let mut buffer = Buffer::new();
-    lines.push_str(buffer.format(number))
 }
 
 /// The lines of lexical errors.
