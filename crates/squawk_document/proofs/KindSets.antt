@@ -1,18 +1,18 @@
 -- Sets of token kinds that are read.
-use Rattle.std.proofs.Common.{◌≡◌, inl, inr, ℕ, ◌*◌, ◌/◌, ◌%◌, ◌^◌, ◌<◌, ◌≤◌, ◌==◌, ◌||◌, ◌∙◌, All, List, [], ◌∷◌, Option, Some, None, Ok, Err, Bool, true, false, length, refl, ap, sym, subst, arith, length-set}
+use Rattle.std.proofs.Common.{◌≡◌, ℕ, ◌*◌, ◌/◌, ◌%◌, ◌^◌, ◌<◌, ◌≤◌, ◌==◌, ◌||◌, ◌∙◌, All, List, [], ◌∷◌, Option, Some, None, Ok, Err, Bool, true, false, length, refl, ap, sym, subst, arith, length-set}
 use Rattle.std.specs.Prelude.{Result, fold, nat_lt, if◌then◌else◌}
 use Rattle.std.specs.Option.{ok_or}
 use Rattle.std.specs.List.{list_any}
 use Rattle.std.proofs.Math.Bool.{or-false}
 use Rattle.std.proofs.Math.Pow.{pow-lt}
-use Rattle.std.proofs.lemmas.Bool.{cases_lt, ltb-false, ne_eqb}
+use Rattle.std.proofs.lemmas.Bool.{ltb-false, ne_eqb}
 use Rattle.std.proofs.lemmas.List.Elements.{All-cons, All-nil, All-tail}
 use Rattle.std.proofs.lemmas.List.Folds.{list_any_none}
 use Rattle.std.proofs.Math.Bool.{or_assoc}
 use Rattle.serde_json.specs.Data.{Data}
 use Rattle.squawk_kinds.specs.Kinds.{EOF, IsTokenKind, WHITESPACE}
 use Rattle.squawk_kinds.specs.TokenSets.{has, no_kinds}
-use Rattle.squawk_kinds.proofs.TokenSetLemmas.{bit_of, bit_of-no_kinds, has-all, has-other, has-token, with_bit, with_bit-is}
+use Rattle.squawk_kinds.proofs.TokenSetLemmas.{bit_of, bit_of-no_kinds, has-all, with_bit, with_bit-is}
 use Rattle.squawk_kinds.specs.declared.token_set.TokenSet.{TokenSet}
 use Rattle.squawk_document.specs.declared.document_error.DocumentError.{DocumentError}
 use Rattle.squawk_document.specs.declared.document_error.DocumentError.TheVariants.{Shape}
@@ -25,18 +25,6 @@ shifted k lt = let fits : 2 ^ k < 2 ^ 64 = pow-lt lt in omega arith
 
 with_kind-is : (words : List ℕ) (n : ℕ) → with_kind words n ≡ with_bit words n
 with_kind-is words n = let lt : n % 64 < 64 = omega arith in rw (shifted (n % 64) lt) refl
-
--- a set with a kind more has it, and what it had
-pub has-more : (words : List ℕ) (n : ℕ) → length words ≡ 10 → IsTokenKind n → (k : ℕ) → has (with_bit words n) k ≡ (has words k || n == k)
-has-more words n ten token k =
-    elim (cases_lt WHITESPACE k) [
-      | inl large ↦
-          let other : (n == k) ≡ false = ne_eqb n k (λ e. absurd (omega (arith, e))) in
-          has-other (with_bit words n) k large ∙ rw (has-other words k large, other) refl
-      | inr small ↦
-          let within : n / 64 < length words = omega arith in
-          has-token (with_bit words n) k small ∙ with_bit-is words n k within ∙ ap (λ bit. bit || (n == k)) (sym (has-token words k small))
-    ]
 
 -- kinds that are added one after another join those that are there
 fold-bits : (kinds words : List ℕ) → length words ≡ 10 → All IsTokenKind kinds → (k : ℕ) → (bit_of (fold with_kind words kinds) k == 1) ≡ ((bit_of words k == 1) || list_any (λ one. one == k) kinds)

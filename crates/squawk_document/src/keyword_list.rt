@@ -1,11 +1,11 @@
 //! Words with their kinds.
-ghost use Rattle.std.specs.Prelude.{◌≡◌, ℕ, ◌||◌, ◌==◌, List, [], ◌∷◌, Some, None, false, IfOk, IfSome, OnOk, OnErr, if◌then◌else◌};
+ghost use Rattle.std.specs.Prelude.{◌≡◌, ℕ, ◌||◌, List, [], ◌∷◌, Some, None, false, IfOk, IfSome, OnOk, OnErr, if◌then◌else◌};
 ghost use Rattle.std.specs.HashMap.{IsUnchanged, get_by_text};
 ghost use Rattle.std.specs.Option.{option_or};
 ghost use Rattle.std.specs.Str.{bytes_eq};
 ghost use Rattle.std.proofs.Props.{props};
 ghost use Rattle.serde_json.specs.View.{view};
-ghost use Rattle.squawk_kinds.specs.Kinds.{IsKeyword, IsTokenKind};
+ghost use Rattle.squawk_kinds.specs.Kinds.{IsKeyword};
 ghost use Rattle.squawk_kinds.specs.TokenSets.{has};
 ghost use Rattle.squawk_document.specs.Values.{Gives, GivesExactly};
 ghost use Rattle.squawk_document.specs.KeywordPairs.{ListAnswers, has_kind, keyword_in, keyword_kind_in, list_answered, keyword_list_in};
@@ -53,7 +53,7 @@ impl KeywordList {
         ensures set { OnOk result ((one : ℕ) → has self.new.set one ≡ (has self.old.set one || has_kind ((word.now, kind) ∷ []) one)) }
     {
         self.put(alloc, word, kind)?;
-        insert_kind(&mut self.set, kind);
+        self.set = self.set.union(TokenSet::new(&[kind]));
         Ok(())
     }
 
@@ -66,10 +66,7 @@ impl KeywordList {
     {
         match &mut self.places {
             Some(places) => put_in_place(places, &mut self.kinds, alloc, word, kind),
-            None => {
-                put_first(&mut self.kinds, alloc, word, kind)?;
-                Ok(())
-            }
+            None => put_first(&mut self.kinds, alloc, word, kind),
         }
     }
 
@@ -169,15 +166,6 @@ fn insert(
     let key = String::from_str(alloc, word)?;
     kinds.insert(key, kind)?;
     Ok(())
-}
-
-/// Puts a kind into a set.
-fn insert_kind(set: &mut TokenSet, kind: SyntaxKind)
-    requires { IsTokenKind kind }
-    ensures { (one : ℕ) → has set.new one ≡ (has set.old one || kind == one) }
-{
-    let number = usize::from(u16::from(kind));
-    set.0[number / 64] |= 1 << (number % 64);
 }
 
 /// The kind of a keyword: a token kind other than the end, an open marker, a comment and white

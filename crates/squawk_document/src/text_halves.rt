@@ -2,10 +2,12 @@
 ghost use Rattle.std.specs.Prelude.{◌≡◌, ◌+◌, ◌<◌, ◌≤◌, ◌^◌, length};
 ghost use Rattle.squawk_document.specs.TextHalves.{halves_of, word_at};
 
-/// Four words of a text as two numbers: its first four bytes, the next, the next, and its last four.
+/// Four words of a text as two numbers: its first four bytes, the next, the next, and its last
+/// four.
 ///
-/// Words may overlap, so no jump depends on the length of a text of four bytes or more. Of a shorter one the
-/// first number has all. Two texts of at most 16 bytes and of one length are equal where these are.
+/// Words may overlap, so no jump depends on the length of a text of four bytes or more. Of a
+/// shorter one the first number has all. Two texts of at most 16 bytes and of one length are equal
+/// where these are.
 #[inline(always)]
 pub fn halves(text: &str) -> (u64, u64)
     ensures { result ≡ halves_of text.now }
