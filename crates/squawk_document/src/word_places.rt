@@ -136,7 +136,8 @@ fn keep(words: &mut Vec<KnownWord>, word: &str, kind: SyntaxKind) -> u16
     }
 }
 
-/// The place of a text with these halves.
+/// The place of a text with these halves, by multiplicative hashing: the factor is 2^64 by the golden
+/// ratio, and the ten highest bits count.
 #[inline(always)]
 fn place(halves: (u64, u64)) -> usize
     ensures place { result ≡ place_at halves }

@@ -14,12 +14,9 @@ pub record IsAlone (word : ℕ) : Type 0 where
   pub tag : tag_of word < 3
   pub node : tag_of word ≡ 1 → word / 65536 ≢ TOMBSTONE
 
--- how many nodes the step of such a word enters and leaves
+-- how many nodes the step of such a word enters
 abbrev pub enters_of : ℕ → ℕ
 enters_of word = word / 16 % 2
-
-abbrev pub leaves_of : ℕ → ℕ
-leaves_of word = word / 32 % 2
 
 -- an event by its word and the word's tag
 abbrev pub tagged_event : ℕ → ℕ → StoredEvent

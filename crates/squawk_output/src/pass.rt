@@ -81,6 +81,9 @@ fn gives_alone(event: &PackedEvent, passed: &mut PassedSteps) -> bool
 
 /// Visits the event at a place. All to which links lead from there is taken out; the event itself
 /// stays, since nothing comes back to it.
+///
+/// With room for all steps, which `pass` reserves, it is an event with a link: `visit_alone` stops at
+/// no other. No proof needs that.
 #[inline(never)]
 fn visit(
     events: &mut Vec<PackedEvent>,

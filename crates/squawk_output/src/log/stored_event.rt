@@ -1,5 +1,5 @@
 //! Events as a log keeps them.
-ghost use Rattle.std.specs.Prelude.{◌≡◌, ◌≢◌, ℕ, List, ◌<◌, ◌+◌, ◌^◌, IsTrue, ◌↔◌, true, false, IfSome};
+ghost use Rattle.std.specs.Prelude.{◌≡◌, ◌≢◌, ℕ, List, ◌<◌, ◌+◌, ◌^◌, true, IfSome};
 ghost use Rattle.squawk_kinds.specs.Kinds.{TOMBSTONE};
 ghost use Rattle.squawk_output.specs.Chain.{forward_parent, node_kind};
 ghost use Rattle.squawk_output.specs.PackedEvents.{IsAlone, IsAside, alone_event};
