@@ -1,13 +1,12 @@
 -- One link followed.
-use Rattle.std.proofs.Common.{◌≡◌, ◌∙◌, ℕ, zero, suc, ◌+◌, ◌-◌, ◌<◌, ◌≤◌, Some, None, Option, List, [], ◌∷◌, ◌++◌, length, get_or, set, drop, refl, sym, ap, subst, arith, append_assoc}
+use Rattle.std.proofs.Common.{◌≡◌, ◌∙◌, ℕ, zero, suc, ◌+◌, ◌-◌, ◌<◌, ◌≤◌, Some, None, Option, List, [], ◌∷◌, ◌++◌, length, get_or, set, drop, refl, sym, ap, subst, arith, append_assoc, true}
 use Rattle.std.proofs.Math.Nat.{suc-add}
 use Rattle.std.proofs.lemmas.List.{length-set, append-nil, set-get_or}
 use Rattle.squawk_kinds.specs.Kinds.{TOMBSTONE}
-use Rattle.squawk_output.specs.Steps.{Step, Passed}
 use Rattle.squawk_output.specs.declared.event.Event.{Event}
 use Rattle.squawk_output.specs.declared.event.Event.TheVariants.{Start}
-use Rattle.squawk_output.specs.EventLog.{LinksLead, Log, linked_place}
-use Rattle.squawk_output.specs.Chain.{LandsAt, chain, erased, hop, tombstone}
+use Rattle.squawk_output.specs.EventLog.{LinksLead, Log, has_link, linked_place}
+use Rattle.squawk_output.specs.Chain.{LandsAt, chain, erased, forward_parent, hop, node_kind, tombstone}
 use Rattle.squawk_output.specs.Pass.{Follows}
 use Rattle.squawk_output.proofs.Links.{LinksLead-unlinked, is_start_at-within}
 
@@ -82,15 +81,27 @@ LandsAt-hop log place kind link d is lt links =
 
 -- ---- the loop
 
-passed_is : (output : Passed) (steps : List Step) (texts : List (List ℕ)) (turns : ℕ) → output.steps ≡ steps → output.texts ≡ texts → output.turns ≡ turns
-    → output ≡ record { steps = steps; texts = texts; turns = turns }
-passed_is output steps texts turns p q r = rw (← p, ← q, ← r) refl
+-- an event with a link is a Start
+pub linked-start : (event : Event) → has_link event ≡ true → event ≡ Start (node_kind event) (forward_parent event)
+linked-start (Start kind link) linked = refl
+linked-start other linked = absurd (cc)
 
-module _ (log : Log) (kinds : List ℕ) (output : Passed) (from : Option ℕ) where
-  followed : (left : Log) (found : List ℕ) (made : Passed) (place kind : ℕ) (link : Option ℕ) (d : Event) → get_or left place d ≡ Start kind link
-      → Follows log kinds output from left found made (Some place)
-      → Follows log kinds output from (set left place tombstone) (found ++ kind ∷ []) (record made { turns = made.turns + 1 }) (hop place link)
-  followed left found made place kind link d is follows =
+-- before the first link
+pub Follows-begins : (log : Log) (kinds : List ℕ) (place kind : ℕ) (link : Option ℕ) (d : Event) → get_or log place d ≡ Start kind link → place < length log → LinksLead log
+    → Follows log kinds (hop place link) log kinds (hop place link)
+Follows-begins log kinds place kind link d is lt links = record {
+  same_length = refl;
+  links = links;
+  lands = LandsAt-hop log place kind link d is lt links;
+  leaves = refl;
+  finds = refl;
+}
+
+module _ (log : Log) (kinds : List ℕ) (from : Option ℕ) where
+  followed : (left : Log) (found : List ℕ) (place kind : ℕ) (link : Option ℕ) (d : Event) → get_or left place d ≡ Start kind link
+      → Follows log kinds from left found (Some place)
+      → Follows log kinds from (set left place tombstone) (found ++ kind ∷ []) (hop place link)
+  followed left found place kind link d is follows =
       let lt : place < length left = is_start_at-within left place follows.lands in
       let here = chain-start left place kind link d tombstone is lt follows.links in
       let rest = chain (hop place link) (set left place tombstone) in
@@ -100,47 +111,26 @@ module _ (log : Log) (kinds : List ℕ) (output : Passed) (from : Option ℕ) wh
         lands = LandsAt-start left place kind link d tombstone is lt follows.links;
         leaves = sym (erased-start left place kind link d is lt follows.links) ∙ follows.leaves;
         finds = append_assoc found (kind ∷ []) rest ∙ (ap (λ ys. found ++ ys) (sym here) ∙ follows.finds);
-        turns = omega (arith, ap length here, follows.turns);
-        steps = follows.steps;
-        texts = follows.texts;
       }
 
-  module _ (left : Log) (found : List ℕ) (made : Passed) (at distance : ℕ) (next : Option ℕ) (some : next ≡ Some distance)
-      (follows : Follows log kinds output from left found made (hop at next)) where
-    pub turn_fits : made.turns + 1 ≤ output.turns + length log
-    turn_fits =
+  module _ (left : Log) (found : List ℕ) (at distance : ℕ) (next : Option ℕ) (some : next ≡ Some distance) (follows : Follows log kinds from left found (hop at next))
+      (kind : ℕ) (link : Option ℕ) (d t : Event) (is : get_or left (at + distance) d ≡ Start kind link) (gone : t ≡ tombstone) where
+    pub Follows-next : (more : List ℕ) → more ≡ found ++ kind ∷ [] → Follows log kinds from (set left (at + distance) t) more (hop (at + distance) link)
+    Follows-next more pushed =
         let follows_here = rw some at follows in
-        omega (
-          arith,
-          follows_here.turns,
-          length-chain from log,
-          chain-some left (at + distance) (is_start_at-within left (at + distance) follows_here.lands),
-        )
+        rw (gone, pushed) (followed left found (at + distance) kind link d is follows_here)
 
-    module _ (kind : ℕ) (link : Option ℕ) (d t : Event) (is : get_or left (at + distance) d ≡ Start kind link) (gone : t ≡ tombstone) where
-      pub Follows-next : (more : List ℕ) (turned : Passed) → more ≡ found ++ kind ∷ [] → turned ≡ record made { turns = made.turns + 1 }
-          → Follows log kinds output from (set left (at + distance) t) more turned (hop (at + distance) link)
-      Follows-next more turned pushed turn =
-          let follows_here = rw some at follows in
-          rw (gone, pushed, turn) (followed left found made (at + distance) kind link d is follows_here)
-
-      -- less of the chain is left
-      pub chain-shorter : length (chain (hop (at + distance) link) (set left (at + distance) t)) < length (chain (hop at next) left)
-      chain-shorter =
-          let follows_here = rw some at follows in
-          let here = chain-start left (at + distance) kind link d tombstone is (is_start_at-within left (at + distance) follows_here.lands) follows_here.links in
-          rw (gone, some) (omega (arith, ap length here))
+    -- less of the chain is left
+    pub chain-shorter : length (chain (hop (at + distance) link) (set left (at + distance) t)) < length (chain (hop at next) left)
+    chain-shorter =
+        let follows_here = rw some at follows in
+        let here = chain-start left (at + distance) kind link d tombstone is (is_start_at-within left (at + distance) follows_here.lands) follows_here.links in
+        rw (gone, some) (omega (arith, ap length here))
 
   -- where no link is left, the chain is at its end
-  module _ (left : Log) (found : List ℕ) (made : Passed) (at : ℕ) where
-    pub ends-events : (next : Option ℕ) → next ≡ None → Follows log kinds output from left found made (hop at next) → left ≡ erased from log
+  module _ (left : Log) (found : List ℕ) (at : ℕ) where
+    pub ends-events : (next : Option ℕ) → next ≡ None → Follows log kinds from left found (hop at next) → left ≡ erased from log
     ends-events next none follows = let end = rw none at follows in sym (erased-None left) ∙ end.leaves
 
-    pub ends-kinds : (next : Option ℕ) → next ≡ None → Follows log kinds output from left found made (hop at next) → found ≡ kinds ++ chain from log
+    pub ends-kinds : (next : Option ℕ) → next ≡ None → Follows log kinds from left found (hop at next) → found ≡ kinds ++ chain from log
     ends-kinds next none follows = let end = rw none at follows in sym (append-nil found) ∙ (ap (λ ys. found ++ ys) (sym (chain-None left)) ∙ end.finds)
-
-    pub ends-passed : (next : Option ℕ) → next ≡ None → Follows log kinds output from left found made (hop at next)
-        → made ≡ record output { turns = output.turns + length (chain from log) }
-    ends-passed next none follows =
-        let end = rw none at follows in
-        passed_is made output.steps output.texts (output.turns + length (chain from log)) end.steps end.texts (omega (arith, ap length (chain-None left), end.turns))

@@ -8,8 +8,8 @@ use Rattle.std.proofs.lemmas.List.Sums.{count_by-le-length}
 use Rattle.squawk_kinds.specs.Kinds.{TOMBSTONE}
 use Rattle.squawk_output.specs.declared.event.Event.TheVariants as event
 use Rattle.squawk_output.specs.declared.log.Made.{Made}
-use Rattle.squawk_output.specs.declared.log.stored_event.StoredEvent.{StoredEvent}
-use Rattle.squawk_output.specs.declared.log.stored_event.StoredEvent.TheVariants.{Hole, Start, Finish, Token}
+use Rattle.squawk_output.specs.StoredEvents.{StoredEvent}
+use Rattle.squawk_output.specs.StoredEvents.{Hole, Start, Finish, Token}
 use Rattle.squawk_output.specs.Chain.{tombstone}
 use Rattle.squawk_output.specs.Draft as draft
 use Rattle.squawk_output.specs.Draft.{Draft, IsLogged}

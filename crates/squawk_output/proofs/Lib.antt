@@ -9,7 +9,7 @@ pub mod Follows
 pub mod LogTurns
 pub mod Visits
 pub mod StoredVisits
-pub mod AloneVisits
+pub mod PlainVisits
 pub mod Examples
 pub mod NotedRoot
 pub mod StoredEvents
@@ -26,6 +26,7 @@ pub mod EditedErrors
 pub mod EditedLog
 pub mod AbandonedLog
 pub mod Sizes
+pub mod ListLength
 pub mod LoggedDraft
 pub mod KeptLog
 pub mod DraftExamples

@@ -12,19 +12,19 @@ use Rattle.squawk_output.specs.declared.output.root_note.RootNote.{RootNote}
 
 -- so many steps, with so many nodes open, and how many found none open
 abbrev behind : ℕ → ℕ → ℕ → Noted
-behind count depth outside = record { count = count; note = record { depth = depth; outside = outside } }
+behind count depth top_level = record { count = count; note = record { depth = depth; top_level = top_level } }
 
 -- what a note tells with more steps
 abbrev tells : Noted → List Step → Type 0
 tells so_far steps = IsTrue (tells_root (fold noted so_far steps).note (fold noted so_far steps).count)
 
 -- two steps that found none open are not in one root
-spoilt : (count depth outside : ℕ) (steps : List Step) → 1 < outside → ¬ (tells (behind count depth outside) steps)
-spoilt count depth outside [] more told = omega (arith, more, eqb-true outside 1 (and_parts _ _ told).0)
-spoilt count depth outside (Token kind n ∷ steps) more told = spoilt (count + 1) depth (outside + cond (depth == 0) 1 0) steps (omega (arith, more)) told
-spoilt count depth outside (Enter kind ∷ steps) more told = spoilt (count + 1) (depth + 1) (outside + cond (depth == 0) 1 0) steps (omega (arith, more)) told
-spoilt count depth outside (Exit ∷ steps) more told = spoilt (count + 1) (depth - 1) (outside + cond (depth == 0) 1 0) steps (omega (arith, more)) told
-spoilt count depth outside (Error text ∷ steps) more told = spoilt count depth outside steps more told
+spoilt : (count depth top_level : ℕ) (steps : List Step) → 1 < top_level → ¬ (tells (behind count depth top_level) steps)
+spoilt count depth top_level [] more told = omega (arith, more, eqb-true top_level 1 (and_parts _ _ told).0)
+spoilt count depth top_level (Token kind n ∷ steps) more told = spoilt (count + 1) depth (top_level + cond (depth == 0) 1 0) steps (omega (arith, more)) told
+spoilt count depth top_level (Enter kind ∷ steps) more told = spoilt (count + 1) (depth + 1) (top_level + cond (depth == 0) 1 0) steps (omega (arith, more)) told
+spoilt count depth top_level (Exit ∷ steps) more told = spoilt (count + 1) (depth - 1) (top_level + cond (depth == 0) 1 0) steps (omega (arith, more)) told
+spoilt count depth top_level (Error text ∷ steps) more told = spoilt count depth top_level steps more told
 
 -- nor is one alone that leaves none open
 late : (steps : List Step) → ¬ (tells (behind 1 0 1) steps)

@@ -7,11 +7,10 @@ use Rattle.std.proofs.lemmas.List.{get_or-map, length-map, map-append}
 use Rattle.std.proofs.lemmas.List.Elements.{All-tail}
 use Rattle.squawk_output.specs.declared.event.Event.{Event}
 use Rattle.squawk_output.specs.declared.event.Event.TheVariants as event
-use Rattle.squawk_output.specs.declared.log.stored_event.StoredEvent.{StoredEvent}
-use Rattle.squawk_output.specs.declared.log.stored_event.StoredEvent.TheVariants.{Error}
 use Rattle.squawk_output.specs.Chain.{LandsAt, forward_parent, hop, node_kind}
 use Rattle.squawk_output.specs.EventLog.{is_start, is_start_at}
-use Rattle.squawk_output.specs.StoredEvents.{HasEventText, HaveEventTexts, event_of, link_of, log_in}
+use Rattle.squawk_output.specs.PackedEvents.{IsStarting}
+use Rattle.squawk_output.specs.StoredEvents.{Error, HasEventText, HaveEventTexts, Hole, Start, StoredEvent, event_of, link_of, log_in}
 use Rattle.squawk_output.proofs.Links.{is_start_at-event, is_start_at-within}
 
 pub length-log_in : (texts : List (List ℕ)) (events : List StoredEvent) → length (log_in texts events) ≡ length events
@@ -72,6 +71,11 @@ start-is : (x : Event) → is_start x ≡ true → x ≡ event.Start (node_kind 
 start-is (event.Start kind link) is = refl
 start-is other is = absurd (cc)
 
+starting-is : (texts : List (List ℕ)) (x : StoredEvent) → is_start (event_of texts x) ≡ true → IsStarting x
+starting-is texts Hole is = tt
+starting-is texts (Start kind link) is = tt
+starting-is texts other is = absurd (cc)
+
 -- where a link lands, an event is found that is a Start
 module _ (texts : List (List ℕ)) (events : List StoredEvent) (at next : ℕ) (more : 0 < next) (lands : LandsAt (log_in texts events) (hop at (link_of next))) where
   lands_there : is_start_at (log_in texts events) (at + next) ≡ true
@@ -79,6 +83,12 @@ module _ (texts : List (List ℕ)) (events : List StoredEvent) (at next : ℕ) (
 
   pub link_within : at + next < length events
   link_within = omega (arith, is_start_at-within (log_in texts events) (at + next) lands_there, length-log_in texts events)
+
+  -- and code sees that it is one
+  pub landed_starting : (x e : StoredEvent) → x ≡ get_or events (at + next) e → IsStarting x
+  landed_starting x e got =
+      starting-is texts x
+      (ap is_start (event_at texts events (at + next) x e event.Finish link_within got) ∙ is_start_at-event (log_in texts events) (at + next) event.Finish lands_there)
 
   pub landed : (kind link : ℕ) (x e : StoredEvent) → x ≡ get_or events (at + next) e → node_kind (event_of texts x) ≡ kind
       → forward_parent (event_of texts x) ≡ link_of link → get_or (log_in texts events) (at + next) event.Finish ≡ event.Start kind (link_of link)

@@ -1,20 +1,17 @@
 -- Events of a list visited.
-use Rattle.std.proofs.Common.{◌≡◌, ◌∙◌, ℕ, ◌+◌, ◌<◌, ◌≤◌, ◌++◌, ◌∷◌, [], false, None, List, length, get_or, drop, refl, sym, ap, subst, arith}
+use Rattle.std.proofs.Common.{◌≡◌, ◌∙◌, ℕ, ◌+◌, ◌*◌, ◌^◌, ◌<◌, ◌≤◌, ◌++◌, ◌∷◌, [], true, List, length, length-append, get_or, drop, refl, sym, ap, subst, arith}
 use Rattle.std.proofs.Math.ListN.{drop_of_length-le}
 use Rattle.std.proofs.lemmas.List.{append-nil}
-use Rattle.std.proofs.lemmas.Result.{IfOk-weaker}
-use Rattle.std.specs.Prelude.{IfOk, Result}
-use Rattle.squawk_output.specs.Steps as steps
 use Rattle.squawk_output.specs.Steps.{Passed, Walk}
 use Rattle.squawk_output.specs.declared.event.Event.TheVariants as event
-use Rattle.squawk_output.specs.declared.log.stored_event.StoredEvent.{StoredEvent}
-use Rattle.squawk_output.specs.declared.log.stored_event.StoredEvent.TheVariants.{Start, Error}
-use Rattle.squawk_output.specs.EventLog.{LinksLead, linked_place, has_link, is_start, list_of, steps_of_event, turns_of}
-use Rattle.squawk_output.specs.Pass.{PassesList, Visits, VisitsTo}
-use Rattle.squawk_output.specs.StoredEvents.{HaveEventTexts, event_of, link_of, log_in}
-use Rattle.squawk_output.proofs.LogTurns.{one_if}
-use Rattle.squawk_output.proofs.StoredEvents.{event_at, length-log_in}
-use Rattle.squawk_output.proofs.Visits.{Visits-alone, begins-with}
+use Rattle.squawk_output.specs.Chain.{chain, entered_back, forward_parent, hop, node_kind}
+use Rattle.squawk_output.specs.EventLog.{LinksLead, has_link, list_of, turns_of}
+use Rattle.squawk_output.specs.Pass.{Follows, HasRoom, PassesList, Visits, VisitsTo}
+use Rattle.squawk_output.specs.StoredEvents.{HaveEventTexts, StoredEvent, event_of, link_of, log_in}
+use Rattle.squawk_output.proofs.Follows.{Follows-begins, ends-events, ends-kinds, linked-start}
+use Rattle.squawk_output.proofs.ListLength.{length-list_of}
+use Rattle.squawk_output.proofs.StoredEvents.{event_at, length-log_in, link_of-none}
+use Rattle.squawk_output.proofs.Visits.{Visits-linked, kinds_fit, kinds_have_room}
 
 module _ (texts : List (List ℕ)) (events : List StoredEvent) (place : ℕ) (within : place < length events) (x e : StoredEvent) (got : x ≡ get_or events place e) where
   pub log_within : place < length (log_in texts events)
@@ -24,28 +21,37 @@ module _ (texts : List (List ℕ)) (events : List StoredEvent) (place : ℕ) (wi
   found : event_of texts x ≡ get_or (log_in texts events) place event.Finish
   found = event_at texts events place x e event.Finish within got
 
-  pub started : (kind link : ℕ) → x ≡ Start kind link → get_or (log_in texts events) place event.Finish ≡ event.Start kind (link_of link)
-  started kind link is = sym found ∙ ap (event_of texts) is
+  -- where that has a link it is a Start
+  pub started : (kind link : ℕ) → has_link (get_or (log_in texts events) place event.Finish) ≡ true → node_kind (event_of texts x) ≡ kind
+      → forward_parent (event_of texts x) ≡ link_of link → get_or (log_in texts events) place event.Finish ≡ event.Start kind (link_of link)
+  started kind link linked k l = linked-start _ linked ∙ (rw (sym found, k, l) refl)
 
-  module _ (output turned : Passed) (turn : turned ≡ record output { turns = output.turns + 1 }) (links : LinksLead (log_in texts events)) (made : Passed) {T E : Type 0}
-      (result : Result T E) where
-    -- an event without a link gives its step
-    pub visits-alone : (y : StoredEvent) → x ≡ y → linked_place (event_of texts y) ≡ None → has_link (event_of texts y) ≡ false → (turns : ℕ)
-        → turns ≡ turned.turns + one_if (is_start (event_of texts y)) → IfOk result (λ _. made ≡ record turned { steps = turned.steps ++ steps_of_event (event_of texts y); turns = turns })
-        → IfOk result (λ _. Visits (log_in texts events) output (log_in texts events) made place)
-    visits-alone y is alone unlinked turns count =
-        IfOk-weaker result _ _
-        (λ _ put. Visits-alone (log_in texts events) output turned place turn (event_of texts y)
-        (begins-with (log_in texts events) place (event_of texts x) event.Finish (event_of texts y) log_within found (ap (event_of texts) is)) alone
-        (log_in texts events) made refl links refl unlinked (ap (λ w. w.steps) put) (ap (λ w. w.turns) put ∙ count) (ap (λ w. w.texts) put))
+  -- what the links from there have found at the end
+  module _ (linked : has_link (get_or (log_in texts events) place event.Finish) ≡ true) (kind link : ℕ) (has_kind : node_kind (event_of texts x) ≡ kind)
+      (has_distance : forward_parent (event_of texts x) ≡ link_of link) (links : LinksLead (log_in texts events)) (none pushed : List ℕ) (empty : none ≡ []) (push : pushed ≡ none ++ kind ∷ []) where
+    start_here : get_or (log_in texts events) place event.Finish ≡ event.Start kind (link_of link)
+    start_here = started kind link linked has_kind has_distance
 
-    -- an error has the text of its number
-    pub visits-error : (number : ℕ) → x ≡ Error number → turned.texts ≡ texts
-        → IfOk result (λ _. made ≡ record turned { steps = turned.steps ++ steps.Error (get_or turned.texts number []) ∷ [] })
-        → IfOk result (λ _. Visits (log_in texts events) output (log_in texts events) made place)
-    visits-error number is same put =
-        visits-alone (Error number) is refl refl turned.turns (omega arith)
-        (IfOk-weaker result _ _ (λ _ h. h ∙ ap (λ (ts : List (List ℕ)). record turned { steps = turned.steps ++ steps.Error (get_or ts number []) ∷ [] }) same) put)
+    pub follows_here : Follows (log_in texts events) pushed (hop place (link_of link)) (log_in texts events) pushed (hop place (link_of link))
+    follows_here = Follows-begins (log_in texts events) pushed place kind (link_of link) event.Finish start_here log_within links
+
+    module _ (left : List StoredEvent) (kinds : List ℕ) (at last : ℕ) (ends : last ≤ 0)
+        (follows : Follows (log_in texts events) pushed (hop place (link_of link)) (log_in texts left) kinds (hop at (link_of last))) (output : Passed) where
+      all_kinds : kinds ≡ kind ∷ chain (hop place (link_of link)) (log_in texts events)
+      all_kinds = ends-kinds _ _ _ _ _ at _ (link_of-none last ends) follows ∙ rw (push, empty) refl
+
+      pub linked_fits : length events < 2 ^ 32 → output.turns < 2 ^ 35 → output.turns + 2 * length kinds + 2 < 2 ^ 64
+      linked_fits few turns =
+          kinds_fit (log_in texts events) output place kind (link_of link) event.Finish log_within links start_here kinds all_kinds (omega (arith, few, length-log_in texts events)) turns
+
+      pub linked_has_room : HasRoom (log_in texts events) output place → length output.steps + length (entered_back kinds) ≤ output.room
+      linked_has_room = kinds_have_room (log_in texts events) output place kind (link_of link) event.Finish log_within links start_here kinds all_kinds
+
+      pub linked_visits : (made : Passed) → made ≡ record output { steps = output.steps ++ entered_back kinds; turns = output.turns + 2 * length kinds }
+          → Visits (log_in texts events) output (log_in texts left) made place
+      linked_visits made enter =
+          Visits-linked (log_in texts events) output place kind (link_of link) event.Finish log_within links start_here kinds all_kinds (log_in texts left) made
+          (ends-events _ _ _ _ _ at _ (link_of-none last ends) follows) enter
 
 -- ---- the loop over a list
 
@@ -61,6 +67,7 @@ module _ (events : List StoredEvent) (texts : List (List ℕ)) (before : List St
           links = visit.links;
           steps = visit.steps ∙ list.passes.steps;
           turns = visit.turns ∙ list.passes.turns;
+          room = omega (arith, visit.room, list.passes.room);
           none = none;
         };
         have_texts = rw list.same_texts at have;
@@ -79,11 +86,25 @@ module _ (events : List StoredEvent) (texts : List (List ℕ)) (before : List St
           links = list.passes.links;
           steps = visit.steps ∙ list.passes.steps;
           turns = visit.turns ∙ list.passes.turns;
+          room = omega (arith, visit.room, list.passes.room);
           none = list.passes.none;
         };
         have_texts = list.have_texts;
         same_texts = visit.texts ∙ list.same_texts;
       }
+
+  -- what is still to come has room
+  pub passes-room : HasRoom (log_in output.texts before) output place
+  passes-room =
+      rw list.same_texts (
+      omega (
+        arith,
+        ap length list.passes.steps,
+        length-append output.steps (list_of (drop place (log_in texts before))),
+        length-list_of (log_in texts events),
+        list.passes.room,
+      )
+      )
 
   -- behind the last place
   module _ (ends : length before ≤ place) where

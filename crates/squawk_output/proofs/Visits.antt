@@ -1,12 +1,12 @@
 -- One event visited.
-use Rattle.std.proofs.Common.{◌≡◌, ◌∙◌, ℕ, zero, suc, ◌+◌, ◌*◌, ◌^◌, ◌<◌, false, Some, None, Option, List, [], ◌∷◌, ◌++◌, length, get_or, drop, refl, sym, ap, arith, append_assoc, add-one}
+use Rattle.std.proofs.Common.{◌≡◌, ◌∙◌, ℕ, zero, suc, ◌+◌, ◌*◌, ◌^◌, ◌<◌, ◌≤◌, Some, None, Option, List, [], ◌∷◌, ◌++◌, length, get_or, drop, refl, sym, ap, arith, append_assoc, add-one, length-append}
 use Rattle.std.proofs.Math.Seq.{drop-cons}
 use Rattle.squawk_output.specs.Steps.{Passed}
 use Rattle.squawk_output.specs.declared.event.Event.{Event}
 use Rattle.squawk_output.specs.declared.event.Event.TheVariants.{Start}
 use Rattle.squawk_output.specs.EventLog.{LinksLead, Log, linked_place, entering, has_link, is_start, list_of, steps_of_event, turns_of}
 use Rattle.squawk_output.specs.Chain.{LandsAt, chain, entered_back, erased, hop, tombstone}
-use Rattle.squawk_output.specs.Pass.{Visits}
+use Rattle.squawk_output.specs.Pass.{HasRoom, Visits}
 use Rattle.squawk_output.proofs.Erased.{length-erased}
 use Rattle.squawk_output.proofs.Follows.{chain-hop, drop-hop, erased-None, length-chain}
 use Rattle.squawk_output.proofs.Links.{Lands-linked_place, LandsAt-linked_place, LinksLead-drop, LinksLead-erased}
@@ -117,71 +117,55 @@ pub begins-with : (log : Log) (place : ℕ) (x d event : Event) → place < leng
 begins-with log place x d event within got is = rw add-one (drop-cons log place d within ∙ ap (λ y. y ∷ drop (suc place) log) (sym got ∙ is))
 
 -- an event without a link begins the list of the log with its step
-pub list-alone : (log : Log) (place : ℕ) (event : Event) → drop place log ≡ event ∷ drop (place + 1) log → linked_place event ≡ None
+pub list-plain : (log : Log) (place : ℕ) (event : Event) → drop place log ≡ event ∷ drop (place + 1) log → linked_place event ≡ None
     → list_of (drop place log) ≡ steps_of_event event ++ list_of (drop (place + 1) log)
-list-alone log place event begins alone =
+list-plain log place event begins alone =
     let behind = drop (place + 1) log in
     ap list_of begins ∙ (list_of-cons event behind ∙ rw (alone, entered-None behind, erased-None behind) refl)
 
--- as the code has it
-module _ (log : Log) (output turned : Passed) (place : ℕ) (turn : turned ≡ record output { turns = output.turns + 1 }) where
-  module _ (event : Event) (begins : drop place log ≡ event ∷ drop (place + 1) log) (alone : linked_place event ≡ None) where
-    -- and it gives that step
-    pub Visits-alone : (after : Log) (made : Passed) → length after ≡ length log → LinksLead after → drop (suc place) after ≡ drop (suc place) log
-        → has_link event ≡ false → made.steps ≡ turned.steps ++ steps_of_event event → made.turns ≡ turned.turns + one_if (is_start event)
-        → made.texts ≡ turned.texts → Visits log output after made place
-    Visits-alone after made same links behind unlinked put turns same_texts =
-        let rest : drop (place + 1) after ≡ drop (place + 1) log = rw add-one behind in
-        let steps : made.steps ≡ output.steps ++ steps_of_event event = rw (put, turn) refl in
-        record {
-          same_length = same;
-          links = links;
-          steps = rw (steps, rest) (append_assoc output.steps (steps_of_event event) (list_of (drop (place + 1) log)) ∙ ap (λ ys. output.steps ++ ys) (sym (list-alone log place event begins alone)));
-          turns =
-              omega (
-                arith,
-                ap turns_of begins,
-                turns_of-cons event (drop (place + 1) log),
-                ap turns_of rest,
-                ap one_if unlinked,
-                ap (λ w. w.turns) turn,
-                turns,
-              );
-          texts = same_texts ∙ ap (λ w. w.texts) turn;
-        }
+-- the step of an event is one of those of the rest of the log
+pub steps-first : (log : Log) (place : ℕ) (event : Event) → drop place log ≡ event ∷ drop (place + 1) log → length (steps_of_event event) ≤ length (list_of (drop place log))
+steps-first log place event begins =
+    let behind = drop (place + 1) log in
+    omega (
+      arith,
+      ap length (ap list_of begins ∙ list_of-cons event behind),
+      length-append (entered (linked_place event) behind ++ steps_of_event event) (list_of (erased (linked_place event) behind)),
+      length-append (entered (linked_place event) behind) (steps_of_event event),
+    )
 
-  -- a Start with a link: its kind and those of the chain behind it
-  module _ (kind : ℕ) (link : Option ℕ) (none pushed kinds : List ℕ) (empty : none ≡ []) (push : pushed ≡ none ++ kind ∷ []) (found : kinds ≡ pushed ++ chain (hop place link) log)
-      (followed : Passed) (follow : followed ≡ record { steps = turned.steps; texts = output.texts; turns = turned.turns + length (chain (hop place link) log) }) where
-    all_kinds : kinds ≡ kind ∷ chain (hop place link) log
-    all_kinds = rw (found, push, empty) refl
+-- a Start with a link: its kind and those of the chain behind it are entered
+module _ (log : Log) (output : Passed) (place kind : ℕ) (link : Option ℕ) (d : Event) (within : place < length log) (links : LinksLead log) (whole : get_or log place d ≡ Start kind link)
+    (kinds : List ℕ) (found : kinds ≡ kind ∷ chain (hop place link) log) where
+  chained : kinds ≡ chain (Some place) log
+  chained = found ∙ sym (chain-hop log place kind link d whole within links)
 
-    pub kinds_fit : length log < 2 ^ 32 → output.turns < 2 ^ 35 → followed.turns + length kinds < 2 ^ 64
-    kinds_fit few turns = omega (arith, ap length all_kinds, ap (λ w. w.turns) turn, ap (λ w. w.turns) follow, length-chain (hop place link) log)
+  pub kinds_fit : length log < 2 ^ 32 → output.turns < 2 ^ 35 → output.turns + 2 * length kinds + 2 < 2 ^ 64
+  kinds_fit few turns = omega (arith, ap length found, length-chain (hop place link) log)
 
-    pub Visits-start : (d : Event) → place < length log → LinksLead log → get_or log place d ≡ Start kind link → (after : Log) (made : Passed) → after ≡ erased (hop place link) log
-        → made ≡ record followed { steps = followed.steps ++ entered_back kinds; turns = followed.turns + length kinds } → Visits log output after made place
-    Visits-start d within links whole after made left enter =
-        let chained : kinds ≡ chain (Some place) log = all_kinds ∙ sym (chain-hop log place kind link d whole within links) in
-        let rest : drop (place + 1) after ≡ drop (suc place) (erased (Some place) log) = rw (add-one, left) (drop-hop log place kind link d whole within links) in
-        let steps : made.steps ≡ output.steps ++ entered_back kinds = rw (enter, follow, turn) refl in
-        record {
-          same_length = ap length left ∙ length-erased (hop place link) log;
-          links = rw left (LinksLead-erased (hop place link) log links);
-          steps =
-              rw (steps, rest, chained)
-              (append_assoc output.steps (entered_back (chain (Some place) log)) (list_of (drop (suc place) (erased (Some place) log)))
-              ∙ ap (λ ys. output.steps ++ ys) (sym (list-here log place d within links kind link whole)));
-          turns =
-              omega (
-                arith,
-                turns-here log place d within links kind link whole,
-                ap turns_of rest,
-                ap length chained,
-                ap (λ w. w.turns) turn,
-                ap (λ w. w.turns) follow,
-                ap (λ w. w.turns) enter,
-                ap length all_kinds,
-              );
-          texts = rw (enter, follow) refl;
-        }
+  pub kinds_have_room : HasRoom log output place → length output.steps + length (entered_back kinds) ≤ output.room
+  kinds_have_room room =
+      let here = list-here log place d within links kind link whole in
+      omega (
+        arith,
+        room,
+        ap length here,
+        ap (λ ys. length (entered_back ys)) chained,
+        length-append (entered_back (chain (Some place) log)) (list_of (drop (suc place) (erased (Some place) log))),
+      )
+
+  pub Visits-linked : (after : Log) (made : Passed) → after ≡ erased (hop place link) log
+      → made ≡ record output { steps = output.steps ++ entered_back kinds; turns = output.turns + 2 * length kinds } → Visits log output after made place
+  Visits-linked after made left enter =
+      let rest : drop (place + 1) after ≡ drop (suc place) (erased (Some place) log) = rw (add-one, left) (drop-hop log place kind link d whole within links) in
+      record {
+        same_length = ap length left ∙ length-erased (hop place link) log;
+        links = rw left (LinksLead-erased (hop place link) log links);
+        steps =
+            rw (enter, rest, chained)
+            (append_assoc output.steps (entered_back (chain (Some place) log)) (list_of (drop (suc place) (erased (Some place) log)))
+            ∙ ap (λ ys. output.steps ++ ys) (sym (list-here log place d within links kind link whole)));
+        turns = omega (arith, turns-here log place d within links kind link whole, ap turns_of rest, ap length chained, ap (λ w. w.turns) enter);
+        room = ap (λ w. w.room) enter;
+        texts = ap (λ w. w.texts) enter;
+      }

@@ -7,7 +7,7 @@ use Rattle.squawk_output.specs.EventLog.{LinksLead, Log}
 use Rattle.squawk_output.specs.LogDraft.{draft_items, draft_of}
 use Rattle.squawk_output.specs.StoredEvents.{HaveEventTexts, is_open_event, log_in}
 use Rattle.squawk_output.specs.declared.event.Event.TheVariants.{Finish}
-use Rattle.squawk_output.specs.declared.log.stored_event.StoredEvent.{StoredEvent}
+use Rattle.squawk_output.specs.StoredEvents.{StoredEvent}
 
 -- a log in which a parser records: each event has a mark, and one with its mark set is a Start without a kind and
 -- without a link

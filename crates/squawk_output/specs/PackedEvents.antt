@@ -1,31 +1,32 @@
--- Events as a log keeps them: the word of a step, and a link.
-use Rattle.std.specs.Prelude.{◌≡◌, ◌≢◌, ℕ, ◌-◌, ◌/◌, ◌%◌, ◌<◌, ◌==◌, if◌then◌else◌}
+-- Events as a log keeps them: a word, and an operand beside it.
+use Rattle.std.specs.Prelude.{◌≡◌, ◌≢◌, ℕ, ◌-◌, ◌/◌, ◌==◌, ◌&&◌, Bool, true, false, not, if◌then◌else◌}
 use Rattle.squawk_kinds.specs.Kinds.{TOMBSTONE}
-use Rattle.squawk_output.specs.declared.log.stored_event.StoredEvent.{StoredEvent}
-use Rattle.squawk_output.specs.declared.log.stored_event.StoredEvent.TheVariants.{Hole, Start, Finish, Token, Error}
+use Rattle.squawk_output.specs.StoredEvents.{StoredEvent, Hole, Start, Finish, Token, Error}
+use Rattle.squawk_output.specs.StoredSteps.{IsWord, unpacked}
+use Rattle.squawk_output.specs.declared.output.stored.StoredStep.{StoredStep}
+use Rattle.squawk_output.specs.declared.output.stored.StoredStep.TheVariants as step
 
--- the tag of a word that is no error's: 0 of a token, 1 of an opening, and 2 of a closing
-abbrev pub tag_of : ℕ → ℕ
-tag_of word = word / 16 % 16
+-- ---- events that give their step where they stand
 
--- the word of a step that an event gives where it stands, and no other: it is no error, and enters a node if it enters one
-pub record IsAlone (word : ℕ) : Type 0 where
-  pub odd : word % 2 ≡ 1
-  pub tag : tag_of word < 3
-  pub node : tag_of word ≡ 1 → word / 65536 ≢ TOMBSTONE
+-- the step is no error, and enters a node if it is an opening
+abbrev pub IsPlainStep : StoredStep → Type 0
+IsPlainStep (step.Enter kind) = kind ≢ TOMBSTONE
+IsPlainStep (step.Error number) = ⊥
+IsPlainStep other = Unit {0}
 
--- how many nodes the step of such a word enters
-abbrev pub enters_of : ℕ → ℕ
-enters_of word = word / 16 % 2
+-- the word of such a step
+pub record IsPlain (word : ℕ) : Type 0 where
+  pub is_word : IsWord word
+  pub plain : IsPlainStep (unpacked word)
 
--- an event by its word and the word's tag
-abbrev pub tagged_event : ℕ → ℕ → StoredEvent
-tagged_event word tag =
-    if tag == 0 then Token (word / 65536) (word / 256 % 256) else (if tag == 1 then Start (word / 65536) 0 else Finish)
+-- the event that gives such a step
+abbrev pub plain_event : StoredStep → StoredEvent
+plain_event (step.Token kind n) = Token kind n
+plain_event (step.Enter kind) = Start kind 0
+plain_event step.Exit = Finish
+plain_event (step.Error number) = Error number
 
--- the event that gives the step of a word
-abbrev pub alone_event : ℕ → StoredEvent
-alone_event word = tagged_event word (tag_of word)
+-- ---- the event of a word and its operand
 
 -- an event that gives no step: 65537 is the word of an open marker
 abbrev pub aside_event : ℕ → StoredEvent
@@ -33,20 +34,39 @@ aside_event word = if word == 65537 then Hole else Start (word / 65536) 0
 
 -- an event that is no error
 abbrev pub event_by : ℕ → ℕ → StoredEvent
-event_by word link =
-    if link == 0 then alone_event word else (if link == 4294967295 then aside_event word else Start (word / 65536) link)
+event_by word operand =
+    if operand == 0 then plain_event (unpacked word) else (if operand == 4294967295 then aside_event word else Start (word / 65536) operand)
 
--- the event of a word and a link
+-- the event of a word and an operand
 abbrev pub event_in : ℕ → ℕ → StoredEvent
-event_in word link = if word == 0 then Error (link - 1) else event_by word link
+event_in word operand = if word == 0 then Error (operand - 1) else event_by word operand
 
--- only an event that gives its step where it stands has no link, and one of no node the last
-pub record IsPacked (word link : ℕ) : Type 0 where
-  pub alone : link ≡ 0 → IsAlone word
-  pub aside : word ≢ 0 → link ≡ 4294967295 → word / 65536 ≡ TOMBSTONE
+-- only an event that gives its step where it stands has operand 0, and one of no node the last
+pub record IsPacked (word operand : ℕ) : Type 0 where
+  pub plain : operand ≡ 0 → IsPlain word
+  pub aside : word ≢ 0 → operand ≡ 4294967295 → word / 65536 ≡ TOMBSTONE
 
--- an open marker, or the Start of no node
-abbrev pub IsAside : StoredEvent → Type 0
-IsAside Hole = Unit {0}
-IsAside (Start kind link) = (kind ≡ TOMBSTONE) × (link ≡ 0)
-IsAside stored = ⊥
+-- ---- which event it is
+
+-- it gives its step where it stands
+abbrev pub is_plain : StoredEvent → Bool
+is_plain (Start kind link) = (link == 0) && not (kind == TOMBSTONE)
+is_plain Finish = true
+is_plain (Token kind n) = true
+is_plain other = false
+
+abbrev pub is_error : StoredEvent → Bool
+is_error (Error number) = true
+is_error other = false
+
+-- it gives no step: an open marker, or the Start of no node
+abbrev pub is_aside : StoredEvent → Bool
+is_aside Hole = true
+is_aside (Start kind link) = (link == 0) && (kind == TOMBSTONE)
+is_aside other = false
+
+-- it is a Start
+abbrev pub IsStarting : StoredEvent → Type 0
+IsStarting Hole = Unit {0}
+IsStarting (Start kind link) = Unit {0}
+IsStarting other = ⊥

@@ -1,27 +1,29 @@
 -- What the loops keep that put events in, and those of the pass.
-use Rattle.std.specs.Prelude.{◌≡◌, ℕ, ◌+◌, ◌≤◌, cond, false, Option, None, List, [], ◌++◌, length, drop}
+use Rattle.std.specs.Prelude.{◌≡◌, ℕ, ◌+◌, ◌*◌, ◌≤◌, cond, false, Option, None, List, [], ◌++◌, length, drop}
 use Rattle.squawk_output.specs.Steps.{Passed}
 use Rattle.squawk_output.specs.EventLog.{Log, LinksLead, errors_logged, has_link, is_start, linked_place, list_of, steps_of_event, turns_of}
 use Rattle.squawk_output.specs.declared.event.Event.{Event}
 use Rattle.squawk_output.specs.Chain.{LandsAt, chain, entered_back, erased}
 use Rattle.squawk_output.specs.StoredEvents.{HaveEventTexts, log_in}
-use Rattle.squawk_output.specs.declared.log.stored_event.StoredEvent.{StoredEvent}
+use Rattle.squawk_output.specs.StoredEvents.{StoredEvent}
+
+-- the steps of the events from a place on have room
+abbrev pub HasRoom : Log → Passed → ℕ → Type 0
+HasRoom log output place = length output.steps + length (list_of (drop place log)) ≤ output.room
 
 -- A chain is followed from a place: what is left of it, and what it has found so far, are what it finds in all.
-pub record Follows (log : Log) (kinds : List ℕ) (output : Passed) (from : Option ℕ) (log' : Log) (kinds' : List ℕ) (output' : Passed) (next : Option ℕ) : Type 0 where
+pub record Follows (log : Log) (kinds : List ℕ) (from : Option ℕ) (log' : Log) (kinds' : List ℕ) (next : Option ℕ) : Type 0 where
   pub same_length : length log' ≡ length log
   pub links : LinksLead log'
   pub lands : LandsAt log' next
   pub leaves : erased next log' ≡ erased from log
   pub finds : kinds' ++ chain next log' ≡ kinds ++ chain from log
-  pub turns : output'.turns + length (chain next log') ≡ output.turns + length (chain from log)
-  pub steps : output'.steps ≡ output.steps
-  pub texts : output'.texts ≡ output.texts
 
--- Kinds are entered from the last to the first: those that are left are still to be entered.
+-- Kinds are entered from the last to the first, two turns each: those that are left are still to be entered.
 pub record Enters (kinds : List ℕ) (output : Passed) (kinds' : List ℕ) (output' : Passed) : Type 0 where
-  pub turns : output'.turns + length kinds' ≡ output.turns + length kinds
+  pub turns : output'.turns + 2 * length kinds' ≡ output.turns + 2 * length kinds
   pub steps : output'.steps ++ entered_back kinds' ≡ output.steps ++ entered_back kinds
+  pub room : output'.room ≡ output.room
   pub texts : output'.texts ≡ output.texts
 
 -- An event is visited: what is left behind it is a log, whose list and turns are still to come.
@@ -30,14 +32,16 @@ pub record Visits (log : Log) (output : Passed) (log' : Log) (output' : Passed) 
   pub links : LinksLead log'
   pub steps : output'.steps ++ list_of (drop (place + 1) log') ≡ output.steps ++ list_of (drop place log)
   pub turns : output'.turns + turns_of (drop (place + 1) log') ≡ output.turns + turns_of (drop place log)
+  pub room : output'.room ≡ output.room
   pub texts : output'.texts ≡ output.texts
 
 -- An event is visited that has no link: it gives its step where it stands.
-pub record GivesAlone (event : Event) (output output' : Passed) : Type 0 where
-  pub alone : linked_place event ≡ None
+pub record GivesPlain (event : Event) (output output' : Passed) : Type 0 where
+  pub plain : linked_place event ≡ None
   pub unlinked : has_link event ≡ false
   pub steps : output'.steps ≡ output.steps ++ steps_of_event event
   pub turns : output'.turns ≡ output.turns + 1 + cond (is_start event) 1 0
+  pub room : output'.room ≡ output.room
   pub texts : output'.texts ≡ output.texts
 
 -- The events from a place to another are visited, and none of them has a link.
@@ -46,6 +50,7 @@ pub record VisitsTo (log : Log) (output output' : Passed) (place place' : ℕ) :
   pub within : place' ≤ length log
   pub steps : output'.steps ++ list_of (drop place' log) ≡ output.steps ++ list_of (drop place log)
   pub turns : output'.turns + turns_of (drop place' log) ≡ output.turns + turns_of (drop place log)
+  pub room : output'.room ≡ output.room
   pub texts : output'.texts ≡ output.texts
 
 -- The events before a place were visited.
@@ -54,6 +59,7 @@ pub record Passes (log : Log) (log' : Log) (output : Passed) (kinds : List ℕ) 
   pub links : LinksLead log'
   pub steps : output.steps ++ list_of (drop place log') ≡ list_of log
   pub turns : output.turns + turns_of (drop place log') ≡ turns_of log
+  pub room : length log ≤ output.room
   pub none : kinds ≡ []
 
 -- The same of a list of events, beside the texts of its errors.

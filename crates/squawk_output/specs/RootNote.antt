@@ -6,11 +6,11 @@ use Rattle.squawk_output.specs.declared.output.root_note.RootNote.{RootNote}
 
 -- the note of no steps
 abbrev pub unnoted : RootNote
-unnoted = record { depth = 0; outside = 0 }
+unnoted = record { depth = 0; top_level = 0 }
 
--- the note behind one step more, which leaves so many nodes open; one that finds none open stands outside
+-- the note behind one step more, which leaves so many nodes open; one that finds none open stands at the top level
 abbrev pub stepped : RootNote → ℕ → RootNote
-stepped note depth = record { depth = depth; outside = note.outside + cond (note.depth == 0) 1 0 }
+stepped note depth = record { depth = depth; top_level = note.top_level + cond (note.depth == 0) 1 0 }
 
 -- so many steps, and their note
 pub record Noted : Type 0 where
@@ -30,4 +30,4 @@ note_of steps = fold noted (record { count = 0; note = unnoted }) steps
 -- Whether a note is one of so many steps in one root: no node is open, and of the steps, which are more than one, the first alone found
 -- none open. So it is an opening, and the last of them is the closing that left none open.
 abbrev pub tells_root : RootNote → ℕ → Bool
-tells_root note steps = (note.outside == 1) && ((note.depth == 0) && (not (steps == 0) && not (steps == 1)))
+tells_root note steps = (note.top_level == 1) && ((note.depth == 0) && (not (steps == 0) && not (steps == 1)))

@@ -17,9 +17,10 @@ pub record Walk : Type 0 where
   pub recorded : ℕ
   pub turns : ℕ
 
--- what a pass has made so far: steps, the texts of all errors of its log, and how many turns it took
+-- what a pass has made so far: steps, and for how many there is room in all; the texts of all errors of its log, and how many turns it took
 pub record Passed : Type 0 where
   pub steps : List Step
+  pub room : ℕ
   pub texts : List (List ℕ)
   pub turns : ℕ
 

@@ -4,8 +4,19 @@ use Rattle.squawk_output.specs.Chain.{tombstone}
 use Rattle.squawk_output.specs.EventLog.{Log}
 use Rattle.squawk_output.specs.declared.event.Event.{Event}
 use Rattle.squawk_output.specs.declared.event.Event.TheVariants as event
-use Rattle.squawk_output.specs.declared.log.stored_event.StoredEvent.{StoredEvent}
-use Rattle.squawk_output.specs.declared.log.stored_event.StoredEvent.TheVariants.{Hole, Start, Finish, Token, Error}
+
+-- an event whose text, if it is an error, is kept elsewhere
+pub data StoredEvent : Type 0 where
+  -- the Start of an open marker, which has neither a kind nor a link
+  Hole : StoredEvent
+  -- the beginning of a node of a kind, and how many places on its link leads, or 0
+  Start : ℕ → ℕ → StoredEvent
+  -- the end of a node
+  Finish : StoredEvent
+  -- a token of a kind, and how many input tokens it has
+  Token : ℕ → ℕ → StoredEvent
+  -- an error by its number, counted from 0
+  Error : ℕ → StoredEvent
 
 -- a link of no places is none
 abbrev pub link_of : ℕ → Option ℕ

@@ -1,5 +1,5 @@
 -- The words in which an output keeps its steps.
-use Rattle.std.specs.Prelude.{ℕ, ◌+◌, ◌*◌, ◌/◌, ◌%◌, ◌<◌, ◌==◌, All, List, length, slice_index_or, if◌then◌else◌, []}
+use Rattle.std.specs.Prelude.{◌≡◌, ℕ, ◌+◌, ◌*◌, ◌/◌, ◌%◌, ◌<◌, ◌==◌, All, List, length, slice_index_or, if◌then◌else◌, []}
 use Rattle.squawk_output.specs.Steps as plain
 use Rattle.squawk_output.specs.declared.output.stored.StoredStep.{StoredStep}
 use Rattle.squawk_output.specs.declared.output.stored.StoredStep.TheVariants.{Token, Enter, Exit, Error}
@@ -32,6 +32,24 @@ FitsWord (Token kind n) = (kind < 65536) × (n < 256)
 FitsWord (Enter kind) = kind < 65536
 FitsWord Exit = Unit {0}
 FitsWord (Error number) = number < 2147483648
+
+-- the word of a step, and not another number with the same bits where those are looked at
+abbrev pub IsWord : ℕ → Type 0
+IsWord word = packed (unpacked word) ≡ word
+
+-- each is such a word
+abbrev pub AreWords : List ℕ → Type 0
+AreWords words = All IsWord words
+
+-- how many nodes a step enters
+abbrev pub enters_of : StoredStep → ℕ
+enters_of (Enter kind) = 1
+enters_of step = 0
+
+-- how many it leaves
+abbrev pub leaves_of : StoredStep → ℕ
+leaves_of Exit = 1
+leaves_of step = 0
 
 -- a step that is no error
 abbrev pub IsNoError : StoredStep → Type 0

@@ -1,10 +1,10 @@
 //! Events, and the output of a log of them.
 ghost use Rattle.std.specs.Prelude.{◌≡◌, ◌+◌, ◌<◌, ◌≤◌, ◌^◌, ◌∷◌, ◌++◌, [], length, IfOk};
 ghost use Rattle.squawk_output.specs.EventLog.{LinksLead, errors_logged, list_of, turns_of};
-ghost use Rattle.squawk_output.specs.StoredEvents.{HaveEventTexts, LeadsOn, log_in};
+ghost use Rattle.squawk_output.specs.StoredEvents.{HaveEventTexts, LeadsOn, Start, log_in};
 
+use crate::log::packed_event::PackedEvent;
 use crate::log::push_error;
-use crate::log::stored_event::{PackedEvent, StoredEvent};
 use crate::output::{Output, Text};
 use crate::pass::pass;
 use squawk_kinds::SyntaxKind;
@@ -114,7 +114,7 @@ fn store(
 /// A `Start`, with a link unless that is 0.
 fn start(kind: SyntaxKind, link: u32) -> PackedEvent
     requires { link + 1 < 2 ^ 32 }
-    ensures { result ≡ StoredEvent.Start kind link }
+    ensures { result ≡ Start kind link }
 {
     if link > 0 {
         return PackedEvent::linked(kind, link);

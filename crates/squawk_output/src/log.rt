@@ -8,14 +8,14 @@ ghost use Rattle.squawk_output.specs.LogDraft.{HasHoleOf, HasNodeOf};
 ghost use Rattle.squawk_output.specs.StoredEvents.{HaveEventTexts, is_open_event, log_in};
 ghost use Rattle.squawk_output.specs.declared.event.Event.{Event};
 
-pub(crate) mod stored_event;
+pub(crate) mod packed_event;
 
 use crate::output::{Output, Text};
 use crate::pass::pass;
+use packed_event::PackedEvent;
 use squawk_kinds::SyntaxKind;
 use std::alloc::{AllocError, Global};
 use std::marker::Model;
-use stored_event::PackedEvent;
 
 /// How a hole was made.
 #[derive(Clone, Copy, Debug)]
@@ -180,8 +180,8 @@ impl EventLog {
         ensures extended { (kind : ℕ) → Contains self.old.items (Open node kind true) → self.new ≡ extended self.old (record { id = node; kind = kind }) id }
         ensures logged { IsLogged self.new }
     {
-        let events = &mut self.events;
-        events[id as usize] = PackedEvent::linked(SyntaxKind::TOMBSTONE, node - id);
+        let start = &mut self.events[id as usize];
+        *start = PackedEvent::linked(SyntaxKind::TOMBSTONE, node - id);
     }
 
     /// The items as an output; holes are left out. It is made in one pass.

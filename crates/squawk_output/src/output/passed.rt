@@ -1,19 +1,19 @@
 //! The steps that a pass makes.
-ghost use Rattle.std.specs.Prelude.{◌≡◌, [], ◌∷◌, ◌++◌, ◌+◌, ◌<◌, ◌^◌, ◌↔◌, IfOk, IsTrue, false, length, slice_index_or, true};
+ghost use Rattle.std.specs.Prelude.{◌≡◌, [], ◌∷◌, ◌++◌, ◌+◌, ◌<◌, ◌^◌, ◌↔◌, IfOk, IsTrue, length, slice_index_or};
 ghost use Rattle.squawk_output.specs.OneRoot.{StandsInOneRoot};
-ghost use Rattle.squawk_output.specs.PackedEvents.{IsAlone, enters_of};
-ghost use Rattle.squawk_output.specs.Steps.{Token, Enter, Exit, Error, without_errors};
-ghost use Rattle.squawk_output.specs.StoredSteps.{step_in};
+ghost use Rattle.squawk_output.specs.PackedEvents.{IsPlain};
+ghost use Rattle.squawk_output.specs.Steps.{Error, without_errors};
+ghost use Rattle.squawk_output.specs.StoredSteps.{enters_of, step_in, unpacked};
 
 use crate::output::root_note::RootNote;
 use crate::output::steps::Steps;
-use crate::output::stored::StoredStep;
+use crate::output::stored::{StoredStep, enters, leaves};
 use crate::output::text::Text;
-use squawk_kinds::SyntaxKind;
 use std::alloc::{AllocError, Global};
 use std::marker::Model;
 
-/// The steps that a pass has made so far, and how many turns it took.
+/// The steps that a pass has made so far, and how many turns it took. Room for all steps is reserved when
+/// it begins.
 ///
 /// Each step is a word. The text of each error stands in a list of its own, at the error's number, from
 /// the beginning of the pass on.
@@ -34,23 +34,25 @@ impl Model for PassedSteps {
 
     ghost use Rattle.std.specs.Prelude.{◌≡◌, ◌≤◌, ◌-◌, length, map};
     ghost use Rattle.squawk_output.specs.RootNote.{note_of};
-    ghost use Rattle.squawk_output.specs.StoredSteps.{HaveTexts, step_in};
+    ghost use Rattle.squawk_output.specs.StoredSteps.{AreWords, HaveTexts, step_in};
+    ghost use Rattle.std.specs.Vec.{vec_capacity};
 
-    ghost view = { λ p. record { steps = map (step_in p.errors.items) p.words.items; texts = p.errors.items; turns = p.turns } };
+    ghost view = { λ p. record { steps = map (step_in p.errors.items) p.words.items; room = vec_capacity p.words; texts = p.errors.items; turns = p.turns } };
 
     ghost invariant = { λ p. record {
+      words : AreWords p.words.items;
       have_texts : HaveTexts p.errors.items p.words.items;
       note : note_of (map (step_in p.errors.items) p.words.items) ≡ record { count = length p.words.items - p.told; note = p.note };
       told : p.told ≤ length p.words.items;
       low : p.note.depth ≤ length p.words.items;
-      few : p.note.outside ≤ length p.words.items;
+      few : p.note.top_level ≤ length p.words.items;
     } };
 }
 
 impl PassedSteps {
     /// No steps.
     pub(crate) fn empty(alloc: Global) -> PassedSteps
-        ensures { result ≡ record { steps = []; texts = []; turns = 0 } }
+        ensures { result ≡ record { steps = []; room = 0; texts = []; turns = 0 } }
     {
         PassedSteps {
             words: Vec::new(alloc),
@@ -67,7 +69,7 @@ impl PassedSteps {
         steps: usize,
         errors: Vec<Text>,
     ) -> Result<PassedSteps, AllocError>
-        ensures { IfOk result (λ p. p ≡ record { steps = []; texts = errors.items; turns = 0 }) }
+        ensures { IfOk result (λ p. p ≡ record { steps = []; room = steps; texts = errors.items; turns = 0 }) }
     {
         Ok(PassedSteps {
             words: Vec::with_capacity(alloc, steps)?,
@@ -78,97 +80,46 @@ impl PassedSteps {
         })
     }
 
-    /// Counts a turn of the pass.
-    #[inline(always)]
-    pub(crate) fn turn(&mut self)
-        requires { self.old.turns + 1 < 2 ^ 64 }
-        ensures { self.new ≡ record self.old { turns = self.old.turns + 1 } }
-    {
-        self.turns += 1;
-    }
-
-    /// Puts the step of a word at the end, if there is room for it, and says whether there was. It makes
+    /// Puts the step of a word at the end: an event that gives exactly this step where it stands. It makes
     /// a turn, and one more for the beginning of a node.
     ///
     /// No jump depends on what the step is.
     #[inline(always)]
-    pub(crate) fn put_alone(&mut self, word: u32) -> bool
-        requires alone { IsAlone word }
+    pub(crate) fn put_plain(&mut self, word: u32)
+        requires plain { IsPlain word }
+        requires room { length self.old.steps < self.old.room }
         requires turns { self.old.turns + 2 < 2 ^ 64 }
-        ensures put { result ≡ true → self.new ≡ record self.old { steps = self.old.steps ++ step_in self.old.texts word ∷ []; turns = self.old.turns + 1 + enters_of word } }
-        ensures full { result ≡ false → self.new ≡ self.old }
+        ensures { self.new ≡ record self.old { steps = self.old.steps ++ step_in self.old.texts word ∷ []; turns = self.old.turns + 1 + enters_of (unpacked word) } }
     {
-        if self.words.len() == self.words.capacity() {
-            return false;
-        }
-        let enters = (word >> 4) % 2;
-        let leaves = (word >> 5) % 2;
+        let enters = enters(word);
+        let leaves = leaves(word);
         self.words.push_reserved(word);
         self.note.step(enters as usize, leaves as usize);
         self.turns += u64::from(1 + enters);
-        true
     }
 
     /// The same for the error of a number, which makes a turn. Numbers of errors have 31 bits.
     #[inline(always)]
-    pub(crate) fn put_error(&mut self, number: u32) -> bool
+    pub(crate) fn put_error(&mut self, number: u32)
         requires text { number < length self.old.texts }
         requires fits { number < 2147483648 }
+        requires room { length self.old.steps < self.old.room }
         requires turns { self.old.turns + 1 < 2 ^ 64 }
-        ensures put { result ≡ true → self.new ≡ record self.old { steps = self.old.steps ++ Error (slice_index_or self.old.texts number []) ∷ []; turns = self.old.turns + 1 } }
-        ensures full { result ≡ false → self.new ≡ self.old }
+        ensures { self.new ≡ record self.old { steps = self.old.steps ++ Error (slice_index_or self.old.texts number []) ∷ []; turns = self.old.turns + 1 } }
     {
-        if self.words.len() == self.words.capacity() {
-            return false;
-        }
-        let told = self.told + 1;
         self.words
             .push_reserved(StoredStep::Error { number }.pack());
-        self.told = told;
-        self.turn();
-        true
-    }
-
-    /// Puts a token at the end.
-    pub(crate) fn token(&mut self, kind: SyntaxKind, n_input_tokens: u8) -> Result<(), AllocError>
-        ensures { IfOk result (λ _. self.new ≡ record self.old { steps = self.old.steps ++ Token kind n_input_tokens ∷ [] }) }
-    {
-        let token = StoredStep::Token {
-            kind,
-            n_input_tokens,
-        };
-        self.words.push(token.pack())?;
-        self.note.step(0, 0);
-        Ok(())
-    }
-
-    /// Puts the beginning of a node at the end.
-    pub(crate) fn enter_node(&mut self, kind: SyntaxKind) -> Result<(), AllocError>
-        ensures { IfOk result (λ _. self.new ≡ record self.old { steps = self.old.steps ++ Enter kind ∷ [] }) }
-    {
-        self.words.push(StoredStep::Enter { kind }.pack())?;
-        self.note.step(1, 0);
-        Ok(())
-    }
-
-    /// Puts the end of a node at the end.
-    pub(crate) fn leave_node(&mut self) -> Result<(), AllocError>
-        ensures { IfOk result (λ _. self.new ≡ record self.old { steps = self.old.steps ++ Exit ∷ [] }) }
-    {
-        self.words.push(StoredStep::Exit.pack())?;
-        self.note.step(0, 1);
-        Ok(())
-    }
-
-    /// Puts the error of this number at the end. Numbers of errors have 31 bits.
-    pub(crate) fn error(&mut self, number: u32) -> Result<(), AllocError>
-        requires text { number < length self.old.texts }
-        requires fits { number < 2147483648 }
-        ensures { IfOk result (λ _. self.new ≡ record self.old { steps = self.old.steps ++ Error (slice_index_or self.old.texts number []) ∷ [] }) }
-    {
-        self.words.push(StoredStep::Error { number }.pack())?;
         self.told += 1;
-        Ok(())
+        self.turns += 1;
+    }
+
+    /// An event that gives no step, and is the beginning of no node: it makes two turns.
+    #[inline(always)]
+    pub(crate) fn pass_by(&mut self)
+        requires { self.old.turns + 2 < 2 ^ 64 }
+        ensures { self.new ≡ record self.old { turns = self.old.turns + 2 } }
+    {
+        self.turns += 2;
     }
 
     /// The steps in their order.

@@ -8,7 +8,7 @@ pub(crate) struct RootNote {
     /// How many nodes are open.
     depth: usize,
     /// How many of the steps found none open. In one root it is the first of them alone.
-    outside: usize,
+    top_level: usize,
 }
 
 impl RootNote {
@@ -18,7 +18,7 @@ impl RootNote {
     {
         RootNote {
             depth: 0,
-            outside: 0,
+            top_level: 0,
         }
     }
 
@@ -26,10 +26,10 @@ impl RootNote {
     #[inline(always)]
     pub(crate) fn step(&mut self, enters: usize, leaves: usize)
         requires enters { self.old.depth + enters < 2 ^ 64 }
-        requires outside { self.old.outside + 1 < 2 ^ 64 }
+        requires top_level { self.old.top_level + 1 < 2 ^ 64 }
         ensures { self.new ≡ stepped self.old (self.old.depth + enters - leaves) }
     {
-        self.outside += usize::from(self.depth == 0);
+        self.top_level += usize::from(self.depth == 0);
         self.depth = (self.depth + enters).saturating_sub(leaves);
     }
 
@@ -37,6 +37,6 @@ impl RootNote {
     pub(crate) fn tells_root(&self, steps: usize) -> bool
         ensures { result ≡ tells_root self.now steps }
     {
-        self.outside == 1 && self.depth == 0 && steps > 1
+        self.top_level == 1 && self.depth == 0 && steps > 1
     }
 }

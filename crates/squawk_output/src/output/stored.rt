@@ -1,7 +1,7 @@
 //! The steps of an output as it keeps them, in a word each.
 ghost use Rattle.std.specs.Prelude.{◌≡◌, ◌<◌, IfSome, IsNone};
 ghost use Rattle.squawk_output.specs.StepViews.{step_of};
-ghost use Rattle.squawk_output.specs.StoredSteps.{FitsWord, HasText, IsNoError, odd_word, packed, unpacked, with_text};
+ghost use Rattle.squawk_output.specs.StoredSteps.{FitsWord, HasText, IsNoError, IsWord, enters_of, leaves_of, odd_word, packed, unpacked, with_text};
 
 use crate::output::step::Step;
 use crate::output::text::Text;
@@ -53,21 +53,15 @@ impl StoredStep {
         }
     }
 
-    /// The step of a word. A token, of which there are the most, is told by one test.
+    /// The step of a word.
     #[inline(always)]
     pub(crate) fn unpack(word: u32) -> StoredStep
         ensures { result ≡ unpacked word }
     {
-        let kind = SyntaxKind::from((word >> 16) as u16);
-        if word % 256 == (TOKEN << 4) + 1 {
-            return StoredStep::Token {
-                kind,
-                n_input_tokens: ((word >> 8) % 256) as u8,
-            };
-        }
         if word % 2 == 0 {
             return StoredStep::Error { number: word / 2 };
         }
+        let kind = SyntaxKind::from((word >> 16) as u16);
         match (word >> 4) % 16 {
             TOKEN => StoredStep::Token {
                 kind,
@@ -108,6 +102,26 @@ impl StoredStep {
             },
         }
     }
+}
+
+/// How many nodes the step of a word enters: the lowest bit of [`ENTER`].
+#[inline(always)]
+pub(crate) fn enters(word: u32) -> u32
+    requires word { IsWord word }
+    requires no_error { IsNoError (unpacked word) }
+    ensures { result ≡ enters_of (unpacked word) }
+{
+    (word >> 4) % 2
+}
+
+/// How many nodes it leaves: the second bit, which [`EXIT`] alone has.
+#[inline(always)]
+pub(crate) fn leaves(word: u32) -> u32
+    requires word { IsWord word }
+    requires no_error { IsNoError (unpacked word) }
+    ensures { result ≡ leaves_of (unpacked word) }
+{
+    (word >> 5) % 2
 }
 
 /// The word of a step that is no error.

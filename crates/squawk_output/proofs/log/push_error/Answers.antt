@@ -1,5 +1,5 @@
 use Rattle.std.proofs.Common.{◌≡◌, ◌++◌, ◌∷◌, [], length, rules}
-use Rattle.squawk_output.specs.declared.log.stored_event.StoredEvent.TheVariants.{Error}
+use Rattle.squawk_output.specs.StoredEvents.{Error}
 use Rattle.squawk_output.proofs.StoredEvents.{log_in-error}
 use Rattle.squawk_output.proofs.log.push_error.Goals as goal
 

@@ -1,13 +1,20 @@
 use Rattle.std.proofs.Common.{ap, arith}
 use Rattle.squawk_output.proofs.StoredEvents.{length-log_in}
-use Rattle.squawk_output.proofs.StoredVisits.{passes-end, passes-next, passes-to}
+use Rattle.squawk_output.proofs.StoredVisits.{passes-end, passes-next, passes-room, passes-to}
 use Rattle.squawk_output.proofs.pass.pass.Goals as goal
+
+pub visit_plain-place-requires-clause-room : goal.visit_plain-place-requires-clause-room
+visit_plain-place-requires-clause-room c = rw c.deref.ensures.value (passes-room _ _ _ _ _ _ c.loop-place.invariant.0)
+
+pub visit_linked-requires-clause-room : goal.visit_linked-requires-clause-room
+visit_linked-requires-clause-room c =
+    passes-room _ _ _ _ _ _ (passes-to _ _ _ _ _ _ c.loop-place.invariant.0 c.deref.result.now c.visit_plain-place.new.passed c.visit_plain-place.result c.deref.ensures.value c.visit_plain-place.ensures.visits)
 
 pub loop-place-preserved-then-place-len : goal.loop-place-preserved-then-place-len
 loop-place-preserved-then-place-len c =
     let texts = c.in_ok-passed.passed.texts in
-    let ran = passes-to _ _ _ _ _ _ c.loop-place.invariant.0 c.deref.result.now c.visit_alone-place.new.passed c.visit_alone-place.result c.deref.ensures.value c.visit_alone-place.ensures in
-    let list = passes-next _ _ _ _ _ _ ran _ _ _ c.in_ok-visit.ensures.visits c.in_ok-visit.ensures.texts c.in_ok-visit.ensures.none in (
+    let ran = passes-to _ _ _ _ _ _ c.loop-place.invariant.0 c.deref.result.now c.visit_plain-place.new.passed c.visit_plain-place.result c.deref.ensures.value c.visit_plain-place.ensures.visits in
+    let list = passes-next _ _ _ _ _ _ ran _ _ _ c.in_ok-visit_linked.ensures.visits c.in_ok-visit_linked.ensures.texts c.in_ok-visit_linked.ensures.none in (
       list,
       omega (
         arith,
@@ -15,14 +22,14 @@ loop-place-preserved-then-place-len c =
         list.passes.same_length,
         ran.passes.same_length,
         length-log_in texts c.loop-place.events.items,
-        length-log_in texts c.visit.new.events.items,
+        length-log_in texts c.visit_linked.new.events.items,
       ),
     )
 
 pub loop-place-preserved : goal.loop-place-preserved
 loop-place-preserved c = (
-  passes-to _ _ _ _ _ _ c.loop-place.invariant.0 c.deref.result.now c.visit_alone-place.new.passed c.visit_alone-place.result c.deref.ensures.value c.visit_alone-place.ensures,
-  omega (arith, c.visit_alone-place.ensures.within, c.deref.ensures.len, length-log_in c.loop-place.passed.texts c.deref.result.now),
+  passes-to _ _ _ _ _ _ c.loop-place.invariant.0 c.deref.result.now c.visit_plain-place.new.passed c.visit_plain-place.result c.deref.ensures.value c.visit_plain-place.ensures.visits,
+  omega (arith, c.visit_plain-place.ensures.visits.within, c.deref.ensures.len, length-log_in c.loop-place.passed.texts c.deref.result.now),
 )
 
 pub returns : goal.returns

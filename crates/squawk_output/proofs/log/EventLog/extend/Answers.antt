@@ -3,8 +3,8 @@ use Rattle.squawk_output.proofs.KeptLog.{hole-within, kept-extended, logged_kept
 use Rattle.squawk_output.proofs.StoredEvents.{length-log_in}
 use Rattle.squawk_output.proofs.log.EventLog.extend.Goals as goal
 
-pub index_mut-requires : goal.index_mut-requires
-index_mut-requires c = omega (arith, hole-within _ _ _ _ c.self.invariant c.self.view_is c.args.id c.requires.hole)
+pub index_mut-start-requires : goal.index_mut-start-requires
+index_mut-start-requires c = omega (arith, hole-within _ _ _ _ c.self.invariant c.self.view_is c.args.id c.requires.hole)
 
 pub invariant_of-self : goal.invariant_of-self
 invariant_of-self c =

@@ -1,7 +1,7 @@
 use Rattle.std.proofs.Common.{◌-◌, length}
 use Rattle.squawk_output.specs.Pass.{VisitsTo}
 use Rattle.squawk_output.specs.StoredEvents.{log_in}
-use Rattle.squawk_output.proofs.pass.visit_alone.Given as goal
+use Rattle.squawk_output.proofs.pass.visit_plain.Given as goal
 
 abbrev pub invariant-loop-at : goal.invariant-loop-at
 invariant-loop-at l = VisitsTo (log_in l.initial.passed.texts l.events) l.initial.passed l.passed l.place l.at
