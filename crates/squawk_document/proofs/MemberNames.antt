@@ -54,7 +54,7 @@ pair one other d f is =
     let (_, second, _) = there other d (f x) more in
     (exact, (some first, (some second, tt)))
 
--- the law
+-- a law: a document that was read has exactly these members
 pub is_document : (d : Data) (y : Told) → document_in d ≡ Ok y → IsDocument d
 is_document d y is =
     let (members, of_d, more) = both (members_in d) _ is in

@@ -24,11 +24,6 @@ length-chain None (x ∷ xs) = omega arith
 length-chain (Some zero) (x ∷ xs) = omega (arith, length-chain (linked_place x) xs)
 length-chain (Some (suc n)) (x ∷ xs) = omega (arith, length-chain (Some n) xs)
 
-chain-some : (log : Log) (place : ℕ) → place < length log → 0 < length (chain (Some place) log)
-chain-some [] place lt = absurd (omega arith)
-chain-some (x ∷ xs) zero lt = omega arith
-chain-some (x ∷ xs) (suc n) lt = chain-some xs n (omega arith)
-
 one_further : (n : ℕ) → 0 < n → 0 + n ≡ suc (n - 1)
 one_further n h = omega arith
 

@@ -21,5 +21,6 @@ had_room {steps} {old} {new} puts goes =
       errors = omega (arith, counts.errors, sound.errors, puts.keeps.max_errors);
     }
 
+-- a law: where one of the steps has no room, the parser fails
 pub without_room : {steps : List Step} {old new : State} → Puts steps old new → ¬ (HasRoomFor steps old) → ¬ (HasNotFailed new)
 without_room puts none goes = none (had_room puts goes)

@@ -6,13 +6,13 @@ use Rattle.std.proofs.lemmas.Grind.{common_steps}
 use Rattle.std.proofs.lemmas.List.{get_or_past, take_all, take_more}
 use Rattle.std.proofs.lemmas.List.Elements.{at_read}
 use Rattle.std.proofs.lemmas.List.Quantifiers.{position-Some}
-use Rattle.std.proofs.lemmas.List.Sums.{fails_before_first, sum_by-take-le}
-use Rattle.squawk_script.specs.Accepted.{AreGoodBelow, IsAccepted, IsFirstOpen, IsGoodAt, is_open, makes_marker, markers_of, may_follow}
+use Rattle.std.proofs.lemmas.List.Sums.{fails_before_first}
+use Rattle.squawk_script.specs.Accepted.{AreGoodBelow, IsAccepted, IsFirstOpen, IsGoodAt, is_open, may_follow}
 use Rattle.squawk_script.specs.Slots.{is_admitted, is_status_open, noted, status_at}
 use Rattle.squawk_script.specs.declared.call.Call.{Call}
 use Rattle.squawk_script.specs.declared.status.Status.{Status}
 use Rattle.squawk_script.specs.declared.status.Status.TheVariants as status
-use Rattle.squawk_script.proofs.Statuses.{AreStatusesOf, admitted-follows, markers-more, statuses-next}
+use Rattle.squawk_script.proofs.Statuses.{AreStatusesOf, admitted-follows, statuses-next}
 
 -- ---- the call at an index
 
@@ -34,13 +34,6 @@ module _ (calls : List Call) (statuses : List Status) (i : ℕ) (call : Call) (l
   -- a good call is admitted
   pub admitted-at : IsGoodAt calls i → IsTrue (is_admitted statuses call)
   admitted-at good = admitted-follows (take i calls) statuses are call ∙ (ap (may_follow (take i calls)) read ∙ good call)
-
-  -- a marker that it makes is one of all that the calls make
-  pub room : IsTrue (makes_marker call) → length statuses < markers_of calls
-  room makes =
-      let le : markers_of (take (i + 1) calls) ≤ markers_of calls = sum_by-take-le _ calls (i + 1) in
-      let more : markers_of (take (i + 1) calls) ≡ markers_of (take i calls) + 1 = ap markers_of next ∙ markers-more (take i calls) call makes in
-      omega (arith, le, more, are.count)
 
 -- ---- after the last call
 

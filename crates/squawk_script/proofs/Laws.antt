@@ -20,6 +20,7 @@ use Rattle.squawk_output.proofs.PlainLog.{errors-plain}
 use Rattle.squawk_script.proofs.Events.{errors-events, errors_among-append, recorded-events}
 use Rattle.squawk_script.proofs.Refusals.{Tells, error-at, is-none, refused-at, tells}
 
+-- a law: what a script leaves is one draft
 pub leaves_one : (script : Meaning) → LeavesOne script
 leaves_one script input from other one two first second = first ∙ sym second
 
@@ -48,17 +49,17 @@ module _ (events errors : ℕ) (es : List Bool) where
   room-for-all is =
       let told = tells events errors es None is in (told.1, omega (arith, told.0, ap errors_among (take_all events es told.1)))
 
-  -- too many events are refused only where there are more than there is room for
+  -- a law: too many events are refused only where there are more than there is room for
   pub more-events : refusal events errors es ≡ Some TooManyEvents → events < length es
   more-events is = (tells events errors es (Some TooManyEvents) is).1
 
-  -- and too many errors only where there are more errors than there is room for
+  -- a law: too many errors are refused only where there are more errors than there is room for
   pub more-errors : refusal events errors es ≡ Some TooManyErrors → errors < errors_among es
   more-errors is =
       let many = tells events errors es (Some TooManyErrors) is in
       omega (arith, many, ap errors_among (take-append-drop events es), errors_among-append (take events es) (drop events es))
 
-  -- what is refused is the first event that finds no room
+  -- a law: what is refused is the first event that finds no room
   pub first-refused : (reason : ParseError) → refusal events errors es ≡ Some reason → IsFirstRefused events errors es reason
   first-refused reason is = cases reason (tells events errors es (Some reason) is)
     where
@@ -128,12 +129,12 @@ module _ (script : Meaning) (entry other : EntryPoint) (begun first second : Sta
   abbrev Leaves : EntryPoint → State → Type 0
   Leaves from left = grammar.runs-value.it script from begun left
 
-  -- its limits make it fail for one reason, which is the same from both
+  -- a law: its limits make it fail for one reason, which is the same from both
   pub one-reason : (one two : ParseError) → Leaves entry first → Leaves other second → first.first_reason ≡ Some one → second.first_reason ≡ Some two
       → one ≢ OutOfMemory → two ≢ OutOfMemory → one ≡ two
   one-reason one two left right is are limit limit' = let p = sym (left one is limit) ∙ right two are limit' in cc
 
-  -- a draft within the limits is one of a run that fails under them for want of memory alone
+  -- a law: a draft within the limits is one of a run that fails under them for want of memory alone
   pub none-fails : (d : Draft) → grammar.leaves-value.it script entry begun.input d → d.recorded ≤ begun.max_events → errors_in (plain d.items) ≤ begun.max_errors
       → Leaves other first → (reason : ParseError) → first.first_reason ≡ Some reason → reason ≢ OutOfMemory → ⊥
   none-fails d left events errors ran reason is limit =

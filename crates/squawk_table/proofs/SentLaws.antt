@@ -12,19 +12,19 @@ use Rattle.squawk_table.proofs.SentNumbered.{sent_list-numbered}
 
 -- ---- the order of steps
 
--- where errors are moved, all other steps keep their order
+-- a law: where errors are moved, all other steps keep their order
 pub others-errors_moved : (steps : List Step) → without_errors (errors_moved steps) ≡ without_errors steps
 others-errors_moved steps = moved.without_errors-moved steps
 
--- and the errors keep theirs
+-- a law: and the errors keep theirs
 pub errors-errors_moved : (steps : List Step) → filter is_error (errors_moved steps) ≡ filter is_error steps
 errors-errors_moved steps = moved.errors-moved steps
 
--- as many input tokens are eaten
+-- a law: as many input tokens are eaten
 pub eaten-errors_moved : (steps : List Step) → eaten (errors_moved steps) ≡ eaten steps
 eaten-errors_moved steps = moved.eaten-moved steps
 
--- and there are as many steps
+-- a law: and there are as many steps
 pub length-errors_moved : (steps : List Step) → length (errors_moved steps) ≡ length steps
 length-errors_moved steps = moved.length-moved steps
 

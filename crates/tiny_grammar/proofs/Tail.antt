@@ -32,9 +32,6 @@ module _ {b c : State} (some : kind_at b 0 ≢ EOF) (puts : Puts (recovery_steps
         all = eating.all ∙ (ap (λ steps. eating.done ++ steps) next ∙ sym (append_assoc eating.done step (tail_steps (ahead c 0))));
       }
 
-  pub fewer : length (ahead c 0) < length (ahead b 0)
-  fewer = let eats = eats_one some puts in omega (arith, ap length eats.is)
-
 pub eating-all : {a b : State} → Eating a b → kind_at b 0 ≡ EOF → Puts (tail_steps (ahead a 0)) a b
 eating-all {a} {b} eating end =
     let first : kind_in (ahead b 0) 0 ≡ EOF = sym (kind_at-first b) ∙ end in

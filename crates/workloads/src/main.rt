@@ -5,6 +5,7 @@
 #![tactic(auto)]
 
 mod awkward;
+mod calls;
 mod digest;
 mod documents;
 mod jobs;
@@ -96,13 +97,14 @@ fn do_job(
         "edits" => jobs::edits(alloc, setting, maker, count, digest)?,
         "moved" => moved::moved(alloc, setting, maker, count, digest)?,
         "documents" => documents::documents(alloc, setting, maker, count, digest)?,
+        "calls" => calls::calls(alloc, setting, count, digest)?,
         "all" => do_all(alloc, setting, order, digest)?,
         _ => return Ok(false),
     }
     Ok(true)
 }
 
-/// Does all jobs.
+/// Does all jobs that are timed.
 fn do_all(
     alloc: Global,
     setting: &Setting<'_>,
