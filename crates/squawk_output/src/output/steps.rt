@@ -46,7 +46,7 @@ impl<'a> Steps<'a> {
         ensures stays { IsNone result → self.new ≡ self.old }
     {
         let (word, rest) = self.words.split_first()?;
-        let number = StoredStep::error_number(*word)?;
+        let number = StoredStep::as_error(*word)?;
         self.words = rest;
         Some(self.errors[number as usize].as_str())
     }

@@ -74,7 +74,7 @@ impl StoredStep {
 
     /// The number of an error by its word; none of any other step.
     #[inline(always)]
-    pub(crate) fn error_number(word: u32) -> Option<u32>
+    pub(crate) fn as_error(word: u32) -> Option<u32>
         ensures error { IfSome result (λ number. unpacked word ≡ StoredStep.Error number) }
         ensures none { IsNone result → IsNoError (unpacked word) }
     {
