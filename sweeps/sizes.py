@@ -240,8 +240,9 @@ def expects(n):
 
 LINEAR = (
     words, nodes, precedes, errors, nesting, abandoned, extended, extended_newest, crossing, strings, comments, escapes, controls, digits,
-    number, great_number, members, unspent, operator, signs, signs_of_tiny, arrow_looks, arrows, operators, keywords)
-OTHERS = (expects, colliding)
+    number, great_number, members, unspent, operator, signs, signs_of_tiny, arrow_looks, arrows, operators, keywords,
+    expects)
+OTHERS = (colliding,)
 SIZES = {**{shape.__name__: 1000000 for shape in LINEAR}, **{shape.__name__: 20000 for shape in OTHERS}}
 SECONDS = 300
 

@@ -2,6 +2,8 @@
 //!
 //! These tests also pass where one allocation is refused: so each is asked for at most twice.
 
+mod names;
+
 use crate::cases::{
     Case, EXPECTED_NAME, EXPECTED_NUMBER, EXTENDED_IN_FRONT, EXTENDED_TO_THE_OLDEST_FIRST,
     EXTENDED_TWICE, SELECT, SKIPPED_TOKEN, STATEMENT,
@@ -259,10 +261,15 @@ fn refused_step_leaves_a_list_as_it_was(rt: HostRuntime) {
     assert_line(&rt, list.steps(), "a b message");
 }
 
-/// Ends the test unless the tree has the text.
-fn assert_tree(rt: &(impl Abort + AllocGlobal), tree: &TreeText, wanted: &str) {
+/// Ends the test unless the tree has the text with these names.
+fn assert_tree(
+    rt: &(impl Abort + AllocGlobal),
+    tree: &TreeText,
+    names: &[(SyntaxKind, &str)],
+    wanted: &str,
+) {
     for _ in 0..2 {
-        if let Ok(text) = tree.finish(rt.alloc(), &[(SyntaxKind::IDENT, "IDENT")]) {
+        if let Ok(text) = tree.finish(rt.alloc(), names) {
             assert_text(rt, text.as_str(), wanted);
             return;
         }
@@ -272,12 +279,13 @@ fn assert_tree(rt: &(impl Abort + AllocGlobal), tree: &TreeText, wanted: &str) {
 
 #[test]
 fn refused_step_leaves_a_tree_as_it_was(rt: HostRuntime) {
+    let names = [(SyntaxKind::IDENT, "IDENT")];
     let mut tree = TreeText::new(rt.alloc());
     for (text, text_before) in [("a", ""), ("bc", "IDENT@0..1 \"a\"\n")] {
         if !take_word(&mut tree, text) {
-            assert_tree(&rt, &tree, text_before);
+            assert_tree(&rt, &tree, &names, text_before);
             assert!(rt; take_word(&mut tree, text));
         }
     }
-    assert_tree(&rt, &tree, "IDENT@0..1 \"a\"\nIDENT@1..3 \"bc\"\n");
+    assert_tree(&rt, &tree, &names, "IDENT@0..1 \"a\"\nIDENT@1..3 \"bc\"\n");
 }

@@ -1,3 +1,4 @@
 pub mod TokenSetLemmas
 pub mod TokenKinds
 pub mod ConstantSets
+pub mod FirstPairs

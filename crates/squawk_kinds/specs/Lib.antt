@@ -3,3 +3,4 @@ pub mod Constants
 pub mod TokenSets
 pub mod Keywords
 pub mod KindNames
+pub mod FirstPlaces

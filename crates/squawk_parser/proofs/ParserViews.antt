@@ -4,12 +4,11 @@ use Rattle.std.specs.Prelude.{IsSome, is_some}
 use Rattle.squawk_table.specs.Shape.{AreOneToken}
 use Rattle.squawk_parser.specs.declared.parser.Parser.TheInside.{Inside}
 use Rattle.squawk_output.specs.Draft.{Draft, errors_of}
-use Rattle.squawk_parser.specs.Words.{words_of}
 use Rattle.squawk_parser.specs.State.{State, HasNotFailed, IsSound, Keeps, Changes, ahead}
 use Rattle.squawk_parser.proofs.Soundness.{not_failed}
 
 abbrev pub seen : Inside → State
-seen p = record { input = p.tokens.input.now; words = words_of (record { operator_first = p.operator_first; names = p.names }); position = p.position; limit = p.limit; draft = p.log; max_events = p.limits.events; max_errors = p.limits.errors; first_reason = p.first_reason }
+seen p = record { input = p.tokens.input.now; words = record { operator_first = p.operator_first; names = p.names }; position = p.position; limit = p.limit; draft = p.log; max_events = p.limits.events; max_errors = p.limits.errors; first_reason = p.first_reason }
 
 -- a parser that goes on and has room, seen as it was before
 pub record HasRoom (s : State) : Type 0 where

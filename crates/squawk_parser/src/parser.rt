@@ -1,5 +1,5 @@
 //! The parser that a grammar works with.
-ghost use Rattle.std.specs.Prelude.{◌≡◌, ◌≤◌, ◌*◌, IsOk, IfOk, IfErr, length};
+ghost use Rattle.std.specs.Prelude.{◌≡◌, ◌<◌, ◌≤◌, ◌*◌, ◌^◌, IsOk, IfOk, IfErr, length};
 ghost use Rattle.squawk_output.specs.Draft.{plain};
 ghost use Rattle.squawk_parser.specs.Parse.{IsRefusalOf};
 ghost use Rattle.squawk_parser.specs.State.{HasNotFailed, IsSound, fresh};
@@ -27,7 +27,7 @@ pub use limits::Limits;
 pub use marker::{CompletedMarker, Marker};
 pub use parse_error::ParseError;
 pub use part::Part;
-use squawk_kinds::{SyntaxKind, TokenSet};
+use squawk_kinds::{KindNames, TokenSet};
 use squawk_output::{EventLog, Output};
 use std::alloc::{AllocError, Global};
 use std::marker::Model;
@@ -49,24 +49,25 @@ const EVENTS_A_TOKEN: usize = 4;
 pub struct Parser<'t> {
     tokens: Tokens<'t>,
     operator_first: TokenSet,
-    names: &'t [(SyntaxKind, &'t str)],
+    names: KindNames<'t, 't>,
     alloc: Global,
     position: usize,
     limit: usize,
     log: EventLog,
     limits: Limits,
     first_reason: Option<ParseError>,
+    // What the types of two numbers tell.
+    ghost fits: { (limits.events < 2 ^ 32) × (length tokens.input.now < 2 ^ 64) },
 }
 
 impl<'t> Model for Parser<'t> {
     ghost use Rattle.squawk_parser.specs.State.{State, IsSound};
-    ghost use Rattle.squawk_parser.specs.Words.{words_of};
 
     ghost Value = { State };
 
-    ghost view = { λ p. record { input = p.tokens.input.now; words = words_of (record { operator_first = p.operator_first; names = p.names }); position = p.position; limit = p.limit; draft = p.log; max_events = p.limits.events; max_errors = p.limits.errors; first_reason = p.first_reason } };
+    ghost view = { λ p. record { input = p.tokens.input.now; words = record { operator_first = p.operator_first; names = p.names }; position = p.position; limit = p.limit; draft = p.log; max_events = p.limits.events; max_errors = p.limits.errors; first_reason = p.first_reason } };
 
-    ghost invariant = { λ p. IsSound (record { input = p.tokens.input.now; words = words_of (record { operator_first = p.operator_first; names = p.names }); position = p.position; limit = p.limit; draft = p.log; max_events = p.limits.events; max_errors = p.limits.errors; first_reason = p.first_reason }) };
+    ghost invariant = { λ p. IsSound (record { input = p.tokens.input.now; words = record { operator_first = p.operator_first; names = p.names }; position = p.position; limit = p.limit; draft = p.log; max_events = p.limits.events; max_errors = p.limits.errors; first_reason = p.first_reason }) };
 }
 
 impl<'t> Parser<'t> {
@@ -85,7 +86,7 @@ impl<'t> Parser<'t> {
         Parser {
             tokens,
             operator_first,
-            names,
+            names: KindNames::new(alloc, names),
             alloc,
             position: 0,
             limit,

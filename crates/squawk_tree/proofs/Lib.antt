@@ -4,4 +4,3 @@ pub mod Standing
 pub mod Closing
 pub mod Forests
 pub mod Written
-pub mod NamePlaces

@@ -2,4 +2,3 @@ pub mod TreeText
 pub mod Drawing
 pub mod SoundDrawings
 pub mod Forest
-pub mod FirstPlaces

@@ -1,7 +1,6 @@
 //! A sink that writes the tree which it is sent as indented text.
 #![tactic(auto)]
 
-mod first_places;
 mod line;
 mod shown;
 pub mod tree_text;

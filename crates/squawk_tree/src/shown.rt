@@ -1,45 +1,34 @@
 //! The text of what a line shows.
-ghost use Rattle.std.specs.Prelude.{◌≡◌, ◌++◌, map, length, string_bytes, OnOk};
+ghost use Rattle.std.specs.Prelude.{◌≡◌, ◌++◌, length, string_bytes, OnOk};
 ghost use Rattle.std.specs.Str.{chars};
 ghost use Rattle.squawk_kinds.specs.KindNames.{kind_name};
 ghost use Rattle.squawk_tree.specs.TreeText.{escaped, indentation, quoted_text, span};
 ghost use Rattle.squawk_tree.specs.Drawing.{shown_until};
 ghost use Rattle.squawk_tree.specs.SoundDrawings.{IsPart};
-ghost use Rattle.squawk_tree.specs.FirstPlaces.{Tell};
 
-use crate::first_places::FirstPlaces;
 use crate::line::Shown;
-use squawk_kinds::SyntaxKind;
+use squawk_kinds::{KindNames, SyntaxKind};
 use std::alloc::AllocError;
 use std::fmt::Write;
 
 /// Writes what a line shows, where an open node ends behind all texts.
 pub(crate) fn write_shown(
     out: &mut String,
-    names: &[(SyntaxKind, &str)],
-    places: &mut FirstPlaces,
+    names: &mut KindNames<'_, '_>,
     texts: &str,
     shown: &Shown,
 ) -> Result<(), AllocError>
-    requires part { IsPart texts.now shown.now }
-    requires tell { Tell (map (λ pair. (pair.0, pair.1.now)) names.now) places.old }
+    requires { IsPart texts.now shown.now }
     ensures shown { OnOk result (string_bytes out.new ≡ string_bytes out.old
-        ++ shown_until (map (λ pair. (pair.0, pair.1.now)) names.now) texts.now (length texts.now) shown.now) }
-    ensures tell { Tell (map (λ pair. (pair.0, pair.1.now)) names.now) places.new }
+        ++ shown_until names.old texts.now (length texts.now) shown.now) }
+    ensures same { names.new ≡ names.old }
 {
     match shown {
         Shown::Node { kind, start, end } => {
-            write_span(
-                out,
-                names,
-                places,
-                *kind,
-                *start,
-                end.unwrap_or(texts.len()),
-            )
+            write_span(out, names, *kind, *start, end.unwrap_or(texts.len()))
         }
         Shown::Token { kind, start, end } => {
-            write_span(out, names, places, *kind, *start, *end)?;
+            write_span(out, names, *kind, *start, *end)?;
             out.push(' ')?;
             write_quoted(out, &texts[*start..*end])
         }
@@ -63,34 +52,30 @@ pub(crate) fn write_indentation(out: &mut String, depth: usize) -> Result<(), Al
 /// Writes the name of a kind, and from which byte to which it goes.
 fn write_span(
     out: &mut String,
-    names: &[(SyntaxKind, &str)],
-    places: &mut FirstPlaces,
+    names: &mut KindNames<'_, '_>,
     kind: SyntaxKind,
     start: usize,
     end: usize,
 ) -> Result<(), AllocError>
-    requires { Tell (map (λ pair. (pair.0, pair.1.now)) names.now) places.old }
     ensures span { OnOk result (string_bytes out.new ≡ string_bytes out.old
-        ++ span (map (λ pair. (pair.0, pair.1.now)) names.now) kind start end) }
-    ensures tell { Tell (map (λ pair. (pair.0, pair.1.now)) names.now) places.new }
+        ++ span names.old kind start end) }
+    ensures same { names.new ≡ names.old }
 {
-    write_name(out, names, places, kind)?;
+    write_name(out, names, kind)?;
     write!(out, "@{start}..{end}")
 }
 
 /// Writes the name of a kind.
 fn write_name(
     out: &mut String,
-    names: &[(SyntaxKind, &str)],
-    places: &mut FirstPlaces,
+    names: &mut KindNames<'_, '_>,
     kind: SyntaxKind,
 ) -> Result<(), AllocError>
-    requires { Tell (map (λ pair. (pair.0, pair.1.now)) names.now) places.old }
     ensures name { OnOk result (string_bytes out.new ≡ string_bytes out.old
-        ++ kind_name (map (λ pair. (pair.0, pair.1.now)) names.now) kind) }
-    ensures tell { Tell (map (λ pair. (pair.0, pair.1.now)) names.now) places.new }
+        ++ kind_name names.old kind) }
+    ensures same { names.new ≡ names.old }
 {
-    if let Some((_, name)) = names.get(places.place(names, kind)) {
+    if let Some(name) = names.name(kind) {
         return out.push_str(name);
     }
     let number = u16::from(kind);

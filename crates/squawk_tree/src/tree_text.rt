@@ -5,10 +5,9 @@ ghost use Rattle.squawk_tree.specs.TreeText.{tree_text};
 ghost use Rattle.squawk_tree.specs.Forest.{Forest, forest_text, forest_steps};
 ghost use Rattle.squawk_tree.specs.Drawing.{StandsAfter};
 
-use crate::first_places::FirstPlaces;
 use crate::line::{Line, Shown};
 use crate::shown::{write_indentation, write_shown};
-use squawk_kinds::SyntaxKind;
+use squawk_kinds::{KindNames, SyntaxKind};
 use squawk_output::Text;
 use squawk_table::{StepSink, StrStep};
 use std::alloc::{AllocError, Global};
@@ -76,10 +75,10 @@ impl TreeText {
             → string_bytes text ≡ forest_text (map (λ pair. (pair.0, pair.1.now)) names.now) 0 0 forest) }
     {
         let mut text = String::new(alloc);
-        let mut places = FirstPlaces::new();
+        let mut names = KindNames::new(alloc, names);
         for line in &self.lines {
             write_indentation(&mut text, line.depth)?;
-            write_shown(&mut text, names, &mut places, &self.texts, &line.shown)?;
+            write_shown(&mut text, &mut names, &self.texts, &line.shown)?;
             text.push('\n')?;
         }
         Ok(text)

@@ -15,7 +15,7 @@ use crate::parser::Parser;
 use crate::parser::composite::{Form, Parts, Tail, composite};
 use crate::parser::part::Part;
 use crate::parser::view::composites::is_normal_form;
-use squawk_kinds::SyntaxKind;
+use squawk_kinds::{KindNames, SyntaxKind};
 use std::alloc::{AllocError, Global};
 
 impl Parser<'_> {
@@ -124,7 +124,7 @@ impl Parser<'_> {
         ensures { Puts (Error (expected_text self.old.words kind) ∷ []) self.old self.new }
     {
         if self.has_room_for_error() {
-            let text = expected(self.alloc, self.names, kind);
+            let text = expected(self.alloc, &mut self.names, kind);
             self.put_error(text);
         }
     }
@@ -204,15 +204,14 @@ impl Parser<'_> {
 #[cold]
 fn expected(
     alloc: Global,
-    names: &[(SyntaxKind, &str)],
+    names: &mut KindNames<'_, '_>,
     kind: SyntaxKind,
 ) -> Result<String, AllocError>
-    ensures { IfOk result (λ s. string_bytes s ≡ codes "expected " ++ kind_name (map (λ pair. (pair.0, pair.1.now)) names.now) kind) }
+    ensures text { IfOk result (λ s. string_bytes s ≡ codes "expected " ++ kind_name names.old kind) }
+    ensures same { names.new ≡ names.old }
 {
-    for (named, name) in names {
-        if *named == kind {
-            return format!(in alloc; "expected {name}");
-        }
+    if let Some(name) = names.name(kind) {
+        return format!(in alloc; "expected {name}");
     }
     let number = u16::from(kind);
     format!(in alloc; "expected {number}")

@@ -8,6 +8,6 @@ pub struct Words<'t> {
     /// The kinds that a token of an operator may have. [`SyntaxKind::EOF`] isn't one of them.
     pub operator_first: TokenSet,
     /// Kinds with their names. The name of a kind is that of its first pair here, and its number in
-    /// decimal where it has no pair. An `expect` that fails reads them from the first to that one.
+    /// decimal where it has no pair. An `expect` that fails finds it by a [`squawk_kinds::KindNames`].
     pub names: &'t [(SyntaxKind, &'t str)],
 }

@@ -3,7 +3,6 @@ use Rattle.std.specs.Prelude.{IsSome}
 use Rattle.squawk_output.specs.Draft.{IsLogged}
 use Rattle.squawk_output.specs.Edits.{with_token}
 use Rattle.squawk_table.specs.Shape.{AreOneToken}
-use Rattle.squawk_parser.specs.declared.parser.Parser.TheInside.{Inside}
 use Rattle.squawk_parser.specs.State.{IsSound, ahead}
 use Rattle.squawk_parser.proofs.Noted.{noted}
 use Rattle.squawk_parser.proofs.Soundness.{IsSound-with_token, IsSound-failed, IsSound-past}
@@ -19,18 +18,17 @@ invariant_of-self c =
     let more = c.has_room.ensures in
     let one : AreOneToken n (ahead s 0) = sees_same s c.has_room.new.self old n c.self.view_is more.keeps more.position c.requires in
     let before = c.self.invariant in
-    let Goal : Inside → Type 0 = λ p. IsSound (record (seen p) { position = p.position + n }) in
     elim c.if-has_room.branch [
       | then-has_room w ↦
           let room = w.if-has_room.ensures.room refl in
           let can = has_room s old (c.self.view_is ∙ room.0) (room.1, room.2) in
           let after = IsSound-with_token s before can.goes c.args.kind n can.room one in
           let failed = IsSound-past (record s { first_reason = _ }) n (IsSound-failed s before) refl one in
-          subst Goal (sym w.self-inside-is)
+          rw w.self-inside-is
           (noted IsLogged (λ draft reason. IsSound (record s { draft = draft; first_reason = reason; position = s.position + n })) s (with_token s.draft c.args.kind n)
           w.token.new.self w.note.new.first_reason w.token.result w.token.ensures.logged after failed w.token.ensures.ok w.token.ensures.err w.note.ensures.ok w.note.ensures.err)
       | else-has_room w ↦
           let failed = (w.if-has_room.ensures.full refl).1 in
           let after = IsSound-past s n before (subst (λ t. IsSome t.first_reason) (sym c.self.view_is) failed) one in
-          subst Goal (sym w.self-inside-is) after
+          rw w.self-inside-is after
     ]

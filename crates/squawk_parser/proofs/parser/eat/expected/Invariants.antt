@@ -1,8 +1,0 @@
-use Rattle.std.proofs.Common.{◌≡◌, map, drop}
-use Rattle.squawk_kinds.specs.KindNames.{kind_name}
-use Rattle.squawk_parser.proofs.parser.eat.expected.Given as goal
-
--- the name of the kind is that among the pairs that are left
-abbrev pub invariant-loop-named : goal.invariant-loop-named
-invariant-loop-named l =
-    kind_name (map (λ pair. (pair.0, pair.1.now)) (drop l.named-index l.names)) l.kind ≡ kind_name (map (λ pair. (pair.0, pair.1.now)) l.names) l.kind
