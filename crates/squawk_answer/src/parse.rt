@@ -9,7 +9,8 @@ ghost use Rattle.squawk_table.specs.ParserInput.{input_of};
 ghost use Rattle.squawk_answer.specs.Answers.{ParseTells};
 
 use crate::fault::Fault;
-use squawk_document::{DocumentGrammar, KeywordLists};
+use squawk_document::DocumentGrammar;
+use squawk_keywords::Keywords;
 use squawk_parser::{EntryPoint, LexedStr, Output, SyntaxKind, TokenSet, Words};
 use squawk_script::{Call, Script};
 use std::alloc::Global;
@@ -19,7 +20,7 @@ use tiny_grammar::Tiny;
 pub fn parse(
     alloc: Global,
     table: &LexedStr<'_>,
-    vocabulary: &KeywordLists,
+    vocabulary: &Keywords<'_>,
     operator_first: TokenSet,
     names: &[(SyntaxKind, &str)],
     grammar: DocumentGrammar,
@@ -50,7 +51,7 @@ pub fn parse(
 fn parse_calls(
     alloc: Global,
     table: &LexedStr<'_>,
-    vocabulary: &KeywordLists,
+    vocabulary: &Keywords<'_>,
     operator_first: TokenSet,
     names: &[(SyntaxKind, &str)],
     entry: EntryPoint,
@@ -79,7 +80,7 @@ fn parse_calls(
 fn parse_tiny(
     alloc: Global,
     table: &LexedStr<'_>,
-    vocabulary: &KeywordLists,
+    vocabulary: &Keywords<'_>,
 ) -> Result<Output, Fault>
     ensures parsed { let input = input_of (answers vocabulary.now).contextual.kind_of table.now in MatchResult result
         (λ output. (words : WordsTold) → ParseTells by_tiny words input table.now (Ok output.steps))

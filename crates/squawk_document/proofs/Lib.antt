@@ -4,7 +4,4 @@ mod Values
 mod WrittenValues
 mod WrittenTokens
 mod WrittenCalls
-mod KeywordPairLemmas
 mod MemberNames
-mod WordPlaceLemmas
-mod TextHalfLemmas

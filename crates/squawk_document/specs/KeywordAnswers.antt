@@ -1,12 +1,12 @@
--- What a vocabulary of two lists of words answers.
-use Rattle.std.specs.HashMap.{get_by_text}
+-- What the vocabulary of a document answers.
 use Rattle.squawk_kinds.specs.TokenSets.{has}
-use Rattle.squawk_document.specs.declared.keyword_lists.KeywordLists.{KeywordLists}
+use Rattle.squawk_keywords.specs.KeywordAnswers.{all_keywords_of, contextual_keyword_of, contextual_keywords_of, keyword_of}
+use Rattle.squawk_keywords.specs.declared.keywords.Keywords.{Keywords}
 use Rattle.squawk_document.specs.KeywordPairs.{VocabularyAnswers}
 
 -- what two lists of words answer
-abbrev pub answers : KeywordLists → VocabularyAnswers
+abbrev pub answers : Keywords → VocabularyAnswers
 answers lists = record {
-  keywords = record { kind_of = get_by_text lists.keywords.kinds; kinds = has lists.keywords.set };
-  contextual = record { kind_of = get_by_text lists.contextual.kinds; kinds = has lists.contextual.set };
+  keywords = record { kind_of = keyword_of lists; kinds = has (all_keywords_of lists) };
+  contextual = record { kind_of = contextual_keyword_of lists; kinds = has (contextual_keywords_of lists) };
 }

@@ -1,11 +1,9 @@
 -- The words of a vocabulary, with their kinds.
 use Rattle.std.specs.Prelude.{ℕ, ◌==◌, Bool, List, Result, Ok, Err, codes, if◌then◌else◌}
-use Rattle.std.specs.List.{list_any}
-use Rattle.std.specs.Map.{lookup}
-use Rattle.std.specs.Str.{bytes_eq}
 use Rattle.serde_json.specs.Data.{Data}
 use Rattle.squawk_kinds.specs.Keywords.{Keywords}
 use Rattle.squawk_kinds.specs.Kinds.{COMMENT}
+use Rattle.squawk_keywords.specs.KeywordPairs.{has_kind, kind_of_word}
 use Rattle.squawk_document.specs.declared.document_error.DocumentError.{DocumentError}
 use Rattle.squawk_document.specs.declared.document_error.DocumentError.TheVariants.{Shape}
 use Rattle.squawk_document.specs.Values.{◌>>=◌, each, has_members, items_in, member_in, number_in, pair_in, string_in}
@@ -39,14 +37,6 @@ vocabulary_in d = has_members 2 d
     >>= λ contextual. Ok (record { keywords = keywords; contextual = contextual })
 
 -- ---- what it means
-
--- the kind of a word: that of the first pair with the word
-abbrev pub kind_of_word : List (List ℕ × ℕ) → Keywords
-kind_of_word pairs text = lookup (λ word. bytes_eq word text) pairs
-
--- which kinds have a word
-abbrev pub has_kind : List (List ℕ × ℕ) → ℕ → Bool
-has_kind pairs kind = list_any (λ pair. pair.1 == kind) pairs
 
 -- what a list answers
 pub record ListAnswers : Type 0 where

@@ -4,6 +4,7 @@ pub mod WrittenTokens
 pub mod KindSets
 pub mod GrammarWords
 pub mod KeywordPairs
+pub mod KeywordErrors
 pub mod KeywordAnswers
 pub mod DocumentParts
 pub mod Calls
@@ -11,5 +12,3 @@ pub mod WrittenCalls
 pub mod DocumentGrammars
 pub mod Documents
 pub mod MemberNames
-pub mod TextHalves
-pub mod WordPlaces

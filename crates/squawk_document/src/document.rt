@@ -3,15 +3,17 @@ ghost use Rattle.std.specs.Prelude.{◌≡◌, false, IfOk};
 ghost use Rattle.serde_json.specs.View.{view};
 ghost use Rattle.squawk_kinds.specs.Kinds.{EOF};
 ghost use Rattle.squawk_kinds.specs.TokenSets.{has};
+ghost use Rattle.squawk_keywords.specs.KeywordAnswers.{classes_of, no_classes};
 ghost use Rattle.squawk_document.specs.Documents.{document_in, told};
 ghost use Rattle.squawk_document.specs.Values.{Gives};
 
 use crate::document_error::DocumentError;
 use crate::grammar::{DocumentGrammar, grammar};
-use crate::keyword_lists::{KeywordLists, vocabulary};
 use crate::token::tokens;
+use crate::vocabulary::vocabulary;
 use crate::{members, words};
 use serde_json::Value;
+use squawk_keywords::Keywords;
 use squawk_parser::{SyntaxKind, Token, TokenSet};
 use std::alloc::Global;
 
@@ -24,7 +26,7 @@ pub struct Document<'v> {
     pub operator_first: TokenSet,
     /// Kinds with their names.
     pub names: Vec<(SyntaxKind, &'v str)>,
-    pub vocabulary: KeywordLists,
+    pub vocabulary: Keywords<'v>,
     pub grammar: DocumentGrammar,
 }
 
@@ -32,6 +34,7 @@ impl<'v> Document<'v> {
     /// The document that a value is.
     pub fn from_value(alloc: Global, value: &'v Value) -> Result<Document<'v>, DocumentError>
         ensures document { Gives told result (document_in (view value.now)) }
+        ensures classes { IfOk result (λ d. classes_of d.vocabulary ≡ no_classes) }
         ensures no_end { IfOk result (λ d. has d.operator_first EOF ≡ false) }
     {
         let members = members::members(value)?;

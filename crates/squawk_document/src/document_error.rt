@@ -1,5 +1,6 @@
 //! Why a document can't be read.
 
+use squawk_keywords::KeywordsError;
 use std::alloc::{AllocError, AllocFailed};
 
 /// Why a document can't be read.
@@ -32,5 +33,19 @@ impl<T: Drop> From<AllocFailed<T>> for DocumentError {
 
     fn from(_error: AllocFailed<T>) -> DocumentError {
         DocumentError::OutOfMemory
+    }
+}
+
+impl From<KeywordsError> for DocumentError {
+    ghost use Rattle.std.specs.Prelude.{◌≡◌};
+    ghost use Rattle.squawk_document.specs.KeywordErrors.{error_of};
+
+    ghost from_gives = { λ reason error. error ≡ error_of reason };
+
+    fn from(reason: KeywordsError) -> DocumentError {
+        match reason {
+            KeywordsError::Keyword(_) | KeywordsError::Contextual(_) => DocumentError::Shape,
+            KeywordsError::OutOfMemory => DocumentError::OutOfMemory,
+        }
     }
 }

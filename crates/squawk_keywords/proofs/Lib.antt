@@ -1,0 +1,9 @@
+mod KeywordPairLemmas
+mod KindLemmas
+mod OrderLemmas
+mod SortedWordLemmas
+mod ComparedLemmas
+mod LowerCaseLemmas
+mod TextKeyLemmas
+mod WordSlotLemmas
+mod TellLemmas

@@ -1,0 +1,6 @@
+pub mod KeywordPairs
+pub mod LetterCase
+pub mod TextKeys
+pub mod WordSlots
+pub mod ErrorLines
+pub mod KeywordAnswers

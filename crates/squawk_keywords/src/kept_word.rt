@@ -1,0 +1,64 @@
+//! A short word with its kind.
+ghost use Rattle.std.specs.Prelude.{◌≡◌, ℕ, ◌<◌, ◌≤◌, List, length};
+ghost use Rattle.std.specs.Str.{bytes_eq};
+ghost use Rattle.squawk_keywords.specs.LetterCase.{compared};
+ghost use Rattle.squawk_keywords.specs.TextKeys.{AreBytes, key_of};
+
+use crate::text_key::key;
+use squawk_kinds::SyntaxKind;
+use std::marker::Model;
+
+/// A word of at most 16 bytes, as it is compared, with the kind of a keyword. It takes 24 bytes.
+#[derive(Drop)]
+pub struct KeptWord {
+    low: u64,
+    high: u64,
+    len: u16,
+    kind: SyntaxKind,
+}
+
+impl Model for KeptWord {
+    ghost use Rattle.std.specs.Prelude.{List, ℕ};
+    ghost use Rattle.squawk_keywords.specs.TextKeys.{IsOfText, text_of};
+
+    ghost Value = { List ℕ × ℕ };
+
+    ghost view = { λ word. (text_of word.len (word.low, word.high), word.kind) };
+
+    ghost invariant = { λ word. IsOfText word.len (word.low, word.high) };
+}
+
+impl KeptWord {
+    /// How many bytes a word has at most.
+    pub const LONGEST: usize = 16;
+
+    /// This word with this kind.
+    pub fn new(ignores_case: bool, word: &str, kind: SyntaxKind) -> KeptWord
+        requires { length word.now ≤ 16 }
+        ensures { result ≡ (compared ignores_case word.now, kind) }
+    {
+        let (low, high) = key(ignores_case, word);
+        KeptWord {
+            low,
+            high,
+            len: word.len() as u16,
+            kind,
+        }
+    }
+
+    /// Whether a text of this key and this length is the word. It takes no jump.
+    #[inline(always)]
+    pub fn is(&self, key: (u64, u64), len: usize) -> bool
+        ensures { (text : List ℕ) → AreBytes text → key ≡ key_of text → len ≡ length text → result ≡ bytes_eq self.now.0 text }
+    {
+        (self.low == key.0) & (self.high == key.1) & (usize::from(self.len) == len)
+    }
+
+    /// The word's kind.
+    #[inline(always)]
+    pub fn kind(&self) -> SyntaxKind
+        ensures { result ≡ self.now.1 }
+    {
+        self.kind
+    }
+}

@@ -1,0 +1,44 @@
+//! Why lists of words make no vocabulary.
+
+use std::alloc::AllocError;
+use std::error::Error;
+use std::fmt;
+
+/// Why lists of words make no vocabulary.
+#[derive(Clone, Copy, Debug, PartialEq, Eq)]
+pub enum KeywordsError {
+    /// The kind of the keyword with this index can be no keyword's.
+    Keyword(usize),
+    /// The kind of the contextual keyword with this index can be no keyword's.
+    Contextual(usize),
+    /// Memory was refused.
+    OutOfMemory,
+}
+
+impl fmt::Display for KeywordsError {
+    ghost use Rattle.std.specs.Prelude.{Some};
+    ghost use Rattle.squawk_keywords.specs.ErrorLines.{keywords_error_line};
+
+    ghost output = { λ error. Some (keywords_error_line error) };
+
+    fn fmt<W: fmt::Write>(&self, f: &mut fmt::Formatter<W>) -> fmt::Result {
+        match *self {
+            KeywordsError::Keyword(index) => write!(f, "kind of keyword {index}"),
+            KeywordsError::Contextual(index) => write!(f, "kind of contextual keyword {index}"),
+            KeywordsError::OutOfMemory => write!(f, "memory"),
+        }
+    }
+}
+
+impl Error for KeywordsError {}
+
+impl From<AllocError> for KeywordsError {
+    ghost use Rattle.std.specs.Prelude.{◌≡◌};
+    ghost use Rattle.squawk_keywords.specs.declared.keywords_error.KeywordsError.TheVariants.{OutOfMemory};
+
+    ghost from_gives = { λ _ error. error ≡ OutOfMemory };
+
+    fn from(_error: AllocError) -> KeywordsError {
+        KeywordsError::OutOfMemory
+    }
+}

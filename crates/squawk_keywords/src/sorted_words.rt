@@ -1,0 +1,38 @@
+//! Words with their kinds in the order of the words, so that few of them are compared with a text.
+ghost use Rattle.std.specs.Prelude.{◌≡◌, ℕ, List, IfOk};
+ghost use Rattle.squawk_keywords.specs.KeywordPairs.{pairs_of};
+ghost use Rattle.squawk_keywords.specs.LetterCase.{IsInOrder, kind_by};
+
+use crate::letter_case::order;
+use squawk_kinds::SyntaxKind;
+use std::alloc::{AllocError, Global};
+
+/// These words in their order. Words that are the same stay in the order in which they are given.
+pub fn sorted<'k>(
+    alloc: Global,
+    ignores_case: bool,
+    pairs: &[(&'k str, SyntaxKind)],
+) -> Result<Vec<(&'k str, SyntaxKind)>, AllocError>
+    ensures order { IfOk result (λ words. IsInOrder ignores_case words.items) }
+    ensures kinds { IfOk result (λ words. (text : List ℕ) → kind_by ignores_case (pairs_of words.items) text ≡ kind_by ignores_case (pairs_of pairs.now) text) }
+{
+    let mut words = Vec::from_slice(alloc, pairs)?;
+    words.sort_by(|one, other| order(ignores_case, one.0, other.0))?;
+    Ok(words)
+}
+
+/// The kind of the first of the words in order that a text is.
+pub fn look_up(ignores_case: bool, words: &[(&str, SyntaxKind)], text: &str) -> Option<SyntaxKind>
+    requires { IsInOrder ignores_case words.now }
+    ensures { result ≡ kind_by ignores_case (pairs_of words.now) text.now }
+{
+    let at = words.partition_point(|word| order(ignores_case, word.0, text).is_lt());
+    let Some((word, kind)) = words.get(at) else {
+        return None;
+    };
+    if order(ignores_case, word, text).is_eq() {
+        Some(*kind)
+    } else {
+        None
+    }
+}
