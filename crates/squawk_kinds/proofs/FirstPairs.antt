@@ -1,5 +1,5 @@
 -- Where the first pair of a kind stands, from a place on, and what it says.
-use Rattle.std.proofs.Common.{arith, ◌≡◌, ◌∙◌, ℕ, ◌+◌, ◌<◌, ◌≤◌, ◌==◌, true, false, Bool, ◌≢◌, List, length, map, drop, get_or, set, ap, sym, refl, zero-add, add-zero, add-one, drop-cons, get_or-set_same, get_or-set_other}
+use Rattle.std.proofs.Common.{arith, ◌≡◌, ◌∙◌, ℕ, ◌+◌, ◌<◌, ◌≤◌, ◌==◌, true, false, Bool, ◌≢◌, List, length, map, drop, get_or, set, ap, sym, refl, add-zero, add-one, drop-cons, get_or-set_same, get_or-set_other}
 use Rattle.std.specs.Prelude.{Option, Some, None, option_map}
 use Rattle.std.specs.Borrow.{Bor}
 use Rattle.std.specs.List.{slice_get}
@@ -25,10 +25,6 @@ names_of = map (λ pair. (pair.0, pair.1.now))
 -- the place of a kind's first pair from a place on
 abbrev pub first_from : Pairs → ℕ → ℕ → ℕ
 first_from pairs place kind = place + first_place (names_of (drop place pairs)) kind
-
--- all pairs are from the first on
-pub first_from-start : (pairs : Pairs) (kind : ℕ) → first_from pairs 0 kind ≡ first_place (names_of pairs) kind
-first_from-start pairs kind = zero-add (first_place (names_of pairs) kind)
 
 -- there are none from the end on
 pub first_from-end : (pairs : Pairs) (place kind : ℕ) → place ≡ length pairs → first_from pairs place kind ≡ length pairs
@@ -71,11 +67,6 @@ pub first_name-past : (pairs : Pairs) (names : Names) (kind place : ℕ) → nam
 first_name-past pairs names kind place own at past = first_name-there pairs names kind place None own at (slice_get_past pairs place past)
 
 -- ---- an index
-
--- it tells none of the places past the end
-pub Tells-none : (pairs : Pairs) (index : List ℕ) (len : ℕ) → len ≡ length pairs → ((kind : ℕ) → get_or index kind len ≡ len)
-    → (kind : ℕ) → get_or index kind (length pairs) ≡ first_from pairs len kind
-Tells-none pairs index len all none kind = ap (get_or index kind) (sym all) ∙ (none kind ∙ (all ∙ sym (first_from-end pairs len kind all)))
 
 -- the pair before those of which it tells is entered
 pub Tells-more : (pairs : Pairs) (index : List ℕ) (place next number : ℕ) (pair : Pair) → next ≡ place + 1 → place < length pairs

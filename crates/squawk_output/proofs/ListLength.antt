@@ -1,6 +1,5 @@
 -- A log has no more steps than events.
-use Rattle.std.proofs.Common.{ℕ, zero, suc, ◌≤◌, [], ◌∷◌, ap, arith, cond, length, length-append, refl}
-use Rattle.squawk_kinds.specs.Kinds.{TOMBSTONE}
+use Rattle.std.proofs.Common.{ℕ, zero, suc, ◌≤◌, [], ◌∷◌, ap, arith, length, length-append, refl}
 use Rattle.squawk_output.specs.EventLog.{Log, list_of, steps_of_event}
 use Rattle.squawk_output.specs.declared.event.Event.{Event}
 use Rattle.squawk_output.specs.declared.event.Event.TheVariants.{Start}

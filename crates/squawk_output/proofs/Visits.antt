@@ -4,7 +4,7 @@ use Rattle.std.proofs.Math.Seq.{drop-cons}
 use Rattle.squawk_output.specs.Steps.{Passed}
 use Rattle.squawk_output.specs.declared.event.Event.{Event}
 use Rattle.squawk_output.specs.declared.event.Event.TheVariants.{Start}
-use Rattle.squawk_output.specs.EventLog.{LinksLead, Log, linked_place, entering, has_link, is_start, list_of, steps_of_event, turns_of}
+use Rattle.squawk_output.specs.EventLog.{LinksLead, Log, linked_place, entering, has_link, list_of, steps_of_event, turns_of}
 use Rattle.squawk_output.specs.Chain.{LandsAt, chain, entered_back, erased, hop, tombstone}
 use Rattle.squawk_output.specs.Pass.{HasRoom, Visits}
 use Rattle.squawk_output.proofs.Erased.{length-erased}

@@ -12,10 +12,6 @@ pub OnOk-same : {T E : Type 0} (r : Result T E) (new x y z : List ℕ) → new �
 OnOk-same (Ok v) new x y z e h = e ∙ h
 OnOk-same (Err v) new x y z e h = tt
 
-pub OnOk-becomes : {T E : Type 0} (r : Result T E) (new x z : List ℕ) → OnOk r (new ≡ x) → x ≡ z → OnOk r (new ≡ z)
-OnOk-becomes (Ok v) new x z e h = e ∙ h
-OnOk-becomes (Err v) new x z e h = tt
-
 -- the lines of a drawing that stands after steps
 pub lines_text-stands : (drawing : Drawing) (names : Names) (steps : List OwnedStep) → StandsAfter drawing steps
     → lines_text names drawing.texts [] drawing.lines ≡ tree_text names steps

@@ -1,6 +1,6 @@
 use Rattle.std.proofs.lemmas.List.{map-set}
 use Rattle.std.proofs.lemmas.List.Elements.{All-set}
-use Rattle.std.proofs.Common.{◌∙◌, ◌+◌, ap, arith}
+use Rattle.std.proofs.Common.{◌+◌, ap, arith}
 use Rattle.squawk_output.specs.StoredEvents.{HasEventText, event_of, link_of}
 use Rattle.squawk_output.proofs.Follows.{Follows-next, chain-shorter}
 use Rattle.squawk_output.proofs.StoredEvents.{landed, landed_starting, length-log_in, link_of-some, link_within}
