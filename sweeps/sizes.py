@@ -3,8 +3,7 @@
 
 Prints for both the size of the document, the processor time (the least of three runs; of one, where a run takes more than 20 seconds) and the
 most memory, and how many times as much the larger one takes: ten where it grows with the size. The lines of each answer are counted, and must
-be those that the shape says. With no SHAPE all are run, at sizes that want up to 1.2 gigabytes; those of OTHERS, whose time
-isn't linear, at small ones. A run is ended after 300 seconds.
+be those that the shape says. With no SHAPE all are run, at sizes that want up to 1.2 gigabytes. A run is ended after 300 seconds.
 Memory below 20 MB isn't told apart: the system counts what this process had."""
 import os
 import subprocess
@@ -200,20 +199,33 @@ def operators(n):
     return Shape("a" + "+a" * n, tokens, [], lines, entry="tiny")
 
 
+def looked_up(keywords):
+    """These keywords, all of one length, and each of them as a word that is looked up."""
+    pairs = [f'["{word}",{200 + i % 400}]' for i, word in enumerate(keywords)]
+    lines = {"enter": 1, "token": 2 * len(keywords), "exit": 1, "all": 1}
+    tokens = [f'["ident",{len(keywords[0])}]', SPACE] * len(keywords)
+    return Shape("".join(word + " " for word in keywords), tokens, in_node([BUMP] * len(keywords)), lines, keywords=pairs)
+
+
 def keywords(n):
     """n keywords, and n words that are looked up."""
-    pairs = [f'["k{i:07}",{200 + i % 400}]' for i in range(n)]
-    text = "".join(f"k{i:07} " for i in range(n))
-    lines = {"enter": 1, "token": 2 * n, "exit": 1, "all": 1}
-    return Shape(text, ['["ident",8]', SPACE] * n, in_node([BUMP] * n), lines, keywords=pairs)
+    return looked_up([f"k{i:07}" for i in range(n)])
 
 
 def colliding(n):
-    """n keywords with one hash, by the standard library's hash, whose seed is fixed."""
+    """The same with one hash, by the standard library's hash, whose seed is fixed."""
     beginning = beginning_of_one_hash()
-    pairs = [f'["{beginning}{i:08}",{200 + i % 400}]' for i in range(n)]
-    lines = {"enter": 1, "token": 1, "exit": 1, "all": 1}
-    return Shape("a", [WORD], in_node([BUMP]), lines, keywords=pairs)
+    return looked_up([f"{beginning}{i:08}" for i in range(n)])
+
+
+def one_place(n):
+    """The same of 16 bytes, whose place is one: it is that of the sum of the first eight and the last eight."""
+    return looked_up([f"{i:08}{99999999 - i:08}" for i in range(n)])
+
+
+def long_words(n):
+    """The same of 30 bytes, which no slot keeps."""
+    return looked_up([f"a_word_of_thirty_bytes{i:08}" for i in range(n)])
 
 
 def beginning_of_one_hash():
@@ -241,9 +253,9 @@ def expects(n):
 LINEAR = (
     words, nodes, precedes, errors, nesting, abandoned, extended, extended_newest, crossing, strings, comments, escapes, controls, digits,
     number, great_number, members, unspent, operator, signs, signs_of_tiny, arrow_looks, arrows, operators, keywords,
-    expects)
-OTHERS = (colliding,)
-SIZES = {**{shape.__name__: 1000000 for shape in LINEAR}, **{shape.__name__: 20000 for shape in OTHERS}}
+    colliding, one_place, long_words, expects)
+SIZES = {shape.__name__: 1000000 for shape in LINEAR}
+SIZES.update({shape.__name__: 60000 for shape in (colliding, one_place, long_words)})
 SECONDS = 300
 
 

@@ -6,4 +6,5 @@ mod ComparedLemmas
 mod LowerCaseLemmas
 mod TextKeyLemmas
 mod WordSlotLemmas
+mod TakenSlotLemmas
 mod TellLemmas

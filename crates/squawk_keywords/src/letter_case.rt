@@ -37,11 +37,10 @@ fn order_ignoring_case(one: &[u8], other: &[u8]) -> Ordering
     ensures { result ≡ slice_cmp nat_cmp (compared true one.now) (compared true other.now) }
 {
     for i in 0..one.len().min(other.len()) {
-        let order = one[i]
-            .to_ascii_lowercase()
-            .cmp(&other[i].to_ascii_lowercase());
-        if order != Ordering::Equal {
-            return order;
+        let a = one[i].to_ascii_lowercase();
+        let b = other[i].to_ascii_lowercase();
+        if a != b {
+            return a.cmp(&b);
         }
     }
     one.len().cmp(&other.len())

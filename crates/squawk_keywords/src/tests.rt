@@ -4,6 +4,7 @@
 
 use crate::{Classes, Keywords, KeywordsError};
 use squawk_kinds::{SyntaxKind, TokenSet, Vocabulary};
+use std::alloc::AllocError;
 use std::process::Abort;
 use std::test::Fail;
 
@@ -176,32 +177,51 @@ fn words(rt: &impl AllocGlobal, count: u32) -> Result<Vec<String>, Fail> {
     Ok(words)
 }
 
+/// These words, each with a kind of its own.
+fn pairs_of<'w>(
+    rt: &impl AllocGlobal,
+    words: &'w [String],
+) -> Result<Vec<(&'w str, SyntaxKind)>, AllocError> {
+    let mut pairs = Vec::with_capacity(rt.alloc(), words.len())?;
+    for word in words {
+        let kind = SyntaxKind(200 + (pairs.len() % 400) as u16);
+        pairs.push_reserved((word.as_str(), kind));
+    }
+    Ok(pairs)
+}
+
 /// The text has the kind of the first of the words that it is.
 fn assert_first(
     rt: &impl Abort,
     keywords: &Keywords<'_>,
-    words: &[(&str, SyntaxKind)],
+    pairs: &[(&str, SyntaxKind)],
     ignores_case: bool,
     text: &str,
 ) {
-    let first = first_kind(words, ignores_case, text);
+    let first = first_kind(pairs, ignores_case, text);
     assert_eq!(rt; keywords.from_keyword(text), first, "{text}");
+}
+
+/// So has each of these words, as it is and in upper case.
+fn assert_list(
+    rt: &(impl Abort + AllocGlobal),
+    words: &[String],
+    ignores_case: bool,
+) -> Result<(), AllocError> {
+    let pairs = pairs_of(rt, words)?;
+    let keywords = made(rt, ignores_case, &pairs, &[]);
+    for word in words {
+        let upper = word.to_ascii_uppercase(rt.alloc())?;
+        assert_first(rt, &keywords, &pairs, ignores_case, word.as_str());
+        assert_first(rt, &keywords, &pairs, ignores_case, upper.as_str());
+    }
+    Ok(())
 }
 
 #[test]
 fn long_lists_are_looked_up_as_from_the_first_word_on(rt: HostRuntime) -> Result<(), Fail> {
     let words = words(&rt, 400)?;
-    let mut pairs = Vec::new(rt.alloc());
-    for (i, word) in words.iter().enumerate() {
-        pairs.push((word.as_str(), SyntaxKind(200 + (i % 400) as u16)))?;
-    }
-    for ignores_case in [false, true] {
-        let keywords = made(&rt, ignores_case, &pairs, &[]);
-        for word in &words {
-            let upper = word.to_ascii_uppercase(rt.alloc())?;
-            assert_first(&rt, &keywords, &pairs, ignores_case, word.as_str());
-            assert_first(&rt, &keywords, &pairs, ignores_case, upper.as_str());
-        }
-    }
+    assert_list(&rt, &words, false)?;
+    assert_list(&rt, &words, true)?;
     Ok(())
 }

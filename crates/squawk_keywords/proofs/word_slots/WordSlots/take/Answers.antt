@@ -1,7 +1,7 @@
 use Rattle.std.proofs.Common.{◌∙◌, ◌*◌, ap, arith, get_or, sym}
 use Rattle.std.proofs.lemmas.List.{get_or_default}
 use Rattle.squawk_keywords.specs.WordSlots.{place_at}
-use Rattle.squawk_keywords.proofs.WordSlotLemmas.{slots-first, slots-second, told-first, told-kept-first, told-kept-second, told-second}
+use Rattle.squawk_keywords.proofs.TakenSlotLemmas.{slots-first, slots-second, told-first, told-kept-first, told-kept-second, told-second}
 use Rattle.squawk_keywords.proofs.word_slots.WordSlots.take.Goals as goal
 
 pub invariant_of-self-clause-sound : goal.invariant_of-self-clause-sound
