@@ -1,9 +1,9 @@
 -- Well-formed lists: how they are written, and which tree they have.
-use Rattle.std.specs.Prelude.{◌≡◌, ℕ, ◌==◌, List, [], ◌∷◌, ◌++◌, drop, codes, map, if◌then◌else◌}
+use Rattle.std.specs.Prelude.{◌≡◌, ℕ, ◌+◌, ◌≤◌, ◌==◌, max, List, [], ◌∷◌, ◌++◌, drop, codes, if◌then◌else◌}
 use Rattle.std.specs.List.{flat_map}
 use Rattle.squawk_kinds.specs.Kinds.{COMMA, IDENT, INT_NUMBER, L_PAREN, R_PAREN}
 use Rattle.squawk_kinds.specs.TokenSets.{no_kinds}
-use Rattle.squawk_table.specs.ParserInput.{Entry}
+use Rattle.squawk_table.specs.ParserInput.{Entry, kinds_in}
 use Rattle.squawk_output.specs.Draft.{Draft, plain}
 use Rattle.squawk_output.specs.Steps.{Step, Enter, Exit}
 use Rattle.squawk_parser.specs.Eaten.{node, one}
@@ -22,6 +22,24 @@ mutual
     none : Items
     more : Item → Items → Items
 
+-- ---- depth
+
+-- how many lists an item has in one another, itself among them
+abbrev mutual
+  pub depth_of : Item → ℕ
+  depth_of name = 0
+  depth_of number = 0
+  depth_of (list items) = 1 + deepest items
+
+  -- and the deepest of items
+  pub deepest : Items → ℕ
+  deepest none = 0
+  deepest (more item items) = max (depth_of item) (deepest items)
+
+-- how deep lists may nest
+abbrev pub depth_limit : ℕ
+depth_limit = 500
+
 -- ---- kinds
 
 -- The kinds of the tokens of an item. In a list a comma stands before each item but the first.
@@ -39,9 +57,6 @@ abbrev mutual
 abbrev pub file_kinds : Items → List ℕ
 file_kinds none = []
 file_kinds (more item items) = kinds_of item ++ file_kinds items
-
-abbrev pub kinds_in : List Entry → List ℕ
-kinds_in seen = map (λ e. e.kind) seen
 
 -- no kinds of operators, and the names of the kinds that errors speak of
 abbrev pub list_words : Words
@@ -65,10 +80,10 @@ steps_at kind =
 abbrev pub steps_of : List ℕ → List Step
 steps_of kinds = flat_map steps_at kinds
 
--- What a file leaves: one node over all tokens, and exactly the tree of a file of well-formed lists.
+-- What a file leaves: one node over all tokens, and exactly the tree of a file of well-formed lists that nest no deeper than the limit.
 pub record IsFile (input : List Entry) (draft : Draft) : Type 0 where
   pub whole : IsWholeFile input draft
-  pub exact : (items : Items) → kinds_in input ≡ file_kinds items → plain draft.items ≡ node source_file (steps_of (file_kinds items))
+  pub exact : (items : Items) → deepest items ≤ depth_limit → kinds_in input ≡ file_kinds items → plain draft.items ≡ node source_file (steps_of (file_kinds items))
 
 -- ---- parts of it
 

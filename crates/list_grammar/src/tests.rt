@@ -51,6 +51,17 @@ fn line_of(alloc: Global, steps: &[OwnedStep]) -> Result<String, AllocError> {
     Ok(line)
 }
 
+/// The parts one after another, each so many times.
+fn repeated(alloc: Global, parts: &[(&str, u32)]) -> Result<String, AllocError> {
+    let mut all = String::new(alloc);
+    for (part, times) in parts {
+        for _ in 0..*times {
+            all.push_str(part)?;
+        }
+    }
+    Ok(all)
+}
+
 /// Parses the text from both entry points, and ends the test unless these steps are sent, of so many
 /// recorded events, with so many nodes among them.
 fn assert_row(
@@ -60,7 +71,7 @@ fn assert_row(
     nodes: u64,
     wanted: &str,
 ) -> Result<(), Fail>
-    requires { nodes ≤ 100 }
+    requires { nodes ≤ 1000 }
 {
     let tokens = tokens_of(rt.alloc(), text)?;
     // Each event has a turn, and each opening of a node one more.
@@ -147,4 +158,81 @@ fn file_goes_on_at_no_sign(rt: HostRuntime) -> Result<(), Fail> {
     // Three tokens, two errors and three nodes.
     let wanted = "710{ 2{ !0 expected an item; 10:) } 2{ !1 expected an item; 6:, } 3:a }";
     assert_row(&rt, "),a", 11, 3, wanted)
+}
+
+#[test]
+fn lists_nest_to_the_limit(rt: HostRuntime) -> Result<(), Fail> {
+    // Of 500 lists two tokens and a node each, and the node of the file.
+    let text = repeated(rt.alloc(), &[("(", 500), (")", 500)])?;
+    let wanted = repeated(
+        rt.alloc(),
+        &[("710{", 1), (" 711{ 9:(", 500), (" 10:) }", 500), (" }", 1)],
+    )?;
+    assert_row(&rt, text.as_str(), 2002, 501, wanted.as_str())
+}
+
+#[test]
+fn list_past_the_limit_is_an_error(rt: HostRuntime) -> Result<(), Fail> {
+    // As before, and an error, two tokens and a node.
+    let text = repeated(rt.alloc(), &[("(", 501), (")", 501)])?;
+    let wanted = repeated(
+        rt.alloc(),
+        &[
+            ("710{", 1),
+            (" 711{ 9:(", 500),
+            (" 2{ !500 nested too deep; 9:( 10:) }", 1),
+            (" 10:) }", 500),
+            (" }", 1),
+        ],
+    )?;
+    assert_row(&rt, text.as_str(), 2007, 502, wanted.as_str())
+}
+
+#[test]
+fn list_goes_on_behind_one_past_the_limit(rt: HostRuntime) -> Result<(), Fail> {
+    // As before, but nine tokens behind the error; two tokens, and two more with a node.
+    let text = repeated(
+        rt.alloc(),
+        &[
+            ("(", 500),
+            ("((),(a)+)", 1),
+            (",a", 1),
+            (")", 500),
+            ("()", 1),
+        ],
+    )?;
+    let wanted = repeated(
+        rt.alloc(),
+        &[
+            ("710{", 1),
+            (" 711{ 9:(", 500),
+            (
+                " 2{ !500 nested too deep; 9:( 9:( 10:) 6:, 9:( 3:a 10:) 27:+ 10:) }",
+                1,
+            ),
+            (" 6:, 3:a", 1),
+            (" 10:) }", 500),
+            (" 711{ 9:( 10:) } }", 1),
+        ],
+    )?;
+    assert_row(&rt, text.as_str(), 2020, 503, wanted.as_str())
+}
+
+#[test]
+fn million_parentheses_are_parsed(rt: HostRuntime) -> Result<(), Fail> {
+    // Of 500 lists a token, an error and a node each; of the others a token each, an error and a node; and
+    // the node of the file.
+    let text = repeated(rt.alloc(), &[("(", 1000000)])?;
+    let wanted = repeated(
+        rt.alloc(),
+        &[
+            ("710{", 1),
+            (" 711{ 9:(", 500),
+            (" 2{ !500 nested too deep;", 1),
+            (" 9:(", 999500),
+            (" !1000000 expected ); }", 500),
+            (" } }", 1),
+        ],
+    )?;
+    assert_row(&rt, text.as_str(), 1001505, 502, wanted.as_str())
 }

@@ -1,9 +1,10 @@
 -- A walk over the input of a table, from a raw place on.
-use Rattle.std.proofs.Common.{◌≡◌, ◌∙◌, ℕ, suc, ◌+◌, ◌-◌, ◌≤◌, Bool, true, false, if◌then◌else◌, List, [], ◌∷◌, length, take, drop, arith, ap, refl, sym, subst}
+use Rattle.std.proofs.Common.{◌≡◌, ◌∙◌, ℕ, ◌+◌, ◌-◌, ◌≤◌, Bool, true, false, if◌then◌else◌, List, [], ◌∷◌, length, take, drop, arith, ap, refl, sym, subst}
 use Rattle.std.specs.Prelude.{◌↔◌}
+use Rattle.std.proofs.lemmas.List.{length-map}
 use Rattle.squawk_kinds.specs.Keywords.{Keywords}
 use Rattle.squawk_kinds.specs.Kinds.{is_trivia}
-use Rattle.squawk_table.specs.ParserInput.{Entry, entries_of, entry_for}
+use Rattle.squawk_table.specs.ParserInput.{Entry, entries_of, entry_for, kinds_in}
 use Rattle.squawk_table.specs.RawTable.{RawToken, Table, raw_after}
 use Rattle.squawk_table.specs.Sent.{past_trivia, HasNoTrivia}
 use Rattle.squawk_table.specs.Shape.{IsOver, no_keywords}
@@ -46,12 +47,17 @@ IsOver-keywords a b (Enter kind ∷ steps) raws over = IsOver-keywords a b steps
 IsOver-keywords a b (Exit ∷ steps) raws over = IsOver-keywords a b steps raws over
 IsOver-keywords a b (Error text ∷ steps) raws over = IsOver-keywords a b steps raws over
 
--- nor does it how many tokens there are
-pub length-keywords : (a b : Keywords) (raws : List RawToken) → length (entries_of a raws) ≡ length (entries_of b raws)
-length-keywords a b [] = refl
-length-keywords a b (raw ∷ raws) = cases (is_trivia raw.kind) (length-keywords a b raws)
+-- nor do the kinds of the tokens
+pub kinds_keywords : (a b : Keywords) (raws : List RawToken) → kinds_in (entries_of a raws) ≡ kinds_in (entries_of b raws)
+kinds_keywords a b [] = refl
+kinds_keywords a b (raw ∷ raws) = cases (is_trivia raw.kind) (kinds_keywords a b raws)
   where
-    cases : (trivia : Bool) → length (entries_of a raws) ≡ length (entries_of b raws)
-        → length (if trivia then entries_of a raws else entry_for a raw raws ∷ entries_of a raws) ≡ length (if trivia then entries_of b raws else entry_for b raw raws ∷ entries_of b raws)
+    cases : (trivia : Bool) → kinds_in (entries_of a raws) ≡ kinds_in (entries_of b raws)
+        → kinds_in (if trivia then entries_of a raws else entry_for a raw raws ∷ entries_of a raws) ≡ kinds_in (if trivia then entries_of b raws else entry_for b raw raws ∷ entries_of b raws)
     cases true same = same
-    cases false same = ap suc same
+    cases false same = ap (λ kinds. raw.kind ∷ kinds) same
+
+-- nor how many tokens there are
+pub length-keywords : (a b : Keywords) (raws : List RawToken) → length (entries_of a raws) ≡ length (entries_of b raws)
+length-keywords a b raws =
+    sym (length-map (entries_of a raws) (λ e. e.kind)) ∙ (ap length (kinds_keywords a b raws) ∙ length-map (entries_of b raws) (λ e. e.kind))

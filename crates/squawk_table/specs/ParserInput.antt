@@ -1,5 +1,5 @@
 -- The input of a parser: the raw tokens that aren't trivia.
-use Rattle.std.specs.Prelude.{◌≢◌, All, ℕ, ◌==◌, Bool, false, not, List, [], ◌∷◌, slice_get, unwrap_or, option_map, if◌then◌else◌}
+use Rattle.std.specs.Prelude.{◌≢◌, All, ℕ, ◌==◌, Bool, false, not, List, [], ◌∷◌, map, slice_get, unwrap_or, option_map, if◌then◌else◌}
 use Rattle.squawk_kinds.specs.Kinds.{EOF, IDENT, is_trivia}
 use Rattle.squawk_table.specs.RawTable.{Table, RawToken, raw_tokens}
 use Rattle.squawk_kinds.specs.Keywords.{Keywords}
@@ -36,6 +36,10 @@ input_of contextual table = entries_of contextual (raw_tokens table)
 -- no token of an input is the end
 abbrev pub HasNoEndToken : List Entry → Type 0
 HasNoEndToken input = All (λ e. e.kind ≢ EOF) input
+
+-- the kinds of tokens
+abbrev pub kinds_in : List Entry → List ℕ
+kinds_in seen = map (λ e. e.kind) seen
 
 -- the kind of token i of an input, or the end's
 abbrev pub kind_in : List Entry → ℕ → ℕ

@@ -1,11 +1,11 @@
-use Rattle.std.proofs.Common.{◌≡◌, ◌≢◌, ◌++◌, ◌∷◌, [], true, false, arith}
+use Rattle.std.proofs.Common.{◌≡◌, ◌≢◌, ◌-◌, ◌++◌, ◌∷◌, [], true, false, arith}
 use Rattle.squawk_kinds.specs.Kinds.{IDENT, INT_NUMBER, L_PAREN, R_PAREN}
 use Rattle.squawk_parser.specs.State.{kind_at}
 use Rattle.squawk_parser.proofs.RecordedSteps.{node_puts, puts-none, puts-then}
 use Rattle.list_grammar.specs.Trees.{with_commas}
 use Rattle.list_grammar.proofs.Reading.{ReadsSome-none}
 use Rattle.list_grammar.proofs.Separators.{next_eats}
-use Rattle.list_grammar.proofs.Written.{ends_at, item_list, item_none, item_token, items_none, items_some, list_reads, next_reads, some_more}
+use Rattle.list_grammar.proofs.Written.{ends_at, item_deep, item_list, item_none, item_token, items_none, items_some, list_reads, next_reads, some_more}
 use Rattle.list_grammar.proofs.+lists.Goals as goal
 
 pub items-returns-then-is_end-clause-puts : goal.items-returns-then-is_end-clause-puts
@@ -43,7 +43,13 @@ item-returns-in-IDENT-clause-reads t c =
 pub item-returns-in-L_PAREN-clause-reads : goal.item-returns-in-L_PAREN-clause-reads
 item-returns-in-L_PAREN-clause-reads t c =
     let is : kind_at c.args.p.now 0 ≡ L_PAREN = grind arith in
-    item_list is c.list.ensures.reads
+    item_list (c.args.depth - 1) (omega arith) is c.list.ensures.reads
+
+pub item-returns-in-L_PAREN-2-clause-reads : goal.item-returns-in-L_PAREN-2-clause-reads
+item-returns-in-L_PAREN-2-clause-reads t c =
+    let is : kind_at c.args.p.now 0 ≡ L_PAREN = grind arith in
+    let no_depth : c.args.depth ≡ 0 = grind arith in
+    item_deep no_depth is
 
 pub item-returns-in_default-clause-reads : goal.item-returns-in_default-clause-reads
 item-returns-in_default-clause-reads t c =
@@ -64,7 +70,7 @@ items-returns-then-is_end-clause-reads t c =
 pub items-loop-p-init : goal.items-loop-p-init
 items-loop-p-init t c =
     let sound = c.item.ensures.puts.1.keeps.sound in
-    record { steps = []; puts = puts-none c.item.new.p sound; reads = ReadsSome-none with_commas (λ rest. R_PAREN ∷ rest) c.item.new.p sound }
+    record { steps = []; puts = puts-none c.item.new.p sound; reads = ReadsSome-none c.args.depth with_commas (λ rest. R_PAREN ∷ rest) c.item.new.p sound }
 
 pub items-returns-clause-reads : goal.items-returns-clause-reads
 items-returns-clause-reads t c =

@@ -1,12 +1,13 @@
 use Rattle.std.proofs.Common.{◌≡◌, ◌≢◌, ◌∙◌, ◌++◌, [], ap, arith, refl}
 use Rattle.squawk_kinds.specs.Kinds.{EOF}
 use Rattle.squawk_kinds.proofs.ConstantSets.{has-words_of}
+use Rattle.squawk_table.specs.ParserInput.{kinds_in}
 use Rattle.squawk_parser.specs.State.{kind_at}
 use Rattle.squawk_parser.proofs.AddedSteps.{Adds-puts, closed-fresh, plain-fresh}
+use Rattle.squawk_parser.proofs.KindsAhead.{kinds_still}
 use Rattle.squawk_parser.proofs.RecordedSteps.{node_puts, puts-then}
-use Rattle.squawk_parser.proofs.SeenSteps.{ahead-fresh, ahead-still}
+use Rattle.squawk_parser.proofs.SeenSteps.{ahead-fresh}
 use Rattle.squawk_parser.proofs.WholeSteps.{whole_file}
-use Rattle.list_grammar.specs.Trees.{kinds_in}
 use Rattle.list_grammar.proofs.Written.{file_more, file_reads}
 use Rattle.list_grammar.proofs.ListsGrammar.entry_point.Goals as goal
 
@@ -36,8 +37,8 @@ returns-clause-leaves c goes =
     let completes = c.complete.ensures.completes in
     let read = c.loop-p.invariant in
     let end : kind_at c.loop-p.p 0 ≡ EOF = grind arith in
-    let there = ap kinds_in (ahead-still begins.keeps begins.position ∙ ahead-fresh c.requires.fresh) in
+    let there = kinds_still begins.keeps begins.position ∙ ap kinds_in (ahead-fresh c.requires.fresh) in
     record {
       whole = whole_file c.requires.fresh begins (Adds-puts read.puts) completes end goes;
-      exact = λ items is. plain-fresh c.requires.fresh (Adds-puts (node_puts begins (file_reads read.reads end items (there ∙ is)) completes)) goes;
+      exact = λ items within is. plain-fresh c.requires.fresh (Adds-puts (node_puts begins (file_reads read.reads end items within (there ∙ is)) completes)) goes;
     }
