@@ -31,6 +31,7 @@ pub mod SeenSteps
 pub mod TouchingRun
 pub mod EatenExamples
 pub mod AddedSteps
+pub mod SomeSteps
 pub mod StepsInOrder
 pub mod WholeSteps
 pub mod MovedNodes

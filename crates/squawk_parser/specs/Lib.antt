@@ -12,4 +12,5 @@ pub mod Parse
 pub mod ErrorLines
 pub mod Composed
 pub mod Whole
+pub mod SomeSteps
 pub mod Pipeline
