@@ -28,6 +28,7 @@ pub mod EatenWithTail
 pub mod EatenOperator
 pub mod SeenTokens
 pub mod SeenSteps
+pub mod SkippedTokens
 pub mod TouchingRun
 pub mod EatenExamples
 pub mod AddedSteps

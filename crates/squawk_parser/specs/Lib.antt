@@ -8,6 +8,7 @@ pub mod Words
 pub mod State
 pub mod Recorded
 pub mod Eaten
+pub mod Skipped
 pub mod Parse
 pub mod ErrorLines
 pub mod Composed
