@@ -5,13 +5,13 @@ use Rattle.std.proofs.lemmas.List.{append-nil}
 use Rattle.std.proofs.lemmas.List.Elements.{All-nil, All-cons, All-append, filter-append}
 use Rattle.squawk_kinds.specs.Kinds.{EOF}
 use Rattle.squawk_output.specs.Steps.{Step, Token, eaten}
-use Rattle.squawk_output.specs.Draft.{Item, Mark, Node, Hole, Open, Close, Token as token, Error, HasNoHole, holes_of, is_hole, plain}
+use Rattle.squawk_output.specs.Draft.{Item, Mark, Node, Hole, Open, Close, Token as token, Error, HasNoHole, HasNoIdTwice, holes_of, is_hole, plain}
 use Rattle.squawk_output.specs.declared.log.Made.TheVariants.{ByPrecede}
 use Rattle.squawk_output.specs.Edits.{filled, is_hole_of, is_opening_of, preceded_item, replaced}
 use Rattle.squawk_output.proofs.Groups.{itself}
 use Rattle.squawk_parser.specs.Composed.{Adds}
 use Rattle.squawk_parser.specs.Recorded.{Begins, Completes, Precedes, Puts}
-use Rattle.squawk_parser.specs.SomeSteps.{AddsSome, ClosesNode, EndsFile, HasAdded, HasAddedNode, OpensBefore, OpensNode, holes_for}
+use Rattle.squawk_parser.specs.SomeSteps.{AddsSome, ClosesNode, EndsFile, HasAdded, HasAddedNode, HasAddedOnly, OpensBefore, OpensNode, holes_for}
 use Rattle.squawk_parser.specs.State.{State, HasNotFailed, IsFresh, IsSound, kind_at}
 use Rattle.squawk_parser.specs.Whole.{IsWholeFile}
 use Rattle.squawk_parser.specs.declared.parser.parse_error.ParseError.{ParseError}
@@ -25,18 +25,22 @@ use Rattle.squawk_parser.proofs.WholeSteps.{whole_file}
 abbrev no_hole : Item → Type 0
 no_hole item = is_hole item ≡ false
 
+-- joined items, regrouped
+regroup : (old first made more : List Item) → (old ++ (first ++ made)) ++ more ≡ old ++ (first ++ (made ++ more))
+regroup old first made more = append_assoc old (first ++ made) more ∙ ap (λ items. old ++ items) (append_assoc first made more)
+
 -- ---- steps that are known
 
 module _ {a b : State} {xs : List Step} (q : Adds xs a b) where
-  longer : {opened : List Mark} {begun : State} → HasAdded opened begun a → HasAdded opened begun b
-  longer {opened} {begun} p = record {
+  longer : {first opened : List Mark} {begun : State} → HasAdded first opened begun a → HasAdded first opened begun b
+  longer {first} {opened} {begun} p = record {
     keeps = Keeps-then p.keeps q.keeps;
     draft = λ goes.
         let before = p.draft (went q.keeps goes) in
         let added = q.draft goes in
         record {
           made = before.made ++ added.made;
-          items = added.items ∙ (ap (λ zs. zs ++ added.made) before.items ∙ append_assoc begun.draft.items before.made added.made);
+          items = added.items ∙ (ap (λ zs. zs ++ added.made) before.items ∙ regroup begun.draft.items (holes_for first) before.made added.made);
           holes = filter-append is_hole before.made added.made
               ∙ (ap (λ hs. holes_of before.made ++ hs) (none_open added.made added.closed) ∙ (append-nil (holes_of before.made) ∙ before.holes));
         };
@@ -48,7 +52,7 @@ module _ {a b : State} {xs : List Step} (q : Adds xs a b) where
       keeps = q.keeps;
       draft = λ goes. let added = q.draft goes in record { made = added.made; items = added.items; holes = none_open added.made added.closed };
     };
-    behind = λ opened begun p. longer p;
+    behind = λ first opened begun p. longer p;
   }
 
 pub puts_some : {a b : State} {xs : List Step} → Puts xs a b → AddsSome a b
@@ -96,14 +100,15 @@ begun_items {a} {b} {m} begins goes =
 pub begins_opens : {a b : State} {m : Mark} → Begins m a b → OpensNode m a b
 begins_opens {a} {b} {m} begins = record {
   some = record { keeps = begins.keeps; draft = λ goes. record { made = Hole m.id m.made ∷ []; items = begun_items begins goes; holes = refl } };
-  behind = λ opened begun p. record {
+  only = record { keeps = begins.keeps; draft = λ goes. record { made = []; items = begun_items begins goes; holes = refl } };
+  behind = λ first opened begun p. record {
     keeps = Keeps-then p.keeps begins.keeps;
     draft = λ goes.
         let before = p.draft (went begins.keeps goes) in
         let hole = Hole m.id m.made ∷ [] in
         record {
           made = before.made ++ hole;
-          items = begun_items begins goes ∙ (ap (λ zs. zs ++ hole) before.items ∙ append_assoc begun.draft.items before.made hole);
+          items = begun_items begins goes ∙ (ap (λ zs. zs ++ hole) before.items ∙ regroup begun.draft.items (holes_for first) before.made hole);
           holes = filter-append is_hole before.made hole ∙ ap (λ hs. hs ++ hole) before.holes;
         };
   };
@@ -138,40 +143,61 @@ last_hole m holes (Close ∷ items) e = further Close refl (last_hole m holes it
 last_hole m holes (token kind n ∷ items) e = further (token kind n) refl (last_hole m holes items e)
 last_hole m holes (Error text ∷ items) e = further (Error text) refl (last_hole m holes items e)
 
-module _ {opened : List Mark} {begun a b : State} {m : Mark} {n : Node} {kind : ℕ} (p : HasAdded (m ∷ opened) begun a) (completes : Completes m.id kind a b)
-    (is : n ≡ record { id = m.id; kind = kind }) where
-  closed_node : HasAddedNode n opened begun b
-  closed_node = subst (λ (n : Node). HasAddedNode n opened begun b) (sym is) (record {
+-- a hole with items behind it becomes an opening, and a closing stands at the end
+closed_items : {a b : State} {kind : ℕ} (m : Mark) (old inner : List Item) → HasNoIdTwice a.draft.items → Completes m.id kind a b → HasNotFailed b
+    → a.draft.items ≡ old ++ Hole m.id m.made ∷ inner → b.draft.items ≡ old ++ Open m.id kind true ∷ (inner ++ Close ∷ [])
+closed_items {a} {b} {kind} m old inner no_id_twice completes goes items =
+    let hole = Hole m.id m.made in
+    let test = is_hole_of m.id in
+    let once = holes-once m.id a.draft.items no_id_twice in
+    let total = ap (count_by test) items ∙ count_by-append test old (hole ∷ inner) in
+    let first = count_by-passes test hole inner (itself m.id) in
+    ap (λ d. d.items) (completes.records.draft goes)
+    ∙ (ap (λ items. filled items m.id kind ++ Close ∷ []) items
+    ∙ (ap (λ items. items ++ Close ∷ [])
+    (replaced-at test (λ item. Open m.id kind true ∷ []) old inner hole (itself m.id) (omega (arith, total, first, once)) (omega (arith, total, first, once)))
+    ∙ append_assoc old (Open m.id kind true ∷ inner) (Close ∷ [])))
+
+closed_end : (inner : List Item) → HasNoHole inner → HasNoHole (inner ++ Close ∷ [])
+closed_end inner closed = All-append no_hole inner (Close ∷ []) closed (All-cons no_hole Close [] refl (All-nil no_hole))
+
+module _ {a b : State} {m : Mark} {n : Node} {kind : ℕ} (completes : Completes m.id kind a b) (is : n ≡ record { id = m.id; kind = kind }) where
+  closed_last : {first opened : List Mark} {begun : State} → HasAdded first (m ∷ opened) begun a → HasAddedNode n first opened begun b
+  closed_last {first} {opened} {begun} p = subst (λ (n : Node). HasAddedNode n first opened begun b) (sym is) (record {
     keeps = Keeps-then p.keeps completes.keeps;
     draft = λ goes.
         let before = p.draft (went completes.keeps goes) in
         let last = last_hole m (holes_for opened) before.made before.holes in
-        let old = begun.draft.items ++ last.front in
-        let hole = Hole m.id m.made in
-        let test = is_hole_of m.id in
-        let items : a.draft.items ≡ old ++ hole ∷ last.inner =
-        before.items ∙ (ap (λ zs. begun.draft.items ++ zs) last.is ∙ sym (append_assoc begun.draft.items last.front (hole ∷ last.inner))) in
-        let once = holes-once m.id a.draft.items p.keeps.sound.logged.once in
-        let total = ap (count_by test) items ∙ count_by-append test old (hole ∷ last.inner) in
-        let first = count_by-passes test hole last.inner (itself m.id) in
-        let edit : filled a.draft.items m.id kind ≡ old ++ Open m.id kind true ∷ last.inner =
-        ap (λ items. filled items m.id kind) items
-        ∙ replaced-at test (λ item. Open m.id kind true ∷ []) old last.inner hole (itself m.id) (omega (arith, total, first, once)) (omega (arith, total, first, once)) in
+        let old = begun.draft.items ++ (holes_for first ++ last.front) in
+        let items : a.draft.items ≡ old ++ Hole m.id m.made ∷ last.inner =
+        before.items
+        ∙ (ap (λ made. begun.draft.items ++ (holes_for first ++ made)) last.is
+        ∙ sym (regroup begun.draft.items (holes_for first) last.front (Hole m.id m.made ∷ last.inner))) in
         record {
           front = last.front;
           inner = last.inner ++ Close ∷ [];
-          items = ap (λ d. d.items) (completes.records.draft goes)
-              ∙ (ap (λ zs. zs ++ Close ∷ []) edit
-              ∙ (append_assoc old (Open m.id kind true ∷ last.inner) (Close ∷ [])
-              ∙ append_assoc begun.draft.items last.front (Open m.id kind true ∷ (last.inner ++ Close ∷ []))));
+          items = closed_items m old last.inner p.keeps.sound.logged.once completes goes items
+              ∙ regroup begun.draft.items (holes_for first) last.front (Open m.id kind true ∷ (last.inner ++ Close ∷ []));
           holes = last.others;
-          closed = All-append no_hole last.inner (Close ∷ []) last.closed (All-cons no_hole Close [] refl (All-nil no_hole));
+          closed = closed_end last.inner last.closed;
+        };
+  })
+
+  closed_only : {begun : State} → HasAdded (m ∷ []) [] begun a → HasAddedOnly n begun b
+  closed_only {begun} p = subst (λ (n : Node). HasAddedOnly n begun b) (sym is) (record {
+    keeps = Keeps-then p.keeps completes.keeps;
+    draft = λ goes.
+        let before = p.draft (went completes.keeps goes) in
+        record {
+          inner = before.made ++ Close ∷ [];
+          items = closed_items m begun.draft.items before.made p.keeps.sound.logged.once completes goes before.items;
+          closed = closed_end before.made (HasNoHole-none_open before.made before.holes);
         };
   })
 
 -- a node is one of the steps
-node_added : {opened : List Mark} {begun now : State} {n : Node} → HasAddedNode n opened begun now → HasAdded opened begun now
-node_added {opened} {begun} {now} {n} p = record {
+node_added : {first opened : List Mark} {begun now : State} {n : Node} → HasAddedNode n first opened begun now → HasAdded first opened begun now
+node_added {first} {opened} {begun} {now} {n} p = record {
   keeps = p.keeps;
   draft = λ goes.
       let put = p.draft goes in
@@ -186,34 +212,53 @@ node_added {opened} {begun} {now} {n} p = record {
 
 pub completes_closes : {a b : State} {m : Mark} {n : Node} {kind : ℕ} → Completes m.id kind a b → n ≡ record { id = m.id; kind = kind } → ClosesNode m n a b
 completes_closes completes is = record {
-  some = λ opened begun p. node_added (closed_node p completes is);
-  last = λ opened begun p. closed_node p completes is;
+  some = λ first opened begun p. node_added (closed_last completes is p);
+  last = λ first opened begun p. closed_last completes is p;
+  only = λ begun p. closed_only completes is p;
 }
 
+-- the items where a node is preceded
+preceded_items : {a b : State} {m : Mark} {left : Node} (old inner : List Item) → Precedes left m a b → HasNotFailed b
+    → a.draft.items ≡ old ++ Open left.id left.kind true ∷ inner → b.draft.items ≡ old ++ Hole m.id m.made ∷ Open left.id left.kind false ∷ inner
+preceded_items {a} {b} {m} {left} old inner precedes goes items =
+    let opening = Open left.id left.kind true in
+    let test = is_opening_of left.id in
+    let edit = λ (item : Item). Hole a.draft.entries ByPrecede ∷ preceded_item item ∷ [] in
+    let once = openings-once left.id a.draft.items precedes.sound.logged.once in
+    let total = ap (count_by test) items ∙ count_by-append test old (opening ∷ inner) in
+    let first = count_by-passes test opening inner (itself left.id) in
+    ap (λ d. d.items) (precedes.records.draft goes)
+    ∙ (ap (replaced test edit) items
+    ∙ (replaced-at test edit old inner opening (itself left.id) (omega (arith, total, first, once)) (omega (arith, total, first, once))
+    ∙ ap (λ m. old ++ Hole m.id m.made ∷ Open left.id left.kind false ∷ inner) (sym precedes.is)))
+
 pub precedes_opens : {a b : State} {m : Mark} {left : Node} → Precedes left m a b → OpensBefore left m a b
-precedes_opens {a} {b} {m} {left} precedes opened begun p = record {
-  keeps = Keeps-then p.keeps precedes.keeps;
-  draft = λ goes.
-      let put = p.draft (went precedes.keeps goes) in
-      let old = begun.draft.items ++ put.front in
-      let opening = Open left.id left.kind true in
-      let test = is_opening_of left.id in
-      let edit = λ (item : Item). Hole a.draft.entries ByPrecede ∷ preceded_item item ∷ [] in
-      let items : a.draft.items ≡ old ++ opening ∷ put.inner = put.items ∙ sym (append_assoc begun.draft.items put.front (opening ∷ put.inner)) in
-      let once = openings-once left.id a.draft.items precedes.sound.logged.once in
-      let total = ap (count_by test) items ∙ count_by-append test old (opening ∷ put.inner) in
-      let first = count_by-passes test opening put.inner (itself left.id) in
-      let rest = λ (m : Mark). Hole m.id m.made ∷ Open left.id left.kind false ∷ put.inner in
-      let inner : List Item = Open left.id left.kind false ∷ put.inner in
-      record {
-        made = put.front ++ rest m;
-        items = ap (λ d. d.items) (precedes.records.draft goes)
-            ∙ (ap (replaced test edit) items
-            ∙ (replaced-at test edit old put.inner opening (itself left.id) (omega (arith, total, first, once)) (omega (arith, total, first, once))
-            ∙ (ap (λ m. old ++ rest m) (sym precedes.is) ∙ append_assoc begun.draft.items put.front (rest m))));
-        holes = filter-append is_hole put.front (rest m)
-            ∙ (ap (λ hs. holes_of put.front ++ Hole m.id m.made ∷ hs) (none_open put.inner put.closed) ∙ ap (λ hs. hs ++ Hole m.id m.made ∷ []) put.holes);
-      };
+precedes_opens {a} {b} {m} {left} precedes = record {
+  only = λ begun p. record {
+    keeps = Keeps-then p.keeps precedes.keeps;
+    draft = λ goes.
+        let put = p.draft (went precedes.keeps goes) in
+        record {
+          made = Open left.id left.kind false ∷ put.inner;
+          items = preceded_items begun.draft.items put.inner precedes goes put.items;
+          holes = none_open put.inner put.closed;
+        };
+  };
+  behind = λ first opened begun p. record {
+    keeps = Keeps-then p.keeps precedes.keeps;
+    draft = λ goes.
+        let put = p.draft (went precedes.keeps goes) in
+        let opening : List Item = Open left.id left.kind true ∷ put.inner in
+        let more : List Item = Hole m.id m.made ∷ Open left.id left.kind false ∷ put.inner in
+        record {
+          made = put.front ++ more;
+          items = preceded_items (begun.draft.items ++ (holes_for first ++ put.front)) put.inner precedes goes
+              (put.items ∙ sym (regroup begun.draft.items (holes_for first) put.front opening))
+              ∙ regroup begun.draft.items (holes_for first) put.front more;
+          holes = filter-append is_hole put.front more
+              ∙ (ap (λ hs. holes_of put.front ++ Hole m.id m.made ∷ hs) (none_open put.inner put.closed) ∙ ap (λ hs. hs ++ Hole m.id m.made ∷ []) put.holes);
+        };
+  };
 }
 
 -- ---- whole runs
