@@ -29,9 +29,11 @@ pub mod EatenOperator
 pub mod SeenTokens
 pub mod SeenSteps
 pub mod KindsAhead
+pub mod SkippedTokens
 pub mod TouchingRun
 pub mod EatenExamples
 pub mod AddedSteps
+pub mod SomeSteps
 pub mod StepsInOrder
 pub mod WholeSteps
 pub mod MovedNodes

@@ -8,8 +8,10 @@ pub mod Words
 pub mod State
 pub mod Recorded
 pub mod Eaten
+pub mod Skipped
 pub mod Parse
 pub mod ErrorLines
 pub mod Composed
 pub mod Whole
+pub mod SomeSteps
 pub mod Pipeline

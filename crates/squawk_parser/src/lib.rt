@@ -7,10 +7,9 @@
 //! of names:
 //!
 //! ```rust
-//! ghost use Rattle.std.specs.Prelude.{◌<◌, ◌≢◌, List};
+//! ghost use Rattle.std.specs.Prelude.{◌<◌, ◌≢◌};
 //! ghost use Rattle.squawk_kinds.specs.Kinds.{EOF};
-//! ghost use Rattle.squawk_output.specs.Steps.{Step};
-//! ghost use Rattle.squawk_parser.specs.Recorded.{Puts};
+//! ghost use Rattle.squawk_parser.specs.SomeSteps.{AddsSome};
 //! ghost use Rattle.squawk_parser.specs.State.{kind_at};
 //!
 //! use squawk_parser::{
@@ -66,7 +65,7 @@
 //! /// A name, or an error with the token that is none.
 //! fn name(p: &mut Parser<'_>)
 //!     requires { kind_at p.old 0 ≢ EOF }
-//!     ensures puts { (steps : List Step) × Puts steps p.old p.new }
+//!     ensures adds { AddsSome p.old p.new }
 //!     ensures eats { p.old.position < p.new.position }
 //! {
 //!     if p.current() == SyntaxKind::IDENT {

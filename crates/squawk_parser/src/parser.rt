@@ -16,6 +16,7 @@ mod operator_names;
 pub mod parse_error;
 pub mod part;
 mod recording;
+mod skip;
 pub mod tails;
 mod tokens;
 mod view;

@@ -3,6 +3,7 @@ ghost use Rattle.std.specs.Prelude.{◌≡◌, ◌≢◌, ◌<◌, ◌↔◌, Is
 ghost use Rattle.squawk_kinds.specs.Kinds.{TOMBSTONE};
 ghost use Rattle.squawk_output.specs.Edits.{abandoned, extended};
 ghost use Rattle.squawk_parser.specs.Recorded.{Completes, Precedes};
+ghost use Rattle.squawk_parser.specs.SomeSteps.{ClosesNode, EndsFile, OpensBefore};
 ghost use Rattle.squawk_parser.specs.State.{Changes, HasHole, HasNode, HasNotFailed};
 
 use crate::parser::Parser;
@@ -54,6 +55,8 @@ impl Marker {
         requires kind { kind ≢ TOMBSTONE }
         ensures node { result ≡ record { id = self.id; kind = kind } }
         ensures completes { Completes self.id kind p.old p.new }
+        ensures closes { ClosesNode self result p.old p.new }
+        ensures file { EndsFile self p.old p.new }
         ensures at_hand { HasNode p.new result }
     {
         let Marker { id, made: _ } = self;
@@ -97,6 +100,7 @@ impl CompletedMarker {
     pub fn precede(self, p: &mut Parser<'_>) -> Marker
         requires { HasNode p.old self }
         ensures precedes { Precedes self result p.old p.new }
+        ensures opens { OpensBefore self result p.old p.new }
         ensures hole { HasHole p.new result }
     {
         let CompletedMarker { id: node, kind } = self;

@@ -1,11 +1,10 @@
-use Rattle.std.proofs.Common.{◌-◌, List}
-use Rattle.squawk_output.specs.Steps.{Step}
-use Rattle.squawk_parser.specs.Recorded.{Puts}
+use Rattle.std.proofs.Common.{◌-◌}
+use Rattle.squawk_parser.specs.SomeSteps.{AddsSome}
 use Rattle.names_grammar.proofs.NamesGrammar.entry_point.Given as goal
 
--- steps were put behind the marker
+-- some steps were added behind the marker
 abbrev pub invariant-loop-p : goal.invariant-loop-p
-invariant-loop-p l = record { steps : List Step; puts : Puts steps l.initial.p l.p }
+invariant-loop-p l = AddsSome l.initial.p l.p
 
 -- the tokens that are left
 abbrev pub decreases-loop-p : goal.decreases-loop-p

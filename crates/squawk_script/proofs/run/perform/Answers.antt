@@ -24,7 +24,7 @@ returns-in-Expect-clause-performs c =
 
 pub returns-in-Error-clause-performs : goal.returns-in-Error-clause-performs
 returns-in-Error-clause-performs c =
-    let puts = c.error.ensures in
+    let puts = c.error.ensures.puts in
     rw c.in-Error.is (puts-performs _ _ _ (Error c.in-Error.message) c.requires.tied (rw c.as_str.ensures.chars at puts) refl (λ run. refl) (λ tokens. refl))
 
 pub returns-in-ErrRecover-clause-performs : goal.returns-in-ErrRecover-clause-performs

@@ -5,7 +5,7 @@ use Rattle.engine_tests.proofs.failed.FailingGrammar.entry_point.Goals as goal
 pub returns-clause-closed : goal.returns-clause-closed
 returns-clause-closed g c goes =
     let h0 = HasHoles-fresh c.args.p.now c.requires.fresh in
-    let h1 = HasHoles-puts [] h0 c.error.ensures in
+    let h1 = HasHoles-puts [] h0 c.error.ensures.puts in
     let h2 = HasHoles-puts [] h1 c.bump_any.ensures.puts in
     let h3 = HasHoles-puts [] h2 c.err_and_bump.ensures.puts in
     let h4 = HasHoles-puts [] h3 c.bump_any-2.ensures.puts in

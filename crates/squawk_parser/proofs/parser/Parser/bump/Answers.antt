@@ -15,6 +15,7 @@ use Rattle.squawk_parser.proofs.CompositeFacts.{IsRow, eat_steps-none, eat_steps
 use Rattle.squawk_parser.proofs.Markers.{hole-put}
 use Rattle.squawk_parser.proofs.RecordedSteps.{node_puts, token_puts}
 use Rattle.squawk_parser.proofs.SeenSteps.{ahead-still, and-left, seen_one, touching_all}
+use Rattle.squawk_parser.proofs.SomeSteps.{puts_some}
 use Rattle.squawk_parser.proofs.parser.Parser.bump.Goals as goal
 
 -- glued tokens that stand are one
@@ -97,3 +98,18 @@ returns-in-Some-Sequence-clause-puts c =
     let seen = ap (λ seen. node c.args.kind (element_steps (map element_of row.parts) seen)) (ahead-still start.begins.keeps start.begins.position) in
     subst (λ steps. Puts steps old c.complete.new.p) (seen ∙ sym (eat_steps-row old.words (ahead old 0) r))
     (node_puts start.begins elements done.completes)
+
+pub returns-in-None-clause-some : goal.returns-in-None-clause-some
+returns-in-None-clause-some c = puts_some (returns-in-None-clause-puts c)
+
+pub returns-in-Some-Glued-clause-some : goal.returns-in-Some-Glued-clause-some
+returns-in-Some-Glued-clause-some c = puts_some (returns-in-Some-Glued-clause-puts c)
+
+pub returns-in-Some-Touching-clause-some : goal.returns-in-Some-Touching-clause-some
+returns-in-Some-Touching-clause-some c = puts_some (returns-in-Some-Touching-clause-puts c)
+
+pub returns-in-Some-Operator-clause-some : goal.returns-in-Some-Operator-clause-some
+returns-in-Some-Operator-clause-some c = puts_some (returns-in-Some-Operator-clause-puts c)
+
+pub returns-in-Some-Sequence-clause-some : goal.returns-in-Some-Sequence-clause-some
+returns-in-Some-Sequence-clause-some c = puts_some (returns-in-Some-Sequence-clause-puts c)

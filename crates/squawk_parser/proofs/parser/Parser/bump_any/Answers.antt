@@ -6,6 +6,7 @@ use Rattle.squawk_parser.specs.State.{ahead, kind_at}
 use Rattle.squawk_parser.proofs.RecordedSteps.{token_puts}
 use Rattle.squawk_parser.proofs.Recovery.{current-none, current-some}
 use Rattle.squawk_parser.proofs.SeenSteps.{kind_at-first}
+use Rattle.squawk_parser.proofs.SomeSteps.{puts_some}
 use Rattle.squawk_parser.proofs.parser.Parser.bump_any.Goals as goal
 
 pub returns-then-eq-clause-puts : goal.returns-then-eq-clause-puts
@@ -19,3 +20,9 @@ returns-clause-puts c =
     let some : kind_at c.args.self.now 0 ≢ EOF = grind arith in
     subst (λ kind. Puts (current_as kind (ahead c.args.self.now 0)) c.args.self.now c.do_bump.new.self) (c.current-kind.ensures ∙ kind_at-first c.args.self.now)
     (current-some _ some (token_puts _ 1 bump.keeps bump.records bump.position))
+
+pub returns-then-eq-clause-some : goal.returns-then-eq-clause-some
+returns-then-eq-clause-some c = puts_some (returns-then-eq-clause-puts c)
+
+pub returns-clause-some : goal.returns-clause-some
+returns-clause-some c = puts_some (returns-clause-puts c)

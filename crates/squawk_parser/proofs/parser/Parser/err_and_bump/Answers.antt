@@ -6,6 +6,7 @@ use Rattle.squawk_parser.specs.Eaten.{no_recovery}
 use Rattle.squawk_parser.specs.Recorded.{Puts}
 use Rattle.squawk_parser.specs.State.{ahead}
 use Rattle.squawk_parser.proofs.Recovery.{recovery-same}
+use Rattle.squawk_parser.proofs.SomeSteps.{puts_some}
 use Rattle.squawk_parser.proofs.parser.Parser.err_and_bump.Goals as goal
 
 pub returns-clause-puts : goal.returns-clause-puts
@@ -15,3 +16,6 @@ returns-clause-puts c =
 
 pub returns-clause-eats : goal.returns-clause-eats
 returns-clause-eats c some = c.err_recover.ensures.eats (has-no_kinds _) some
+
+pub returns-clause-some : goal.returns-clause-some
+returns-clause-some c = puts_some (returns-clause-puts c)

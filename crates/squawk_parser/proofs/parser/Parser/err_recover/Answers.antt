@@ -5,18 +5,25 @@ use Rattle.squawk_parser.specs.Recorded.{Puts}
 use Rattle.squawk_parser.proofs.Markers.{hole-put}
 use Rattle.squawk_parser.proofs.RecordedSteps.{puts-then}
 use Rattle.squawk_parser.proofs.Recovery.{recovery-there, recovery_puts}
+use Rattle.squawk_parser.proofs.SomeSteps.{puts_some}
 use Rattle.squawk_parser.proofs.parser.Parser.err_recover.Goals as goal
 
 pub returns-then-at_ts-clause-puts : goal.returns-then-at_ts-clause-puts
 returns-then-at_ts-clause-puts c =
     let old = c.args.self.now in
     subst (λ steps. Puts steps old c.error.new.self)
-    (sym (recovery-there (chars c.args.msg.now) (has c.args.recovery) old (sym c.at_ts.ensures ∙ c.if-at_ts.true))) c.error.ensures
+    (sym (recovery-there (chars c.args.msg.now) (has c.args.recovery) old (sym c.at_ts.ensures ∙ c.if-at_ts.true))) c.error.ensures.puts
 
 pub complete-requires-clause-hole : goal.complete-requires-clause-hole
-complete-requires-clause-hole c = hole-put c.start-node.result c.start-node.ensures.hole (puts-then c.error-2.ensures c.bump_any.ensures.puts)
+complete-requires-clause-hole c = hole-put c.start-node.result c.start-node.ensures.hole (puts-then c.error-2.ensures.puts c.bump_any.ensures.puts)
 
 pub returns-clause-puts : goal.returns-clause-puts
 returns-clause-puts c =
-    recovery_puts (chars c.args.msg.now) (has c.args.recovery) (sym c.at_ts.ensures ∙ c.if-at_ts.false) c.start-node.ensures.begins c.error-2.ensures
+    recovery_puts (chars c.args.msg.now) (has c.args.recovery) (sym c.at_ts.ensures ∙ c.if-at_ts.false) c.start-node.ensures.begins c.error-2.ensures.puts
     c.bump_any.ensures.puts c.complete.ensures.completes
+
+pub returns-then-at_ts-clause-some : goal.returns-then-at_ts-clause-some
+returns-then-at_ts-clause-some c = puts_some (returns-then-at_ts-clause-puts c)
+
+pub returns-clause-some : goal.returns-clause-some
+returns-clause-some c = puts_some (returns-clause-puts c)

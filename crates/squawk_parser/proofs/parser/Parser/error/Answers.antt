@@ -4,14 +4,21 @@ use Rattle.std.proofs.lemmas.Result.{IfOk-weaker}
 use Rattle.squawk_output.specs.Steps.{Error}
 use Rattle.squawk_parser.specs.Recorded.{Puts}
 use Rattle.squawk_parser.specs.State.{State}
+use Rattle.squawk_parser.proofs.SomeSteps.{puts_some}
 use Rattle.squawk_parser.proofs.parser.Parser.error.Goals as goal
 
-pub returns-then-has_room_for_error : goal.returns-then-has_room_for_error
-returns-then-has_room_for_error c =
+pub returns-then-has_room_for_error-clause-puts : goal.returns-then-has_room_for_error-clause-puts
+returns-then-has_room_for_error-clause-puts c =
     let msg = c.args.msg.now in
     let text = IfOk-weaker c.from_str-text.result (λ s. string_bytes s ≡ msg) (λ s. chars (string_bytes s) ≡ chars msg) (λ s is. ap chars is) c.from_str-text.ensures.ok in
     let same : c.has_room_for_error.new.self ≡ c.args.self.now = (c.if-has_room_for_error.ensures.room refl).0 in
     subst (λ (s : State). Puts (Error (chars msg) ∷ []) s c.put_error.new.self) same (c.put_error.ensures (chars msg) text)
 
-pub returns-else-has_room_for_error : goal.returns-else-has_room_for_error
-returns-else-has_room_for_error c = c.if-has_room_for_error.ensures.full refl (chars c.args.msg.now)
+pub returns-else-has_room_for_error-clause-puts : goal.returns-else-has_room_for_error-clause-puts
+returns-else-has_room_for_error-clause-puts c = c.if-has_room_for_error.ensures.full refl (chars c.args.msg.now)
+
+pub returns-then-has_room_for_error-clause-some : goal.returns-then-has_room_for_error-clause-some
+returns-then-has_room_for_error-clause-some c = puts_some (returns-then-has_room_for_error-clause-puts c)
+
+pub returns-else-has_room_for_error-clause-some : goal.returns-else-has_room_for_error-clause-some
+returns-else-has_room_for_error-clause-some c = puts_some (returns-else-has_room_for_error-clause-puts c)

@@ -8,6 +8,7 @@ use Rattle.squawk_parser.specs.Recorded.{Puts}
 use Rattle.squawk_parser.specs.State.{State, ahead}
 use Rattle.squawk_parser.specs.Words.{Words}
 use Rattle.squawk_parser.proofs.SeenSteps.{if-false}
+use Rattle.squawk_parser.proofs.SomeSteps.{puts_some}
 use Rattle.squawk_parser.proofs.parser.Parser.expect.Goals as goal
 
 -- where the kind doesn't stand, the error is recorded
@@ -22,3 +23,6 @@ returns-clause-puts c =
     subst (λ steps. Puts steps old c.put_expected.new.self)
     (sym (not_there old.words c.args.kind (ahead old 0) (sym c.eat.ensures.at ∙ c.if-eat.false)))
     (subst (λ (s : State). Puts (Error (expected_text s.words c.args.kind) ∷ []) s c.put_expected.new.self) same c.put_expected.ensures)
+
+pub returns-clause-some : goal.returns-clause-some
+returns-clause-some c = puts_some (returns-clause-puts c)

@@ -7,6 +7,7 @@ use Rattle.squawk_parser.proofs.Noted.{noted}
 use Rattle.squawk_parser.proofs.Soundness.{IsSound-failed, IsSound-preceded}
 use Rattle.squawk_parser.proofs.ParserViews.{seen, has_room}
 use Rattle.squawk_parser.proofs.Markers.{hole-preceded}
+use Rattle.squawk_parser.proofs.SomeSteps.{precedes_opens}
 use Rattle.squawk_parser.proofs.parser.marker.CompletedMarker.precede.Goals as goal
 
 pub invariant_of-p : goal.invariant_of-p
@@ -32,3 +33,6 @@ returns-clause-hole c =
     let there : HasNode old c.args.self = c.requires in
     let precedes = returns-clause-precedes c in
     subst (HasHole c.if-has_room.p) (sym precedes.is) (hole-preceded c.args.self precedes.sound.logged.once there precedes.records)
+
+pub returns-clause-opens : goal.returns-clause-opens
+returns-clause-opens c = precedes_opens (returns-clause-precedes c)

@@ -1,6 +1,6 @@
-use Rattle.std.proofs.Common.{rules, ◌≡◌, ◌∙◌, sym, refl, subst}
+use Rattle.std.proofs.Common.{rules, ◌≡◌, ◌∙◌, ap, sym, refl, subst}
 use Rattle.std.specs.Prelude.{Contains}
-use Rattle.squawk_output.specs.Draft.{Hole, IsLogged, Mark}
+use Rattle.squawk_output.specs.Draft.{Hole, IsLogged, Mark, Node}
 use Rattle.squawk_output.specs.Edits.{completed}
 use Rattle.squawk_parser.specs.Recorded.{Completes}
 use Rattle.squawk_parser.specs.State.{State, HasHole, IsSound}
@@ -8,6 +8,7 @@ use Rattle.squawk_parser.proofs.Noted.{noted}
 use Rattle.squawk_parser.proofs.Soundness.{IsSound-completed, IsSound-failed}
 use Rattle.squawk_parser.proofs.ParserViews.{seen, has_room}
 use Rattle.squawk_parser.proofs.Markers.{node-completed}
+use Rattle.squawk_parser.proofs.SomeSteps.{completes_closes, completes_ends}
 use Rattle.squawk_parser.proofs.parser.marker.Marker.complete.Goals as goal
 
 pub invariant_of-p : goal.invariant_of-p
@@ -32,3 +33,14 @@ returns-clause-at_hand c =
     let there : HasHole old m = subst (HasHole old) (sym c.self.view_is) c.requires.hole in
     let completes : Completes m.id c.args.kind old c.if-has_room.p = search rules in
     node-completed m c.args.kind there completes.records
+
+pub returns-clause-closes : goal.returns-clause-closes
+returns-clause-closes c =
+    let completes : Completes c.args.self.id c.args.kind c.args.p.now c.if-has_room.p = search rules in
+    let node = λ (m : Mark). let n : Node = record { id = m.id; kind = c.args.kind } in n in
+    completes_closes completes (ap node c.self.view_is)
+
+pub returns-clause-file : goal.returns-clause-file
+returns-clause-file c =
+    let completes : Completes c.args.self.id c.args.kind c.args.p.now c.if-has_room.p = search rules in
+    completes_ends completes
