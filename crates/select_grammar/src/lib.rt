@@ -7,12 +7,11 @@ pub mod kinds;
 mod statements;
 #[cfg(test)]
 mod tests;
-mod vocabulary;
 
 use crate::keywords::KEYWORDS;
 use crate::kinds::SOURCE_FILE;
 use crate::statements::statement;
-use crate::vocabulary::Keywords;
+use squawk_keywords::{Keywords, KeywordsError};
 use squawk_parser::{
     EntryPoint, Grammar, ParseWholeError, Parser, Sent, StepSink, SyntaxKind, Token, TokenSet,
     WholeGrammar, Words, parse_whole_into, token_set,
@@ -73,16 +72,21 @@ impl<'n> WholeGrammar for Selects<'n> {
     ghost leaves_whole = { λ _ _ _ _ _ left. left };
 }
 
+/// The keywords as a vocabulary. A text is one of them in whatever case its letters are.
+pub fn vocabulary(alloc: Global) -> Result<Keywords<'static>, KeywordsError> {
+    Keywords::ignoring_case(alloc, &KEYWORDS, &[])
+}
+
 /// Sends the tree of a text with these raw tokens to a sink.
 pub fn send<S: StepSink>(
     alloc: Global,
     text: &str,
     tokens: &[Token],
+    keywords: &Keywords<'_>,
     names: &[(SyntaxKind, &str)],
     sink: &mut S,
 ) -> Result<Sent, ParseWholeError<S::Refusal>> {
-    let keywords = Keywords::ignoring_case(&KEYWORDS);
     let selects = Selects { names };
     let entry = EntryPoint::SourceFile;
-    parse_whole_into(alloc, text, tokens, &keywords, &selects, entry, sink)
+    parse_whole_into(alloc, text, tokens, keywords, &selects, entry, sink)
 }

@@ -1,7 +1,7 @@
 //! Texts, with what is sent for them.
 
 use crate::kinds::NAMES;
-use crate::send;
+use crate::{send, vocabulary};
 use squawk_parser::{Base, LiteralKind, OwnedStep, StepList, Token, TokenKind};
 use std::alloc::{AllocError, Global};
 use std::fmt::Write;
@@ -69,7 +69,8 @@ fn line_of(alloc: Global, steps: &[OwnedStep]) -> Result<String, AllocError> {
 fn assert_sent(rt: &(impl Abort + AllocGlobal), text: &str, wanted: &str) -> Result<(), Fail> {
     let tokens = tokens_of(rt.alloc(), text)?;
     let mut list = StepList::new(rt.alloc());
-    let sent = send(rt.alloc(), text, &tokens, &NAMES, &mut list)?;
+    let keywords = vocabulary(rt.alloc())?;
+    let sent = send(rt.alloc(), text, &tokens, &keywords, &NAMES, &mut list)?;
     assert!(rt; sent.all);
     let line = line_of(rt.alloc(), list.steps())?;
     assert_eq!(rt; line.as_str(), wanted);
@@ -128,7 +129,8 @@ fn send_nested(alloc: Global, depth: u32, is_closed: bool) -> Result<StepList, F
     }
     let tokens = tokens_of(alloc, text.as_str())?;
     let mut list = StepList::new(alloc);
-    send(alloc, text.as_str(), &tokens, &NAMES, &mut list)?;
+    let keywords = vocabulary(alloc)?;
+    send(alloc, text.as_str(), &tokens, &keywords, &NAMES, &mut list)?;
     Ok(list)
 }
 

@@ -11,9 +11,6 @@ use Rattle.squawk_keywords.proofs.KeywordPairLemmas.{slice_get-at}
 use denote.Ref.{Bor}
 
 module _ (words : List (Bor (List ℕ) × ℕ)) (i : ℕ) (word : Bor (List ℕ) × ℕ) (within : i < length words) (is : word ≡ get_or words i word) where
-  pair : List ℕ × ℕ
-  pair = (word.0.now, word.1)
-
   inside : i < length (pairs_of words)
   inside = omega (arith, length-map {B = List ℕ × ℕ} words (λ one. (one.0.now, one.1)))
 

@@ -13,11 +13,6 @@ use Rattle.std.proofs.lemmas.Cmp.{nat_list_cmp_total, same_from_slice_cmp}
 abbrev pub order_from : ℕ → List ℕ → List ℕ → Ordering
 order_from i one other = slice_cmp nat_cmp (map to_ascii_lowercase (drop i one)) (map to_ascii_lowercase (drop i other))
 
--- the byte there decides, unless it is the same
-pub order_from-next : (i : ℕ) (one other : List ℕ) → i < length one → i < length other
-    → order_from i one other ≡ ordering_then (nat_cmp (to_ascii_lowercase (get_or one i 0)) (to_ascii_lowercase (get_or other i 0))) (order_from (i + 1) one other)
-order_from-next i one other within within_other = rw (add-one, drop-cons one i 0, drop-cons other i 0) refl
-
 -- where one of them ends, the lengths decide
 pub order_from-end : (i : ℕ) (one other : List ℕ) → i ≡ min (length one) (length other) → order_from i one other ≡ nat_cmp (length one) (length other)
 order_from-end zero [] [] is = refl

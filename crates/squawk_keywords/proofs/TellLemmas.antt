@@ -63,13 +63,6 @@ pub tell_next : (ignores_case : Bool) (words more : List (Bor (List ℕ) × ℕ)
 tell_next ignores_case words more word slots kept is so text answer tells =
     ap (λ all. kind_by ignores_case (pairs_of all) text) is ∙ kind_by-more ignores_case words word text ∙ so text answer tells
 
--- before the first word
-pub tell_none : (ignores_case : Bool) (slots : List ℕ) (kept : List (List ℕ × ℕ)) → ((text : List ℕ) → told slots kept text ≡ Some None)
-    → TellOf ignores_case (kind_by ignores_case (pairs_of [])) slots kept
-tell_none ignores_case slots kept free text answer tells =
-    let p : Some None ≡ Some answer = sym (free (compared ignores_case text)) ∙ tells in
-    cc
-
 -- ---- what is told of a text
 
 pub told-is : (ignores_case : Bool) (kind_of : Keywords) (slots : List ℕ) (words : List (List ℕ × ℕ)) (text : List ℕ) (result : Option (Option ℕ)) → TellOf ignores_case kind_of slots words

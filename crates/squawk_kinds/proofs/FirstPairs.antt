@@ -26,11 +26,6 @@ names_of = map (λ pair. (pair.0, pair.1.now))
 abbrev pub first_from : Pairs → ℕ → ℕ → ℕ
 first_from pairs place kind = place + first_place (names_of (drop place pairs)) kind
 
--- there are none from the end on
-pub first_from-end : (pairs : Pairs) (place kind : ℕ) → place ≡ length pairs → first_from pairs place kind ≡ length pairs
-first_from-end pairs place kind end =
-    ap (λ rest. place + first_place (names_of rest) kind) (drop_all place pairs (omega (arith, end))) ∙ (add-zero place ∙ end)
-
 -- the pair at the place is one of the kind
 pub first_from-here : (pairs : Pairs) (place kind : ℕ) (pair : Pair) → place < length pairs → ((get_or pairs place pair).0 == kind) ≡ true → first_from pairs place kind ≡ place
 first_from-here pairs place kind pair within same =
