@@ -1,5 +1,5 @@
 //! Slots that words take, by which most texts are told at once.
-ghost use Rattle.std.specs.Prelude.{◌≡◌, ◌≢◌, ℕ, ◌+◌, ◌<◌, ◌≤◌, List, [], length, Option, Some, None, IfOk, IfSome, vec_capacity, vec_len, if◌then◌else◌};
+ghost use Rattle.std.specs.Prelude.{◌≡◌, ◌≢◌, ℕ, ◌+◌, ◌<◌, ◌≤◌, List, [], length, min, Option, Some, None, IfOk, IfSome, vec_capacity, vec_len, if◌then◌else◌};
 ghost use Rattle.std.specs.Option.{option_or};
 ghost use Rattle.std.specs.Str.{bytes_eq};
 ghost use Rattle.squawk_kinds.specs.Keywords.{Keywords as KindsOfTexts};
@@ -51,7 +51,8 @@ impl WordSlots {
 
     /// All slots are free, and there is room for this many words.
     fn with_room(alloc: Global, words: usize) -> Result<WordSlots, AllocError>
-        ensures { IfOk result (λ slots. (text : List ℕ) → told slots.slots.items slots.words.items text ≡ Some None) }
+        ensures free { IfOk result (λ slots. (text : List ℕ) → told slots.slots.items slots.words.items text ≡ Some None) }
+        ensures room { IfOk result (λ slots. vec_capacity slots.words ≡ min words 2048) }
     {
         Ok(WordSlots {
             slots: vec![in alloc; 0; 2048]?,
