@@ -40,10 +40,10 @@ module _ {a b : State} {depth : ℕ} where
   item_token other puts number rest within there = HasRead-one INT_NUMBER refl there (bump_puts INT_NUMBER (kind_seen a there) (λ is. absurd (omega (arith, is))) puts)
   item_token other puts (list items) rest within there = absurd (other (kind_there a there))
 
-  pub item_list : (deeper : ℕ) → depth ≤ 1 + deeper → kind_at a 0 ≡ L_PAREN → ((items : Items) (rest : List ℕ) → deepest items ≤ deeper → Reads (kinds_of (list items)) rest a b) → ReadsItem depth kinds_of a b
-  item_list deeper room is reads name rest within there = absurd (omega (arith, is, kind_there a there))
-  item_list deeper room is reads number rest within there = absurd (omega (arith, is, kind_there a there))
-  item_list deeper room is reads (list items) rest within there = reads items rest (omega (arith, within, room)) there
+  pub item_list : {deeper : ℕ} → kind_at a 0 ≡ L_PAREN → ((items : Items) (rest : List ℕ) → deepest items ≤ deeper → Reads (kinds_of (list items)) rest a b) → depth ≤ 1 + deeper → ReadsItem depth kinds_of a b
+  item_list is reads room name rest within there = absurd (omega (arith, is, kind_there a there))
+  item_list is reads room number rest within there = absurd (omega (arith, is, kind_there a there))
+  item_list is reads room (list items) rest within there = reads items rest (omega (arith, within, room)) there
 
   pub item_deep : depth ≡ 0 → kind_at a 0 ≡ L_PAREN → ReadsItem depth kinds_of a b
   item_deep no_depth is name rest within there = absurd (omega (arith, is, kind_there a there))

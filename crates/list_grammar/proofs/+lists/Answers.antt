@@ -1,4 +1,4 @@
-use Rattle.std.proofs.Common.{◌≡◌, ◌≢◌, ◌-◌, ◌++◌, ◌∷◌, [], true, false, arith}
+use Rattle.std.proofs.Common.{◌≡◌, ◌≢◌, ◌++◌, ◌∷◌, [], true, false, arith}
 use Rattle.squawk_kinds.specs.Kinds.{IDENT, INT_NUMBER, L_PAREN, R_PAREN}
 use Rattle.squawk_parser.specs.State.{kind_at}
 use Rattle.squawk_parser.proofs.RecordedSteps.{node_puts, puts-none, puts-then}
@@ -43,7 +43,7 @@ item-returns-in-IDENT-clause-reads t c =
 pub item-returns-in-L_PAREN-clause-reads : goal.item-returns-in-L_PAREN-clause-reads
 item-returns-in-L_PAREN-clause-reads t c =
     let is : kind_at c.args.p.now 0 ≡ L_PAREN = grind arith in
-    item_list (c.args.depth - 1) (omega arith) is c.list.ensures.reads
+    item_list is c.list.ensures.reads (omega arith)
 
 pub item-returns-in-L_PAREN-2-clause-reads : goal.item-returns-in-L_PAREN-2-clause-reads
 item-returns-in-L_PAREN-2-clause-reads t c =
