@@ -29,3 +29,5 @@ mod names;
 mod sets;
 #[cfg(test)]
 mod sinks;
+#[cfg(test)]
+mod skips;
