@@ -20,9 +20,6 @@ pub record Closing (old now : State) (unclosed : ℕ) : Type 0 where
   pub all : up_to_close 1 (kinds_in (ahead old 0)) ≡ done ++ up_to_close unclosed (kinds_in (ahead now 0))
   pub few : unclosed ≤ now.position
 
-pub closing-none : {a : State} → IsSound a → 0 < a.position → Closing a a 1
-closing-none {a} sound some = record { done = []; puts = puts-none a sound; all = refl; few = some }
-
 next : (unclosed kind : ℕ) (kinds : List ℕ) → 0 < unclosed → up_to_close unclosed (kind ∷ kinds) ≡ kind ∷ up_to_close (unclosed_behind unclosed kind) kinds
 next zero kind kinds some = absurd (omega arith)
 next (suc unclosed) kind kinds some = refl

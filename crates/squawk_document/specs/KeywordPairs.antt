@@ -56,10 +56,6 @@ pub record VocabularyAnswers : Type 0 where
 abbrev pub answers_of : Lists → VocabularyAnswers
 answers_of lists = record { keywords = list_answers lists.keywords; contextual = list_answers lists.contextual }
 
--- what is read, as what it answers
-abbrev pub list_answered : Result (List (List ℕ × ℕ)) DocumentError → Result ListAnswers DocumentError
-list_answered reading = reading >>= λ pairs. Ok (list_answers pairs)
-
 -- what is read of both lists, as what they answer
 abbrev pub answered : Result Lists DocumentError → Result VocabularyAnswers DocumentError
 answered reading = reading >>= λ lists. Ok (answers_of lists)
