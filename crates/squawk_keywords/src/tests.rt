@@ -1,6 +1,7 @@
 //! Looks of vocabularies that were worked out by hand, and of long lists.
 //!
-//! These tests also pass where one allocation is refused: so each is asked for at most twice.
+//! The first two tests also pass where one allocation is refused: so each is asked for at most twice. Without memory
+//! for its slots a vocabulary answers the same.
 
 use crate::{Classes, Keywords, KeywordsError};
 use squawk_kinds::{SyntaxKind, TokenSet, Vocabulary};
