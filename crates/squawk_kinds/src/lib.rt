@@ -5,12 +5,14 @@
 
 pub mod classes;
 mod constants;
+pub mod kind_names;
 pub mod no_keywords;
 pub mod syntax_kind;
 pub mod token_set;
 pub mod vocabulary;
 
 pub use classes::{is_col_name_keyword, is_reserved_keyword, is_type_func_name_keyword};
+pub use kind_names::{ENGINE_KINDS, ENGINE_NAMES};
 pub use no_keywords::NoKeywords;
 pub use syntax_kind::SyntaxKind;
 pub use token_set::TokenSet;
