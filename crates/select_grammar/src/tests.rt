@@ -2,7 +2,9 @@
 
 use crate::kinds::NAMES;
 use crate::{send, vocabulary};
-use squawk_parser::{Base, LiteralKind, OwnedStep, StepList, Token, TokenKind};
+use squawk_parser::{
+    Base, LiteralKind, OwnedStep, StepList, StepSink, StrStep, SyntaxKind, Token, TokenKind,
+};
 use std::alloc::{AllocError, Global};
 use std::fmt::Write;
 use std::process::Abort;
@@ -99,25 +101,44 @@ fn grammar_goes_on_behind_what_is_skipped(rt: HostRuntime) -> Result<(), Fail> {
 #[test]
 fn missing_parenthesis_is_seen_in_the_last_item(rt: HostRuntime) -> Result<(), Fail> {
     let wanted =
-        "700{701{200:select _702{707{9:( 705{3:a !9 expected );}}}_703{83:from _705{3:t }}5:; }}";
+        "700{701{200:select _702{707{9:( 705{3:a !9 expected R_PAREN;}}}_703{83:from _705{3:t }}5:; }}";
     assert_sent(&rt, "select (a from t;", wanted)
 }
 
-/// How many errors with this text the steps have.
-fn errors_of(steps: &[OwnedStep], text: &str) -> usize {
-    let mut errors: usize = 0;
-    for step in steps {
-        if let OwnedStep::Error { msg, pos: _ } = step {
-            if msg.as_str() == text {
-                errors = errors.saturating_add(1);
-            }
-        }
-    }
-    errors
+/// A sink that counts errors: those of too deep a nesting, and missing ends of lists.
+#[derive(Drop)]
+struct Counts {
+    too_deep: usize,
+    missing_ends: usize,
+    last: SyntaxKind,
 }
 
-/// Sends `select` with so many opening parentheses, and as many closing ones or none, to a list.
-fn send_nested(alloc: Global, depth: u32, is_closed: bool) -> Result<StepList, Fail> {
+impl StepSink for Counts {
+    type Refusal = AllocError;
+
+    ghost stands_after = { λ _ _. Unit {0} };
+
+    ghost refuses = { λ _ _ _. Unit {0} };
+
+    fn step(&mut self, step: StrStep<'_>) -> Result<(), AllocError> {
+        match step {
+            StrStep::Token { kind, text: _ } | StrStep::Enter { kind } => self.last = kind,
+            StrStep::Exit => {}
+            StrStep::Error { msg, pos: _ } => {
+                if msg == "nested too deep" {
+                    self.too_deep = self.too_deep.saturating_add(1);
+                }
+                if msg == "expected R_PAREN" {
+                    self.missing_ends = self.missing_ends.saturating_add(1);
+                }
+            }
+        }
+        Ok(())
+    }
+}
+
+/// Sends `select` with so many opening parentheses, and as many closing ones or none.
+fn send_nested(alloc: Global, depth: u32, is_closed: bool) -> Result<Counts, Fail> {
     let mut text = String::from_str(alloc, "select ")?;
     for _ in 0..depth {
         text.push('(')?;
@@ -128,24 +149,35 @@ fn send_nested(alloc: Global, depth: u32, is_closed: bool) -> Result<StepList, F
         }
     }
     let tokens = tokens_of(alloc, text.as_str())?;
-    let mut list = StepList::new(alloc);
+    let mut counts = Counts {
+        too_deep: 0,
+        missing_ends: 0,
+        last: SyntaxKind::EOF,
+    };
     let keywords = vocabulary(alloc)?;
-    send(alloc, text.as_str(), &tokens, &keywords, &NAMES, &mut list)?;
-    Ok(list)
+    send(
+        alloc,
+        text.as_str(),
+        &tokens,
+        &keywords,
+        &NAMES,
+        &mut counts,
+    )?;
+    Ok(counts)
 }
 
 #[test]
 fn million_parentheses_are_parsed(rt: HostRuntime) -> Result<(), Fail> {
-    let list = send_nested(rt.alloc(), 1_000_000, false)?;
-    assert_eq!(rt; errors_of(list.steps(), "nested too deep"), 1);
+    let counts = send_nested(rt.alloc(), 1_000_000, false)?;
+    assert_eq!(rt; counts.too_deep, 1);
     Ok(())
 }
 
 #[test]
 fn what_is_too_deep_is_one_error(rt: HostRuntime) -> Result<(), Fail> {
-    let list = send_nested(rt.alloc(), 600, true)?;
-    assert_eq!(rt; errors_of(list.steps(), "nested too deep"), 1);
+    let counts = send_nested(rt.alloc(), 600, true)?;
+    assert_eq!(rt; counts.too_deep, 1);
     // Each list that is not too deep has its end.
-    assert_eq!(rt; errors_of(list.steps(), "expected )"), 0);
+    assert_eq!(rt; counts.missing_ends, 0);
     Ok(())
 }

@@ -2,33 +2,13 @@
 ghost use Rattle.std.specs.Prelude.{◌≡◌};
 ghost use Rattle.squawk_kinds.specs.Constants.{constants};
 
-use crate::SyntaxKind;
-
-/// The constants of these names.
-macro_rules! kinds {
-    ($($name:ident)*) => { [$(SyntaxKind::$name),*] };
-}
+use crate::{SyntaxKind, kind_names};
 
 impl SyntaxKind {
     /// Each kind that has a constant, once, in the order of their numbers.
-    #[rattlefmt::skip]
     pub fn constants() -> [SyntaxKind; 105]
         ensures { result ≡ constants }
     {
-        kinds![
-            EOF TOMBSTONE ERROR IDENT COMMENT SEMICOLON COMMA DOT DOT_DOT L_PAREN R_PAREN L_BRACK
-            R_BRACK L_CURLY R_CURLY AT POUND TILDE QUESTION COLON EQ BANG L_ANGLE R_ANGLE MINUS AMP
-            PIPE PLUS STAR SLASH CARET PERCENT BACKTICK INT_NUMBER NUMERIC_NUMBER STRING
-            NATIONAL_STRING BYTE_STRING BIT_STRING DOLLAR_QUOTED_STRING UNICODE_ESC_STRING
-            ESC_STRING POSITIONAL_PARAM PSQL_COMMAND_TEXT PSQL_TERMINATOR_TEXT COLON_EQ NEQ NEQB
-            LTEQ FAT_ARROW LESS_LESS GREATER_GREATER GTEQ LONG_ARROW SIMILAR_KW TO_KW AT_KW TIME_KW
-            ZONE_KW LOCAL_KW IS_KW NOT_KW NFC_KW NFD_KW NFKC_KW NFKD_KW NORMALIZED_KW JSON_KW
-            OBJECT_KW ARRAY_KW VALUE_KW SCALAR_KW DISTINCT_KW FROM_KW OPERATOR_KW LIKE_KW ILIKE_KW
-            IN_KW WHITESPACE SIMILAR_TO AT_TIME_ZONE AT_LOCAL IS_NOT_NORMALIZED IS_NORMALIZED
-            COLON_COLON IS_JSON IS_NOT_JSON IS_NOT_JSON_OBJECT IS_NOT_JSON_ARRAY IS_NOT_JSON_VALUE
-            IS_NOT_JSON_SCALAR IS_JSON_OBJECT IS_JSON_ARRAY IS_JSON_VALUE IS_JSON_SCALAR
-            NOT_SIMILAR_TO IS_NOT_DISTINCT_FROM OPERATOR_CALL IS_DISTINCT_FROM NOT_LIKE NOT_ILIKE
-            NOT_IN IS_NOT CUSTOM_OP UNICODE_NORMAL_FORM
-        ]
+        kind_names!(@listed kinds)
     }
 }
