@@ -108,7 +108,7 @@ pub use parser::{
 pub use pipeline::errors::{ParseIntoError, ParseWholeError};
 pub use pipeline::{Sent, parse_into, parse_whole_into};
 pub use squawk_kinds::{
-    ENGINE_KINDS, ENGINE_NAMES, NoKeywords, SyntaxKind, TokenSet, Vocabulary, classes,
+    ENGINE_KINDS, ENGINE_NAMES, KindNames, NoKeywords, SyntaxKind, TokenSet, Vocabulary, classes,
     is_col_name_keyword, is_reserved_keyword, is_type_func_name_keyword, kind_names, no_keywords,
     syntax_kind, token_set, vocabulary,
 };
