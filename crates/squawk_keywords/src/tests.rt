@@ -1,7 +1,7 @@
 //! Looks of vocabularies that were worked out by hand, and of long lists.
 //!
-//! The first two tests also pass where one allocation is refused: so each is asked for at most twice. Without memory
-//! for its slots a vocabulary answers the same.
+//! The tests of texts and of sets also pass where one allocation is refused: so each vocabulary is asked for at most
+//! twice. Without memory for its slots it answers the same.
 
 use crate::{Classes, Keywords, KeywordsError};
 use squawk_kinds::{SyntaxKind, TokenSet, Vocabulary};
