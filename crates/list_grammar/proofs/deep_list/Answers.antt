@@ -5,8 +5,8 @@ use Rattle.list_grammar.proofs.deep_list.Goals as goal
 
 pub complete-requires-clause-hole : goal.complete-requires-clause-hole
 complete-requires-clause-hole c =
-    hole-put c.start-node.result c.start-node.ensures.hole (puts-then c.error.ensures (puts-then c.bump_any.ensures.puts c.up_to_close.ensures))
+    hole-put c.start-node.result c.start-node.ensures.hole (puts-then c.error.ensures.puts (puts-then c.bump_any.ensures.puts c.up_to_close.ensures))
 
 pub returns-clause-puts : goal.returns-clause-puts
 returns-clause-puts c =
-    deep_puts c.requires c.start-node.ensures.begins c.error.ensures c.bump_any.ensures.puts c.up_to_close.ensures c.complete.ensures.completes
+    deep_puts c.requires c.start-node.ensures.begins c.error.ensures.puts c.bump_any.ensures.puts c.up_to_close.ensures c.complete.ensures.completes
