@@ -17,6 +17,6 @@ returns-clause-forest c = λ forest stands.
     let same = ap (λ drawing. length drawing.lines) c.self.view_is in
     let end : drop c.loop-line.line-index tree.lines ≡ [] = drop_all c.loop-line.line-index tree.lines (omega (arith, same, ap length c.deref-line-items.ensures.value)) in
     let written = sym (append-nil (string_bytes c.loop-line.text))
-        ∙ (ap (λ rest. string_bytes c.loop-line.text ++ lines_text c.loop-line.names tree.texts [] rest) (sym end) ∙ c.loop-line.invariant.written) in
+    ∙ (ap (λ rest. string_bytes c.loop-line.text ++ lines_text c.loop-line.names tree.texts [] rest) (sym end) ∙ c.loop-line.invariant.written) in
     written ∙ (ap (λ names. lines_text names tree.texts [] tree.lines) (c.loop-line.invariant.same ∙ c.new-names.ensures)
     ∙ (lines_text-stands tree names (forest_steps forest) stands ∙ tree_text-forest names forest))
