@@ -1,5 +1,7 @@
 //! Tokens that are skipped up to a kind of a set.
 
+ghost use Rattle.squawk_parser.specs.SomeSteps.{AddsSome};
+
 use row_fixtures::keywords::NO_KEYWORDS;
 use row_fixtures::kinds::ROOT;
 use row_fixtures::lexer::tokens_of;
@@ -32,10 +34,8 @@ impl Grammar for Skipping {
 
     fn entry_point(&self, p: &mut Parser<'_>) -> Result<(), AllocError> {
         let root = p.start();
-        p.skip_to(SIGNS, "e");
-        p.bump_any();
-        p.skip_to(SIGNS, "f");
-        p.bump_any();
+        skipped_and_sign(p, "e");
+        skipped_and_sign(p, "f");
         p.skip_to(SIGNS, "g");
         root.complete(p, SyntaxKind::from(ROOT));
         Ok(())
@@ -44,6 +44,14 @@ impl Grammar for Skipping {
     fn plpgsql_entry_point(&self, p: &mut Parser<'_>) -> Result<(), AllocError> {
         self.entry_point(p)
     }
+}
+
+/// Tokens that are skipped, and the sign behind them.
+fn skipped_and_sign(p: &mut Parser<'_>, message: &str)
+    ensures { AddsSome p.old p.new }
+{
+    p.skip_to(SIGNS, message);
+    p.bump_any();
 }
 
 #[test]
