@@ -1,6 +1,6 @@
 //! The numbers of syntax kinds.
 
-use squawk_parser::{ENGINE_NAMES, SyntaxKind, kind_names};
+use squawk_parser::SyntaxKind;
 use std::hash::{DefaultHasher, Hash, Hasher};
 use std::process::Abort;
 
@@ -47,29 +47,4 @@ fn white_space_and_comments_are_trivia(rt: HostRuntime) {
     assert!(rt; SyntaxKind::COMMENT.is_trivia());
     assert!(rt; !SyntaxKind::EOF.is_trivia());
     assert!(rt; !SyntaxKind::IDENT.is_trivia());
-}
-
-#[test]
-fn engine_names_are_those_of_the_constants(rt: HostRuntime) {
-    let constants = SyntaxKind::constants();
-    let mut numbers = constants.iter();
-    for (kind, _name) in &ENGINE_NAMES {
-        assert_eq!(rt; numbers.next(), Some(kind));
-    }
-    assert_eq!(rt; numbers.next(), None);
-    for (kind, name) in [
-        (SyntaxKind::EOF, "EOF"),
-        (SyntaxKind::SEMICOLON, "SEMICOLON"),
-        (SyntaxKind::UNICODE_NORMAL_FORM, "UNICODE_NORMAL_FORM"),
-    ] {
-        assert!(rt; ENGINE_NAMES.contains(&(kind, name)), "{name}");
-    }
-}
-
-#[test]
-fn own_names_stand_behind_the_engine_s(rt: HostRuntime) {
-    let names = kind_names![(SyntaxKind(700), "ROOT")];
-    assert_eq!(rt; names.len(), ENGINE_NAMES.len().saturating_add(1));
-    assert_eq!(rt; names.first(), Some(&(SyntaxKind::EOF, "EOF")));
-    assert_eq!(rt; names.last(), Some(&(SyntaxKind(700), "ROOT")));
 }

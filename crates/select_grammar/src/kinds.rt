@@ -1,6 +1,6 @@
 //! The kinds of the grammar, and their names.
 
-use squawk_parser::{ENGINE_KINDS, SyntaxKind, kind_names};
+use squawk_parser::SyntaxKind;
 
 pub const SELECT_KW: SyntaxKind = SyntaxKind(200);
 
@@ -34,22 +34,10 @@ pub const BIN_EXPR: SyntaxKind = SyntaxKind(708);
 
 pub const NOT_EXPR: SyntaxKind = SyntaxKind(709);
 
-/// The names of kinds: of the engine's, and of the grammar's own.
-pub const NAMES: [(SyntaxKind, &str); ENGINE_KINDS + 16] = kind_names![
-    (SELECT_KW, "SELECT_KW"),
-    (WHERE_KW, "WHERE_KW"),
-    (AND_KW, "AND_KW"),
-    (OR_KW, "OR_KW"),
-    (AS_KW, "AS_KW"),
-    (NULL_KW, "NULL_KW"),
-    (SOURCE_FILE, "SOURCE_FILE"),
-    (SELECT, "SELECT"),
-    (ITEM, "ITEM"),
-    (FROM_CLAUSE, "FROM_CLAUSE"),
-    (WHERE_CLAUSE, "WHERE_CLAUSE"),
-    (NAME_REF, "NAME_REF"),
-    (LITERAL, "LITERAL"),
-    (LIST, "LIST"),
-    (BIN_EXPR, "BIN_EXPR"),
-    (NOT_EXPR, "NOT_EXPR"),
+/// What errors call the kinds that are expected.
+pub const NAMES: [(SyntaxKind, &str); 4] = [
+    (SyntaxKind::FROM_KW, "FROM"),
+    (SyntaxKind::SEMICOLON, ";"),
+    (SyntaxKind::R_PAREN, ")"),
+    (SyntaxKind::IDENT, "a name"),
 ];

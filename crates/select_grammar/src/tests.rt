@@ -101,7 +101,7 @@ fn grammar_goes_on_behind_what_is_skipped(rt: HostRuntime) -> Result<(), Fail> {
 #[test]
 fn missing_parenthesis_is_seen_in_the_last_item(rt: HostRuntime) -> Result<(), Fail> {
     let wanted =
-        "700{701{200:select _702{707{9:( 705{3:a !9 expected R_PAREN;}}}_703{83:from _705{3:t }}5:; }}";
+        "700{701{200:select _702{707{9:( 705{3:a !9 expected );}}}_703{83:from _705{3:t }}5:; }}";
     assert_sent(&rt, "select (a from t;", wanted)
 }
 
@@ -128,7 +128,7 @@ impl StepSink for Counts {
                 if msg == "nested too deep" {
                     self.too_deep = self.too_deep.saturating_add(1);
                 }
-                if msg == "expected R_PAREN" {
+                if msg == "expected )" {
                     self.missing_ends = self.missing_ends.saturating_add(1);
                 }
             }
