@@ -6,25 +6,25 @@ use Rattle.squawk_output.specs.declared.output.stored.StoredStep.TheVariants.{To
 
 -- ---- a step and its word
 
--- a word that is no error's: from below a 1, three zeros, four bits of a tag, eight of a count, and sixteen of a kind
+-- a word that is no error's: from below eight bits of a tag, eight of a count, and sixteen of a kind
 abbrev pub odd_word : ℕ → ℕ → ℕ → ℕ
-odd_word kind count tag = 65536 * kind + 256 * count + 16 * tag + 1
+odd_word kind count tag = 65536 * kind + 256 * count + tag
 
--- The word of a step. A token has tag 0, an opening 1, a closing 2; an error has twice its number.
+-- The word of a step. A token has tag 1, an opening 17, a closing 33; an error has twice its number.
 abbrev pub packed : StoredStep → ℕ
-packed (Token kind n) = odd_word kind n 0
-packed (Enter kind) = odd_word kind 0 1
-packed Exit = odd_word 0 0 2
+packed (Token kind n) = odd_word kind n 1
+packed (Enter kind) = odd_word kind 0 17
+packed Exit = odd_word 0 0 33
 packed (Error number) = 2 * number
 
--- the step of an odd word by its tag
-abbrev pub unpacked_odd : ℕ → ℕ → StoredStep
-unpacked_odd word tag =
-    if tag == 0 then Token (word / 65536) (word / 256 % 256) else (if tag == 1 then Enter (word / 65536) else Exit)
+-- the step of an odd word that is no token's
+abbrev pub edge : ℕ → StoredStep
+edge word = if word / 16 % 2 == 1 then Enter (word / 65536) else Exit
 
 -- the step of a word
 abbrev pub unpacked : ℕ → StoredStep
-unpacked word = if word % 2 == 0 then Error (word / 2) else unpacked_odd word (word / 16 % 16)
+unpacked word =
+    if word % 64 == 1 then Token (word / 65536) (word / 256 % 256) else (if word % 2 == 0 then Error (word / 2) else edge word)
 
 -- a step that fits into a word: kinds have 16 bits and counts 8, and an error's number is below 2147483648
 abbrev pub FitsWord : StoredStep → Type 0

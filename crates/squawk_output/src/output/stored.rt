@@ -7,11 +7,13 @@ use crate::output::step::Step;
 use crate::output::text::Text;
 use squawk_kinds::SyntaxKind;
 
-const TOKEN: u32 = 0;
+const TOKEN: u32 = 0x01;
 
-const ENTER: u32 = 1;
+/// [`enters`] reads bit 4, which it alone has.
+const ENTER: u32 = 0x11;
 
-const EXIT: u32 = 2;
+/// [`leaves`] reads bit 5, which it alone has.
+const EXIT: u32 = 0x21;
 
 /// A step whose text, if it is an error, is kept elsewhere.
 #[derive(Clone, Copy, Debug)]
@@ -33,9 +35,8 @@ pub(crate) enum StoredStep {
 impl StoredStep {
     /// The step as a word.
     ///
-    /// An even word is twice an error's number. An odd one has 1 in its lowest four bits, and above
-    /// them four bits that tell a token, the beginning of a node, or its end; eight with the number of
-    /// input tokens; and sixteen with the kind.
+    /// An even word is twice an error's number. An odd one has [`TOKEN`], [`ENTER`] or [`EXIT`] in its
+    /// lowest eight bits; above them eight with the number of input tokens, and sixteen with the kind.
     #[inline(always)]
     pub(crate) fn pack(self) -> u32
         requires { FitsWord self }
@@ -48,7 +49,7 @@ impl StoredStep {
                 n_input_tokens,
             } => odd_word(kind, n_input_tokens, TOKEN),
             StoredStep::Enter { kind } => odd_word(kind, 0, ENTER),
-            StoredStep::Exit => (EXIT << 4) + 1,
+            StoredStep::Exit => EXIT,
             StoredStep::Error { number } => number * 2,
         }
     }
@@ -58,16 +59,16 @@ impl StoredStep {
     pub(crate) fn unpack(word: u32) -> StoredStep
         ensures { result ≡ unpacked word }
     {
-        if word % 2 == 0 {
-            return StoredStep::Error { number: word / 2 };
-        }
         let kind = SyntaxKind::from((word >> 16) as u16);
-        match (word >> 4) % 16 {
-            TOKEN => StoredStep::Token {
+        if word % 64 == TOKEN {
+            return StoredStep::Token {
                 kind,
                 n_input_tokens: ((word >> 8) % 256) as u8,
-            },
-            ENTER => StoredStep::Enter { kind },
+            };
+        }
+        match word % 2 {
+            0 => StoredStep::Error { number: word / 2 },
+            _ if (word >> 4) % 2 == 1 => StoredStep::Enter { kind },
             _ => StoredStep::Exit,
         }
     }
@@ -104,7 +105,7 @@ impl StoredStep {
     }
 }
 
-/// How many nodes the step of a word enters: the lowest bit of [`ENTER`].
+/// How many nodes the step of a word enters.
 #[inline(always)]
 pub(crate) fn enters(word: u32) -> u32
     requires word { IsWord word }
@@ -114,7 +115,7 @@ pub(crate) fn enters(word: u32) -> u32
     (word >> 4) % 2
 }
 
-/// How many nodes it leaves: the second bit, which [`EXIT`] alone has.
+/// How many nodes it leaves.
 #[inline(always)]
 pub(crate) fn leaves(word: u32) -> u32
     requires word { IsWord word }
@@ -127,8 +128,8 @@ pub(crate) fn leaves(word: u32) -> u32
 /// The word of a step that is no error.
 #[inline(always)]
 fn odd_word(kind: SyntaxKind, n_input_tokens: u8, tag: u32) -> u32
-    requires { tag < 16 }
+    requires { tag < 256 }
     ensures { result ≡ odd_word kind n_input_tokens tag }
 {
-    (u32::from(u16::from(kind)) << 16) + (u32::from(n_input_tokens) << 8) + (tag << 4) + 1
+    (u32::from(u16::from(kind)) << 16) + (u32::from(n_input_tokens) << 8) + tag
 }
