@@ -1,4 +1,4 @@
-//! The kinds of the grammar, and their names.
+//! The kinds of the grammar, its keywords, and what errors call the kinds.
 
 use squawk_parser::SyntaxKind;
 
@@ -33,6 +33,22 @@ pub const LIST: SyntaxKind = SyntaxKind(707);
 pub const BIN_EXPR: SyntaxKind = SyntaxKind(708);
 
 pub const NOT_EXPR: SyntaxKind = SyntaxKind(709);
+
+/// The keywords with their kinds.
+pub const KEYWORDS: [(&str, SyntaxKind); 12] = [
+    ("and", AND_KW),
+    ("as", AS_KW),
+    ("distinct", SyntaxKind::DISTINCT_KW),
+    ("from", SyntaxKind::FROM_KW),
+    ("in", SyntaxKind::IN_KW),
+    ("is", SyntaxKind::IS_KW),
+    ("like", SyntaxKind::LIKE_KW),
+    ("not", SyntaxKind::NOT_KW),
+    ("null", NULL_KW),
+    ("or", OR_KW),
+    ("select", SELECT_KW),
+    ("where", WHERE_KW),
+];
 
 /// What errors call the kinds that are expected.
 pub const NAMES: [(SyntaxKind, &str); 4] = [

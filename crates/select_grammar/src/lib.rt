@@ -2,14 +2,12 @@
 #![tactic(auto)]
 
 mod expressions;
-pub mod keywords;
 pub mod kinds;
 mod statements;
 #[cfg(test)]
 mod tests;
 
-use crate::keywords::KEYWORDS;
-use crate::kinds::SOURCE_FILE;
+use crate::kinds::{KEYWORDS, SOURCE_FILE};
 use crate::statements::statement;
 use squawk_keywords::{Keywords, KeywordsError};
 use squawk_parser::{

@@ -2,6 +2,7 @@
 use Rattle.std.proofs.Common.{◌≡◌, ℕ, ◌<◌, ◌≤◌, ◌&&◌, List, [], ◌∷◌, Bool, true, false, cond, Option, Some, None, zero, suc, length, get_or, not, filter, inl, inr, ◌⊎◌, refl, sym, ap, ◌∙◌, arith}
 use Rattle.std.specs.Prelude.{slice_get}
 use Rattle.std.specs.Cmp.Lexicographic.{slice_cmp}
+use Rattle.std.specs.Bool.{then_some}
 use Rattle.std.specs.List.Sorted.{IsNonDecreasingBy, IsPartitionPoint, IsPartitionedBy, IsStableBy, ties}
 use Rattle.std.specs.Ordering.{is_eq, is_lt, nat_cmp, ordering_index}
 use Rattle.std.specs.declared.cmp.Ordering.{Ordering}
@@ -171,13 +172,18 @@ module _ (ignores_case : Bool) where
       → kind_by ignores_case (pairs_of words) text ≡ found text (slice_get words at)
   kind_by-found words at text ordered point = found-at text at words (rises text words ordered) (λ k d lt _. point.0 k d (omega arith) lt) (λ k d le lt. point.1 k d le lt)
 
+then_some-cond : (test : Bool) (kind : ℕ) → then_some test kind ≡ cond test (Some kind) None
+then_some-cond true kind = refl
+then_some-cond false kind = refl
+
 module _ (ignores_case : Bool) (words : List Word) (text : List ℕ) (at : ℕ) (ordered : IsInOrder ignores_case words)
     (point : IsPartitionPoint (λ word. is_before ignores_case text word ≡ true) (λ word. is_before ignores_case text word ≡ false) words at) where
   -- what the word at the place tells
   pub kind_by-at : (word : Word) (test : Bool) → at < length words → ((d : Word) → word ≡ get_or words at d)
-      → test ≡ is_eq (slice_cmp nat_cmp (compared ignores_case word.0.now) (compared ignores_case text)) → cond test (Some word.1) None ≡ kind_by ignores_case (pairs_of words) text
+      → test ≡ is_eq (slice_cmp nat_cmp (compared ignores_case word.0.now) (compared ignores_case text)) → then_some test word.1 ≡ kind_by ignores_case (pairs_of words) text
   kind_by-at word test within is tests =
-      ap (λ same. cond same (Some word.1) None) (tests ∙ is_eq-same (compared ignores_case word.0.now) (compared ignores_case text))
+      then_some-cond test word.1
+      ∙ ap (λ same. cond same (Some word.1) None) (tests ∙ is_eq-same (compared ignores_case word.0.now) (compared ignores_case text))
       ∙ ap (found ignores_case text) (sym (slice_get-at words at word within is))
       ∙ sym (kind_by-found ignores_case words at text ordered point)
 

@@ -27,12 +27,6 @@ pub fn look_up(ignores_case: bool, words: &[(&str, SyntaxKind)], text: &str) -> 
     ensures { result ≡ kind_by ignores_case (pairs_of words.now) text.now }
 {
     let at = words.partition_point(|word| order(ignores_case, word.0, text).is_lt());
-    let Some((word, kind)) = words.get(at) else {
-        return None;
-    };
-    if order(ignores_case, word, text).is_eq() {
-        Some(*kind)
-    } else {
-        None
-    }
+    let (word, kind) = words.get(at)?;
+    order(ignores_case, word, text).is_eq().then_some(*kind)
 }
