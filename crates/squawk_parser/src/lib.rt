@@ -105,8 +105,12 @@ pub use parser::{
     CompletedMarker, EntryPoint, Grammar, Limits, Marker, ParseError, Parser, Part, WholeGrammar,
     Words, has_tail,
 };
-pub use pipeline::errors::{ParseIntoError, ParseWholeError};
-pub use pipeline::{Sent, parse_into, parse_whole_into};
+pub use pipeline::errors::{
+    ParseAcceptedError, ParseAcceptedWholeError, ParseIntoError, ParseWholeError,
+};
+pub use pipeline::{
+    Sent, parse_accepted_into, parse_accepted_whole_into, parse_into, parse_whole_into,
+};
 pub use squawk_kinds::{
     ENGINE_KINDS, ENGINE_NAMES, KindNames, NoKeywords, SyntaxKind, TokenSet, Vocabulary, classes,
     is_col_name_keyword, is_reserved_keyword, is_type_func_name_keyword, kind_names, no_keywords,
