@@ -72,7 +72,8 @@ pub fn parse_whole_into<V: Vocabulary, G: WholeGrammar, S: StepSink>(
     Ok(parse_accepted_whole_into(alloc, text, tokens, vocabulary, grammar, entry, sink)?)
 }
 
-/// [`parse_into`] for raw tokens that are known to be accepted: nothing is checked again.
+/// [`parse_into`] of raw tokens that are known to be accepted, as those of a lexer that promises it: they
+/// aren't checked.
 pub fn parse_accepted_into<V: Vocabulary, G: Grammar, S: StepSink>(
     alloc: Global,
     text: &str,
@@ -99,7 +100,7 @@ pub fn parse_accepted_into<V: Vocabulary, G: Grammar, S: StepSink>(
     }
 }
 
-/// [`parse_whole_into`] for raw tokens that are known to be accepted: nothing is checked again.
+/// [`parse_whole_into`] of raw tokens that are known to be accepted: they aren't checked.
 pub fn parse_accepted_whole_into<V: Vocabulary, G: WholeGrammar, S: StepSink>(
     alloc: Global,
     text: &str,

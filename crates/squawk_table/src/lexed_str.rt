@@ -57,6 +57,8 @@ impl<'a> LexedStr<'a> {
     }
 
     /// The table of tokens that are known to be accepted, as those of a lexer that promises it.
+    ///
+    /// It checks nothing, so only memory may be refused.
     pub fn from_accepted<V: Vocabulary>(
         alloc: Global,
         text: &'a str,
