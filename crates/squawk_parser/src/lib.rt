@@ -107,9 +107,7 @@ pub use parser::{
     CompletedMarker, EntryPoint, Grammar, Limits, Marker, ParseError, Parser, Part, WholeGrammar,
     Words, has_tail,
 };
-pub use pipeline::errors::{
-    ParseAcceptedError, ParseAcceptedWholeError, ParseIntoError, ParseWholeError,
-};
+pub use pipeline::errors::{ParseIntoError, ParseWholeError};
 pub use pipeline::{
     Sent, parse_accepted_into, parse_accepted_whole_into, parse_into, parse_whole_into,
 };

@@ -5,12 +5,12 @@ ghost use Rattle.squawk_table.specs.ParserInput.{input_of};
 ghost use Rattle.squawk_table.specs.Shape.{Fits, IsOver, no_keywords};
 ghost use Rattle.squawk_table.specs.Sent.{StopsWithin, sent_list};
 ghost use Rattle.squawk_table.specs.declared.shortcuts.str_step.OwnedStep.{OwnedStep};
-ghost use Rattle.squawk_parser.specs.Pipeline.{IsNotParsed, IsParsed, IsParsedInto, IsRefusal, IsSent, asking, checking, checking_whole, given, table_for};
+ghost use Rattle.squawk_parser.specs.Pipeline.{IsNotParsed, IsParsed, IsParsedInto, IsRefusal, IsSent, asking, given, table_for};
 
 pub mod errors;
 
 use crate::parser::{EntryPoint, Grammar, WholeGrammar};
-use errors::{ParseAcceptedError, ParseAcceptedWholeError, ParseIntoError, ParseWholeError};
+use errors::{ParseIntoError, ParseWholeError};
 use squawk_kinds::Vocabulary;
 use squawk_output::Output;
 use squawk_table::{LexedStr, StepSink, Token, check_tokens};
@@ -48,7 +48,7 @@ pub fn parse_into<V: Vocabulary, G: Grammar, S: StepSink>(
         (S.stands_after sink.old) (S.stands_after sink.new) S.refuses (sink.new ≡ sink.old)) }
 {
     check_tokens(text, tokens)?;
-    Ok(parse_accepted_into(alloc, text, tokens, vocabulary, grammar, entry, sink)?)
+    parse_accepted_into(alloc, text, tokens, vocabulary, grammar, entry, sink)
 }
 
 /// The same by a grammar that always leaves one node over all tokens: all of the text is sent.
@@ -69,7 +69,7 @@ pub fn parse_whole_into<V: Vocabulary, G: WholeGrammar, S: StepSink>(
         (S.stands_after sink.old) (S.stands_after sink.new) S.refuses (sink.new ≡ sink.old) (asking reason)) }
 {
     check_tokens(text, tokens)?;
-    Ok(parse_accepted_whole_into(alloc, text, tokens, vocabulary, grammar, entry, sink)?)
+    parse_accepted_whole_into(alloc, text, tokens, vocabulary, grammar, entry, sink)
 }
 
 /// [`parse_into`] of raw tokens that are known to be accepted, as those of a lexer that promises it: they
@@ -82,21 +82,21 @@ pub fn parse_accepted_into<V: Vocabulary, G: Grammar, S: StepSink>(
     grammar: &G,
     entry: EntryPoint,
     sink: &mut S,
-) -> Result<Sent, ParseAcceptedError<S::Refusal>>
+) -> Result<Sent, ParseIntoError<S::Refusal>>
     requires { AreAcceptedTokens text.now tokens.now }
     ensures sent { let g = given (V.keyword vocabulary.now) (V.contextual_keyword vocabulary.now) text.now tokens.now in
         IfOk result (IsParsedInto g (G.leaves grammar.now entry) (S.stands_after sink.old) (S.stands_after sink.new)) }
     ensures refused { let g = given (V.keyword vocabulary.now) (V.contextual_keyword vocabulary.now) text.now tokens.now in
-        IfErr result (λ reason. IsRefusal g (G.leaves grammar.now entry) (G.runs grammar.now entry) (G.meaning grammar.now)
-        (S.stands_after sink.old) (S.stands_after sink.new) S.refuses (sink.new ≡ sink.old) (checking reason)) }
+        IfErr result (IsRefusal g (G.leaves grammar.now entry) (G.runs grammar.now entry) (G.meaning grammar.now)
+        (S.stands_after sink.old) (S.stands_after sink.new) S.refuses (sink.new ≡ sink.old)) }
 {
     let parsed = Parsed::new(alloc, text, tokens, vocabulary, grammar, entry)?;
     if !parsed.output.stands_in_one_root() {
-        return Err(ParseAcceptedError::NoRoot);
+        return Err(ParseIntoError::NoRoot);
     }
     match parsed.send(sink) {
         Ok(sent) => Ok(sent),
-        Err(answer) => Err(ParseAcceptedError::Sink(answer)),
+        Err(answer) => Err(ParseIntoError::Sink(answer)),
     }
 }
 
@@ -109,19 +109,19 @@ pub fn parse_accepted_whole_into<V: Vocabulary, G: WholeGrammar, S: StepSink>(
     grammar: &G,
     entry: EntryPoint,
     sink: &mut S,
-) -> Result<Sent, ParseAcceptedWholeError<S::Refusal>>
+) -> Result<Sent, ParseWholeError<S::Refusal>>
     requires { AreAcceptedTokens text.now tokens.now }
     ensures sent { let g = given (V.keyword vocabulary.now) (V.contextual_keyword vocabulary.now) text.now tokens.now in
         IfOk result (IsParsedInto g (G.leaves grammar.now entry) (S.stands_after sink.old) (S.stands_after sink.new)) }
     ensures all { IfOk result (λ sent. sent.all ≡ true) }
     ensures refused { let g = given (V.keyword vocabulary.now) (V.contextual_keyword vocabulary.now) text.now tokens.now in
         IfErr result (λ reason. IsRefusal g (G.leaves grammar.now entry) (G.runs grammar.now entry) (G.meaning grammar.now)
-        (S.stands_after sink.old) (S.stands_after sink.new) S.refuses (sink.new ≡ sink.old) (asking (checking_whole reason))) }
+        (S.stands_after sink.old) (S.stands_after sink.new) S.refuses (sink.new ≡ sink.old) (asking reason)) }
 {
     let parsed = Parsed::new(alloc, text, tokens, vocabulary, grammar, entry)?;
     match parsed.send(sink) {
         Ok(sent) => Ok(sent),
-        Err(answer) => Err(ParseAcceptedWholeError::Sink(answer)),
+        Err(answer) => Err(ParseWholeError::Sink(answer)),
     }
 }
 
@@ -141,17 +141,17 @@ impl<'a> Parsed<'a> {
         vocabulary: &V,
         grammar: &G,
         entry: EntryPoint,
-    ) -> Result<Parsed<'a>, ParseAcceptedWholeError<R>>
+    ) -> Result<Parsed<'a>, ParseWholeError<R>>
         requires { AreAcceptedTokens text.now tokens.now }
         ensures parsed { let g = given (V.keyword vocabulary.now) (V.contextual_keyword vocabulary.now) text.now tokens.now in
             IfOk result (λ parsed. (parsed.table ≡ table_for g) × IsParsed g (G.leaves grammar.now entry) parsed.output) }
         ensures over { IfOk result (λ parsed. IsOver parsed.output.steps (input_of no_keywords parsed.table)) }
         ensures refused { let g = given (V.keyword vocabulary.now) (V.contextual_keyword vocabulary.now) text.now tokens.now in
-            IfErr result (λ reason. IsNotParsed g (G.runs grammar.now entry) (G.meaning grammar.now) (checking_whole reason)) }
+            IfErr result (IsNotParsed g (G.runs grammar.now entry) (G.meaning grammar.now)) }
     {
         let table = match LexedStr::from_accepted(alloc, text, tokens, vocabulary) {
             Ok(table) => table,
-            Err(reason) => return Err(ParseAcceptedWholeError::Table(reason)),
+            Err(reason) => return Err(ParseWholeError::Table(reason.into())),
         };
         let input = table.to_input(alloc, vocabulary)?;
         let output = entry.parse(alloc, &input, grammar)?;
