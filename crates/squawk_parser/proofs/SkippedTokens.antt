@@ -1,12 +1,12 @@
 -- Tokens are skipped one after another.
-use Rattle.std.proofs.Common.{◌≡◌, ◌≢◌, ◌∙◌, ℕ, ◌+◌, ◌<◌, ◌==◌, ◌||◌, Bool, true, false, List, [], ◌∷◌, ◌++◌, take, drop, map, arith, ap, sym, refl, subst, append_assoc}
+use Rattle.std.proofs.Common.{◌≡◌, ◌≢◌, ◌∙◌, ℕ, ◌+◌, ◌==◌, ◌||◌, Bool, true, false, List, [], ◌∷◌, ◌++◌, take, drop, ap, sym, refl, subst, append_assoc}
 use Rattle.std.proofs.lemmas.List.{append-nil, map-append}
 use Rattle.std.proofs.lemmas.Bool.{eq-eqb, ne_eqb}
 use Rattle.std.proofs.lemmas.List.Elements.{All-drop, All-head, All-take}
 use Rattle.squawk_kinds.specs.Kinds.{EOF, ERROR}
 use Rattle.squawk_table.specs.ParserInput.{Entry, HasNoEndToken, kind_in}
 use Rattle.squawk_output.specs.Draft.{Mark}
-use Rattle.squawk_output.specs.Steps.{Step, Error}
+use Rattle.squawk_output.specs.Steps.{Error}
 use Rattle.squawk_parser.specs.Eaten.{current_as, node, one}
 use Rattle.squawk_parser.specs.Recorded.{Begins, Completes, Puts}
 use Rattle.squawk_parser.specs.Skipped.{before_stop, one_by_one, skip_steps}

@@ -40,6 +40,16 @@ impl<R: fmt::Display> fmt::Display for ParseIntoError<R> {
 
 impl<R: Error> Error for ParseIntoError<R> {}
 
+impl<R> From<TableError> for ParseIntoError<R> {
+    ghost use Rattle.squawk_parser.specs.declared.pipeline.errors.ParseIntoError.TheVariants.{Table};
+
+    ghost from_gives = { λ reason error. error ≡ Table reason };
+
+    fn from(reason: TableError) -> ParseIntoError<R> {
+        ParseIntoError::Table(reason)
+    }
+}
+
 impl<R> From<ParseWholeError<R>> for ParseIntoError<R> {
     ghost use Rattle.squawk_parser.specs.Pipeline.{asking};
 
