@@ -4,3 +4,4 @@ pub mod TokenSets
 pub mod Keywords
 pub mod KindNames
 pub mod FirstPlaces
+pub mod EngineNames

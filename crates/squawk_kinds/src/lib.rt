@@ -13,7 +13,7 @@ pub mod token_set;
 pub mod vocabulary;
 
 pub use classes::{is_col_name_keyword, is_reserved_keyword, is_type_func_name_keyword};
-pub use engine_names::{ENGINE_KINDS, ENGINE_NAMES};
+pub use engine_names::with_engine_names;
 pub use kind_names::KindNames;
 pub use no_keywords::NoKeywords;
 pub use syntax_kind::SyntaxKind;

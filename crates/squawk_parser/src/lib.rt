@@ -112,9 +112,9 @@ pub use pipeline::{
     Sent, parse_accepted_into, parse_accepted_whole_into, parse_into, parse_whole_into,
 };
 pub use squawk_kinds::{
-    ENGINE_KINDS, ENGINE_NAMES, KindNames, NoKeywords, SyntaxKind, TokenSet, Vocabulary, classes,
-    is_col_name_keyword, is_reserved_keyword, is_type_func_name_keyword, kind_names, no_keywords,
-    syntax_kind, token_set, vocabulary,
+    KindNames, NoKeywords, SyntaxKind, TokenSet, Vocabulary, classes, is_col_name_keyword,
+    is_reserved_keyword, is_type_func_name_keyword, no_keywords, syntax_kind, token_set,
+    vocabulary, with_engine_names,
 };
 pub use squawk_output::{Event, Output, Step, Steps, Text, event, output, process};
 pub use squawk_table::{

@@ -2,7 +2,7 @@
 
 use super::{assert_case, assert_tree};
 use crate::cases::{EXPECTED_NAME, EXPECTED_NUMBER};
-use squawk_parser::{StepSink, StrStep, SyntaxKind};
+use squawk_parser::{StepSink, StrStep, SyntaxKind, with_engine_names};
 use squawk_tree::TreeText;
 use std::process::Abort;
 
@@ -61,4 +61,26 @@ fn tree_shows_names_and_numbers(rt: HostRuntime) {
     let without_the_last =
         "SEMICOLON@0..1 \"a\"\n7@1..2 \"a\"\nKW_200@2..3 \"a\"\nKW_215@3..4 \"a\"\n65535@4..5 \"a\"\n";
     assert_tree(&rt, &tree, &NAMES[..20], without_the_last);
+}
+
+/// The names of the engine's kinds, and these behind them.
+fn engine_names_and<'n>(
+    rt: &(impl Abort + AllocGlobal),
+    own: &[(SyntaxKind, &'n str)],
+) -> Vec<(SyntaxKind, &'n str)> {
+    for _ in 0..2 {
+        if let Ok(names) = with_engine_names(rt.alloc(), own) {
+            return names;
+        }
+    }
+    panic!(rt; "memory is wanting twice")
+}
+
+#[test]
+fn own_names_stand_behind_those_of_the_engine(rt: HostRuntime) {
+    let own = [(SyntaxKind(200), "ABORT_KW")];
+    let names = engine_names_and(&rt, &own);
+    assert_eq!(rt; names.len(), 106);
+    assert_eq!(rt; names[5], (SyntaxKind::SEMICOLON, "SEMICOLON"));
+    assert_eq!(rt; names[105], own[0]);
 }
