@@ -8,7 +8,7 @@ use crate::clauses::{QUERY_WORDS, Query, clause_kind, query_at, query_in};
 use crate::composites::token;
 use crate::cut::Body;
 use crate::inside::Inside;
-use crate::statement_kinds::statement_kind;
+use crate::statement_kinds::kind_of;
 use sql_words::SqlKind;
 use squawk_parser::{Parser, SyntaxKind};
 
@@ -215,7 +215,7 @@ fn statement(p: &mut Parser<'_>, inside: Inside, depth: u32)
     ensures adds { AddsSome p.old p.new }
     ensures eats { p.old.position < p.new.position }
 {
-    let kind = statement_kind(p);
+    let kind = kind_of(p);
     let node = p.start();
     statement_tokens(p, query_in(kind), inside, depth);
     node.complete(p, kind);

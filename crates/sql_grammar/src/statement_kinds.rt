@@ -1,55 +1,50 @@
 //! Which kind of statement begins with which word.
 ghost use Rattle.std.specs.Prelude.{◌≡◌, ◌≢◌};
 ghost use Rattle.squawk_kinds.specs.Kinds.{TOMBSTONE};
+ghost use Rattle.squawk_table.specs.ParserInput.{kinds_in};
+ghost use Rattle.squawk_parser.specs.State.{ahead};
+ghost use Rattle.sql_grammar.specs.Statements.{first_word, kind_for, kind_of};
 
 use sql_words::SqlKind;
 use squawk_parser::{Parser, SyntaxKind};
 
+/// The numbers of these kinds, in pairs.
+macro_rules! numbers {
+    ($($word:ident $kind:ident),*) => { [$((SqlKind::$word.0, SqlKind::$kind.0)),*] };
+}
+
 /// The first words of statements, each with the kind of the statement.
 #[rattlefmt::skip]
-pub(crate) const STATEMENTS: [(SyntaxKind, SyntaxKind); 53] = [
-    (SqlKind::SELECT_KW, SqlKind::SELECT), (SqlKind::WITH_KW, SqlKind::SELECT),
-    (SqlKind::VALUES_KW, SqlKind::SELECT), (SqlKind::TABLE_KW, SqlKind::SELECT),
-    (SqlKind::INSERT_KW, SqlKind::INSERT), (SqlKind::UPDATE_KW, SqlKind::UPDATE),
-    (SqlKind::DELETE_KW, SqlKind::DELETE), (SqlKind::MERGE_KW, SqlKind::MERGE),
-    (SqlKind::CREATE_KW, SqlKind::CREATE), (SqlKind::ALTER_KW, SqlKind::ALTER),
-    (SqlKind::DROP_KW, SqlKind::DROP), (SqlKind::TRUNCATE_KW, SqlKind::TRUNCATE),
-    (SqlKind::COMMENT_KW, SqlKind::COMMENT_ON), (SqlKind::SECURITY_KW, SqlKind::SECURITY_LABEL),
-    (SqlKind::IMPORT_KW, SqlKind::IMPORT_FOREIGN_SCHEMA), (SqlKind::REASSIGN_KW, SqlKind::REASSIGN),
-    (SqlKind::REFRESH_KW, SqlKind::REFRESH), (SqlKind::REINDEX_KW, SqlKind::REINDEX),
-    (SqlKind::CLUSTER_KW, SqlKind::CLUSTER), (SqlKind::VACUUM_KW, SqlKind::VACUUM),
-    (SqlKind::ANALYZE_KW, SqlKind::ANALYZE), (SqlKind::ANALYSE_KW, SqlKind::ANALYZE),
-    (SqlKind::GRANT_KW, SqlKind::GRANT), (SqlKind::REVOKE_KW, SqlKind::REVOKE),
-    (SqlKind::BEGIN_KW, SqlKind::BEGIN), (SqlKind::START_KW, SqlKind::BEGIN),
-    (SqlKind::COMMIT_KW, SqlKind::COMMIT), (SqlKind::END_KW, SqlKind::COMMIT),
-    (SqlKind::ROLLBACK_KW, SqlKind::ROLLBACK), (SqlKind::ABORT_KW, SqlKind::ROLLBACK),
-    (SqlKind::SAVEPOINT_KW, SqlKind::SAVEPOINT), (SqlKind::RELEASE_KW, SqlKind::RELEASE_SAVEPOINT),
-    (SqlKind::LOCK_KW, SqlKind::LOCK), (SqlKind::SET_KW, SqlKind::SET),
-    (SqlKind::RESET_KW, SqlKind::RESET), (SqlKind::SHOW_KW, SqlKind::SHOW),
-    (SqlKind::DISCARD_KW, SqlKind::DISCARD), (SqlKind::LOAD_KW, SqlKind::LOAD),
-    (SqlKind::CHECKPOINT_KW, SqlKind::CHECKPOINT), (SqlKind::LISTEN_KW, SqlKind::LISTEN),
-    (SqlKind::NOTIFY_KW, SqlKind::NOTIFY), (SqlKind::UNLISTEN_KW, SqlKind::UNLISTEN),
-    (SqlKind::COPY_KW, SqlKind::COPY), (SqlKind::CALL_KW, SqlKind::CALL),
-    (SqlKind::DO_KW, SqlKind::DO), (SqlKind::EXPLAIN_KW, SqlKind::EXPLAIN),
-    (SqlKind::PREPARE_KW, SqlKind::PREPARE), (SqlKind::EXECUTE_KW, SqlKind::EXECUTE),
-    (SqlKind::DEALLOCATE_KW, SqlKind::DEALLOCATE), (SqlKind::DECLARE_KW, SqlKind::DECLARE),
-    (SqlKind::FETCH_KW, SqlKind::FETCH), (SqlKind::MOVE_KW, SqlKind::MOVE),
-    (SqlKind::CLOSE_KW, SqlKind::CLOSE),
+const STATEMENTS: [(u16, u16); 53] = numbers![
+    SELECT_KW SELECT, WITH_KW SELECT, VALUES_KW SELECT, TABLE_KW SELECT, INSERT_KW INSERT,
+    UPDATE_KW UPDATE, DELETE_KW DELETE, MERGE_KW MERGE, CREATE_KW CREATE, ALTER_KW ALTER, DROP_KW DROP,
+    TRUNCATE_KW TRUNCATE, COMMENT_KW COMMENT_ON, SECURITY_KW SECURITY_LABEL,
+    IMPORT_KW IMPORT_FOREIGN_SCHEMA, REASSIGN_KW REASSIGN, REFRESH_KW REFRESH, REINDEX_KW REINDEX,
+    CLUSTER_KW CLUSTER, VACUUM_KW VACUUM, ANALYZE_KW ANALYZE, ANALYSE_KW ANALYZE, GRANT_KW GRANT,
+    REVOKE_KW REVOKE, BEGIN_KW BEGIN, START_KW BEGIN, COMMIT_KW COMMIT, END_KW COMMIT,
+    ROLLBACK_KW ROLLBACK, ABORT_KW ROLLBACK, SAVEPOINT_KW SAVEPOINT, RELEASE_KW RELEASE_SAVEPOINT,
+    LOCK_KW LOCK, SET_KW SET, RESET_KW RESET, SHOW_KW SHOW, DISCARD_KW DISCARD, LOAD_KW LOAD,
+    CHECKPOINT_KW CHECKPOINT, LISTEN_KW LISTEN, NOTIFY_KW NOTIFY, UNLISTEN_KW UNLISTEN, COPY_KW COPY,
+    CALL_KW CALL, DO_KW DO, EXPLAIN_KW EXPLAIN, PREPARE_KW PREPARE, EXECUTE_KW EXECUTE,
+    DEALLOCATE_KW DEALLOCATE, DECLARE_KW DECLARE, FETCH_KW FETCH, MOVE_KW MOVE, CLOSE_KW CLOSE
 ];
 
 /// The kind of the statement at the position: a command of psql is one by itself, and the others are told
 /// by their first word, which may stand in parentheses.
-pub(crate) fn statement_kind(p: &Parser<'_>) -> SyntaxKind
+pub(crate) fn kind_of(p: &Parser<'_>) -> SyntaxKind
+    ensures is { result ≡ kind_of (kinds_in (ahead p.now 0)) }
     ensures kind { result ≢ TOMBSTONE }
 {
     match p.current() {
         SyntaxKind::PSQL_COMMAND_TEXT | SyntaxKind::PSQL_TERMINATOR_TEXT => SqlKind::PSQL_COMMAND,
-        _ => kind_by_word(first_word(p)),
+        _ => kind_for(first_word(p), &STATEMENTS),
     }
 }
 
 /// The first kind behind opening parentheses.
-fn first_word(p: &Parser<'_>) -> SyntaxKind {
+fn first_word(p: &Parser<'_>) -> SyntaxKind
+    ensures { result ≡ first_word (kinds_in (ahead p.now 0)) }
+{
     // The position shows that so many can be counted.
     let _ = p.position();
     let mut parens = 0usize;
@@ -59,13 +54,13 @@ fn first_word(p: &Parser<'_>) -> SyntaxKind {
     p.nth(parens)
 }
 
-/// The kind of a statement with this first word.
-fn kind_by_word(word: SyntaxKind) -> SyntaxKind
-    ensures { result ≢ TOMBSTONE }
+/// The kind for a word in a table.
+fn kind_for(word: SyntaxKind, table: &[(u16, u16)]) -> SyntaxKind
+    ensures { result ≡ kind_for word table.now }
 {
-    for (first, kind) in &STATEMENTS {
-        if *first == word {
-            return *kind;
+    for (first, kind) in table {
+        if *first == word.0 {
+            return SyntaxKind(*kind);
         }
     }
     SqlKind::STATEMENT

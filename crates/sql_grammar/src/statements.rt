@@ -5,10 +5,10 @@ ghost use Rattle.squawk_parser.specs.SomeSteps.{AddsSome};
 ghost use Rattle.squawk_parser.specs.State.{kind_at};
 
 use crate::clauses::{Query, query_in};
-use crate::cut::{body_of, statement_len};
+use crate::cut::{body_of, len_of};
 use crate::elements::{DEPTH, content};
 use crate::inside::Inside;
-use crate::statement_kinds::statement_kind;
+use crate::statement_kinds::kind_of;
 use squawk_parser::{Parser, Part, SyntaxKind};
 
 /// A statement with what ends it, or a command of psql.
@@ -17,9 +17,9 @@ pub(crate) fn statement(p: &mut Parser<'_>)
     ensures adds { AddsSome p.old p.new }
     ensures eats { p.old.position < p.new.position }
 {
-    let kind = statement_kind(p);
+    let kind = kind_of(p);
     let body = body_of(p);
-    let len = statement_len(p, body);
+    let len = len_of(p, body);
     let node = p.start();
     let content = StatementContent {
         query: query_in(kind),
