@@ -91,7 +91,7 @@ module _ (rows : List Keyword) (are : rows_in rows ≡ table) where
 
     -- one name more
     pub name-next : (items : List (ℕ × Bor (List ℕ))) (i : ℕ) (d : Keyword) (e : Bor (List ℕ)) → i < length rows → names_of items ≡ take i keyword_names
-      → names_of (items ++ ((get_or rows i d).kind, get_or names i e) ∷ []) ≡ take (i + 1) keyword_names
+        → names_of (items ++ ((get_or rows i d).kind, get_or names i e) ∷ []) ≡ take (i + 1) keyword_names
     name-next items i d e within so_far =
         let named : ℕ × List ℕ = ((get_or rows i d).kind, (get_or names i e).now) in
         map-append {B = ℕ × List ℕ} (λ pair. (pair.0, pair.1.now)) items (((get_or rows i d).kind, get_or names i e) ∷ [])

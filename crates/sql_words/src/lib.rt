@@ -11,3 +11,6 @@ mod sql_vocabulary;
 pub use kind_names::names;
 pub use kinds::SqlKind;
 pub use sql_vocabulary::vocabulary;
+
+#[cfg(test)]
+mod tests;
