@@ -1,0 +1,7 @@
+pub mod Places
+pub mod QuoteEnds
+pub mod CommentEnds
+pub mod TagEnds
+pub mod DigitRuns
+pub mod Choices
+pub mod CutTokens

@@ -1,0 +1,78 @@
+//! The classes of bytes.
+ghost use Rattle.std.specs.Prelude.{◌≡◌};
+ghost use Rattle.sql_lexer.specs.Bytes as spec;
+
+/// What a byte is in an identifier. Each class but the first two has more places there than the one
+/// before it.
+#[derive(Clone, Copy)]
+enum Class {
+    Other,
+    Space,
+    /// An identifier goes on with it.
+    Dollar,
+    /// The tag of a dollar quote goes on with it, too.
+    Digit,
+    /// Both begin with it, too.
+    Letter,
+}
+
+const O: Class = Class::Other;
+
+const S: Class = Class::Space;
+
+const D: Class = Class::Dollar;
+
+const N: Class = Class::Digit;
+
+const L: Class = Class::Letter;
+
+static CLASSES: [Class; 256] = [
+    O, O, O, O, O, O, O, O, O, S, S, S, S, S, O, O, O, O, O, O, O, O, O, O, O, O, O, O, O, O, O, O,
+    S, O, O, O, D, O, O, O, O, O, O, O, O, O, O, O, N, N, N, N, N, N, N, N, N, N, O, O, O, O, O, O,
+    O, L, L, L, L, L, L, L, L, L, L, L, L, L, L, L, L, L, L, L, L, L, L, L, L, L, L, O, O, O, O, L,
+    O, L, L, L, L, L, L, L, L, L, L, L, L, L, L, L, L, L, L, L, L, L, L, L, L, L, L, O, O, O, O, O,
+    L, L, L, L, L, L, L, L, L, L, L, L, L, L, L, L, L, L, L, L, L, L, L, L, L, L, L, L, L, L, L, L,
+    L, L, L, L, L, L, L, L, L, L, L, L, L, L, L, L, L, L, L, L, L, L, L, L, L, L, L, L, L, L, L, L,
+    L, L, L, L, L, L, L, L, L, L, L, L, L, L, L, L, L, L, L, L, L, L, L, L, L, L, L, L, L, L, L, L,
+    L, L, L, L, L, L, L, L, L, L, L, L, L, L, L, L, L, L, L, L, L, L, L, L, L, L, L, L, L, L, L, L,
+];
+
+/// Tab, newline, vertical tab, form feed, carriage return and space.
+#[inline(always)]
+pub(crate) fn is_space(b: u8) -> bool
+    ensures { result ≡ spec.is_space b }
+{
+    CLASSES[b as usize] as u8 == Class::Space as u8
+}
+
+/// A line ends at a newline or a carriage return.
+#[inline(always)]
+pub(crate) fn is_line_end(b: u8) -> bool
+    ensures { result ≡ spec.is_line_end b }
+{
+    matches!(b, b'\n' | b'\r')
+}
+
+/// Whether an identifier begins with this byte.
+#[inline(always)]
+pub(crate) fn is_name_start(b: u8) -> bool
+    ensures { result ≡ spec.is_name_start b }
+{
+    CLASSES[b as usize] as u8 == Class::Letter as u8
+}
+
+/// Whether the tag of a dollar quote goes on with this byte.
+#[inline(always)]
+pub(crate) fn is_tag_part(b: u8) -> bool
+    ensures { result ≡ spec.is_tag_part b }
+{
+    CLASSES[b as usize] as u8 >= Class::Digit as u8
+}
+
+/// Whether an identifier goes on with this byte.
+#[inline(always)]
+pub(crate) fn is_name_part(b: u8) -> bool
+    ensures { result ≡ spec.is_name_part b }
+{
+    CLASSES[b as usize] as u8 >= Class::Dollar as u8
+}
