@@ -1,5 +1,5 @@
 -- Which rule is the first that fits, by the first byte.
-use Rattle.std.proofs.Common.{◌≡◌, ◌∙◌, ℕ, ◌==◌, ◌<◌, ◌&&◌, true, false, Bool, Option, Some, None, List, [], ◌∷◌, ◌++◌, length, get_or, ap, sym, refl, arith}
+use Rattle.std.proofs.Common.{◌≡◌, ◌∙◌, ℕ, ◌==◌, ◌<◌, true, false, Option, Some, None, List, [], ◌∷◌, ◌++◌, length, get_or, ap, sym, refl, arith}
 use Rattle.std.specs.Char.{is_ascii_digit, to_ascii_lowercase}
 use Rattle.std.specs.Option.{unwrap_or}
 use Rattle.std.proofs.lemmas.Bool.{ne_eqb, false≢true}
@@ -13,9 +13,9 @@ use Rattle.sql_lexer.specs.Signs.{whitespace, dot_dot, sign}
 use Rattle.sql_lexer.specs.Identifiers.{identifier}
 use Rattle.sql_lexer.specs.Comments.{line_comment, block_comment}
 use Rattle.sql_lexer.specs.Psql.{psql_command}
-use Rattle.sql_lexer.specs.Strings.{string, quoted_identifier, prefixed, escape_string, bit_string, byte_string, national_string, unicode_string, unicode_identifier}
+use Rattle.sql_lexer.specs.Strings.{string, quoted_identifier, prefixed}
 use Rattle.sql_lexer.specs.DollarQuotes.{dollar_quote}
-use Rattle.sql_lexer.specs.Numbers.{numbers, binary, octal, hexadecimal, decimal, parameter, point_number}
+use Rattle.sql_lexer.specs.Numbers.{numbers, parameter, point_number}
 use Rattle.sql_lexer.specs.Tokens.{rules, first_token}
 
 -- the token of the first rule that fits
@@ -23,13 +23,12 @@ chosen : (text : List ℕ) (found : Token) → Some found ≡ first_of rules tex
 chosen text found e = ap (λ o. unwrap_or o (sign (first text))) e
 
 -- none of these rules fits
-None_fits : List (List ℕ → Option Token) → List ℕ → Type 0
-None_fits [] text = Unit {0}
-None_fits (rule ∷ rules) text = (rule text ≡ None) × None_fits rules text
+abbrev NoneFits : List (List ℕ → Option Token) → List ℕ → Type 0
+NoneFits [] text = Unit {0}
+NoneFits (rule ∷ rules) text = (rule text ≡ None) × NoneFits rules text
 
 -- rules that don't fit are passed over
-passed : (front back : List (List ℕ → Option Token)) (text : List ℕ) → None_fits front text → first_of (front ++ back) text ≡ first_of back text
-unfolding None_fits
+passed : (front back : List (List ℕ → Option Token)) (text : List ℕ) → NoneFits front text → first_of (front ++ back) text ≡ first_of back text
 passed [] back text none = refl
 passed (rule ∷ front) back text none = ap (λ o. or_else o (first_of (front ++ back) text)) none.0 ∙ passed front back text none.1
 
@@ -58,7 +57,6 @@ no_letter : (b letter : ℕ) → is_name_start letter ≡ true → is_name_start
 no_letter b letter e other = grind (arith, nat_tests)
 
 no_prefixed : (b : ℕ) (rest : List ℕ) → is_name_start b ≡ false → first_of prefixed (b ∷ rest) ≡ None
-unfolding None_fits
 no_prefixed b rest e =
     let bits : (to_ascii_lowercase b == 98) ≡ false = no_letter b 98 refl e in
     let escapes : (to_ascii_lowercase b == 101) ≡ false = no_letter b 101 refl e in
@@ -77,7 +75,6 @@ no_dollar_quote : (b : ℕ) (rest : List ℕ) → (b == 36) ≡ false → dollar
 no_dollar_quote b rest e = rw e refl
 
 no_number : (b : ℕ) (rest : List ℕ) → is_ascii_digit b ≡ false → first_of numbers (b ∷ rest) ≡ None
-unfolding None_fits
 no_number b rest e =
     let zero_byte : (b == 48) ≡ false = grind (arith, nat_tests) in
     passed numbers [] (b ∷ rest) (rw zero_byte refl, (rw zero_byte refl, (rw zero_byte refl, (rw e refl, tt))))
@@ -95,7 +92,6 @@ stops : (x y z : Option Token) (found : Token) → y ≡ Some found → or_else 
 stops x y z found e = rw e refl
 
 name_choice : (b : ℕ) (rest : List ℕ) → is_name_start b ≡ true → first_of rules (b ∷ rest) ≡ or_else (first_of prefixed (b ∷ rest)) (identifier (b ∷ rest))
-unfolding None_fits
 name_choice b rest e =
     let text = b ∷ rest in
     let others = parameter ∷ dollar_quote ∷ first_of numbers ∷ point_number ∷ dot_dot ∷ [] in
@@ -129,7 +125,6 @@ found_first : (x y : Option Token) (found : Token) → Some found ≡ x → Some
 found_first x y found e = rw (sym e) refl
 
 number_choice : (b : ℕ) (rest : List ℕ) (found : Token) → is_ascii_digit b ≡ true → Some found ≡ first_of numbers (b ∷ rest) → Some found ≡ first_of rules (b ∷ rest)
-unfolding None_fits
 number_choice b rest found e same =
     let text = b ∷ rest in
     let others = point_number ∷ dot_dot ∷ [] in
@@ -144,9 +139,25 @@ number_choice b rest found e same =
     found_first (first_of numbers text) (first_of others text) found same
     ∙ sym (passed
     (whitespace ∷ line_comment ∷ block_comment ∷ psql_command ∷ string ∷ quoted_identifier ∷ first_of prefixed ∷ identifier ∷ parameter ∷ dollar_quote ∷ [])
-    (first_of numbers ∷ others) text
-    (no_space b rest space, (no_line_comment b rest dash, (no_block_comment b rest slash, (no_command b rest back, (no_string b rest quote, (no_quoted_identifier b rest double,
-    (no_prefixed b rest name, (no_identifier b rest name, (no_parameter b rest dollar, (no_dollar_quote b rest dollar, tt)))))))))))
+    (first_of numbers ∷ others) text (
+      no_space b rest space,
+      (
+        no_line_comment b rest dash,
+        (
+          no_block_comment b rest slash,
+          (
+            no_command b rest back,
+            (
+              no_string b rest quote,
+              (
+                no_quoted_identifier b rest double,
+                (no_prefixed b rest name, (no_identifier b rest name, (no_parameter b rest dollar, (no_dollar_quote b rest dollar, tt)))),
+              ),
+            ),
+          ),
+        ),
+      ),
+    ))
 
 pub number_chosen : (text : List ℕ) (found : Token) → is_ascii_digit (get_or text 0 0) ≡ true → Some found ≡ first_of numbers text → found ≡ first_token text
 number_chosen [] found e same = absurd (false≢true e)
@@ -161,13 +172,41 @@ no_byte b c other = ne_eqb c b (λ e. other (sym e))
 sign_choice : (b : ℕ) (rest : List ℕ) → is_name_start b ≡ false → is_space b ≡ false → is_ascii_digit b ≡ false
     → (b ≡ 39 → ⊥) → (b ≡ 34 → ⊥) → (b ≡ 45 → ⊥) → (b ≡ 47 → ⊥) → (b ≡ 92 → ⊥) → (b ≡ 36 → ⊥) → (b ≡ 46 → ⊥)
     → first_of rules (b ∷ rest) ≡ None
-unfolding None_fits
 sign_choice b rest name space digit quote double dash slash back dollar point =
-    passed rules [] (b ∷ rest)
-    (no_space b rest space, (no_line_comment b rest (no_byte b 45 dash), (no_block_comment b rest (no_byte b 47 slash), (no_command b rest (ne_eqb b 92 back),
-    (no_string b rest (ne_eqb b 39 quote), (no_quoted_identifier b rest (ne_eqb b 34 double), (no_prefixed b rest name, (no_identifier b rest name,
-    (no_parameter b rest (ne_eqb b 36 dollar), (no_dollar_quote b rest (ne_eqb b 36 dollar), (no_number b rest digit,
-    (no_point_number b rest (ne_eqb b 46 point), (no_points b rest (no_byte b 46 point), tt)))))))))))))
+    passed rules [] (b ∷ rest) (
+      no_space b rest space,
+      (
+        no_line_comment b rest (no_byte b 45 dash),
+        (
+          no_block_comment b rest (no_byte b 47 slash),
+          (
+            no_command b rest (ne_eqb b 92 back),
+            (
+              no_string b rest (ne_eqb b 39 quote),
+              (
+                no_quoted_identifier b rest (ne_eqb b 34 double),
+                (
+                  no_prefixed b rest name,
+                  (
+                    no_identifier b rest name,
+                    (
+                      no_parameter b rest (ne_eqb b 36 dollar),
+                      (
+                        no_dollar_quote b rest (ne_eqb b 36 dollar),
+                        (
+                          no_number b rest digit,
+                          (no_point_number b rest (ne_eqb b 46 point), (no_points b rest (no_byte b 46 point), tt)),
+                        ),
+                      ),
+                    ),
+                  ),
+                ),
+              ),
+            ),
+          ),
+        ),
+      ),
+    )
 
 pub sign_chosen : (text : List ℕ) → 0 < length text → is_name_start (get_or text 0 0) ≡ false → is_space (get_or text 0 0) ≡ false
     → is_ascii_digit (get_or text 0 0) ≡ false → (get_or text 0 0 ≡ 39 → ⊥) → (get_or text 0 0 ≡ 34 → ⊥) → (get_or text 0 0 ≡ 45 → ⊥)
@@ -176,3 +215,15 @@ pub sign_chosen : (text : List ℕ) → 0 < length text → is_name_start (get_o
 sign_chosen [] some name space digit quote double dash slash back dollar point = absurd (omega arith)
 sign_chosen (b ∷ rest) some name space digit quote double dash slash back dollar point =
     ap (λ o. unwrap_or o (sign b)) (sym (sign_choice b rest name space digit quote double dash slash back dollar point))
+
+-- ---- a byte that begins an identifier
+
+some_of_two : (x y : Option Token) (found : Token) → y ≡ Some found → or_else x y ≡ None → ⊥
+some_of_two None y found e none = (let both : Some found ≡ None = sym e ∙ none in cc)
+some_of_two (Some first) y found e none = (cc)
+
+pub name_fits_first : (text : List ℕ) → is_name_start (first text) ≡ true → first_of rules text ≡ None → ⊥
+name_fits_first [] e none = absurd (false≢true e)
+name_fits_first (b ∷ rest) e none =
+    let text = b ∷ rest in
+    some_of_two (first_of prefixed text) (identifier text) (token Ident (prefix_len is_name_part text)) (rw e refl) (sym (name_choice b rest e) ∙ none)

@@ -4,4 +4,11 @@ pub mod CommentEnds
 pub mod TagEnds
 pub mod DigitRuns
 pub mod Choices
+pub mod Boundaries
+pub mod Fits
+pub mod FoundEnds
+pub mod RunsFit
+pub mod ClosedFit
+pub mod NumbersFit
+pub mod FirstFits
 pub mod CutTokens

@@ -1,5 +1,5 @@
 -- Steps to the end of a quoted text.
-use Rattle.std.proofs.Common.{◌≡◌, ◌∙◌, ℕ, ◌+◌, ◌<◌, ◌≤◌, ◌==◌, true, false, Option, Some, None, List, [], ◌∷◌, length, drop, get_or, inl, inr, arith, ap, sym, refl}
+use Rattle.std.proofs.Common.{◌≡◌, ◌∙◌, ℕ, ◌+◌, ◌<◌, ◌≤◌, ◌==◌, true, false, Some, None, List, [], ◌∷◌, length, drop, get_or, inl, inr, arith, ap, sym, refl}
 use Rattle.std.specs.Prelude.{◌⊎◌, if◌then◌else◌}
 use Rattle.std.proofs.lemmas.List.{drop_more, drop_all}
 use Rattle.std.proofs.lemmas.Bool.{eq-eqb, ne_eqb}
@@ -47,7 +47,7 @@ escape_takes at text lt two =
     let c = get_or text (at + 1) 0 in
     let rest = drop (at + 2) text in
     let along : escape_end (b ∷ c ∷ rest) ≡ past 2 (escape_end rest) =
-        elim two [ inl e ↦ escaped b c rest (eq-eqb b 92 e) | inr both ↦ doubled_here b c rest both.0 both.1 ] in
+    elim two [ inl e ↦ escaped b c rest (eq-eqb b 92 e) | inr both ↦ doubled_here b c rest both.0 both.1 ] in
     moved at 2 (escape_end (drop at text)) (escape_end rest) (ap escape_end (two_at text at lt) ∙ along)
 
 closed : (b c : ℕ) (rest : List ℕ) → b ≡ 39 → (c == 39) ≡ false → escape_end (b ∷ c ∷ rest) ≡ Some 1

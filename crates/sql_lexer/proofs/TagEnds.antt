@@ -1,5 +1,5 @@
 -- Steps to the next occurrence of a tag.
-use Rattle.std.proofs.Common.{◌≡◌, ◌∙◌, ℕ, ◌+◌, ◌-◌, ◌<◌, ◌==◌, false, Some, List, [], ◌∷◌, length, take, drop, get_or, arith, ap, sym, refl}
+use Rattle.std.proofs.Common.{◌≡◌, ◌∙◌, ℕ, ◌+◌, ◌-◌, ◌<◌, ◌==◌, false, List, [], ◌∷◌, length, take, drop, get_or, arith, ap, sym, refl}
 use Rattle.std.proofs.lemmas.List.{drop_more, take_rest}
 use Rattle.std.proofs.lemmas.Bool.{ne_eqb, and_left}
 use Rattle.sql_lexer.specs.Rules.{past, begins}

@@ -8,3 +8,4 @@ pub mod Strings
 pub mod DollarQuotes
 pub mod Numbers
 pub mod Tokens
+pub mod ErrorLines

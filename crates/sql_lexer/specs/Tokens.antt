@@ -35,6 +35,6 @@ abbrev pub tokens_of : List ℕ → List Token
 tokens_of text = tokens_behind 0 text
 
 -- why a text has no tokens
-abbrev pub Refuses : List ℕ → TokenizeError → Type 0
-Refuses text TextTooLong = 4294967295 < length text
-Refuses text OutOfMemory = length text ≤ 4294967295
+abbrev pub RefusesText : List ℕ → TokenizeError → Type 0
+RefusesText text TextTooLong = 4294967295 < length text
+RefusesText text OutOfMemory = length text ≤ 4294967295

@@ -15,7 +15,10 @@ pub(crate) fn string(text: &[u8]) -> Token
     let end = quote_end(b'\'', &text[1..]);
     let terminated = end.is_some();
     let kind = LiteralKind::Str { terminated };
-    token(TokenKind::Literal { kind }, end.map_or(text.len(), |end| 1 + end))
+    token(
+        TokenKind::Literal { kind },
+        end.map_or(text.len(), |end| 1 + end),
+    )
 }
 
 /// `"an identifier"`
@@ -58,7 +61,10 @@ fn escape_string(text: &[u8]) -> Option<Token>
     let end = escape_end(&text[2..]);
     let terminated = end.is_some();
     let kind = LiteralKind::EscStr { terminated };
-    Some(token(TokenKind::Literal { kind }, end.map_or(text.len(), |end| 2 + end)))
+    Some(token(
+        TokenKind::Literal { kind },
+        end.map_or(text.len(), |end| 2 + end),
+    ))
 }
 
 /// `B'10'`
@@ -72,7 +78,10 @@ fn bit_string(text: &[u8]) -> Option<Token>
     let end = quote_end(b'\'', &text[2..]);
     let terminated = end.is_some();
     let kind = LiteralKind::BitStr { terminated };
-    Some(token(TokenKind::Literal { kind }, end.map_or(text.len(), |end| 2 + end)))
+    Some(token(
+        TokenKind::Literal { kind },
+        end.map_or(text.len(), |end| 2 + end),
+    ))
 }
 
 /// `X'1F'`
@@ -86,7 +95,10 @@ fn byte_string(text: &[u8]) -> Option<Token>
     let end = quote_end(b'\'', &text[2..]);
     let terminated = end.is_some();
     let kind = LiteralKind::ByteStr { terminated };
-    Some(token(TokenKind::Literal { kind }, end.map_or(text.len(), |end| 2 + end)))
+    Some(token(
+        TokenKind::Literal { kind },
+        end.map_or(text.len(), |end| 2 + end),
+    ))
 }
 
 /// `N'text'`
@@ -100,7 +112,10 @@ fn national_string(text: &[u8]) -> Option<Token>
     let end = quote_end(b'\'', &text[2..]);
     let terminated = end.is_some();
     let kind = LiteralKind::NationalStr { terminated };
-    Some(token(TokenKind::Literal { kind }, end.map_or(text.len(), |end| 2 + end)))
+    Some(token(
+        TokenKind::Literal { kind },
+        end.map_or(text.len(), |end| 2 + end),
+    ))
 }
 
 /// `U&'text'`
@@ -114,7 +129,10 @@ fn unicode_string(text: &[u8]) -> Option<Token>
     let end = quote_end(b'\'', &text[3..]);
     let terminated = end.is_some();
     let kind = LiteralKind::UnicodeEscStr { terminated };
-    Some(token(TokenKind::Literal { kind }, end.map_or(text.len(), |end| 3 + end)))
+    Some(token(
+        TokenKind::Literal { kind },
+        end.map_or(text.len(), |end| 3 + end),
+    ))
 }
 
 /// `U&"an identifier"`

@@ -1,16 +1,18 @@
-//! The tokens of a text.
-ghost use Rattle.std.specs.Prelude.{◌≡◌, ◌<◌, ◌≤◌, length, IfOk, IfErr};
+//! The raw tokens of a text.
+ghost use Rattle.std.specs.Prelude.{◌≡◌, IfOk, IfErr};
 ghost use Rattle.squawk_tokens.specs.AcceptedTokens.{AreAcceptedTokens};
-ghost use Rattle.sql_lexer.specs.Tokens.{tokens_of};
+ghost use Rattle.sql_lexer.specs.Tokens.{tokens_of, RefusesText};
 
 use crate::first_token::first_token;
 use squawk_tokens::Token;
 use std::alloc::{AllocError, AllocFailed, Global};
+use std::error::Error;
+use std::fmt;
 
 /// The longest text in bytes: places in it have 32 bits.
 const LONGEST_TEXT: usize = 4294967295;
 
-/// Room is made for a raw token per so many bytes.
+/// Room is made at first for one raw token in so many bytes.
 const BYTES_PER_TOKEN: usize = 5;
 
 /// Why there are no tokens.
@@ -21,6 +23,22 @@ pub enum TokenizeError {
     /// Memory was refused. The text is short enough.
     OutOfMemory,
 }
+
+impl fmt::Display for TokenizeError {
+    ghost use Rattle.std.specs.Prelude.{Some};
+    ghost use Rattle.sql_lexer.specs.ErrorLines.{tokenize_error_line};
+
+    ghost output = { λ error. Some (tokenize_error_line error) };
+
+    fn fmt<W: fmt::Write>(&self, f: &mut fmt::Formatter<W>) -> fmt::Result {
+        match *self {
+            TokenizeError::TextTooLong => write!(f, "text too long"),
+            TokenizeError::OutOfMemory => write!(f, "memory"),
+        }
+    }
+}
+
+impl Error for TokenizeError {}
 
 impl From<AllocError> for TokenizeError {
     ghost use Rattle.sql_lexer.specs.declared.tokenizer.TokenizeError.TheVariants.{OutOfMemory};
@@ -42,10 +60,21 @@ impl<T: Drop> From<AllocFailed<T>> for TokenizeError {
     }
 }
 
-/// The raw tokens of a text, whatever it is.
+/// The raw tokens of a text, whatever it is: from the left, each the longest that the rules of
+/// PostgreSQL's documentation, section 4.1 "Lexical Structure", find there. Their lengths add up to the
+/// text.
+///
+/// What isn't closed runs to the end of the text, and its token says so. What is no other token is
+/// `Unknown`, one character long. A text of more than 4294967295 bytes is refused before memory is
+/// asked for.
+///
+/// It takes time proportional to the text's length, and no memory but the list's.
+#[tactic(auto, using(crate::proofs::CutTokens::has_cut_none, crate::proofs::CutTokens::has_cut_all, crate::proofs::CutTokens::tokens_accepted))]
 pub fn tokenize(alloc: Global, text: &str) -> Result<Vec<Token>, TokenizeError>
     ensures tokens { IfOk result (λ tokens. tokens.items ≡ tokens_of text.now) }
+    // So `check_tokens` accepts them, and a table can be made of them.
     ensures accepted { IfOk result (λ tokens. AreAcceptedTokens text.now tokens.items) }
+    ensures refused { IfErr result (RefusesText text.now) }
 {
     if text.len() > LONGEST_TEXT {
         return Err(TokenizeError::TextTooLong);
@@ -57,6 +86,9 @@ pub fn tokenize(alloc: Global, text: &str) -> Result<Vec<Token>, TokenizeError>
         let token = first_token(&bytes[at..]);
         tokens.push(token)?;
         at += token.len as usize;
+    }
+    if tokens.len() < tokens.capacity() / 2 {
+        tokens.shrink_to_fit();
     }
     Ok(tokens)
 }
