@@ -7,7 +7,7 @@ use Rattle.std.proofs.lemmas.Bool.Decides.{nat_tests}
 use Rattle.std.specs.List.{prefix_len}
 use Rattle.squawk_tokens.specs.declared.token.Token.{Token}
 use Rattle.squawk_tokens.specs.declared.token.TokenKind.TheVariants.{Ident}
-use Rattle.sql_lexer.specs.Bytes.{is_space, is_name_start, is_name_part}
+use Rattle.sql_lexer.specs.Bytes.{is_space, is_name_start, is_name_part, stands_alone}
 use Rattle.sql_lexer.specs.Rules.{token, first, first_of, or_else}
 use Rattle.sql_lexer.specs.Signs.{whitespace, dot_dot, sign}
 use Rattle.sql_lexer.specs.Identifiers.{identifier}
@@ -165,56 +165,36 @@ number_chosen (b ∷ rest) found e same = chosen (b ∷ rest) found (number_choi
 
 -- ---- signs
 
--- a byte that isn't this one, in the other order of the test
-no_byte : (b c : ℕ) → (b ≡ c → ⊥) → (c == b) ≡ false
-no_byte b c other = ne_eqb c b (λ e. other (sym e))
+sign_choice : (b : ℕ) (rest : List ℕ) → stands_alone b ≡ true → first_of rules (b ∷ rest) ≡ None
+sign_choice b rest e =
+    let name : is_name_start b ≡ false = grind (arith, nat_tests) in
+    let space : is_space b ≡ false = grind (arith, nat_tests) in
+    let digit : is_ascii_digit b ≡ false = grind (arith, nat_tests) in
+    let double : (b == 34) ≡ false = grind (arith, nat_tests) in
+    let dollar : (b == 36) ≡ false = grind (arith, nat_tests) in
+    let quote : (b == 39) ≡ false = grind (arith, nat_tests) in
+    let dash : (45 == b) ≡ false = grind (arith, nat_tests) in
+    let point : (b == 46) ≡ false = grind (arith, nat_tests) in
+    let points : (46 == b) ≡ false = grind (arith, nat_tests) in
+    let slash : (47 == b) ≡ false = grind (arith, nat_tests) in
+    let back : (b == 92) ≡ false = grind (arith, nat_tests) in
+    passed rules [] (b ∷ rest)
+    (no_space b rest space, (no_line_comment b rest dash, (no_block_comment b rest slash, (no_command b rest back,
+    (no_string b rest quote, (no_quoted_identifier b rest double, (no_prefixed b rest name, (no_identifier b rest name,
+    (no_parameter b rest dollar, (no_dollar_quote b rest dollar, (no_number b rest digit, (no_point_number b rest point, (no_points b rest points, tt)))))))))))))
 
-sign_choice : (b : ℕ) (rest : List ℕ) → is_name_start b ≡ false → is_space b ≡ false → is_ascii_digit b ≡ false
-    → (b ≡ 39 → ⊥) → (b ≡ 34 → ⊥) → (b ≡ 45 → ⊥) → (b ≡ 47 → ⊥) → (b ≡ 92 → ⊥) → (b ≡ 36 → ⊥) → (b ≡ 46 → ⊥)
-    → first_of rules (b ∷ rest) ≡ None
-sign_choice b rest name space digit quote double dash slash back dollar point =
-    passed rules [] (b ∷ rest) (
-      no_space b rest space,
-      (
-        no_line_comment b rest (no_byte b 45 dash),
-        (
-          no_block_comment b rest (no_byte b 47 slash),
-          (
-            no_command b rest (ne_eqb b 92 back),
-            (
-              no_string b rest (ne_eqb b 39 quote),
-              (
-                no_quoted_identifier b rest (ne_eqb b 34 double),
-                (
-                  no_prefixed b rest name,
-                  (
-                    no_identifier b rest name,
-                    (
-                      no_parameter b rest (ne_eqb b 36 dollar),
-                      (
-                        no_dollar_quote b rest (ne_eqb b 36 dollar),
-                        (
-                          no_number b rest digit,
-                          (no_point_number b rest (ne_eqb b 46 point), (no_points b rest (no_byte b 46 point), tt)),
-                        ),
-                      ),
-                    ),
-                  ),
-                ),
-              ),
-            ),
-          ),
-        ),
-      ),
-    )
+pub sign_chosen : (text : List ℕ) → 0 < length text → stands_alone (get_or text 0 0) ≡ true → sign (get_or text 0 0) ≡ first_token text
+sign_chosen [] some e = absurd (omega arith)
+sign_chosen (b ∷ rest) some e = ap (λ o. unwrap_or o (sign b)) (sym (sign_choice b rest e))
 
-pub sign_chosen : (text : List ℕ) → 0 < length text → is_name_start (get_or text 0 0) ≡ false → is_space (get_or text 0 0) ≡ false
-    → is_ascii_digit (get_or text 0 0) ≡ false → (get_or text 0 0 ≡ 39 → ⊥) → (get_or text 0 0 ≡ 34 → ⊥) → (get_or text 0 0 ≡ 45 → ⊥)
-    → (get_or text 0 0 ≡ 47 → ⊥) → (get_or text 0 0 ≡ 92 → ⊥) → (get_or text 0 0 ≡ 36 → ⊥) → (get_or text 0 0 ≡ 46 → ⊥)
-    → sign (get_or text 0 0) ≡ first_token text
-sign_chosen [] some name space digit quote double dash slash back dollar point = absurd (omega arith)
-sign_chosen (b ∷ rest) some name space digit quote double dash slash back dollar point =
-    ap (λ o. unwrap_or o (sign b)) (sym (sign_choice b rest name space digit quote double dash slash back dollar point))
+-- ---- strings
+
+string_choice : (rest : List ℕ) → first_of rules (39 ∷ rest) ≡ string (39 ∷ rest)
+string_choice rest = refl
+
+pub string_chosen : (text : List ℕ) (found : Token) → get_or text 0 0 ≡ 39 → Some found ≡ string text → found ≡ first_token text
+string_chosen [] found e same = absurd (omega (arith, e))
+string_chosen (b ∷ rest) found e same = chosen (b ∷ rest) found (same ∙ rw e (sym (string_choice rest)))
 
 -- ---- a byte that begins an identifier
 

@@ -1,6 +1,6 @@
 -- Tokens are cut one behind the other, and their list is accepted.
 use Rattle.std.proofs.Common.{◌≡◌, ◌∙◌, ℕ, zero, suc, ◌+◌, ◌-◌, ◌<◌, ◌≤◌, List, [], ◌∷◌, ◌++◌, length, take, drop, get_or, length-drop, zero-add, ⊎_elim, arith, ap, sym, refl, subst}
-use Rattle.std.specs.Prelude.{IsUtf8, IsCharBoundary}
+use Rattle.std.specs.Prelude.{IsUtf8, IsCharBoundary, Ok}
 use Rattle.std.specs.List.{HoldsAt}
 use Rattle.std.proofs.lemmas.Bool.{cases_lt}
 use Rattle.std.proofs.lemmas.List.{drop_all, drop-drop, take_rest, append_assoc, append-nil}
@@ -9,6 +9,7 @@ use Rattle.std.proofs.lemmas.Str.{IsUtf8-drop, IsCharBoundary-from_rest, IsCharB
 use Rattle.squawk_tokens.specs.declared.token.Token.{Token}
 use Rattle.squawk_tokens.specs.AcceptedTokens.{IsGoodToken, AreAcceptedTokens, start_of}
 use Rattle.squawk_tokens.specs.TokenRows.{MeetsKind}
+use Rattle.sql_lexer.specs.Pushes.{Pushes}
 use Rattle.sql_lexer.specs.Tokens.{first_token, tokens_behind, tokens_of}
 use Rattle.sql_lexer.proofs.Fits.{Fits}
 use Rattle.sql_lexer.proofs.FirstFits.{first_token_fits}
@@ -114,27 +115,29 @@ pub record HasCut (text : List ℕ) (at : ℕ) (cut : List Token) : Type 0 where
 pub has_cut_none : (text : List ℕ) → IsUtf8 text → HasCut text 0 []
 has_cut_none text utf8 = record { utf8 = utf8; boundary = IsCharBoundary-start text utf8; tokens = refl }
 
--- the token that the loop cuts at a place
-abbrev pub IsCut : List ℕ → ℕ → Token → Type 0
-IsCut text at token = token ≡ first_token (take (length text - at) (drop at text))
+-- the token at a place stands behind them now
+abbrev pub HasPushed : List ℕ → ℕ → List Token → List Token → ℕ → Type 0
+HasPushed text at cut more len = Pushes cut (first_token (take (length text - at) (drop at text))) more (Ok len)
 
-is_cut_at : (text : List ℕ) (at : ℕ) (cut : List Token) (token : Token) → HasCut text at cut → at < length text → IsCut text at token → IsCutAt text at token
-is_cut_at text at cut token has lt is =
-    subst (IsCutAt text at) (sym (is ∙ ap first_token (take_rest text at))) (cut_at text at has.utf8 has.boundary lt)
+token_at : (text : List ℕ) (at : ℕ) (cut : List Token) → HasCut text at cut → at < length text → IsCutAt text at (first_token (take (length text - at) (drop at text)))
+token_at text at cut has lt = subst (IsCutAt text at) (sym (ap first_token (take_rest text at))) (cut_at text at has.utf8 has.boundary lt)
 
-pub cut_nonempty : (text : List ℕ) (at : ℕ) (cut : List Token) (token : Token) → HasCut text at cut → at < length text → IsCut text at token → 0 < token.len
-cut_nonempty text at cut token has lt is = (is_cut_at text at cut token has lt is).good.nonempty
+pub cut_some : (text : List ℕ) (at : ℕ) (cut more : List Token) (len : ℕ) → HasCut text at cut → at < length text → HasPushed text at cut more len → 0 < len
+cut_some text at cut more len has lt pushed = omega (arith, (token_at text at cut has lt).good.nonempty, pushed.1)
 
-pub has_cut_one : (text : List ℕ) (at : ℕ) (cut more : List Token) (token : Token) → HasCut text at cut → at < length text → IsCut text at token
-    → more ≡ cut ++ token ∷ [] → HasCut text (at + token.len) more
-has_cut_one text at cut more token has lt is pushed =
-    let here = is_cut_at text at cut token has lt is in
+pub cut_within : (text : List ℕ) (at : ℕ) (cut more : List Token) (len : ℕ) → HasCut text at cut → at < length text → HasPushed text at cut more len → at + len ≤ length text
+cut_within text at cut more len has lt pushed = omega (arith, (token_at text at cut has lt).good.boundary.0, pushed.1)
+
+pub has_cut_one : (text : List ℕ) (at : ℕ) (cut more : List Token) (len : ℕ) → HasCut text at cut → at < length text → HasPushed text at cut more len → HasCut text (at + len) more
+has_cut_one text at cut more len has lt pushed =
+    let here = token_at text at cut has lt in
+    let token = first_token (take (length text - at) (drop at text)) in
     let others = tokens_of (drop (at + token.len) text) in
-    record {
+    subst (λ n. HasCut text (at + n) more) (sym pushed.1) (record {
       utf8 = has.utf8;
       boundary = here.good.boundary;
-      tokens = ap (λ front. front ++ others) pushed ∙ append_assoc cut (token ∷ []) others ∙ ap (λ rest. cut ++ rest) (sym here.tokens) ∙ has.tokens;
-    }
+      tokens = ap (λ front. front ++ others) pushed.0 ∙ append_assoc cut (token ∷ []) others ∙ ap (λ rest. cut ++ rest) (sym here.tokens) ∙ has.tokens;
+    })
 
 pub has_cut_all : (text : List ℕ) (at : ℕ) (cut : List Token) → HasCut text at cut → length text ≤ at → cut ≡ tokens_of text
 has_cut_all text at cut has le = sym (append-nil cut) ∙ ap (λ rest. cut ++ tokens_of rest) (sym (drop_all at text le)) ∙ has.tokens

@@ -1,6 +1,7 @@
 -- The classes of bytes. A byte past 127 is part of a character of several bytes.
-use Rattle.std.specs.Prelude.{ℕ, Bool, ◌==◌, nat_le, ◌||◌}
+use Rattle.std.specs.Prelude.{ℕ, Bool, ◌==◌, nat_le, ◌||◌, not, [], ◌∷◌}
 use Rattle.std.specs.Int.{is_in_range}
+use Rattle.std.specs.List.{list_any}
 use Rattle.std.specs.Char.{is_ascii_alphabetic, is_ascii_digit}
 
 -- tab, newline, vertical tab, form feed, carriage return (9 to 13) and space
@@ -22,3 +23,12 @@ is_tag_part b = is_name_start b || is_ascii_digit b
 -- an identifier goes on with these and with dollar signs (36)
 abbrev pub is_name_part : ℕ → Bool
 is_name_part b = is_tag_part b || (b == 36)
+
+-- the bytes with which other tokens begin, and those that are a token of one byte or the beginning of a longer one:
+-- " (34), $ (36), ' (39), - (45), . (46), / (47), \ (92)
+abbrev pub begins_several : ℕ → Bool
+begins_several b = is_ascii_digit b || list_any (λ c. b == c) (34 ∷ 36 ∷ 39 ∷ 45 ∷ 46 ∷ 47 ∷ 92 ∷ [])
+
+-- every other byte is a token, whatever stands behind it
+abbrev pub stands_alone : ℕ → Bool
+stands_alone b = not (is_name_start b || is_space b || begins_several b)

@@ -8,4 +8,5 @@ pub mod Strings
 pub mod DollarQuotes
 pub mod Numbers
 pub mod Tokens
+pub mod Pushes
 pub mod ErrorLines

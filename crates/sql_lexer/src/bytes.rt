@@ -2,15 +2,18 @@
 ghost use Rattle.std.specs.Prelude.{◌≡◌};
 ghost use Rattle.sql_lexer.specs.Bytes as spec;
 
-/// What a byte is in an identifier. Each class but the first two has more places there than the one
-/// before it.
+/// What a byte begins, and where in an identifier it stands.
 #[derive(Clone, Copy)]
 enum Class {
+    /// One of several tokens.
     Other,
+    /// White space.
     Space,
-    /// An identifier goes on with it.
+    /// A token of one byte, whatever stands behind it.
+    Alone,
+    /// From here on: an identifier goes on with it.
     Dollar,
-    /// The tag of a dollar quote goes on with it, too.
+    /// From here on: the tag of a dollar quote goes on with it, too.
     Digit,
     /// Both begin with it, too.
     Letter,
@@ -20,6 +23,8 @@ const O: Class = Class::Other;
 
 const S: Class = Class::Space;
 
+const A: Class = Class::Alone;
+
 const D: Class = Class::Dollar;
 
 const N: Class = Class::Digit;
@@ -27,10 +32,10 @@ const N: Class = Class::Digit;
 const L: Class = Class::Letter;
 
 static CLASSES: [Class; 256] = [
-    O, O, O, O, O, O, O, O, O, S, S, S, S, S, O, O, O, O, O, O, O, O, O, O, O, O, O, O, O, O, O, O,
-    S, O, O, O, D, O, O, O, O, O, O, O, O, O, O, O, N, N, N, N, N, N, N, N, N, N, O, O, O, O, O, O,
-    O, L, L, L, L, L, L, L, L, L, L, L, L, L, L, L, L, L, L, L, L, L, L, L, L, L, L, O, O, O, O, L,
-    O, L, L, L, L, L, L, L, L, L, L, L, L, L, L, L, L, L, L, L, L, L, L, L, L, L, L, O, O, O, O, O,
+    A, A, A, A, A, A, A, A, A, S, S, S, S, S, A, A, A, A, A, A, A, A, A, A, A, A, A, A, A, A, A, A,
+    S, A, O, A, D, A, A, O, A, A, A, A, A, O, O, O, N, N, N, N, N, N, N, N, N, N, A, A, A, A, A, A,
+    A, L, L, L, L, L, L, L, L, L, L, L, L, L, L, L, L, L, L, L, L, L, L, L, L, L, L, A, O, A, A, L,
+    A, L, L, L, L, L, L, L, L, L, L, L, L, L, L, L, L, L, L, L, L, L, L, L, L, L, L, A, A, A, A, A,
     L, L, L, L, L, L, L, L, L, L, L, L, L, L, L, L, L, L, L, L, L, L, L, L, L, L, L, L, L, L, L, L,
     L, L, L, L, L, L, L, L, L, L, L, L, L, L, L, L, L, L, L, L, L, L, L, L, L, L, L, L, L, L, L, L,
     L, L, L, L, L, L, L, L, L, L, L, L, L, L, L, L, L, L, L, L, L, L, L, L, L, L, L, L, L, L, L, L,
@@ -43,6 +48,14 @@ pub(crate) fn is_space(b: u8) -> bool
     ensures { result ≡ spec.is_space b }
 {
     CLASSES[b as usize] as u8 == Class::Space as u8
+}
+
+/// Whether a byte is a token, whatever stands behind it.
+#[inline(always)]
+pub(crate) fn stands_alone(b: u8) -> bool
+    ensures { result ≡ spec.stands_alone b }
+{
+    CLASSES[b as usize] as u8 == Class::Alone as u8
 }
 
 /// A line ends at a newline or a carriage return.

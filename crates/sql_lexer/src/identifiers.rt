@@ -1,5 +1,5 @@
 //! Identifiers that aren't quoted, and the junk behind numbers, which is one.
-ghost use Rattle.std.specs.Prelude.{◌≡◌, ◌+◌, ◌<◌, ◌≤◌, ◌^◌, length, slice_index, IsTrue};
+ghost use Rattle.std.specs.Prelude.{◌≡◌, ◌+◌, ◌<◌, ◌≤◌, ◌^◌, length, slice_index, IsTrue, IfSome, IsNone};
 ghost use Rattle.std.specs.List.{prefix_len};
 ghost use Rattle.sql_lexer.specs.Bytes as bytes;
 ghost use Rattle.sql_lexer.specs.Identifiers as spec;
@@ -11,20 +11,29 @@ use crate::signs::token;
 use crate::strings::prefixed;
 use squawk_tokens::{Token, TokenKind};
 
-/// A token that begins with what begins an identifier: one, or a quoted text behind a letter.
-///
-/// A letter with another part of an identifier behind it has no quote there.
+/// An identifier or a keyword of several bytes. No quote stands behind its first.
 #[inline(always)]
-pub(crate) fn name(text: &[u8]) -> Token
+pub(crate) fn long_name(text: &[u8]) -> Option<Token>
     requires start { IsTrue (bytes.is_name_start (slice_index text.now 0)) }
     requires short { length text.now < 2 ^ 32 }
-    ensures { Some result ≡ or_else (first_of prefixed text.now) (spec.identifier text.now) }
+    ensures name { IfSome result (λ token. Some token ≡ or_else (first_of prefixed text.now) (spec.identifier text.now)) }
+    ensures one { IsNone result → prefix_len bytes.is_name_part text.now ≡ 1 }
 {
     let len = name_part_len(text);
     if len > 1 {
-        return token(TokenKind::Ident, len);
+        return Some(token(TokenKind::Ident, len));
     }
-    prefixed(text).unwrap_or_else(|| token(TokenKind::Ident, len))
+    None
+}
+
+/// One of a single byte, or a quoted text behind a letter.
+pub(crate) fn short_name(text: &[u8]) -> Token
+    requires start { IsTrue (bytes.is_name_start (slice_index text.now 0)) }
+    requires one { prefix_len bytes.is_name_part text.now ≡ 1 }
+    requires short { length text.now < 2 ^ 32 }
+    ensures { Some result ≡ or_else (first_of prefixed text.now) (spec.identifier text.now) }
+{
+    prefixed(text).unwrap_or_else(|| token(TokenKind::Ident, 1))
 }
 
 /// How many bytes the identifier in front has, 0 where none is there.

@@ -3,7 +3,7 @@ ghost use Rattle.std.specs.Prelude.{◌≡◌, IfOk, IfErr};
 ghost use Rattle.squawk_tokens.specs.AcceptedTokens.{AreAcceptedTokens};
 ghost use Rattle.sql_lexer.specs.Tokens.{tokens_of, RefusesText};
 
-use crate::first_token::first_token;
+use crate::first_token::push_first;
 use squawk_tokens::Token;
 use std::alloc::{AllocError, AllocFailed, Global};
 use std::error::Error;
@@ -83,9 +83,7 @@ pub fn tokenize(alloc: Global, text: &str) -> Result<Vec<Token>, TokenizeError>
     let mut tokens = Vec::with_capacity(alloc, bytes.len() / BYTES_PER_TOKEN + 1)?;
     let mut at = 0;
     while at < bytes.len() {
-        let token = first_token(&bytes[at..]);
-        tokens.push(token)?;
-        at += token.len as usize;
+        at += push_first(&mut tokens, &bytes[at..])?;
     }
     if tokens.len() < tokens.capacity() / 2 {
         tokens.shrink_to_fit();

@@ -1,4 +1,5 @@
 use Rattle.std.proofs.Common.{refl, arith, get_or, ◌==◌}
+use Rattle.std.specs.Prelude.{ℕ}
 use Rattle.std.proofs.lemmas.Bool.{agree_below_at}
 use denote.Enum.Declared.{tag_of}
 use Rattle.sql_lexer.specs.Bytes.{is_name_start}
@@ -8,4 +9,4 @@ use Rattle.sql_lexer.specs.declared.bytes.TheConstants.{CLASSES}
 use Rattle.sql_lexer.proofs.bytes.is_name_start.Goals as goal
 
 pub returns : goal.returns
-returns c = agree_below_at (λ b. let tag = tag_of the_type (get_or CLASSES b Other) in tag == 4) is_name_start 256 c.args.b refl (omega arith)
+returns c = agree_below_at (λ b. let tag = tag_of the_type (get_or CLASSES b Other) in tag == 5) is_name_start 256 c.args.b refl (omega arith)
