@@ -18,6 +18,8 @@ mod inside;
 mod phrases;
 mod statement_kinds;
 mod statements;
+#[cfg(test)]
+mod tests;
 
 
 
