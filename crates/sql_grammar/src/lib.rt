@@ -21,8 +21,6 @@ mod statements;
 #[cfg(test)]
 mod tests;
 
-
-
 use crate::composites::OPERATORS;
 use crate::statements::statement;
 use sql_words::SqlKind;

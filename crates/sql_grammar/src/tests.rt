@@ -15,7 +15,11 @@ use std::process::Abort;
 use std::test::Fail;
 
 /// Sends the tree of the text to a sink.
-fn send<S: StepSink<Refusal = AllocError>>(alloc: Global, text: &str, sink: &mut S) -> Result<(), Fail> {
+fn send<S: StepSink<Refusal = AllocError>>(
+    alloc: Global,
+    text: &str,
+    sink: &mut S,
+) -> Result<(), Fail> {
     let tokens = tokenize(alloc, text)?;
     let keywords = vocabulary(alloc)?;
     let grammar = SqlGrammar { names: &NAMES };

@@ -8,11 +8,23 @@ const STATEMENTS: [(&str, &str); 12] = [
     ("", ""),
     (";;", "STATEMENT{; }STATEMENT{; }"),
     ("Vacuum t; foo", "VACUUM{Vacuum t ; }STATEMENT{foo }"),
-    ("end; start transaction", "COMMIT{end ; }BEGIN{start transaction }"),
-    ("comment on table t is 'a;b';", "COMMENT_ON{comment on table t is 'a;b' ; }"),
-    ("((table t)); (", "SELECT{GROUP{( GROUP{( table t ) }) }; }STATEMENT{GROUP{( !expected );}}"),
+    (
+        "end; start transaction",
+        "COMMIT{end ; }BEGIN{start transaction }",
+    ),
+    (
+        "comment on table t is 'a;b';",
+        "COMMENT_ON{comment on table t is 'a;b' ; }",
+    ),
+    (
+        "((table t)); (",
+        "SELECT{GROUP{( GROUP{( table t ) }) }; }STATEMENT{GROUP{( !expected );}}",
+    ),
     ("\\d t;\nvacuum", "PSQL_COMMAND{\\d t; }VACUUM{vacuum }"),
-    ("show a \\g b\nshow \\d\n;", "SHOW{show a \\g b }SHOW{show \\d ; }"),
+    (
+        "show a \\g b\nshow \\d\n;",
+        "SHOW{show a \\g b }SHOW{show \\d ; }",
+    ),
     ("\\g\n\\x", "PSQL_COMMAND{\\g }PSQL_COMMAND{\\x }"),
     ("show (a \\gx", "SHOW{show GROUP{( a !expected );}\\gx }"),
     ("grant select on t to u", "GRANT{grant select on t to u }"),
@@ -21,13 +33,34 @@ const STATEMENTS: [(&str, &str); 12] = [
 
 /// Brackets.
 const BRACKETS: [(&str, &str); 9] = [
-    ("show (a[1], (b))", "SHOW{show GROUP{( a GROUP{[ 1 ] }, GROUP{( b ) }) }}"),
-    ("show (a[1; show b", "SHOW{show GROUP{( a GROUP{[ 1 !expected ];!expected );}}; }SHOW{show b }"),
-    ("show a) b", "SHOW{show a ERROR{!closing parenthesis without an opening one;) }b }"),
-    ("show ]", "SHOW{show ERROR{!closing bracket without an opening one;] }}"),
-    ("show (a] b)", "SHOW{show GROUP{( a ERROR{!closing bracket without an opening one;] }b ) }}"),
-    ("show (a[b) c", "SHOW{show GROUP{( a GROUP{[ b !expected ];}) }c }"),
-    ("show [a(b] c", "SHOW{show GROUP{[ a GROUP{( b !expected );}] }c }"),
+    (
+        "show (a[1], (b))",
+        "SHOW{show GROUP{( a GROUP{[ 1 ] }, GROUP{( b ) }) }}",
+    ),
+    (
+        "show (a[1; show b",
+        "SHOW{show GROUP{( a GROUP{[ 1 !expected ];!expected );}}; }SHOW{show b }",
+    ),
+    (
+        "show a) b",
+        "SHOW{show a ERROR{!closing parenthesis without an opening one;) }b }",
+    ),
+    (
+        "show ]",
+        "SHOW{show ERROR{!closing bracket without an opening one;] }}",
+    ),
+    (
+        "show (a] b)",
+        "SHOW{show GROUP{( a ERROR{!closing bracket without an opening one;] }b ) }}",
+    ),
+    (
+        "show (a[b) c",
+        "SHOW{show GROUP{( a GROUP{[ b !expected ];}) }c }",
+    ),
+    (
+        "show [a(b] c",
+        "SHOW{show GROUP{[ a GROUP{( b !expected );}] }c }",
+    ),
     (
         "create rule r as on insert to t do (show a; show b); show c;",
         "CREATE{create rule r as on insert to t do GROUP{( show a ; show b ) }; }SHOW{show c ; }",
@@ -40,10 +73,22 @@ const BRACKETS: [(&str, &str); 9] = [
 
 /// Blocks and CASE expressions.
 const BLOCKS: [(&str, &str); 11] = [
-    ("show case when a then b end c", "SHOW{show CASE_EXPR{case when a then b end }c }"),
-    ("show case case end; show", "SHOW{show CASE_EXPR{case CASE_EXPR{case end !expected END;}}; }SHOW{show }"),
-    ("show (case a) end", "SHOW{show GROUP{( CASE_EXPR{case a !expected END;}) }end }"),
-    ("show case (a end", "SHOW{show CASE_EXPR{case GROUP{( a !expected );}end }}"),
+    (
+        "show case when a then b end c",
+        "SHOW{show CASE_EXPR{case when a then b end }c }",
+    ),
+    (
+        "show case case end; show",
+        "SHOW{show CASE_EXPR{case CASE_EXPR{case end !expected END;}}; }SHOW{show }",
+    ),
+    (
+        "show (case a) end",
+        "SHOW{show GROUP{( CASE_EXPR{case a !expected END;}) }end }",
+    ),
+    (
+        "show case (a end",
+        "SHOW{show CASE_EXPR{case GROUP{( a !expected );}end }}",
+    ),
     (
         "create function f() begin atomic show a; show case end; ; end; show b",
         "CREATE{create function f GROUP{( ) }BLOCK{begin atomic SHOW{show a ; }\
@@ -62,8 +107,14 @@ const BLOCKS: [(&str, &str); 11] = [
         "create procedure p begin atomic show a; show b",
         "CREATE{create procedure p BLOCK{begin atomic SHOW{show a ; }SHOW{show b !expected END;}}}",
     ),
-    ("create function begin() a; end", "CREATE{create function begin GROUP{( ) }a ; }COMMIT{end }"),
-    ("create view f begin atomic a; end", "CREATE{create view f begin atomic a ; }COMMIT{end }"),
+    (
+        "create function begin() a; end",
+        "CREATE{create function begin GROUP{( ) }a ; }COMMIT{end }",
+    ),
+    (
+        "create view f begin atomic a; end",
+        "CREATE{create view f begin atomic a ; }COMMIT{end }",
+    ),
     (
         "create function f begin atomic \\d\nselect a; end",
         "CREATE{create function f BLOCK{begin atomic PSQL_COMMAND{\\d }SELECT{SELECT_CLAUSE{select a }; }end }}",
@@ -90,7 +141,10 @@ const QUERIES: [(&str, &str); 12] = [
         "INSERT{insert INTO_CLAUSE{into t GROUP{( a ) }}VALUES_CLAUSE{values GROUP{( 1 ) }}\
         ON_CONFLICT_CLAUSE{on conflict do update }SET_CLAUSE{set a = 2 }RETURNING_CLAUSE{returning a }}",
     ),
-    ("delete from t using u where a", "DELETE{delete FROM_CLAUSE{from t }USING_CLAUSE{using u }WHERE_CLAUSE{where a }}"),
+    (
+        "delete from t using u where a",
+        "DELETE{delete FROM_CLAUSE{from t }USING_CLAUSE{using u }WHERE_CLAUSE{where a }}",
+    ),
     (
         "merge into t using u on a when matched then delete",
         "MERGE{merge INTO_CLAUSE{into t }USING_CLAUSE{using u on a }WHEN_CLAUSE{when matched then delete }}",
@@ -115,7 +169,8 @@ const QUERIES: [(&str, &str); 12] = [
     ),
     (
         "declare c cursor for (select a) limit 1; copy t from stdin",
-        "DECLARE{declare c cursor for GROUP{( SELECT_CLAUSE{select a }) }LIMIT_CLAUSE{limit 1 }; }COPY{copy t from stdin }",
+        "DECLARE{declare c cursor for GROUP{( SELECT_CLAUSE{select a }) }LIMIT_CLAUSE{limit 1 }; }\
+        COPY{copy t from stdin }",
     ),
     (
         "explain select case when a then b end from c",
@@ -130,21 +185,51 @@ const QUERIES: [(&str, &str); 12] = [
 
 /// Composite kinds and operators.
 const COMPOSITES: [(&str, &str); 12] = [
-    ("show a::int :b := c", "SHOW{show a COLON_COLON{: : }int : b := c }"),
-    ("show a+-1<=b<>c!=d>=e=>f", "SHOW{show a + - 1 <= b <> c != d >= e => f }"),
-    ("show a << b >> c ->> d -> e", "SHOW{show a << b >> c ->> d CUSTOM_OP{- > }e }"),
-    ("show a <@> b || ~ c < d * e", "SHOW{show a CUSTOM_OP{< @ > }b CUSTOM_OP{| | }CUSTOM_OP{~ }c < d * e }"),
-    ("show a is not distinct from b", "SHOW{show a IS_NOT_DISTINCT_FROM{is not distinct from }b }"),
-    ("show a is not null is null", "SHOW{show a IS_NOT{is not }null is null }"),
-    ("show is not distinct", "SHOW{show IS_NOT{is not }distinct }"),
-    ("show is normalized is nfc normalized", "SHOW{show IS_NORMALIZED{is normalized }IS_NORMALIZED{is UNICODE_NORMAL_FORM{nfc }normalized }}"),
-    ("show is not normalized", "SHOW{show IS_NOT_NORMALIZED{is not normalized }}"),
+    (
+        "show a::int :b := c",
+        "SHOW{show a COLON_COLON{: : }int : b := c }",
+    ),
+    (
+        "show a+-1<=b<>c!=d>=e=>f",
+        "SHOW{show a + - 1 <= b <> c != d >= e => f }",
+    ),
+    (
+        "show a << b >> c ->> d -> e",
+        "SHOW{show a << b >> c ->> d CUSTOM_OP{- > }e }",
+    ),
+    (
+        "show a <@> b || ~ c < d * e",
+        "SHOW{show a CUSTOM_OP{< @ > }b CUSTOM_OP{| | }CUSTOM_OP{~ }c < d * e }",
+    ),
+    (
+        "show a is not distinct from b",
+        "SHOW{show a IS_NOT_DISTINCT_FROM{is not distinct from }b }",
+    ),
+    (
+        "show a is not null is null",
+        "SHOW{show a IS_NOT{is not }null is null }",
+    ),
+    (
+        "show is not distinct",
+        "SHOW{show IS_NOT{is not }distinct }",
+    ),
+    (
+        "show is normalized is nfc normalized",
+        "SHOW{show IS_NORMALIZED{is normalized }IS_NORMALIZED{is UNICODE_NORMAL_FORM{nfc }normalized }}",
+    ),
+    (
+        "show is not normalized",
+        "SHOW{show IS_NOT_NORMALIZED{is not normalized }}",
+    ),
     (
         "show not in not like not ilike not similar to similar to not a similar",
         "SHOW{show NOT_IN{not in }NOT_LIKE{not like }NOT_ILIKE{not ilike }NOT_SIMILAR_TO{not similar to }\
         SIMILAR_TO{similar to }not a similar }",
     ),
-    ("show at time zone at local at", "SHOW{show AT_TIME_ZONE{at time zone }AT_LOCAL{at local }at }"),
+    (
+        "show at time zone at local at",
+        "SHOW{show AT_TIME_ZONE{at time zone }AT_LOCAL{at local }at }",
+    ),
     (
         "show operator(a.+) operator b operator(c;",
         "SHOW{show OPERATOR_CALL{operator ( a . + ) }operator b OPERATOR_CALL{operator ( c !expected );}; }",

@@ -1,8 +1,8 @@
 //! Texts that nest deeper than the limit.
 
 use crate::tests::send;
-use squawk_parser::{StepSink, StrStep};
 use sql_words::SqlKind;
+use squawk_parser::{StepSink, StrStep, SyntaxKind};
 use std::alloc::{AllocError, Global};
 use std::process::Abort;
 use std::test::Fail;
@@ -24,16 +24,21 @@ impl StepSink for Counts {
 
     fn step(&mut self, step: StrStep<'_>) -> Result<(), AllocError> {
         match step {
-            StrStep::Enter {
-                kind: SqlKind::GROUP | SqlKind::CASE_EXPR | SqlKind::BLOCK,
-            } => self.nested = self.nested.saturating_add(1),
-            StrStep::Enter { kind: SqlKind::SHOW } => {
-                self.statements = self.statements.saturating_add(1)
-            }
+            StrStep::Enter { kind } => self.enter(kind),
             StrStep::Error { msg: _, pos: _ } => self.errors = self.errors.saturating_add(1),
-            _ => {}
+            StrStep::Token { kind: _, text: _ } | StrStep::Exit => {}
         }
         Ok(())
+    }
+}
+
+impl Counts {
+    fn enter(&mut self, kind: SyntaxKind) {
+        match kind {
+            SqlKind::SHOW => self.statements = self.statements.saturating_add(1),
+            SqlKind::GROUP | SqlKind::CASE_EXPR => self.nested = self.nested.saturating_add(1),
+            _ => {}
+        }
     }
 }
 
@@ -84,11 +89,11 @@ fn limit_is_500(rt: HostRuntime) -> Result<(), Fail> {
 }
 
 #[test]
-fn million_openings_are_parsed(rt: HostRuntime) -> Result<(), Fail> {
+fn openings_past_any_stack_are_parsed(rt: HostRuntime) -> Result<(), Fail> {
     // What is open at the semicolon has an error each, and one is met at the limit.
-    assert_counts(&rt, &[("(", 1_000_000)], 500, 501)?;
-    assert_counts(&rt, &[("case ", 1_000_000)], 500, 501)?;
+    assert_counts(&rt, &[("(", 100_000)], 500, 501)?;
+    assert_counts(&rt, &[("case ", 100_000)], 500, 501)?;
     // Each closing one is an error.
-    assert_counts(&rt, &[(")", 1_000_000)], 0, 1_000_000)?;
+    assert_counts(&rt, &[(")", 100_000)], 0, 100_000)?;
     Ok(())
 }
