@@ -1,0 +1,5 @@
+pub mod AddedStatements
+pub mod Lengths
+pub mod Looks
+pub mod StatementKinds
+pub mod Tails
