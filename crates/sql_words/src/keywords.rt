@@ -16,7 +16,7 @@ pub struct Keyword {
 }
 
 /// The keywords of PostgreSQL 15 in the order of their words, each with its kind and its category, by
-/// its documentation, appendix C, "SQL Key Words": as rows, or as kinds with their names.
+/// its documentation, appendix C, "SQL Key Words": as rows, or as the names of their kinds.
 #[rattlefmt::skip]
 macro_rules! keywords {
     (@rows $($word:literal $kind:ident $category:ident),*) => {
@@ -199,7 +199,7 @@ pub fn keywords() -> &'static [Keyword]
     &KEYWORDS
 }
 
-/// Their kinds, with names.
+/// The names of their kinds, in the same order.
 pub fn keyword_names() -> &'static [&'static str]
     ensures { map (λ name. name.now) result.now ≡ map (λ row. keyword_name row.0) table }
 {
