@@ -7,6 +7,7 @@
 #![tactic(auto)]
 
 mod answers;
+mod cuts;
 mod documents;
 mod given;
 mod lexical;

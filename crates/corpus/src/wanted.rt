@@ -3,6 +3,7 @@
 //! | line | what it wants |
 //! |---|---|
 //! | `lex 0..2 "empty .."` | a lexical error, as the program prints it; `lex none`: a case names them all |
+//! | `cut` | that the tokenizer of SQL cuts the text into these raw tokens |
 //! | `raw IDENT 44` | the syntax kinds of the raw tokens, by their names or else their numbers |
 //! | `table IDENT@0..1'a' 1` | the same with their places and texts, and the end of the text |
 //! | `range 0 2 \|a b\|` | the text of the raw tokens from one to before another |
@@ -18,6 +19,7 @@
 //! | `within 2 - too many events` | what comes within a limit of events and one of errors, `-` being that of a parse that is given none, or `recorded 3` |
 //! | `look ..`, `stands ..` | what a parser sees at the first token (`crate::looks`) |
 
+use crate::cuts::judge_cut;
 use crate::given::{Doing, Given};
 use crate::lexical::{error_lines, wanted_lines};
 use crate::limits::{is_refused_below, within};
@@ -63,6 +65,7 @@ fn judge_text(
     tokens: &[Token],
     report: &mut Report,
 ) -> Result<(), Trouble> {
+    judge_cut(given, text, tokens, report)?;
     let check = check_tokens(text, tokens);
     match LexedStr::new(given.alloc, text, tokens, &given.vocabulary()) {
         Ok(table) if check == Ok(()) => judge_table(given, &table, report),
@@ -115,9 +118,9 @@ fn compare_all(
     report.compare(case, case.line, wanted.as_str(), came)
 }
 
-/// Whether the line is one of those that are compared together.
+/// Whether the line is no word of its own: one of those that are compared together, or judged with the text.
 fn is_of_all(entry: &Entry<'_>) -> bool {
-    entry.word == "lex" || entry.word == "shown"
+    matches!(entry.word, "lex" | "shown" | "cut")
 }
 
 /// What the calls of a case see.

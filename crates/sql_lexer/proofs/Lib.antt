@@ -3,6 +3,7 @@ pub mod QuoteEnds
 pub mod CommentEnds
 pub mod TagEnds
 pub mod DigitRuns
+pub mod Tables
 pub mod Choices
 pub mod Boundaries
 pub mod Fits

@@ -48,6 +48,7 @@ pub(crate) fn junk_len(text: &[u8]) -> usize
     }
 }
 
+/// How many bytes in front an identifier goes on with.
 #[inline(always)]
 fn name_part_len(text: &[u8]) -> usize
     ensures len { result ≡ prefix_len bytes.is_name_part text.now }
