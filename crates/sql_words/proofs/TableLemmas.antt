@@ -8,7 +8,8 @@ use Rattle.std.proofs.lemmas.List.{get_or-map, length-map, map-append, take_all,
 use Rattle.std.proofs.lemmas.List.Elements.{All-cons, All-head, All-nil, All-tail}
 use Rattle.squawk_kinds.specs.Kinds.{IsKeyword, IsTokenKind}
 use Rattle.squawk_keywords.specs.KeywordPairs.{AreKeywords, IsFirstOther}
-use Rattle.sql_words.specs.SqlKinds.{keyword_kinds, keyword_name, keyword_names, names_of, rows_in, table}
+use Rattle.squawk_kinds.specs.EngineNames.{names_of}
+use Rattle.sql_words.specs.SqlKinds.{keyword_kinds, keyword_name, keyword_names, rows_in, table}
 use Rattle.sql_words.specs.declared.category.Category.{Category}
 use Rattle.sql_words.specs.declared.keywords.Keyword.{Keyword}
 use denote.Ref.{Bor}

@@ -1,13 +1,6 @@
 -- The keywords of PostgreSQL 15, by its documentation, appendix C, "SQL Key Words".
-use Rattle.std.specs.Prelude.{ℕ, ◌==◌, List, [], ◌∷◌, ◌++◌, codes, cond}
-
--- the words of a text in which a space stands between two
-abbrev pub words_behind : List ℕ → List ℕ → List (List ℕ)
-words_behind word [] = word ∷ []
-words_behind word (byte ∷ rest) = cond (byte == 32) (word ∷ words_behind [] rest) (words_behind (word ++ byte ∷ []) rest)
-
-abbrev pub words_in : List ℕ → List (List ℕ)
-words_in = words_behind []
+use Rattle.std.specs.Prelude.{ℕ, List, ◌++◌, codes}
+use Rattle.squawk_kinds.specs.EngineNames.{words_in}
 
 -- all keywords, in the order of their bytes
 abbrev pub keywords : List (List ℕ)

@@ -1,17 +1,16 @@
 -- The kinds of keywords and of nodes, and what kinds are called.
 use Rattle.std.specs.Prelude.{ℕ, ◌+◌, ◌==◌, ◌&&◌, ◌++◌, Bool, true, false, List, [], ◌∷◌, Option, codes, cond, is_some, map, unwrap_or}
 use Rattle.std.specs.Char.{to_ascii_uppercase}
-use Rattle.std.specs.List.{list_any, zip}
+use Rattle.std.specs.List.{list_any}
 use Rattle.std.specs.Map.{lookup}
 use Rattle.std.specs.Str.{bytes_eq}
-use Rattle.squawk_kinds.specs.Constants.{constants}
 use Rattle.squawk_kinds.specs.Kinds.{SIMILAR_KW}
+use Rattle.squawk_kinds.specs.EngineNames.{engine_names, words_in}
 use Rattle.squawk_kinds.specs.KindNames.{Names}
-use Rattle.sql_words.specs.PostgresKeywords.{keywords, col_name_keywords, reserved_keywords, type_func_name_keywords, words_in}
+use Rattle.sql_words.specs.PostgresKeywords.{keywords, col_name_keywords, reserved_keywords, type_func_name_keywords}
 use Rattle.sql_words.specs.declared.category.Category.{Category}
 use Rattle.sql_words.specs.declared.keywords.Keyword.{Keyword}
 use Rattle.sql_words.specs.declared.named_kind.NamedKind.{NamedKind}
-use denote.Ref.{Bor}
 use Rattle.sql_words.specs.declared.category.Category.TheVariants.{ColName, Reserved, TypeFuncName, Unreserved}
 
 -- ---- kinds of keywords
@@ -80,25 +79,6 @@ rows_in = map (λ row. (row.word.now, row.kind, row.category))
 abbrev pub names_in : List NamedKind → Names
 names_in = map (λ row. (row.kind, row.name.now))
 
-abbrev pub names_of : List (ℕ × Bor (List ℕ)) → Names
-names_of = map (λ pair. (pair.0, pair.1.now))
-
--- the engine's kinds are called as their constants are
-abbrev pub engine_names : Names
-engine_names = zip constants (
-    words_in (codes "EOF TOMBSTONE ERROR IDENT COMMENT SEMICOLON COMMA DOT DOT_DOT L_PAREN R_PAREN L_BRACK R_BRACK") ++
-    words_in (codes "L_CURLY R_CURLY AT POUND TILDE QUESTION COLON EQ BANG L_ANGLE R_ANGLE MINUS AMP PIPE PLUS STAR") ++
-    words_in (codes "SLASH CARET PERCENT BACKTICK INT_NUMBER NUMERIC_NUMBER STRING NATIONAL_STRING BYTE_STRING") ++
-    words_in (codes "BIT_STRING DOLLAR_QUOTED_STRING UNICODE_ESC_STRING ESC_STRING POSITIONAL_PARAM PSQL_COMMAND_TEXT") ++
-    words_in (codes "PSQL_TERMINATOR_TEXT COLON_EQ NEQ NEQB LTEQ FAT_ARROW LESS_LESS GREATER_GREATER GTEQ LONG_ARROW") ++
-    words_in (codes "SIMILAR_KW TO_KW AT_KW TIME_KW ZONE_KW LOCAL_KW IS_KW NOT_KW NFC_KW NFD_KW NFKC_KW NFKD_KW") ++
-    words_in (codes "NORMALIZED_KW JSON_KW OBJECT_KW ARRAY_KW VALUE_KW SCALAR_KW DISTINCT_KW FROM_KW OPERATOR_KW") ++
-    words_in (codes "LIKE_KW ILIKE_KW IN_KW WHITESPACE SIMILAR_TO AT_TIME_ZONE AT_LOCAL IS_NOT_NORMALIZED") ++
-    words_in (codes "IS_NORMALIZED COLON_COLON IS_JSON IS_NOT_JSON IS_NOT_JSON_OBJECT IS_NOT_JSON_ARRAY") ++
-    words_in (codes "IS_NOT_JSON_VALUE IS_NOT_JSON_SCALAR IS_JSON_OBJECT IS_JSON_ARRAY IS_JSON_VALUE IS_JSON_SCALAR") ++
-    words_in (codes "NOT_SIMILAR_TO IS_NOT_DISTINCT_FROM OPERATOR_CALL IS_DISTINCT_FROM NOT_LIKE NOT_ILIKE NOT_IN") ++
-    words_in (codes "IS_NOT CUSTOM_OP UNICODE_NORMAL_FORM"))
-
 -- the kind of a keyword is called by its word in upper case, with `_KW` behind it
 abbrev pub keyword_name : List ℕ → List ℕ
 keyword_name word = map to_ascii_uppercase word ++ codes "_KW"
@@ -107,7 +87,7 @@ abbrev pub keyword_names : Names
 keyword_names = map (λ row. (row.1, keyword_name row.0)) table
 
 -- kinds of nodes ascend from 700
-abbrev pub node_names : Names
+unfoldable pub node_names : Names
 node_names = map (λ row. (row.1, row.0)) (numbered 700 (
     words_in (codes "SOURCE_FILE STATEMENT PSQL_COMMAND SELECT INSERT UPDATE DELETE MERGE CREATE ALTER DROP TRUNCATE") ++
     words_in (codes "COMMENT_ON SECURITY_LABEL IMPORT_FOREIGN_SCHEMA REASSIGN REFRESH REINDEX CLUSTER VACUUM ANALYZE") ++
@@ -118,10 +98,6 @@ node_names = map (λ row. (row.1, row.0)) (numbered 700 (
     words_in (codes "FETCH_CLAUSE LOCKING_CLAUSE VALUES_CLAUSE SET_CLAUSE USING_CLAUSE WHEN_CLAUSE ON_CONFLICT_CLAUSE") ++
     words_in (codes "RETURNING_CLAUSE UNION_CLAUSE INTERSECT_CLAUSE EXCEPT_CLAUSE")))
 
--- the names of the engine's kinds and of nodes
-unfoldable pub other_names : Names
-other_names = engine_names ++ node_names
-
 -- the names of all kinds
 abbrev pub names : Names
-names = keyword_names ++ other_names
+names = engine_names ++ (keyword_names ++ node_names)

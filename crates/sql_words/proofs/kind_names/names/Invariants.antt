@@ -1,10 +1,11 @@
 use Rattle.std.proofs.Common.{◌≡◌, ◌+◌, ◌≤◌, ◌++◌, length, take, vec_len, vec_capacity}
-use Rattle.sql_words.specs.SqlKinds.{keyword_names, names_in, names_of}
+use Rattle.squawk_kinds.specs.EngineNames.{names_of}
+use Rattle.sql_words.specs.SqlKinds.{keyword_names, names_in}
 use Rattle.sql_words.proofs.kind_names.names.Given as goal
 
 abbrev pub invariant-loop-row : goal.invariant-loop-row
 invariant-loop-row l = record {
-  names : names_of l.names.items ≡ keyword_names ++ names_in (take l.row-index l.named);
-  room : vec_len l.initial.names + length l.named ≤ vec_capacity l.names;
-  len : vec_len l.names ≡ vec_len l.initial.names + l.row-index;
+  own : names_of l.own.items ≡ keyword_names ++ names_in (take l.row-index l.nodes);
+  room : vec_len l.initial.own + length l.nodes ≤ vec_capacity l.own;
+  len : vec_len l.own ≡ vec_len l.initial.own + l.row-index;
 }

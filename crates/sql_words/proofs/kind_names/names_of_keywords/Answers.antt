@@ -1,5 +1,5 @@
 use Rattle.std.proofs.Common.{◌∙◌, ap, rules}
-use Rattle.sql_words.specs.SqlKinds.{names_of}
+use Rattle.squawk_kinds.specs.EngineNames.{names_of}
 use Rattle.sql_words.proofs.TableLemmas.{name-next}
 use Rattle.sql_words.proofs.kind_names.names_of_keywords.Goals as goal
 

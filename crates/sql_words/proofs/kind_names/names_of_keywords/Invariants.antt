@@ -1,5 +1,6 @@
 use Rattle.std.proofs.Common.{◌≡◌, length, take, vec_len, vec_capacity}
-use Rattle.sql_words.specs.SqlKinds.{keyword_names, names_of}
+use Rattle.squawk_kinds.specs.EngineNames.{names_of}
+use Rattle.sql_words.specs.SqlKinds.{keyword_names}
 use Rattle.sql_words.proofs.kind_names.names_of_keywords.Given as goal
 
 abbrev pub invariant-loop-i : goal.invariant-loop-i
