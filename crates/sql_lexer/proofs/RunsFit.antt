@@ -79,7 +79,9 @@ dashes_fit (b ∷ rest) e =
     line_fits LineComment (b ∷ rest) (λ front. tt) (omega arith) (rw (sym dash) refl)
 
 pub line_comment_fits : (text : List ℕ) → RuleFits text (line_comment text)
-line_comment_fits text = when_fits text (begins text (codes "--")) (token LineComment (position_or_len is_line_end text)) (dashes_fit text)
+line_comment_fits text =
+    when_fits text (begins text (codes "--")) (token LineComment (position_or_len is_line_end text))
+    (dashes_fit text)
 
 pub psql_command_fits : (text : List ℕ) → RuleFits text (psql_command text)
 psql_command_fits text =
