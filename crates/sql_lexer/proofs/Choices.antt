@@ -115,10 +115,6 @@ name_chosen (b ∷ rest) found e same = chosen (b ∷ rest) found (same ∙ sym 
 space_choice : (b : ℕ) (rest : List ℕ) → is_space b ≡ true → first_of rules (b ∷ rest) ≡ whitespace (b ∷ rest)
 space_choice b rest e = rw e refl
 
-pub space_chosen : (text : List ℕ) (found : Token) → is_space (get_or text 0 0) ≡ true → Some found ≡ whitespace text → found ≡ first_token text
-space_chosen [] found e same = absurd (false≢true e)
-space_chosen (b ∷ rest) found e same = chosen (b ∷ rest) found (same ∙ sym (space_choice b rest e))
-
 -- ---- numbers
 
 found_first : (x y : Option Token) (found : Token) → Some found ≡ x → Some found ≡ or_else x y

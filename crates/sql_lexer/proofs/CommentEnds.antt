@@ -57,3 +57,6 @@ none_in_one outer (b ∷ c ∷ rest) le = absurd (omega arith)
 
 pub comment_stays_open : (outer at : ℕ) (text : List ℕ) → length text ≤ at + 1 → None ≡ past at (comment_end outer (drop at text))
 comment_stays_open outer at text le = ap (past at) (sym (none_in_one outer (drop at text) (omega (arith, length-drop at text))))
+
+-- the steps of a loop
+pub ruleset comment_steps = (comment_opens, comment_closes, comment_passes, comment_stays_open)

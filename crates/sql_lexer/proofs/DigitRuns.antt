@@ -53,3 +53,6 @@ pub digits_end_at_last : (base : Base) (at : ℕ) (text : List ℕ) → at < len
     → digits_len base (drop at text) ≡ 0
 digits_end_at_last base at text lt last e =
     ap (digits_len base) (drop_more text at 0 lt ∙ ap (λ rest. get_or text at 0 ∷ rest) (drop_all (at + 1) text last)) ∙ none_of_one base (get_or text at 0) e
+
+-- the steps of a loop
+pub ruleset digit_steps = (digit_passes, underscore_passes, digits_end, digits_end_before, digits_end_at_last)

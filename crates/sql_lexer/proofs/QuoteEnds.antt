@@ -78,3 +78,6 @@ escape_at_last at text last =
     let here : at < length text = omega arith in
     let none : length text ≤ at + 1 = omega arith in
     ap escape_end (drop_more text at 0 here ∙ ap (λ rest. get_or text at 0 ∷ rest) (drop_all (at + 1) text none))
+
+-- the steps of a loop
+pub ruleset escape_steps = (escape_takes, escape_closes, escape_passes, escape_at_last)

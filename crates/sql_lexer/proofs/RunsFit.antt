@@ -59,9 +59,6 @@ identifier_fits text = when_fits text (is_name_start (first text)) (token Ident 
 
 -- ---- up to the end of the line
 
-in_line : ℕ → Bool
-in_line b = not (is_line_end b)
-
 line_ends_lead : (b : ℕ) → not (is_line_end b) ≡ false → IsLead b
 line_ends_lead b e = λ high. grind (arith, nat_tests)
 
@@ -75,14 +72,16 @@ line_fits kind text meets some e =
       kind = meets (take (position_or_len is_line_end text) text);
     }
 
+dashes_fit : (text : List ℕ) → begins text (codes "--") ≡ true → Fits text (token LineComment (position_or_len is_line_end text))
+dashes_fit [] e = absurd (false≢true e)
+dashes_fit (b ∷ rest) e =
+    let dash : 45 ≡ b = eqb-true 45 b (and_parts (45 == b) (begins rest (codes "-")) e).0 in
+    line_fits LineComment (b ∷ rest) (λ front. tt) (omega arith) (rw (sym dash) refl)
+
 pub line_comment_fits : (text : List ℕ) → RuleFits text (line_comment text)
-line_comment_fits text = when_fits text (begins text (codes "--")) (token LineComment (position_or_len is_line_end text)) (go text)
-  where
-    go : (text : List ℕ) → begins text (codes "--") ≡ true → Fits text (token LineComment (position_or_len is_line_end text))
-    go [] e = absurd (false≢true e)
-    go (b ∷ rest) e =
-        let dash : 45 ≡ b = eqb-true 45 b (and_parts (45 == b) (begins rest (codes "-")) e).0 in
-        line_fits LineComment (b ∷ rest) (λ front. tt) (omega arith) (rw (sym dash) refl)
+line_comment_fits text =
+    when_fits text (begins text (codes "--")) (token LineComment (position_or_len is_line_end text))
+    (dashes_fit text)
 
 pub psql_command_fits : (text : List ℕ) → RuleFits text (psql_command text)
 psql_command_fits text =

@@ -42,7 +42,7 @@ pub(crate) fn block_comment(text: &[u8]) -> Option<Token>
 }
 
 /// Where a comment ends, from a place inside of it.
-#[tactic(auto, using(crate::proofs::CommentEnds::comment_opens, crate::proofs::CommentEnds::comment_closes, crate::proofs::CommentEnds::comment_passes, crate::proofs::CommentEnds::comment_stays_open))]
+#[tactic(auto, using(crate::proofs::CommentEnds::comment_steps))]
 fn comment_end(text: &[u8]) -> Option<usize>
     ensures end { result ≡ spec.comment_end 0 text.now }
     ensures within { IfSome result (λ end. end ≤ length text.now) }

@@ -195,7 +195,7 @@ fn whole_len(text: &[u8]) -> usize
 }
 
 /// How many bytes the digits in front have, where one underscore may stand before each.
-#[tactic(auto, using(crate::proofs::DigitRuns::digit_passes, crate::proofs::DigitRuns::underscore_passes, crate::proofs::DigitRuns::digits_end, crate::proofs::DigitRuns::digits_end_before, crate::proofs::DigitRuns::digits_end_at_last))]
+#[tactic(auto, using(crate::proofs::DigitRuns::digit_steps))]
 fn digits_len(base: Base, text: &[u8]) -> usize
     ensures len { result ≡ spec.digits_len base text.now }
     ensures within { result ≤ length text.now }

@@ -190,7 +190,7 @@ fn quote_end(quote: u8, text: &[u8]) -> Option<usize>
 }
 
 /// The same of an escape string, where a backslash takes the byte behind it along.
-#[tactic(auto, using(crate::proofs::QuoteEnds::escape_takes, crate::proofs::QuoteEnds::escape_closes, crate::proofs::QuoteEnds::escape_passes, crate::proofs::QuoteEnds::escape_at_last))]
+#[tactic(auto, using(crate::proofs::QuoteEnds::escape_steps))]
 fn escape_end(text: &[u8]) -> Option<usize>
     ensures end { result ≡ spec.escape_end text.now }
     ensures within { IfSome result (λ end. end ≤ length text.now) }
