@@ -1,5 +1,5 @@
 //! Operators, and words that belong together.
-ghost use Rattle.std.specs.Prelude.{◌≡◌, ◌≢◌, ◌<◌};
+ghost use Rattle.std.specs.Prelude.{◌≡◌, ◌≢◌, ◌<◌, true};
 ghost use Rattle.squawk_kinds.specs.Kinds.{EOF};
 ghost use Rattle.squawk_parser.specs.Composites.{NoTail};
 ghost use Rattle.squawk_parser.specs.Eaten.{tail_of_kind};
@@ -43,6 +43,22 @@ const PLAIN_OPERATORS: TokenSet = token_set![
     SyntaxKind::PERCENT,
     SyntaxKind::CARET,
 ];
+
+/// Whether tokens of the kind are always by themselves. These are most tokens.
+#[inline(always)]
+pub(crate) fn is_plain(kind: SyntaxKind) -> bool
+    ensures { result ≡ true → kind ≢ EOF }
+{
+    matches!(
+        kind,
+        SyntaxKind::IDENT
+            | SyntaxKind::COMMA
+            | SyntaxKind::DOT
+            | SyntaxKind::INT_NUMBER
+            | SyntaxKind::NUMERIC_NUMBER
+            | SyntaxKind::STRING
+    )
+}
 
 /// A token that opens and closes nothing: a composite kind, an operator, or one token by itself.
 pub(crate) fn token(p: &mut Parser<'_>)

@@ -1,11 +1,11 @@
 //! What stands in a statement: clauses, groups, blocks, and tokens by themselves.
-ghost use Rattle.std.specs.Prelude.{◌≢◌, ◌<◌};
+ghost use Rattle.std.specs.Prelude.{◌≡◌, ◌≢◌, ◌<◌, true};
 ghost use Rattle.squawk_kinds.specs.Kinds.{EOF, TOMBSTONE};
 ghost use Rattle.squawk_parser.specs.SomeSteps.{AddsSome};
 ghost use Rattle.squawk_parser.specs.State.{IsSound, kind_at};
 
 use crate::clauses::{QUERY_WORDS, Query, clause_kind, query_at, query_in};
-use crate::composites::token;
+use crate::composites::{is_plain, token};
 use crate::cut::Body;
 use crate::inside::Inside;
 use crate::statement_kinds::kind_of;
@@ -103,10 +103,18 @@ fn clause(p: &mut Parser<'_>, kind: SyntaxKind, inside: Inside, depth: u32)
 {
     let node = p.start();
     p.bump_any();
-    while !inside.ends_at(p.current()) && clause_kind(p).is_none() {
+    while goes_on(p, inside) {
         element(p, inside, depth);
     }
     node.complete(p, kind);
+}
+
+/// Whether a clause goes on at the current token.
+fn goes_on(p: &Parser<'_>, inside: Inside) -> bool
+    ensures { result ≡ true → kind_at p.now 0 ≢ EOF }
+{
+    let kind = p.current();
+    is_plain(kind) || (!inside.ends_at(kind) && clause_kind(p).is_none())
 }
 
 /// A group, a block, a CASE expression, or a token by itself.
@@ -117,6 +125,7 @@ fn element(p: &mut Parser<'_>, inside: Inside, depth: u32)
     ensures eats { p.old.position < p.new.position }
 {
     match p.current() {
+        kind if is_plain(kind) => p.bump_any(),
         SyntaxKind::L_PAREN | SyntaxKind::L_BRACK | SqlKind::CASE_KW => opening(p, inside, depth),
         SqlKind::BEGIN_KW if inside.body == Body::Routine && p.nth(1) == SqlKind::ATOMIC_KW => {
             opening(p, inside, depth)

@@ -61,11 +61,11 @@ invariant-with_clause-loop-p l = AddsSome l.initial.p l.p
 abbrev pub decreases-with_clause-loop-p : goal.decreases-with_clause-loop-p
 decreases-with_clause-loop-p l = l.p.limit - l.p.position
 
-abbrev pub invariant-clause-loop-p : goal.invariant-clause-loop-p
-invariant-clause-loop-p l = AddsSome l.initial.p l.p
+abbrev pub invariant-clause-loop-inside : goal.invariant-clause-loop-inside
+invariant-clause-loop-inside l = AddsSome l.initial.p l.p
 
-abbrev pub decreases-clause-loop-p : goal.decreases-clause-loop-p
-decreases-clause-loop-p l = l.p.limit - l.p.position
+abbrev pub decreases-clause-loop-inside : goal.decreases-clause-loop-inside
+decreases-clause-loop-inside l = l.p.limit - l.p.position
 
 abbrev pub invariant-statements-loop-p : goal.invariant-statements-loop-p
 invariant-statements-loop-p l = AddsSome l.initial.p l.p
