@@ -2,6 +2,7 @@
 //!
 //! These tests also pass where one allocation is refused: so each is asked for at most twice.
 
+mod accepted;
 mod names;
 
 use crate::cases::{

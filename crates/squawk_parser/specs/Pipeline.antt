@@ -3,6 +3,7 @@ use Rattle.std.specs.Prelude.{◌≡◌, ◌↔◌, ◌≤◌, ◌*◌, ℕ, IsT
 use Rattle.std.specs.Str.{chars}
 use Rattle.squawk_kinds.specs.Keywords.{Keywords}
 use Rattle.squawk_tokens.specs.AcceptedTokens.{AreAcceptedTokens, RefusesTokens}
+use Rattle.squawk_tokens.specs.declared.check.TableError.TheVariants.{OutOfMemory}
 use Rattle.squawk_tokens.specs.declared.token.Token.{Token}
 use Rattle.squawk_output.specs.Draft.{Draft}
 use Rattle.squawk_output.specs.OneRoot.{StandsInOneRoot}
@@ -16,6 +17,10 @@ use Rattle.squawk_parser.specs.Parse.{IsParse, IsRefused}
 use Rattle.squawk_parser.specs.State.{State, fresh}
 use Rattle.squawk_parser.specs.Words.{Words}
 use Rattle.squawk_parser.specs.declared.pipeline.Sent.{Sent}
+use Rattle.squawk_parser.specs.declared.pipeline.errors.ParseAcceptedError.{ParseAcceptedError}
+use Rattle.squawk_parser.specs.declared.pipeline.errors.ParseAcceptedError.TheVariants as accepted
+use Rattle.squawk_parser.specs.declared.pipeline.errors.ParseAcceptedWholeError.{ParseAcceptedWholeError}
+use Rattle.squawk_parser.specs.declared.pipeline.errors.ParseAcceptedWholeError.TheVariants as accepted_whole
 use Rattle.squawk_parser.specs.declared.pipeline.errors.ParseIntoError.{ParseIntoError}
 use Rattle.squawk_parser.specs.declared.pipeline.errors.ParseIntoError.TheVariants.{Table, Input, Parse, NoRoot, Sink}
 use Rattle.squawk_parser.specs.declared.pipeline.errors.ParseWholeError.{ParseWholeError}
@@ -119,3 +124,18 @@ asking (whole.Table reason) = Table reason
 asking (whole.Input reason) = Input reason
 asking (whole.Parse reason) = Parse reason
 asking (whole.Sink answer) = Sink answer
+
+-- the same refusal of a call that checks the raw tokens first
+abbrev pub checking : {R : Type 0} → ParseAcceptedError R → ParseIntoError R
+checking (accepted.Table reason) = Table OutOfMemory
+checking (accepted.Input reason) = Input reason
+checking (accepted.Parse reason) = Parse reason
+checking accepted.NoRoot = NoRoot
+checking (accepted.Sink answer) = Sink answer
+
+-- and of one that asks for no root
+abbrev pub checking_whole : {R : Type 0} → ParseAcceptedWholeError R → ParseWholeError R
+checking_whole (accepted_whole.Table reason) = whole.Table OutOfMemory
+checking_whole (accepted_whole.Input reason) = whole.Input reason
+checking_whole (accepted_whole.Parse reason) = whole.Parse reason
+checking_whole (accepted_whole.Sink answer) = whole.Sink answer

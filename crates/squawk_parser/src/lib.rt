@@ -95,7 +95,9 @@
 //! The ghost members are what the grammar promises beyond what holds of every parse: `leaves` tells
 //! what it leaves over an input, `runs` what it does to the parser, also where that fails, and
 //! `meaning` what `words` gives. This one always leaves one node over all tokens, so it is a
-//! [`WholeGrammar`]; [`parse_into`] takes any grammar, and asks for a root.
+//! [`WholeGrammar`]; [`parse_into`] takes any grammar, and asks for a root. Raw tokens that are known to be
+//! accepted, as those of a lexer that promises it, needn't be checked again: [`parse_accepted_into`] and
+//! [`parse_accepted_whole_into`] don't.
 #![tactic(auto)]
 
 pub mod parser;
@@ -105,8 +107,12 @@ pub use parser::{
     CompletedMarker, EntryPoint, Grammar, Limits, Marker, ParseError, Parser, Part, WholeGrammar,
     Words, has_tail,
 };
-pub use pipeline::errors::{ParseIntoError, ParseWholeError};
-pub use pipeline::{Sent, parse_into, parse_whole_into};
+pub use pipeline::errors::{
+    ParseAcceptedError, ParseAcceptedWholeError, ParseIntoError, ParseWholeError,
+};
+pub use pipeline::{
+    Sent, parse_accepted_into, parse_accepted_whole_into, parse_into, parse_whole_into,
+};
 pub use squawk_kinds::{
     ENGINE_KINDS, ENGINE_NAMES, KindNames, NoKeywords, SyntaxKind, TokenSet, Vocabulary, classes,
     is_col_name_keyword, is_reserved_keyword, is_type_func_name_keyword, kind_names, no_keywords,

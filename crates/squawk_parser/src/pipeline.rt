@@ -1,18 +1,19 @@
 //! From a text to a sink in one call.
 ghost use Rattle.std.specs.Prelude.{List, ◌≡◌, ◌++◌, true, IfOk, IfErr};
+ghost use Rattle.squawk_tokens.specs.AcceptedTokens.{AreAcceptedTokens};
 ghost use Rattle.squawk_table.specs.ParserInput.{input_of};
 ghost use Rattle.squawk_table.specs.Shape.{Fits, IsOver, no_keywords};
 ghost use Rattle.squawk_table.specs.Sent.{StopsWithin, sent_list};
 ghost use Rattle.squawk_table.specs.declared.shortcuts.str_step.OwnedStep.{OwnedStep};
-ghost use Rattle.squawk_parser.specs.Pipeline.{IsNotParsed, IsParsed, IsParsedInto, IsRefusal, IsSent, asking, given, table_for};
+ghost use Rattle.squawk_parser.specs.Pipeline.{IsNotParsed, IsParsed, IsParsedInto, IsRefusal, IsSent, asking, checking, checking_whole, given, table_for};
 
 pub mod errors;
 
 use crate::parser::{EntryPoint, Grammar, WholeGrammar};
-use errors::{ParseIntoError, ParseWholeError};
+use errors::{ParseAcceptedError, ParseAcceptedWholeError, ParseIntoError, ParseWholeError};
 use squawk_kinds::Vocabulary;
 use squawk_output::Output;
-use squawk_table::{LexedStr, StepSink, Token};
+use squawk_table::{LexedStr, StepSink, Token, check_tokens};
 use std::alloc::Global;
 
 /// What was sent, and what it took.
@@ -46,14 +47,8 @@ pub fn parse_into<V: Vocabulary, G: Grammar, S: StepSink>(
         IfErr result (IsRefusal g (G.leaves grammar.now entry) (G.runs grammar.now entry) (G.meaning grammar.now)
         (S.stands_after sink.old) (S.stands_after sink.new) S.refuses (sink.new ≡ sink.old)) }
 {
-    let parsed = Parsed::new(alloc, text, tokens, vocabulary, grammar, entry)?;
-    if !parsed.output.stands_in_one_root() {
-        return Err(ParseIntoError::NoRoot);
-    }
-    match parsed.send(sink) {
-        Ok(sent) => Ok(sent),
-        Err(answer) => Err(ParseIntoError::Sink(answer)),
-    }
+    check_tokens(text, tokens)?;
+    Ok(parse_accepted_into(alloc, text, tokens, vocabulary, grammar, entry, sink)?)
 }
 
 /// The same by a grammar that always leaves one node over all tokens: all of the text is sent.
@@ -73,10 +68,60 @@ pub fn parse_whole_into<V: Vocabulary, G: WholeGrammar, S: StepSink>(
         IfErr result (λ reason. IsRefusal g (G.leaves grammar.now entry) (G.runs grammar.now entry) (G.meaning grammar.now)
         (S.stands_after sink.old) (S.stands_after sink.new) S.refuses (sink.new ≡ sink.old) (asking reason)) }
 {
+    check_tokens(text, tokens)?;
+    Ok(parse_accepted_whole_into(alloc, text, tokens, vocabulary, grammar, entry, sink)?)
+}
+
+/// [`parse_into`] of raw tokens that are known to be accepted, as those of a lexer that promises it: they
+/// aren't checked.
+pub fn parse_accepted_into<V: Vocabulary, G: Grammar, S: StepSink>(
+    alloc: Global,
+    text: &str,
+    tokens: &[Token],
+    vocabulary: &V,
+    grammar: &G,
+    entry: EntryPoint,
+    sink: &mut S,
+) -> Result<Sent, ParseAcceptedError<S::Refusal>>
+    requires { AreAcceptedTokens text.now tokens.now }
+    ensures sent { let g = given (V.keyword vocabulary.now) (V.contextual_keyword vocabulary.now) text.now tokens.now in
+        IfOk result (IsParsedInto g (G.leaves grammar.now entry) (S.stands_after sink.old) (S.stands_after sink.new)) }
+    ensures refused { let g = given (V.keyword vocabulary.now) (V.contextual_keyword vocabulary.now) text.now tokens.now in
+        IfErr result (λ reason. IsRefusal g (G.leaves grammar.now entry) (G.runs grammar.now entry) (G.meaning grammar.now)
+        (S.stands_after sink.old) (S.stands_after sink.new) S.refuses (sink.new ≡ sink.old) (checking reason)) }
+{
+    let parsed = Parsed::new(alloc, text, tokens, vocabulary, grammar, entry)?;
+    if !parsed.output.stands_in_one_root() {
+        return Err(ParseAcceptedError::NoRoot);
+    }
+    match parsed.send(sink) {
+        Ok(sent) => Ok(sent),
+        Err(answer) => Err(ParseAcceptedError::Sink(answer)),
+    }
+}
+
+/// [`parse_whole_into`] of raw tokens that are known to be accepted: they aren't checked.
+pub fn parse_accepted_whole_into<V: Vocabulary, G: WholeGrammar, S: StepSink>(
+    alloc: Global,
+    text: &str,
+    tokens: &[Token],
+    vocabulary: &V,
+    grammar: &G,
+    entry: EntryPoint,
+    sink: &mut S,
+) -> Result<Sent, ParseAcceptedWholeError<S::Refusal>>
+    requires { AreAcceptedTokens text.now tokens.now }
+    ensures sent { let g = given (V.keyword vocabulary.now) (V.contextual_keyword vocabulary.now) text.now tokens.now in
+        IfOk result (IsParsedInto g (G.leaves grammar.now entry) (S.stands_after sink.old) (S.stands_after sink.new)) }
+    ensures all { IfOk result (λ sent. sent.all ≡ true) }
+    ensures refused { let g = given (V.keyword vocabulary.now) (V.contextual_keyword vocabulary.now) text.now tokens.now in
+        IfErr result (λ reason. IsRefusal g (G.leaves grammar.now entry) (G.runs grammar.now entry) (G.meaning grammar.now)
+        (S.stands_after sink.old) (S.stands_after sink.new) S.refuses (sink.new ≡ sink.old) (asking (checking_whole reason))) }
+{
     let parsed = Parsed::new(alloc, text, tokens, vocabulary, grammar, entry)?;
     match parsed.send(sink) {
         Ok(sent) => Ok(sent),
-        Err(answer) => Err(ParseWholeError::Sink(answer)),
+        Err(answer) => Err(ParseAcceptedWholeError::Sink(answer)),
     }
 }
 
@@ -88,7 +133,7 @@ struct Parsed<'a> {
 }
 
 impl<'a> Parsed<'a> {
-    /// Parses a text with these raw tokens.
+    /// Parses a text with these accepted raw tokens.
     fn new<V: Vocabulary, G: Grammar, R>(
         alloc: Global,
         text: &'a str,
@@ -96,14 +141,18 @@ impl<'a> Parsed<'a> {
         vocabulary: &V,
         grammar: &G,
         entry: EntryPoint,
-    ) -> Result<Parsed<'a>, ParseWholeError<R>>
+    ) -> Result<Parsed<'a>, ParseAcceptedWholeError<R>>
+        requires { AreAcceptedTokens text.now tokens.now }
         ensures parsed { let g = given (V.keyword vocabulary.now) (V.contextual_keyword vocabulary.now) text.now tokens.now in
             IfOk result (λ parsed. (parsed.table ≡ table_for g) × IsParsed g (G.leaves grammar.now entry) parsed.output) }
         ensures over { IfOk result (λ parsed. IsOver parsed.output.steps (input_of no_keywords parsed.table)) }
         ensures refused { let g = given (V.keyword vocabulary.now) (V.contextual_keyword vocabulary.now) text.now tokens.now in
-            IfErr result (IsNotParsed g (G.runs grammar.now entry) (G.meaning grammar.now)) }
+            IfErr result (λ reason. IsNotParsed g (G.runs grammar.now entry) (G.meaning grammar.now) (checking_whole reason)) }
     {
-        let table = LexedStr::new(alloc, text, tokens, vocabulary)?;
+        let table = match LexedStr::from_accepted(alloc, text, tokens, vocabulary) {
+            Ok(table) => table,
+            Err(reason) => return Err(ParseAcceptedWholeError::Table(reason)),
+        };
         let input = table.to_input(alloc, vocabulary)?;
         let output = entry.parse(alloc, &input, grammar)?;
         Ok(Parsed { table, output })

@@ -12,7 +12,7 @@ pub use lex_errors::LexErrors;
 use squawk_kinds::{SyntaxKind, Vocabulary};
 use squawk_tokens::Converter;
 pub use squawk_tokens::{Base, LexError, LiteralKind, TableError, Token, TokenKind, check_tokens};
-use std::alloc::Global;
+use std::alloc::{AllocError, Global};
 use std::marker::Model;
 use std::ops::Range;
 
@@ -53,6 +53,21 @@ impl<'a> LexedStr<'a> {
         ensures refused { IfErr result (RefusesTokens text.now tokens.now) }
     {
         check_tokens(text, tokens)?;
+        Ok(LexedStr::from_accepted(alloc, text, tokens, vocabulary)?)
+    }
+
+    /// The table of tokens that are known to be accepted, as those of a lexer that promises it.
+    ///
+    /// It checks nothing, so only memory may be refused.
+    pub fn from_accepted<V: Vocabulary>(
+        alloc: Global,
+        text: &'a str,
+        tokens: &[Token],
+        vocabulary: &V,
+    ) -> Result<LexedStr<'a>, AllocError>
+        requires { AreAcceptedTokens text.now tokens.now }
+        ensures { IfOk result (λ table. table ≡ table_of (V.keyword vocabulary.now) text.now tokens.now) }
+    {
         let mut kinds = Vec::with_capacity(alloc, tokens.len())?;
         let mut starts = Vec::with_capacity(alloc, tokens.len().saturating_add(1))?;
         let mut converter = Converter::new(alloc, text);

@@ -40,6 +40,32 @@ impl<R: fmt::Display> fmt::Display for ParseIntoError<R> {
 
 impl<R: Error> Error for ParseIntoError<R> {}
 
+impl<R> From<TableError> for ParseIntoError<R> {
+    ghost use Rattle.squawk_parser.specs.declared.pipeline.errors.ParseIntoError.TheVariants.{Table};
+
+    ghost from_gives = { λ reason error. error ≡ Table reason };
+
+    fn from(reason: TableError) -> ParseIntoError<R> {
+        ParseIntoError::Table(reason)
+    }
+}
+
+impl<R> From<ParseAcceptedError<R>> for ParseIntoError<R> {
+    ghost use Rattle.squawk_parser.specs.Pipeline.{checking};
+
+    ghost from_gives = { λ reason error. error ≡ checking reason };
+
+    fn from(reason: ParseAcceptedError<R>) -> ParseIntoError<R> {
+        match reason {
+            ParseAcceptedError::Table(reason) => ParseIntoError::Table(reason.into()),
+            ParseAcceptedError::Input(reason) => ParseIntoError::Input(reason),
+            ParseAcceptedError::Parse(reason) => ParseIntoError::Parse(reason),
+            ParseAcceptedError::NoRoot => ParseIntoError::NoRoot,
+            ParseAcceptedError::Sink(answer) => ParseIntoError::Sink(answer),
+        }
+    }
+}
+
 impl<R> From<ParseWholeError<R>> for ParseIntoError<R> {
     ghost use Rattle.squawk_parser.specs.Pipeline.{asking};
 
@@ -113,5 +139,123 @@ impl<R> From<ParseError> for ParseWholeError<R> {
 
     fn from(reason: ParseError) -> ParseWholeError<R> {
         ParseWholeError::Parse(reason)
+    }
+}
+
+impl<R> From<ParseAcceptedWholeError<R>> for ParseWholeError<R> {
+    ghost use Rattle.squawk_parser.specs.Pipeline.{checking_whole};
+
+    ghost from_gives = { λ reason error. error ≡ checking_whole reason };
+
+    fn from(reason: ParseAcceptedWholeError<R>) -> ParseWholeError<R> {
+        match reason {
+            ParseAcceptedWholeError::Table(reason) => ParseWholeError::Table(reason.into()),
+            ParseAcceptedWholeError::Input(reason) => ParseWholeError::Input(reason),
+            ParseAcceptedWholeError::Parse(reason) => ParseWholeError::Parse(reason),
+            ParseAcceptedWholeError::Sink(answer) => ParseWholeError::Sink(answer),
+        }
+    }
+}
+
+/// Which stage of [`parse_accepted_into`](crate::parse_accepted_into) refused, with the error of its
+/// own.
+#[derive(Debug, Drop)]
+pub enum ParseAcceptedError<R> {
+    /// Memory was refused to the table.
+    Table(AllocError),
+    /// Memory was refused to the parser's input.
+    Input(AllocError),
+    /// The parse was refused.
+    Parse(ParseError),
+    /// What the grammar left isn't one node, errors aside.
+    NoRoot,
+    /// The sink refused a step.
+    Sink(R),
+}
+
+impl<R: fmt::Display> fmt::Display for ParseAcceptedError<R> {
+    ghost use Rattle.squawk_parser.specs.ErrorLines.{parse_into_error_line};
+    ghost use Rattle.squawk_parser.specs.Pipeline.{checking};
+
+    ghost output = { λ error. parse_into_error_line R.output (checking error) };
+
+    fn fmt<W: fmt::Write>(&self, f: &mut fmt::Formatter<W>) -> fmt::Result {
+        match self {
+            ParseAcceptedError::Table(_reason) | ParseAcceptedError::Input(_reason) => {
+                write!(f, "memory")
+            }
+            ParseAcceptedError::Parse(reason) => write!(f, "{reason}"),
+            ParseAcceptedError::NoRoot => write!(f, "no root"),
+            ParseAcceptedError::Sink(answer) => write!(f, "{answer}"),
+        }
+    }
+}
+
+impl<R: Error> Error for ParseAcceptedError<R> {}
+
+impl<R> From<ParseAcceptedWholeError<R>> for ParseAcceptedError<R> {
+    ghost use Rattle.squawk_parser.specs.Pipeline.{asking, checking, checking_whole};
+
+    ghost from_gives = { λ reason error. checking error ≡ asking (checking_whole reason) };
+
+    fn from(reason: ParseAcceptedWholeError<R>) -> ParseAcceptedError<R> {
+        match reason {
+            ParseAcceptedWholeError::Table(reason) => ParseAcceptedError::Table(reason),
+            ParseAcceptedWholeError::Input(reason) => ParseAcceptedError::Input(reason),
+            ParseAcceptedWholeError::Parse(reason) => ParseAcceptedError::Parse(reason),
+            ParseAcceptedWholeError::Sink(answer) => ParseAcceptedError::Sink(answer),
+        }
+    }
+}
+
+/// The same of [`parse_accepted_whole_into`](crate::parse_accepted_whole_into), which asks for no root.
+#[derive(Debug, Drop)]
+pub enum ParseAcceptedWholeError<R> {
+    /// Memory was refused to the table.
+    Table(AllocError),
+    /// Memory was refused to the parser's input.
+    Input(AllocError),
+    /// The parse was refused.
+    Parse(ParseError),
+    /// The sink refused a step.
+    Sink(R),
+}
+
+impl<R: fmt::Display> fmt::Display for ParseAcceptedWholeError<R> {
+    ghost use Rattle.squawk_parser.specs.ErrorLines.{parse_into_error_line};
+    ghost use Rattle.squawk_parser.specs.Pipeline.{asking, checking_whole};
+
+    ghost output = { λ error. parse_into_error_line R.output (asking (checking_whole error)) };
+
+    fn fmt<W: fmt::Write>(&self, f: &mut fmt::Formatter<W>) -> fmt::Result {
+        match self {
+            ParseAcceptedWholeError::Table(_reason) | ParseAcceptedWholeError::Input(_reason) => {
+                write!(f, "memory")
+            }
+            ParseAcceptedWholeError::Parse(reason) => write!(f, "{reason}"),
+            ParseAcceptedWholeError::Sink(answer) => write!(f, "{answer}"),
+        }
+    }
+}
+
+impl<R: Error> Error for ParseAcceptedWholeError<R> {}
+
+impl<R> From<AllocError> for ParseAcceptedWholeError<R> {
+    ghost use Rattle.squawk_parser.specs.declared.pipeline.errors.ParseAcceptedWholeError.TheVariants.{Input};
+
+    ghost from_gives = { λ reason error. error ≡ Input reason };
+
+    fn from(reason: AllocError) -> ParseAcceptedWholeError<R> {
+        ParseAcceptedWholeError::Input(reason)
+    }
+}
+
+impl<R> From<ParseError> for ParseAcceptedWholeError<R> {
+    ghost use Rattle.squawk_parser.specs.declared.pipeline.errors.ParseAcceptedWholeError.TheVariants.{Parse};
+
+    ghost from_gives = { λ reason error. error ≡ Parse reason };
+
+    fn from(reason: ParseError) -> ParseAcceptedWholeError<R> {
+        ParseAcceptedWholeError::Parse(reason)
     }
 }

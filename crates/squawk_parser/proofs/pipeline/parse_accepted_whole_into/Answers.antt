@@ -1,5 +1,5 @@
 use Rattle.squawk_parser.proofs.WholeGrammars.{all_sent, parsed_into, parsed_root, stopped}
-use Rattle.squawk_parser.proofs.pipeline.parse_whole_into.Goals as goal
+use Rattle.squawk_parser.proofs.pipeline.parse_accepted_whole_into.Goals as goal
 
 pub send-requires : goal.send-requires
 send-requires g c = record {

@@ -3,7 +3,7 @@ use Rattle.std.proofs.Common.{◌≤◌, length, ◌≡◌, ◌++◌, drop, take
 use Rattle.squawk_tokens.specs.AcceptedTokens.{start_of}
 use Rattle.squawk_tokens.specs.Conversion.{HasRead}
 use Rattle.squawk_table.specs.RawTable.{kinds_from, starts_from}
-use Rattle.squawk_table.proofs.lexed_str.LexedStr.new.Given as goal
+use Rattle.squawk_table.proofs.lexed_str.LexedStr.from_accepted.Given as goal
 
 abbrev pub invariant-loop-token : goal.invariant-loop-token
 invariant-loop-token g l = record {
