@@ -11,5 +11,4 @@ mod t_to_z;
 ///
 /// A keyword that the engine has a kind for has that kind. The others are numbered from 200 in the order
 /// of the words, nodes from 700.
-#[derive(Clone, Copy, Debug)]
 pub struct SqlKind;

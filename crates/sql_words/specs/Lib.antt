@@ -1,0 +1,3 @@
+pub mod PostgresKeywords
+pub mod SqlKinds
+pub mod SqlVocabulary
