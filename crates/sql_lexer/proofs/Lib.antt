@@ -1,0 +1,14 @@
+pub mod Places
+pub mod QuoteEnds
+pub mod CommentEnds
+pub mod TagEnds
+pub mod DigitRuns
+pub mod Choices
+pub mod Boundaries
+pub mod Fits
+pub mod FoundEnds
+pub mod RunsFit
+pub mod ClosedFit
+pub mod NumbersFit
+pub mod FirstFits
+pub mod CutTokens

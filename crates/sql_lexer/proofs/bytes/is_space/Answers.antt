@@ -1,0 +1,12 @@
+use Rattle.std.proofs.Common.{refl, arith, get_or, ◌==◌}
+use Rattle.std.specs.Prelude.{ℕ}
+use Rattle.std.proofs.lemmas.Bool.{agree_below_at}
+use denote.Enum.Declared.{tag_of}
+use Rattle.sql_lexer.specs.Bytes.{is_space}
+use Rattle.sql_lexer.specs.contracts.bytes.Class.{the_type}
+use Rattle.sql_lexer.specs.declared.bytes.Class.TheVariants.{Other}
+use Rattle.sql_lexer.specs.declared.bytes.TheConstants.{CLASSES}
+use Rattle.sql_lexer.proofs.bytes.is_space.Goals as goal
+
+pub returns : goal.returns
+returns c = agree_below_at (λ b. let tag = tag_of the_type (get_or CLASSES b Other) in tag == 1) is_space 256 c.args.b refl (omega arith)

@@ -1,0 +1,12 @@
+pub mod Bytes
+pub mod Rules
+pub mod Signs
+pub mod Identifiers
+pub mod Comments
+pub mod Psql
+pub mod Strings
+pub mod DollarQuotes
+pub mod Numbers
+pub mod Tokens
+pub mod Pushes
+pub mod ErrorLines

@@ -1,0 +1,78 @@
+//! The token that begins a text.
+ghost use Rattle.std.specs.Prelude.{◌≡◌, ◌<◌, ◌^◌, length, slice_index, IsTrue};
+ghost use Rattle.sql_lexer.specs.Bytes as bytes;
+ghost use Rattle.sql_lexer.specs.Pushes.{Pushes};
+ghost use Rattle.sql_lexer.specs.Tokens as spec;
+
+use crate::bytes::{is_name_start, is_space, stands_alone};
+use crate::comments::{block_comment, line_comment};
+use crate::dollar_quotes::dollar_quote;
+use crate::identifiers::{long_name, short_name};
+use crate::numbers::{number, parameter, point_number};
+use crate::psql::psql_command;
+use crate::signs::{dot_dot, sign, whitespace};
+use crate::strings::{quoted_identifier, string};
+use squawk_tokens::Token;
+use std::alloc::AllocError;
+
+/// Adds the token by the first rule that fits, and gives its length in bytes. The first byte tells which
+/// rules may fit.
+///
+/// Most tokens are names, white space and bytes that stand alone. Each of them is added on its own path,
+/// where most of the token is a constant.
+#[inline(always)]
+pub(crate) fn push_first(tokens: &mut Vec<Token>, text: &[u8]) -> Result<usize, AllocError>
+    requires some { 0 < length text.now }
+    requires short { length text.now < 2 ^ 32 }
+    ensures { Pushes tokens.old.items (spec.first_token text.now) tokens.new.items result }
+{
+    let b = text[0];
+    if is_name_start(b) {
+        return match long_name(text) {
+            Some(name) => push(tokens, name),
+            None => push(tokens, short_name(text)),
+        };
+    }
+    if is_space(b) {
+        return push(tokens, whitespace(text));
+    }
+    if stands_alone(b) {
+        return push(tokens, sign(b));
+    }
+    push(tokens, one_of_several(text))
+}
+
+/// Adds a token, and gives its length in bytes.
+#[inline(always)]
+fn push(tokens: &mut Vec<Token>, token: Token) -> Result<usize, AllocError>
+    ensures { Pushes tokens.old.items token tokens.new.items result }
+{
+    tokens.push(token)?;
+    Ok(token.len as usize)
+}
+
+/// The token where the first byte begins several.
+fn one_of_several(text: &[u8]) -> Token
+    requires several { IsTrue (bytes.begins_several (slice_index text.now 0)) }
+    requires short { length text.now < 2 ^ 32 }
+    ensures { result ≡ spec.first_token text.now }
+{
+    let b = text[0];
+    if b.is_ascii_digit() {
+        return number(text);
+    }
+    match b {
+        b'"' => quoted_identifier(text),
+        b'-' => line_comment(text).unwrap_or_else(|| sign(b)),
+        b'/' => block_comment(text).unwrap_or_else(|| sign(b)),
+        b'\\' => psql_command(text).unwrap_or_else(|| sign(b)),
+        b'$' => parameter(text)
+            .or_else(|| dollar_quote(text))
+            .unwrap_or_else(|| sign(b)),
+        b'.' => point_number(text)
+            .or_else(|| dot_dot(text))
+            .unwrap_or_else(|| sign(b)),
+        // A single quote.
+        _ => string(text),
+    }
+}

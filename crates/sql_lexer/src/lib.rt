@@ -1,0 +1,16 @@
+//! A tokenizer of SQL, by PostgreSQL's documentation, section 4.1 "Lexical Structure": raw tokens of
+//! `squawk_tokens` for every text.
+#![tactic(auto)]
+
+mod bytes;
+mod comments;
+mod dollar_quotes;
+mod first_token;
+mod identifiers;
+mod numbers;
+mod psql;
+mod signs;
+mod strings;
+pub mod tokenizer;
+
+pub use tokenizer::{TokenizeError, tokenize};
