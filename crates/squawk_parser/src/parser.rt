@@ -100,6 +100,8 @@ impl<'t> Parser<'t> {
     /// How many tokens of the input were eaten.
     pub fn position(&self) -> usize
         ensures position { result ≡ self.now.position }
+        // The tokens of an input can be counted.
+        ensures few { length self.now.input < 2 ^ 64 }
         // What every parser keeps.
         ensures sound { IsSound self.now }
     {

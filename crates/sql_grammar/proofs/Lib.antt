@@ -1,0 +1,4 @@
+pub mod Lengths
+pub mod Looks
+pub mod StatementKinds
+pub mod Tails

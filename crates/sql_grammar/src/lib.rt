@@ -1,0 +1,78 @@
+//! A grammar of SQL that validates nothing and places everything: statements, clauses, brackets and
+//! blocks, for PostgreSQL's text and psql's.
+//!
+//! ```text
+//! SOURCE_FILE
+//!   SELECT
+//!     SELECT_CLAUSE  `select f`, GROUP `(a)`
+//!     FROM_CLAUSE    `from t`
+//!     `;`
+//! ```
+#![tactic(auto)]
+
+mod clauses;
+mod composites;
+mod cut;
+mod elements;
+mod inside;
+mod phrases;
+mod statement_kinds;
+mod statements;
+
+
+
+use crate::composites::OPERATORS;
+use crate::statements::statement;
+use sql_words::SqlKind;
+use squawk_parser::{EntryPoint, Grammar, Parser, SyntaxKind, WholeGrammar, Words};
+use std::alloc::AllocError;
+
+/// What errors call the kinds that are expected.
+pub const NAMES: [(SyntaxKind, &str); 3] = [
+    (SyntaxKind::R_PAREN, ")"),
+    (SyntaxKind::R_BRACK, "]"),
+    (SqlKind::END_KW, "END"),
+];
+
+/// A source file of SQL statements and commands of psql. Errors name kinds by these names.
+#[derive(Clone, Copy)]
+pub struct SqlGrammar<'n> {
+    pub names: &'n [(SyntaxKind, &'n str)],
+}
+
+impl<'n> Grammar for SqlGrammar<'n> {
+    ghost use Rattle.std.specs.Prelude.{map};
+    ghost use Rattle.squawk_parser.specs.Whole.{IsWholeFile};
+    ghost use Rattle.sql_grammar.specs.Kinds.{operator_set};
+
+    // One node over all tokens.
+    ghost leaves = { λ _ _ input draft. IsWholeFile input draft };
+
+    ghost runs = { λ _ _ _ _. Unit {0} };
+
+    ghost meaning = { λ grammar. record { operator_first = operator_set; names = map (λ pair. (pair.0, pair.1.now)) grammar.names.now } };
+
+    fn words(&self) -> Words<'_> {
+        Words {
+            operator_first: OPERATORS,
+            names: self.names,
+        }
+    }
+
+    fn entry_point(&self, p: &mut Parser<'_>) -> Result<(), AllocError> {
+        let file = p.start();
+        while p.current() != SyntaxKind::EOF {
+            statement(p);
+        }
+        file.complete(p, SqlKind::SOURCE_FILE);
+        Ok(())
+    }
+
+    fn plpgsql_entry_point(&self, p: &mut Parser<'_>) -> Result<(), AllocError> {
+        self.entry_point(p)
+    }
+}
+
+impl<'n> WholeGrammar for SqlGrammar<'n> {
+    ghost leaves_whole = { λ _ _ _ _ _ left. left };
+}

@@ -1,0 +1,55 @@
+//! Statements of a file.
+ghost use Rattle.std.specs.Prelude.{◌≢◌, ◌<◌};
+ghost use Rattle.squawk_kinds.specs.Kinds.{EOF};
+ghost use Rattle.squawk_parser.specs.SomeSteps.{AddsSome};
+ghost use Rattle.squawk_parser.specs.State.{kind_at};
+
+use crate::clauses::{Query, query_in};
+use crate::cut::{body_of, len_of};
+use crate::elements::{DEPTH, content};
+use crate::inside::Inside;
+use crate::statement_kinds::kind_of;
+use squawk_parser::{Parser, Part, SyntaxKind};
+
+/// A statement with what ends it, or a command of psql.
+pub(crate) fn statement(p: &mut Parser<'_>)
+    requires { kind_at p.old 0 ≢ EOF }
+    ensures adds { AddsSome p.old p.new }
+    ensures eats { p.old.position < p.new.position }
+{
+    let kind = kind_of(p);
+    let body = body_of(p);
+    let len = len_of(p, body);
+    let node = p.start();
+    let content = StatementContent {
+        query: query_in(kind),
+        inside: Inside::statement(body),
+    };
+    p.with_limit(len, content);
+    node.complete(p, kind);
+}
+
+/// All that a parser under a statement's limit sees.
+struct StatementContent {
+    query: Query,
+    inside: Inside,
+}
+
+impl Part for StatementContent {
+    ghost use Rattle.std.specs.Prelude.{◌≡◌};
+    ghost use Rattle.squawk_kinds.specs.Kinds.{EOF};
+    ghost use Rattle.squawk_parser.specs.SomeSteps.{AddsSome};
+    ghost use Rattle.squawk_parser.specs.State.{kind_at};
+
+    type Answer = ();
+
+    ghost does = { λ _ before after _. AddsSome before after × (kind_at after 0 ≡ EOF) };
+
+    fn run(self, p: &mut Parser<'_>) {
+        let StatementContent { query, inside } = self;
+        content(p, query, inside, DEPTH);
+        while p.current() != SyntaxKind::EOF {
+            p.bump_any();
+        }
+    }
+}
