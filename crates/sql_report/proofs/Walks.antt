@@ -4,6 +4,8 @@ use Rattle.std.specs.List.{count_by, list_any, prefix_len, take_while}
 use Rattle.std.proofs.lemmas.List.{drop-append-le, drop-take, drop_all, take_more, take_rest}
 use Rattle.std.proofs.lemmas.List.Folds.{list_any-append}
 use Rattle.std.proofs.lemmas.List.Sums.{count_by_more_no, count_by_more_yes, sum_by-append}
+use Rattle.sql_report.specs.ErrorLines.{error_at, shown_error}
+use Rattle.sql_report.specs.Findings.{Told}
 use Rattle.sql_report.specs.Places.{IsCounted, IsPlaceOf, Spot, begins_character, column_at, is_continuation, is_feed, is_in_line, last_line, line_at, shown_before, shown_behind}
 
 -- ---- the last line
@@ -115,8 +117,14 @@ line_of_place spot at is = ap (λ front. count_by is_feed front + 1) is.front
 pub column_of_place : (spot : Spot) (at : ℕ) → IsPlaceOf spot at → column_at spot.text spot.at ≡ column_at spot.text at
 column_of_place spot at is = ap (λ front. count_by begins_character (last_line front) + 1) is.front
 
-pub before_of_place : (spot : Spot) (at : ℕ) → IsPlaceOf spot at → shown_before spot.text spot.at ≡ shown_before spot.text at
+before_of_place : (spot : Spot) (at : ℕ) → IsPlaceOf spot at → shown_before spot.text spot.at ≡ shown_before spot.text at
 before_of_place spot at is = ap (λ front. past_continuation (drop (length (last_line front) - 100) (last_line front))) is.front
 
-pub behind_of_place : (spot : Spot) (at : ℕ) → IsPlaceOf spot at → shown_behind spot.text spot.at ≡ shown_behind spot.text at
+behind_of_place : (spot : Spot) (at : ℕ) → IsPlaceOf spot at → shown_behind spot.text spot.at ≡ shown_behind spot.text at
 behind_of_place spot at is = ap (λ rest. take_while is_in_line (take (100 + prefix_len is_continuation (drop 100 rest)) rest)) is.behind
+
+-- an error shown at a place
+pub error_of_place : (name : List ℕ) (spot : Spot) (at : ℕ) (error : Told) → IsPlaceOf spot at
+    → error_at name spot.text spot.at error ≡ error_at name spot.text at error
+error_of_place name spot at error is = λ i. shown_error name (line_of_place spot at is i) (column_of_place spot at is i)
+    (before_of_place spot at is i) (behind_of_place spot at is i) error

@@ -1,8 +1,7 @@
 -- The nodes that are open on the way through steps. Only private functions speak of them.
-use Rattle.std.specs.Prelude.{ℕ, ◌+◌, List, [], ◌∷◌, ◌++◌, length}
+use Rattle.std.specs.Prelude.{ℕ, List, [], ◌∷◌, ◌++◌, length}
 use Rattle.squawk_table.specs.declared.shortcuts.str_step.OwnedStep.{OwnedStep}
-use Rattle.squawk_tree.specs.TreeText.{bytes_left}
-use Rattle.sql_report.specs.Statements.{statements_from}
+use Rattle.sql_report.specs.Statements.{bytes_until_left, ending, statements_from}
 use Rattle.sql_report.specs.declared.statement_list.OpenNode.{OpenNode}
 use Rattle.sql_report.specs.declared.statement_list.Statement.{Statement}
 
@@ -23,7 +22,7 @@ front_nodes (node ∷ inner ∷ others) = node ∷ front_nodes (inner ∷ others
 abbrev pub open_statement : List OpenNode → ℕ → List OwnedStep → List Statement
 open_statement [] at steps = []
 open_statement (root ∷ []) at steps = []
-open_statement (root ∷ node ∷ inner) at steps = record { kind = node.kind; start = node.start; end = at + bytes_left steps (length inner) } ∷ []
+open_statement (root ∷ node ∷ inner) at steps = ending node.kind node.start at (bytes_until_left steps (length inner))
 
 -- the statements that end in further steps
 abbrev pub statements_left : List OpenNode → ℕ → List OwnedStep → List Statement

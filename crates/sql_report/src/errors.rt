@@ -1,12 +1,12 @@
 //! Errors as compilers show them.
-ghost use Rattle.std.specs.Prelude.{◌≡◌, ◌++◌, IfOk, OnOk, map, string_bytes};
-ghost use Rattle.sql_report.specs.ErrorLines.{error_text, error_texts, heading, mark};
+ghost use Rattle.std.specs.Prelude.{◌≡◌, ◌++◌, IfOk, OnOk, option_map, string_bytes};
+ghost use Rattle.sql_report.specs.ErrorLines.{error_at, error_texts, heading, hint_part, mark};
 ghost use Rattle.sql_report.specs.Findings.{told};
-ghost use Rattle.sql_report.specs.Places.{IsPlaceOf};
 
 use crate::finding_list::Finding;
 use crate::place::{Place, is_continuation};
 use std::alloc::{AllocError, Global};
+use std::fmt::Write;
 
 /// Each error of a text that is called by this name, with its line and a mark under it:
 ///
@@ -25,7 +25,7 @@ pub fn error_lines(
     text: &str,
     findings: &[Finding<'_>],
 ) -> Result<Vec<u8>, AllocError>
-    ensures { IfOk result (λ lines. lines.items ≡ error_texts name.now text.now (map told findings.now)) }
+    ensures { IfOk result (λ lines. lines.items ≡ error_texts name.now text.now findings.now) }
 {
     let mut lines = Vec::new(alloc);
     let mut place = Place::start(text);
@@ -36,8 +36,7 @@ pub fn error_lines(
     Ok(lines)
 }
 
-/// Puts an error behind others.
-#[tactic(auto, using(crate::proofs::Walks::before_of_place, crate::proofs::Walks::behind_of_place))]
+/// Puts an error that is shown at a place behind others.
 fn push_error(
     alloc: Global,
     lines: &mut Vec<u8>,
@@ -45,10 +44,9 @@ fn push_error(
     place: &Place<'_>,
     finding: Finding<'_>,
 ) -> Result<(), AllocError>
-    requires { IsPlaceOf place.now finding.at }
-    ensures { OnOk result (lines.new.items ≡ lines.old.items ++ error_text name.now place.now.text (told finding.entry)) }
+    ensures { OnOk result (lines.new.items ≡ lines.old.items ++ error_at name.now place.now.text place.now.at (told finding.entry)) }
 {
-    let heading = heading(alloc, name, place, finding)?;
+    let heading = heading(alloc, name, place.line(), place.column(), finding)?;
     lines.extend_from_slice(heading.as_bytes())?;
     let before = place.before();
     lines.extend_from_slice(before)?;
@@ -58,22 +56,29 @@ fn push_error(
 }
 
 /// Where an error stands, and what it says.
-#[tactic(auto, using(crate::proofs::Walks::line_of_place, crate::proofs::Walks::column_of_place))]
 fn heading(
     alloc: Global,
     name: &str,
-    place: &Place<'_>,
+    line: usize,
+    column: usize,
     finding: Finding<'_>,
 ) -> Result<String, AllocError>
-    requires { IsPlaceOf place.now finding.at }
-    ensures { IfOk result (λ text. string_bytes text ≡ heading name.now place.now.text (told finding.entry)) }
+    ensures { IfOk result (λ text. string_bytes text ≡ heading name.now line column (told finding.entry)) }
 {
-    let line = place.line();
-    let column = place.column();
     let message = finding.message;
-    match finding.hint {
-        Some(hint) => format!(in alloc; "{name}:{line}:{column}: {message} ({hint})\n"),
-        None => format!(in alloc; "{name}:{line}:{column}: {message}\n"),
+    let mut text = format!(in alloc; "{name}:{line}:{column}: {message}")?;
+    push_hint(&mut text, finding.hint)?;
+    text.push('\n')?;
+    Ok(text)
+}
+
+/// Puts what is wanted behind a message, if it is said.
+fn push_hint(text: &mut String, hint: Option<&str>) -> Result<(), AllocError>
+    ensures { OnOk result (string_bytes text.new ≡ string_bytes text.old ++ hint_part (option_map (λ hint. hint.now) hint.entry)) }
+{
+    match hint {
+        Some(hint) => write!(text, " ({hint})"),
+        None => Ok(()),
     }
 }
 

@@ -7,7 +7,6 @@ ghost use Rattle.squawk_table.specs.SinkViews.{owned_step_of};
 ghost use Rattle.squawk_table.specs.declared.shortcuts.str_step.OwnedStep.{OwnedStep};
 ghost use Rattle.squawk_tree.specs.TreeText.{bytes_in};
 ghost use Rattle.sql_report.specs.OpenNodes.{closed, front_nodes, statements_left};
-ghost use Rattle.sql_report.specs.Places.{IsPlaceOf};
 ghost use Rattle.sql_report.specs.Statements.{statement_line, statement_lines, statements_of};
 
 use crate::place::Place;
@@ -42,6 +41,7 @@ pub fn statements(
     requires { Fits table.now output.now.steps }
     ensures { IfOk result (λ all. all.items ≡ statements_of (sent_list table.now output.now.steps)) }
 {
+    let _text_len = table.text_start(table.len());
     statements_in(alloc, table.str_steps(output))
 }
 
@@ -60,6 +60,7 @@ fn statements_in(alloc: Global, steps: StrSteps<'_>) -> Result<Vec<Statement>, A
 }
 
 /// Takes a step that stands at a byte, and tells the byte behind it.
+#[tactic(auto, using(crate::proofs::OpenNodeLemmas::left_token, crate::proofs::OpenNodeLemmas::left_enter, crate::proofs::OpenNodeLemmas::left_exit, crate::proofs::OpenNodeLemmas::left_error))]
 fn take_step(
     statements: &mut Vec<Statement>,
     nodes: &mut Vec<OpenNode>,
@@ -72,12 +73,17 @@ fn take_step(
         ≡ statements.old.items ++ statements_left nodes.old.items at (owned_step_of step.entry ∷ steps)) }
 {
     match step {
-        StrStep::Token { text, .. } => return Ok(at + byte_len(text)),
-        StrStep::Enter { kind } => nodes.push(OpenNode { kind, start: at })?,
-        StrStep::Exit => push_closed(statements, nodes, at)?,
-        StrStep::Error { .. } => {}
+        StrStep::Token { text, .. } => Ok(at + byte_len(text)),
+        StrStep::Enter { kind } => {
+            nodes.push(OpenNode { kind, start: at })?;
+            Ok(at)
+        }
+        StrStep::Exit => {
+            push_closed(statements, nodes, at)?;
+            Ok(at)
+        }
+        StrStep::Error { .. } => Ok(at),
     }
-    Ok(at)
 }
 
 /// How many bytes a text has.
@@ -88,6 +94,7 @@ fn byte_len(text: &str) -> usize
 }
 
 /// Closes the innermost node, which is a statement if it stands directly in the root.
+#[tactic(auto, using(crate::proofs::OpenNodeLemmas::front_nodes_last, crate::proofs::OpenNodeLemmas::closed_more, crate::proofs::OpenNodeLemmas::closed_statement))]
 fn push_closed(
     statements: &mut Vec<Statement>,
     nodes: &mut Vec<OpenNode>,
@@ -123,26 +130,23 @@ pub fn statement_lines(
     let mut place = Place::start(text);
     for statement in statements {
         place.go_to(statement.start);
-        push_statement(&mut lines, &mut names, &place, *statement)?;
+        push_statement(&mut lines, &mut names, place.line(), place.column(), *statement)?;
     }
     Ok(lines)
 }
 
 /// Puts the line of a statement behind others.
-#[tactic(auto, using(crate::proofs::Walks::line_of_place, crate::proofs::Walks::column_of_place))]
 fn push_statement(
     lines: &mut String,
     names: &mut KindNames<'_, '_>,
-    place: &Place<'_>,
+    line: usize,
+    column: usize,
     statement: Statement,
 ) -> Result<(), AllocError>
-    requires { IsPlaceOf place.now statement.start }
-    ensures line { OnOk result (string_bytes lines.new ≡ string_bytes lines.old ++ statement_line place.now.text names.old statement) }
+    ensures line { OnOk result (string_bytes lines.new ≡ string_bytes lines.old ++ statement_line line column names.old statement) }
     ensures same { names.new ≡ names.old }
 {
     let Statement { kind, start, end } = statement;
-    let line = place.line();
-    let column = place.column();
     write!(lines, "{start}..{end} {line}:{column} ")?;
     write_name(lines, names, kind)?;
     lines.push('\n')

@@ -1,0 +1,79 @@
+//! The program's arguments.
+
+use clap::{Arg, ArgAction, ArgMatches, Command};
+use std::alloc::{AllocError, Global};
+
+/// What goes to the standard output.
+#[derive(Clone, Copy, Debug, PartialEq, Eq)]
+pub enum Listing {
+    /// The tree as indented text.
+    Tree,
+    /// A line for each statement.
+    Statements,
+    /// A line for each raw token.
+    Tokens,
+    /// A line of JSON for each statement.
+    Json,
+    /// Nothing.
+    Quiet,
+}
+
+/// What the program is to do.
+#[derive(Clone, Copy)]
+pub struct Options<'a> {
+    pub listing: Listing,
+    /// None where the standard input is to be read.
+    pub files: &'a [&'a str],
+}
+
+/// What the arguments may be.
+pub fn command<'a>(alloc: Global) -> Result<Command<'a>, AllocError> {
+    let files = Arg::new(alloc, "FILE")
+        .action(ArgAction::Append)
+        .num_args(0..)
+        .help("SQL files in UTF-8; the standard input where none is named");
+    Command::new(alloc, "sql_tree")
+        .version("0.1.0")
+        .about("Prints the lossless tree of SQL, statement by statement, with its errors")
+        .arg(files)?
+        .arg(flag(alloc, "statements", "Print a line for each statement")?)?
+        .arg(flag(alloc, "tokens", "Print a line for each raw token")?)?
+        .arg(flag(alloc, "json", "Print a line of JSON for each statement")?)?
+        .arg(flag(alloc, "quiet", "Print errors alone")?)
+}
+
+/// The names of the flags, of which one may be used.
+static FLAGS: [&str; 4] = ["statements", "tokens", "json", "quiet"];
+
+/// A flag that rules out the others.
+fn flag<'a>(alloc: Global, name: &'a str, help: &'a str) -> Result<Arg<'a>, AllocError> {
+    let mut arg = Arg::new(alloc, name)
+        .long(name)
+        .action(ArgAction::SetTrue)
+        .help(help);
+    for other in &FLAGS {
+        if *other != name {
+            arg = arg.conflicts_with(*other)?;
+        }
+    }
+    Ok(arg)
+}
+
+/// What the arguments say.
+pub fn options<'a>(matches: &'a ArgMatches<'a>) -> Options<'a> {
+    let listing = if matches.get_flag("statements") {
+        Listing::Statements
+    } else if matches.get_flag("tokens") {
+        Listing::Tokens
+    } else if matches.get_flag("json") {
+        Listing::Json
+    } else if matches.get_flag("quiet") {
+        Listing::Quiet
+    } else {
+        Listing::Tree
+    };
+    Options {
+        listing,
+        files: matches.get_strs("FILE").unwrap_or(&[]),
+    }
+}
