@@ -61,6 +61,7 @@ const PUNCTUATION: TokenSet = token_set![
 ///
 /// A column's name may begin with the keywords that PostgreSQL's grammar calls `col_name_keyword`, and a
 /// type or a function may be named as its `type_func_name_keyword`.
+#[tactic(auto, using(crate::proofs::VocabularyLemmas::not_refused))]
 pub fn vocabulary(alloc: Global) -> Result<Keywords<'static>, AllocError>
     ensures { IfOk result KnowsKeywords }
 {
