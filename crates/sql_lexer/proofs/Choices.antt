@@ -1,15 +1,15 @@
 -- Which rule is the first that fits, by the first byte.
-use Rattle.std.proofs.Common.{◌≡◌, ◌∙◌, ℕ, ◌==◌, ◌<◌, true, false, Option, Some, None, List, [], ◌∷◌, ◌++◌, length, get_or, ap, sym, refl, arith}
+use Rattle.std.proofs.Common.{subst, ◌&&◌, ◌≡◌, ◌∙◌, ℕ, ◌==◌, ◌<◌, true, false, Option, Some, None, List, [], ◌∷◌, ◌++◌, length, get_or, ap, sym, refl, arith, Bool, ◌||◌}
 use Rattle.std.specs.Char.{is_ascii_digit, to_ascii_lowercase}
 use Rattle.std.specs.Option.{unwrap_or}
-use Rattle.std.proofs.lemmas.Bool.{ne_eqb, false≢true}
+use Rattle.std.proofs.lemmas.Bool.{false≢true}
 use Rattle.std.proofs.lemmas.Bool.Decides.{nat_tests}
 use Rattle.std.specs.List.{prefix_len}
 use Rattle.squawk_tokens.specs.declared.token.Token.{Token}
 use Rattle.squawk_tokens.specs.declared.token.TokenKind.TheVariants.{Ident}
 use Rattle.sql_lexer.specs.Bytes.{is_space, is_name_start, is_name_part, stands_alone}
 use Rattle.sql_lexer.specs.Rules.{token, first, first_of, or_else}
-use Rattle.sql_lexer.specs.Signs.{whitespace, dot_dot, sign}
+use Rattle.sql_lexer.specs.Signs.{whitespace, dot_dot, sign, single}
 use Rattle.sql_lexer.specs.Identifiers.{identifier}
 use Rattle.sql_lexer.specs.Comments.{line_comment, block_comment}
 use Rattle.sql_lexer.specs.Psql.{psql_command}
@@ -178,14 +178,52 @@ sign_choice b rest e =
     let points : (46 == b) ≡ false = grind (arith, nat_tests) in
     let slash : (47 == b) ≡ false = grind (arith, nat_tests) in
     let back : (b == 92) ≡ false = grind (arith, nat_tests) in
-    passed rules [] (b ∷ rest)
-    (no_space b rest space, (no_line_comment b rest dash, (no_block_comment b rest slash, (no_command b rest back,
-    (no_string b rest quote, (no_quoted_identifier b rest double, (no_prefixed b rest name, (no_identifier b rest name,
-    (no_parameter b rest dollar, (no_dollar_quote b rest dollar, (no_number b rest digit, (no_point_number b rest point, (no_points b rest points, tt)))))))))))))
+    passed rules [] (b ∷ rest) (
+      no_space b rest space,
+      (
+        no_line_comment b rest dash,
+        (
+          no_block_comment b rest slash,
+          (
+            no_command b rest back,
+            (
+              no_string b rest quote,
+              (
+                no_quoted_identifier b rest double,
+                (
+                  no_prefixed b rest name,
+                  (
+                    no_identifier b rest name,
+                    (no_parameter b rest dollar, (no_dollar_quote b rest dollar, (no_number b rest digit, (no_point_number b rest point, (no_points b rest points, tt))))),
+                  ),
+                ),
+              ),
+            ),
+          ),
+        ),
+      ),
+    )
 
-pub sign_chosen : (text : List ℕ) → 0 < length text → stands_alone (get_or text 0 0) ≡ true → sign (get_or text 0 0) ≡ first_token text
-sign_chosen [] some e = absurd (omega arith)
-sign_chosen (b ∷ rest) some e = ap (λ o. unwrap_or o (sign b)) (sym (sign_choice b rest e))
+no_spaces : (rest : List ℕ) → is_space (get_or rest 0 0) ≡ false → prefix_len is_space rest ≡ 0
+no_spaces [] e = refl
+no_spaces (c ∷ rest) e = rw e refl
+
+one_space : (b : ℕ) (rest : List ℕ) → is_space b ≡ true → is_space (get_or rest 0 0) ≡ false → whitespace (b ∷ rest) ≡ Some (single b)
+one_space b rest e f = rw (e, no_spaces rest f) refl
+
+single_choice : (b : ℕ) (rest : List ℕ) (space second : Bool) → is_space b ≡ space → is_space (get_or rest 0 0) ≡ second
+    → (space || stands_alone b) ≡ true → (space && second) ≡ false → single b ≡ first_token (b ∷ rest)
+single_choice b rest true true e f either both = absurd (false≢true (sym both))
+single_choice b rest true false e f either both = chosen (b ∷ rest) (single b) (sym (space_choice b rest e ∙ one_space b rest e f))
+single_choice b rest false second e f either both =
+    let as_sign : single b ≡ sign b = rw e refl in
+    as_sign ∙ ap (λ o. unwrap_or o (sign b)) (sym (sign_choice b rest either))
+
+pub single_chosen : (text : List ℕ) (space alone second : Bool) → 0 < length text → space ≡ is_space (get_or text 0 0) → alone ≡ stands_alone (get_or text 0 0)
+    → second ≡ is_space (get_or text 1 0) → (space || alone) ≡ true → (space && second) ≡ false → single (get_or text 0 0) ≡ first_token text
+single_chosen [] space alone second some e f g either both = absurd (omega arith)
+single_chosen (b ∷ rest) space alone second some e f g either both =
+    single_choice b rest space second (sym e) (sym g) (subst (λ (x : Bool). (space || x) ≡ true) f either) both
 
 -- ---- strings
 

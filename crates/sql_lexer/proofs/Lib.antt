@@ -3,6 +3,8 @@ pub mod QuoteEnds
 pub mod CommentEnds
 pub mod TagEnds
 pub mod DigitRuns
+pub mod NameFronts
+pub mod Tables
 pub mod Choices
 pub mod Boundaries
 pub mod Fits

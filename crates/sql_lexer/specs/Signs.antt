@@ -31,3 +31,7 @@ kind_in (row ∷ rows) b = if b == row.0 then row.1 else kind_in rows b
 -- A sign, or what is no other token: one byte. It is one character, since identifiers begin with all bytes past 127.
 abbrev pub sign : ℕ → Token
 sign b = token (kind_in signs b) 1
+
+-- a byte of white space by itself, or one that is no other token
+abbrev pub single : ℕ → Token
+single b = token (if is_space b then Whitespace else kind_in signs b) 1

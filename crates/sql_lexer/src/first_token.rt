@@ -10,7 +10,7 @@ use crate::dollar_quotes::dollar_quote;
 use crate::identifiers::{long_name, short_name};
 use crate::numbers::{number, parameter, point_number};
 use crate::psql::psql_command;
-use crate::signs::{dot_dot, sign, whitespace};
+use crate::signs::{dot_dot, is_space_second, single, whitespace};
 use crate::strings::{quoted_identifier, string};
 use squawk_tokens::Token;
 use std::alloc::AllocError;
@@ -18,8 +18,8 @@ use std::alloc::AllocError;
 /// Adds the token by the first rule that fits, and gives its length in bytes. The first byte tells which
 /// rules may fit.
 ///
-/// Most tokens are names, white space and bytes that stand alone. Each of them is added on its own path,
-/// where most of the token is a constant.
+/// Most tokens are names, a single byte of white space and bytes that stand alone. They are added on paths of
+/// their own, where most of the token is a constant, with few jumps: which token comes next can't be foretold.
 #[inline(always)]
 pub(crate) fn push_first(tokens: &mut Vec<Token>, text: &[u8]) -> Result<usize, AllocError>
     requires some { 0 < length text.now }
@@ -33,11 +33,12 @@ pub(crate) fn push_first(tokens: &mut Vec<Token>, text: &[u8]) -> Result<usize, 
             None => push(tokens, short_name(text)),
         };
     }
-    if is_space(b) {
+    let space = is_space(b);
+    if space & is_space_second(text) {
         return push(tokens, whitespace(text));
     }
-    if stands_alone(b) {
-        return push(tokens, sign(b));
+    if space | stands_alone(b) {
+        return push(tokens, single(b));
     }
     push(tokens, one_of_several(text))
 }
@@ -63,15 +64,15 @@ fn one_of_several(text: &[u8]) -> Token
     }
     match b {
         b'"' => quoted_identifier(text),
-        b'-' => line_comment(text).unwrap_or_else(|| sign(b)),
-        b'/' => block_comment(text).unwrap_or_else(|| sign(b)),
-        b'\\' => psql_command(text).unwrap_or_else(|| sign(b)),
+        b'-' => line_comment(text).unwrap_or(single(b)),
+        b'/' => block_comment(text).unwrap_or(single(b)),
+        b'\\' => psql_command(text).unwrap_or(single(b)),
         b'$' => parameter(text)
             .or_else(|| dollar_quote(text))
-            .unwrap_or_else(|| sign(b)),
+            .unwrap_or(single(b)),
         b'.' => point_number(text)
             .or_else(|| dot_dot(text))
-            .unwrap_or_else(|| sign(b)),
+            .unwrap_or(single(b)),
         // A single quote.
         _ => string(text),
     }

@@ -1,5 +1,5 @@
 //! Identifiers that aren't quoted, and the junk behind numbers, which is one.
-ghost use Rattle.std.specs.Prelude.{◌≡◌, ◌+◌, ◌<◌, ◌≤◌, ◌^◌, length, slice_index, IsTrue, IfSome, IsNone};
+ghost use Rattle.std.specs.Prelude.{◌≡◌, ◌+◌, ◌<◌, ◌≤◌, ◌^◌, ◌==◌, if◌then◌else◌, drop, length, slice_index, IsTrue, IfSome, IsNone};
 ghost use Rattle.std.specs.List.{prefix_len};
 ghost use Rattle.sql_lexer.specs.Bytes as bytes;
 ghost use Rattle.sql_lexer.specs.Identifiers as spec;
@@ -48,8 +48,47 @@ pub(crate) fn junk_len(text: &[u8]) -> usize
     }
 }
 
+/// How many bytes in front an identifier goes on with.
 #[inline(always)]
 fn name_part_len(text: &[u8]) -> usize
+    ensures len { result ≡ prefix_len bytes.is_name_part text.now }
+    ensures within { result ≤ length text.now }
+{
+    if text.len() < 8 {
+        return name_run_len(text);
+    }
+    let front = front_len(text);
+    if front < 8 {
+        return front;
+    }
+    8 + name_run_len(&text[8..])
+}
+
+/// The same of the first eight bytes, without a jump: which length comes next can't be foretold.
+#[inline(always)]
+fn front_len(text: &[u8]) -> usize
+    requires { 8 ≤ length text.now }
+    ensures { result + (if result == 8 then prefix_len bytes.is_name_part (drop 8 text.now) else 0) ≡ prefix_len bytes.is_name_part text.now }
+{
+    let a = is_name_part(text[0]);
+    let b = a & is_name_part(text[1]);
+    let c = b & is_name_part(text[2]);
+    let d = c & is_name_part(text[3]);
+    let e = d & is_name_part(text[4]);
+    let f = e & is_name_part(text[5]);
+    let g = f & is_name_part(text[6]);
+    let h = g & is_name_part(text[7]);
+    a as usize
+        + b as usize
+        + c as usize
+        + d as usize
+        + e as usize
+        + f as usize
+        + g as usize
+        + h as usize
+}
+
+fn name_run_len(text: &[u8]) -> usize
     ensures len { result ≡ prefix_len bytes.is_name_part text.now }
     ensures within { result ≤ length text.now }
 {

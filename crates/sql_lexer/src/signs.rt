@@ -6,6 +6,11 @@ ghost use Rattle.sql_lexer.specs.Rules as rules;
 ghost use Rattle.sql_lexer.specs.Signs as spec;
 
 use crate::bytes::is_space;
+use squawk_tokens::TokenKind::{
+    And, At, Backtick, Bang, Caret, CloseBracket, CloseCurly, CloseParen, Colon, Comma, Dot, Eq,
+    Gt, Lt, Minus, OpenBracket, OpenCurly, OpenParen, Or, Percent, Plus, Pound, Question, Semi,
+    Slash, Star, Tilde,
+};
 use squawk_tokens::{Token, TokenKind};
 
 #[inline(always)]
@@ -37,6 +42,17 @@ fn space_len(text: &[u8]) -> usize
     text.iter().take_while(|b| is_space(**b)).count()
 }
 
+/// Whether the second byte is white space.
+#[inline(always)]
+pub(crate) fn is_space_second(text: &[u8]) -> bool
+    ensures { result ≡ bytes.is_space (slice_index text.now 1) }
+{
+    match text.get(1) {
+        Some(second) => is_space(*second),
+        None => false,
+    }
+}
+
 /// `..`
 pub(crate) fn dot_dot(text: &[u8]) -> Option<Token>
     ensures { result ≡ spec.dot_dot text.now }
@@ -47,47 +63,147 @@ pub(crate) fn dot_dot(text: &[u8]) -> Option<Token>
     Some(token(TokenKind::DotDot, 2))
 }
 
-/// A byte that stands for itself.
+/// A token of one byte: white space, a sign, or what is no other token.
 #[inline(always)]
-pub(crate) fn sign(b: u8) -> Token
-    ensures { result ≡ spec.sign b }
+pub(crate) fn single(b: u8) -> Token
+    requires { b < 128 }
+    ensures { result ≡ spec.single b }
 {
-    token(sign_kind(b), 1)
+    token(SINGLE_KINDS[b as usize], 1)
 }
 
-/// The kind of a sign, `Unknown` of another byte.
-#[inline(always)]
-fn sign_kind(b: u8) -> TokenKind
-    ensures { result ≡ spec.kind_in spec.signs b }
-{
-    match b {
-        b'!' => TokenKind::Bang,
-        b'#' => TokenKind::Pound,
-        b'%' => TokenKind::Percent,
-        b'&' => TokenKind::And,
-        b'(' => TokenKind::OpenParen,
-        b')' => TokenKind::CloseParen,
-        b'*' => TokenKind::Star,
-        b'+' => TokenKind::Plus,
-        b',' => TokenKind::Comma,
-        b'-' => TokenKind::Minus,
-        b'.' => TokenKind::Dot,
-        b'/' => TokenKind::Slash,
-        b':' => TokenKind::Colon,
-        b';' => TokenKind::Semi,
-        b'<' => TokenKind::Lt,
-        b'=' => TokenKind::Eq,
-        b'>' => TokenKind::Gt,
-        b'?' => TokenKind::Question,
-        b'@' => TokenKind::At,
-        b'[' => TokenKind::OpenBracket,
-        b']' => TokenKind::CloseBracket,
-        b'^' => TokenKind::Caret,
-        b'`' => TokenKind::Backtick,
-        b'{' => TokenKind::OpenCurly,
-        b'|' => TokenKind::Or,
-        b'}' => TokenKind::CloseCurly,
-        b'~' => TokenKind::Tilde,
-        _ => TokenKind::Unknown,
-    }
-}
+const U: TokenKind = TokenKind::Unknown;
+
+const S: TokenKind = TokenKind::Whitespace;
+
+/// The kinds of tokens of one byte.
+static SINGLE_KINDS: [TokenKind; 128] = [
+    U,
+    U,
+    U,
+    U,
+    U,
+    U,
+    U,
+    U,
+    U,
+    S,
+    S,
+    S,
+    S,
+    S,
+    U,
+    U,
+    U,
+    U,
+    U,
+    U,
+    U,
+    U,
+    U,
+    U,
+    U,
+    U,
+    U,
+    U,
+    U,
+    U,
+    U,
+    U,
+    S,
+    Bang,
+    U,
+    Pound,
+    U,
+    Percent,
+    And,
+    U,
+    OpenParen,
+    CloseParen,
+    Star,
+    Plus,
+    Comma,
+    Minus,
+    Dot,
+    Slash,
+    U,
+    U,
+    U,
+    U,
+    U,
+    U,
+    U,
+    U,
+    U,
+    U,
+    Colon,
+    Semi,
+    Lt,
+    Eq,
+    Gt,
+    Question,
+    At,
+    U,
+    U,
+    U,
+    U,
+    U,
+    U,
+    U,
+    U,
+    U,
+    U,
+    U,
+    U,
+    U,
+    U,
+    U,
+    U,
+    U,
+    U,
+    U,
+    U,
+    U,
+    U,
+    U,
+    U,
+    U,
+    U,
+    OpenBracket,
+    U,
+    CloseBracket,
+    Caret,
+    U,
+    Backtick,
+    U,
+    U,
+    U,
+    U,
+    U,
+    U,
+    U,
+    U,
+    U,
+    U,
+    U,
+    U,
+    U,
+    U,
+    U,
+    U,
+    U,
+    U,
+    U,
+    U,
+    U,
+    U,
+    U,
+    U,
+    U,
+    U,
+    OpenCurly,
+    Or,
+    CloseCurly,
+    Tilde,
+    U,
+];

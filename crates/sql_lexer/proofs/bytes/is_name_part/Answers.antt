@@ -1,5 +1,5 @@
-use Rattle.std.proofs.Common.{refl, arith, get_or, ◌==◌}
-use Rattle.std.specs.Prelude.{ℕ, nat_le}
+use Rattle.std.proofs.Common.{refl, arith, get_or}
+use Rattle.std.specs.Prelude.{nat_le}
 use Rattle.std.proofs.lemmas.Bool.{agree_below_at}
 use denote.Enum.Declared.{tag_of}
 use Rattle.sql_lexer.specs.Bytes.{is_name_part}

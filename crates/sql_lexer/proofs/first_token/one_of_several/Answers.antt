@@ -1,4 +1,4 @@
-use Rattle.std.proofs.Common.{◌∙◌, ◌≡◌, sym, arith, get_or}
+use Rattle.std.proofs.Common.{◌∙◌, sym, arith}
 use Rattle.std.proofs.lemmas.Bool.Decides.{nat_tests}
 use Rattle.sql_lexer.proofs.Choices.{number_chosen, string_chosen}
 use Rattle.sql_lexer.proofs.first_token.one_of_several.Goals as goal
