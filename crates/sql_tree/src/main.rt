@@ -9,7 +9,7 @@ mod totals;
 mod unread;
 
 use crate::inputs::tell_all;
-use crate::options::{command, options};
+use crate::options::{command, told};
 use std::env;
 use std::io;
 use std::io::ErrorKind;
@@ -42,5 +42,5 @@ fn run(rt: &HostRuntime) -> io::Result<u8> {
             return Ok(if error.use_stderr() { 2 } else { 0 });
         }
     };
-    tell_all(rt, options(&matches))
+    tell_all(rt, told(&matches))
 }

@@ -60,7 +60,7 @@ fn flag<'a>(alloc: Global, name: &'a str, help: &'a str) -> Result<Arg<'a>, Allo
 }
 
 /// What the arguments say.
-pub fn options<'a>(matches: &'a ArgMatches<'a>) -> Options<'a> {
+pub fn told<'a>(matches: &'a ArgMatches<'a>) -> Options<'a> {
     let listing = if matches.get_flag("statements") {
         Listing::Statements
     } else if matches.get_flag("tokens") {
