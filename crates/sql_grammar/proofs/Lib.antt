@@ -1,3 +1,4 @@
+pub mod AddedStatements
 pub mod Lengths
 pub mod Looks
 pub mod StatementKinds

@@ -1,14 +1,14 @@
 -- The kinds of statements.
-use Rattle.std.proofs.Common.{◌≡◌, ◌≢◌, ◌∙◌, ℕ, ◌+◌, ◌<◌, ◌==◌, ◌&&◌, ◌||◌, not, Bool, true, false, List, [], ◌∷◌, drop, get_or, length, if◌then◌else◌, add-one, ap, sym, refl, arith}
+use Rattle.std.proofs.Common.{◌≡◌, ◌≢◌, ◌∙◌, ℕ, ◌+◌, ◌<◌, ◌==◌, ◌&&◌, not, Bool, true, false, List, [], ◌∷◌, drop, get_or, length, if◌then◌else◌, add-one, ap, sym, refl, arith}
 use Rattle.std.proofs.Math.Seq.{drop-cons}
 use Rattle.std.proofs.lemmas.List.{drop-drop}
 use Rattle.std.proofs.lemmas.Bool.{ne_eqb}
-use Rattle.squawk_kinds.specs.Kinds.{L_PAREN, PSQL_COMMAND_TEXT, PSQL_TERMINATOR_TEXT, TOMBSTONE}
+use Rattle.squawk_kinds.specs.Kinds.{L_PAREN, TOMBSTONE}
 use Rattle.squawk_table.specs.ParserInput.{kinds_in}
 use Rattle.squawk_parser.specs.State.{State, ahead, kind_at}
 use Rattle.squawk_parser.proofs.SeenSteps.{and-left, and-right, if-false, if-true}
 use Rattle.sql_grammar.specs.Kinds.{PSQL_COMMAND}
-use Rattle.sql_grammar.specs.Statements.{first, first_word, kind_for, kind_of, nth}
+use Rattle.sql_grammar.specs.Statements.{first, first_word, is_psql, kind_for, kind_of, nth}
 use Rattle.sql_grammar.specs.declared.statement_kinds.TheConstants.{STATEMENTS}
 use Rattle.sql_grammar.proofs.Looks.{kind_nth}
 
@@ -63,18 +63,18 @@ kind_for-node word (row ∷ rows) all =
 -- ---- the kind
 
 module _ (kinds : List ℕ) where
-  pub kind_of-psql : ((nth kinds 0 == PSQL_COMMAND_TEXT) || (nth kinds 0 == PSQL_TERMINATOR_TEXT)) ≡ true → kind_of kinds ≡ PSQL_COMMAND
+  pub kind_of-psql : is_psql (nth kinds 0) ≡ true → kind_of kinds ≡ PSQL_COMMAND
   unfolding kind_of
   kind_of-psql is = if-true _ _ _ is
 
-  pub kind_of-word : ((nth kinds 0 == PSQL_COMMAND_TEXT) || (nth kinds 0 == PSQL_TERMINATOR_TEXT)) ≡ false → kind_of kinds ≡ kind_for (first_word kinds) STATEMENTS
+  pub kind_of-word : is_psql (nth kinds 0) ≡ false → kind_of kinds ≡ kind_for (first_word kinds) STATEMENTS
   unfolding kind_of
   kind_of-word other = if-false _ _ _ other
 
   -- it is that of a node
   pub kind_of_node : kind_of kinds ≢ TOMBSTONE
   unfolding kind_of
-  kind_of_node = cases ((nth kinds 0 == PSQL_COMMAND_TEXT) || (nth kinds 0 == PSQL_TERMINATOR_TEXT))
+  kind_of_node = cases (is_psql (nth kinds 0))
     where
       cases : (b : Bool) → (if b then PSQL_COMMAND else kind_for (first_word kinds) STATEMENTS) ≢ TOMBSTONE
       cases true = λ is. absurd (cc)

@@ -85,11 +85,12 @@ abbrev pub first_word : List ℕ → ℕ
 first_word [] = EOF
 first_word (kind ∷ kinds) = if kind == L_PAREN then first_word kinds else kind
 
+abbrev pub is_psql : ℕ → Bool
+is_psql kind = (kind == PSQL_COMMAND_TEXT) || (kind == PSQL_TERMINATOR_TEXT)
+
 -- The kind of the first statement: that of a command of psql, or the kind for its first word.
 unfoldable pub kind_of : List ℕ → ℕ
-kind_of kinds =
-    if (nth kinds 0 == PSQL_COMMAND_TEXT) || (nth kinds 0 == PSQL_TERMINATOR_TEXT) then PSQL_COMMAND
-    else kind_for (first_word kinds) STATEMENTS
+kind_of kinds = if is_psql (nth kinds 0) then PSQL_COMMAND else kind_for (first_word kinds) STATEMENTS
 
 -- ---- all statements
 

@@ -18,8 +18,8 @@ mod inside;
 mod phrases;
 mod statement_kinds;
 mod statements;
-
-
+#[cfg(test)]
+mod tests;
 
 use crate::composites::OPERATORS;
 use crate::statements::statement;
@@ -42,11 +42,11 @@ pub struct SqlGrammar<'n> {
 
 impl<'n> Grammar for SqlGrammar<'n> {
     ghost use Rattle.std.specs.Prelude.{map};
-    ghost use Rattle.squawk_parser.specs.Whole.{IsWholeFile};
+    ghost use Rattle.sql_grammar.specs.Files.{IsFile};
     ghost use Rattle.sql_grammar.specs.Kinds.{operator_set};
 
-    // One node over all tokens.
-    ghost leaves = { λ _ _ input draft. IsWholeFile input draft };
+    // One node over all tokens, and in it a node for each statement.
+    ghost leaves = { λ _ _ input draft. IsFile input draft };
 
     ghost runs = { λ _ _ _ _. Unit {0} };
 
@@ -74,5 +74,5 @@ impl<'n> Grammar for SqlGrammar<'n> {
 }
 
 impl<'n> WholeGrammar for SqlGrammar<'n> {
-    ghost leaves_whole = { λ _ _ _ _ _ left. left };
+    ghost leaves_whole = { λ _ _ _ _ _ left. left.whole };
 }

@@ -3,7 +3,7 @@ ghost use Rattle.std.specs.Prelude.{◌≡◌, ◌≢◌};
 ghost use Rattle.squawk_kinds.specs.Kinds.{TOMBSTONE};
 ghost use Rattle.squawk_table.specs.ParserInput.{kinds_in};
 ghost use Rattle.squawk_parser.specs.State.{ahead};
-ghost use Rattle.sql_grammar.specs.Statements.{first_word, kind_for, kind_of};
+ghost use Rattle.sql_grammar.specs.Statements.{first_word, is_psql, kind_for, kind_of};
 
 use sql_words::SqlKind;
 use squawk_parser::{Parser, SyntaxKind};
@@ -35,10 +35,17 @@ pub(crate) fn kind_of(p: &Parser<'_>) -> SyntaxKind
     ensures is { result ≡ kind_of (kinds_in (ahead p.now 0)) }
     ensures kind { result ≢ TOMBSTONE }
 {
-    match p.current() {
-        SyntaxKind::PSQL_COMMAND_TEXT | SyntaxKind::PSQL_TERMINATOR_TEXT => SqlKind::PSQL_COMMAND,
-        _ => kind_for(first_word(p), &STATEMENTS),
+    if is_psql(p.current()) {
+        SqlKind::PSQL_COMMAND
+    } else {
+        kind_for(first_word(p), &STATEMENTS)
     }
+}
+
+fn is_psql(kind: SyntaxKind) -> bool
+    ensures { result ≡ is_psql kind }
+{
+    kind == SyntaxKind::PSQL_COMMAND_TEXT || kind == SyntaxKind::PSQL_TERMINATOR_TEXT
 }
 
 /// The first kind behind opening parentheses.

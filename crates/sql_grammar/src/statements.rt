@@ -1,8 +1,10 @@
 //! Statements of a file.
 ghost use Rattle.std.specs.Prelude.{◌≢◌, ◌<◌};
 ghost use Rattle.squawk_kinds.specs.Kinds.{EOF};
-ghost use Rattle.squawk_parser.specs.SomeSteps.{AddsSome};
-ghost use Rattle.squawk_parser.specs.State.{kind_at};
+ghost use Rattle.squawk_table.specs.ParserInput.{kinds_in};
+ghost use Rattle.squawk_parser.specs.State.{ahead, kind_at};
+ghost use Rattle.sql_grammar.specs.Files.{AddsStatement};
+ghost use Rattle.sql_grammar.specs.Statements.{first_statement};
 
 use crate::clauses::{Query, query_in};
 use crate::cut::{body_of, len_of};
@@ -14,7 +16,7 @@ use squawk_parser::{Parser, Part, SyntaxKind};
 /// A statement with what ends it, or a command of psql.
 pub(crate) fn statement(p: &mut Parser<'_>)
     requires { kind_at p.old 0 ≢ EOF }
-    ensures adds { AddsSome p.old p.new }
+    ensures adds { AddsStatement (first_statement (kinds_in (ahead p.old 0))) p.old p.new }
     ensures eats { p.old.position < p.new.position }
 {
     let kind = kind_of(p);
@@ -36,14 +38,11 @@ struct StatementContent {
 }
 
 impl Part for StatementContent {
-    ghost use Rattle.std.specs.Prelude.{◌≡◌};
-    ghost use Rattle.squawk_kinds.specs.Kinds.{EOF};
-    ghost use Rattle.squawk_parser.specs.SomeSteps.{AddsSome};
-    ghost use Rattle.squawk_parser.specs.State.{kind_at};
+    ghost use Rattle.sql_grammar.specs.Files.{AddsRest};
 
     type Answer = ();
 
-    ghost does = { λ _ before after _. AddsSome before after × (kind_at after 0 ≡ EOF) };
+    ghost does = { λ _ before after _. AddsRest before after };
 
     fn run(self, p: &mut Parser<'_>) {
         let StatementContent { query, inside } = self;

@@ -1,0 +1,220 @@
+-- The nodes of a file's statements are added, one behind another.
+use Rattle.std.proofs.Common.{◌≡◌, ◌≢◌, ◌∙◌, ℕ, zero, suc, ◌+◌, ◌-◌, ◌<◌, ◌≤◌, ◌==◌, min, Bool, true, false, Option, Some, None, List, [], ◌∷◌, ◌++◌, drop, take, length, if◌then◌else◌, arith, ap, sym, refl, subst, append_assoc, length-drop}
+use Rattle.std.proofs.lemmas.List.{append-nil, length-map, length-take}
+use Rattle.squawk_kinds.specs.Kinds.{EOF, PSQL_COMMAND_TEXT}
+use Rattle.squawk_output.specs.Draft.{Mark, plain}
+use Rattle.squawk_output.specs.OneRoot.{IsBalanced}
+use Rattle.squawk_output.specs.Steps.{Step, Token, eaten}
+use Rattle.squawk_table.specs.ParserInput.{kinds_in}
+use Rattle.squawk_parser.specs.Composed.{Adds}
+use Rattle.squawk_parser.specs.Eaten.{node}
+use Rattle.squawk_parser.specs.Recorded.{Begins, Completes}
+use Rattle.squawk_parser.specs.SomeSteps.{AddsSome}
+use Rattle.squawk_parser.specs.State.{State, HasNotFailed, IsFresh, IsSound, Keeps, ahead, kind_at, limited, with_limit_of}
+use Rattle.squawk_parser.specs.declared.parser.parse_error.ParseError.{ParseError}
+use Rattle.squawk_parser.proofs.AddedSteps.{Adds-node, Adds-puts, Adds-then, node_around, plain-fresh}
+use Rattle.squawk_parser.proofs.Balance.{IsBalanced-depth_after, depth_after, depth_after-append, depth_after-balanced}
+use Rattle.squawk_parser.proofs.KindsAhead.{kinds_moved, kinds_none, kinds_some, kinds_still}
+use Rattle.squawk_parser.proofs.Progress.{eaten-node}
+use Rattle.squawk_parser.proofs.RecordedItems.{plain-append}
+use Rattle.squawk_parser.proofs.RecordedSteps.{puts-none, went}
+use Rattle.squawk_parser.proofs.SeenSteps.{ahead-fresh}
+use Rattle.squawk_parser.proofs.SomeSteps.{adds_some, none_some, some_adds, whole_some}
+use Rattle.sql_grammar.specs.Files.{AddsRest, AddsStatement, AreNodesOf, IsFile}
+use Rattle.sql_grammar.specs.Kinds.{SOURCE_FILE}
+use Rattle.sql_grammar.specs.Statements.{Statement, body_of, ends_at, first, first_statement, kind_of, len_behind, len_of, nth, open_behind, statements_behind, statements_of}
+use Rattle.sql_grammar.specs.declared.cut.Body.{Body}
+
+-- ---- how many tokens are seen
+
+seen_len : (s : State) → IsSound s → length (kinds_in (ahead s 0)) ≡ s.limit - s.position
+seen_len s sound =
+    let map = length-map (ahead s 0) (λ e. e.kind) in
+    let drop = length-drop (s.position + 0) (take s.limit s.input) in
+    let take = length-take s.limit s.input in
+    let within = sound.limit in
+    omega (arith, map, drop, take, within)
+
+-- a parser that sees the end stands at its limit
+at_limit : (s : State) → IsSound s → kind_at s 0 ≡ EOF → s.position ≡ s.limit
+at_limit s sound end =
+    let none = ap length (kinds_none s sound end) in
+    let seen = seen_len s sound in
+    let position = sound.position in
+    omega (arith, none, seen, position)
+
+-- ---- how many tokens a statement has
+
+len_behind-within : (body : Body) (unclosed : ℕ) (kinds : List ℕ) → len_behind body unclosed kinds ≤ length kinds
+len_behind-within body unclosed [] = omega arith
+len_behind-within body unclosed (kind ∷ kinds) =
+    let more = len_behind-within body (open_behind body unclosed kind (first kinds)) kinds in
+    cases (ends_at unclosed kind) more
+  where
+    cases : (b : Bool) {n : ℕ} → n ≤ length kinds → (if b then 1 else 1 + n) ≤ length (kind ∷ kinds)
+    cases true le = omega arith
+    cases false le = omega arith
+
+len_behind-some : (body : Body) (unclosed kind : ℕ) (kinds : List ℕ) → 0 < len_behind body unclosed (kind ∷ kinds)
+len_behind-some body unclosed kind kinds = cases (ends_at unclosed kind) (len_behind body (open_behind body unclosed kind (first kinds)) kinds)
+  where
+    cases : (b : Bool) (n : ℕ) → 0 < (if b then 1 else 1 + n)
+    cases true n = omega arith
+    cases false n = omega arith
+
+module _ (body : Body) (kind : ℕ) (kinds : List ℕ) where
+  len_of-within : len_of body (kind ∷ kinds) ≤ length (kind ∷ kinds)
+  len_of-within = cases (kind == PSQL_COMMAND_TEXT) (len_behind-within body 0 (kind ∷ kinds))
+    where
+      cases : (b : Bool) {n : ℕ} → n ≤ length (kind ∷ kinds) → (if b then 1 else n) ≤ length (kind ∷ kinds)
+      cases true le = omega arith
+      cases false le = le
+
+  len_of-some : 0 < len_of body (kind ∷ kinds)
+  len_of-some = cases (kind == PSQL_COMMAND_TEXT) (len_behind-some body 0 kind kinds)
+    where
+      cases : (b : Bool) {n : ℕ} → 0 < n → 0 < (if b then 1 else n)
+      cases true lt = omega arith
+      cases false lt = lt
+
+-- ---- the statements behind the first
+
+statements-drop : (n : ℕ) (kinds : List ℕ) → statements_behind n kinds ≡ statements_of (drop n kinds)
+statements-drop zero kinds = refl
+statements-drop (suc n) [] = refl
+statements-drop (suc n) (kind ∷ kinds) = statements-drop n kinds
+
+statements-first : (kind : ℕ) (kinds : List ℕ)
+    → statements_of (kind ∷ kinds) ≡ first_statement (kind ∷ kinds) ∷ statements_of (drop (first_statement (kind ∷ kinds)).len (kind ∷ kinds))
+statements-first kind kinds = ap (λ ss. first_statement (kind ∷ kinds) ∷ ss) (others (first_statement (kind ∷ kinds)).len (len_of-some (body_of (kind ∷ kinds)) kind kinds))
+  where
+    others : (len : ℕ) → 0 < len → statements_behind (len - 1) kinds ≡ statements_of (drop len (kind ∷ kinds))
+    others zero lt = absurd (omega arith)
+    others (suc n) lt = let same : suc n - 1 ≡ n = omega arith in ap (λ k. statements_behind k kinds) same ∙ statements-drop n kinds
+
+-- ---- a statement
+
+record AddsBalanced (old new : State) : Type 0 where
+  pub steps : List Step
+  pub adds : Adds steps old new
+  pub balanced : IsBalanced steps
+
+-- some steps that are added are balanced
+some_balanced : {a b : State} → IsSound a → AddsSome a b → AddsBalanced a b
+some_balanced {a} {b} sound p = cases b.first_reason refl
+  where
+    cases : (f : Option ParseError) → b.first_reason ≡ f → AddsBalanced a b
+    cases None goes =
+        let added = some_adds sound p in
+        let all = ap plain (added.1.draft goes).items
+        ∙ (plain-append a.draft.items (added.1.draft goes).made ∙ ap (λ steps. plain a.draft.items ++ steps) (added.1.draft goes).steps_made) in
+        let before = depth_after-balanced (plain a.draft.items) sound.balanced in
+        let after = depth_after-balanced (plain b.draft.items) p.some.keeps.sound.balanced in
+        let inside = sym (depth_after-append 0 0 (plain a.draft.items) added.0 before) ∙ (ap (depth_after 0) (sym all) ∙ after) in
+        record { steps = added.0; adds = added.1; balanced = IsBalanced-depth_after added.0 inside }
+    cases (Some reason) failed =
+        let forward = p.some.keeps.forward in
+        record {
+          steps = Token 0 (b.position - a.position) ∷ [];
+          adds = record { keeps = p.some.keeps; position = omega (arith, forward); draft = λ goes. absurd (let e = sym goes ∙ failed in cc) };
+          balanced = IsBalanced-depth_after (Token 0 (b.position - a.position) ∷ []) refl;
+        }
+
+pub rest_added : {a b : State} → IsSound a → AddsSome a b → kind_at b 0 ≡ EOF → AddsRest a b
+rest_added {a} {b} sound some end =
+    let added = some_balanced sound some in
+    record { steps = added.steps; adds = added.adds; balanced = added.balanced; end = at_limit b some.some.keeps.sound end }
+
+-- what is added under a limit is added
+pub inner_added : {b c : State} (n : ℕ) → Keeps b c → (rest : AddsRest (limited b n) (with_limit_of c (limited b n))) → Adds rest.steps b c
+inner_added n keeps rest = record { keeps = keeps; position = rest.adds.position; draft = rest.adds.draft }
+
+abbrev pub statement_with : ℕ → ℕ → Statement
+statement_with kind len = record { kind = kind; len = len }
+
+-- the first statement is within what is seen
+pub first_within : (s : State) → kind_at s 0 ≢ EOF → (first_statement (kinds_in (ahead s 0))).len ≤ length (kinds_in (ahead s 0))
+first_within s some =
+    let kind = kind_at s 0 in
+    let kinds = drop 1 (kinds_in (ahead s 0)) in
+    subst (λ kinds. (first_statement kinds).len ≤ length kinds) (sym (kinds_some s some)) (len_of-within (body_of (kind ∷ kinds)) kind kinds)
+
+-- Under a limit of its tokens all of them are added, in its node.
+pub first_added : {a b c d : State} {m : Mark} (statement : Statement) → statement ≡ first_statement (kinds_in (ahead a 0)) → kind_at a 0 ≢ EOF → Begins m a b → Keeps b c
+    → AddsRest (limited b statement.len) (with_limit_of c (limited b statement.len)) → Completes m.id statement.kind c d → AddsStatement (first_statement (kinds_in (ahead a 0))) a d
+first_added {a} {b} {c} {d} statement is some begins keeps rest completes =
+    let within : statement.len ≤ length (kinds_in (ahead a 0)) = subst (λ (s : Statement). s.len ≤ length (kinds_in (ahead a 0))) (sym is) (first_within a some) in
+    let seen = seen_len a begins.sound in
+    let position = begins.position in
+    let limit = begins.keeps.limit in
+    let eats = rest.adds.position in
+    let end = rest.end in
+    subst (λ (s : Statement). AddsStatement s a d) is (record {
+      inner = rest.steps;
+      adds = Adds-node (node_around begins (inner_added statement.len keeps rest) completes refl);
+      balanced = rest.balanced;
+      len = omega (arith, seen, within, position, limit, eats, end);
+    })
+
+pub is_first : (kinds : List ℕ) {kind len : ℕ} {body : Body} → kind ≡ kind_of kinds → body ≡ body_of kinds → len ≡ len_of body kinds → statement_with kind len ≡ first_statement kinds
+is_first kinds {kind} {len} kind_is body_is len_is =
+    let same : len ≡ len_of (body_of kinds) kinds = len_is ∙ ap (λ body. len_of body kinds) body_is in
+    ap (λ k. statement_with k len) kind_is ∙ ap (statement_with (kind_of kinds)) same
+
+-- and its node eats
+pub statement_eats : {a b : State} → kind_at a 0 ≢ EOF → AddsStatement (first_statement (kinds_in (ahead a 0))) a b → a.position < b.position
+statement_eats {a} {b} some added =
+    let eats = added.adds.position in
+    let inner = eaten-node (first_statement (kinds_in (ahead a 0))).kind added.inner in
+    let len = added.len in
+    let kind = kind_at a 0 in
+    let kinds = drop 1 (kinds_in (ahead a 0)) in
+    let there : 0 < (first_statement (kinds_in (ahead a 0))).len =
+    subst (λ kinds. 0 < (first_statement kinds).len) (sym (kinds_some a some)) (len_of-some (body_of (kind ∷ kinds)) kind kinds) in
+    omega (arith, eats, inner, len, there)
+
+-- ---- the statements of a file
+
+-- The nodes of statements were added; with those of the statements that are ahead they are all.
+pub record FileSoFar (begun now : State) : Type 0 where
+  pub some : AddsSome begun now
+  pub nodes : List Step
+  pub adds : Adds nodes begun now
+  pub all : (rest : List Step) → AreNodesOf (statements_of (kinds_in (ahead now 0))) rest → AreNodesOf (statements_of (kinds_in (ahead begun 0))) (nodes ++ rest)
+
+pub file-none : (s : State) → IsSound s → FileSoFar s s
+file-none s sound = record { some = none_some s sound; nodes = []; adds = Adds-puts (puts-none s sound); all = λ rest are. are }
+
+pub file-next : {a b c : State} → kind_at b 0 ≢ EOF → AddsStatement (first_statement (kinds_in (ahead b 0))) b c → FileSoFar a b → FileSoFar a c
+file-next {a} {b} {c} some added before =
+    let statement = first_statement (kinds_in (ahead b 0)) in
+    let one = node statement.kind added.inner in
+    let adds = Adds-then before.adds added.adds in
+    let moved : kinds_in (ahead c 0) ≡ drop statement.len (kinds_in (ahead b 0)) =
+    kinds_moved statement.len added.adds.keeps (added.adds.position ∙ ap (λ n. b.position + n) (eaten-node statement.kind added.inner ∙ added.len)) in
+    let first_is : statements_of (kinds_in (ahead b 0)) ≡ statement ∷ statements_of (kinds_in (ahead c 0)) =
+    subst (λ kinds. statements_of kinds ≡ first_statement kinds ∷ statements_of (drop (first_statement kinds).len kinds)) (sym (kinds_some b some)) (statements-first (kind_at b 0) (drop 1 (kinds_in (ahead b 0))))
+    ∙ ap (λ kinds. statement ∷ statements_of kinds) (sym moved) in
+    record {
+      some = adds_some adds;
+      nodes = before.nodes ++ one;
+      adds = adds;
+      all = λ rest are.
+          let here : AreNodesOf (statement ∷ statements_of (kinds_in (ahead c 0))) (one ++ rest) =
+          record { inner = added.inner; others = rest; is = refl; balanced = added.balanced; len = added.len; rest = are } in
+          subst (AreNodesOf (statements_of (kinds_in (ahead a 0)))) (sym (append_assoc before.nodes one rest))
+          (before.all (one ++ rest) (subst (λ statements. AreNodesOf statements (one ++ rest)) (sym first_is) here));
+    }
+
+pub file-all : {a b c d : State} {m : Mark} → IsFresh a → Begins m a b → FileSoFar b c → Completes m.id SOURCE_FILE c d → kind_at c 0 ≡ EOF → HasNotFailed d → IsFile a.input d.draft
+file-all {a} {b} {c} {d} fresh begins file completes end goes =
+    let none = kinds_none c file.some.some.keeps.sound end in
+    let nothing : AreNodesOf (statements_of (kinds_in (ahead c 0))) [] = subst (λ kinds. AreNodesOf (statements_of kinds) []) (sym none) refl in
+    let begun : kinds_in (ahead b 0) ≡ kinds_in a.input = kinds_still begins.keeps begins.position ∙ ap kinds_in (ahead-fresh fresh) in
+    record {
+      whole = whole_some fresh begins file.some completes end goes;
+      nodes = file.nodes;
+      is = plain-fresh fresh (Adds-node (node_around begins file.adds completes refl)) goes;
+      statements = subst (λ kinds. AreNodesOf (statements_of kinds) file.nodes) begun
+          (subst (AreNodesOf (statements_of (kinds_in (ahead b 0)))) (append-nil file.nodes) (file.all [] nothing));
+    }

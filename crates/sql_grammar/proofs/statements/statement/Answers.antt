@@ -1,0 +1,19 @@
+use Rattle.squawk_table.specs.ParserInput.{kinds_in}
+use Rattle.squawk_parser.specs.State.{ahead}
+use Rattle.squawk_parser.proofs.AddedSteps.{hole-added}
+use Rattle.sql_grammar.proofs.AddedStatements.{first_added, inner_added, is_first, statement_eats, statement_with}
+use Rattle.sql_grammar.proofs.statements.statement.Goals as goal
+
+pub complete-requires-clause-hole : goal.complete-requires-clause-hole
+complete-requires-clause-hole c =
+    let inner = c.with_limit.ensures in
+    hole-added c.start-node.result c.start-node.ensures.hole (inner_added c.len_of-len.result inner.keeps inner.does)
+
+pub returns-clause-adds : goal.returns-clause-adds
+returns-clause-adds c =
+    let inner = c.with_limit.ensures in
+    let is = is_first (kinds_in (ahead c.args.p.now 0)) c.kind_of-kind.ensures.is c.body_of-body.ensures c.len_of-len.ensures in
+    first_added (statement_with c.kind_of-kind.result c.len_of-len.result) is c.requires c.start-node.ensures.begins inner.keeps inner.does c.complete.ensures.completes
+
+pub returns-clause-eats : goal.returns-clause-eats
+returns-clause-eats c = statement_eats c.requires (returns-clause-adds c)
