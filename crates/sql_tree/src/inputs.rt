@@ -1,6 +1,10 @@
 //! The texts that are named, one after another.
+ghost use Rattle.std.specs.Prelude.{◌≡◌, ◌++◌, true, IfOk, IsOk, MatchResult, OnOk, string_bytes};
+ghost use Rattle.std.specs.Io.KnownBytes.{Appends};
+ghost use Rattle.sql_tree.specs.Printed.{heading};
+ghost use Rattle.sql_tree.specs.Reports.{IsReport};
 
-use crate::options::{Listing, Options};
+use crate::options::Listing;
 use crate::report::Report;
 use crate::sql::Sql;
 use crate::totals::Totals;
@@ -13,23 +17,24 @@ use std::{fs, io, str};
 const STANDARD_INPUT: &str = "<stdin>";
 
 /// Tells what the options ask of each text, and the status to end with.
-pub fn tell_all(rt: &HostRuntime, options: Options<'_>) -> io::Result<u8> {
+pub fn tell_all(rt: &HostRuntime, listing: Listing, files: &[&str]) -> io::Result<u8> {
     let alloc = rt.alloc();
     let sql = Sql::new(alloc)?;
     let mut out = io::writer(rt);
     let mut errors = rt.stderr();
     let mut totals = Totals::new();
-    if options.files.is_empty() {
+    let has_headings = files.len() > 1 && listing != Listing::Quiet;
+    if files.is_empty() {
         let bytes = read_all(alloc, &mut rt.reader());
-        let report = report(alloc, &sql, options, STANDARD_INPUT, bytes);
-        tell(&mut out, &mut errors, &mut totals, options, STANDARD_INPUT, report)?;
+        let report = report(alloc, &sql, listing, STANDARD_INPUT, bytes);
+        tell(&mut out, &mut errors, &mut totals, false, STANDARD_INPUT, report)?;
     }
-    for name in options.files {
+    for name in files {
         let bytes = fs::read(rt, *name);
-        let report = report(alloc, &sql, options, name, bytes);
-        tell(&mut out, &mut errors, &mut totals, options, name, report)?;
+        let report = report(alloc, &sql, listing, name, bytes);
+        tell(&mut out, &mut errors, &mut totals, has_headings, name, report)?;
     }
-    if options.listing != Listing::Quiet {
+    if listing != Listing::Quiet {
         tell_totals(&mut errors, totals)?;
     }
     Ok(totals.status())
@@ -46,13 +51,16 @@ fn read_all<R: Read>(alloc: Global, reader: &mut R) -> io::Result<Vec<u8>> {
 fn report(
     alloc: Global,
     sql: &Sql,
-    options: Options<'_>,
+    listing: Listing,
     name: &str,
     bytes: io::Result<Vec<u8>>,
-) -> Result<Report, Unread> {
+) -> Result<Report, Unread>
+    ensures read { OnOk result (IsOk bytes) }
+    ensures told { IfOk result (λ report. IfOk bytes (λ read. IsReport sql.now listing name.now read.items report)) }
+{
     let bytes = bytes?;
     match str::from_utf8(&bytes) {
-        Ok(text) => Report::new(alloc, sql, options.listing, name, text),
+        Ok(text) => Report::new(alloc, sql, listing, name, text),
         Err(error) => Err(Unread::NotUtf8 {
             at: error.valid_up_to(),
         }),
@@ -64,22 +72,22 @@ fn tell<W: Write, E: Write>(
     out: &mut W,
     errors: &mut E,
     totals: &mut Totals,
-    options: Options<'_>,
+    has_heading: bool,
     name: &str,
     report: Result<Report, Unread>,
-) -> io::Result<()> {
+) -> io::Result<()>
+    ensures listed { OnOk result (IfOk report (λ r. Appends (W.contents out.old) (W.contents out.new) (heading has_heading name.now ++ string_bytes r.listing))) }
+    ensures errors { OnOk result (IfOk report (λ r. Appends (E.contents errors.old) (E.contents errors.new) r.errors.items)) }
+    ensures unread { MatchResult report (λ _. totals.new.unread ≡ totals.old.unread) (λ _. totals.new.unread ≡ true) }
+{
     match report {
         Ok(report) => {
-            if options.files.len() > 1 && has_headings(options.listing) {
-                out.write_all(name.as_bytes())?;
-                out.write_all(b":\n")?;
-            }
-            out.write_all(report.listing.as_bytes())?;
-            errors.write_all(&report.errors)?;
             totals.files = totals.files.saturating_add(1);
             totals.statements = totals.statements.saturating_add(report.statement_count);
             totals.errors = totals.errors.saturating_add(report.error_count);
-            Ok(())
+            print_heading(out, has_heading, name)?;
+            out.write_all(report.listing.as_bytes())?;
+            errors.write_all(&report.errors)
         }
         Err(unread) => {
             totals.unread = true;
@@ -88,12 +96,15 @@ fn tell<W: Write, E: Write>(
     }
 }
 
-/// Whether the texts' names stand over what is told of each.
-fn has_headings(listing: Listing) -> bool {
-    match listing {
-        Listing::Tree | Listing::Statements | Listing::Tokens => true,
-        Listing::Json | Listing::Quiet => false,
+/// Prints a text's name, where it has a heading.
+fn print_heading<W: Write>(out: &mut W, has_heading: bool, name: &str) -> io::Result<()>
+    ensures { OnOk result (Appends (W.contents out.old) (W.contents out.new) (heading has_heading name.now)) }
+{
+    if !has_heading {
+        return Ok(());
     }
+    out.write_all(name.as_bytes())?;
+    out.write_all(b":\n")
 }
 
 /// Prints the last line.

@@ -5,11 +5,14 @@ mod inputs;
 mod options;
 mod report;
 mod sql;
+#[cfg(test)]
+mod tests;
 mod totals;
 mod unread;
 
 use crate::inputs::tell_all;
-use crate::options::{command, told};
+use crate::options::{FILE, asked_listing, command};
+use clap::Error;
 use std::env;
 use std::io;
 use std::io::ErrorKind;
@@ -32,15 +35,20 @@ fn main(rt: HostRuntime) -> ExitCode {
 /// Does what its arguments say, and tells the status to end with. It fails where it can't print or has no
 /// memory for the arguments.
 fn run(rt: &HostRuntime) -> io::Result<u8> {
-    let alloc = rt.alloc();
-    let words: Vec<String> = env::args(rt)?.collect(alloc)?;
-    let command = command(alloc)?;
-    let matches = match command.try_get_matches_from(words.as_slice()) {
-        Ok(matches) => matches,
-        Err(error) => {
-            error.print(rt)?;
-            return Ok(if error.use_stderr() { 2 } else { 0 });
-        }
-    };
-    tell_all(rt, told(&matches))
+    let words: Vec<String> = env::args(rt)?.collect(rt.alloc())?;
+    run_words(rt, &words)
+}
+
+/// Does what these words say.
+fn run_words(rt: &HostRuntime, words: &[String]) -> io::Result<u8> {
+    match command(rt.alloc())?.try_get_matches_from(words) {
+        Ok(matches) => tell_all(rt, asked_listing(&matches), matches.get_strs(FILE).unwrap_or(&[])),
+        Err(error) => refuse(rt, &error),
+    }
+}
+
+/// Prints why arguments are refused, or the help or the version that they ask for.
+fn refuse(rt: &HostRuntime, error: &Error) -> io::Result<u8> {
+    error.print(rt)?;
+    Ok(if error.use_stderr() { 2 } else { 0 })
 }

@@ -12,23 +12,16 @@ pub enum Listing {
     Statements,
     /// A line for each raw token.
     Tokens,
-    /// A line of JSON for each statement.
-    Json,
     /// Nothing.
     Quiet,
 }
 
-/// What the program is to do.
-#[derive(Clone, Copy)]
-pub struct Options<'a> {
-    pub listing: Listing,
-    /// None where the standard input is to be read.
-    pub files: &'a [&'a str],
-}
+/// What the argument with the files is called.
+pub const FILE: &str = "FILE";
 
 /// What the arguments may be.
 pub fn command<'a>(alloc: Global) -> Result<Command<'a>, AllocError> {
-    let files = Arg::new(alloc, "FILE")
+    let files = Arg::new(alloc, FILE)
         .action(ArgAction::Append)
         .num_args(0..)
         .help("SQL files in UTF-8; the standard input where none is named");
@@ -38,12 +31,11 @@ pub fn command<'a>(alloc: Global) -> Result<Command<'a>, AllocError> {
         .arg(files)?
         .arg(flag(alloc, "statements", "Print a line for each statement")?)?
         .arg(flag(alloc, "tokens", "Print a line for each raw token")?)?
-        .arg(flag(alloc, "json", "Print a line of JSON for each statement")?)?
         .arg(flag(alloc, "quiet", "Print errors alone")?)
 }
 
 /// The names of the flags, of which one may be used.
-static FLAGS: [&str; 4] = ["statements", "tokens", "json", "quiet"];
+static FLAGS: [&str; 3] = ["statements", "tokens", "quiet"];
 
 /// A flag that rules out the others.
 fn flag<'a>(alloc: Global, name: &'a str, help: &'a str) -> Result<Arg<'a>, AllocError> {
@@ -59,21 +51,15 @@ fn flag<'a>(alloc: Global, name: &'a str, help: &'a str) -> Result<Arg<'a>, Allo
     Ok(arg)
 }
 
-/// What the arguments say.
-pub fn told<'a>(matches: &'a ArgMatches<'a>) -> Options<'a> {
-    let listing = if matches.get_flag("statements") {
+/// What the arguments say is to be printed.
+pub fn asked_listing(matches: &ArgMatches<'_>) -> Listing {
+    if matches.get_flag("statements") {
         Listing::Statements
     } else if matches.get_flag("tokens") {
         Listing::Tokens
-    } else if matches.get_flag("json") {
-        Listing::Json
     } else if matches.get_flag("quiet") {
         Listing::Quiet
     } else {
         Listing::Tree
-    };
-    Options {
-        listing,
-        files: matches.get_strs("FILE").unwrap_or(&[]),
     }
 }

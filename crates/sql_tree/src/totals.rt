@@ -11,7 +11,13 @@ pub struct Totals {
 }
 
 impl Totals {
-    pub fn new() -> Totals {
+    ghost use Rattle.std.specs.Prelude.{◌≡◌, false};
+    ghost use Rattle.sql_tree.specs.Printed.{status_of};
+
+    /// Nothing was read yet.
+    pub fn new() -> Totals
+        ensures { result ≡ record { files = 0; statements = 0; errors = 0; unread = false } }
+    {
         Totals {
             files: 0,
             statements: 0,
@@ -21,7 +27,9 @@ impl Totals {
     }
 
     /// The status that the program ends with.
-    pub fn status(&self) -> u8 {
+    pub fn status(&self) -> u8
+        ensures { result ≡ status_of self.now }
+    {
         if self.unread {
             3
         } else if self.errors > 0 {

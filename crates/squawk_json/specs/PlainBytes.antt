@@ -1,4 +1,4 @@
--- Bytes that a JSON string has as they are. Only private functions speak of them.
+-- Bytes that a JSON string has as they are.
 use Rattle.std.specs.Prelude.{◌≤◌, ◌≢◌, ℕ}
 
 -- no control character, no quote and no backslash

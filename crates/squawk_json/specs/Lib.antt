@@ -1,0 +1,2 @@
+pub mod JsonStrings
+pub mod PlainBytes
