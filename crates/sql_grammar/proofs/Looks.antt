@@ -52,11 +52,3 @@ module _ (s : State) (n : ℕ) where
       cases : (seen : List Entry) → HasNoEndToken seen → first (kinds_in seen) ≡ EOF → kinds_in seen ≡ []
       cases [] no_end e = refl
       cases (entry ∷ seen) no_end e = absurd (All-head (λ e. e.kind ≢ EOF) entry seen no_end e)
-
-  -- and it stands before the limit
-  pub within : kind_at s n ≢ EOF → s.position + n < s.limit
-  within some = cases (nat_lt (s.position + n) s.limit) refl some
-    where
-      cases : (b : Bool) → nat_lt (s.position + n) s.limit ≡ b → (if b then kind_in s.input (s.position + n) else EOF) ≢ EOF → s.position + n < s.limit
-      cases true e some = grind (arith, e)
-      cases false e some = absurd (some refl)

@@ -43,23 +43,6 @@ module _ (word : ℕ) (rows : List (ℕ × ℕ)) (i : ℕ) (lt : i < length rows
       let same : ((get_or rows i (0, 0)).0 == word) ≡ true = grind (arith, is) in
       ap (kind_for word) (drop-cons rows i (0, 0) lt) ∙ if-true _ _ _ same
 
--- whether the rows have kinds of nodes
-abbrev are_nodes : List (ℕ × ℕ) → Bool
-are_nodes [] = true
-are_nodes (row ∷ rows) = not (row.1 == TOMBSTONE) && are_nodes rows
-
-no_tombstone : (n : ℕ) → not (n == TOMBSTONE) ≡ true → n ≢ TOMBSTONE
-no_tombstone n e is = absurd (let same = ap (λ k. not (k == TOMBSTONE)) is in cc)
-
-kind_for-node : (word : ℕ) (rows : List (ℕ × ℕ)) → are_nodes rows ≡ true → kind_for word rows ≢ TOMBSTONE
-kind_for-node word [] all = λ is. absurd (cc)
-kind_for-node word (row ∷ rows) all =
-    cases (row.0 == word) (no_tombstone row.1 (and-left _ (are_nodes rows) all)) (kind_for-node word rows (and-right (not (row.1 == TOMBSTONE)) _ all))
-  where
-    cases : (b : Bool) → row.1 ≢ TOMBSTONE → kind_for word rows ≢ TOMBSTONE → (if b then row.1 else kind_for word rows) ≢ TOMBSTONE
-    cases true here others = here
-    cases false here others = others
-
 -- ---- the kind
 
 module _ (kinds : List ℕ) where
@@ -70,12 +53,3 @@ module _ (kinds : List ℕ) where
   pub kind_of-word : is_psql (nth kinds 0) ≡ false → kind_of kinds ≡ kind_for (first_word kinds) STATEMENTS
   unfolding kind_of
   kind_of-word other = if-false _ _ _ other
-
-  -- it is that of a node
-  pub kind_of_node : kind_of kinds ≢ TOMBSTONE
-  unfolding kind_of
-  kind_of_node = cases (is_psql (nth kinds 0))
-    where
-      cases : (b : Bool) → (if b then PSQL_COMMAND else kind_for (first_word kinds) STATEMENTS) ≢ TOMBSTONE
-      cases true = λ is. absurd (cc)
-      cases false = kind_for-node (first_word kinds) STATEMENTS refl

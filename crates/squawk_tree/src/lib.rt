@@ -5,4 +5,5 @@ mod line;
 mod shown;
 pub mod tree_text;
 
+pub use shown::write_name;
 pub use tree_text::TreeText;

@@ -65,8 +65,8 @@ fn write_span(
     write!(out, "@{start}..{end}")
 }
 
-/// Writes the name of a kind.
-fn write_name(
+/// Writes the name of a kind: that of its first pair, else its number.
+pub fn write_name(
     out: &mut String,
     names: &mut KindNames<'_, '_>,
     kind: SyntaxKind,

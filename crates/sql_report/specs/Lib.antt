@@ -1,0 +1,6 @@
+pub mod Places
+pub mod Findings
+pub mod ErrorLines
+pub mod Statements
+pub mod OpenNodes
+pub mod TokenLines

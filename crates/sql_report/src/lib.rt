@@ -1,0 +1,23 @@
+//! What a program tells of a parse: its statements, its errors with their lines, its raw tokens and its tree
+//! as JSON.
+//!
+//! Each is a text that is made of a table and of the output of a parse over it:
+//!
+//! ```text
+//! statements(alloc, &table, &output)        the nodes directly in the root, with their bytes
+//! findings(alloc, &table, &output)          lexical errors and those of the grammar, by their places
+//! error_lines(alloc, name, text, ..)        a.sql:1:8: expected ), with the line and a mark under it
+//! ```
+#![tactic(auto)]
+
+mod errors;
+mod finding_list;
+mod place;
+mod statement_list;
+mod token_names;
+mod tokens;
+
+pub use errors::error_lines;
+pub use finding_list::{Finding, findings};
+pub use statement_list::{Statement, statement_lines, statements};
+pub use tokens::token_lines;

@@ -1,0 +1,153 @@
+//! The statements of a text: the nodes directly in its root.
+ghost use Rattle.std.specs.Prelude.{◌≡◌, ◌+◌, ◌++◌, ◌<◌, ◌^◌, List, ◌∷◌, IfOk, OnOk, encode_utf8_all, length, map, string_bytes};
+ghost use Rattle.std.specs.Str.{chars};
+ghost use Rattle.squawk_table.specs.Sent.{bytes_of, sent_list};
+ghost use Rattle.squawk_table.specs.Shape.{Fits};
+ghost use Rattle.squawk_table.specs.SinkViews.{owned_step_of};
+ghost use Rattle.squawk_table.specs.declared.shortcuts.str_step.OwnedStep.{OwnedStep};
+ghost use Rattle.squawk_tree.specs.TreeText.{bytes_in};
+ghost use Rattle.sql_report.specs.OpenNodes.{closed, front_nodes, statements_left};
+ghost use Rattle.sql_report.specs.Statements.{statement_line, statement_lines, statements_of};
+
+use crate::place::Place;
+use squawk_kinds::{KindNames, SyntaxKind};
+use squawk_output::Output;
+use squawk_table::{LexedStr, StrStep, StrSteps};
+use squawk_tree::write_name;
+use std::alloc::{AllocError, Global};
+use std::fmt::Write;
+
+/// A statement, from its first byte up to the one behind it.
+#[derive(Clone, Copy, Debug, PartialEq, Eq)]
+pub struct Statement {
+    pub kind: SyntaxKind,
+    pub start: usize,
+    pub end: usize,
+}
+
+/// A node that isn't left yet, with its first byte.
+#[derive(Clone, Copy)]
+struct OpenNode {
+    kind: SyntaxKind,
+    start: usize,
+}
+
+/// The statements of a parse.
+pub fn statements(
+    alloc: Global,
+    table: &LexedStr<'_>,
+    output: &Output,
+) -> Result<Vec<Statement>, AllocError>
+    requires { Fits table.now output.now.steps }
+    ensures { IfOk result (λ all. all.items ≡ statements_of (sent_list table.now output.now.steps)) }
+{
+    let _text_len = table.text_start(table.len());
+    statements_in(alloc, table.str_steps(output))
+}
+
+/// The statements in these steps.
+fn statements_in(alloc: Global, steps: StrSteps<'_>) -> Result<Vec<Statement>, AllocError>
+    requires { bytes_of steps.steps < 2 ^ 64 }
+    ensures { IfOk result (λ all. all.items ≡ statements_of steps.entry.steps) }
+{
+    let mut statements = Vec::new(alloc);
+    let mut nodes = Vec::new(alloc);
+    let mut at = 0;
+    for step in steps {
+        at = take_step(&mut statements, &mut nodes, at, step)?;
+    }
+    Ok(statements)
+}
+
+/// Takes a step that stands at a byte, and tells the byte behind it.
+#[tactic(auto, using(crate::proofs::OpenNodeLemmas::left_token, crate::proofs::OpenNodeLemmas::left_enter, crate::proofs::OpenNodeLemmas::left_exit, crate::proofs::OpenNodeLemmas::left_error))]
+fn take_step(
+    statements: &mut Vec<Statement>,
+    nodes: &mut Vec<OpenNode>,
+    at: usize,
+    step: StrStep<'_>,
+) -> Result<usize, AllocError>
+    requires { at + bytes_in (owned_step_of step) < 2 ^ 64 }
+    ensures at { IfOk result (λ next. next ≡ at + bytes_in (owned_step_of step.entry)) }
+    ensures left { IfOk result (λ next. (steps : List OwnedStep) → statements.new.items ++ statements_left nodes.new.items next steps
+        ≡ statements.old.items ++ statements_left nodes.old.items at (owned_step_of step.entry ∷ steps)) }
+{
+    match step {
+        StrStep::Token { text, .. } => Ok(at + byte_len(text)),
+        StrStep::Enter { kind } => {
+            nodes.push(OpenNode { kind, start: at })?;
+            Ok(at)
+        }
+        StrStep::Exit => {
+            push_closed(statements, nodes, at)?;
+            Ok(at)
+        }
+        StrStep::Error { .. } => Ok(at),
+    }
+}
+
+/// How many bytes a text has.
+fn byte_len(text: &str) -> usize
+    ensures { result ≡ length (encode_utf8_all (chars text.now)) }
+{
+    text.len()
+}
+
+/// Closes the innermost node, which is a statement if it stands directly in the root.
+#[tactic(auto, using(crate::proofs::OpenNodeLemmas::front_nodes_last, crate::proofs::OpenNodeLemmas::closed_more, crate::proofs::OpenNodeLemmas::closed_statement))]
+fn push_closed(
+    statements: &mut Vec<Statement>,
+    nodes: &mut Vec<OpenNode>,
+    end: usize,
+) -> Result<(), AllocError>
+    ensures statements { OnOk result (statements.new.items ≡ statements.old.items ++ closed nodes.old.items end) }
+    ensures nodes { OnOk result (nodes.new.items ≡ front_nodes nodes.old.items) }
+{
+    if let Some(OpenNode { kind, start }) = nodes.pop() {
+        if nodes.len() == 1 {
+            statements.push(Statement { kind, start, end })?;
+        }
+    }
+    Ok(())
+}
+
+/// A line for each statement: its bytes, the line and the column of the first, and its kind by name.
+///
+/// ```text
+/// 0..9 1:1 SELECT
+/// ```
+pub fn statement_lines(
+    alloc: Global,
+    text: &str,
+    statements: &[Statement],
+    names: &[(SyntaxKind, &str)],
+) -> Result<String, AllocError>
+    ensures { IfOk result (λ lines. string_bytes lines
+        ≡ statement_lines text.now (map (λ pair. (pair.0, pair.1.now)) names.now) statements.now) }
+{
+    let mut lines = String::new(alloc);
+    let mut names = KindNames::new(alloc, names);
+    let mut place = Place::start(text);
+    for statement in statements {
+        place.go_to(statement.start);
+        push_statement(&mut lines, &mut names, place.line(), place.column(), *statement)?;
+    }
+    Ok(lines)
+}
+
+/// Puts the line of a statement behind others.
+fn push_statement(
+    lines: &mut String,
+    names: &mut KindNames<'_, '_>,
+    line: usize,
+    column: usize,
+    statement: Statement,
+) -> Result<(), AllocError>
+    ensures line { OnOk result (string_bytes lines.new ≡ string_bytes lines.old ++ statement_line line column names.old statement) }
+    ensures same { names.new ≡ names.old }
+{
+    let Statement { kind, start, end } = statement;
+    write!(lines, "{start}..{end} {line}:{column} ")?;
+    write_name(lines, names, kind)?;
+    lines.push('\n')
+}
