@@ -97,7 +97,7 @@ past_continuation near = drop (prefix_len is_continuation near) near
 pub before_is : (text : List ℕ) (at line column start cut passed : ℕ) → IsCounted text at line column start
     → cut ≡ length (take (at - start) (drop start text)) - 100
     → (let front = take (at - start) (drop start text) in let near = take (length front - cut) (drop cut front) in
-      passed ≡ prefix_len is_continuation near → take (length near - passed) (drop passed near) ≡ shown_before text at)
+    passed ≡ prefix_len is_continuation near → take (length near - passed) (drop passed near) ≡ shown_before text at)
 before_is text at line column start cut passed counted cut_is passed_is =
     let front = take (at - start) (drop start text) in
     let near = take (length front - cut) (drop cut front) in

@@ -61,10 +61,7 @@ fn of_grammar(message: &str, at: usize) -> Finding<'_>
 }
 
 /// Puts the errors among steps behind others.
-fn push_errors<'s>(
-    all: &mut Vec<Finding<'s>>,
-    steps: StrSteps<'s>,
-) -> Result<(), AllocError>
+fn push_errors<'s>(all: &mut Vec<Finding<'s>>, steps: StrSteps<'s>) -> Result<(), AllocError>
     ensures { OnOk result (map told all.new.items ≡ map told all.old.items ++ flat_map told_in steps.entry.steps) }
 {
     for step in steps {

@@ -130,7 +130,13 @@ pub fn statement_lines(
     let mut place = Place::start(text);
     for statement in statements {
         place.go_to(statement.start);
-        push_statement(&mut lines, &mut names, place.line(), place.column(), *statement)?;
+        push_statement(
+            &mut lines,
+            &mut names,
+            place.line(),
+            place.column(),
+            *statement,
+        )?;
     }
     Ok(lines)
 }

@@ -18,13 +18,13 @@ returns c =
     let heading_is : c.as_bytes.result.now ≡ shown = c.as_bytes.ensures.value ∙ rw (← c.line.ensures, ← c.column.ensures) c.in_ok-heading.ensures in
     on_ok_weaker c.push_mark.result
     (λ same. same
-      ∙ rw (
-        c.in_ok-push.ensures.items,
-        c.in_ok-extend_from_slice-3.ensures.items,
-        c.in_ok-extend_from_slice-2.ensures.items,
-        c.in_ok-extend_from_slice.ensures.items,
-        heading_is,
-        c.before-before.ensures,
-        c.behind.ensures,
-      ) (grouped c.args.lines.now.items shown before behind (10 ∷ []) (mark before)))
+    ∙ rw (
+      c.in_ok-push.ensures.items,
+      c.in_ok-extend_from_slice-3.ensures.items,
+      c.in_ok-extend_from_slice-2.ensures.items,
+      c.in_ok-extend_from_slice.ensures.items,
+      heading_is,
+      c.before-before.ensures,
+      c.behind.ensures,
+    ) (grouped c.args.lines.now.items shown before behind (10 ∷ []) (mark before)))
     c.push_mark.ensures
