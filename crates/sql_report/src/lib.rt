@@ -1,5 +1,4 @@
-//! What a program tells of a parse: its statements, its errors with their lines, its raw tokens and its tree
-//! as JSON.
+//! What a program tells of a parse: its statements, its errors with their lines, and its raw tokens.
 //!
 //! Each is a text that is made of a table and of the output of a parse over it:
 //!
