@@ -1,0 +1,31 @@
+use Rattle.std.proofs.Common.{◌≡◌, ◌∙◌, ap, length, rules, subst}
+use Rattle.std.specs.Prelude.{string_bytes}
+use Rattle.std.specs.Str.{chars}
+use Rattle.squawk_keywords.specs.KeywordAnswers.{keyword_of}
+use Rattle.squawk_table.specs.RawTable.{table_of}
+use Rattle.squawk_table.specs.Sent.{sent_list, texts_of}
+use Rattle.squawk_table.specs.Shape.{Fits}
+use Rattle.sql_report.specs.ErrorLines.{error_texts}
+use Rattle.sql_report.specs.Findings.{AreInOrder, all_told}
+use Rattle.sql_report.specs.Statements.{statements_of}
+use Rattle.sql_tree.specs.Listings.{listed}
+use Rattle.sql_tree.specs.Reports.{table_in}
+use Rattle.sql_tree.proofs.report.Report.new.Goals as goal
+
+pub returns : goal.returns
+returns c =
+    let sql = c.args.sql.now in
+    let text = c.args.text.now in
+    let steps = c.in_ok-output.output.steps in
+    let same : c.in_ok-table.table ≡ table_in sql text = c.in_ok-table.ensures ∙ ap (table_of (keyword_of sql.vocabulary) text) (c.deref.ensures.value ∙ c.in_ok-tokens.ensures.tokens) in
+    record {
+      steps = steps;
+      fits = subst (λ table. Fits table steps) same c.in_ok-output.ensures.fits;
+      whole = subst (λ table. texts_of (sent_list table steps) ≡ chars table.text) same c.in_ok-output.ensures.whole;
+      findings = c.in_ok-findings.findings.items;
+      in_order = subst (λ table. AreInOrder (all_told table.errors (sent_list table steps)) c.in_ok-findings.findings.items) same c.in_ok-findings.ensures;
+      errors = c.in_ok-errors.ensures ∙ ap (error_texts c.args.name.now text) c.deref-2.ensures.value;
+      error_count = search rules;
+      list = subst (λ table. string_bytes c.in_ok-listing.listing ≡ listed sql c.args.listing text (sent_list table steps)) same c.in_ok-listing.ensures;
+      statement_count = λ told. subst (λ table. c.in_ok-statement_count.statement_count ≡ length (statements_of (sent_list table steps))) same (c.in_ok-statement_count.ensures told);
+    }

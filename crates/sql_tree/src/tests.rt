@@ -1,0 +1,74 @@
+//! What is told of texts.
+
+use crate::options::Listing;
+use crate::report::Report;
+use crate::sql::Sql;
+use std::test::Fail;
+
+/// A text, and what is told of it.
+struct Case {
+    text: &'static str,
+    statements: &'static str,
+    errors: &'static str,
+}
+
+static CASES: [Case; 4] = [
+    Case {
+        text: "",
+        statements: "",
+        errors: "",
+    },
+    // Columns count characters.
+    Case {
+        text: "select 1;\n\n  select 'ä', 2",
+        statements: "0..9 1:1 SELECT\n13..27 3:3 SELECT\n",
+        errors: "",
+    },
+    // A tab stands under a tab.
+    Case {
+        text: "select\t'ä', (2;\n",
+        statements: "0..16 1:1 SELECT\n",
+        errors: "x:1:15: expected )\nselect\t'ä', (2;\n      \t       ^\n",
+    },
+    // Lexical errors and those of the grammar stand in the order of their places.
+    Case {
+        text: "select (1x;",
+        statements: "0..11 1:1 SELECT\n",
+        errors: "x:1:10: trailing junk after numeric literal\nselect (1x;\n         ^\n\
+                 x:1:11: expected )\nselect (1x;\n          ^\n",
+    },
+];
+
+#[test]
+fn tells_cases(rt: HostRuntime) -> Result<(), Fail> {
+    let alloc = rt.alloc();
+    let sql = Sql::new(alloc)?;
+    for case in &CASES {
+        let report = Report::new(alloc, &sql, Listing::Statements, "x", case.text)?;
+        assert_eq!(rt; report.listing.as_str(), case.statements);
+        assert_eq!(rt; report.errors.as_slice(), case.errors.as_bytes());
+    }
+    Ok(())
+}
+
+#[test]
+fn lists_raw_tokens(rt: HostRuntime) -> Result<(), Fail> {
+    let alloc = rt.alloc();
+    let sql = Sql::new(alloc)?;
+    let report = Report::new(alloc, &sql, Listing::Tokens, "x", "select $1")?;
+    assert_eq!(rt;
+        report.listing.as_str(),
+        "Ident 0..6\nWhitespace 6..7\nPositionalParam 7..9\n"
+    );
+    Ok(())
+}
+
+#[test]
+fn lists_nothing_where_it_is_quiet(rt: HostRuntime) -> Result<(), Fail> {
+    let alloc = rt.alloc();
+    let sql = Sql::new(alloc)?;
+    let report = Report::new(alloc, &sql, Listing::Quiet, "x", "select (1")?;
+    assert_eq!(rt; report.listing.as_str(), "");
+    assert_eq!(rt; report.error_count, 1);
+    Ok(())
+}

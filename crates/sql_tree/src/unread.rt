@@ -1,0 +1,71 @@
+//! Why a text has no tree.
+
+use sql_lexer::TokenizeError;
+use squawk_parser::ParseError;
+use std::alloc::AllocError;
+use std::error::Error;
+use std::io::ErrorKind;
+use std::{fmt, io};
+
+/// Why a text can't be read.
+#[derive(Clone, Copy, Debug, PartialEq, Eq)]
+pub enum Unread {
+    /// The file can't be opened or read.
+    Io(ErrorKind),
+    /// The byte at this place is no UTF-8.
+    NotUtf8 { at: usize },
+    /// The text has more than 4294967295 bytes.
+    TextTooLong,
+    /// The parse records more events than it may.
+    TooManyEvents,
+    /// The parse records more errors than it may.
+    TooManyErrors,
+    /// Memory was refused.
+    OutOfMemory,
+}
+
+impl fmt::Display for Unread {
+    fn fmt<W: fmt::Write>(&self, f: &mut fmt::Formatter<W>) -> fmt::Result {
+        match *self {
+            Unread::Io(kind) => write!(f, "{kind}"),
+            Unread::NotUtf8 { at } => write!(f, "no UTF-8 at byte {at}"),
+            Unread::TextTooLong => write!(f, "more than 4294967295 bytes"),
+            Unread::TooManyEvents => write!(f, "too many events"),
+            Unread::TooManyErrors => write!(f, "too many errors"),
+            Unread::OutOfMemory => write!(f, "out of memory"),
+        }
+    }
+}
+
+impl From<io::Error> for Unread {
+    fn from(error: io::Error) -> Unread {
+        Unread::Io(error.kind())
+    }
+}
+
+impl From<AllocError> for Unread {
+    fn from(_error: AllocError) -> Unread {
+        Unread::OutOfMemory
+    }
+}
+
+impl From<TokenizeError> for Unread {
+    fn from(error: TokenizeError) -> Unread {
+        match error {
+            TokenizeError::TextTooLong => Unread::TextTooLong,
+            TokenizeError::OutOfMemory => Unread::OutOfMemory,
+        }
+    }
+}
+
+impl From<ParseError> for Unread {
+    fn from(error: ParseError) -> Unread {
+        match error {
+            ParseError::OutOfMemory => Unread::OutOfMemory,
+            ParseError::TooManyEvents => Unread::TooManyEvents,
+            ParseError::TooManyErrors => Unread::TooManyErrors,
+        }
+    }
+}
+
+impl Error for Unread {}

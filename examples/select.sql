@@ -1,0 +1,1 @@
+select id, name from people where age >= 18;
