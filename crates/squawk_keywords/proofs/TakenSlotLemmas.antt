@@ -11,7 +11,7 @@ use Rattle.squawk_keywords.proofs.WordSlotLemmas.{More, pair-first, pair-second,
 
 -- a word takes the first slot of its place
 pub told-first : (slots : List ℕ) (old new : List (List ℕ × ℕ)) (word : List ℕ × ℕ) (slot place : ℕ) → AreSlots slots old → IsKept old word slot new
-    → place ≡ place_of word.0 → place < 1024 → get_or slots (2 * place) 0 ≡ 0
+    → place ≡ place_of word.0 → place < 2048 → get_or slots (2 * place) 0 ≡ 0
     → (text : List ℕ) (answer : Option ℕ) → told (set slots (2 * place) slot) new text ≡ Some answer → More (told slots old text) (bytes_eq word.0 text) word.1 answer
 told-first slots old new word slot place sound kept is within free text answer tells =
     elim (cases_eq (place_of text) place) [
@@ -35,7 +35,7 @@ told-first slots old new word slot place sound kept is within free text answer t
 
 -- a word takes the second slot of its place
 pub told-second : (slots : List ℕ) (old new : List (List ℕ × ℕ)) (word : List ℕ × ℕ) (slot place : ℕ) → AreSlots slots old → IsKept old word slot new
-    → place ≡ place_of word.0 → place < 1024 → (get_or slots (2 * place) 0 ≡ 0 → ⊥) → told slots old word.0 ≡ Some None
+    → place ≡ place_of word.0 → place < 2048 → (get_or slots (2 * place) 0 ≡ 0 → ⊥) → told slots old word.0 ≡ Some None
     → (text : List ℕ) (answer : Option ℕ) → told (set slots (2 * place + 1) slot) new text ≡ Some answer → More (told slots old text) (bytes_eq word.0 text) word.1 answer
 told-second slots old new word slot place sound kept is within taken none text answer tells =
     elim (cases_eq (place_of text) place) [
@@ -79,8 +79,8 @@ kept-known : (old new : List (List ℕ × ℕ)) (word : List ℕ × ℕ) (slot :
 kept-known old new word slot (inl kept) lt = omega (arith, kept.1, ap length kept.2 ∙ length-append old (word ∷ []))
 kept-known old new word slot (inr none) lt = absurd (omega (arith, none.0, lt))
 
-module _ (slots : List ℕ) (old new : List (List ℕ × ℕ)) (word : List ℕ × ℕ) (slot place : ℕ) (sound : AreSlots slots old) (kept : IsKept old word slot new) (within : place < 1024) where
-  known-at : (at : ℕ) → at < 2048 → (i : ℕ) → get_or (set slots at slot) i 0 < 65535 → get_or (set slots at slot) i 0 ≤ length new
+module _ (slots : List ℕ) (old new : List (List ℕ × ℕ)) (word : List ℕ × ℕ) (slot place : ℕ) (sound : AreSlots slots old) (kept : IsKept old word slot new) (within : place < 2048) where
+  known-at : (at : ℕ) → at < 4096 → (i : ℕ) → get_or (set slots at slot) i 0 < 65535 → get_or (set slots at slot) i 0 ≤ length new
   known-at at few i lt =
       elim (cases_eq i at) [
         | inl here ↦
@@ -141,7 +141,7 @@ told_by-word old new word slot rest kept few is =
     ∙ ap (λ same. cond same (Some (Some word.1)) rest) ((bytes_eq-Decides word.0 word.0).1 refl)
 
 module _ (slots : List ℕ) (old new : List (List ℕ × ℕ)) (word : List ℕ × ℕ) (slot place : ℕ) (sound : AreSlots slots old) (kept : IsKept old word slot new)
-    (at : place ≡ place_of word.0) (within : place < 1024) (is : slot ≡ length old + 1) where
+    (at : place ≡ place_of word.0) (within : place < 2048) (is : slot ≡ length old + 1) where
   pub told-kept-first : told (set slots (2 * place) slot) new word.0 ≡ Some (Some word.1)
   told-kept-first =
       told-read (set slots (2 * place) slot) new word.0 slot _

@@ -21,15 +21,15 @@ zeros (suc n) (suc i) = zeros n i
 told_by-free : (words : List (List ℕ × ℕ)) (slot : ℕ) (text : List ℕ) (rest : Option (Option ℕ)) → slot ≡ 0 → told_by words slot text rest ≡ Some None
 told_by-free words slot text rest free = rw free refl
 
-pub told-free : (slots : List ℕ) (words : List (List ℕ × ℕ)) (text : List ℕ) → slots ≡ replicate 2048 0 → told slots words text ≡ Some None
-told-free slots words text free = told_by-free words _ text _ (ap (λ all. get_or all (2 * place_of text) 0) free ∙ zeros 2048 (2 * place_of text))
+pub told-free : (slots : List ℕ) (words : List (List ℕ × ℕ)) (text : List ℕ) → slots ≡ replicate 4096 0 → told slots words text ≡ Some None
+told-free slots words text free = told_by-free words _ text _ (ap (λ all. get_or all (2 * place_of text) 0) free ∙ zeros 4096 (2 * place_of text))
 
-pub free-are : (slots : List ℕ) (words : List (List ℕ × ℕ)) → slots ≡ replicate 2048 0 → words ≡ [] → AreSlots slots words
+pub free-are : (slots : List ℕ) (words : List (List ℕ × ℕ)) → slots ≡ replicate 4096 0 → words ≡ [] → AreSlots slots words
 free-are slots words free none = record {
-  size = ap length free ∙ length-replicate {A = ℕ} 2048 0;
+  size = ap length free ∙ length-replicate {A = ℕ} 4096 0;
   few = rw none (omega arith);
-  known = λ i lt. rw (free, zeros 2048 i) (omega arith);
-  ordered = λ place _. rw free (zeros 2048 (2 * place + 1));
+  known = λ i lt. rw (free, zeros 4096 i) (omega arith);
+  ordered = λ place _. rw free (zeros 4096 (2 * place + 1));
 }
 
 -- ---- a word more
@@ -201,7 +201,7 @@ told-elsewhere slots after old new word slot sound kept text answer away one two
 -- ---- what is read of the slots
 
 module _ (slots : List ℕ) (words : List (List ℕ × ℕ)) (text : List ℕ) (at first second : ℕ) (sound : AreSlots slots words) (place : at ≡ place_of text)
-    (within : at < 1024) (one : first ≡ get_or slots (2 * at) first) (two : second ≡ get_or slots (2 * at + 1) second)
+    (within : at < 2048) (one : first ≡ get_or slots (2 * at) first) (two : second ≡ get_or slots (2 * at + 1) second)
     (word : List ℕ × ℕ) (test : Bool) (is : test ≡ bytes_eq word.0 text)
     (known : List (List ℕ × ℕ)) (same : known ≡ words) (read : ℕ) (less : read ≡ first - 1) (there : read < length known) (stands : (d : List ℕ × ℕ) → word ≡ get_or known read d) where
   found : slice_get words (first - 1) ≡ Some word

@@ -5,9 +5,9 @@ use Rattle.squawk_kinds.specs.Keywords.{Keywords}
 use Rattle.squawk_keywords.specs.LetterCase.{compared}
 use Rattle.squawk_keywords.specs.TextKeys.{key_of}
 
--- the place of a text with these key: the upper ten bits of a product
+-- the place of a text with these key: the upper eleven bits of a product
 abbrev pub place_at : ℕ × ℕ → ℕ
-place_at key = (key.0 + key.1) % 2 ^ 64 * 0x9e37_79b9_7f4a_7c15 % 2 ^ 64 / 2 ^ 54
+place_at key = (key.0 + key.1) % 2 ^ 64 * 0x9e37_79b9_7f4a_7c15 % 2 ^ 64 / 2 ^ 53
 
 -- the place of a text
 abbrev pub place_of : List ℕ → ℕ
@@ -30,7 +30,7 @@ told slots words text =
 
 -- there are two slots for each place, the first taken before the second; one that isn't past all words is of a word that is there
 pub record AreSlots (slots : List ℕ) (words : List (List ℕ × ℕ)) : Type 0 where
-  pub size : length slots ≡ 2048
+  pub size : length slots ≡ 4096
   pub few : length words ≤ 2048
   pub known : (i : ℕ) → slice_index slots i < 65535 → slice_index slots i ≤ length words
   pub ordered : (place : ℕ) → slice_index slots (2 * place) ≡ 0 → slice_index slots (2 * place + 1) ≡ 0

@@ -17,7 +17,7 @@ use std::alloc::Global;
 /// Each word has a kind; of a word that stands in its list twice the first kind counts. The words are
 /// borrowed: where they are constants, `'k` is `'static`. Whatever the words are, making the vocabulary
 /// takes a number of comparisons that grows like n log n, and looking a text up one like log n; most
-/// texts of up to 16 bytes are told by one look into a table of 4 kilobytes.
+/// texts of up to 16 bytes are told by one look into a table of 8 kilobytes.
 #[derive(Drop)]
 pub struct Keywords<'k> {
     keywords: WordList<'k>,

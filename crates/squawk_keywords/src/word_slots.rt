@@ -13,7 +13,7 @@ use crate::text_key::key;
 use squawk_kinds::SyntaxKind;
 use std::alloc::{AllocError, Global};
 
-/// The slots of 1024 places, two of each, and the words in them.
+/// The slots of 2048 places, two of each, and the words in them.
 ///
 /// A slot is 0 while it is free, and else one more than the index of its word, or past the words. A
 /// word takes the first free slot of its place. A text whose place has a free slot is none of the
@@ -55,7 +55,7 @@ impl WordSlots {
         ensures room { IfOk result (λ slots. vec_capacity slots.words ≡ min words 2048) }
     {
         Ok(WordSlots {
-            slots: vec![in alloc; 0; 2048]?,
+            slots: vec![in alloc; 0; 4096]?,
             words: Vec::with_capacity(alloc, words.min(WordSlots::MOST))?,
         })
     }
@@ -143,12 +143,12 @@ fn keep(words: &mut Vec<KeptWord>, ignores_case: bool, word: &str, kind: SyntaxK
 }
 
 /// The place of a text with this key, by multiplicative hashing: the factor is 2^64 by the golden
-/// ratio, and the ten highest bits count.
+/// ratio, and the eleven highest bits count.
 #[inline(always)]
 fn place(key: (u64, u64)) -> usize
     ensures place { result ≡ place_at key }
-    ensures within { result < 1024 }
+    ensures within { result < 2048 }
 {
     let (low, high) = key;
-    (low.wrapping_add(high).wrapping_mul(0x9e37_79b9_7f4a_7c15) >> 54) as usize
+    (low.wrapping_add(high).wrapping_mul(0x9e37_79b9_7f4a_7c15) >> 53) as usize
 }
