@@ -7,7 +7,7 @@ ghost use Rattle.squawk_parser.specs.State.{IsSound, kind_at};
 use crate::clauses::{QUERY_WORDS, Query, clause_kind, query_at, query_in};
 use crate::composites::{is_plain, token};
 use crate::cut::Body;
-use crate::inside::Inside;
+use crate::inside::{Inside, Pair};
 use crate::statement_kinds::kind_of;
 use sql_words::SqlKind;
 use squawk_parser::{Parser, SyntaxKind};
@@ -145,50 +145,27 @@ fn opening(p: &mut Parser<'_>, inside: Inside, depth: u32)
 {
     match p.current() {
         _ if depth == 0 => too_deep(p, inside),
-        SyntaxKind::L_PAREN => parens(p, inside.in_paren(), depth - 1),
-        SyntaxKind::L_BRACK => brackets(p, inside.in_brack(), depth - 1),
-        SqlKind::CASE_KW => case_expr(p, inside.in_case(), depth - 1),
+        SyntaxKind::L_PAREN => enclosed(p, Pair::Parens, query_at(p, 1), inside, depth - 1),
+        SyntaxKind::L_BRACK => enclosed(p, Pair::Brackets, Query::Nowhere, inside, depth - 1),
+        SqlKind::CASE_KW => enclosed(p, Pair::Case, Query::Nowhere, inside, depth - 1),
         _ => block(p, inside.in_block(), depth - 1),
     }
 }
 
+/// A group or a CASE expression, from its opening token to the one that closes it.
 #[cycle(elements)]
-fn parens(p: &mut Parser<'_>, inside: Inside, depth: u32)
+fn enclosed(p: &mut Parser<'_>, pair: Pair, query: Query, inside: Inside, depth: u32)
     requires { kind_at p.old 0 ≢ EOF }
     ensures adds { AddsSome p.old p.new }
     ensures eats { p.old.position < p.new.position }
 {
+    let (kind, closing) = (pair.kind(), pair.closing());
+    let inside = inside.within(pair);
     let node = p.start();
     p.bump_any();
-    content(p, query_at(p, 0), inside, depth);
-    p.expect(SyntaxKind::R_PAREN);
-    node.complete(p, SqlKind::GROUP);
-}
-
-#[cycle(elements)]
-fn brackets(p: &mut Parser<'_>, inside: Inside, depth: u32)
-    requires { kind_at p.old 0 ≢ EOF }
-    ensures adds { AddsSome p.old p.new }
-    ensures eats { p.old.position < p.new.position }
-{
-    let node = p.start();
-    p.bump_any();
-    content(p, Query::Nowhere, inside, depth);
-    p.expect(SyntaxKind::R_BRACK);
-    node.complete(p, SqlKind::GROUP);
-}
-
-#[cycle(elements)]
-fn case_expr(p: &mut Parser<'_>, inside: Inside, depth: u32)
-    requires { kind_at p.old 0 ≢ EOF }
-    ensures adds { AddsSome p.old p.new }
-    ensures eats { p.old.position < p.new.position }
-{
-    let node = p.start();
-    p.bump_any();
-    content(p, Query::Nowhere, inside, depth);
-    p.expect(SqlKind::END_KW);
-    node.complete(p, SqlKind::CASE_EXPR);
+    content(p, query, inside, depth);
+    p.expect(closing);
+    node.complete(p, kind);
 }
 
 /// BEGIN ATOMIC, statements, and END.

@@ -1,10 +1,47 @@
 //! What a token stands in.
 ghost use Rattle.std.specs.Prelude.{◌≡◌, ◌≢◌, false, true};
-ghost use Rattle.squawk_kinds.specs.Kinds.{EOF};
+ghost use Rattle.squawk_kinds.specs.Kinds.{EOF, TOMBSTONE};
+ghost use Rattle.squawk_parser.specs.Composites.{NoTail};
+ghost use Rattle.squawk_parser.specs.Eaten.{tail_of_kind};
 
 use crate::cut::Body;
 use sql_words::SqlKind;
 use squawk_parser::SyntaxKind;
+
+/// Two tokens, of which the second closes what the first opens.
+#[derive(Clone, Copy, PartialEq, Eq)]
+pub(crate) enum Pair {
+    /// `(` and `)`.
+    Parens,
+    /// `[` and `]`.
+    Brackets,
+    /// CASE and END.
+    Case,
+}
+
+impl Pair {
+    /// The kind of the token that closes it.
+    pub(crate) fn closing(self) -> SyntaxKind
+        ensures end { result ≢ EOF }
+        ensures tail { tail_of_kind result ≡ NoTail }
+    {
+        match self {
+            Pair::Parens => SyntaxKind::R_PAREN,
+            Pair::Brackets => SyntaxKind::R_BRACK,
+            Pair::Case => SqlKind::END_KW,
+        }
+    }
+
+    /// The kind of the node over both and what stands between them.
+    pub(crate) fn kind(self) -> SyntaxKind
+        ensures { result ≢ TOMBSTONE }
+    {
+        match self {
+            Pair::Parens | Pair::Brackets => SqlKind::GROUP,
+            Pair::Case => SqlKind::CASE_EXPR,
+        }
+    }
+}
 
 /// What is open around a token, and what semicolons end there.
 #[derive(Clone, Copy)]
@@ -52,48 +89,19 @@ impl Inside {
         }
     }
 
-    pub(crate) fn in_paren(self) -> Inside {
+    /// The same, and this pair is open.
+    pub(crate) fn within(self, pair: Pair) -> Inside {
         let Inside {
             body,
-            paren: _,
+            paren,
             brack,
             end,
         } = self;
         Inside {
             body,
-            paren: true,
-            brack,
-            end,
-        }
-    }
-
-    pub(crate) fn in_brack(self) -> Inside {
-        let Inside {
-            body,
-            paren,
-            brack: _,
-            end,
-        } = self;
-        Inside {
-            body,
-            paren,
-            brack: true,
-            end,
-        }
-    }
-
-    pub(crate) fn in_case(self) -> Inside {
-        let Inside {
-            body,
-            paren,
-            brack,
-            end: _,
-        } = self;
-        Inside {
-            body,
-            paren,
-            brack,
-            end: true,
+            paren: paren || pair == Pair::Parens,
+            brack: brack || pair == Pair::Brackets,
+            end: end || pair == Pair::Case,
         }
     }
 

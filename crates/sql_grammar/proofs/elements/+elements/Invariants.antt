@@ -27,14 +27,8 @@ decreases-piece l = 10 * l.depth + 4
 abbrev pub decreases-content : goal.decreases-content
 decreases-content l = 10 * l.depth + 5
 
-abbrev pub decreases-parens : goal.decreases-parens
-decreases-parens l = 10 * l.depth + 6
-
-abbrev pub decreases-brackets : goal.decreases-brackets
-decreases-brackets l = 10 * l.depth + 6
-
-abbrev pub decreases-case_expr : goal.decreases-case_expr
-decreases-case_expr l = 10 * l.depth + 6
+abbrev pub decreases-enclosed : goal.decreases-enclosed
+decreases-enclosed l = 10 * l.depth + 6
 
 abbrev pub decreases-statement_tokens : goal.decreases-statement_tokens
 decreases-statement_tokens l = 10 * l.depth + 6
