@@ -125,7 +125,7 @@ fn element(p: &mut Parser<'_>, inside: Inside, depth: u32)
     ensures eats { p.old.position < p.new.position }
 {
     match p.current() {
-        kind if is_plain(kind) => p.bump_any(),
+        kind if is_plain(kind) => plain_tokens(p),
         SyntaxKind::L_PAREN | SyntaxKind::L_BRACK | SqlKind::CASE_KW => opening(p, inside, depth),
         SqlKind::BEGIN_KW if inside.body == Body::Routine && p.nth(1) == SqlKind::ATOMIC_KW => {
             opening(p, inside, depth)
@@ -133,6 +133,18 @@ fn element(p: &mut Parser<'_>, inside: Inside, depth: u32)
         SyntaxKind::R_PAREN => p.err_and_bump("closing parenthesis without an opening one"),
         SyntaxKind::R_BRACK => p.err_and_bump("closing bracket without an opening one"),
         _ => token(p),
+    }
+}
+
+/// Tokens that are always by themselves, as many as stand here one behind another.
+fn plain_tokens(p: &mut Parser<'_>)
+    requires { kind_at p.old 0 ≢ EOF }
+    ensures adds { AddsSome p.old p.new }
+    ensures eats { p.old.position < p.new.position }
+{
+    p.bump_any();
+    while is_plain(p.current()) {
+        p.bump_any();
     }
 }
 
