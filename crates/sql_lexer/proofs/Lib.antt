@@ -13,3 +13,4 @@ pub mod ClosedFit
 pub mod NumbersFit
 pub mod FirstFits
 pub mod CutTokens
+pub mod TextTokens

@@ -45,7 +45,7 @@ pub(crate) fn push_first(tokens: &mut Vec<Token>, text: &[u8]) -> Result<usize, 
 
 /// Adds a token, and gives its length in bytes.
 #[inline(always)]
-fn push(tokens: &mut Vec<Token>, token: Token) -> Result<usize, AllocError>
+pub(crate) fn push(tokens: &mut Vec<Token>, token: Token) -> Result<usize, AllocError>
     ensures { Pushes tokens.old.items token tokens.new.items result }
 {
     tokens.push(token)?;

@@ -1,5 +1,5 @@
 use Rattle.std.proofs.Common.{◌<◌, ◌≤◌, ◌+◌, length, arith}
-use Rattle.sql_lexer.proofs.CutTokens.{has_cut_one, cut_some, cut_within}
+use Rattle.sql_lexer.proofs.TextTokens.{has_cut_one, cut_some, cut_within}
 use Rattle.sql_lexer.proofs.tokenizer.tokenize.Goals as goal
 
 pub overflow_add-at : goal.overflow_add-at
