@@ -14,3 +14,6 @@ pub mod NumbersFit
 pub mod FirstFits
 pub mod CutTokens
 pub mod TextTokens
+pub mod LinesFit
+pub mod ScriptPlaces
+pub mod ScriptTokens

@@ -12,7 +12,7 @@ HasRoom Front text = Unit {0}
 HasRoom (Sql statement) text = unclosed_in statement + 1 < 2 ^ 64
 HasRoom (Data behind) text = IsCharBoundary text behind
 
--- the token stands behind the list, and its length and the place behind it are answered
-abbrev pub Moves : List Token → Token → List Token → Place → Result (ℕ × Place) AllocError → Type 0
-Moves old token new place (Ok moved) = (new ≡ old ++ token ∷ []) × (moved.0 ≡ token.len) × (moved.1 ≡ place)
+-- the token stands behind the list, and it and the place behind it are answered
+abbrev pub Moves : List Token → Token → List Token → Place → Result (Token × Place) AllocError → Type 0
+Moves old token new place (Ok moved) = (new ≡ old ++ token ∷ []) × (moved.0 ≡ token) × (moved.1 ≡ place)
 Moves old token new place (Err error) = Unit {0}

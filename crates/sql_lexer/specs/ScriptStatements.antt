@@ -1,7 +1,7 @@
 -- Where statements end, and which of them data follow. What may hold semicolons is what it is to a grammar of SQL.
 use Rattle.std.specs.Prelude.{ℕ, ◌+◌, ◌-◌, ◌==◌, Bool, true, false, if◌then◌else◌}
 use Rattle.sql_lexer.specs.declared.script.words.Word.{Word}
-use Rattle.sql_lexer.specs.declared.script.words.Word.TheVariants.{Trivia, Semicolon, QueryEnd, Command, Open, Close, Copy, From, Stdin, Create, Or, Replace, Function, Procedure, Rule, Begin, Atomic, Case, End, Other}
+use Rattle.sql_lexer.specs.declared.script.words.Word.TheVariants.{Trivia, Semicolon, QueryEnd, Command, Open, Close, Copy, From, Stdin, Create, Or, Replace, Function, Procedure, Rule, Begin, Atomic, Case, End}
 use Rattle.sql_lexer.specs.declared.script.statements.Phrase.{Phrase}
 use Rattle.sql_lexer.specs.declared.script.statements.Phrase.TheVariants.{Nothing, Begun, Whole}
 use Rattle.sql_lexer.specs.declared.script.statements.Statement.{Statement}

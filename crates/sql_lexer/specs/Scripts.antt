@@ -34,11 +34,15 @@ abbrev pub data_token : List ℕ → Token
 data_token text =
     if is_line_end (first text) then token Whitespace (prefix_len is_line_end text) else token (PsqlCommand (ends_data text)) (line_len text)
 
--- The token in front. A byte order mark is white space; what stands behind COPY on its line is cut as if the text ended there.
+-- behind COPY: what is left of its line, so many bytes, is cut as if the text ended there
+abbrev pub token_before : ℕ → List ℕ → Token
+token_before behind text = if behind == 0 then data_token text else first_token (take behind text)
+
+-- the token in front; a byte order mark is white space
 abbrev pub token_at : Place → List ℕ → Token
 token_at Front text = if has_mark text then token Whitespace 3 else first_token text
 token_at (Sql statement) text = first_token text
-token_at (Data behind) text = if behind == 0 then data_token text else first_token (take behind text)
+token_at (Data behind) text = token_before behind text
 
 -- ---- places
 

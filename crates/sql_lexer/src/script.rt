@@ -25,6 +25,7 @@ use std::alloc::Global;
 /// brackets hold semicolons that end nothing. A byte order mark that begins the text is white space.
 ///
 /// It takes time proportional to the text's length, and no memory but the list's.
+#[tactic(auto, using(crate::proofs::ScriptTokens::script_none, crate::proofs::ScriptTokens::script_all, crate::proofs::ScriptTokens::script_accepted))]
 pub fn tokenize_script(alloc: Global, text: &str) -> Result<Vec<Token>, TokenizeError>
     ensures tokens { IfOk result (λ tokens. tokens.items ≡ script_tokens text.now) }
     // So `check_tokens` accepts them, and a table can be made of them.
@@ -39,8 +40,8 @@ pub fn tokenize_script(alloc: Global, text: &str) -> Result<Vec<Token>, Tokenize
     let mut place = Place::Front;
     let mut at = 0;
     while at < bytes.len() {
-        let (len, next) = push_next(&mut tokens, place, &bytes[at..])?;
-        at += len;
+        let (token, next) = push_next(&mut tokens, place, &bytes[at..])?;
+        at += token.len as usize;
         place = next;
     }
     if tokens.len() < tokens.capacity() / 2 {

@@ -83,7 +83,8 @@ pub fn tokenize(alloc: Global, text: &str) -> Result<Vec<Token>, TokenizeError>
     let mut tokens = Vec::with_capacity(alloc, bytes.len() / BYTES_PER_TOKEN + 1)?;
     let mut at = 0;
     while at < bytes.len() {
-        at += push_first(&mut tokens, &bytes[at..])?;
+        let token = push_first(&mut tokens, &bytes[at..])?;
+        at += token.len as usize;
     }
     if tokens.len() < tokens.capacity() / 2 {
         tokens.shrink_to_fit();
