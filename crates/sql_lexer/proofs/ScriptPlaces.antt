@@ -1,21 +1,25 @@
 -- Places of scripts: what stands there fits, and nothing is counted past the text.
-use Rattle.std.proofs.Common.{◌≡◌, ◌∙◌, ℕ, ◌+◌, ◌-◌, ◌<◌, ◌≤◌, ◌==◌, true, false, Bool, List, length, take, drop, arith, ap, refl, sym}
+use Rattle.std.proofs.Common.{◌≡◌, ◌∙◌, ℕ, ◌+◌, ◌-◌, ◌<◌, ◌≤◌, ◌==◌, true, false, Bool, List, length, take, drop, arith, ap, refl, sym, [], ◌∷◌, subst}
+use Rattle.std.specs.List.{list_all}
+use Rattle.std.specs.Str.{str_eq_ignore_ascii_case}
 use Rattle.std.specs.Prelude.{IsUtf8, IsCharBoundary, if◌then◌else◌}
-use Rattle.std.proofs.lemmas.Bool.{cond_both, cond-false}
+use Rattle.std.proofs.lemmas.Bool.{and_parts, cond_both, cond-false, false≢true}
 use Rattle.std.proofs.lemmas.Bool.Decides.{nat_tests}
 use Rattle.std.proofs.lemmas.Str.{IsUtf8-drop, IsCharBoundary-start}
 use Rattle.squawk_tokens.specs.declared.token.Token.{Token}
-use Rattle.squawk_tokens.specs.declared.token.TokenKind.TheVariants.{Whitespace}
+use Rattle.squawk_tokens.specs.declared.token.TokenKind.{TokenKind}
+use Rattle.squawk_tokens.specs.declared.token.TokenKind.TheVariants.{Ident, PsqlCommand, Semi, Whitespace}
 use Rattle.sql_lexer.specs.declared.script.places.Place.{Place}
 use Rattle.sql_lexer.specs.declared.script.places.Place.TheVariants.{Front, Sql, Data}
 use Rattle.sql_lexer.specs.declared.script.statements.Statement.{Statement}
 use Rattle.sql_lexer.specs.declared.script.statements.Statement.TheVariants.{Start, Created, CreatedOr, Replaced, Plain, OfRule, OfRoutine, OfCopy}
 use Rattle.sql_lexer.specs.declared.script.words.Word.{Word}
-use Rattle.sql_lexer.specs.declared.script.words.Word.TheVariants.{Trivia, Semicolon, Command, Open, Close, Copy, Create, Or, Replace, Function, Procedure, Rule, Atomic, Case, End}
+use Rattle.sql_lexer.specs.declared.script.words.Word.TheVariants.{Atomic, Case, Close, Command, Copy, Create, End, Function, Open, Or, Procedure, QueryEnd, Replace, Rule, Semicolon, Trivia}
 use Rattle.sql_lexer.specs.Rules.{token}
 use Rattle.sql_lexer.specs.ScriptStatements.{begun_by, blocks_behind, block_at, brackets_behind, created_by, creating, data_follow, ends_at, goes_on, replaced_by, routine_behind, statement_behind, unclosed_in}
-use Rattle.sql_lexer.specs.ScriptWords.{word_of}
-use Rattle.sql_lexer.specs.Scripts.{data_token, ends_data, has_mark, line_len, place_before, place_behind, place_in, token_at, token_before}
+use Rattle.sql_lexer.specs.ScriptWords.{names, word_in, word_of}
+use Rattle.sql_lexer.specs.ScriptPlaces.{may_end}
+use Rattle.sql_lexer.specs.Scripts.{data_token, ends_data, has_mark, line_len, place_before, place_behind, place_in, token_at, token_before, place_with}
 use Rattle.sql_lexer.specs.Tokens.{first_token}
 use Rattle.sql_lexer.proofs.CutTokens.{Cutter}
 use Rattle.sql_lexer.proofs.FirstFits.{first_token_fits}
@@ -180,3 +184,41 @@ place_on_line behind text found some same =
     let left = Data (behind - (first_token (take behind text)).len) in
     let ended = if ends_data text then Sql Start else Data 0 in
     ap (λ (t : Token). Data (behind - t.len)) same ∙ sym (cond-false (behind == 0) ended left (is_left behind some))
+
+-- ---- a plain statement
+
+-- a word that doesn't end it
+goes_by_plain : Word → Bool
+goes_by_plain Semicolon = false
+goes_by_plain QueryEnd = false
+goes_by_plain word = true
+
+plain_behind : (word : Word) (rest : List ℕ) → goes_by_plain word ≡ true → Sql Plain ≡ place_with Plain word rest
+unfolding goes_by_plain
+plain_behind Semicolon rest e = absurd (false≢true e)
+plain_behind QueryEnd rest e = absurd (false≢true e)
+plain_behind word rest e = refl
+
+name_goes_by : (rows : List (List ℕ × Word)) (name : List ℕ) → list_all (λ row. goes_by_plain row.1) rows ≡ true → goes_by_plain (word_in rows name) ≡ true
+unfolding goes_by_plain
+name_goes_by [] name e = refl
+name_goes_by (row ∷ rows) name e =
+    let parts = and_parts (goes_by_plain row.1) (list_all (λ row. goes_by_plain row.1) rows) e in
+    cond_both (str_eq_ignore_ascii_case name row.0) row.1 (word_in rows name) (λ word. goes_by_plain word ≡ true) (λ f. parts.0) (λ f. name_goes_by rows name parts.1)
+
+kind_goes_by : (kind : TokenKind) (text : List ℕ) → may_end kind ≡ false → goes_by_plain (word_of kind text) ≡ true
+unfolding goes_by_plain
+kind_goes_by Semi text e = absurd (false≢true (sym e))
+kind_goes_by (PsqlCommand ends_query) text e = absurd (false≢true (sym e))
+kind_goes_by Ident text e = name_goes_by names text refl
+kind_goes_by kind text e = refl
+
+stays : (text : List ℕ) (found : Token) → found ≡ first_token text → may_end found.kind ≡ false → Sql Plain ≡ place_in Plain text
+stays text found same e =
+    let kind = (first_token text).kind in
+    let front = take (first_token text).len text in
+    plain_behind (word_of kind front) (drop (first_token text).len text) (kind_goes_by kind front (subst (λ (t : Token). may_end t.kind ≡ false) same e))
+
+pub plain_stays : (statement : Statement) (text : List ℕ) (found : Token) → statement ≡ Plain → found ≡ first_token text → may_end found.kind ≡ false
+    → Sql statement ≡ place_in statement text
+plain_stays statement text found plain same e = subst (λ (s : Statement). Sql s ≡ place_in s text) (sym plain) (stays text found same e)
