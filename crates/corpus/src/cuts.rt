@@ -1,9 +1,9 @@
-//! Whether the tokenizer of SQL cuts a text into the raw tokens that a case gives.
+//! Whether the tokenizers of SQL and of scripts cut a text into the raw tokens that a case gives.
 
 use crate::given::Given;
 use crate::report::Report;
 use crate::trouble::{Trouble, malformed};
-use sql_lexer::{TokenizeError, tokenize};
+use sql_lexer::{TokenizeError, tokenize, tokenize_script};
 use squawk_parser::Token;
 
 /// Compares the given tokens with those that the text is cut into, if the case wants it.
@@ -14,10 +14,24 @@ pub fn judge_cut(
     report: &mut Report,
 ) -> Result<(), Trouble> {
     let case = given.case;
-    if !case.wants("cut") {
-        return Ok(());
+    if case.wants("cut") {
+        compare(given, text, tokens, tokenize(given.alloc, text), report)?;
     }
-    match tokenize(given.alloc, text) {
+    if case.wants("script") {
+        compare(given, text, tokens, tokenize_script(given.alloc, text), report)?;
+    }
+    Ok(())
+}
+
+fn compare(
+    given: &Given<'_>,
+    text: &str,
+    tokens: &[Token],
+    cut: Result<Vec<Token>, TokenizeError>,
+    report: &mut Report,
+) -> Result<(), Trouble> {
+    let case = given.case;
+    match cut {
         Ok(cut) => {
             let wanted = format!(in given.alloc; "{text} {tokens:?}")?;
             let came = format!(in given.alloc; "{text} {:?}", cut.as_slice())?;

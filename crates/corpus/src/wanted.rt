@@ -4,6 +4,7 @@
 //! |---|---|
 //! | `lex 0..2 "empty .."` | a lexical error, as the program prints it; `lex none`: a case names them all |
 //! | `cut` | that the tokenizer of SQL cuts the text into these raw tokens |
+//! | `script` | that the tokenizer of scripts does |
 //! | `raw IDENT 44` | the syntax kinds of the raw tokens, by their names or else their numbers |
 //! | `table IDENT@0..1'a' 1` | the same with their places and texts, and the end of the text |
 //! | `range 0 2 \|a b\|` | the text of the raw tokens from one to before another |
@@ -120,7 +121,7 @@ fn compare_all(
 
 /// Whether the line is no word of its own: one of those that are compared together, or judged with the text.
 fn is_of_all(entry: &Entry<'_>) -> bool {
-    matches!(entry.word, "lex" | "shown" | "cut")
+    matches!(entry.word, "lex" | "shown" | "cut" | "script")
 }
 
 /// What the calls of a case see.

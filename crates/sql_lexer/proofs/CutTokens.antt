@@ -1,37 +1,60 @@
 -- Tokens are cut one behind the other, and their list is accepted.
 use Rattle.std.proofs.Common.{◌≡◌, ◌∙◌, ℕ, zero, suc, ◌+◌, ◌-◌, ◌<◌, ◌≤◌, List, [], ◌∷◌, ◌++◌, length, take, drop, get_or, length-drop, zero-add, ⊎_elim, arith, ap, sym, refl, subst}
-use Rattle.std.specs.Prelude.{IsUtf8, IsCharBoundary, Ok}
+use Rattle.std.specs.Prelude.{IsUtf8, IsCharBoundary}
 use Rattle.std.specs.List.{HoldsAt}
 use Rattle.std.proofs.lemmas.Bool.{cases_lt}
-use Rattle.std.proofs.lemmas.List.{drop_all, drop-drop, take_rest, append_assoc, append-nil}
+use Rattle.std.proofs.lemmas.List.{drop_all, drop-drop, append_assoc, append-nil}
 use Rattle.std.proofs.lemmas.List.Sums.{sum_by-cons}
-use Rattle.std.proofs.lemmas.Str.{IsUtf8-drop, IsCharBoundary-from_rest, IsCharBoundary-start}
+use Rattle.std.proofs.lemmas.Str.{IsUtf8-drop, IsCharBoundary-from_rest}
 use Rattle.squawk_tokens.specs.declared.token.Token.{Token}
 use Rattle.squawk_tokens.specs.AcceptedTokens.{IsGoodToken, AreAcceptedTokens, start_of}
 use Rattle.squawk_tokens.specs.TokenRows.{MeetsKind}
-use Rattle.sql_lexer.specs.Pushes.{Pushes}
-use Rattle.sql_lexer.specs.Tokens.{first_token, tokens_behind, tokens_of}
+use Rattle.sql_lexer.specs.Tokens.{tokens_by}
 use Rattle.sql_lexer.proofs.Fits.{Fits}
-use Rattle.sql_lexer.proofs.FirstFits.{first_token_fits}
+
+-- A way to cut: the token in front at a place, and the place behind it. A place may reach to a byte of the text, where a character
+-- begins or the text ends; then the token in front fits.
+pub record Cutter (P : Type 0) : Type 0 where
+  pub token : P → List ℕ → Token
+  pub next : P → List ℕ → P
+  pub reach : P → ℕ
+  pub fits : (place : P) (text : List ℕ) → IsUtf8 text → IsCharBoundary text (reach place) → 0 < length text → Fits text (token place text)
+  pub reaches : (place : P) (text : List ℕ) → IsUtf8 text → IsCharBoundary text (reach place) → 0 < length text
+      → IsCharBoundary (drop (token place text).len text) (reach (next place text))
+
+-- the tokens from a place on
+abbrev pub cut_from : {P : Type 0} → Cutter P → P → List ℕ → List Token
+cut_from cutter place text = tokens_by cutter.token cutter.next place 0 text
 
 -- ---- the first token and the others
 
-behind : (n : ℕ) (text : List ℕ) → tokens_behind n text ≡ tokens_of (drop n text)
-behind zero text = refl
-behind (suc n) [] = refl
-behind (suc n) (b ∷ rest) = behind n rest
+behind : {P : Type 0} (cutter : Cutter P) (place : P) (n : ℕ) (text : List ℕ)
+    → tokens_by cutter.token cutter.next place n text ≡ cut_from cutter place (drop n text)
+behind cutter place zero text = refl
+behind cutter place (suc n) [] = refl
+behind cutter place (suc n) (b ∷ rest) = behind cutter place n rest
 
-cut_first : (text : List ℕ) → 0 < length text → 0 < (first_token text).len → tokens_of text ≡ first_token text ∷ tokens_of (drop (first_token text).len text)
-cut_first [] some nonempty = absurd (omega arith)
-cut_first (b ∷ rest) some nonempty =
-    let found = first_token (b ∷ rest) in
+cut_first : {P : Type 0} (cutter : Cutter P) (place : P) (text : List ℕ) → 0 < length text → 0 < (cutter.token place text).len
+    → cut_from cutter place text ≡ cutter.token place text ∷ cut_from cutter (cutter.next place text) (drop (cutter.token place text).len text)
+cut_first cutter place [] some nonempty = absurd (omega arith)
+cut_first cutter place (b ∷ rest) some nonempty =
+    let found = cutter.token place (b ∷ rest) in
+    let then = cutter.next place (b ∷ rest) in
     let next : found.len ≡ suc (found.len - 1) = omega (arith, nonempty) in
-    ap (λ others. found ∷ others) (behind (found.len - 1) rest ∙ ap (λ n. tokens_of (drop n (b ∷ rest))) (sym next))
+    ap (λ others. found ∷ others) (behind cutter then (found.len - 1) rest ∙ ap (λ n. cut_from cutter then (drop n (b ∷ rest))) (sym next))
 
--- a token at a place: it is good there, and the others stand behind it
-record IsCutAt (text : List ℕ) (at : ℕ) (token : Token) : Type 0 where
-  good : IsGoodToken text at token
-  tokens : tokens_of (drop at text) ≡ token ∷ tokens_of (drop (at + token.len) text)
+-- a place of a text
+pub record IsAt {P : Type 0} (cutter : Cutter P) (place : P) (text : List ℕ) (at : ℕ) : Type 0 where
+  pub utf8 : IsUtf8 text
+  pub boundary : IsCharBoundary text at
+  pub reach : IsCharBoundary (drop at text) (cutter.reach place)
+
+-- the token there: it is good, and the others stand behind it
+pub record IsCutAt {P : Type 0} (cutter : Cutter P) (place : P) (text : List ℕ) (at : ℕ) : Type 0 where
+  pub good : IsGoodToken text at (cutter.token place (drop at text))
+  pub behind : IsAt cutter (cutter.next place (drop at text)) text (at + (cutter.token place (drop at text)).len)
+  pub tokens : cut_from cutter place (drop at text)
+      ≡ cutter.token place (drop at text) ∷ cut_from cutter (cutter.next place (drop at text)) (drop (at + (cutter.token place (drop at text)).len) text)
 
 good_at : (text : List ℕ) (at : ℕ) (token : Token) → at ≤ length text → Fits (drop at text) token → IsGoodToken text at token
 good_at text at token le fits =
@@ -42,15 +65,26 @@ good_at text at token le fits =
       kind = subst (λ n. MeetsKind (take n (drop at text)) token.kind) (sym place) fits.kind;
     }
 
-cut_at : (text : List ℕ) (at : ℕ) → IsUtf8 text → IsCharBoundary text at → at < length text → IsCutAt text at (first_token (drop at text))
-cut_at text at utf8 boundary lt =
+pub cut_at : {P : Type 0} (cutter : Cutter P) (place : P) (text : List ℕ) (at : ℕ) → IsAt cutter place text at → at < length text
+    → IsCutAt cutter place text at
+cut_at cutter place text at is lt =
     let rest = drop at text in
+    let token = cutter.token place rest in
+    let then = cutter.next place rest in
     let some : 0 < length rest = omega (arith, length-drop at text) in
-    let fits = first_token_fits rest (IsUtf8-drop text at utf8 boundary) some in
+    let utf8 = IsUtf8-drop text at is.utf8 is.boundary in
+    let fits = cutter.fits place rest utf8 is.reach some in
     let le : at ≤ length text = omega arith in
+    let good = good_at text at token le fits in
+    let moved = drop-drop token.len at text in
     record {
-      good = good_at text at (first_token rest) le fits;
-      tokens = cut_first rest some fits.nonempty ∙ ap (λ others. first_token rest ∷ tokens_of others) (drop-drop (first_token rest).len at text);
+      good = good;
+      behind = record {
+        utf8 = is.utf8;
+        boundary = good.boundary;
+        reach = subst (λ others. IsCharBoundary others (cutter.reach then)) moved (cutter.reaches place rest utf8 is.reach some);
+      };
+      tokens = cut_first cutter place rest some fits.nonempty ∙ ap (λ others. token ∷ cut_from cutter then others) moved;
     }
 
 -- ---- a list that is accepted
@@ -60,21 +94,24 @@ abbrev AreGoodFrom : List ℕ → ℕ → List Token → Type 0
 AreGoodFrom text at [] = at ≡ length text
 AreGoodFrom text at (token ∷ tokens) = IsGoodToken text at token × AreGoodFrom text (at + token.len) tokens
 
-no_more : (text : List ℕ) (at : ℕ) → IsCharBoundary text at → length text ≤ at → AreGoodFrom text at (tokens_of (drop at text))
-no_more text at boundary le =
+no_more : {P : Type 0} (cutter : Cutter P) (place : P) (text : List ℕ) (at : ℕ) → IsCharBoundary text at → length text ≤ at
+    → AreGoodFrom text at (cut_from cutter place (drop at text))
+no_more cutter place text at boundary le =
     let end : at ≡ length text = omega (arith, boundary.0) in
-    subst (λ rest. AreGoodFrom text at (tokens_of rest)) (sym (drop_all at text le)) end
+    subst (λ rest. AreGoodFrom text at (cut_from cutter place rest)) (sym (drop_all at text le)) end
 
 -- of a text with at most so many bytes left
-good_from : (left : ℕ) (text : List ℕ) (at : ℕ) → IsUtf8 text → IsCharBoundary text at → length text ≤ at + left → AreGoodFrom text at (tokens_of (drop at text))
-good_from zero text at utf8 boundary enough = no_more text at boundary (omega arith)
-good_from (suc left) text at utf8 boundary enough =
+good_from : {P : Type 0} (cutter : Cutter P) (left : ℕ) (place : P) (text : List ℕ) (at : ℕ) → IsAt cutter place text at → length text ≤ at + left
+    → AreGoodFrom text at (cut_from cutter place (drop at text))
+good_from cutter zero place text at is enough = no_more cutter place text at is.boundary (omega arith)
+good_from cutter (suc left) place text at is enough =
     ⊎_elim
     (λ lt.
-    let here = cut_at text at utf8 boundary lt in
-    let others = good_from left text (at + (first_token (drop at text)).len) utf8 here.good.boundary (omega (arith, here.good.nonempty)) in
+    let here = cut_at cutter place text at is lt in
+    let token = cutter.token place (drop at text) in
+    let others = good_from cutter left (cutter.next place (drop at text)) text (at + token.len) here.behind (omega (arith, here.good.nonempty)) in
     subst (AreGoodFrom text at) (sym here.tokens) (here.good, others))
-    (λ le. no_more text at boundary le)
+    (λ le. no_more cutter place text at is.boundary le)
     (cases_lt at (length text))
 
 -- where token i starts in a list that starts at a place
@@ -94,10 +131,11 @@ ends_with_text : (text : List ℕ) (tokens : List Token) (at : ℕ) → AreGoodF
 ends_with_text text [] at good = omega (arith, good)
 ends_with_text text (token ∷ tokens) at good = sym (start_behind token tokens at (length tokens)) ∙ ends_with_text text tokens (at + token.len) good.1
 
-pub tokens_accepted : (text : List ℕ) → IsUtf8 text → length text ≤ 4294967295 → AreAcceptedTokens text (tokens_of text)
-tokens_accepted text utf8 short =
-    let tokens = tokens_of text in
-    let good = good_from (length text) text 0 utf8 (IsCharBoundary-start text utf8) (omega arith) in
+pub accepted_from : {P : Type 0} (cutter : Cutter P) (place : P) (text : List ℕ) → IsAt cutter place text 0 → length text ≤ 4294967295
+    → AreAcceptedTokens text (cut_from cutter place text)
+accepted_from cutter place text is short =
+    let tokens = cut_from cutter place text in
+    let good = good_from cutter (length text) place text 0 is (omega arith) in
     record {
       short = short;
       good = λ i lt. subst (λ start. HoldsAt (IsGoodToken text start) tokens i) (zero-add (start_of tokens i)) (each_good text tokens 0 good i lt);
@@ -107,37 +145,26 @@ tokens_accepted text utf8 short =
 -- ---- a loop that cuts one token after the other
 
 -- these are the tokens before a place
-pub record HasCut (text : List ℕ) (at : ℕ) (cut : List Token) : Type 0 where
-  pub utf8 : IsUtf8 text
-  pub boundary : IsCharBoundary text at
-  pub tokens : cut ++ tokens_of (drop at text) ≡ tokens_of text
+pub record HasCut {P : Type 0} (cutter : Cutter P) (front : P) (text : List ℕ) (place : P) (at : ℕ) (cut : List Token) : Type 0 where
+  pub is : IsAt cutter place text at
+  pub tokens : cut ++ cut_from cutter place (drop at text) ≡ cut_from cutter front text
 
-pub has_cut_none : (text : List ℕ) → IsUtf8 text → HasCut text 0 []
-has_cut_none text utf8 = record { utf8 = utf8; boundary = IsCharBoundary-start text utf8; tokens = refl }
+pub cut_none : {P : Type 0} (cutter : Cutter P) (front : P) (text : List ℕ) → IsAt cutter front text 0 → HasCut cutter front text front 0 []
+cut_none cutter front text is = record { is = is; tokens = refl }
 
--- the token at a place stands behind them now
-abbrev pub HasPushed : List ℕ → ℕ → List Token → List Token → ℕ → Type 0
-HasPushed text at cut more len = Pushes cut (first_token (take (length text - at) (drop at text))) more (Ok len)
+pub cut_one : {P : Type 0} (cutter : Cutter P) (front : P) (text : List ℕ) (place : P) (at : ℕ) (cut : List Token)
+    → HasCut cutter front text place at cut → at < length text
+    → HasCut cutter front text (cutter.next place (drop at text)) (at + (cutter.token place (drop at text)).len) (cut ++ cutter.token place (drop at text) ∷ [])
+cut_one cutter front text place at cut has lt =
+    let here = cut_at cutter place text at has.is lt in
+    let token = cutter.token place (drop at text) in
+    let others = cut_from cutter (cutter.next place (drop at text)) (drop (at + token.len) text) in
+    record {
+      is = here.behind;
+      tokens = append_assoc cut (token ∷ []) others ∙ ap (λ rest. cut ++ rest) (sym here.tokens) ∙ has.tokens;
+    }
 
-token_at : (text : List ℕ) (at : ℕ) (cut : List Token) → HasCut text at cut → at < length text → IsCutAt text at (first_token (take (length text - at) (drop at text)))
-token_at text at cut has lt = subst (IsCutAt text at) (sym (ap first_token (take_rest text at))) (cut_at text at has.utf8 has.boundary lt)
-
-pub cut_some : (text : List ℕ) (at : ℕ) (cut more : List Token) (len : ℕ) → HasCut text at cut → at < length text → HasPushed text at cut more len → 0 < len
-cut_some text at cut more len has lt pushed = omega (arith, (token_at text at cut has lt).good.nonempty, pushed.1)
-
-pub cut_within : (text : List ℕ) (at : ℕ) (cut more : List Token) (len : ℕ) → HasCut text at cut → at < length text → HasPushed text at cut more len → at + len ≤ length text
-cut_within text at cut more len has lt pushed = omega (arith, (token_at text at cut has lt).good.boundary.0, pushed.1)
-
-pub has_cut_one : (text : List ℕ) (at : ℕ) (cut more : List Token) (len : ℕ) → HasCut text at cut → at < length text → HasPushed text at cut more len → HasCut text (at + len) more
-has_cut_one text at cut more len has lt pushed =
-    let here = token_at text at cut has lt in
-    let token = first_token (take (length text - at) (drop at text)) in
-    let others = tokens_of (drop (at + token.len) text) in
-    subst (λ n. HasCut text (at + n) more) (sym pushed.1) (record {
-      utf8 = has.utf8;
-      boundary = here.good.boundary;
-      tokens = ap (λ front. front ++ others) pushed.0 ∙ append_assoc cut (token ∷ []) others ∙ ap (λ rest. cut ++ rest) (sym here.tokens) ∙ has.tokens;
-    })
-
-pub has_cut_all : (text : List ℕ) (at : ℕ) (cut : List Token) → HasCut text at cut → length text ≤ at → cut ≡ tokens_of text
-has_cut_all text at cut has le = sym (append-nil cut) ∙ ap (λ rest. cut ++ tokens_of rest) (sym (drop_all at text le)) ∙ has.tokens
+pub cut_all : {P : Type 0} (cutter : Cutter P) (front : P) (text : List ℕ) (place : P) (at : ℕ) (cut : List Token)
+    → HasCut cutter front text place at cut → length text ≤ at → cut ≡ cut_from cutter front text
+cut_all cutter front text place at cut has le =
+    sym (append-nil cut) ∙ ap (λ rest. cut ++ cut_from cutter place rest) (sym (drop_all at text le)) ∙ has.tokens

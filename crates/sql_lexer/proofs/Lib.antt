@@ -13,3 +13,7 @@ pub mod ClosedFit
 pub mod NumbersFit
 pub mod FirstFits
 pub mod CutTokens
+pub mod TextTokens
+pub mod LinesFit
+pub mod ScriptPlaces
+pub mod ScriptTokens

@@ -59,10 +59,10 @@ identifier_fits text = when_fits text (is_name_start (first text)) (token Ident 
 
 -- ---- up to the end of the line
 
-line_ends_lead : (b : ℕ) → not (is_line_end b) ≡ false → IsLead b
+pub line_ends_lead : (b : ℕ) → not (is_line_end b) ≡ false → IsLead b
 line_ends_lead b e = λ high. grind (arith, nat_tests)
 
-line_fits : (kind : TokenKind) (text : List ℕ) → ((front : List ℕ) → MeetsKind front kind) → 0 < length text → not (is_line_end (first text)) ≡ true
+pub line_fits : (kind : TokenKind) (text : List ℕ) → ((front : List ℕ) → MeetsKind front kind) → 0 < length text → not (is_line_end (first text)) ≡ true
     → Fits text (token kind (position_or_len is_line_end text))
 line_fits kind text meets some e =
     let others = λ (b : ℕ). not (is_line_end b) in

@@ -10,3 +10,7 @@ pub mod Numbers
 pub mod Tokens
 pub mod Pushes
 pub mod ErrorLines
+pub mod ScriptWords
+pub mod ScriptStatements
+pub mod Scripts
+pub mod ScriptPlaces

@@ -34,6 +34,15 @@ tokens_behind zero (b ∷ rest) = let found = first_token (b ∷ rest) in found 
 abbrev pub tokens_of : List ℕ → List Token
 tokens_of text = tokens_behind 0 text
 
+-- Tokens of which each depends on the place that it stands at, too: `token` is the one in front at a place, and `next` the place
+-- behind it.
+abbrev pub tokens_by : {P : Type 0} → (P → List ℕ → Token) → (P → List ℕ → P) → P → ℕ → List ℕ → List Token
+tokens_by token next place n [] = []
+tokens_by token next place (suc n) (b ∷ rest) = tokens_by token next place n rest
+tokens_by token next place zero (b ∷ rest) =
+    let found = token place (b ∷ rest) in
+    found ∷ tokens_by token next (next place (b ∷ rest)) (found.len - 1) rest
+
 -- why a text has no tokens
 abbrev pub RefusesText : List ℕ → TokenizeError → Type 0
 RefusesText text TextTooLong = 4294967295 < length text

@@ -15,13 +15,12 @@ use crate::strings::{quoted_identifier, string};
 use squawk_tokens::Token;
 use std::alloc::AllocError;
 
-/// Adds the token by the first rule that fits, and gives its length in bytes. The first byte tells which
-/// rules may fit.
+/// Adds the token by the first rule that fits, and gives it. The first byte tells which rules may fit.
 ///
 /// Most tokens are names, a single byte of white space and bytes that stand alone. They are added on paths of
 /// their own, where most of the token is a constant, with few jumps: which token comes next can't be foretold.
 #[inline(always)]
-pub(crate) fn push_first(tokens: &mut Vec<Token>, text: &[u8]) -> Result<usize, AllocError>
+pub(crate) fn push_first(tokens: &mut Vec<Token>, text: &[u8]) -> Result<Token, AllocError>
     requires some { 0 < length text.now }
     requires short { length text.now < 2 ^ 32 }
     ensures { Pushes tokens.old.items (spec.first_token text.now) tokens.new.items result }
@@ -43,13 +42,13 @@ pub(crate) fn push_first(tokens: &mut Vec<Token>, text: &[u8]) -> Result<usize, 
     push(tokens, one_of_several(text))
 }
 
-/// Adds a token, and gives its length in bytes.
+/// Adds a token, and gives it.
 #[inline(always)]
-fn push(tokens: &mut Vec<Token>, token: Token) -> Result<usize, AllocError>
+pub(crate) fn push(tokens: &mut Vec<Token>, token: Token) -> Result<Token, AllocError>
     ensures { Pushes tokens.old.items token tokens.new.items result }
 {
     tokens.push(token)?;
-    Ok(token.len as usize)
+    Ok(token)
 }
 
 /// The token where the first byte begins several.

@@ -9,8 +9,10 @@ mod first_token;
 mod identifiers;
 mod numbers;
 mod psql;
+pub mod script;
 mod signs;
 mod strings;
 pub mod tokenizer;
 
+pub use script::tokenize_script;
 pub use tokenizer::{TokenizeError, tokenize};

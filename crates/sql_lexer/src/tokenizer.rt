@@ -10,10 +10,10 @@ use std::error::Error;
 use std::fmt;
 
 /// The longest text in bytes: places in it have 32 bits.
-const LONGEST_TEXT: usize = 4294967295;
+pub(crate) const LONGEST_TEXT: usize = 4294967295;
 
 /// Room is made at first for one raw token in so many bytes.
-const BYTES_PER_TOKEN: usize = 5;
+pub(crate) const BYTES_PER_TOKEN: usize = 5;
 
 /// Why there are no tokens.
 #[derive(Clone, Copy, Debug, PartialEq, Eq)]
@@ -69,7 +69,7 @@ impl<T: Drop> From<AllocFailed<T>> for TokenizeError {
 /// asked for.
 ///
 /// It takes time proportional to the text's length, and no memory but the list's.
-#[tactic(auto, using(crate::proofs::CutTokens::has_cut_none, crate::proofs::CutTokens::has_cut_all, crate::proofs::CutTokens::tokens_accepted))]
+#[tactic(auto, using(crate::proofs::TextTokens::has_cut_none, crate::proofs::TextTokens::has_cut_all, crate::proofs::TextTokens::tokens_accepted))]
 pub fn tokenize(alloc: Global, text: &str) -> Result<Vec<Token>, TokenizeError>
     ensures tokens { IfOk result (λ tokens. tokens.items ≡ tokens_of text.now) }
     // So `check_tokens` accepts them, and a table can be made of them.
@@ -83,7 +83,8 @@ pub fn tokenize(alloc: Global, text: &str) -> Result<Vec<Token>, TokenizeError>
     let mut tokens = Vec::with_capacity(alloc, bytes.len() / BYTES_PER_TOKEN + 1)?;
     let mut at = 0;
     while at < bytes.len() {
-        at += push_first(&mut tokens, &bytes[at..])?;
+        let token = push_first(&mut tokens, &bytes[at..])?;
+        at += token.len as usize;
     }
     if tokens.len() < tokens.capacity() / 2 {
         tokens.shrink_to_fit();

@@ -2,7 +2,7 @@
 use Rattle.std.specs.Prelude.{ℕ, List, []}
 use Rattle.squawk_table.specs.declared.shortcuts.str_step.OwnedStep.{OwnedStep}
 use Rattle.squawk_tree.specs.TreeText.{tree_text}
-use Rattle.sql_lexer.specs.Tokens.{tokens_of}
+use Rattle.sql_lexer.specs.Scripts.{script_tokens}
 use Rattle.squawk_kinds.specs.EngineNames.{names_of}
 use Rattle.sql_report.specs.Statements.{statement_lines, statements_of}
 use Rattle.sql_report.specs.TokenLines.{token_lines}
@@ -14,5 +14,5 @@ use Rattle.sql_tree.specs.declared.sql.Sql.{Sql}
 abbrev pub listed : Sql → Listing → List ℕ → List OwnedStep → List ℕ
 listed sql Tree text sent = tree_text (names_of sql.names.items) sent
 listed sql Statements text sent = statement_lines text (names_of sql.names.items) (statements_of sent)
-listed sql Tokens text sent = token_lines 0 (tokens_of text)
+listed sql Tokens text sent = token_lines 0 (script_tokens text)
 listed sql Quiet text sent = []

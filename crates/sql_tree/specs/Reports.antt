@@ -6,7 +6,7 @@ use Rattle.squawk_output.specs.Steps.{Step}
 use Rattle.squawk_table.specs.RawTable.{Table, table_of}
 use Rattle.squawk_table.specs.Sent.{sent_list, texts_of}
 use Rattle.squawk_table.specs.Shape.{Fits}
-use Rattle.sql_lexer.specs.Tokens.{tokens_of}
+use Rattle.sql_lexer.specs.Scripts.{script_tokens}
 use Rattle.squawk_kinds.specs.EngineNames.{names_of}
 use Rattle.sql_words.specs.SqlKinds.{names}
 use Rattle.sql_words.specs.SqlVocabulary.{KnowsKeywords}
@@ -28,7 +28,7 @@ pub record IsSql (sql : Sql) : Type 0 where
 
 -- the table of a text's raw tokens
 abbrev pub table_in : Sql → List ℕ → Table
-table_in sql text = table_of (keyword_of sql.vocabulary) text (tokens_of text)
+table_in sql text = table_of (keyword_of sql.vocabulary) text (script_tokens text)
 
 -- The steps of a parse of the text, which fit its table: the texts of what is sent for them are the text. What is listed is that of
 -- what is sent, and the errors are the lexical ones and those that are sent, in the order of their places.

@@ -3,7 +3,7 @@ ghost use Rattle.std.specs.Prelude.{◌≡◌, ◌≢◌, IfOk, length, string_b
 ghost use Rattle.squawk_table.specs.Sent.{sent_list};
 ghost use Rattle.squawk_table.specs.Shape.{Fits};
 ghost use Rattle.squawk_tree.specs.TreeText.{tree_text};
-ghost use Rattle.sql_lexer.specs.Tokens.{tokens_of};
+ghost use Rattle.sql_lexer.specs.Scripts.{script_tokens};
 ghost use Rattle.sql_report.specs.Statements.{statements_of};
 ghost use Rattle.sql_report.specs.TokenLines.{token_lines};
 ghost use Rattle.sql_tree.specs.Listings.{listed};
@@ -87,7 +87,7 @@ fn list(
 
 /// The raw tokens as lines.
 fn token_list(alloc: Global, text: &str) -> Result<String, Unread>
-    ensures { IfOk result (λ list. string_bytes list ≡ token_lines 0 (tokens_of text.now)) }
+    ensures { IfOk result (λ list. string_bytes list ≡ token_lines 0 (script_tokens text.now)) }
 {
     let tokens = tokens(alloc, text)?;
     Ok(token_lines(alloc, &tokens)?)

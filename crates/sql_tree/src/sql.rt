@@ -8,11 +8,11 @@ ghost use Rattle.squawk_table.specs.RawTable.{table_of};
 ghost use Rattle.squawk_table.specs.Sent.{sent_list, texts_of};
 ghost use Rattle.squawk_table.specs.Shape.{Fits, no_keywords};
 ghost use Rattle.squawk_tokens.specs.AcceptedTokens.{AreAcceptedTokens};
-ghost use Rattle.sql_lexer.specs.Tokens.{tokens_of};
+ghost use Rattle.sql_lexer.specs.Scripts.{script_tokens};
 
 use crate::unread::Unread;
 use sql_grammar::{NAMES, SqlGrammar};
-use sql_lexer::tokenize;
+use sql_lexer::tokenize_script;
 use sql_words::{names, vocabulary};
 use squawk_keywords::Keywords;
 use squawk_parser::{EntryPoint, LexedStr, Output, SyntaxKind, Token};
@@ -71,10 +71,10 @@ impl Sql {
     }
 }
 
-/// The raw tokens of a text.
+/// The raw tokens of a text, in which data of COPY may stand.
 pub fn tokens(alloc: Global, text: &str) -> Result<Vec<Token>, Unread>
-    ensures tokens { IfOk result (λ tokens. tokens.items ≡ tokens_of text.now) }
+    ensures tokens { IfOk result (λ tokens. tokens.items ≡ script_tokens text.now) }
     ensures accepted { IfOk result (λ tokens. AreAcceptedTokens text.now tokens.items) }
 {
-    Ok(tokenize(alloc, text)?)
+    Ok(tokenize_script(alloc, text)?)
 }

@@ -12,7 +12,7 @@ struct Case {
     errors: &'static str,
 }
 
-static CASES: [Case; 4] = [
+static CASES: [Case; 6] = [
     Case {
         text: "",
         statements: "",
@@ -36,6 +36,18 @@ static CASES: [Case; 4] = [
         statements: "0..11 1:1 SELECT\n",
         errors: "x:1:10: trailing junk after numeric literal\nselect (1x;\n         ^\n\
                  x:1:11: expected )\nselect (1x;\n          ^\n",
+    },
+    // A quote in data of COPY opens no string.
+    Case {
+        text: "copy t from stdin;\nit's\n\\.\nselect 1",
+        statements: "0..18 1:1 COPY\n19..23 2:1 PSQL_COMMAND\n24..26 3:1 PSQL_COMMAND\n27..35 4:1 SELECT\n",
+        errors: "",
+    },
+    // A byte order mark is white space.
+    Case {
+        text: "\u{feff}select 1",
+        statements: "3..11 1:2 SELECT\n",
+        errors: "",
     },
 ];
 

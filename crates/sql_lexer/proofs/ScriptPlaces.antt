@@ -1,0 +1,224 @@
+-- Places of scripts: what stands there fits, and nothing is counted past the text.
+use Rattle.std.proofs.Common.{◌≡◌, ◌∙◌, ℕ, ◌+◌, ◌-◌, ◌<◌, ◌≤◌, ◌==◌, true, false, Bool, List, length, take, drop, arith, ap, refl, sym, [], ◌∷◌, subst}
+use Rattle.std.specs.List.{list_all}
+use Rattle.std.specs.Str.{str_eq_ignore_ascii_case}
+use Rattle.std.specs.Prelude.{IsUtf8, IsCharBoundary, if◌then◌else◌}
+use Rattle.std.proofs.lemmas.Bool.{and_parts, cond_both, cond-false, false≢true}
+use Rattle.std.proofs.lemmas.Bool.Decides.{nat_tests}
+use Rattle.std.proofs.lemmas.Str.{IsUtf8-drop, IsCharBoundary-start}
+use Rattle.squawk_tokens.specs.declared.token.Token.{Token}
+use Rattle.squawk_tokens.specs.declared.token.TokenKind.{TokenKind}
+use Rattle.squawk_tokens.specs.declared.token.TokenKind.TheVariants.{Ident, PsqlCommand, Semi, Whitespace}
+use Rattle.sql_lexer.specs.declared.script.places.Place.{Place}
+use Rattle.sql_lexer.specs.declared.script.places.Place.TheVariants.{Front, Sql, Data}
+use Rattle.sql_lexer.specs.declared.script.statements.Statement.{Statement}
+use Rattle.sql_lexer.specs.declared.script.statements.Statement.TheVariants.{Start, Created, CreatedOr, Replaced, Plain, OfRule, OfRoutine, OfCopy}
+use Rattle.sql_lexer.specs.declared.script.words.Word.{Word}
+use Rattle.sql_lexer.specs.declared.script.words.Word.TheVariants.{Atomic, Case, Close, Command, Copy, Create, End, Function, Open, Or, Procedure, QueryEnd, Replace, Rule, Semicolon, Trivia}
+use Rattle.sql_lexer.specs.Rules.{token}
+use Rattle.sql_lexer.specs.ScriptStatements.{begun_by, blocks_behind, block_at, brackets_behind, created_by, creating, data_follow, ends_at, goes_on, replaced_by, routine_behind, statement_behind, unclosed_in}
+use Rattle.sql_lexer.specs.ScriptWords.{names, word_in, word_of}
+use Rattle.sql_lexer.specs.ScriptPlaces.{may_end}
+use Rattle.sql_lexer.specs.Scripts.{data_token, ends_data, has_mark, line_len, place_before, place_behind, place_in, token_at, token_before, place_with}
+use Rattle.sql_lexer.specs.Tokens.{first_token}
+use Rattle.sql_lexer.proofs.CutTokens.{Cutter}
+use Rattle.sql_lexer.proofs.FirstFits.{first_token_fits}
+use Rattle.sql_lexer.proofs.Fits.{Fits}
+use Rattle.sql_lexer.proofs.LinesFit.{boundary_behind, data_fits, front_fits, front_within, line_ends_well, mark_fits}
+
+-- ---- what is unclosed
+
+unclosed_begun : (word : Word) → unclosed_in (begun_by word) ≡ 0
+unclosed_begun Create = refl
+unclosed_begun Copy = refl
+unclosed_begun Command = refl
+unclosed_begun word = refl
+
+unclosed_creating : (word : Word) → unclosed_in (creating word) ≡ 0
+unclosed_creating Function = refl
+unclosed_creating Procedure = refl
+unclosed_creating Rule = refl
+unclosed_creating word = refl
+
+unclosed_created : (word : Word) → unclosed_in (created_by word) ≡ 0
+unclosed_created Or = refl
+unclosed_created word = unclosed_creating word
+
+unclosed_replaced : (word : Word) → unclosed_in (replaced_by word) ≡ 0
+unclosed_replaced Replace = refl
+unclosed_replaced word = refl
+
+most_brackets : (unclosed : ℕ) (word : Word) → brackets_behind unclosed word ≤ unclosed + 1
+most_brackets unclosed Open = omega arith
+most_brackets unclosed Close = omega arith
+most_brackets unclosed word = omega arith
+
+most_begin : (begun : Bool) (word : Word) → block_at begun word ≤ 1
+most_begin true Atomic = omega arith
+most_begin begun word = omega arith
+
+most_blocks : (unclosed : ℕ) (word : Word) → blocks_behind unclosed word ≤ unclosed + 1
+most_blocks unclosed Case = omega arith
+most_blocks unclosed End = omega arith
+most_blocks unclosed Semicolon = omega arith
+most_blocks unclosed word = omega arith
+
+most_routine : (unclosed : ℕ) (begun : Bool) (word : Word) → routine_behind unclosed begun word ≤ unclosed + 1
+most_routine unclosed begun word =
+    cond_both (unclosed == 0) (block_at begun word) (blocks_behind unclosed word) (λ n. n ≤ unclosed + 1)
+    (λ e. omega (arith, most_begin begun word))
+    (λ e. most_blocks unclosed word)
+
+most_on : (statement : Statement) (word : Word) → unclosed_in (goes_on statement word) ≤ unclosed_in statement + 1
+most_on Start word = omega (arith, unclosed_begun word)
+most_on Created word = omega (arith, unclosed_created word)
+most_on CreatedOr word = omega (arith, unclosed_replaced word)
+most_on Replaced word = omega (arith, unclosed_creating word)
+most_on Plain word = omega arith
+most_on (OfRule unclosed) word = most_brackets unclosed word
+most_on (OfRoutine unclosed begun) word = most_routine unclosed begun word
+most_on (OfCopy unclosed phrase) word = most_brackets unclosed word
+
+most_behind : (statement : Statement) (word : Word) → unclosed_in (statement_behind statement word) ≤ unclosed_in statement + 1
+most_behind statement Trivia = omega arith
+most_behind statement word =
+    cond_both (ends_at statement word) Start (goes_on statement word) (λ s. unclosed_in s ≤ unclosed_in statement + 1)
+    (λ e. omega arith)
+    (λ e. most_on statement word)
+
+abbrev pub unclosed_at : Place → ℕ
+unclosed_at Front = 0
+unclosed_at (Sql statement) = unclosed_in statement
+unclosed_at (Data behind) = 0
+
+most_in : (statement : Statement) (text : List ℕ) → unclosed_at (place_in statement text) ≤ unclosed_in statement + 1
+most_in statement text =
+    let found = first_token text in
+    let word = word_of found.kind (take found.len text) in
+    cond_both (data_follow statement word) (Data (line_len (drop found.len text))) (Sql (statement_behind statement word)) (λ p. unclosed_at p ≤ unclosed_in statement + 1)
+    (λ e. omega arith)
+    (λ e. most_behind statement word)
+
+pub most_at : (place : Place) (text : List ℕ) → unclosed_at (place_behind place text) ≤ unclosed_at place + 1
+most_at Front text =
+    cond_both (has_mark text) (Sql Start) (place_in Start text) (λ p. unclosed_at p ≤ 1) (λ e. omega arith) (λ e. most_in Start text)
+most_at (Sql statement) text = most_in statement text
+most_at (Data behind) text =
+    let ended = if ends_data text then Sql Start else Data 0 in
+    cond_both (behind == 0) ended (Data (behind - (first_token (take behind text)).len)) (λ p. unclosed_at p ≤ 1)
+    (λ e. cond_both (ends_data text) (Sql Start) (Data 0) (λ p. unclosed_at p ≤ 1) (λ f. omega arith) (λ f. omega arith))
+    (λ e. omega arith)
+
+-- ---- what stands there
+
+-- how far a place reaches: to the end of the line of COPY
+abbrev pub reach_of : Place → ℕ
+reach_of Front = 0
+reach_of (Sql statement) = 0
+reach_of (Data behind) = behind
+
+-- a token fits, and the place behind it reaches to the beginning of a character
+pub record Goes (text : List ℕ) (found : Token) (next : Place) : Type 0 where
+  pub fits : Fits text found
+  pub reaches : IsCharBoundary (drop found.len text) (reach_of next)
+
+goes_to : (text : List ℕ) (found : Token) (next : Place) → IsUtf8 text → Fits text found
+    → (IsUtf8 (drop found.len text) → IsCharBoundary (drop found.len text) (reach_of next)) → Goes text found next
+goes_to text found next utf8 fits reaches = record { fits = fits; reaches = reaches (IsUtf8-drop text found.len utf8 fits.boundary) }
+
+goes_in : (statement : Statement) (text : List ℕ) → IsUtf8 text → 0 < length text → Goes text (first_token text) (place_in statement text)
+goes_in statement text utf8 some =
+    let found = first_token text in
+    let rest = drop found.len text in
+    let word = word_of found.kind (take found.len text) in
+    goes_to text found (place_in statement text) utf8 (first_token_fits text utf8 some) (λ utf.
+    cond_both (data_follow statement word) (Data (line_len rest)) (Sql (statement_behind statement word)) (λ p. IsCharBoundary rest (reach_of p))
+    (λ e. line_ends_well rest)
+    (λ e. IsCharBoundary-start rest utf))
+
+goes_by : (b : Bool) (text : List ℕ) (found other : Token) (next later : Place) → (b ≡ true → Goes text found next) → (b ≡ false → Goes text other later)
+    → Goes text (if b then found else other) (if b then next else later)
+goes_by true text found other next later goes_first goes_second = goes_first refl
+goes_by false text found other next later goes_first goes_second = goes_second refl
+
+pub goes : (place : Place) (text : List ℕ) → IsUtf8 text → IsCharBoundary text (reach_of place) → 0 < length text
+    → Goes text (token_at place text) (place_behind place text)
+goes Front text utf8 reach some =
+    goes_by (has_mark text) text (token Whitespace 3) (first_token text) (Sql Start) (place_in Start text)
+    (λ e. goes_to text (token Whitespace 3) (Sql Start) utf8 (mark_fits text utf8 e) (λ utf. IsCharBoundary-start (drop 3 text) utf))
+    (λ e. goes_in Start text utf8 some)
+goes (Sql statement) text utf8 reach some = goes_in statement text utf8 some
+goes (Data behind) text utf8 reach some =
+    let line = data_token text in
+    let found = first_token (take behind text) in
+    let ended = if ends_data text then Sql Start else Data 0 in
+    goes_by (behind == 0) text line found ended (Data (behind - found.len))
+    (λ e. goes_to text line ended utf8 (data_fits text utf8 some) (λ utf.
+    let start = IsCharBoundary-start (drop line.len text) utf in
+    cond_both (ends_data text) (Sql Start) (Data 0) (λ p. IsCharBoundary (drop line.len text) (reach_of p)) (λ f. start) (λ f. start)))
+    (λ e.
+    let some_left : 0 < behind = grind (arith, nat_tests) in
+    let fits = front_fits text behind utf8 reach some_left in
+    record { fits = fits; reaches = boundary_behind text behind found.len reach (front_within text behind utf8 reach some_left) })
+
+abbrev pub script : Cutter Place
+script = record {
+  token = token_at;
+  next = place_behind;
+  reach = reach_of;
+  fits = λ place text utf8 reach some. (goes place text utf8 reach some).fits;
+  reaches = λ place text utf8 reach some. (goes place text utf8 reach some).reaches;
+}
+
+-- ---- the line of COPY
+
+is_left : (behind : ℕ) → 0 < behind → (behind == 0) ≡ false
+is_left behind some = grind (arith, nat_tests)
+
+pub token_on_line : (behind : ℕ) (text : List ℕ) → 0 < behind → first_token (take behind text) ≡ token_before behind text
+token_on_line behind text some = sym (cond-false (behind == 0) (data_token text) (first_token (take behind text)) (is_left behind some))
+
+pub place_on_line : (behind : ℕ) (text : List ℕ) (found : Token) → 0 < behind → found ≡ first_token (take behind text)
+    → Data (behind - found.len) ≡ place_before behind text
+place_on_line behind text found some same =
+    let left = Data (behind - (first_token (take behind text)).len) in
+    let ended = if ends_data text then Sql Start else Data 0 in
+    ap (λ (t : Token). Data (behind - t.len)) same ∙ sym (cond-false (behind == 0) ended left (is_left behind some))
+
+-- ---- a plain statement
+
+-- a word that doesn't end it
+goes_by_plain : Word → Bool
+goes_by_plain Semicolon = false
+goes_by_plain QueryEnd = false
+goes_by_plain word = true
+
+plain_behind : (word : Word) (rest : List ℕ) → goes_by_plain word ≡ true → Sql Plain ≡ place_with Plain word rest
+unfolding goes_by_plain
+plain_behind Semicolon rest e = absurd (false≢true e)
+plain_behind QueryEnd rest e = absurd (false≢true e)
+plain_behind word rest e = refl
+
+name_goes_by : (rows : List (List ℕ × Word)) (name : List ℕ) → list_all (λ row. goes_by_plain row.1) rows ≡ true → goes_by_plain (word_in rows name) ≡ true
+unfolding goes_by_plain
+name_goes_by [] name e = refl
+name_goes_by (row ∷ rows) name e =
+    let parts = and_parts (goes_by_plain row.1) (list_all (λ row. goes_by_plain row.1) rows) e in
+    cond_both (str_eq_ignore_ascii_case name row.0) row.1 (word_in rows name) (λ word. goes_by_plain word ≡ true) (λ f. parts.0) (λ f. name_goes_by rows name parts.1)
+
+kind_goes_by : (kind : TokenKind) (text : List ℕ) → may_end kind ≡ false → goes_by_plain (word_of kind text) ≡ true
+unfolding goes_by_plain
+kind_goes_by Semi text e = absurd (false≢true (sym e))
+kind_goes_by (PsqlCommand ends_query) text e = absurd (false≢true (sym e))
+kind_goes_by Ident text e = name_goes_by names text refl
+kind_goes_by kind text e = refl
+
+stays : (text : List ℕ) (found : Token) → found ≡ first_token text → may_end found.kind ≡ false → Sql Plain ≡ place_in Plain text
+stays text found same e =
+    let kind = (first_token text).kind in
+    let front = take (first_token text).len text in
+    plain_behind (word_of kind front) (drop (first_token text).len text) (kind_goes_by kind front (subst (λ (t : Token). may_end t.kind ≡ false) same e))
+
+pub plain_stays : (statement : Statement) (text : List ℕ) (found : Token) → statement ≡ Plain → found ≡ first_token text → may_end found.kind ≡ false
+    → Sql statement ≡ place_in statement text
+plain_stays statement text found plain same e = subst (λ (s : Statement). Sql s ≡ place_in s text) (sym plain) (stays text found same e)

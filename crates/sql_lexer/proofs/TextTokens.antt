@@ -1,0 +1,81 @@
+-- The tokens of a text: each is the first token of what is left.
+use Rattle.std.proofs.Common.{◌≡◌, ◌∙◌, ℕ, zero, suc, ◌+◌, ◌-◌, ◌<◌, ◌≤◌, List, [], ◌∷◌, ◌++◌, length, take, drop, arith, ap, sym, refl, subst}
+use Rattle.std.specs.Prelude.{IsUtf8, Ok}
+use Rattle.std.proofs.lemmas.List.{take_rest}
+use Rattle.std.proofs.lemmas.Str.{IsUtf8-drop, IsCharBoundary-start}
+use Rattle.squawk_tokens.specs.declared.token.Token.{Token}
+use Rattle.squawk_tokens.specs.AcceptedTokens.{AreAcceptedTokens}
+use Rattle.sql_lexer.specs.Pushes.{Pushes}
+use Rattle.sql_lexer.specs.Tokens.{first_token, tokens_behind, tokens_by, tokens_of}
+use Rattle.sql_lexer.proofs.CutTokens.{Cutter, HasCut, IsAt, accepted_from, cut_all, cut_at, cut_none, cut_one}
+use Rattle.sql_lexer.proofs.FirstFits.{first_token_fits}
+
+-- every place is the same
+abbrev plain : Cutter (Unit {0})
+plain = record {
+  token = λ place text. first_token text;
+  next = λ place text. place;
+  reach = λ place. 0;
+  fits = λ place text utf8 reach some. first_token_fits text utf8 some;
+  reaches = λ place text utf8 reach some.
+      let len = (first_token text).len in
+      IsCharBoundary-start (drop len text) (IsUtf8-drop text len utf8 (first_token_fits text utf8 some).boundary);
+}
+
+same_tokens : (n : ℕ) (text : List ℕ) → tokens_by plain.token plain.next tt n text ≡ tokens_behind n text
+same_tokens n [] = refl
+same_tokens (suc n) (b ∷ rest) = same_tokens n rest
+same_tokens zero (b ∷ rest) = ap (λ others. first_token (b ∷ rest) ∷ others) (same_tokens ((first_token (b ∷ rest)).len - 1) rest)
+
+front : (text : List ℕ) → IsUtf8 text → IsAt plain tt text 0
+front text utf8 = record { utf8 = utf8; boundary = IsCharBoundary-start text utf8; reach = IsCharBoundary-start text utf8 }
+
+pub tokens_accepted : (text : List ℕ) → IsUtf8 text → length text ≤ 4294967295 → AreAcceptedTokens text (tokens_of text)
+tokens_accepted text utf8 short = subst (AreAcceptedTokens text) (same_tokens 0 text) (accepted_from plain tt text (front text utf8) short)
+
+-- ---- the loop that cuts them
+
+abbrev pub HasCutText : List ℕ → ℕ → List Token → Type 0
+HasCutText text at cut = HasCut plain tt text tt at cut
+
+pub has_cut_none : (text : List ℕ) → IsUtf8 text → HasCutText text 0 []
+has_cut_none text utf8 = cut_none plain tt text (front text utf8)
+
+pub has_cut_all : (text : List ℕ) (at : ℕ) (cut : List Token) → HasCutText text at cut → length text ≤ at → cut ≡ tokens_of text
+has_cut_all text at cut has le = cut_all plain tt text tt at cut has le ∙ same_tokens 0 text
+
+-- the token at a place stands behind them now
+abbrev pub HasPushed : List ℕ → ℕ → List Token → List Token → Token → Type 0
+HasPushed text at cut more found = Pushes cut (first_token (take (length text - at) (drop at text))) more (Ok found)
+
+-- the token's length, and the tokens behind it
+record Pushed (text : List ℕ) (at : ℕ) (more : List Token) (len : ℕ) : Type 0 where
+  some : 0 < len
+  within : at + len ≤ length text
+  next : HasCutText text (at + len) more
+
+pushed : (text : List ℕ) (at : ℕ) (cut more : List Token) (found : Token) → HasCutText text at cut → at < length text → HasPushed text at cut more found
+    → Pushed text at more found.len
+pushed text at cut more found has lt (grown, long) =
+    let rest = take_rest text at in
+    let token = first_token (drop at text) in
+    let good = (cut_at plain tt text at has.is lt).good in
+    let same : found.len ≡ token.len = ap (λ (t : Token). t.len) (long ∙ ap first_token rest) in
+    record {
+      some = omega (arith, good.nonempty, same);
+      within = omega (arith, good.boundary.0, same);
+      next = subst (λ n. HasCutText text (at + n) more) (sym same)
+          (subst (HasCutText text (at + token.len)) (sym (grown ∙ ap (λ others. cut ++ first_token others ∷ []) rest)) (cut_one plain tt text tt at cut has lt));
+    }
+
+pub cut_some : (text : List ℕ) (at : ℕ) (cut more : List Token) (found : Token) → HasCutText text at cut → at < length text → HasPushed text at cut more found
+    → 0 < found.len
+cut_some text at cut more found has lt push = (pushed text at cut more found has lt push).some
+
+pub cut_within : (text : List ℕ) (at : ℕ) (cut more : List Token) (found : Token) → HasCutText text at cut → at < length text → HasPushed text at cut more found
+    → at + found.len ≤ length text
+cut_within text at cut more found has lt push = (pushed text at cut more found has lt push).within
+
+pub has_cut_one : (text : List ℕ) (at : ℕ) (cut more : List Token) (found : Token) → HasCutText text at cut → at < length text → HasPushed text at cut more found
+    → HasCutText text (at + found.len) more
+has_cut_one text at cut more found has lt push = (pushed text at cut more found has lt push).next

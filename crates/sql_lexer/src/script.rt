@@ -1,0 +1,51 @@
+//! The raw tokens of a script: SQL, and the data of COPY between it.
+ghost use Rattle.std.specs.Prelude.{◌≡◌, IfOk, IfErr};
+ghost use Rattle.squawk_tokens.specs.AcceptedTokens.{AreAcceptedTokens};
+ghost use Rattle.sql_lexer.specs.Scripts.{script_tokens};
+ghost use Rattle.sql_lexer.specs.Tokens.{RefusesText};
+
+mod places;
+mod statements;
+mod words;
+
+use crate::script::places::{Place, push_next};
+use crate::tokenizer::{BYTES_PER_TOKEN, LONGEST_TEXT, TokenizeError};
+use squawk_tokens::Token;
+use std::alloc::Global;
+
+/// The raw tokens of a text that `psql` reads or `pg_dump` writes: those of `tokenize`, but for data.
+///
+/// Data follow a statement that begins with COPY, has `FROM STDIN` outside of brackets and ends with a
+/// semicolon. They are the lines behind that statement's line, up to a line that is `\.`, or else the
+/// end of the text. Each line is a command of psql, and the line `\.` is one that ends a query; line ends
+/// are white space, and an empty line is no token. What stands behind COPY on its line is cut as if the
+/// text ended there.
+///
+/// Where statements end is told by PostgreSQL's keywords: a routine's BEGIN ATOMIC block and a rule's
+/// brackets hold semicolons that end nothing. A byte order mark that begins the text is white space.
+///
+/// It takes time proportional to the text's length, and no memory but the list's.
+#[tactic(auto, using(crate::proofs::ScriptTokens::script_none, crate::proofs::ScriptTokens::script_all, crate::proofs::ScriptTokens::script_accepted))]
+pub fn tokenize_script(alloc: Global, text: &str) -> Result<Vec<Token>, TokenizeError>
+    ensures tokens { IfOk result (λ tokens. tokens.items ≡ script_tokens text.now) }
+    // So `check_tokens` accepts them, and a table can be made of them.
+    ensures accepted { IfOk result (λ tokens. AreAcceptedTokens text.now tokens.items) }
+    ensures refused { IfErr result (RefusesText text.now) }
+{
+    if text.len() > LONGEST_TEXT {
+        return Err(TokenizeError::TextTooLong);
+    }
+    let bytes = text.as_bytes();
+    let mut tokens = Vec::with_capacity(alloc, bytes.len() / BYTES_PER_TOKEN + 1)?;
+    let mut place = Place::Front;
+    let mut at = 0;
+    while at < bytes.len() {
+        let (token, next) = push_next(&mut tokens, place, &bytes[at..])?;
+        at += token.len as usize;
+        place = next;
+    }
+    if tokens.len() < tokens.capacity() / 2 {
+        tokens.shrink_to_fit();
+    }
+    Ok(tokens)
+}
