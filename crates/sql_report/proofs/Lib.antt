@@ -1,3 +1,4 @@
 pub mod Walks
 pub mod Bounds
 pub mod OpenNodeLemmas
+pub mod JsonLemmas

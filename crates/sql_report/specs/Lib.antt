@@ -4,3 +4,5 @@ pub mod ErrorLines
 pub mod Statements
 pub mod OpenNodes
 pub mod TokenLines
+pub mod JsonLines
+pub mod OpenJson

@@ -1,0 +1,14 @@
+use Rattle.std.proofs.Common.{◌≡◌, ◌∙◌, ap, arith, length, slice_index}
+use Rattle.squawk_table.specs.Sent.{sent_list}
+use Rattle.sql_report.proofs.Bounds.{bytes_of-beginning}
+use Rattle.sql_report.proofs.json_list.json_lines.Goals as goal
+
+pub lines_of-requires : goal.lines_of-requires
+lines_of-requires c =
+    let table = c.args.table.now in
+    let steps = sent_list table c.args.output.now.steps in
+    let is_table = c.len.ensures.table in
+    let few = bytes_of-beginning steps table.text is_table.utf8 c.str_steps.ensures.beginning in
+    let end : c.text_start-text_len.result ≡ length table.text =
+    c.text_start-text_len.ensures ∙ (ap (slice_index table.starts) c.len.ensures.len ∙ is_table.ends) in
+    rw c.str_steps.ensures.steps (omega (arith, few, end))
