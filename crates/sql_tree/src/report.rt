@@ -12,7 +12,7 @@ ghost use Rattle.squawk_kinds.specs.EngineNames.{names_of};
 use crate::options::Listing;
 use crate::sql::{Sql, tokens};
 use crate::unread::Unread;
-use sql_report::{error_lines, findings, statement_lines, statements, token_lines};
+use sql_report::{error_lines, findings, json_lines, statement_lines, statements, token_lines};
 use squawk_parser::{LexedStr, Output};
 use squawk_tree::TreeText;
 use std::alloc::{AllocError, Global};
@@ -80,6 +80,7 @@ fn list(
             let statements = statements(alloc, table, output)?;
             Ok(statement_lines(alloc, text, &statements, sql.names())?)
         }
+        Listing::Json => Ok(json_lines(alloc, table, output, sql.names())?),
         Listing::Tokens => token_list(alloc, text),
         Listing::Quiet => Ok(String::new(alloc)),
     }
