@@ -2,3 +2,4 @@ pub mod Walks
 pub mod Bounds
 pub mod OpenNodeLemmas
 pub mod JsonLemmas
+pub mod JsonForests

@@ -6,3 +6,4 @@ pub mod OpenNodes
 pub mod TokenLines
 pub mod JsonLines
 pub mod OpenJson
+pub mod JsonTrees
