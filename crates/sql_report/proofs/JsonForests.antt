@@ -8,11 +8,16 @@ use Rattle.serde_json.specs.Data.{Data, Items, no_items, item}
 use Rattle.serde_json.specs.Written.{comma_if, compact_text, items_text}
 use Rattle.squawk_json.specs.JsonStrings.{json_string}
 use Rattle.squawk_kinds.specs.KindNames.{Names, kind_name}
+use Rattle.squawk_output.specs.Steps.{Step}
+use Rattle.squawk_table.specs.RawTable.{Table}
+use Rattle.squawk_table.specs.Sent.{sent_list}
+use Rattle.squawk_table.specs.Shape.{Fits}
 use Rattle.squawk_table.specs.declared.shortcuts.str_step.OwnedStep.{OwnedStep}
 use Rattle.squawk_table.specs.declared.shortcuts.str_step.OwnedStep.TheVariants as step
 use Rattle.squawk_tree.specs.Forest.{Forest, Nothing, Token, Node, Error, forest_bytes, forest_steps}
+use Rattle.sql_report.proofs.SentForests.{sent_forest}
 use Rattle.sql_report.specs.JsonLines.{Standing, comma, error_object, json_lines, node_closed, node_opened, token_object, with_comma, written_from}
-use Rattle.sql_report.specs.JsonTrees.{child_items, data_lines, error_items, node_data, root_data, statement_data, token_data}
+use Rattle.sql_report.specs.JsonTrees.{HasTreeLines, child_items, data_lines, error_items, node_data, root_data, statement_data, token_data}
 
 -- ---- values
 
@@ -220,7 +225,18 @@ written_from-roots names (Node kind inner others) rest later at =
 written_from-roots names (Error text pos others) rest later at = written_from-roots names others rest later at
 
 -- the lines of a tree
-pub json_lines-forest : (names : Names) (forest : Forest) → json_lines names (forest_steps forest) ≡ data_lines (root_data names 0 forest)
+json_lines-forest : (names : Names) (forest : Forest) → json_lines names (forest_steps forest) ≡ data_lines (root_data names 0 forest)
 json_lines-forest names forest =
     ap (json_lines names) (sym (append-nil (forest_steps forest)))
     ∙ (written_from-roots names forest [] false 0 ∙ append-nil (data_lines (root_data names 0 forest)))
+
+-- what is sent has the lines of trees
+pub tree_lines : (names : Names) (table : Table) (steps : List Step) (text : List ℕ) → Fits table steps → text ≡ json_lines names (sent_list table steps)
+    → HasTreeLines names (sent_list table steps) text
+tree_lines names table steps text fits lines =
+    let sent = sent_forest table steps fits in
+    record {
+      forest = sent.0;
+      walk = sent.1;
+      lines = lines ∙ (ap (json_lines names) sent.1 ∙ json_lines-forest names sent.0);
+    }

@@ -3,3 +3,4 @@ pub mod Bounds
 pub mod OpenNodeLemmas
 pub mod JsonLemmas
 pub mod JsonForests
+pub mod SentForests

@@ -1,10 +1,11 @@
 -- The statements of a tree as values of JSON.
-use Rattle.std.specs.Prelude.{ℕ, ◌+◌, List, [], ◌∷◌, ◌++◌, codes, encode_utf8_all, length}
+use Rattle.std.specs.Prelude.{◌≡◌, ℕ, ◌+◌, List, [], ◌∷◌, ◌++◌, codes, encode_utf8_all, length}
 use Rattle.std.specs.List.{flat_map}
 use Rattle.serde_json.specs.Data.{Data, Items, Members, array, item, member, no_items, no_members, number, object, string, unsigned}
 use Rattle.serde_json.specs.Written.{compact_text}
 use Rattle.squawk_kinds.specs.KindNames.{Names, kind_name}
-use Rattle.squawk_tree.specs.Forest.{Forest, Nothing, Token, Node, Error, forest_bytes}
+use Rattle.squawk_table.specs.declared.shortcuts.str_step.OwnedStep.{OwnedStep}
+use Rattle.squawk_tree.specs.Forest.{Forest, Nothing, Token, Node, Error, forest_bytes, forest_steps}
 
 -- a member whose value is a text, or a number, before others
 abbrev pub text_member : List ℕ → List ℕ → Members → Members
@@ -30,10 +31,10 @@ token_data names kind start end =
 abbrev pub node_data : Names → ℕ → ℕ → Items → ℕ → Items → Data
 node_data names kind start children end errors =
     object (
-      text_member (codes "kind") (kind_name names kind)
-      (number_member (codes "start") start
-      (member (codes "children") (array children)
-      (number_member (codes "end") end (member (codes "errors") (array errors) no_members))))
+    text_member (codes "kind") (kind_name names kind)
+    (number_member (codes "start") start
+    (member (codes "children") (array children)
+    (number_member (codes "end") end (member (codes "errors") (array errors) no_members))))
     )
 
 -- the tokens and nodes among trees, the first of which begins at a byte
@@ -66,3 +67,9 @@ root_data names at (Error text pos others) = root_data names at others
 -- the lines of values
 abbrev pub data_lines : List Data → List ℕ
 data_lines values = flat_map (λ value. compact_text value ++ codes "\n") values
+
+-- Steps are those of a walk over trees, and a text has the lines of their statements.
+pub record HasTreeLines (names : Names) (steps : List OwnedStep) (text : List ℕ) : Type 0 where
+  pub forest : Forest
+  pub walk : steps ≡ forest_steps forest
+  pub lines : text ≡ data_lines (root_data names 0 forest)

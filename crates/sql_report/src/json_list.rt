@@ -3,6 +3,7 @@ ghost use Rattle.std.specs.Prelude.{◌≡◌, ◌<◌, ◌^◌, IfOk, map, stri
 ghost use Rattle.squawk_table.specs.Sent.{bytes_of, sent_list};
 ghost use Rattle.squawk_table.specs.Shape.{Fits};
 ghost use Rattle.sql_report.specs.JsonLines.{json_lines};
+ghost use Rattle.sql_report.specs.JsonTrees.{HasTreeLines};
 
 use crate::json_text::JsonText;
 use squawk_kinds::{KindNames, SyntaxKind};
@@ -25,8 +26,11 @@ pub fn json_lines(
     names: &[(SyntaxKind, &str)],
 ) -> Result<String, AllocError>
     requires { Fits table.now output.now.steps }
-    ensures { IfOk result (λ lines. string_bytes lines
+    ensures lines { IfOk result (λ lines. string_bytes lines
         ≡ json_lines (map (λ pair. (pair.0, pair.1.now)) names.now) (sent_list table.now output.now.steps)) }
+    // They are values of JSON.
+    ensures values { IfOk result (λ lines. HasTreeLines (map (λ pair. (pair.0, pair.1.now)) names.now)
+        (sent_list table.now output.now.steps) (string_bytes lines)) }
 {
     let _text_len = table.text_start(table.len());
     lines_of(
