@@ -11,14 +11,14 @@ use squawk_output::Output;
 use squawk_table::{LexedStr, StrSteps};
 use std::alloc::{AllocError, Global};
 
-/// A line of JSON for each statement: its tree, with the errors of the parse, each in the innermost node
-/// that it stands in. Lexical errors are no part of a tree.
+/// A line of JSON for each statement: its tree, with each error of the parse in the innermost node around it.
+/// Lexical errors are no part of a tree.
 ///
 /// ```text
 /// {"kind":"SELECT","start":0,"children":[{"kind":"SELECT_KW","start":0,"end":6}, ..],"end":9,"errors":[]}
 /// ```
 ///
-/// A kind is shown by the name of its first pair, else by its number, also a string. Starts and ends are bytes.
+/// A kind is the name of its first pair, else its number, which is a string, too. Starts and ends are bytes.
 pub fn json_lines(
     alloc: Global,
     table: &LexedStr<'_>,
@@ -28,16 +28,13 @@ pub fn json_lines(
     requires { Fits table.now output.now.steps }
     ensures lines { IfOk result (λ lines. string_bytes lines
         ≡ json_lines (map (λ pair. (pair.0, pair.1.now)) names.now) (sent_list table.now output.now.steps)) }
-    // They are values of JSON.
+    // Each is a value of JSON.
     ensures values { IfOk result (λ lines. HasTreeLines (map (λ pair. (pair.0, pair.1.now)) names.now)
         (sent_list table.now output.now.steps) (string_bytes lines)) }
 {
     let _text_len = table.text_start(table.len());
-    lines_of(
-        alloc,
-        table.str_steps(output),
-        &mut KindNames::new(alloc, names),
-    )
+    let mut names = KindNames::new(alloc, names);
+    lines_of(alloc, table.str_steps(output), &mut names)
 }
 
 /// The lines of the statements in these steps.

@@ -16,6 +16,8 @@ mod json_list;
 mod json_text;
 mod place;
 mod statement_list;
+#[cfg(test)]
+mod tests;
 mod token_names;
 mod tokens;
 

@@ -12,12 +12,13 @@ use Rattle.sql_words.specs.SqlKinds.{names}
 use Rattle.sql_words.specs.SqlVocabulary.{KnowsKeywords}
 use Rattle.sql_report.specs.ErrorLines.{error_texts}
 use Rattle.sql_report.specs.Findings.{AreInOrder, all_told}
+use Rattle.sql_report.specs.JsonTrees.{HasTreeLines}
 use Rattle.sql_report.specs.Statements.{statements_of}
 use Rattle.sql_report.specs.declared.finding_list.Finding.{Finding}
 use Rattle.sql_tree.specs.Listings.{listed}
 use Rattle.sql_tree.specs.declared.options.Listing.{Listing}
 use Rattle.sql_tree.specs.Listings.{listed}
-use Rattle.sql_tree.specs.declared.options.Listing.TheVariants.{Quiet}
+use Rattle.sql_tree.specs.declared.options.Listing.TheVariants.{Json, Quiet}
 use Rattle.sql_tree.specs.declared.report.Report.{Report}
 use Rattle.sql_tree.specs.declared.sql.Sql.{Sql}
 
@@ -31,7 +32,8 @@ abbrev pub table_in : Sql → List ℕ → Table
 table_in sql text = table_of (keyword_of sql.vocabulary) text (tokens_of text)
 
 -- The steps of a parse of the text, which fit its table: the texts of what is sent for them are the text. What is listed is that of
--- what is sent, and the errors are the lexical ones and those that are sent, in the order of their places.
+-- what is sent, and the errors are the lexical ones and those that are sent, in the order of their places. With --json the listing has
+-- values of JSON: the statements of a tree that is sent.
 pub record IsReport (sql : Sql) (listing : Listing) (name text : List ℕ) (report : Report) : Type 0 where
   pub steps : List Step
   pub fits : Fits (table_in sql text) steps
@@ -41,4 +43,5 @@ pub record IsReport (sql : Sql) (listing : Listing) (name text : List ℕ) (repo
   pub errors : report.errors.items ≡ error_texts name text findings
   pub error_count : report.error_count ≡ length findings
   pub list : string_bytes report.listing ≡ listed sql listing text (sent_list (table_in sql text) steps)
+  pub values : listing ≡ Json → HasTreeLines (names_of sql.names.items) (sent_list (table_in sql text) steps) (string_bytes report.listing)
   pub statement_count : listing ≢ Quiet → report.statement_count ≡ length (statements_of (sent_list (table_in sql text) steps))

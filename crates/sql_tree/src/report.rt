@@ -4,6 +4,7 @@ ghost use Rattle.squawk_table.specs.Sent.{sent_list};
 ghost use Rattle.squawk_table.specs.Shape.{Fits};
 ghost use Rattle.squawk_tree.specs.TreeText.{tree_text};
 ghost use Rattle.sql_lexer.specs.Tokens.{tokens_of};
+ghost use Rattle.sql_report.specs.JsonTrees.{HasTreeLines};
 ghost use Rattle.sql_report.specs.Statements.{statements_of};
 ghost use Rattle.sql_report.specs.TokenLines.{token_lines};
 ghost use Rattle.sql_tree.specs.Listings.{listed};
@@ -72,7 +73,9 @@ fn list(
     output: &Output,
 ) -> Result<String, Unread>
     requires { Fits table.now output.now.steps }
-    ensures { IfOk result (λ list. string_bytes list ≡ listed sql.now listing text.now (sent_list table.now output.now.steps)) }
+    ensures listed { IfOk result (λ list. string_bytes list ≡ listed sql.now listing text.now (sent_list table.now output.now.steps)) }
+    ensures values { IfOk result (λ list. listing ≡ Listing.Json →
+        HasTreeLines (names_of sql.now.names.items) (sent_list table.now output.now.steps) (string_bytes list)) }
 {
     match listing {
         Listing::Tree => Ok(tree(alloc, sql, table, output)?),

@@ -24,5 +24,5 @@ returns-clause-values c =
     let names = map (λ pair. (pair.0, pair.1.now)) c.args.names.now in
     IfOk-weaker c.lines_of.result _ _
     (λ text lines. tree_lines names table steps (string_bytes text) c.requires
-    (lines ∙ (ap (λ all. json_lines all c.str_steps.result.steps) c.new.ensures ∙ ap (json_lines names) c.str_steps.ensures.steps)))
+    (lines ∙ (ap (λ all. json_lines all c.str_steps.result.steps) c.new-names.ensures ∙ ap (json_lines names) c.str_steps.ensures.steps)))
     c.lines_of.ensures
