@@ -1,10 +1,10 @@
 -- The lines of a tree's steps are those of its values.
-use Rattle.std.proofs.Common.{◌≡◌, ◌∙◌, ℕ, suc, ◌+◌, ◌≤◌, Bool, true, false, List, [], ◌∷◌, ◌++◌, codes, length, ap, append_assoc, arith, refl, sym, encode_utf8_all, add-zero}
+use Rattle.std.proofs.Common.{◌≡◌, ◌∙◌, ℕ, ◌+◌, ◌≤◌, Bool, true, false, List, [], ◌∷◌, ◌++◌, codes, length, ap, append_assoc, arith, refl, sym, encode_utf8_all, add-zero}
 use Rattle.std.specs.Fmt.{decimal}
 use Rattle.std.proofs.lemmas.Grind.{flat_map-append}
 use Rattle.std.proofs.lemmas.List.{append-nil}
 use Rattle.json.specs.Print.{escape_byte}
-use Rattle.serde_json.specs.Data.{Data, Items, no_items, item}
+use Rattle.serde_json.specs.Data.{Items, no_items, item}
 use Rattle.serde_json.specs.Written.{comma_if, compact_text, items_text}
 use Rattle.squawk_json.specs.JsonStrings.{json_string}
 use Rattle.squawk_kinds.specs.KindNames.{Names, kind_name}

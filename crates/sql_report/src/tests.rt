@@ -100,8 +100,10 @@ fn writes_statements(rt: HostRuntime) -> Result<(), Fail> {
 
 /// An error stands in the innermost node around its place. What stands between statements is left out.
 const LINES: &str = "{\"kind\":\"STATEMENT\",\"start\":0,\"children\":[\
-    {\"kind\":\"in \\\"quotes\\\"\",\"start\":0,\"children\":[{\"kind\":\"IDENT\",\"start\":0,\"end\":1}],\"end\":1,\
+    {\"kind\":\"in \\\"quotes\\\"\",\"start\":0,\"children\":[\
+    {\"kind\":\"IDENT\",\"start\":0,\"end\":1}],\"end\":1,\
     \"errors\":[{\"message\":\"b\",\"at\":1}]},\
     {\"kind\":\"639\",\"start\":1,\"end\":2},{\"kind\":\"IDENT\",\"start\":2,\"end\":3}],\"end\":3,\
     \"errors\":[{\"message\":\"say \\\"a\\\"\\n\",\"at\":0},{\"message\":\"c\",\"at\":3}]}\n\
-    {\"kind\":\"STATEMENT\",\"start\":4,\"children\":[{\"kind\":\"IDENT\",\"start\":4,\"end\":5}],\"end\":5,\"errors\":[]}\n";
+    {\"kind\":\"STATEMENT\",\"start\":4,\"children\":[\
+    {\"kind\":\"IDENT\",\"start\":4,\"end\":5}],\"end\":5,\"errors\":[]}\n";
