@@ -1,3 +1,6 @@
 pub mod Walks
 pub mod Bounds
 pub mod OpenNodeLemmas
+pub mod JsonLemmas
+pub mod JsonForests
+pub mod SentForests

@@ -4,3 +4,6 @@ pub mod ErrorLines
 pub mod Statements
 pub mod OpenNodes
 pub mod TokenLines
+pub mod JsonLines
+pub mod OpenJson
+pub mod JsonTrees

@@ -1,9 +1,10 @@
-//! What a program tells of a parse: its statements, its errors with their lines, and its raw tokens.
+//! What a program tells of a parse: its statements, also as JSON, its errors with their lines, and its raw tokens.
 //!
 //! Each is a text that is made of a table and of the output of a parse over it:
 //!
 //! ```text
 //! statements(alloc, &table, &output)        the nodes directly in the root, with their bytes
+//! json_lines(alloc, &table, &output, ..)    the tree of each, {"kind":"SELECT","start":0, ..
 //! findings(alloc, &table, &output)          lexical errors and those of the grammar, by their places
 //! error_lines(alloc, name, text, ..)        a.sql:1:8: expected ), with the line and a mark under it
 //! ```
@@ -11,12 +12,17 @@
 
 mod errors;
 mod finding_list;
+mod json_list;
+mod json_text;
 mod place;
 mod statement_list;
+#[cfg(test)]
+mod tests;
 mod token_names;
 mod tokens;
 
 pub use errors::error_lines;
 pub use finding_list::{Finding, findings};
+pub use json_list::json_lines;
 pub use statement_list::{Statement, statement_lines, statements};
 pub use tokens::token_lines;

@@ -87,7 +87,7 @@ fn take_step(
 }
 
 /// How many bytes a text has.
-fn byte_len(text: &str) -> usize
+pub(crate) fn byte_len(text: &str) -> usize
     ensures { result ≡ length (encode_utf8_all (chars text.now)) }
 {
     text.len()

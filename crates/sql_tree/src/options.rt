@@ -10,6 +10,8 @@ pub enum Listing {
     Tree,
     /// A line for each statement.
     Statements,
+    /// A line of JSON for each statement, with its tree.
+    Json,
     /// A line for each raw token.
     Tokens,
     /// Nothing.
@@ -30,12 +32,17 @@ pub fn command<'a>(alloc: Global) -> Result<Command<'a>, AllocError> {
         .about("Prints the lossless tree of SQL, statement by statement, with its errors")
         .arg(files)?
         .arg(flag(alloc, "statements", "Print a line for each statement")?)?
+        .arg(flag(
+            alloc,
+            "json",
+            "Print a line of JSON for each statement, with its tree",
+        )?)?
         .arg(flag(alloc, "tokens", "Print a line for each raw token")?)?
         .arg(flag(alloc, "quiet", "Print errors alone")?)
 }
 
 /// The names of the flags, of which one may be used.
-static FLAGS: [&str; 3] = ["statements", "tokens", "quiet"];
+static FLAGS: [&str; 4] = ["statements", "json", "tokens", "quiet"];
 
 /// A flag that rules out the others.
 fn flag<'a>(alloc: Global, name: &'a str, help: &'a str) -> Result<Arg<'a>, AllocError> {
@@ -55,6 +62,8 @@ fn flag<'a>(alloc: Global, name: &'a str, help: &'a str) -> Result<Arg<'a>, Allo
 pub fn asked_listing(matches: &ArgMatches<'_>) -> Listing {
     if matches.get_flag("statements") {
         Listing::Statements
+    } else if matches.get_flag("json") {
+        Listing::Json
     } else if matches.get_flag("tokens") {
         Listing::Tokens
     } else if matches.get_flag("quiet") {

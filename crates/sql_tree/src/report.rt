@@ -4,6 +4,7 @@ ghost use Rattle.squawk_table.specs.Sent.{sent_list};
 ghost use Rattle.squawk_table.specs.Shape.{Fits};
 ghost use Rattle.squawk_tree.specs.TreeText.{tree_text};
 ghost use Rattle.sql_lexer.specs.Scripts.{script_tokens};
+ghost use Rattle.sql_report.specs.JsonTrees.{HasTreeLines};
 ghost use Rattle.sql_report.specs.Statements.{statements_of};
 ghost use Rattle.sql_report.specs.TokenLines.{token_lines};
 ghost use Rattle.sql_tree.specs.Listings.{listed};
@@ -12,7 +13,7 @@ ghost use Rattle.squawk_kinds.specs.EngineNames.{names_of};
 use crate::options::Listing;
 use crate::sql::{Sql, tokens};
 use crate::unread::Unread;
-use sql_report::{error_lines, findings, statement_lines, statements, token_lines};
+use sql_report::{error_lines, findings, json_lines, statement_lines, statements, token_lines};
 use squawk_parser::{LexedStr, Output};
 use squawk_tree::TreeText;
 use std::alloc::{AllocError, Global};
@@ -72,7 +73,9 @@ fn list(
     output: &Output,
 ) -> Result<String, Unread>
     requires { Fits table.now output.now.steps }
-    ensures { IfOk result (λ list. string_bytes list ≡ listed sql.now listing text.now (sent_list table.now output.now.steps)) }
+    ensures listed { IfOk result (λ list. string_bytes list ≡ listed sql.now listing text.now (sent_list table.now output.now.steps)) }
+    ensures values { IfOk result (λ list. listing ≡ Listing.Json →
+        HasTreeLines (names_of sql.now.names.items) (sent_list table.now output.now.steps) (string_bytes list)) }
 {
     match listing {
         Listing::Tree => Ok(tree(alloc, sql, table, output)?),
@@ -80,6 +83,7 @@ fn list(
             let statements = statements(alloc, table, output)?;
             Ok(statement_lines(alloc, text, &statements, sql.names())?)
         }
+        Listing::Json => Ok(json_lines(alloc, table, output, sql.names())?),
         Listing::Tokens => token_list(alloc, text),
         Listing::Quiet => Ok(String::new(alloc)),
     }

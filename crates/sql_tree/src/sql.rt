@@ -26,7 +26,7 @@ pub struct Sql {
 }
 
 impl Sql {
-    ghost use Rattle.sql_tree.specs.Reports.{IsSql};
+    ghost use Rattle.sql_tree.specs.Reports.{AreOfFile, IsSql};
 
     /// PostgreSQL's keywords, and the names of all kinds.
     pub fn new(alloc: Global) -> Result<Sql, AllocError>
@@ -58,9 +58,10 @@ impl Sql {
         LexedStr::from_accepted(alloc, text, tokens, &self.vocabulary)
     }
 
-    /// The parse of a table's input: it stands in one root, and what is sent for it is all of the text.
+    /// The parse of a table's input: a file of its statements, for which all of the text is sent.
     pub fn parse(&self, alloc: Global, table: &LexedStr<'_>) -> Result<Output, Unread>
         ensures fits { IfOk result (λ output. Fits table.now output.steps) }
+        ensures file { IfOk result (λ output. AreOfFile self.now table.now output.steps) }
         ensures whole { IfOk result (λ output. texts_of (sent_list table.now output.steps) ≡ chars table.now.text) }
     {
         let input = table.to_input(alloc, &self.vocabulary)?;

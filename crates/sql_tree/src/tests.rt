@@ -75,6 +75,32 @@ fn lists_raw_tokens(rt: HostRuntime) -> Result<(), Fail> {
     Ok(())
 }
 
+/// Starts and ends count bytes. An error of a bracket stands in the innermost one that is open, and what
+/// stands between statements is left out.
+const JSON: &str = "{\"kind\":\"SHOW\",\"start\":0,\"children\":[\
+    {\"kind\":\"SHOW_KW\",\"start\":0,\"end\":4},{\"kind\":\"WHITESPACE\",\"start\":4,\"end\":5},\
+    {\"kind\":\"STRING\",\"start\":5,\"end\":9},{\"kind\":\"SEMICOLON\",\"start\":9,\"end\":10}],\
+    \"end\":10,\"errors\":[]}\n\
+    {\"kind\":\"SHOW\",\"start\":11,\"children\":[\
+    {\"kind\":\"SHOW_KW\",\"start\":11,\"end\":15},{\"kind\":\"WHITESPACE\",\"start\":15,\"end\":16},\
+    {\"kind\":\"GROUP\",\"start\":16,\"children\":[\
+    {\"kind\":\"L_PAREN\",\"start\":16,\"end\":17},{\"kind\":\"IDENT\",\"start\":17,\"end\":18},\
+    {\"kind\":\"GROUP\",\"start\":18,\"children\":[\
+    {\"kind\":\"L_BRACK\",\"start\":18,\"end\":19},{\"kind\":\"INT_NUMBER\",\"start\":19,\"end\":20}],\
+    \"end\":20,\"errors\":[{\"message\":\"expected ]\",\"at\":20},{\"message\":\"expected )\",\"at\":20}]}],\
+    \"end\":20,\"errors\":[]},{\"kind\":\"SEMICOLON\",\"start\":20,\"end\":21}],\"end\":21,\"errors\":[]}\n";
+
+#[test]
+fn lists_statements_as_json(rt: HostRuntime) -> Result<(), Fail> {
+    let alloc = rt.alloc();
+    let sql = Sql::new(alloc)?;
+    let text = "show 'ä';\nshow (a[1;";
+    let report = Report::new(alloc, &sql, Listing::Json, "x", text)?;
+    assert_eq!(rt; report.listing.as_str(), JSON);
+    assert_eq!(rt; (report.statement_count, report.error_count), (2, 2));
+    Ok(())
+}
+
 #[test]
 fn lists_nothing_where_it_is_quiet(rt: HostRuntime) -> Result<(), Fail> {
     let alloc = rt.alloc();

@@ -2,7 +2,6 @@ pub mod Watched
 pub mod Reads
 pub mod Writes
 pub mod Lines
-pub mod PlainBytes
 pub mod Fault
 pub mod Answers
 pub mod AnswerLines

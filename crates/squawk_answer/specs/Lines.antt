@@ -1,20 +1,11 @@
 -- The lines of an answer.
-use Rattle.std.specs.Prelude.{ℕ, Bool, true, false, Option, Some, None, List, [], ◌++◌, codes, encode_utf8_all}
+use Rattle.std.specs.Prelude.{ℕ, Bool, true, false, Option, Some, None, List, [], ◌++◌, codes}
 use Rattle.std.specs.List.{flat_map}
 use Rattle.std.specs.Fmt.{decimal}
-use Rattle.serde_json.specs.Data.{string}
-use Rattle.serde_json.specs.Written.{compact_text}
+use Rattle.squawk_json.specs.JsonStrings.{json_of, json_string}
 use Rattle.squawk_tokens.specs.LexicalErrors.{LexicalError as LexicalError}
 use Rattle.squawk_table.specs.declared.shortcuts.str_step.OwnedStep.{OwnedStep}
 use Rattle.squawk_table.specs.declared.shortcuts.str_step.OwnedStep.TheVariants.{Token, Enter, Exit, Error}
-
--- the bytes of a text, as a JSON string
-abbrev pub json_string : List ℕ → List ℕ
-json_string bytes = compact_text (string bytes)
-
--- the characters of a text, as a JSON string
-abbrev pub json_of : List ℕ → List ℕ
-json_of text = json_string (encode_utf8_all text)
 
 -- what is wanted, where an error says so
 abbrev pub hint_part : Option (List ℕ) → List ℕ

@@ -1,12 +1,11 @@
 //! A line for each lexical error, and one for each step.
-ghost use Rattle.std.specs.Prelude.{◌≡◌, ◌++◌, ◌↔◌, option_map, string_bytes, All, IfOk, IsTrue, OnOk};
+ghost use Rattle.std.specs.Prelude.{◌≡◌, ◌++◌, option_map, string_bytes, IfOk, OnOk};
 ghost use Rattle.std.specs.Str.{chars};
 ghost use Rattle.squawk_table.specs.SinkViews.{owned_step_of};
 ghost use Rattle.squawk_table.specs.declared.shortcuts.str_step.OwnedStep.TheVariants.{Token};
-ghost use Rattle.squawk_answer.specs.Lines.{hint_part, json_of, last_line, lex_line, lex_lines, json_string, step_line, step_lines};
-ghost use Rattle.squawk_answer.specs.PlainBytes.{IsPlain};
+ghost use Rattle.squawk_answer.specs.Lines.{hint_part, last_line, lex_line, lex_lines, step_line, step_lines};
 
-use serde_json::Value;
+use squawk_json::{json_text, needs_no_escape, push_json};
 use squawk_table::{LexError, LexErrors, StrStep, StrSteps};
 use std::alloc::{AllocError, Global};
 use std::fmt::Write;
@@ -100,32 +99,4 @@ fn push_hint(alloc: Global, lines: &mut String, hint: Option<&str>) -> Result<()
         }
         None => Ok(()),
     }
-}
-
-/// Puts a text behind others, as a JSON string.
-fn push_json(alloc: Global, lines: &mut String, text: &str) -> Result<(), AllocError>
-    ensures bytes { OnOk result (string_bytes lines.new ≡ string_bytes lines.old ++ json_string text.now) }
-    ensures chars { OnOk result (string_bytes lines.new ≡ string_bytes lines.old ++ json_of (chars text.now)) }
-{
-    if needs_no_escape(text) {
-        write!(lines, "\"{text}\"")
-    } else {
-        lines.push_str(json_text(alloc, text)?.as_str())
-    }
-}
-
-/// The text as a JSON string.
-fn json_text(alloc: Global, text: &str) -> Result<String, AllocError>
-    ensures bytes { IfOk result (λ s. string_bytes s ≡ json_string text.now) }
-    ensures chars { IfOk result (λ s. string_bytes s ≡ json_of (chars text.now)) }
-{
-    let value = Value::from(String::from_str(alloc, text)?);
-    value.to_string(alloc)
-}
-
-/// Whether a text stands in a JSON string as it is.
-fn needs_no_escape(text: &str) -> bool
-    ensures { IsTrue result ↔ All IsPlain text.now }
-{
-    text.bytes().all(|b| b >= b' ' && b != b'"' && b != b'\\')
 }

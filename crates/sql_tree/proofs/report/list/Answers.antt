@@ -4,8 +4,8 @@ use Rattle.sql_report.specs.Statements.{statement_lines, statements_of}
 use Rattle.squawk_kinds.specs.EngineNames.{names_of}
 use Rattle.sql_tree.proofs.report.list.Goals as goal
 
-pub returns-in_ok-statement_lines-in-Statements : goal.returns-in_ok-statement_lines-in-Statements
-returns-in_ok-statement_lines-in-Statements c =
+pub returns-in_ok-statement_lines-in-Statements-clause-listed : goal.returns-in_ok-statement_lines-in-Statements-clause-listed
+returns-in_ok-statement_lines-in-Statements-clause-listed c =
     let text = c.args.text.now in
     rw c.in-Statements.is
     (c.in_ok-statement_lines-in-Statements.ensures

@@ -7,9 +7,11 @@ use Rattle.squawk_table.specs.Sent.{sent_list, texts_of}
 use Rattle.squawk_table.specs.Shape.{Fits}
 use Rattle.sql_report.specs.ErrorLines.{error_texts}
 use Rattle.sql_report.specs.Findings.{AreInOrder, all_told}
+use Rattle.sql_report.specs.JsonTrees.{HasTreeLines}
 use Rattle.sql_report.specs.Statements.{statements_of}
+use Rattle.squawk_kinds.specs.EngineNames.{names_of}
 use Rattle.sql_tree.specs.Listings.{listed}
-use Rattle.sql_tree.specs.Reports.{table_in}
+use Rattle.sql_tree.specs.Reports.{AreOfFile, table_in}
 use Rattle.sql_tree.proofs.report.Report.new.Goals as goal
 
 pub returns : goal.returns
@@ -21,11 +23,13 @@ returns c =
     record {
       steps = steps;
       fits = subst (λ table. Fits table steps) same c.in_ok-output.ensures.fits;
+      of_file = subst (λ table. AreOfFile sql table steps) same c.in_ok-output.ensures.file;
       whole = subst (λ table. texts_of (sent_list table steps) ≡ chars table.text) same c.in_ok-output.ensures.whole;
       findings = c.in_ok-findings.findings.items;
       in_order = subst (λ table. AreInOrder (all_told table.errors (sent_list table steps)) c.in_ok-findings.findings.items) same c.in_ok-findings.ensures;
       errors = c.in_ok-errors.ensures ∙ ap (error_texts c.args.name.now text) c.deref-2.ensures.value;
       error_count = search rules;
-      list = subst (λ table. string_bytes c.in_ok-listing.listing ≡ listed sql c.args.listing text (sent_list table steps)) same c.in_ok-listing.ensures;
+      list = subst (λ table. string_bytes c.in_ok-listing.listing ≡ listed sql c.args.listing text (sent_list table steps)) same c.in_ok-listing.ensures.listed;
+      values = λ json. subst (λ table. HasTreeLines (names_of sql.names.items) (sent_list table steps) (string_bytes c.in_ok-listing.listing)) same (c.in_ok-listing.ensures.values json);
       statement_count = λ told. subst (λ table. c.in_ok-statement_count.statement_count ≡ length (statements_of (sent_list table steps))) same (c.in_ok-statement_count.ensures told);
     }

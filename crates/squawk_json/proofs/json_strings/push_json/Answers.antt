@@ -1,7 +1,7 @@
 use Rattle.std.proofs.Common.{◌∙◌, ◌++◌, string_bytes, ap, sym}
 use Rattle.std.proofs.lemmas.Result.{on_ok_weaker}
-use Rattle.squawk_answer.proofs.PlainTexts.{json_of-chars, json_string-plain}
-use Rattle.squawk_answer.proofs.lines.push_json.Goals as goal
+use Rattle.squawk_json.proofs.PlainTexts.{json_of-chars, json_string-plain}
+use Rattle.squawk_json.proofs.json_strings.push_json.Goals as goal
 
 pub returns-then-needs_no_escape-clause-bytes : goal.returns-then-needs_no_escape-clause-bytes
 returns-then-needs_no_escape-clause-bytes c =
