@@ -1,13 +1,15 @@
 #!/usr/bin/env python3
-"""growths.py PROGRAM [--most N]: refuses the program memory; growths.py --sql SQL_TREE [--most N] does so to `sql_tree`.
+"""growths.py PROGRAM [--most N]: refuses the program memory; growths.py --sql SQL_TREE [--most N] does so to
+`sql_tree`.
 
-Over each document of documents.py and of examples/: one run for each of its growths, in which that one is refused, one for each in which
-all later ones are refused, too, and one behind the last. Each must end with status 7, `memory` and nothing on standard output, or, where
-the program needed no more memory, with the document's answer. Before, a run in which all are granted must have this answer.
+Over each document of documents.py and of examples/: one run for each of its growths, in which that one is refused, one
+for each in which all later ones are refused, too, and one behind the last. Each must end with status 7, `memory` and
+nothing on standard output, or, where the program needed no more memory, with the document's answer. Before, a run in
+which all are granted must have this answer.
 
-`sql_tree` prints the tree, the statements, the raw tokens and the errors alone of examples/migration.sql, from standard input and by its name,
-its help, and why an argument is refused. A run must end with status 3 and a line about memory on standard error, and no other listing than the
-full one; or with the full answer.
+`sql_tree` prints the tree, the statements, the raw tokens and the errors alone of examples/migration.sql, from standard
+input and by its name, its help, and why an argument is refused. A run must end with status 3 and a line about memory on
+standard error, and no other listing than the full one; or with the full answer.
 
 With --most N, at most N growths of a document are refused, spread evenly over them."""
 import argparse

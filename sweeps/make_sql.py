@@ -1,15 +1,18 @@
 #!/usr/bin/env python3
-"""make_sql.py BYTES SEED: SQL of many kinds, made at random, on standard output: whole statements, of BYTES or just more.
+"""make_sql.py BYTES SEED: SQL of many kinds, made at random, on standard output: whole statements, of BYTES or just
+more.
 
-Queries with joins, groups, CASE and subqueries, changes of rows with many values, tables, indexes, views, rules, functions in dollar quotes and
-with BEGIN ATOMIC, comments, names in quotes and beyond ASCII. PostgreSQL's parser takes all of it."""
+Queries with joins, groups, CASE and subqueries, changes of rows with many values, tables, indexes, views, rules,
+functions in dollar quotes and with BEGIN ATOMIC, comments, names in quotes and beyond ASCII. PostgreSQL's parser
+takes all of it."""
 import random
 import sys
 
-NAMES = ["account", "balance", "owner", "city", "região", "straße", "kunde", "\"Order Line\"", "\"x\"\"y\"", "created_at", "amount", "code", "notes",
-         "t", "u", "v", "invoice", "event_log", "id", "parent_id", "level", "weight", "名前", "flags", "payload"]
+NAMES = ["account", "balance", "owner", "city", "região", "straße", "kunde", "\"Order Line\"", "\"x\"\"y\"", "created_at",
+         "amount", "code", "notes", "t", "u", "v", "invoice", "event_log", "id", "parent_id", "level", "weight", "名前", "flags", "payload"]
 TYPES = ["integer", "text", "numeric(12, 2)", "timestamp with time zone", "char(3)", "jsonb", "double precision[]", "uuid", "boolean"]
-OPERATORS = ["+", "-", "*", "/", "||", "=", "<>", "<=", ">=", "<", ">", "->>", "->", "@>", "and", "or", "~*", "::text =", "is distinct from", "%", "^"]
+OPERATORS = ["+", "-", "*", "/", "||", "=", "<>", "<=", ">=", "<", ">", "->>", "->", "@>", "and", "or", "~*", "::text =",
+             "is distinct from", "%", "^"]
 TABLES = [*NAMES, "public.invoice", "audit.event_log"]
 WORDS = "the accounts of their owners keep a currency each, and what is behind it isn't told: see ticket 4711 or page 12".split()
 
@@ -85,7 +88,8 @@ class Maker:
             return (f"create or replace function f(a integer) returns integer language sql\nbegin atomic\n    {self.query(0)};\n"
                     f"    select case when a > 1 then 2 else 3 end;\nend;")
         tag = self.chance.choice(("$$", "$body$", "$_$"))
-        return (f"create function {self.table_name()}(a integer, b text) returns void language plpgsql as {tag}\ndeclare\n    n integer := 0;\nbegin\n"
+        return (f"create function {self.table_name()}(a integer, b text) returns void language plpgsql as {tag}\n"
+                f"declare\n    n integer := 0;\nbegin\n"
                 f"    if a > {self.constant()} then\n        {self.insert()}\n    end if;\n    return;\nend;\n{tag};")
 
     def statement(self):
@@ -111,7 +115,8 @@ class Maker:
             return f"/* {self.words()}\n   {self.words()} /* and {self.words()} */ */\nbegin; set local search_path = {self.name()}; commit;"
         if way == 18:
             return f"alter table {self.table_name()} add column {self.name()} {self.chance.choice(TYPES)};"
-        return f"grant select, insert on {self.table_name()} to {self.name()};\ncomment on table {self.table_name()} is '{self.words().replace(chr(39), '')}';"
+        words = self.words().replace("'", "")
+        return f"grant select, insert on {self.table_name()} to {self.name()};\ncomment on table {self.table_name()} is '{words}';"
 
     def pieces(self, size):
         """Statements with comments before some, until there are so many bytes."""

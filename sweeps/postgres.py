@@ -1,8 +1,8 @@
 """PostgreSQL's scanner, as Debian's python3-pglast has it (version 15), beside the raw tokens of `sql_tree`.
 
-What the two are known to read differently is blanked in the judge's text before: `Compared` has the text that is left, the raw tokens of the
-original, and why what was blanked. Places count characters. Faults of pglast that are worked around: the place of a refusal has been taken for
-one in bytes; `U&` strings have no end, or make it fail."""
+What the two are known to read differently is blanked in the judge's text before: `Compared` has the text that is
+left, the raw tokens of the original, and why what was blanked. Places count characters. Faults of pglast that are
+worked around: the place of a refusal has been taken for one in bytes; `U&` strings have no end, or make it fail."""
 import os
 import re
 import subprocess
@@ -13,6 +13,7 @@ import pglast.parser as judge
 
 QUOTED = {"Str", "EscStr", "BitStr", "ByteStr", "NationalStr", "UnicodeEscStr"}
 BITS = {"BitStr", "ByteStr"}
+BLANKED = "Blanked"
 COMMENTS = {"LineComment", "BlockComment"}
 NUMBERS = {"Int", "Numeric"}
 JUNK = NUMBERS | {"PositionalParam"}
@@ -23,16 +24,16 @@ LONG = 100000
 CONTINUED = re.compile(r"[ \t\f]*[\n\r][ \t\n\r\f]*")
 NEWER_NUMBER = re.compile(r"0[xX](_?[0-9a-fA-F])+|0[oO](_?[0-7])+|0[bB](_?[01])+"
                           r"|(?=.*_)(\d(_?\d)*)?\.?(\d(_?\d)*)?([eE][-+]?\d(_?\d)*)?")
-# What the scanner refuses and a lexer without values doesn't look for.
+# What the scanner refuses, and a lexer without values doesn't look for; escapes of characters at their own places.
+OF_CHARACTERS = "invalid Unicode"
 OF_VALUES = {
-    "invalid Unicode escape": "an escape that is no character",
-    "invalid Unicode surrogate pair": "an escape that is no character",
+    OF_CHARACTERS: "escapes that are no character",
     "invalid byte sequence for encoding": "escapes that are no UTF-8",
     "operator too long": "operators of 64 signs and more",
 }
 STRING = re.compile(r"'(?:[^']|'')*'")
-# A string with escapes, behind its E, up to what closes it or to the end.
-ESCAPED = re.compile(r"'(?:[^'\\]|''|\\.)*'?", re.DOTALL)
+# The same with escapes, behind its E.
+ESCAPED = re.compile(r"'(?:[^'\\]|''|\\.)*'(?!')", re.DOTALL)
 BYTE_ESCAPE = re.compile(r"\\([0-3]?[0-7]|x[0-9a-fA-F])")
 
 
@@ -43,7 +44,7 @@ class Raw(NamedTuple):
 
 
 class Listing(NamedTuple):
-    """What the program printed of a text: lines of its listing, and the places of its errors as lines and columns."""
+    """What the program printed of a text: lines of its listing, and the places of lexical errors as lines and columns."""
     lines: list
     errors: list
 
@@ -62,7 +63,7 @@ def listed(program, option, paths):
         else:
             of.lines.append(line)
     for line in told.split("\n"):
-        found = re.match(r"(.*?):(\d+):(\d+): ", line)
+        found = re.match(r"(.*?):(\d+):(\d+): (?!expected |closing |nested )", line)
         if found and found[1] in listings:
             listings[found[1]].errors.append((int(found[2]), int(found[3])))
     return [listings[path] for path in paths]
@@ -93,7 +94,7 @@ class Compared:
     def __init__(self, text, listing):
         self.text = text
         self.raw = raw_tokens(text, listing.lines)
-        # As the program has them, where `raw` has what is blanked as white space.
+        # As the program has them, where `raw` has commas for what is blanked.
         self.original = tuple(self.raw)
         self.starts = [token.start for token in self.raw]
         lines = [0] + [at + 1 for at, sign in enumerate(text) if sign == "\n"]
@@ -118,13 +119,20 @@ class Compared:
                 self.exchange(start, self._older_number(part, end), "numbers as of version 16")
             elif kind in BITS and "''" in part[2:] or kind == "Str" and "''" in part[1:] and self._begun(at) in BITS:
                 edge = 2 if kind in BITS else 1
-                self.exchange(start + edge, part[edge:].replace("''", "11"), "FAULT: doubled quotes in bit strings, which end one and begin another")
-            elif kind == "Str" and "\\" in part and ESCAPED.match(self.text, start, end)[0] != part and self._begun(at) == "EscStr":
+                self.exchange(start + edge, part[edge:].replace("''", "11"), "FAULT: doubled quotes in bit strings, which end it")
+            elif kind == "Str" and "\\" in part and self._begun(at) == "EscStr" and self._escapes_quotes(part):
                 inner = len(part) - (2 if STRING.fullmatch(part) else 1)
-                self.exchange(start + 1, "x" * inner, "FAULT: quotes behind backslashes, where an E string goes on behind a line's end")
+                self.exchange(start + 1, "x" * inner, "FAULT: quotes behind backslashes, where an E string goes on")
+
+    @staticmethod
+    def _escapes_quotes(part):
+        """Whether a string ends elsewhere where a backslash escapes a quote."""
+        plain, escaped = STRING.fullmatch(part), ESCAPED.match(part)
+        return (plain and plain[0]) != (escaped and escaped[0])
 
     def _older_number(self, part, end):
-        """A number of the same length, or an identifier, which ends before a point, as a number of another base does."""
+        """A number of the same length, or an identifier, which ends before a point, as a number of another base
+        does."""
         if not part[1:2].isalpha():
             return part.replace("_", "1")
         return ("x" if self.text[end:end + 1] == "." else "1") * len(part)
@@ -136,10 +144,10 @@ class Compared:
         return self.raw[at].kind
 
     def blank(self, at, reason):
-        """Takes a raw token out of the judge's text: it is as white space."""
+        """Takes a raw token out of the judge's text, where a comma stands for it, so that no strings go on over it."""
         token = self.raw[at]
-        self.left[token.start:token.end] = " " * (token.end - token.start)
-        self.raw[at] = token._replace(kind="Whitespace")
+        self.left[token.start:token.end] = "," + " " * (token.end - token.start - 1)
+        self.raw[at] = Raw(BLANKED, token.start, token.start + 1)
         self.reasons.append(reason)
 
     def exchange(self, start, part, reason):
@@ -163,10 +171,11 @@ class Compared:
 
     def _blank_refused(self, left, message, place=None):
         near = message.partition(' at or near "')[2][:-1]
-        at = self._token_near(near) if place is None else self._token_at(left, place, near)
+        is_within = message.startswith(OF_CHARACTERS)
+        at = self._token_near(near) if place is None else self._token_at(left, place, near, is_within)
         if at is None:
             self.unexplained.append(f"refused at {place}: {message!r}")
-            self.left[:] = " " * len(self.left)
+            self.left = [" "] * len(self.left)
             self.raw = []
             return
         last = self._goes_on_to(at)
@@ -177,7 +186,8 @@ class Compared:
         if reason is None:
             self.unexplained.append(f"refused: {message!r}: {self.text[start:end][:60]!r}")
         for token in range(at, last + 1):
-            self.blank(token, reason or "unexplained")
+            if self.raw[token].kind != "Whitespace":
+                self.blank(token, reason or "unexplained")
 
     def _goes_on_to(self, at):
         """The last raw token of what the judge takes for one: of a string that goes on, or of an operator."""
@@ -193,25 +203,29 @@ class Compared:
                 at += 1
         return at
 
-    def _token_at(self, left, place, near):
+    def _token_at(self, left, place, near, is_within):
         """Which raw token stands where the judge refuses the text, with this text in front.
 
         Its place in characters was taken for one in bytes, so it is one of those that the bytes of a character have."""
         first = len(left[:place].encode())
         for char in range(first, first + len(left[place:place + 1].encode())):
             at = bisect_right(self.starts, char) - 1
-            if self.raw[at].kind == "Whitespace" or not left.startswith(near, char):
+            if self.raw[at].kind in ("Whitespace", BLANKED) or not left.startswith(near, char):
                 continue
             # The N of a national string is a token by itself, and an escape is refused at its own place.
-            if self.starts[at] == char or self.raw[at].kind == "NationalStr" and self.starts[at] == char - 1 or self.raw[at].kind == "EscStr" and not near:
+            within = char - self.starts[at]
+            if within == 0 or self.raw[at].kind == "NationalStr" and within == 1 or is_within:
                 return at
         return None
 
     def _token_near(self, near):
-        """Which raw token may be refused where no place is told: a number with junk beyond ASCII, or an E string with escaped bytes."""
+        """Which raw token may be refused where no place is told: a number with junk beyond ASCII, or an E string
+        with escaped bytes."""
         for at, (kind, start, end) in enumerate(self.raw):
             part = self.text[start:end]
-            if kind in JUNK and near and re.fullmatch(re.escape(near) + r"?[^\x00-\x7f].*", part) or kind == "EscStr" and not near and BYTE_ESCAPE.search(part):
+            if near and kind in JUNK and re.fullmatch(re.escape(near) + r"?[^\x00-\x7f].*", part):
+                return at
+            if not near and kind == "EscStr" and BYTE_ESCAPE.search(part):
                 return at
         return None
 
@@ -225,7 +239,8 @@ class Compared:
                 self.reasons.append("U& strings that pglast fails over, told without U&")
 
     def expected(self):
-        """Where tokens start and end by the program: strings that go on are one, and the N of a national string stands alone."""
+        """Where tokens start and end by the program: strings that go on are one, and the N of a national string
+        stands alone."""
         told, goes_on = [], False
         for kind, start, end in self.raw:
             if kind == "Whitespace":

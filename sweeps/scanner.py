@@ -1,11 +1,12 @@
 #!/usr/bin/python3
-"""scanner.py PROGRAM [--random N] [--seed S] [FILE-OR-FOLDER ..]: raw tokens of `PROGRAM --tokens` against PostgreSQL's own scanner.
+"""scanner.py PROGRAM [--random N] [--seed S] [FILE-OR-FOLDER ..]: raw tokens of `PROGRAM --tokens` against PostgreSQL's
+own scanner.
 
-PROGRAM is `crates/sql_tree/out/sql_tree`; the judge is Debian's python3-pglast (the system's Python runs this). Over each file and the SQL in
-each folder, and over N texts made at random (left out: 100,000 by seed 1; such a text counts where the judge takes it, else the program must
-show an error in it). All that isn't white space must stand in the same places, the judge's operators cut into signs. Prints what the judge was
-asked otherwise, by reasons; a line WRONG for each text with a difference that has none; and counts. Reasons that begin with FAULT are the
-program's."""
+PROGRAM is `crates/sql_tree/out/sql_tree`; the judge is Debian's python3-pglast (the system's Python runs this). Over
+each file and the SQL in each folder, and over N texts made at random (left out: 100,000 by seed 1; such a text
+counts where the judge takes it, else the program must show an error in it). All that isn't white space must stand in
+the same places, the judge's operators cut into signs. Prints what the judge was asked otherwise, by reasons; a line
+WRONG for each text with a difference that has none; and counts. Reasons that begin with FAULT are the program's."""
 import argparse
 import os
 import random
@@ -18,11 +19,12 @@ from postgres import Compared, files_in, judge, judged, listed, read
 
 BATCH = 500
 PIECES = [
-    "select", "a", "é", "_x", "U&", "u", "e", "E", "b", "x", "N", "n", "uescape", "from", "日本", "a$", "x1", "0", "1", "23", "1.5", ".5", "1.", "..",
-    "1e5", "1e", "1e-", "1.e+3", "0x1F", "0b1", "0o7", "1_000", "$1", "$1a", "$", "$$", "$a$", "$é$", "$1$", "'", "'", "''", "'a'", "E'\\'", "E'\\\\'",
-    "B'1'", "U&'a'", 'U&"b"', '"', '"a"', '""', "\\", "\\d", "--", "-- c\n", "/*", "*/", "/**/", "/", "*", "-", "+", "@", "~", "!", "#", "%", "^", "&",
-    "|", "`", "?", "<", ">", "=", ":", "::", ":=", "=>", "<=", "(", ")", "[", "]", "{", "}", ",", ";", ".", "\n", "\r", "\t", "\f", "\v", " ", "  ", "\n ",
-    "\x01", "\x7f", "\xa0", "\u3000", "\ufeff", "\U0001f600"]
+    "select", "a", "é", "_x", "U&", "u", "e", "E", "b", "x", "N", "n", "uescape", "from", "日本", "a$", "x1", "0", "1",
+    "23", "1.5", ".5", "1.", "..", "1e5", "1e", "1e-", "1.e+3", "0x1F", "0b1", "0o7", "1_000", "$1", "$1a", "$", "$$",
+    "$a$", "$é$", "$1$", "'", "'", "''", "'a'", "E'\\'", "E'\\\\'", "'b\\'", "B'1'", "U&'a'", 'U&"b"', '"', '"a"',
+    '""', "\\", "\\d", "--", "-- c\n", "/*", "*/", "/**/", "/", "*", "-", "+", "@", "~", "!", "#", "%", "^", "&", "|",
+    "`", "?", "<", ">", "=", ":", "::", ":=", "=>", "<=", "(", ")", "[", "]", "{", "}", ",", ";", ".", "\n", "\r",
+    "\t", "\f", "\v", " ", "  ", "\n ", "\x01", "\x7f", "\xa0", "\u3000", "\ufeff", "\U0001f600"]
 
 
 def difference(text, listing, reasons, tally):

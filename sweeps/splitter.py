@@ -1,32 +1,38 @@
 #!/usr/bin/python3
-"""splitter.py PROGRAM FILE-OR-FOLDER ..: statements of `PROGRAM --statements` against PostgreSQL's, as python3-pglast cuts them.
+"""splitter.py PROGRAM FILE-OR-FOLDER ..: statements of `PROGRAM --statements` against PostgreSQL's, as python3-pglast
+cuts them.
 
-PROGRAM is `crates/sql_tree/out/sql_tree`; the system's Python runs this. Over each file, and the SQL in each folder: the statements, without
-comments, semicolons and empty ones, must stand in the places in which the judge's scanner cuts them, and those in which its parser does, where
-it takes the file. Each statement by itself is given to the parser, too, which takes it as one, or refuses it. Commands of psql are blanked,
-those that end a query are semicolons. Prints what differs by reasons, a line WRONG for each difference that has none, and counts."""
+PROGRAM is `crates/sql_tree/out/sql_tree`; the system's Python runs this. Over each file, and the SQL in each folder:
+the statements, without comments, semicolons and empty ones, must stand in the places in which the judge's scanner
+cuts them, and those in which its parser does, where it takes the file. Each statement by itself is given to the
+parser, too, which takes it as one, or refuses it. Commands of psql are blanked, those that end a query are
+semicolons. Prints what differs by reasons, a line WRONG for each difference that has none, and counts."""
 import re
 import sys
 from bisect import bisect_left
 from collections import Counter
 
-from postgres import COMMENTS, Compared, characters, files_in, judge, listed, read
+from postgres import BLANKED, COMMENTS, Compared, characters, files_in, judge, listed, read
 
 ENDS_QUERY = re.compile(r"\\(g|gx|gexec|gset|gdesc|crosstabview|watch)([\s\\]|$)")
 ATOMIC = re.compile(r"\bbegin\s+atomic\b", re.IGNORECASE)
 
 
 class Cut:
-    """A text as the judge gets it, and the statements of the program as pairs: where the first token starts, and where the last one ends."""
+    """A text as the judge gets it, and the statements of the program as pairs: where the first token starts, and
+    where the last one ends."""
 
     def __init__(self, text, tokens, statements):
         self.compared = Compared(text, tokens)
         self.terminators = [token.start for token in self.compared.original if token.kind == "PsqlCommand" and ENDS_QUERY.match(text, token.start)]
         self.compared.ask()
+        for token in self.compared.raw:
+            if token.kind == BLANKED:
+                self.compared.left[token.start] = " "
         for at in self.terminators:
             self.compared.left[at] = ";"
         self.left = "".join(self.compared.left)
-        kept = [token for token in self.compared.raw if token.kind not in COMMENTS | {"Whitespace", "Semi"}]
+        kept = [token for token in self.compared.raw if token.kind not in COMMENTS | {"Whitespace", "Semi", BLANKED}]
         self.starts, self.ends = [token.start for token in kept], [token.end for token in kept]
         spans = [tuple(map(int, line.split(" ")[0].split(".."))) for line in statements]
         flat = characters(text, [place for span in spans for place in span])
@@ -37,7 +43,8 @@ class Cut:
             pass
 
     def _blank_unclosed(self):
-        """Where the judge's scanner loses all that is left behind a parenthesis that isn't closed, blanks that statement."""
+        """Where the judge's scanner loses all that is left behind a parenthesis that isn't closed, blanks that
+        statement."""
         theirs = self.theirs(False)
         lost = [span for span in self.ours if not theirs or span[0] >= theirs[-1][1]]
         for start, end in lost[:-1]:
@@ -55,7 +62,8 @@ class Cut:
         return (self.starts[first], self.ends[behind - 1]) if first < behind else None
 
     def theirs(self, with_parser):
-        """The judge's statements. It is asked for texts, since its places are those of a text that stands within the statement before, too."""
+        """The judge's statements. It is asked for texts, since its places are those of a text that stands within the
+        statement before, too."""
         spans, at = [], 0
         for statement in judge.split(self.left, with_parser=with_parser):
             start = self.left.index(statement, at)
@@ -100,6 +108,7 @@ def shown(cut, spans):
 def sweep(cut, tally, reasons):
     """What is wrong in a file."""
     reasons.update(cut.compared.reasons)
+    yield from cut.compared.unexplained
     tally["statements"] += len(cut.ours)
     tally["empty ones"] += cut.empty
     for ours, theirs in cut.differences(False):
