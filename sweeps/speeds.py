@@ -3,12 +3,12 @@
 
 Over texts of make_sql.py of 1, 10 and 100 MB, up to BYTES, and over hostile texts of 200,000 and of 1,000,000
 repeats; with --modes those of 200,000 in every mode, too. Prints the processor time, the user's and the system's, in
-nanoseconds a byte: the least of three runs, or of nine short ones, less the least of runs over no text. Prints the
-most memory, and for texts of 10 MB and more as a multiple of the text; of smaller ones the program itself and this
-one count. A line SLOW tells where a byte takes more than 1.2 times as long in the largest as in the smallest text,
-or in 1,000,000 repeats more than 1.3 times as long as in 200,000; a line LARGE where there is more memory than ten
-times the text; a line WRONG tells of another status than 0 and 1. Processor time grows, too, where others work
-beside."""
+nanoseconds a byte: the least of three runs, or of nine short ones, less the least of runs over no text; of long
+texts the user's alone, too. Prints the most memory, and for texts of 10 MB and more as a multiple of the text; of
+smaller ones the program itself and this one count. A line SLOW tells where a byte takes more than 1.2 times as long
+in the largest as in the smallest text, or in 1,000,000 repeats more than 1.3 times as long as in 200,000; a line
+LARGE where there is more memory than ten times the text; a line WRONG tells of another status than 0 and 1.
+Processor time grows, too, where others work beside."""
 import argparse
 import os
 import subprocess
@@ -33,11 +33,11 @@ BEFORE = {"BEGIN ATOMIC in a function": ("create function f() ", "begin atomic "
 
 
 def run(program, option, path):
-    """The processor time, the most memory and the status of a run."""
+    """The processor time, that of the user alone, the most memory and the status of a run."""
     files = [(os.POSIX_SPAWN_OPEN, 1, os.devnull, os.O_WRONLY, 0), (os.POSIX_SPAWN_OPEN, 2, os.devnull, os.O_WRONLY, 0)]
     child = os.posix_spawn(program, [program, *option, path], os.environ, file_actions=files)
     _, status, usage = os.wait4(child, 0)
-    return usage.ru_utime + usage.ru_stime, usage.ru_maxrss * 1024, os.waitstatus_to_exitcode(status)
+    return usage.ru_utime + usage.ru_stime, usage.ru_utime, usage.ru_maxrss * 1024, os.waitstatus_to_exitcode(status)
 
 
 class Measures:
@@ -56,11 +56,15 @@ class Measures:
         if runs[0][0] < SHORT:
             runs += [run(self.program, option, path) for _ in range(6)]
         size = os.path.getsize(path)
-        nanoseconds, memory = (min(one[0] for one in runs) - self.start) * 1e9 / size, max(one[1] for one in runs)
-        times = f", {memory / size:.1f} times the text" if size >= LONG else ""
-        print(f"{what}: {size} bytes, {nanoseconds:.1f} ns a byte, {memory / 1e6:.0f} MB{times}, status {runs[0][2]}", flush=True)
-        if any(status not in (0, 1) for _, _, status in runs):
-            self.fault(f"WRONG {what}: statuses {[one[2] for one in runs]}")
+        nanoseconds, memory = (min(one[0] for one in runs) - self.start) * 1e9 / size, max(one[2] for one in runs)
+        user, times = "", ""
+        if size >= LONG:
+            user = f" ({min(one[1] for one in runs) * 1e9 / size:.1f} the user's)"
+            times = f", {memory / size:.1f} times the text"
+        status = runs[0][3]
+        print(f"{what}: {size} bytes, {nanoseconds:.1f} ns a byte{user}, {memory / 1e6:.0f} MB{times}, status {status}", flush=True)
+        if any(one[3] not in (0, 1) for one in runs):
+            self.fault(f"WRONG {what}: statuses {[one[3] for one in runs]}")
         if size >= LONG and memory > 10 * size:
             self.fault(f"LARGE {what}: {memory / size:.1f} times the text")
         return nanoseconds
