@@ -55,7 +55,7 @@ impl Make {
 }
 
 /// A text of these pieces at random, with about so many raw tokens.
-fn text(
+pub fn text(
     alloc: Global,
     maker: &mut Maker<'_>,
     pieces: &[Piece],
@@ -106,7 +106,7 @@ fn parse<G: WholeGrammar>(
 }
 
 /// How many raw tokens a file has: some hundreds, in one of ten some thousands, in one of a hundred more.
-fn file_size(maker: &mut Maker<'_>) -> usize {
+pub fn file_size(maker: &mut Maker<'_>) -> usize {
     match maker.random.below(100) {
         0..=49 => maker.random.below(260).saturating_add(200),
         50..=89 => maker.random.below(3500).saturating_add(460),

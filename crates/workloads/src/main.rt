@@ -15,6 +15,7 @@ mod piece;
 mod questions;
 mod random;
 mod setting;
+mod sql;
 mod statements;
 
 use crate::digest::Digest;
@@ -97,6 +98,7 @@ fn do_job(
         "edits" => jobs::edits(alloc, setting, maker, count, digest)?,
         "moved" => moved::moved(alloc, setting, maker, count, digest)?,
         "documents" => documents::documents(alloc, setting, maker, count, digest)?,
+        "sql" => sql::sql(alloc, maker, count, digest)?,
         "calls" => calls::calls(alloc, setting, count, digest)?,
         "all" => do_all(alloc, setting, order, digest)?,
         _ => return Ok(false),
