@@ -18,7 +18,13 @@ pub fn judge_cut(
         compare(given, text, tokens, tokenize(given.alloc, text), report)?;
     }
     if case.wants("script") {
-        compare(given, text, tokens, tokenize_script(given.alloc, text), report)?;
+        compare(
+            given,
+            text,
+            tokens,
+            tokenize_script(given.alloc, text),
+            report,
+        )?;
     }
     Ok(())
 }
