@@ -24,3 +24,8 @@ HasRoom (Data behind) text = IsCharBoundary text behind
 abbrev pub Moves : List Token → Token → List Token → Place → Result (Token × Place) AllocError → Type 0
 Moves old token new place (Ok moved) = (new ≡ old ++ token ∷ []) × (moved.0 ≡ token) × (moved.1 ≡ place)
 Moves old token new place (Err error) = Unit {0}
+
+-- the same, where the place goes on
+abbrev pub GoesOn : List Token → Token → List Token → Place → Place → Result Token AllocError → Type 0
+GoesOn old token new behind next (Ok found) = (new ≡ old ++ token ∷ []) × (found ≡ token) × (next ≡ behind)
+GoesOn old token new behind next (Err error) = Unit {0}

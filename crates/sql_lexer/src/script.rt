@@ -40,9 +40,8 @@ pub fn tokenize_script(alloc: Global, text: &str) -> Result<Vec<Token>, Tokenize
     let mut place = Place::Front;
     let mut at = 0;
     while at < bytes.len() {
-        let (token, next) = push_next(&mut tokens, place, &bytes[at..])?;
+        let token = push_next(&mut tokens, &mut place, &bytes[at..])?;
         at += token.len as usize;
-        place = next;
     }
     if tokens.len() < tokens.capacity() / 2 {
         tokens.shrink_to_fit();

@@ -3,7 +3,7 @@ ghost use Rattle.std.specs.Prelude.{◌≡◌, ◌+◌, ◌<◌, ◌≤◌, ◌^
 ghost use Rattle.std.specs.List.{prefix_len};
 ghost use Rattle.sql_lexer.specs.Bytes.{is_line_end};
 ghost use Rattle.sql_lexer.specs.Scripts as spec;
-ghost use Rattle.sql_lexer.specs.ScriptPlaces.{HasRoom, Moves, may_end};
+ghost use Rattle.sql_lexer.specs.ScriptPlaces.{GoesOn, HasRoom, Moves, may_end};
 ghost use Rattle.sql_lexer.specs.ScriptStatements.{unclosed_in};
 ghost use Rattle.sql_lexer.specs.ScriptWords.{word_of};
 ghost use Rattle.sql_lexer.specs.Tokens.{first_token};
@@ -29,13 +29,64 @@ pub(crate) enum Place {
     Data { behind: usize },
 }
 
-/// Adds the token at a place, and gives it and the place behind it.
+/// Adds the token at a place, and gives it. The place goes on behind it.
+///
+/// Most tokens stand in a plain statement, where the place stays.
 #[inline(always)]
 pub(crate) fn push_next(
     tokens: &mut Vec<Token>,
-    place: Place,
+    place: &mut Place,
     text: &[u8],
-) -> Result<(Token, Place), AllocError>
+) -> Result<Token, AllocError>
+    requires some { 0 < length text.now }
+    requires short { length text.now < 2 ^ 32 }
+    requires utf8 { IsUtf8 text.now }
+    requires room { HasRoom place.old text.now }
+    ensures { GoesOn tokens.old.items (spec.token_at place.old text.now) tokens.new.items (spec.place_behind place.old text.now) place.new result }
+{
+    match *place {
+        Place::Sql(Statement::Plain) => push_plain(tokens, place, text),
+        _ => push_elsewhere(tokens, place, text),
+    }
+}
+
+/// The same in a plain statement, where few kinds count: only for these is it asked what the token's text is.
+#[inline(always)]
+fn push_plain(tokens: &mut Vec<Token>, place: &mut Place, text: &[u8]) -> Result<Token, AllocError>
+    requires plain { place.old ≡ Place.Sql Statement.Plain }
+    requires some { 0 < length text.now }
+    requires short { length text.now < 2 ^ 32 }
+    requires utf8 { IsUtf8 text.now }
+    ensures { GoesOn tokens.old.items (first_token text.now) tokens.new.items (spec.place_in Statement.Plain text.now) place.new result }
+{
+    let found = push_first(tokens, text)?;
+    if may_end(found.kind) {
+        let (front, rest) = text.split_at(found.len as usize);
+        *place = place_with(Statement::Plain, found.kind, front, rest);
+    }
+    Ok(found)
+}
+
+/// The same anywhere.
+#[inline(never)]
+fn push_elsewhere(
+    tokens: &mut Vec<Token>,
+    place: &mut Place,
+    text: &[u8],
+) -> Result<Token, AllocError>
+    requires some { 0 < length text.now }
+    requires short { length text.now < 2 ^ 32 }
+    requires utf8 { IsUtf8 text.now }
+    requires room { HasRoom place.old text.now }
+    ensures { GoesOn tokens.old.items (spec.token_at place.old text.now) tokens.new.items (spec.place_behind place.old text.now) place.new result }
+{
+    let (found, next) = push_at(tokens, *place, text)?;
+    *place = next;
+    Ok(found)
+}
+
+/// Adds the token at a place, and gives it and the place behind it.
+fn push_at(tokens: &mut Vec<Token>, place: Place, text: &[u8]) -> Result<(Token, Place), AllocError>
     requires some { 0 < length text.now }
     requires short { length text.now < 2 ^ 32 }
     requires utf8 { IsUtf8 text.now }
@@ -65,9 +116,6 @@ fn push_front(tokens: &mut Vec<Token>, text: &[u8]) -> Result<(Token, Place), Al
 }
 
 /// The same in a statement.
-///
-/// Most tokens stand in one that is plain, where few kinds count: only for these is it asked what the token's text is.
-#[inline(always)]
 fn push_sql(
     tokens: &mut Vec<Token>,
     statement: Statement,
@@ -80,13 +128,8 @@ fn push_sql(
     ensures { Moves tokens.old.items (first_token text.now) tokens.new.items (spec.place_in statement text.now) result }
 {
     let found = push_first(tokens, text)?;
-    match statement {
-        Statement::Plain if !may_end(found.kind) => Ok((found, Place::Sql(statement))),
-        _ => {
-            let (front, rest) = text.split_at(found.len as usize);
-            Ok((found, place_with(statement, found.kind, front, rest)))
-        }
-    }
+    let (front, rest) = text.split_at(found.len as usize);
+    Ok((found, place_with(statement, found.kind, front, rest)))
 }
 
 /// Whether a token with this kind may end a statement.

@@ -1,17 +1,9 @@
-use Rattle.std.proofs.Common.{◌∙◌, ap, arith, sym}
+use Rattle.std.proofs.Common.{ap, arith}
 use Rattle.squawk_tokens.specs.declared.token.Token.{Token}
 use Rattle.sql_lexer.proofs.LinesFit.{first_within}
-use Rattle.sql_lexer.proofs.ScriptPlaces.{plain_stays}
 use Rattle.sql_lexer.proofs.script.places.push_sql.Goals as goal
 
 pub split_at-requires : goal.split_at-requires
 split_at-requires c =
     let within = first_within c.args.text.now c.requires.utf8 c.requires.some in
     omega (arith, within, ap (λ (t : Token). t.len) c.in_ok-found.ensures.1)
-
-pub returns-in-Plain : goal.returns-in-Plain
-returns-in-Plain c = (
-  c.in_ok-found.ensures.0,
-  c.in_ok-found.ensures.1,
-  plain_stays c.args.statement c.args.text.now c.in_ok-found.found c.in-Plain.is c.in_ok-found.ensures.1 (sym c.may_end.ensures ∙ c.if-not-may_end.true),
-)
