@@ -7,7 +7,7 @@ use Rattle.squawk_tokens.specs.declared.token.Token.{Token}
 use Rattle.squawk_tokens.specs.AcceptedTokens.{AreAcceptedTokens}
 use Rattle.sql_lexer.specs.declared.script.places.Place.{Place}
 use Rattle.sql_lexer.specs.declared.script.places.Place.TheVariants.{Front, Sql, Data}
-use Rattle.sql_lexer.specs.ScriptPlaces.{HasRoom, Moves}
+use Rattle.sql_lexer.specs.ScriptPlaces.{Moves}
 use Rattle.sql_lexer.specs.Scripts.{place_behind, script_tokens, token_at}
 use Rattle.sql_lexer.proofs.CutTokens.{HasCut, IsAt, accepted_from, cut_all, cut_at, cut_none, cut_one}
 use Rattle.sql_lexer.proofs.ScriptPlaces.{most_at, script, unclosed_at}
@@ -35,12 +35,6 @@ script_all text place at cut has le = cut_all script Front text place at cut has
 pub rest_is_text : (text : List ℕ) (place : Place) (at : ℕ) (cut : List Token) → HasCutScript text place at cut → IsUtf8 (take (length text - at) (drop at text))
 rest_is_text text place at cut has =
     subst IsUtf8 (sym (take_rest text at)) (IsUtf8-drop text at has.has.is.utf8 has.has.is.boundary)
-
-pub has_room : (text : List ℕ) (place : Place) (at : ℕ) (cut : List Token) → HasCutScript text place at cut → at < length text → length text ≤ 4294967295
-    → HasRoom place (take (length text - at) (drop at text))
-has_room text Front at cut has lt short = tt
-has_room text (Sql statement) at cut has lt short = omega (arith, has.unclosed)
-has_room text (Data behind) at cut has lt short = rw (take_rest text at) has.has.is.reach
 
 -- the token at a place stands behind them now
 abbrev pub HasMoved : List ℕ → Place → ℕ → List Token → List Token → Token × Place → Type 0
