@@ -113,6 +113,8 @@ class Compared:
             part = self.text[start:end]
             if kind == "PsqlCommand":
                 self.blank(at, "commands of psql")
+            elif at == 0 and part == "\ufeff":
+                self.exchange(start, " ", "byte order marks, which psql skips")
             elif kind == "Whitespace" and "\v" in part:
                 self.exchange(start, part.replace("\v", " "), "vertical tabs, white space since version 16")
             elif kind in NUMBERS and NEWER_NUMBER.fullmatch(part):
