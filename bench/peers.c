@@ -34,5 +34,8 @@ int main(int argc, char **argv) {
         return refused(pg_query_split_with_scanner(text).error);
     if (!strcmp(argv[1], "scan"))
         return refused(pg_query_scan(text).error);
-    return refused(pg_query_parse_protobuf(text).error);
+    if (!strcmp(argv[1], "parse"))
+        return refused(pg_query_parse_protobuf(text).error);
+    fprintf(stderr, "peers split|scan|parse FILE\n");
+    return 2;
 }

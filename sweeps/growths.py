@@ -7,7 +7,7 @@ for each in which all later ones are refused, too, and one behind the last. Each
 nothing on standard output, or, where the program needed no more memory, with the document's answer. Before, a run in
 which all are granted must have this answer.
 
-`sql_tree` prints the tree, the statements, the raw tokens and the errors alone of examples/migration.sql, from standard
+`sql_tree` prints the tree, as text and as JSON, the statements, the raw tokens and the errors alone of examples/migration.sql, from standard
 input and by its name, its help, and why an argument is refused. A run must end with status 3 and a line about memory on
 standard error, and no other listing than the full one; or with the full answer.
 
@@ -20,7 +20,7 @@ import documents
 from program import HERE, MEMORY, Program, Tally
 
 SQL = os.path.join(HERE, "..", "examples", "migration.sql")
-MODES = [(), ("--statements",), ("--tokens",), ("--quiet",)]
+MODES = [(), ("--json",), ("--statements",), ("--tokens",), ("--quiet",)]
 
 
 def places(growths, most):
@@ -42,11 +42,11 @@ class SqlTree(Program):
         return [self.path, *self.words]
 
 
-def is_refusal(answer, wanted):
+def is_refusal(program, answer, wanted):
     """Whether a program says that it had no memory, as it must."""
-    if answer.status != 3:
-        return answer == MEMORY
-    return b"memory\n" in answer.fault and answer.lines in (b"", wanted.lines)
+    if isinstance(program, SqlTree):
+        return answer.status == 3 and b"memory\n" in answer.fault and answer.lines in (b"", wanted.lines)
+    return answer == MEMORY
 
 
 def sweep(program, name, document, wanted, most, tally):
@@ -56,7 +56,7 @@ def sweep(program, name, document, wanted, most, tally):
         for later in (0, 1):
             answer = program.run_refused(document, REFUSE_GROWTH=growth, REFUSE_LATER=later)
             what = f"{name}: growth {growth} of {counts.growths} refused{', and all later' * later}"
-            if growth <= counts.growths and is_refusal(answer, wanted):
+            if growth <= counts.growths and is_refusal(program, answer, wanted):
                 tally.note("memory")
             else:
                 way = "the answer" if growth <= counts.growths else "the answer behind the last"

@@ -1,8 +1,7 @@
 #!/usr/bin/env python3
 """nasty.py PROGRAM [COUNT [SEED]]: COUNT texts of nasty signs, made at random (left out: 10,000 by seed 1).
 
-Of each the texts of the tree's tokens, joined, must be the text, and so must the places of its nodes: each token
-begins where the one before ends. Many texts are read by one run, which ends with status 0 or 1; where one ends
+Of each the texts of the tree's tokens, joined, must be the text, and each token begins where the one before ends. Many texts are read by one run, which ends with status 0 or 1; where one ends
 otherwise, its texts are run one by one."""
 import os
 import random
@@ -16,7 +15,7 @@ PIECES = [
     "'", "''", '"', "$", "$$", "$a$", "$b$", "\\", "\\\\", "\\g\n", "\\d x\n", "\\.\n", "--", "-- c\n", "/*", "*/",
     "/*/", "(", ")", "[", "]", "{", "}", ";", ",", ".", "..", ":", "::", "begin atomic ", "begin ", "atomic ", "end ",
     "end;", "case ", "when ", "create rule r as on insert to t do ", "create or replace function f() ",
-    "create procedure p() ", "select ", "from ", "join x using ", "with ", "union ", "insert into ", "as ", "for ",
+    "create procedure p() ", "copy t from stdin;\n", "copy t (a) from stdin with (format csv); ", "select ", "from ", "join x using ", "with ", "union ", "insert into ", "as ", "for ",
     "is not distinct from ", "not ", "in ", "e'", "E'\\", "b'2'", "u&'\\00", 'U&"', "n'", "x'g'", "1", "0x", "1_",
     "1e", ".5", "$1", "<", ">", "=", "<>", "-", "+", "@", "|", "&", "#", "~", "!", "?", "`", "%", "^", " ", "\n",
     "\r", "\r\n", "\t", "\v", "\f", "\0", "\x01", "\x7f", "\x85", "\xa0", "é", "ß", "\u2028", "\u202e", "\ufeff",

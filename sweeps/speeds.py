@@ -105,14 +105,16 @@ def main():
                 times.append(measures.measure(f"{name}, {count}", path))
             measures.compare(name, *times, 1.3)
         # Tags of dollar quotes, each another one.
+        times = []
         for count in (FEW, MANY):
             with open(path, "w") as file:
                 file.writelines(f"$t{number}" for number in range(count))
-            measures.measure(f"tags of dollar quotes, {count}", path)
+            times.append(measures.measure(f"tags of dollar quotes, {count}", path))
+        measures.compare("tags of dollar quotes", *times, 1.3)
         if arguments.modes:
             for name, (before, piece) in shapes.items():
                 write(path, before, piece, FEW)
-                for option in ((), ("--statements",), ("--tokens",)):
+                for option in ((), ("--json",), ("--statements",), ("--tokens",)):
                     measures.measure(f"{name}, {FEW}, {' '.join(option) or 'tree'}", path, option)
     print(f"speeds: {measures.faults} faults")
     sys.exit(1 if measures.faults else 0)
