@@ -37,6 +37,11 @@ ESCAPED = re.compile(r"'(?:[^'\\]|''|\\.)*'(?!')", re.DOTALL)
 BYTE_ESCAPE = re.compile(r"\\([0-3]?[0-7]|x[0-9a-fA-F])")
 
 
+TRIVIA = {"Whitespace", "LineComment", "BlockComment"}
+BRACKETS = {"OpenParen": 1, "OpenBracket": 1, "CloseParen": -1, "CloseBracket": -1}
+ENDS_QUERY = re.compile(r"\\(g|gx|gexec|gset|gdesc|crosstabview|watch)(?![^\s\\])")
+
+
 class Raw(NamedTuple):
     kind: str
     start: int
@@ -88,6 +93,36 @@ def raw_tokens(text, lines):
     return [Raw(kind, start, end) for kind, start, end in zip(kinds, [0, *ends], ends)]
 
 
+def copies(words):
+    """Whether data follow a statement of these words, where None stands for what is in brackets."""
+    return words[:1] == ["copy"] and ("from", "stdin") in zip(words, words[1:])
+
+
+def lines_of_data(text, raw):
+    """The lines of data of COPY, as places in the text, and what stands before them on the lines of COPY."""
+    lines, rests, words, depth, past = [], [], [], 0, 0
+    for kind, start, end in raw:
+        if start < past or kind in TRIVIA:
+            continue
+        if kind == "PsqlCommand":
+            words = [] if not words or ENDS_QUERY.match(text[start:end]) else [*words, None]
+        elif kind == "Semi" and not (depth and words[:1] == ["create"] and "rule" in words[:4]):
+            if copies(words):
+                past = re.compile(r"[\r\n]|\Z").search(text, end).start()
+                rests.append(range(end, past))
+                for line in re.compile(r"[^\r\n]+").finditer(text, past):
+                    lines.append(line.span())
+                    if line[0] == "\\.":
+                        break
+                past = len(text) if not lines or text[slice(*lines[-1])] != "\\." else lines[-1][1]
+            words = []
+        else:
+            depth = max(depth + BRACKETS.get(kind, 0), 0)
+            words.append(None if depth or kind != "Ident" else text[start:end].lower())
+        depth = depth if words else 0
+    return lines, rests
+
+
 class Compared:
     """A text with its raw tokens, and what is left of it for the judge."""
 
@@ -103,16 +138,29 @@ class Compared:
         self.reasons = []
         # Problems for which there is no reason.
         self.unexplained = []
+        # In a block semicolons end nothing; such texts are left to the tests.
+        data, self.rests = ([], []) if "atomic" in text.lower() else lines_of_data(text, self.raw)
+        if "atomic" not in text.lower():
+            self._expect_commands(data)
         if len(text) > LONG and not text.isascii():
             self.left = [sign if sign.isascii() else "q" for sign in text]
             self.reasons.append("long texts, told with a q for each character beyond ASCII, since pglast is slow over these")
         self._blank_known()
+
+    def _expect_commands(self, data):
+        """Commands of psql are lines of data, by a second reading of the rule, or begin with a backslash."""
+        commands = [(start, end) for kind, start, end in self.raw if kind == "PsqlCommand"]
+        wanted = sorted({*data, *(place for place in commands if self.text[place[0]] == "\\")})
+        for place in set(commands) ^ set(wanted):
+            self.unexplained.append(f"{place[0]}..{place[1]} {self.text[slice(*place)][:40]!r} as data of COPY")
 
     def _blank_known(self):
         for at, (kind, start, end) in enumerate(self.raw):
             part = self.text[start:end]
             if kind == "PsqlCommand":
                 self.blank(at, "commands of psql")
+            elif kind != "Whitespace" and any(start in rest for rest in self.rests):
+                self.blank(at, "tokens behind COPY on its line, which are cut as if the text ended there")
             elif at == 0 and part == "\ufeff":
                 self.exchange(start, " ", "byte order marks, which psql skips")
             elif kind == "Whitespace" and "\v" in part:
