@@ -1,0 +1,135 @@
+-- The tree of a text, from what its sink was sent.
+use Rattle.std.proofs.Common.{◌≡◌, ◌∙◌, ℕ, List, [], ◌∷◌, ◌++◌, arith, ap, sym, refl, subst}
+use Rattle.std.specs.Prelude.{IsUtf8, MatchResult, Result, Ok, Err, encode_utf8_all}
+use Rattle.std.specs.Str.{chars}
+use Rattle.std.proofs.lemmas.List.Concat.{flat_map-append}
+use Rattle.std.proofs.lemmas.Str.{encodes-append, encodes-chars, encodes_same}
+use Rattle.squawk_tokens.proofs.StandApart.{stand_apart}
+use Rattle.squawk_output.specs.Draft.{Draft}
+use Rattle.squawk_output.specs.OneRoot.{StandsInOneRoot}
+use Rattle.squawk_output.specs.Steps.{Walk, without_errors}
+use Rattle.squawk_table.specs.ParserInput.{Entry}
+use Rattle.squawk_table.specs.RawTable.{IsTable, raw_tokens}
+use Rattle.squawk_table.specs.Sent.{sent_list, text_in, texts_of}
+use Rattle.squawk_table.specs.Shape.{Fits, no_keywords}
+use Rattle.squawk_table.specs.declared.shortcuts.str_step.OwnedStep.{OwnedStep}
+use Rattle.squawk_table.specs.declared.shortcuts.str_step.OwnedStep.TheVariants as step
+use Rattle.squawk_table.proofs.NoEnd.{AreKeywords}
+use Rattle.squawk_table.proofs.OverTable.{IsOver-keywords, length-keywords}
+use Rattle.squawk_table.proofs.TableLemmas.{IsTable-table_of}
+use Rattle.squawk_parser.specs.Pipeline.{Given, IsParsed, IsParsedInto, IsStopped, table_for}
+use Rattle.squawk_parser.specs.declared.pipeline.Sent.{Sent}
+use Rattle.squawk_tree.specs.Forest.{Forest, Nothing, Token, Node, Error, forest_steps}
+use Rattle.syntax_tree.specs.Drafts.{Growing, StandsAfter}
+use Rattle.syntax_tree.specs.Layout.{Laid, IsTree}
+use Rattle.syntax_tree.specs.Parsed.{IsParsedTo, IsParsedTree, RefusesOver, RefusesStep, StandsOver}
+use Rattle.syntax_tree.specs.Trees.{IsOneRoot, text_of}
+use Rattle.syntax_tree.specs.declared.builder.TreeRefusal.{TreeRefusal}
+use Rattle.syntax_tree.proofs.SentRoots.{Answers, answers, begins, errors_sent, root_of, sends}
+
+-- ---- a builder over a source
+
+pub begins_over : (growing : Growing) (text : List ℕ) → StandsAfter growing [] → growing.source ≡ text → StandsOver growing (step.Error text 0 ∷ [])
+begins_over growing text stands source = record { steps = []; is = ap (λ s. step.Error s 0 ∷ []) (sym source); stands = stands }
+
+pub takes_over : {X : Type 0} (old new : Growing) (next : OwnedStep) (result : Result X TreeRefusal) → new.source ≡ old.source
+    → ((steps : List OwnedStep) → StandsAfter old steps
+    → MatchResult result (λ _. StandsAfter new (steps ++ next ∷ [])) (λ answer. (new ≡ old) × RefusesStep old.source steps next answer))
+    → (list : List OwnedStep) → StandsOver old list
+    → MatchResult result (λ _. StandsOver new (list ++ next ∷ [])) (λ answer. StandsOver new list × RefusesOver list next answer)
+takes_over old new next (Ok x) source takes list over = record {
+  steps = over.steps ++ next ∷ [];
+  is = ap (λ l. l ++ next ∷ []) over.is ∙ ap (λ s. step.Error s 0 ∷ (over.steps ++ next ∷ [])) (sym source);
+  stands = takes over.steps over.stands;
+}
+takes_over old new next (Err answer) source takes list over =
+    let refused = takes over.steps over.stands in
+    (subst (λ g. StandsOver g list) (sym refused.0) over, record { source = old.source; steps = over.steps; is = over.is; refused = refused.1 })
+
+-- ---- texts
+
+texts-forest : (forest : Forest) → texts_of (forest_steps forest) ≡ text_of forest
+texts-forest Nothing = refl
+texts-forest (Token kind text others) = ap (λ l. text ++ l) (texts-forest others)
+texts-forest (Node kind inner others) =
+    flat_map-append text_in (forest_steps inner) (step.Exit ∷ forest_steps others)
+    ∙ (ap (λ l. l ++ texts_of (forest_steps others)) (texts-forest inner) ∙ ap (λ l. text_of inner ++ l) (texts-forest others))
+texts-forest (Error text pos others) = texts-forest others
+
+-- ---- the call
+
+module _ (g : Given) (leaves : List Entry → Draft → Type 0) (law : AreKeywords g.keyword) (utf8 : IsUtf8 g.text) where
+  module _ (output : Walk) (parsed : IsParsed g leaves output) (root : StandsInOneRoot (without_errors output.steps)) where
+    table : IsTable (table_for g)
+    table = IsTable-table_of g.keyword g.text g.tokens parsed.accepted law utf8 (stand_apart g.text g.tokens utf8 parsed.accepted)
+
+    fits : Fits (table_for g) output.steps
+    fits = record { root = root; over = IsOver-keywords g.contextual no_keywords output.steps (raw_tokens (table_for g)) parsed.parse.over }
+
+  module _ (old new : Growing) (stood : StandsOver old (step.Error g.text 0 ∷ [])) where
+    -- a refusal of the sink
+    pub stopped : (answer : TreeRefusal) → IsStopped g leaves (StandsOver old) (StandsOver new) RefusesOver answer → IsParsedTo g leaves (λ all. Answers all answer)
+    stopped answer s =
+        let t = table_for g in
+        let steps = s.output.steps in
+        let at = s.stops (step.Error g.text 0 ∷ []) stood in
+        let over = at.refused in
+        let is : step.Error g.text 0 ∷ at.front ≡ step.Error over.source 0 ∷ over.steps = over.is in
+        let source : over.source ≡ g.text = cc in
+        let front : over.steps ≡ at.front = cc in
+        let refused = subst (λ s. RefusesStep s at.front at.next answer) source (subst (λ l. RefusesStep over.source l at.next answer) front over.refused) in
+        let holds = table s.output s.parsed s.root in
+        let fit = fits s.output s.parsed s.root in
+        let few = s.parsed.errors_within in
+        record {
+          output = s.output;
+          parsed = s.parsed;
+          root = s.root;
+          passes = answers g.text utf8 s.parsed.accepted.short (sent_list t steps) (sends t holds steps fit) (begins t holds steps fit)
+              (omega (arith, errors_sent t holds steps fit, few)) at.front at.rest at.next answer at.is refused;
+        }
+
+    module _ (sent : Sent) (into : IsParsedInto g leaves (StandsOver old) (StandsOver new) sent) where
+      abbrev all : List OwnedStep
+      all = sent_list (table_for g) into.output.steps
+
+      stands : StandsAfter new all
+      stands =
+          let over = into.sending.stands (step.Error g.text 0 ∷ []) stood in
+          let is : step.Error g.text 0 ∷ all ≡ step.Error new.source 0 ∷ over.steps = over.is in
+          let steps : over.steps ≡ all = cc in
+          subst (StandsAfter new) steps over.stands
+
+      -- the builder has a tree
+      pub finishes : ((steps : List OwnedStep) (forest : Forest) → StandsAfter new steps → IsOneRoot forest → forest_steps forest ≡ steps → ⊥) → ⊥
+      finishes unfinished =
+          let tree = root_of (table_for g) (table into.output into.parsed into.root) into.output.steps (fits into.output into.parsed into.root) in
+          unfinished all tree.forest stands tree.one tree.walk
+
+      pub parsed_tree : (laid : Laid) → ((steps : List OwnedStep) → StandsAfter new steps → (forest : Forest) × IsTree laid forest × (forest_steps forest ≡ steps))
+          → IsParsedTree g leaves laid
+      parsed_tree laid finished =
+          let f = finished all stands in
+          let sending = into.sending in
+          let bytes : laid.text ≡ encode_utf8_all (texts_of all) = f.1.text ∙ ap encode_utf8_all (sym (texts-forest f.0) ∙ ap texts_of f.2) in
+          let source = encodes-chars g.text utf8 in
+          let same = length-keywords g.contextual no_keywords (raw_tokens (table_for g)) in
+          let rest = sending.beginning.0 in
+          record {
+            output = into.output;
+            parsed = into.parsed;
+            root = into.root;
+            tree = f.0;
+            is = f.1;
+            steps = f.2;
+            beginning = (
+              encode_utf8_all rest,
+              ap (λ l. l ++ encode_utf8_all rest) bytes ∙ (sym (encodes-append (texts_of all) rest) ∙ (ap encode_utf8_all sending.beginning.1 ∙ source)),
+            );
+            whole = (
+              λ e. sending.eaten_all.0 (sending.whole.1 (encodes_same (texts_of all) (chars g.text) (sym bytes ∙ (e ∙ sym source)))) ∙ sym same,
+              λ e. bytes ∙ (ap encode_utf8_all (sending.whole.0 (sending.eaten_all.1 (e ∙ same))) ∙ source),
+            );
+            placed = sending.placed;
+            trimmed = sending.trimmed;
+          }

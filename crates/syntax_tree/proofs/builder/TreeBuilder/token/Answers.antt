@@ -1,0 +1,77 @@
+use Rattle.std.proofs.Common.{◌∙◌, rules, arith, refl, sym, inl, inr, eqb-true}
+use Rattle.std.specs.Str.{chars}
+use Rattle.syntax_tree.specs.Refusals.{RefusesToken}
+use Rattle.syntax_tree.proofs.Drafts.{few_steps_taken, stood, is_part, not_found, IsGrowing-token, StandsAfter-token}
+use Rattle.syntax_tree.proofs.Refusals.{none_open, some_open, elements_taken, bytes_more, is_next, not_empty, follows, seen_next, next_seen, wants_memory}
+use Rattle.syntax_tree.proofs.builder.TreeBuilder.token.Goals as goal
+use Rattle.syntax_tree.proofs.builder.TreeBuilder.token.Goals.{then-is_empty-via-then-is_empty, then-is_empty-via-else-is_empty+then-not-starts_with, then-at-via-then-at, then-at-via-else-at+then-end}
+
+pub returns-then-self-clause-step : goal.returns-then-self-clause-step
+returns-then-self-clause-step c = λ steps stands.
+    (refl, none_open _ steps (stood _ _ c.self.view_is steps stands) c.self.invariant.few c.if-self.true)
+
+pub returns-then-is_empty-clause-step : goal.returns-then-is_empty-clause-step
+returns-then-is_empty-clause-step c = λ steps stands.
+    let before = stood _ _ c.self.view_is steps stands in (
+      refl,
+      (
+        some_open _ steps before c.if-self.false,
+        λ seen. let next = next_seen _ steps before _ (chars c.args.text.now) c.self.view_is seen in
+            elim c.then-is_empty.branch [
+              | then-is_empty-via-then-is_empty w ↦
+                  not_empty _ steps before c.args.text.now c.utf8.text (eqb-true _ _ (sym c.is_empty.ensures ∙ w.if-is_empty.true)) next
+              | then-is_empty-via-else-is_empty+then-not-starts_with w ↦
+                  let rest = follows _ steps before c.args.text.now c.utf8.text c.self.invariant.utf8 next in
+                  not_found c.self.inside.sent w.as_bytes.ensures.value w.as_bytes-else-is_empty.ensures.value w.starts_with.ensures.value
+                  w.if-not-starts_with.true rest.0 rest.1
+            ],
+      ),
+    )
+
+pub returns-then-at-clause-step : goal.returns-then-at-clause-step
+returns-then-at-clause-step c = λ steps stands.
+    let before = stood _ _ c.self.view_is steps stands in
+    let part = is_part c.self.inside.sent c.as_bytes.ensures.value c.as_bytes-else-is_empty.ensures.value c.starts_with.ensures.value
+    c.is_empty.ensures c.if-is_empty.false c.if-not-starts_with.false in
+    let next = is_next _ steps before c.args.text.now c.utf8.text part in (
+      refl,
+      (
+        some_open _ steps before c.if-self.false,
+        seen_next _ steps before _ (chars c.args.text.now) c.self.view_is next,
+        elim c.then-at.branch [
+          | then-at-via-then-at w ↦ inl (omega (arith, elements_taken _ steps before, c.len-at.ensures, w.if-at.true, c.self.inside.elements.ok))
+          | then-at-via-else-at+then-end w ↦ inr (omega (arith, bytes_more _ steps before c.args.text.now c.utf8.text, w.if-end.true))
+        ],
+      ),
+    )
+
+pub returns-in_err-reserve-clause-step : goal.returns-in_err-reserve-clause-step
+returns-in_err-reserve-clause-step c = λ steps stands.
+    let before = stood _ _ c.self.view_is steps stands in
+    let part = is_part c.self.inside.sent c.as_bytes.ensures.value c.as_bytes-else-is_empty.ensures.value c.starts_with.ensures.value
+    c.is_empty.ensures c.if-is_empty.false c.if-not-starts_with.false in
+    let next = is_next _ steps before c.args.text.now c.utf8.text part in
+    wants_memory c.from_residual.result _ _ (RefusesToken c.args.self.now.source steps (chars c.args.text.now))
+    c.from_residual.ensures.1 (search rules) (
+      some_open _ steps before c.if-self.false,
+      seen_next _ steps before _ (chars c.args.text.now) c.self.view_is next,
+      omega (arith, elements_taken _ steps before, c.len-at.ensures, c.if-at.false, c.self.inside.elements.ok),
+      omega (arith, bytes_more _ steps before c.args.text.now c.utf8.text, c.if-end.false),
+    )
+
+pub overflow_add-self : goal.overflow_add-self
+overflow_add-self c = omega (arith, few_steps_taken _ c.self.invariant)
+
+pub invariant_of-self-2 : goal.invariant_of-self-2
+invariant_of-self-2 c =
+    let part = is_part c.self.inside.sent c.as_bytes.ensures.value c.as_bytes-else-is_empty.ensures.value c.starts_with.ensures.value
+    c.is_empty.ensures c.if-is_empty.false c.if-not-starts_with.false in
+    IsGrowing-token _ c.args.kind c.args.text.now c.push_reserved.new.self.items (search rules) c.if-self.false c.utf8.text part
+    c.self.invariant (omega (arith, c.if-at.false, c.len-at.ensures, c.self.inside.elements.ok)) (omega (arith, c.if-end.false))
+
+pub returns-clause-step : goal.returns-clause-step
+returns-clause-step c = λ steps stands.
+    let part = is_part c.self.inside.sent c.as_bytes.ensures.value c.as_bytes-else-is_empty.ensures.value c.starts_with.ensures.value
+    c.is_empty.ensures c.if-is_empty.false c.if-not-starts_with.false in
+    StandsAfter-token _ c.args.kind c.args.text.now c.push_reserved.new.self.items (search rules) c.if-self.false c.utf8.text part
+    steps (stood _ _ c.self.view_is steps stands)

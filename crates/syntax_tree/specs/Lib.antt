@@ -1,0 +1,10 @@
+pub mod Trees
+pub mod Layout
+pub mod Drafts
+pub mod Refusals
+pub mod Views
+pub mod Offsets
+pub mod Walks
+pub mod Parsed
+pub mod ErrorLines
+pub mod Errors

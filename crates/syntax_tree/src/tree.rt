@@ -1,0 +1,48 @@
+//! A syntax tree.
+
+use crate::element::Element;
+use squawk_output::Text;
+use std::marker::Model;
+
+/// A syntax tree over a text that it borrows.
+///
+/// Its nodes and tokens are elements of one list, 20 bytes each.
+#[derive(Drop)]
+pub struct SyntaxTree<'s> {
+    pub(crate) text: &'s str,
+    pub(crate) elements: Vec<Element>,
+    pub(crate) errors: Vec<TreeError>,
+}
+
+impl<'s> Model for SyntaxTree<'s> {
+    ghost use Rattle.syntax_tree.specs.Layout.{Laid, HoldsTree};
+
+    ghost Value = { Laid };
+
+    ghost view = { λ t. record { text = t.text.now; elements = t.elements.items; errors = t.errors.items } };
+
+    ghost invariant = { λ t. HoldsTree (record { text = t.text.now; elements = t.elements.items; errors = t.errors.items }) };
+}
+
+/// An error of a tree.
+#[derive(Drop)]
+pub(crate) struct TreeError {
+    pub(crate) msg: Text,
+    /// How many bytes of the text stand before it.
+    pub(crate) pos: usize,
+    /// The place of the innermost node that it is in.
+    pub(crate) node: u32,
+    /// How many steps of the walk stand before it.
+    pub(crate) step: usize,
+}
+
+impl<'s> SyntaxTree<'s> {
+    ghost use Rattle.std.specs.Prelude.{◌≡◌};
+
+    /// The text of the tree: that of its tokens, joined.
+    pub fn text(&self) -> &'s str
+        ensures { result.now ≡ self.now.text }
+    {
+        self.text
+    }
+}
