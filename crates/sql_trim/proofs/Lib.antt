@@ -1,0 +1,2 @@
+pub mod Blanks
+pub mod Pieces
