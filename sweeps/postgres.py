@@ -95,26 +95,45 @@ def raw_tokens(text, lines):
 
 def copies(words):
     """Whether data follow a statement of these words, where None stands for what is in brackets."""
-    return words[:1] == ["copy"] and ("from", "stdin") in zip(words, words[1:])
+    return words[:1] == ["copy"] and any(pair in (("from", "stdin"), ("from", "stdout")) for pair in zip(words, words[1:]))
+
+
+def line_behind(text, start):
+    """Where the line ends, and where the next one starts."""
+    newline = text.find("\n", start)
+    newline = len(text) if newline < 0 else newline
+    return newline - text.endswith("\r", start, newline), newline + 1
+
+
+def data_behind(text, start, waiting):
+    """The lines of data for so many COPY statements, and where they end."""
+    lines = []
+    while waiting and start < len(text):
+        end, behind = line_behind(text, start)
+        if start < end:
+            lines.append((start, end))
+        waiting -= text[start:end] == "\\."
+        start = behind
+    return lines, start
 
 
 def lines_of_data(text, raw):
     """The lines of data of COPY, as places in the text, and what stands before them on the lines of COPY."""
-    lines, rests, words, depth, past = [], [], [], 0, 0
+    lines, rests, words, depth, past, waiting = [], [], [], 0, 0, 0
     for kind, start, end in raw:
+        if waiting and start >= rests[-1].stop and kind not in TRIVIA:
+            found, past = data_behind(text, line_behind(text, rests[-1].start)[1], waiting)
+            lines += found
+            words, depth, waiting = [], 0, 0
         if start < past or kind in TRIVIA:
             continue
         if kind == "PsqlCommand":
             words = [] if not words or ENDS_QUERY.match(text[start:end]) else [*words, None]
         elif kind == "Semi" and not (depth and words[:1] == ["create"] and "rule" in words[:4]):
             if copies(words):
-                past = re.compile(r"[\r\n]|\Z").search(text, end).start()
-                rests.append(range(end, past))
-                for line in re.compile(r"[^\r\n]+").finditer(text, past):
-                    lines.append(line.span())
-                    if line[0] == "\\.":
-                        break
-                past = len(text) if not lines or text[slice(*lines[-1])] != "\\." else lines[-1][1]
+                if not waiting:
+                    rests.append(range(end, line_behind(text, end)[0]))
+                waiting += 1
             words = []
         else:
             depth = max(depth + BRACKETS.get(kind, 0), 0)

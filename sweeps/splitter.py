@@ -89,6 +89,17 @@ class Cut:
             end = max(end, span[1])
         return [group for group in groups if group[0] != group[1]]
 
+    def cuts_in_parentheses(self, ours, start, end):
+        """Whether the program cuts this span, and each time at a semicolon behind a parenthesis that is open in it."""
+        depth, inside = 0, []
+        for token in self.compared.raw:
+            if start <= token.start < end:
+                depth = max(depth + {"OpenParen": 1, "CloseParen": -1}.get(token.kind, 0), 0)
+                if token.kind == "Semi" and depth:
+                    inside.append(token.start)
+        cuts = [range(one[1], other[0]) for one, other in zip(ours, ours[1:])]
+        return bool(cuts) and all(any(at in cut for at in inside) for cut in cuts)
+
     def reason(self, ours, theirs):
         """Why the judge's scanner may cut this otherwise, or None."""
         if not theirs:
@@ -96,8 +107,8 @@ class Cut:
             return "without a keyword, which its scanner leaves out" if all(word.kind == "NO_KEYWORD" for word in words) else None
         if len(ours) == 1 and ATOMIC.search(self.left, *ours[0]):
             return "with BEGIN ATOMIC, which its scanner cuts and its parser takes for one" if self.parsed(ours[0]) == 1 else None
-        if len(theirs) == 1 and self.parsed(theirs[0]) is None:
-            return "with semicolons in brackets, which its scanner takes for one and its parser refuses"
+        if len(theirs) == 1 and self.cuts_in_parentheses(ours, *theirs[0]) and self.parsed(theirs[0]) is None:
+            return "with semicolons in parentheses, which its scanner takes for one and its parser refuses"
         return None
 
 

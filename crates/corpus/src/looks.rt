@@ -14,9 +14,9 @@
 //! `stands LTEQ 2` says that the kind stands there and is two tokens long: it is seen under each limit
 //! from 2 on, and it doesn't stand at the second token.
 
+use crate::came::Seen;
 use crate::sections::Entry;
 use crate::trouble::{Trouble, malformed};
-use crate::wanted::Seen;
 use row_fixtures::kinds::{NO, YES, kind_named};
 use row_fixtures::lines::push_kind;
 use row_fixtures::looks::{Answering, Look, Question, ask};

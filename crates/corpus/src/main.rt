@@ -7,6 +7,7 @@
 #![tactic(auto)]
 
 mod answers;
+mod came;
 mod cuts;
 mod documents;
 mod given;

@@ -11,7 +11,7 @@ use Rattle.squawk_parser.specs.Whole.{IsWholeFile}
 use Rattle.sql_grammar.specs.Kinds.{SOURCE_FILE}
 use Rattle.sql_grammar.specs.Statements.{Statement, statements_of}
 
--- The node of a statement stands first: balanced steps that eat its tokens. What stands behind it is told of the others.
+-- The node of a statement stands first: balanced steps that eat its tokens. What stands behind is told of the others.
 pub record BeginsWith (statement : Statement) (are_others : List Step → Type 0) (steps : List Step) : Type 0 where
   pub inner : List Step
   pub others : List Step

@@ -60,7 +60,8 @@ open_behind Routine unclosed kind next = if unclosed == 0 then block_at kind nex
 
 -- ---- the end
 
--- A statement ends behind its first semicolon where nothing that holds semicolons is unclosed, or behind a command of psql that ends a query.
+-- A statement ends behind its first semicolon where nothing that holds semicolons is unclosed, or behind a command of
+-- psql that ends a query.
 abbrev pub ends_at : ℕ → ℕ → Bool
 ends_at unclosed kind = (kind == PSQL_TERMINATOR_TEXT) || ((kind == SEMICOLON) && (unclosed == 0))
 

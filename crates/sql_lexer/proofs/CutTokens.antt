@@ -1,19 +1,20 @@
 -- Tokens are cut one behind the other, and their list is accepted.
 use Rattle.std.proofs.Common.{◌≡◌, ◌∙◌, ℕ, zero, suc, ◌+◌, ◌-◌, ◌<◌, ◌≤◌, List, [], ◌∷◌, ◌++◌, length, take, drop, get_or, length-drop, zero-add, ⊎_elim, arith, ap, sym, refl, subst}
-use Rattle.std.specs.Prelude.{IsUtf8, IsCharBoundary}
+use Rattle.std.specs.Prelude.{IsUtf8, IsCharBoundary, Ok}
 use Rattle.std.specs.List.{HoldsAt}
 use Rattle.std.proofs.lemmas.Bool.{cases_lt}
-use Rattle.std.proofs.lemmas.List.{drop_all, drop-drop, append_assoc, append-nil}
+use Rattle.std.proofs.lemmas.List.{take_rest, drop_all, drop-drop, append_assoc, append-nil}
 use Rattle.std.proofs.lemmas.List.Sums.{sum_by-cons}
 use Rattle.std.proofs.lemmas.Str.{IsUtf8-drop, IsCharBoundary-from_rest}
 use Rattle.squawk_tokens.specs.declared.token.Token.{Token}
 use Rattle.squawk_tokens.specs.AcceptedTokens.{IsGoodToken, AreAcceptedTokens, start_of}
 use Rattle.squawk_tokens.specs.TokenRows.{MeetsKind}
+use Rattle.sql_lexer.specs.Pushes.{Pushes}
 use Rattle.sql_lexer.specs.Tokens.{tokens_by}
 use Rattle.sql_lexer.proofs.Fits.{Fits}
 
--- A way to cut: the token in front at a place, and the place behind it. A place may reach to a byte of the text, where a character
--- begins or the text ends; then the token in front fits.
+-- A way to cut: the token in front at a place, and the place behind it. A place may reach to a byte of the text, where
+-- a character begins or the text ends; then the token in front fits.
 pub record Cutter (P : Type 0) : Type 0 where
   pub token : P → List ℕ → Token
   pub next : P → List ℕ → P
@@ -168,3 +169,33 @@ pub cut_all : {P : Type 0} (cutter : Cutter P) (front : P) (text : List ℕ) (pl
     → HasCut cutter front text place at cut → length text ≤ at → cut ≡ cut_from cutter front text
 cut_all cutter front text place at cut has le =
     sym (append-nil cut) ∙ ap (λ rest. cut ++ cut_from cutter place rest) (sym (drop_all at text le)) ∙ has.tokens
+
+-- the token at a place stands behind them now, and the place goes on
+pub record HasStepped {P : Type 0} (cutter : Cutter P) (front : P) (text : List ℕ) (at : ℕ) (more : List Token) (found : Token) (next : P) : Type 0 where
+  pub some : 0 < found.len
+  pub within : at + found.len ≤ length text
+  pub has : HasCut cutter front text next (at + found.len) more
+
+-- what is left of a text from a place on, as a slice of it
+abbrev pub left_at : List ℕ → ℕ → List ℕ
+left_at text at = take (length text - at) (drop at text)
+
+pub stepped : {P : Type 0} (cutter : Cutter P) (front : P) (text : List ℕ) (place : P) (at : ℕ) (cut more : List Token) (found : Token) (next : P)
+    → HasCut cutter front text place at cut → at < length text
+    → Pushes cut (cutter.token place (left_at text at)) more (Ok found) → next ≡ cutter.next place (left_at text at)
+    → HasStepped cutter front text at more found next
+stepped cutter front text place at cut more found next has lt (grown, same) goes_on =
+    let rest = take_rest text at in
+    let token = cutter.token place (drop at text) in
+    let then = cutter.next place (drop at text) in
+    let good = (cut_at cutter place text at has.is lt).good in
+    let long : found.len ≡ token.len = ap (λ (t : Token). t.len) (same ∙ ap (cutter.token place) rest) in
+    let grew : more ≡ cut ++ token ∷ [] = grown ∙ ap (λ others. cut ++ cutter.token place others ∷ []) rest in
+    let later : next ≡ then = goes_on ∙ ap (cutter.next place) rest in
+    record {
+      some = omega (arith, good.nonempty, long);
+      within = omega (arith, good.boundary.0, long);
+      has = subst (λ n. HasCut cutter front text next (at + n) more) (sym long)
+          (subst (λ p. HasCut cutter front text p (at + token.len) more) (sym later)
+          (subst (HasCut cutter front text then (at + token.len)) (sym grew) (cut_one cutter front text place at cut has lt)));
+    }

@@ -1,23 +1,22 @@
 -- Lines and line ends of data fit, and so do byte order marks and tokens that are cut from a front.
-use Rattle.std.proofs.Common.{◌≡◌, ◌∙◌, ℕ, ◌+◌, ◌-◌, ◌<◌, ◌≤◌, not, true, List, [], ◌∷◌, length, take, drop, get_or, get_or-take, get_or-drop, length-drop, length-take, ⊎_elim, arith, ap, refl, sym, subst}
-use Rattle.std.specs.Prelude.{IsUtf8, IsCharBoundary}
-use Rattle.std.specs.List.{prefix_len}
-use Rattle.std.proofs.lemmas.Bool.{cases_lt, cond_both}
+use Rattle.std.proofs.Common.{◌≡◌, ◌∙◌, ℕ, ◌+◌, ◌-◌, ◌<◌, ◌≤◌, ◌==◌, not, true, false, List, [], ◌∷◌, length, take, drop, get_or, get_or-take, get_or-drop, length-drop, length-take, ⊎_elim, arith, ap, refl, sym, subst}
+use Rattle.std.specs.Prelude.{IsUtf8, IsCharBoundary, slice_index}
+use Rattle.std.proofs.lemmas.Bool.{cases_lt, cond_both, eqb-true}
 use Rattle.std.proofs.lemmas.Bool.Decides.{nat_tests}
 use Rattle.std.proofs.lemmas.List.{length-take-le, take-take}
+use Rattle.std.proofs.lemmas.List.Sums.{prefix_len-le-length, prefix_len_stops}
 use Rattle.std.proofs.lemmas.Str.{IsUtf8-take, IsCharBoundary-from_take}
 use Rattle.squawk_tokens.specs.declared.token.TokenKind.TheVariants.{PsqlCommand, Whitespace}
 use Rattle.squawk_tokens.specs.TokenRows.{MeetsKind}
-use Rattle.sql_lexer.specs.Bytes.{is_line_end}
-use Rattle.sql_lexer.specs.Rules.{first, token}
-use Rattle.sql_lexer.specs.Scripts.{data_token, ends_data, has_mark, line_len}
+use Rattle.sql_lexer.specs.Rules.{begins, first, token}
+use Rattle.sql_lexer.specs.Scripts.{data_token, ends_data, has_mark, line_end_len, line_len, newline_at}
 use Rattle.sql_lexer.specs.Tokens.{first_token}
-use Rattle.sql_lexer.proofs.Boundaries.{after_front, before_lead, run_bytes}
+use Rattle.sql_lexer.proofs.Boundaries.{IsLead, after_ascii, before_lead}
 use Rattle.sql_lexer.proofs.FirstFits.{first_token_fits}
 use Rattle.sql_lexer.proofs.Fits.{Fits}
+use Rattle.sql_lexer.proofs.FoundEnds.{front_ends}
 use lib.Pointwise.{bytes_decides}
 use lib.Utf8.{encode}
-use Rattle.sql_lexer.proofs.RunsFit.{line_ends_lead, line_fits, run_takes}
 
 -- ---- a token of a front
 
@@ -66,22 +65,53 @@ boundary_behind text n k end le =
 
 -- ---- data
 
-line_ends_are_ascii : (b : ℕ) → is_line_end b ≡ true → b < 128
-line_ends_are_ascii b e = grind (arith, nat_tests)
+-- a line ends at a newline, with which no character goes on
+newline_leads : (b : ℕ) → not (b == 10) ≡ false → IsLead b
+newline_leads b e = λ high. grind (arith, nat_tests)
+
+-- a character ends before a carriage return
+before_return : (text : List ℕ) (n : ℕ) → n ≤ length text → slice_index text n ≡ 13 → IsCharBoundary text n
+before_return text n within same = (within, λ lt high. absurd (omega (arith, same, high)))
+
+pub line_ends_well : (text : List ℕ) → IsCharBoundary text (line_len text)
+line_ends_well text =
+    let n = newline_at text in
+    let within = prefix_len-le-length (λ b. not (b == 10)) text in
+    cond_both (slice_index text (n - 1) == 13) (n - 1) n (IsCharBoundary text)
+    (λ e. before_return text (n - 1) (omega (arith, within)) (eqb-true (slice_index text (n - 1)) 13 e))
+    (λ e. before_lead (λ b. not (b == 10)) text newline_leads)
+
+newline_is_ascii : (b : ℕ) → not (b == 10) ≡ false → b < 128
+newline_is_ascii b e = grind (arith, nat_tests)
+
+-- behind a line a newline or a carriage return stands
+line_end_is_ascii : (text : List ℕ) → 0 < length text → line_len text ≡ 0 → first text < 128
+line_end_is_ascii text some ends =
+    let n = newline_at text in
+    cond_both (slice_index text (n - 1) == 13) (n - 1) n (λ m. m ≡ 0 → first text < 128)
+    (λ e none.
+    let same : slice_index text 0 ≡ 13 = subst (λ i. slice_index text i ≡ 13) none (eqb-true (slice_index text (n - 1)) 13 e) in
+    omega (arith, same))
+    (λ e none.
+    let stops = prefix_len_stops (λ b. not (b == 10)) text 0 (omega (arith, none, some)) in
+    subst (λ i. slice_index text i < 128) none (newline_is_ascii (get_or text n 0) stops))
+    ends
+
+line_end_fits : (text : List ℕ) → IsUtf8 text → 0 < length text → line_len text ≡ 0 → Fits text (token Whitespace (line_end_len text))
+line_end_fits text utf8 some ends =
+    let both : List ℕ = 13 ∷ 10 ∷ [] in
+    cond_both (begins text both) 2 1 (λ n. Fits text (token Whitespace n))
+    (λ e.
+    let front = front_ends 10 text both e (record { some = omega arith; within = omega arith; last = refl }) in
+    record { nonempty = omega arith; boundary = after_ascii text 2 utf8 (omega arith) front.within (omega (arith, front.last)); kind = tt })
+    (λ e. record { nonempty = omega arith; boundary = after_ascii text 1 utf8 (omega arith) (omega arith) (line_end_is_ascii text some ends); kind = tt })
 
 pub data_fits : (text : List ℕ) → IsUtf8 text → 0 < length text → Fits text (data_token text)
 data_fits text utf8 some =
-    let ends = prefix_len is_line_end text in
-    cond_both (is_line_end (first text)) (token Whitespace ends) (token (PsqlCommand (ends_data text)) (line_len text)) (Fits text)
-    (λ e. record {
-      nonempty = run_takes is_line_end text some e;
-      boundary = after_front text ends ends utf8 (run_bytes is_line_end text line_ends_are_ascii) (omega arith);
-      kind = tt;
-    })
-    (λ e. line_fits (PsqlCommand (ends_data text)) text (λ front. tt) some (ap not e))
-
-pub line_ends_well : (text : List ℕ) → IsCharBoundary text (line_len text)
-line_ends_well text = before_lead (λ b. not (is_line_end b)) text line_ends_lead
+    let n = line_len text in
+    cond_both (n == 0) (token Whitespace (line_end_len text)) (token (PsqlCommand (ends_data text)) n) (Fits text)
+    (λ e. line_end_fits text utf8 some (eqb-true n 0 e))
+    (λ e. record { nonempty = grind (arith, nat_tests); boundary = line_ends_well text; kind = tt })
 
 -- ---- a byte order mark
 

@@ -18,7 +18,7 @@ use Rattle.sql_lexer.proofs.FoundEnds.{front_ends}
 use Rattle.sql_lexer.proofs.Fits.{Fits, RuleFits, when_fits}
 
 -- a run takes its first byte
-pub run_takes : (passes : ℕ → Bool) (text : List ℕ) → 0 < length text → passes (first text) ≡ true → 0 < prefix_len passes text
+run_takes : (passes : ℕ → Bool) (text : List ℕ) → 0 < length text → passes (first text) ≡ true → 0 < prefix_len passes text
 run_takes passes [] some e = absurd (omega arith)
 run_takes passes (b ∷ rest) some e = rw e (omega arith)
 
@@ -59,10 +59,10 @@ identifier_fits text = when_fits text (is_name_start (first text)) (token Ident 
 
 -- ---- up to the end of the line
 
-pub line_ends_lead : (b : ℕ) → not (is_line_end b) ≡ false → IsLead b
+line_ends_lead : (b : ℕ) → not (is_line_end b) ≡ false → IsLead b
 line_ends_lead b e = λ high. grind (arith, nat_tests)
 
-pub line_fits : (kind : TokenKind) (text : List ℕ) → ((front : List ℕ) → MeetsKind front kind) → 0 < length text → not (is_line_end (first text)) ≡ true
+line_fits : (kind : TokenKind) (text : List ℕ) → ((front : List ℕ) → MeetsKind front kind) → 0 < length text → not (is_line_end (first text)) ≡ true
     → Fits text (token kind (position_or_len is_line_end text))
 line_fits kind text meets some e =
     let others = λ (b : ℕ). not (is_line_end b) in

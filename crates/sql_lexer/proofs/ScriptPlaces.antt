@@ -1,5 +1,5 @@
 -- Places of scripts: what stands there fits, and nothing is counted past the text.
-use Rattle.std.proofs.Common.{◌≡◌, ◌∙◌, ℕ, ◌+◌, ◌-◌, ◌<◌, ◌≤◌, ◌==◌, true, false, Bool, List, length, take, drop, arith, ap, refl, sym, [], ◌∷◌, subst}
+use Rattle.std.proofs.Common.{◌≡◌, ◌∙◌, ℕ, zero, suc, ◌+◌, ◌-◌, ◌<◌, ◌≤◌, ◌==◌, true, false, Bool, List, length, take, drop, arith, ap, refl, sym, [], ◌∷◌, subst}
 use Rattle.std.specs.List.{list_all}
 use Rattle.std.specs.Str.{str_eq_ignore_ascii_case}
 use Rattle.std.specs.Prelude.{IsUtf8, IsCharBoundary, if◌then◌else◌}
@@ -19,7 +19,7 @@ use Rattle.sql_lexer.specs.Rules.{token}
 use Rattle.sql_lexer.specs.ScriptStatements.{begun_by, blocks_behind, block_at, brackets_behind, created_by, creating, data_follow, ends_at, goes_on, replaced_by, routine_behind, statement_behind, unclosed_in}
 use Rattle.sql_lexer.specs.ScriptWords.{names, word_in, word_of}
 use Rattle.sql_lexer.specs.ScriptPlaces.{may_end}
-use Rattle.sql_lexer.specs.Scripts.{data_token, ends_data, has_mark, line_len, place_before, place_behind, place_in, token_at, token_before, place_with}
+use Rattle.sql_lexer.specs.Scripts.{data_of, data_token, ends_data, has_mark, line_len, place_before, place_behind, place_in, place_in_data, place_on_line, place_with, token_at, token_before, waiting_behind}
 use Rattle.sql_lexer.specs.Tokens.{first_token}
 use Rattle.sql_lexer.proofs.CutTokens.{Cutter}
 use Rattle.sql_lexer.proofs.FirstFits.{first_token_fits}
@@ -89,25 +89,64 @@ most_behind statement word =
 abbrev pub unclosed_at : Place → ℕ
 unclosed_at Front = 0
 unclosed_at (Sql statement) = unclosed_in statement
-unclosed_at (Data behind) = 0
+unclosed_at (Data left statement waiting) = unclosed_in statement
 
 most_in : (statement : Statement) (text : List ℕ) → unclosed_at (place_in statement text) ≤ unclosed_in statement + 1
 most_in statement text =
     let found = first_token text in
     let word = word_of found.kind (take found.len text) in
-    cond_both (data_follow statement word) (Data (line_len (drop found.len text))) (Sql (statement_behind statement word)) (λ p. unclosed_at p ≤ unclosed_in statement + 1)
+    cond_both (data_follow statement word) (Data (line_len (drop found.len text)) Start 0) (Sql (statement_behind statement word)) (λ p. unclosed_at p ≤ unclosed_in statement + 1)
     (λ e. omega arith)
     (λ e. most_behind statement word)
+
+most_in_data : (waiting : ℕ) (text : List ℕ) → unclosed_at (place_in_data waiting text) ≤ 0
+most_in_data zero text = cond_both (ends_data text) (Sql Start) (data_of zero) (λ p. unclosed_at p ≤ 0) (λ e. omega arith) (λ e. omega arith)
+most_in_data (suc waiting) text =
+    cond_both (ends_data text) (data_of waiting) (data_of (suc waiting)) (λ p. unclosed_at p ≤ 0) (λ e. omega arith) (λ e. omega arith)
 
 pub most_at : (place : Place) (text : List ℕ) → unclosed_at (place_behind place text) ≤ unclosed_at place + 1
 most_at Front text =
     cond_both (has_mark text) (Sql Start) (place_in Start text) (λ p. unclosed_at p ≤ 1) (λ e. omega arith) (λ e. most_in Start text)
 most_at (Sql statement) text = most_in statement text
-most_at (Data behind) text =
-    let ended = if ends_data text then Sql Start else Data 0 in
-    cond_both (behind == 0) ended (Data (behind - (first_token (take behind text)).len)) (λ p. unclosed_at p ≤ 1)
-    (λ e. cond_both (ends_data text) (Sql Start) (Data 0) (λ p. unclosed_at p ≤ 1) (λ f. omega arith) (λ f. omega arith))
+most_at (Data left statement waiting) text =
+    let found = first_token (take left text) in
+    cond_both (left == 0) (place_in_data waiting text) (place_on_line left statement waiting text found) (λ p. unclosed_at p ≤ unclosed_in statement + 1)
+    (λ e. omega (arith, most_in_data waiting text))
+    (λ e. most_behind statement (word_of found.kind (take found.len text)))
+
+-- ---- what waits
+
+abbrev pub waiting_at : Place → ℕ
+waiting_at Front = 0
+waiting_at (Sql statement) = 0
+waiting_at (Data left statement waiting) = waiting
+
+waits_in : (statement : Statement) (text : List ℕ) → waiting_at (place_in statement text) ≤ 0
+waits_in statement text =
+    let found = first_token text in
+    let word = word_of found.kind (take found.len text) in
+    cond_both (data_follow statement word) (Data (line_len (drop found.len text)) Start 0) (Sql (statement_behind statement word)) (λ p. waiting_at p ≤ 0)
     (λ e. omega arith)
+    (λ e. omega arith)
+
+waits_in_data : (waiting : ℕ) (text : List ℕ) → waiting_at (place_in_data waiting text) ≤ waiting
+waits_in_data zero text = cond_both (ends_data text) (Sql Start) (data_of zero) (λ p. waiting_at p ≤ 0) (λ e. omega arith) (λ e. omega arith)
+waits_in_data (suc waiting) text =
+    cond_both (ends_data text) (data_of waiting) (data_of (suc waiting)) (λ p. waiting_at p ≤ suc waiting) (λ e. omega arith) (λ e. omega arith)
+
+waits_on_line : (waiting : ℕ) (statement : Statement) (word : Word) → waiting_behind waiting statement word ≤ waiting + 1
+waits_on_line waiting statement word =
+    cond_both (data_follow statement word) (waiting + 1) waiting (λ n. n ≤ waiting + 1) (λ e. omega arith) (λ e. omega arith)
+
+pub waits_at : (place : Place) (text : List ℕ) → waiting_at (place_behind place text) ≤ waiting_at place + 1
+waits_at Front text =
+    cond_both (has_mark text) (Sql Start) (place_in Start text) (λ p. waiting_at p ≤ 1) (λ e. omega arith) (λ e. omega (arith, waits_in Start text))
+waits_at (Sql statement) text = omega (arith, waits_in statement text)
+waits_at (Data left statement waiting) text =
+    let found = first_token (take left text) in
+    cond_both (left == 0) (place_in_data waiting text) (place_on_line left statement waiting text found) (λ p. waiting_at p ≤ waiting + 1)
+    (λ e. omega (arith, waits_in_data waiting text))
+    (λ e. waits_on_line waiting statement (word_of found.kind (take found.len text)))
 
 -- ---- what stands there
 
@@ -115,7 +154,7 @@ most_at (Data behind) text =
 abbrev pub reach_of : Place → ℕ
 reach_of Front = 0
 reach_of (Sql statement) = 0
-reach_of (Data behind) = behind
+reach_of (Data left statement waiting) = left
 
 -- a token fits, and the place behind it reaches to the beginning of a character
 pub record Goes (text : List ℕ) (found : Token) (next : Place) : Type 0 where
@@ -132,7 +171,7 @@ goes_in statement text utf8 some =
     let rest = drop found.len text in
     let word = word_of found.kind (take found.len text) in
     goes_to text found (place_in statement text) utf8 (first_token_fits text utf8 some) (λ utf.
-    cond_both (data_follow statement word) (Data (line_len rest)) (Sql (statement_behind statement word)) (λ p. IsCharBoundary rest (reach_of p))
+    cond_both (data_follow statement word) (Data (line_len rest) Start 0) (Sql (statement_behind statement word)) (λ p. IsCharBoundary rest (reach_of p))
     (λ e. line_ends_well rest)
     (λ e. IsCharBoundary-start rest utf))
 
@@ -141,6 +180,12 @@ goes_by : (b : Bool) (text : List ℕ) (found other : Token) (next later : Place
 goes_by true text found other next later goes_first goes_second = goes_first refl
 goes_by false text found other next later goes_first goes_second = goes_second refl
 
+-- data begin where they are
+reaches_in_data : (waiting : ℕ) (text : List ℕ) → reach_of (place_in_data waiting text) ≡ 0
+reaches_in_data zero text = cond_both (ends_data text) (Sql Start) (data_of zero) (λ p. reach_of p ≡ 0) (λ e. refl) (λ e. refl)
+reaches_in_data (suc waiting) text =
+    cond_both (ends_data text) (data_of waiting) (data_of (suc waiting)) (λ p. reach_of p ≡ 0) (λ e. refl) (λ e. refl)
+
 pub goes : (place : Place) (text : List ℕ) → IsUtf8 text → IsCharBoundary text (reach_of place) → 0 < length text
     → Goes text (token_at place text) (place_behind place text)
 goes Front text utf8 reach some =
@@ -148,18 +193,17 @@ goes Front text utf8 reach some =
     (λ e. goes_to text (token Whitespace 3) (Sql Start) utf8 (mark_fits text utf8 e) (λ utf. IsCharBoundary-start (drop 3 text) utf))
     (λ e. goes_in Start text utf8 some)
 goes (Sql statement) text utf8 reach some = goes_in statement text utf8 some
-goes (Data behind) text utf8 reach some =
+goes (Data left statement waiting) text utf8 reach some =
     let line = data_token text in
-    let found = first_token (take behind text) in
-    let ended = if ends_data text then Sql Start else Data 0 in
-    goes_by (behind == 0) text line found ended (Data (behind - found.len))
-    (λ e. goes_to text line ended utf8 (data_fits text utf8 some) (λ utf.
-    let start = IsCharBoundary-start (drop line.len text) utf in
-    cond_both (ends_data text) (Sql Start) (Data 0) (λ p. IsCharBoundary (drop line.len text) (reach_of p)) (λ f. start) (λ f. start)))
+    let found = first_token (take left text) in
+    let next = place_in_data waiting text in
+    goes_by (left == 0) text line found next (place_on_line left statement waiting text found)
+    (λ e. goes_to text line next utf8 (data_fits text utf8 some) (λ utf.
+    subst (IsCharBoundary (drop line.len text)) (sym (reaches_in_data waiting text)) (IsCharBoundary-start (drop line.len text) utf)))
     (λ e.
-    let some_left : 0 < behind = grind (arith, nat_tests) in
-    let fits = front_fits text behind utf8 reach some_left in
-    record { fits = fits; reaches = boundary_behind text behind found.len reach (front_within text behind utf8 reach some_left) })
+    let some_left : 0 < left = grind (arith, nat_tests) in
+    let fits = front_fits text left utf8 reach some_left in
+    record { fits = fits; reaches = boundary_behind text left found.len reach (front_within text left utf8 reach some_left) })
 
 abbrev pub script : Cutter Place
 script = record {
@@ -172,18 +216,26 @@ script = record {
 
 -- ---- the line of COPY
 
-is_left : (behind : ℕ) → 0 < behind → (behind == 0) ≡ false
-is_left behind some = grind (arith, nat_tests)
+is_left : (left : ℕ) → 0 < left → (left == 0) ≡ false
+is_left left some = grind (arith, nat_tests)
 
-pub token_on_line : (behind : ℕ) (text : List ℕ) → 0 < behind → first_token (take behind text) ≡ token_before behind text
-token_on_line behind text some = sym (cond-false (behind == 0) (data_token text) (first_token (take behind text)) (is_left behind some))
+pub token_on_line : (left : ℕ) (text : List ℕ) → 0 < left → first_token (take left text) ≡ token_before left text
+token_on_line left text some = sym (cond-false (left == 0) (data_token text) (first_token (take left text)) (is_left left some))
 
-pub place_on_line : (behind : ℕ) (text : List ℕ) (found : Token) → 0 < behind → found ≡ first_token (take behind text)
-    → Data (behind - found.len) ≡ place_before behind text
-place_on_line behind text found some same =
-    let left = Data (behind - (first_token (take behind text)).len) in
-    let ended = if ends_data text then Sql Start else Data 0 in
-    ap (λ (t : Token). Data (behind - t.len)) same ∙ sym (cond-false (behind == 0) ended left (is_left behind some))
+-- the place by the token's word
+pub on_line : (left : ℕ) (statement : Statement) (waiting : ℕ) (text : List ℕ) (found : Token) {word : Word} {next : Statement} {more : ℕ}
+    → word ≡ word_of found.kind (take found.len text) → next ≡ statement_behind statement word → more ≡ waiting_behind waiting statement word
+    → Data (left - found.len) next more ≡ place_on_line left statement waiting text found
+on_line left statement waiting text found {word} {next} {more} is goes waits =
+    ap (λ s. Data (left - found.len) s more) goes
+    ∙ (ap (λ n. Data (left - found.len) (statement_behind statement word) n) waits
+    ∙ ap (λ w. Data (left - found.len) (statement_behind statement w) (waiting_behind waiting statement w)) is)
+
+pub next_on_line : (left : ℕ) (statement : Statement) (waiting : ℕ) (text : List ℕ) (found : Token) → 0 < left → found ≡ first_token (take left text)
+    → place_on_line left statement waiting text found ≡ place_before left statement waiting text
+next_on_line left statement waiting text found some same =
+    ap (place_on_line left statement waiting text) same
+    ∙ sym (cond-false (left == 0) (place_in_data waiting text) (place_on_line left statement waiting text (first_token (take left text))) (is_left left some))
 
 -- ---- a plain statement
 

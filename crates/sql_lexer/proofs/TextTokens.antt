@@ -1,17 +1,16 @@
 -- The tokens of a text: each is the first token of what is left.
-use Rattle.std.proofs.Common.{◌≡◌, ◌∙◌, ℕ, zero, suc, ◌+◌, ◌-◌, ◌<◌, ◌≤◌, List, [], ◌∷◌, ◌++◌, length, take, drop, arith, ap, sym, refl, subst}
+use Rattle.std.proofs.Common.{◌≡◌, ◌∙◌, ℕ, zero, suc, ◌-◌, ◌<◌, ◌≤◌, List, [], ◌∷◌, length, drop, ap, refl, subst}
 use Rattle.std.specs.Prelude.{IsUtf8, Ok}
-use Rattle.std.proofs.lemmas.List.{take_rest}
 use Rattle.std.proofs.lemmas.Str.{IsUtf8-drop, IsCharBoundary-start}
 use Rattle.squawk_tokens.specs.declared.token.Token.{Token}
 use Rattle.squawk_tokens.specs.AcceptedTokens.{AreAcceptedTokens}
 use Rattle.sql_lexer.specs.Pushes.{Pushes}
 use Rattle.sql_lexer.specs.Tokens.{first_token, tokens_behind, tokens_by, tokens_of}
-use Rattle.sql_lexer.proofs.CutTokens.{Cutter, HasCut, IsAt, accepted_from, cut_all, cut_at, cut_none, cut_one}
+use Rattle.sql_lexer.proofs.CutTokens.{Cutter, HasCut, HasStepped, IsAt, accepted_from, cut_all, cut_none, left_at, stepped}
 use Rattle.sql_lexer.proofs.FirstFits.{first_token_fits}
 
 -- every place is the same
-abbrev plain : Cutter (Unit {0})
+abbrev pub plain : Cutter (Unit {0})
 plain = record {
   token = λ place text. first_token text;
   next = λ place text. place;
@@ -45,37 +44,6 @@ pub has_cut_all : (text : List ℕ) (at : ℕ) (cut : List Token) → HasCutText
 has_cut_all text at cut has le = cut_all plain tt text tt at cut has le ∙ same_tokens 0 text
 
 -- the token at a place stands behind them now
-abbrev pub HasPushed : List ℕ → ℕ → List Token → List Token → Token → Type 0
-HasPushed text at cut more found = Pushes cut (first_token (take (length text - at) (drop at text))) more (Ok found)
-
--- the token's length, and the tokens behind it
-record Pushed (text : List ℕ) (at : ℕ) (more : List Token) (len : ℕ) : Type 0 where
-  some : 0 < len
-  within : at + len ≤ length text
-  next : HasCutText text (at + len) more
-
-pushed : (text : List ℕ) (at : ℕ) (cut more : List Token) (found : Token) → HasCutText text at cut → at < length text → HasPushed text at cut more found
-    → Pushed text at more found.len
-pushed text at cut more found has lt (grown, long) =
-    let rest = take_rest text at in
-    let token = first_token (drop at text) in
-    let good = (cut_at plain tt text at has.is lt).good in
-    let same : found.len ≡ token.len = ap (λ (t : Token). t.len) (long ∙ ap first_token rest) in
-    record {
-      some = omega (arith, good.nonempty, same);
-      within = omega (arith, good.boundary.0, same);
-      next = subst (λ n. HasCutText text (at + n) more) (sym same)
-          (subst (HasCutText text (at + token.len)) (sym (grown ∙ ap (λ others. cut ++ first_token others ∷ []) rest)) (cut_one plain tt text tt at cut has lt));
-    }
-
-pub cut_some : (text : List ℕ) (at : ℕ) (cut more : List Token) (found : Token) → HasCutText text at cut → at < length text → HasPushed text at cut more found
-    → 0 < found.len
-cut_some text at cut more found has lt push = (pushed text at cut more found has lt push).some
-
-pub cut_within : (text : List ℕ) (at : ℕ) (cut more : List Token) (found : Token) → HasCutText text at cut → at < length text → HasPushed text at cut more found
-    → at + found.len ≤ length text
-cut_within text at cut more found has lt push = (pushed text at cut more found has lt push).within
-
-pub has_cut_one : (text : List ℕ) (at : ℕ) (cut more : List Token) (found : Token) → HasCutText text at cut → at < length text → HasPushed text at cut more found
-    → HasCutText text (at + found.len) more
-has_cut_one text at cut more found has lt push = (pushed text at cut more found has lt push).next
+pub text_stepped : (text : List ℕ) (at : ℕ) (cut more : List Token) (found : Token) → HasCutText text at cut → at < length text
+    → Pushes cut (first_token (left_at text at)) more (Ok found) → HasStepped plain tt text at more found tt
+text_stepped text at cut more found has lt push = stepped plain tt text tt at cut more found tt has lt push refl

@@ -19,8 +19,8 @@ opens b c = (b == 47) && (c == 42)
 abbrev pub closes : ℕ → ℕ → Bool
 closes b c = (b == 42) && (c == 47)
 
--- Where a comment ends, from a place inside of it that lies in so many outer comments, too: `/*` opens an inner comment, and `*/`
--- closes the innermost.
+-- Where a comment ends, from a place inside of it that lies in so many outer comments, too: `/*` opens an inner
+-- comment, and `*/` closes the innermost.
 abbrev pub comment_end : ℕ → List ℕ → Option ℕ
 comment_end outer [] = None
 comment_end outer (b ∷ []) = None

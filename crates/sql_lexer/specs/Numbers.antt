@@ -1,5 +1,5 @@
--- Numeric constants (PostgreSQL's documentation, 4.1.2.6) and positional parameters (4.2.2). Junk is an identifier that stands
--- right behind one.
+-- Numeric constants (PostgreSQL's documentation, 4.1.2.6) and positional parameters (4.2.2). Junk is an identifier that
+-- stands right behind one.
 use Rattle.std.specs.Prelude.{ℕ, ◌+◌, ◌==◌, ◌&&◌, ◌||◌, not, Bool, false, Option, Some, None, List, [], ◌∷◌, drop, nat_lt, slice_index, if◌then◌else◌}
 use Rattle.std.specs.Char.{is_ascii_digit, is_ascii_hexdigit, to_ascii_lowercase}
 use Rattle.std.specs.List.{prefix_len}

@@ -26,8 +26,8 @@ begins text front = starts_with nat_eq text front
 abbrev pub past : ℕ → Option ℕ → Option ℕ
 past n found = option_map (λ m. n + m) found
 
--- A token whose end is looked for behind its first n bytes. Where there is none, the token isn't terminated: it has all of
--- the text.
+-- A token whose end is looked for behind its first n bytes. Where there is none, the token isn't terminated: it has all
+-- of the text.
 abbrev pub closed_at : (Bool → TokenKind) → ℕ → List ℕ → Option ℕ → Token
 closed_at kind n text (Some m) = token (kind true) (n + m)
 closed_at kind n text None = token (kind false) (length text)

@@ -1,11 +1,10 @@
--- Steps from place to place of a script. Only private functions speak of them.
-use Rattle.std.specs.Prelude.{◌≡◌, ℕ, Bool, true, false, ◌+◌, ◌<◌, ◌^◌, List, [], ◌∷◌, ◌++◌, Result, Ok, Err, IsCharBoundary}
-use Rattle.std.specs.declared.alloc.AllocError.{AllocError}
-use Rattle.squawk_tokens.specs.declared.token.Token.{Token}
+-- What is known at a place of a script. Only private functions speak of it.
+use Rattle.std.specs.Prelude.{ℕ, Bool, true, false, ◌+◌, ◌<◌, ◌^◌, List, length, IsUtf8, IsCharBoundary}
 use Rattle.squawk_tokens.specs.declared.token.TokenKind.{TokenKind}
 use Rattle.squawk_tokens.specs.declared.token.TokenKind.TheVariants.{PsqlCommand, Semi}
 use Rattle.sql_lexer.specs.declared.script.places.Place.{Place}
 use Rattle.sql_lexer.specs.declared.script.places.Place.TheVariants.{Front, Sql, Data}
+use Rattle.sql_lexer.specs.declared.script.statements.Statement.{Statement}
 use Rattle.sql_lexer.specs.ScriptStatements.{unclosed_in}
 
 -- in a plain statement only these may end it
@@ -14,18 +13,20 @@ may_end Semi = true
 may_end (PsqlCommand ends_query) = true
 may_end kind = false
 
--- the counts of a place have room for one more, and the line of COPY is one of the text
+-- what is left of a text is text, and a token
+pub record IsRest (text : List ℕ) : Type 0 where
+  pub some : 0 < length text
+  pub short : length text < 2 ^ 32
+  pub utf8 : IsUtf8 text
+
+-- the line of COPY is one of the text, and the counts have room for one more
+pub record HasLine (left : ℕ) (statement : Statement) (waiting : ℕ) (text : List ℕ) : Type 0 where
+  pub boundary : IsCharBoundary text left
+  pub unclosed : unclosed_in statement + 1 < 2 ^ 64
+  pub waits : waiting + 1 < 2 ^ 64
+
+-- the same at any place
 abbrev pub HasRoom : Place → List ℕ → Type 0
 HasRoom Front text = Unit {0}
 HasRoom (Sql statement) text = unclosed_in statement + 1 < 2 ^ 64
-HasRoom (Data behind) text = IsCharBoundary text behind
-
--- the token stands behind the list, and it and the place behind it are answered
-abbrev pub Moves : List Token → Token → List Token → Place → Result (Token × Place) AllocError → Type 0
-Moves old token new place (Ok moved) = (new ≡ old ++ token ∷ []) × (moved.0 ≡ token) × (moved.1 ≡ place)
-Moves old token new place (Err error) = Unit {0}
-
--- the same, where the place goes on
-abbrev pub GoesOn : List Token → Token → List Token → Place → Place → Result Token AllocError → Type 0
-GoesOn old token new behind next (Ok found) = (new ≡ old ++ token ∷ []) × (found ≡ token) × (next ≡ behind)
-GoesOn old token new behind next (Err error) = Unit {0}
+HasRoom (Data left statement waiting) text = HasLine left statement waiting text

@@ -1,4 +1,4 @@
--- Where statements end, and which of them data follow. What may hold semicolons is what it is to a grammar of SQL.
+-- Where statements end, and which of them data follow. It should be where `sql_grammar` ends them; that isn't proved.
 use Rattle.std.specs.Prelude.{ℕ, ◌+◌, ◌-◌, ◌==◌, Bool, true, false, if◌then◌else◌}
 use Rattle.sql_lexer.specs.declared.script.words.Word.{Word}
 use Rattle.sql_lexer.specs.declared.script.words.Word.TheVariants.{Trivia, Semicolon, QueryEnd, Command, Open, Close, Copy, From, Stdin, Create, Or, Replace, Function, Procedure, Rule, Begin, Atomic, Case, End}
@@ -36,7 +36,7 @@ is_begin word = false
 
 -- ---- what a statement is
 
--- how much of FROM STDIN, outside of brackets, stands behind COPY
+-- how much of FROM STDIN or FROM STDOUT, outside of brackets, stands behind COPY
 abbrev pub phrase_behind : ℕ → Phrase → Word → Phrase
 phrase_behind unclosed Whole word = Whole
 phrase_behind unclosed Begun Stdin = Whole
@@ -84,8 +84,8 @@ held_by (OfRule unclosed) = unclosed
 held_by (OfRoutine unclosed begun) = unclosed
 held_by statement = 0
 
--- A statement ends behind its first semicolon where nothing that holds semicolons is unclosed, or behind a command of psql that ends
--- a query.
+-- A statement ends behind its first semicolon where nothing that holds semicolons is unclosed, or behind a command of
+-- psql that ends a query.
 abbrev pub ends_at : Statement → Word → Bool
 ends_at statement QueryEnd = true
 ends_at statement Semicolon = held_by statement == 0
@@ -96,7 +96,7 @@ abbrev pub statement_behind : Statement → Word → Statement
 statement_behind statement Trivia = statement
 statement_behind statement word = if ends_at statement word then Start else goes_on statement word
 
--- data follow a statement that begins with COPY, has FROM STDIN and ends with a semicolon
+-- data follow a statement that begins with COPY, has FROM STDIN or FROM STDOUT and ends with a semicolon
 abbrev pub data_follow : Statement → Word → Bool
 data_follow (OfCopy unclosed Whole) Semicolon = true
 data_follow statement word = false

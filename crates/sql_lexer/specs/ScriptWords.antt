@@ -6,11 +6,11 @@ use Rattle.squawk_tokens.specs.declared.token.TokenKind.TheVariants.{Whitespace,
 use Rattle.sql_lexer.specs.declared.script.words.Word.{Word}
 use Rattle.sql_lexer.specs.declared.script.words.Word.TheVariants.{Trivia, Semicolon, QueryEnd, Command, Open, Close, Copy, From, Stdin, Create, Or, Replace, Function, Procedure, Rule, Begin, Atomic, Case, End, Other}
 
--- the names that are looked at
+-- the names that are looked at; PostgreSQL takes COPY FROM STDOUT for COPY FROM STDIN
 abbrev pub names : List (List ℕ × Word)
 names =
     (codes "or", Or) ∷ (codes "end", End) ∷ (codes "copy", Copy) ∷ (codes "from", From) ∷ (codes "rule", Rule) ∷ (codes "case", Case)
-    ∷ (codes "stdin", Stdin) ∷ (codes "begin", Begin) ∷ (codes "create", Create) ∷ (codes "atomic", Atomic)
+    ∷ (codes "stdin", Stdin) ∷ (codes "begin", Begin) ∷ (codes "stdout", Stdin) ∷ (codes "create", Create) ∷ (codes "atomic", Atomic)
     ∷ (codes "replace", Replace) ∷ (codes "function", Function) ∷ (codes "procedure", Procedure) ∷ []
 
 -- the word of a name, small or capital

@@ -1,4 +1,5 @@
--- White space and signs (PostgreSQL's documentation, 4.1.4 "Special Characters"). An operator of several signs is several tokens.
+-- White space and signs (PostgreSQL's documentation, 4.1.4 "Special Characters"). An operator of several signs is
+-- several tokens.
 use Rattle.std.specs.Prelude.{ℕ, ◌==◌, Option, List, [], ◌∷◌, codes, if◌then◌else◌}
 use Rattle.std.specs.List.{prefix_len}
 use Rattle.squawk_tokens.specs.declared.token.Token.{Token}

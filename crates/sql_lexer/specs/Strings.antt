@@ -1,5 +1,5 @@
--- String constants in quotes, and quoted identifiers (PostgreSQL's documentation, 4.1.2 "Constants" and 4.1.1 "Identifiers and Key
--- Words").
+-- String constants in quotes, and quoted identifiers (PostgreSQL's documentation, 4.1.2 "Constants" and 4.1.1
+-- "Identifiers and Key Words").
 use Rattle.std.specs.Prelude.{ℕ, ◌==◌, ◌&&◌, Bool, false, true, Option, Some, None, List, [], ◌∷◌, drop, slice_index, if◌then◌else◌}
 use Rattle.std.specs.Char.{to_ascii_lowercase}
 use Rattle.squawk_tokens.specs.declared.token.Token.{Token}

@@ -13,7 +13,8 @@ use Rattle.sql_lexer.specs.Strings.{string, quoted_identifier, prefixed}
 use Rattle.sql_lexer.specs.DollarQuotes.{dollar_quote}
 use Rattle.sql_lexer.specs.Numbers.{numbers, point_number, parameter}
 
--- Where two rules fit, the longer token comes first: a string with a letter before an identifier, a number before two points.
+-- Where two rules fit, the longer token comes first: a string with a letter before an identifier, a number before two
+-- points.
 abbrev pub rules : List (List ℕ → Option Token)
 rules =
     whitespace ∷ line_comment ∷ block_comment ∷ psql_command
@@ -34,8 +35,8 @@ tokens_behind zero (b ∷ rest) = let found = first_token (b ∷ rest) in found 
 abbrev pub tokens_of : List ℕ → List Token
 tokens_of text = tokens_behind 0 text
 
--- Tokens of which each depends on the place that it stands at, too: `token` is the one in front at a place, and `next` the place
--- behind it.
+-- Tokens of which each depends on the place that it stands at, too: `token` is the one in front at a place, and `next`
+-- the place behind it.
 abbrev pub tokens_by : {P : Type 0} → (P → List ℕ → Token) → (P → List ℕ → P) → P → ℕ → List ℕ → List Token
 tokens_by token next place n [] = []
 tokens_by token next place (suc n) (b ∷ rest) = tokens_by token next place n rest

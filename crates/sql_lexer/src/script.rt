@@ -9,17 +9,18 @@ mod statements;
 mod words;
 
 use crate::script::places::{Place, push_next};
-use crate::tokenizer::{BYTES_PER_TOKEN, LONGEST_TEXT, TokenizeError};
+use crate::tokenizer::{TokenizeError, give_back, room_for};
 use squawk_tokens::Token;
 use std::alloc::Global;
 
 /// The raw tokens of a text that `psql` reads or `pg_dump` writes: those of `tokenize`, but for data.
 ///
-/// Data follow a statement that begins with COPY, has `FROM STDIN` outside of brackets and ends with a
-/// semicolon. They are the lines behind that statement's line, up to a line that is `\.`, or else the
-/// end of the text. Each line is a command of psql, and the line `\.` is one that ends a query; line ends
-/// are white space, and an empty line is no token. What stands behind COPY on its line is cut as if the
-/// text ended there.
+/// Data follow a statement that begins with COPY, has `FROM STDIN` or `FROM STDOUT` outside of brackets and
+/// ends with a semicolon. They are the lines behind that statement's line, up to a line that is `\.`, or else
+/// the end of the text; those of a second COPY on the line stand behind those of the first. Each line is a
+/// command of psql, and the line `\.` is one that ends a query. A line ends at a newline, with the carriage
+/// return before it; each line end is white space, and an empty line is no token. What stands behind COPY on
+/// its line is cut as if the text ended there.
 ///
 /// Where statements end is told by PostgreSQL's keywords: a routine's BEGIN ATOMIC block and a rule's
 /// brackets hold semicolons that end nothing. A byte order mark that begins the text is white space.
@@ -32,19 +33,14 @@ pub fn tokenize_script(alloc: Global, text: &str) -> Result<Vec<Token>, Tokenize
     ensures accepted { IfOk result (λ tokens. AreAcceptedTokens text.now tokens.items) }
     ensures refused { IfErr result (RefusesText text.now) }
 {
-    if text.len() > LONGEST_TEXT {
-        return Err(TokenizeError::TextTooLong);
-    }
+    let mut tokens = room_for(alloc, text)?;
     let bytes = text.as_bytes();
-    let mut tokens = Vec::with_capacity(alloc, bytes.len() / BYTES_PER_TOKEN + 1)?;
     let mut place = Place::Front;
     let mut at = 0;
     while at < bytes.len() {
         let token = push_next(&mut tokens, &mut place, &bytes[at..])?;
         at += token.len as usize;
     }
-    if tokens.len() < tokens.capacity() / 2 {
-        tokens.shrink_to_fit();
-    }
+    give_back(&mut tokens);
     Ok(tokens)
 }

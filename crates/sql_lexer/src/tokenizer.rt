@@ -1,5 +1,5 @@
 //! The raw tokens of a text.
-ghost use Rattle.std.specs.Prelude.{◌≡◌, IfOk, IfErr};
+ghost use Rattle.std.specs.Prelude.{◌≡◌, ◌≤◌, [], length, IfOk, IfErr, OnOk};
 ghost use Rattle.squawk_tokens.specs.AcceptedTokens.{AreAcceptedTokens};
 ghost use Rattle.sql_lexer.specs.Tokens.{tokens_of, RefusesText};
 
@@ -10,10 +10,10 @@ use std::error::Error;
 use std::fmt;
 
 /// The longest text in bytes: places in it have 32 bits.
-pub(crate) const LONGEST_TEXT: usize = 4294967295;
+const LONGEST_TEXT: usize = 4294967295;
 
 /// Room is made at first for one raw token in so many bytes.
-pub(crate) const BYTES_PER_TOKEN: usize = 5;
+const BYTES_PER_TOKEN: usize = 5;
 
 /// Why there are no tokens.
 #[derive(Clone, Copy, Debug, PartialEq, Eq)]
@@ -76,18 +76,35 @@ pub fn tokenize(alloc: Global, text: &str) -> Result<Vec<Token>, TokenizeError>
     ensures accepted { IfOk result (λ tokens. AreAcceptedTokens text.now tokens.items) }
     ensures refused { IfErr result (RefusesText text.now) }
 {
-    if text.len() > LONGEST_TEXT {
-        return Err(TokenizeError::TextTooLong);
-    }
+    let mut tokens = room_for(alloc, text)?;
     let bytes = text.as_bytes();
-    let mut tokens = Vec::with_capacity(alloc, bytes.len() / BYTES_PER_TOKEN + 1)?;
     let mut at = 0;
     while at < bytes.len() {
         let token = push_first(&mut tokens, &bytes[at..])?;
         at += token.len as usize;
     }
+    give_back(&mut tokens);
+    Ok(tokens)
+}
+
+/// No tokens, with room for about as many as the text has. A text that is too long is refused before memory is
+/// asked for.
+pub(crate) fn room_for(alloc: Global, text: &str) -> Result<Vec<Token>, TokenizeError>
+    ensures none { IfOk result (λ tokens. tokens.items ≡ []) }
+    ensures short { OnOk result (length text.now ≤ 4294967295) }
+    ensures refused { IfErr result (RefusesText text.now) }
+{
+    if text.len() > LONGEST_TEXT {
+        return Err(TokenizeError::TextTooLong);
+    }
+    Ok(Vec::with_capacity(alloc, text.len() / BYTES_PER_TOKEN + 1)?)
+}
+
+/// Gives back the room of a list that uses less than half of it.
+pub(crate) fn give_back(tokens: &mut Vec<Token>)
+    ensures { tokens.new.items ≡ tokens.old.items }
+{
     if tokens.len() < tokens.capacity() / 2 {
         tokens.shrink_to_fit();
     }
-    Ok(tokens)
 }

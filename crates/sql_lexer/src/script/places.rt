@@ -1,19 +1,16 @@
 //! What stands at a place of a script.
-ghost use Rattle.std.specs.Prelude.{◌≡◌, ◌+◌, ◌<◌, ◌≤◌, ◌^◌, length, IsUtf8, IsCharBoundary};
-ghost use Rattle.std.specs.List.{prefix_len};
-ghost use Rattle.sql_lexer.specs.Bytes.{is_line_end};
+ghost use Rattle.std.specs.Prelude.{◌≡◌, ◌+◌, ◌<◌, ◌≤◌, ◌^◌, length, OnOk};
+ghost use Rattle.sql_lexer.specs.Pushes.{Pushes};
 ghost use Rattle.sql_lexer.specs.Scripts as spec;
-ghost use Rattle.sql_lexer.specs.ScriptPlaces.{GoesOn, HasRoom, Moves, may_end};
+ghost use Rattle.sql_lexer.specs.ScriptPlaces.{HasLine, HasRoom, IsRest, may_end};
 ghost use Rattle.sql_lexer.specs.ScriptStatements.{unclosed_in};
 ghost use Rattle.sql_lexer.specs.ScriptWords.{word_of};
 ghost use Rattle.sql_lexer.specs.Tokens.{first_token};
 ghost use Rattle.sql_lexer.specs.declared.script.places.Place.TheVariants.{Front};
 
-use crate::bytes::is_line_end;
-use crate::comments::line_len;
 use crate::first_token::{push, push_first};
 use crate::script::statements::{Statement, data_follow, statement_behind};
-use crate::script::words::word_of;
+use crate::script::words::{Word, word_of};
 use crate::signs::token;
 use squawk_tokens::{Token, TokenKind};
 use std::alloc::AllocError;
@@ -25,8 +22,15 @@ pub(crate) enum Place {
     Front,
     /// SQL, in a statement.
     Sql(Statement),
-    /// Data, behind so many bytes that are left of the line of COPY.
-    Data { behind: usize },
+    /// The line of a COPY that data follow, and behind it these data.
+    Data {
+        /// How many bytes of the line are left.
+        left: usize,
+        /// The statement there.
+        statement: Statement,
+        /// How many further COPY statements of the line wait for their data.
+        waiting: usize,
+    },
 }
 
 /// Adds the token at a place, and gives it. The place goes on behind it.
@@ -38,11 +42,10 @@ pub(crate) fn push_next(
     place: &mut Place,
     text: &[u8],
 ) -> Result<Token, AllocError>
-    requires some { 0 < length text.now }
-    requires short { length text.now < 2 ^ 32 }
-    requires utf8 { IsUtf8 text.now }
+    requires rest { IsRest text.now }
     requires room { HasRoom place.old text.now }
-    ensures { GoesOn tokens.old.items (spec.token_at place.old text.now) tokens.new.items (spec.place_behind place.old text.now) place.new result }
+    ensures token { Pushes tokens.old.items (spec.token_at place.old text.now) tokens.new.items result }
+    ensures place { OnOk result (place.new ≡ spec.place_behind place.old text.now) }
 {
     match *place {
         Place::Sql(Statement::Plain) => push_plain(tokens, place, text),
@@ -53,11 +56,10 @@ pub(crate) fn push_next(
 /// The same in a plain statement, where few kinds count: only for these is it asked what the token's text is.
 #[inline(always)]
 fn push_plain(tokens: &mut Vec<Token>, place: &mut Place, text: &[u8]) -> Result<Token, AllocError>
+    requires rest { IsRest text.now }
     requires plain { place.old ≡ Place.Sql Statement.Plain }
-    requires some { 0 < length text.now }
-    requires short { length text.now < 2 ^ 32 }
-    requires utf8 { IsUtf8 text.now }
-    ensures { GoesOn tokens.old.items (first_token text.now) tokens.new.items (spec.place_in Statement.Plain text.now) place.new result }
+    ensures token { Pushes tokens.old.items (first_token text.now) tokens.new.items result }
+    ensures place { OnOk result (place.new ≡ spec.place_in Statement.Plain text.now) }
 {
     let found = push_first(tokens, text)?;
     if may_end(found.kind) {
@@ -74,62 +76,53 @@ fn push_elsewhere(
     place: &mut Place,
     text: &[u8],
 ) -> Result<Token, AllocError>
-    requires some { 0 < length text.now }
-    requires short { length text.now < 2 ^ 32 }
-    requires utf8 { IsUtf8 text.now }
+    requires rest { IsRest text.now }
     requires room { HasRoom place.old text.now }
-    ensures { GoesOn tokens.old.items (spec.token_at place.old text.now) tokens.new.items (spec.place_behind place.old text.now) place.new result }
+    ensures token { Pushes tokens.old.items (spec.token_at place.old text.now) tokens.new.items result }
+    ensures place { OnOk result (place.new ≡ spec.place_behind place.old text.now) }
 {
-    let (found, next) = push_at(tokens, *place, text)?;
-    *place = next;
-    Ok(found)
-}
-
-/// Adds the token at a place, and gives it and the place behind it.
-fn push_at(tokens: &mut Vec<Token>, place: Place, text: &[u8]) -> Result<(Token, Place), AllocError>
-    requires some { 0 < length text.now }
-    requires short { length text.now < 2 ^ 32 }
-    requires utf8 { IsUtf8 text.now }
-    requires room { HasRoom place text.now }
-    ensures { Moves tokens.old.items (spec.token_at place text.now) tokens.new.items (spec.place_behind place text.now) result }
-{
-    match place {
-        Place::Sql(statement) => push_sql(tokens, statement, text),
-        Place::Data { behind } => push_before(tokens, behind, text),
-        Place::Front => push_front(tokens, text),
+    match *place {
+        Place::Sql(statement) => push_sql(tokens, place, statement, text),
+        Place::Data {
+            left,
+            statement,
+            waiting,
+        } => push_before(tokens, place, left, statement, waiting, text),
+        Place::Front => push_front(tokens, place, text),
     }
 }
 
 /// The same at the front of the text.
 #[cold]
-fn push_front(tokens: &mut Vec<Token>, text: &[u8]) -> Result<(Token, Place), AllocError>
-    requires some { 0 < length text.now }
-    requires short { length text.now < 2 ^ 32 }
-    requires utf8 { IsUtf8 text.now }
-    ensures { Moves tokens.old.items (spec.token_at Front text.now) tokens.new.items (spec.place_behind Front text.now) result }
+fn push_front(tokens: &mut Vec<Token>, place: &mut Place, text: &[u8]) -> Result<Token, AllocError>
+    requires rest { IsRest text.now }
+    ensures token { Pushes tokens.old.items (spec.token_at Front text.now) tokens.new.items result }
+    ensures place { OnOk result (place.new ≡ spec.place_behind Front text.now) }
 {
     if text.starts_with(b"\xEF\xBB\xBF") {
         let mark = push(tokens, token(TokenKind::Whitespace, 3))?;
-        return Ok((mark, Place::Sql(Statement::Start)));
+        *place = Place::Sql(Statement::Start);
+        return Ok(mark);
     }
-    push_sql(tokens, Statement::Start, text)
+    push_sql(tokens, place, Statement::Start, text)
 }
 
 /// The same in a statement.
 fn push_sql(
     tokens: &mut Vec<Token>,
+    place: &mut Place,
     statement: Statement,
     text: &[u8],
-) -> Result<(Token, Place), AllocError>
-    requires some { 0 < length text.now }
-    requires short { length text.now < 2 ^ 32 }
-    requires utf8 { IsUtf8 text.now }
+) -> Result<Token, AllocError>
+    requires rest { IsRest text.now }
     requires room { unclosed_in statement + 1 < 2 ^ 64 }
-    ensures { Moves tokens.old.items (first_token text.now) tokens.new.items (spec.place_in statement text.now) result }
+    ensures token { Pushes tokens.old.items (first_token text.now) tokens.new.items result }
+    ensures place { OnOk result (place.new ≡ spec.place_in statement text.now) }
 {
     let found = push_first(tokens, text)?;
     let (front, rest) = text.split_at(found.len as usize);
-    Ok((found, place_with(statement, found.kind, front, rest)))
+    *place = place_with(statement, found.kind, front, rest);
+    Ok(found)
 }
 
 /// Whether a token with this kind may end a statement.
@@ -148,7 +141,9 @@ fn place_with(statement: Statement, kind: TokenKind, front: &[u8], rest: &[u8]) 
     let word = word_of(kind, front);
     if data_follow(statement, word) {
         Place::Data {
-            behind: line_len(rest),
+            left: line_len(rest),
+            statement: Statement::Start,
+            waiting: 0,
         }
     } else {
         Place::Sql(statement_behind(statement, word))
@@ -159,50 +154,115 @@ fn place_with(statement: Statement, kind: TokenKind, front: &[u8], rest: &[u8]) 
 #[inline(never)]
 fn push_before(
     tokens: &mut Vec<Token>,
-    behind: usize,
+    place: &mut Place,
+    left: usize,
+    statement: Statement,
+    waiting: usize,
     text: &[u8],
-) -> Result<(Token, Place), AllocError>
-    requires some { 0 < length text.now }
-    requires short { length text.now < 2 ^ 32 }
-    requires utf8 { IsUtf8 text.now }
-    requires boundary { IsCharBoundary text.now behind }
-    ensures { Moves tokens.old.items (spec.token_before behind text.now) tokens.new.items (spec.place_before behind text.now) result }
+) -> Result<Token, AllocError>
+    requires rest { IsRest text.now }
+    requires room { HasLine left statement waiting text.now }
+    ensures token { Pushes tokens.old.items (spec.token_before left text.now) tokens.new.items result }
+    ensures place { OnOk result (place.new ≡ spec.place_before left statement waiting text.now) }
 {
-    if behind == 0 {
-        return push_data(tokens, text);
+    if left == 0 {
+        return push_data(tokens, place, waiting, text);
     }
-    let found = push_first(tokens, &text[..behind])?;
-    let place = Place::Data {
-        behind: behind - found.len as usize,
+    let found = push_first(tokens, &text[..left])?;
+    let word = word_of(found.kind, &text[..found.len as usize]);
+    *place = Place::Data {
+        left: left - found.len as usize,
+        statement: statement_behind(statement, word),
+        waiting: waiting_behind(waiting, statement, word),
     };
-    Ok((found, place))
+    Ok(found)
+}
+
+/// How many COPY statements wait for their data behind a word of the line.
+fn waiting_behind(waiting: usize, statement: Statement, word: Word) -> usize
+    requires { waiting + 1 < 2 ^ 64 }
+    ensures { result ≡ spec.waiting_behind waiting statement word }
+{
+    if data_follow(statement, word) {
+        waiting + 1
+    } else {
+        waiting
+    }
 }
 
 /// The same of data.
-fn push_data(tokens: &mut Vec<Token>, text: &[u8]) -> Result<(Token, Place), AllocError>
-    requires some { 0 < length text.now }
-    requires short { length text.now < 2 ^ 32 }
-    ensures { Moves tokens.old.items (spec.data_token text.now) tokens.new.items (spec.place_before 0 text.now) result }
+fn push_data(
+    tokens: &mut Vec<Token>,
+    place: &mut Place,
+    waiting: usize,
+    text: &[u8],
+) -> Result<Token, AllocError>
+    requires rest { IsRest text.now }
+    ensures token { Pushes tokens.old.items (spec.data_token text.now) tokens.new.items result }
+    ensures place { OnOk result (place.new ≡ spec.place_in_data waiting text.now) }
 {
-    if is_line_end(text[0]) {
-        let ends = push(tokens, token(TokenKind::Whitespace, line_ends_len(text)))?;
-        return Ok((ends, Place::Data { behind: 0 }));
-    }
     let len = line_len(text);
+    if len == 0 {
+        let end = push(tokens, token(TokenKind::Whitespace, line_end_len(text)))?;
+        *place = data_of(waiting);
+        return Ok(end);
+    }
     let ends_query = &text[..len] == b"\\.".as_slice();
     let line = push(tokens, token(TokenKind::PsqlCommand { ends_query }, len))?;
-    let place = if ends_query {
-        Place::Sql(Statement::Start)
+    *place = if ends_query {
+        place_behind_data(waiting)
     } else {
-        Place::Data { behind: 0 }
+        data_of(waiting)
     };
-    Ok((line, place))
+    Ok(line)
 }
 
-/// How many bytes in front end lines.
-fn line_ends_len(text: &[u8]) -> usize
-    ensures len { result ≡ prefix_len is_line_end text.now }
+/// Data, for which so many other COPY statements wait.
+fn data_of(waiting: usize) -> Place
+    ensures { result ≡ spec.data_of waiting }
+{
+    Place::Data {
+        left: 0,
+        statement: Statement::Start,
+        waiting,
+    }
+}
+
+/// The place behind the data of a COPY: those of the next one that waits, or SQL.
+fn place_behind_data(waiting: usize) -> Place
+    ensures { result ≡ spec.place_behind_data waiting }
+{
+    if waiting == 0 {
+        Place::Sql(Statement::Start)
+    } else {
+        data_of(waiting - 1)
+    }
+}
+
+/// How many bytes the line in front has.
+fn line_len(text: &[u8]) -> usize
+    ensures len { result ≡ spec.line_len text.now }
     ensures within { result ≤ length text.now }
 {
-    text.iter().take_while(|b| is_line_end(**b)).count()
+    let end = newline_at(text);
+    if end > 0 && text[end - 1] == b'\r' {
+        end - 1
+    } else {
+        end
+    }
+}
+
+/// How many bytes stand before the first newline.
+fn newline_at(text: &[u8]) -> usize
+    ensures at { result ≡ spec.newline_at text.now }
+    ensures within { result ≤ length text.now }
+{
+    text.iter().take_while(|b| **b != b'\n').count()
+}
+
+/// How many bytes the line end in front has.
+fn line_end_len(text: &[u8]) -> usize
+    ensures { result ≡ spec.line_end_len text.now }
+{
+    if text.starts_with(b"\r\n") { 2 } else { 1 }
 }

@@ -20,6 +20,7 @@ pub(crate) enum Word {
     Close,
     Copy,
     From,
+    /// STDIN or STDOUT, which are the same behind COPY FROM.
     Stdin,
     Create,
     Or,
@@ -72,6 +73,8 @@ fn name_of(text: &[u8]) -> Word
         Word::Stdin
     } else if text.eq_ignore_ascii_case(b"begin") {
         Word::Begin
+    } else if text.eq_ignore_ascii_case(b"stdout") {
+        Word::Stdin
     } else if text.eq_ignore_ascii_case(b"create") {
         Word::Create
     } else if text.eq_ignore_ascii_case(b"atomic") {

@@ -7,12 +7,9 @@ use Rattle.sql_lexer.proofs.script.places.push_plain.Goals as goal
 
 pub split_at-requires : goal.split_at-requires
 split_at-requires c =
-    let within = first_within c.args.text.now c.requires.utf8 c.requires.some in
+    let within = first_within c.args.text.now c.requires.rest.utf8 c.requires.rest.some in
     omega (arith, within, ap (λ (t : Token). t.len) c.in_ok-found.ensures.1)
 
-pub returns-else-may_end : goal.returns-else-may_end
-returns-else-may_end c = (
-  c.in_ok-found.ensures.0,
-  c.in_ok-found.ensures.1,
-  c.requires.plain ∙ plain_stays Plain c.args.text.now c.in_ok-found.found refl c.in_ok-found.ensures.1 (sym c.may_end.ensures ∙ c.if-may_end.false),
-)
+pub returns-else-may_end-clause-place : goal.returns-else-may_end-clause-place
+returns-else-may_end-clause-place c =
+    c.requires.plain ∙ plain_stays Plain c.args.text.now c.in_ok-found.found refl c.in_ok-found.ensures.1 (sym c.may_end.ensures ∙ c.if-may_end.false)
