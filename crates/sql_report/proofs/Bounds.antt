@@ -1,5 +1,5 @@
 -- The bytes of steps that are a beginning of a text.
-use Rattle.std.proofs.Common.{◌≡◌, ◌∙◌, ℕ, ◌≤◌, List, ap, arith, encode_utf8_all, length, length-append, sym}
+use Rattle.std.proofs.Common.{◌∙◌, ℕ, ◌≤◌, List, ap, arith, encode_utf8_all, length, length-append, sym}
 use Rattle.std.specs.Prelude.{IsUtf8}
 use Rattle.std.specs.Str.{chars}
 use Rattle.std.proofs.lemmas.Str.{encodes-append, encodes-chars}

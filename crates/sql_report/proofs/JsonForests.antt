@@ -23,12 +23,12 @@ use Rattle.sql_report.specs.JsonTrees.{HasTreeLines, child_items, data_lines, er
 
 -- items without the bracket that closes them
 abbrev joined : Bool → Items → List ℕ
-joined later no_items = []
-joined later (item d ds) = comma_if later ++ (compact_text d ++ joined true ds)
+joined has_child no_items = []
+joined has_child (item d ds) = comma_if has_child ++ (compact_text d ++ joined true ds)
 
-items_text-joined : (later : Bool) (ds : Items) → items_text later ds ≡ joined later ds ++ codes "]"
-items_text-joined later no_items = refl
-items_text-joined later (item d ds) =
+items_text-joined : (has_child : Bool) (ds : Items) → items_text has_child ds ≡ joined has_child ds ++ codes "]"
+items_text-joined has_child no_items = refl
+items_text-joined has_child (item d ds) =
     rw (items_text-joined true ds) (simp append_assoc)
 
 token_text : (names : Names) (kind start end : ℕ) → compact_text (token_data names kind start end) ≡ token_object names kind start end
@@ -61,10 +61,10 @@ node_text names kind start end children errors =
     ∙ (ap (node_shape name (decimal start) (joined false children ++ codes "]") (decimal end)) (items_text-joined false errors)
     ∙ node_grouped_texts name (decimal start) (joined false children) (decimal end) (joined false errors))
 
-error_text : (text : List ℕ) (pos : ℕ) (others : Forest) → (later : Bool)
-    → joined later (error_items (Error text pos others)) ≡ comma_if later ++ (error_object text pos ++ joined true (error_items others))
+error_text : (text : List ℕ) (pos : ℕ) (others : Forest) → (has_child : Bool)
+    → joined has_child (error_items (Error text pos others)) ≡ comma_if has_child ++ (error_object text pos ++ joined true (error_items others))
 unfolding escape_byte
-error_text text pos others later = simp append_assoc
+error_text text pos others has_child = simp append_assoc
 
 -- ---- errors
 
@@ -96,22 +96,22 @@ errors_joined (Error text pos others) = errors_some (error_object text pos) othe
 -- ---- steps
 
 -- whether a child stands before what stands behind trees
-abbrev later_behind : Bool → Forest → Bool
-later_behind later Nothing = later
-later_behind later (Token kind text others) = later_behind true others
-later_behind later (Node kind inner others) = later_behind true others
-later_behind later (Error text pos others) = later_behind later others
+abbrev has_child_behind : Bool → Forest → Bool
+has_child_behind has_child Nothing = has_child
+has_child_behind has_child (Token kind text others) = has_child_behind true others
+has_child_behind has_child (Node kind inner others) = has_child_behind true others
+has_child_behind has_child (Error text pos others) = has_child_behind has_child others
 
 abbrev stand : List (List ℕ) → Bool → ℕ → Standing
-stand nodes later at = record { nodes = nodes; later = later; at = at }
+stand nodes has_child at = record { nodes = nodes; has_child = has_child; at = at }
 
 -- where steps stand behind trees
 abbrev stand_behind : List (List ℕ) → Bool → ℕ → Forest → Standing
-stand_behind nodes later at forest = stand nodes (later_behind later forest) (at + forest_bytes forest)
+stand_behind nodes has_child at forest = stand nodes (has_child_behind has_child forest) (at + forest_bytes forest)
 
-moved : (names : Names) (nodes : List (List ℕ)) (later : Bool) (at end : ℕ) (rest : List OwnedStep) → at ≡ end
-    → written_from names (stand nodes later at) rest ≡ written_from names (stand nodes later end) rest
-moved names nodes later at end rest same = ap (λ n. written_from names (stand nodes later n) rest) same
+moved : (names : Names) (nodes : List (List ℕ)) (has_child : Bool) (at end : ℕ) (rest : List OwnedStep) → at ≡ end
+    → written_from names (stand nodes has_child at) rest ≡ written_from names (stand nodes has_child end) rest
+moved names nodes has_child at end rest same = ap (λ n. written_from names (stand nodes has_child n) rest) same
 
 -- a text before others, and those before a last one
 token_grouped : (comma token text all children rest rest' : List ℕ) → text ≡ token → all ≡ children ++ rest → rest ≡ rest'
@@ -130,52 +130,52 @@ further : (at n m : ℕ) → (at + n) + m ≡ at + (n + m)
 further at n m = omega arith
 
 -- in a node of a statement
-written_from-children : (names : Names) (forest : Forest) (rest : List OwnedStep) (errors node : List ℕ) (nodes : List (List ℕ)) (later : Bool) (at : ℕ)
-    → written_from names (stand (errors ∷ node ∷ nodes) later at) (forest_steps forest ++ rest)
-    ≡ joined later (child_items names at forest) ++ written_from names (stand_behind (errors_behind errors forest ∷ node ∷ nodes) later at forest) rest
-written_from-children names Nothing rest errors node nodes later at = moved names (errors ∷ node ∷ nodes) later at (at + 0) rest (sym (add-zero at))
-written_from-children names (Token kind text others) rest errors node nodes later at =
+written_from-children : (names : Names) (forest : Forest) (rest : List OwnedStep) (errors node : List ℕ) (nodes : List (List ℕ)) (has_child : Bool) (at : ℕ)
+    → written_from names (stand (errors ∷ node ∷ nodes) has_child at) (forest_steps forest ++ rest)
+    ≡ joined has_child (child_items names at forest) ++ written_from names (stand_behind (errors_behind errors forest ∷ node ∷ nodes) has_child at forest) rest
+written_from-children names Nothing rest errors node nodes has_child at = moved names (errors ∷ node ∷ nodes) has_child at (at + 0) rest (sym (add-zero at))
+written_from-children names (Token kind text others) rest errors node nodes has_child at =
     let end = at + length (encode_utf8_all text) in
-    token_grouped (comma later) (token_object names kind at end) (compact_text (token_data names kind at end))
+    token_grouped (comma has_child) (token_object names kind at end) (compact_text (token_data names kind at end))
     (written_from names (stand (errors ∷ node ∷ nodes) true end) (forest_steps others ++ rest)) (joined true (child_items names end others))
     (written_from names (stand_behind (errors_behind errors others ∷ node ∷ nodes) true end others) rest)
-    (written_from names (stand_behind (errors_behind errors (Token kind text others) ∷ node ∷ nodes) later at (Token kind text others)) rest)
+    (written_from names (stand_behind (errors_behind errors (Token kind text others) ∷ node ∷ nodes) has_child at (Token kind text others)) rest)
     (token_text names kind at end) (written_from-children names others rest errors node nodes true end)
-    (moved names (errors_behind errors others ∷ node ∷ nodes) (later_behind true others) (end + forest_bytes others) (at + (length (encode_utf8_all text) + forest_bytes others)) rest
+    (moved names (errors_behind errors others ∷ node ∷ nodes) (has_child_behind true others) (end + forest_bytes others) (at + (length (encode_utf8_all text) + forest_bytes others)) rest
     (further at (length (encode_utf8_all text)) (forest_bytes others)))
-written_from-children names (Node kind inner others) rest errors node nodes later at =
+written_from-children names (Node kind inner others) rest errors node nodes has_child at =
     let end = at + forest_bytes inner in
     let behind = forest_steps others ++ rest in
     let children = joined false (child_items names at inner) in
     let within = ap (written_from names (stand ([] ∷ errors ∷ node ∷ nodes) false at)) (append_assoc (forest_steps inner) (step.Exit ∷ forest_steps others) rest)
     ∙ written_from-children names inner (step.Exit ∷ behind) [] errors (node ∷ nodes) false at in
-    node_grouped (comma later) (node_opened names kind at)
+    node_grouped (comma has_child) (node_opened names kind at)
     (written_from names (stand ([] ∷ errors ∷ node ∷ nodes) false at) ((forest_steps inner ++ step.Exit ∷ forest_steps others) ++ rest))
     children (node_closed end (errors_behind [] inner)) (node_closed end (joined false (error_items inner)))
     (written_from names (stand (errors ∷ node ∷ nodes) true end) behind)
     (compact_text (node_data names kind at (child_items names at inner) end (error_items inner)))
     (joined true (child_items names end others))
     (written_from names (stand_behind (errors_behind errors others ∷ node ∷ nodes) true end others) rest)
-    (written_from names (stand_behind (errors_behind errors others ∷ node ∷ nodes) later at (Node kind inner others)) rest)
+    (written_from names (stand_behind (errors_behind errors others ∷ node ∷ nodes) has_child at (Node kind inner others)) rest)
     within (ap (node_closed end) (errors_joined inner)) (node_text names kind at end (child_items names at inner) (error_items inner))
     (written_from-children names others rest errors node nodes true end)
-    (moved names (errors_behind errors others ∷ node ∷ nodes) (later_behind true others) (end + forest_bytes others) (at + (forest_bytes inner + forest_bytes others)) rest
+    (moved names (errors_behind errors others ∷ node ∷ nodes) (has_child_behind true others) (end + forest_bytes others) (at + (forest_bytes inner + forest_bytes others)) rest
     (further at (forest_bytes inner) (forest_bytes others)))
-written_from-children names (Error text pos others) rest errors node nodes later at =
-    written_from-children names others rest (with_comma errors ++ error_object text pos) node nodes later at
+written_from-children names (Error text pos others) rest errors node nodes has_child at =
+    written_from-children names others rest (with_comma errors ++ error_object text pos) node nodes has_child at
 
 -- in a root
-written_from-statements : (names : Names) (forest : Forest) (rest : List OwnedStep) (errors : List ℕ) (later : Bool) (at : ℕ)
-    → written_from names (stand (errors ∷ []) later at) (forest_steps forest ++ rest)
-    ≡ data_lines (statement_data names at forest) ++ written_from names (stand_behind (errors_behind errors forest ∷ []) later at forest) rest
-written_from-statements names Nothing rest errors later at = moved names (errors ∷ []) later at (at + 0) rest (sym (add-zero at))
-written_from-statements names (Token kind text others) rest errors later at =
+written_from-statements : (names : Names) (forest : Forest) (rest : List OwnedStep) (errors : List ℕ) (has_child : Bool) (at : ℕ)
+    → written_from names (stand (errors ∷ []) has_child at) (forest_steps forest ++ rest)
+    ≡ data_lines (statement_data names at forest) ++ written_from names (stand_behind (errors_behind errors forest ∷ []) has_child at forest) rest
+written_from-statements names Nothing rest errors has_child at = moved names (errors ∷ []) has_child at (at + 0) rest (sym (add-zero at))
+written_from-statements names (Token kind text others) rest errors has_child at =
     let end = at + length (encode_utf8_all text) in
     written_from-statements names others rest errors true end
     ∙ ap (λ l. data_lines (statement_data names end others) ++ l)
-    (moved names (errors_behind errors others ∷ []) (later_behind true others) (end + forest_bytes others) (at + (length (encode_utf8_all text) + forest_bytes others)) rest
+    (moved names (errors_behind errors others ∷ []) (has_child_behind true others) (end + forest_bytes others) (at + (length (encode_utf8_all text) + forest_bytes others)) rest
     (further at (length (encode_utf8_all text)) (forest_bytes others)))
-written_from-statements names (Node kind inner others) rest errors later at =
+written_from-statements names (Node kind inner others) rest errors has_child at =
     let end = at + forest_bytes inner in
     let behind = forest_steps others ++ rest in
     let within = ap (written_from names (stand ([] ∷ errors ∷ []) false at)) (append_assoc (forest_steps inner) (step.Exit ∷ forest_steps others) rest)
@@ -187,29 +187,29 @@ written_from-statements names (Node kind inner others) rest errors later at =
     (compact_text (node_data names kind at (child_items names at inner) end (error_items inner)))
     (data_lines (statement_data names end others))
     (written_from names (stand_behind (errors_behind errors others ∷ []) true end others) rest)
-    (written_from names (stand_behind (errors_behind errors others ∷ []) later at (Node kind inner others)) rest)
+    (written_from names (stand_behind (errors_behind errors others ∷ []) has_child at (Node kind inner others)) rest)
     within (ap (node_closed end) (errors_joined inner)) (node_text names kind at end (child_items names at inner) (error_items inner))
     (written_from-statements names others rest errors true end)
-    (moved names (errors_behind errors others ∷ []) (later_behind true others) (end + forest_bytes others) (at + (forest_bytes inner + forest_bytes others)) rest
+    (moved names (errors_behind errors others ∷ []) (has_child_behind true others) (end + forest_bytes others) (at + (forest_bytes inner + forest_bytes others)) rest
     (further at (forest_bytes inner) (forest_bytes others)))
-written_from-statements names (Error text pos others) rest errors later at =
-    written_from-statements names others rest (with_comma errors ++ error_object text pos) later at
+written_from-statements names (Error text pos others) rest errors has_child at =
+    written_from-statements names others rest (with_comma errors ++ error_object text pos) has_child at
 
 root_grouped : (all lines rest lines' both rest' rest'' : List ℕ) → all ≡ lines ++ rest → rest ≡ lines' ++ rest' → both ≡ lines ++ lines' → rest' ≡ rest'' → all ≡ both ++ rest''
 root_grouped all lines rest lines' both rest' rest'' e f g h = rw (e, f, g, h) (sym (append_assoc lines lines' rest''))
 
 -- outside of all nodes
-written_from-roots : (names : Names) (forest : Forest) (rest : List OwnedStep) (later : Bool) (at : ℕ)
-    → written_from names (stand [] later at) (forest_steps forest ++ rest)
-    ≡ data_lines (root_data names at forest) ++ written_from names (stand_behind [] later at forest) rest
-written_from-roots names Nothing rest later at = moved names [] later at (at + 0) rest (sym (add-zero at))
-written_from-roots names (Token kind text others) rest later at =
+written_from-roots : (names : Names) (forest : Forest) (rest : List OwnedStep) (has_child : Bool) (at : ℕ)
+    → written_from names (stand [] has_child at) (forest_steps forest ++ rest)
+    ≡ data_lines (root_data names at forest) ++ written_from names (stand_behind [] has_child at forest) rest
+written_from-roots names Nothing rest has_child at = moved names [] has_child at (at + 0) rest (sym (add-zero at))
+written_from-roots names (Token kind text others) rest has_child at =
     let end = at + length (encode_utf8_all text) in
     written_from-roots names others rest true end
     ∙ ap (λ l. data_lines (root_data names end others) ++ l)
-    (moved names [] (later_behind true others) (end + forest_bytes others) (at + (length (encode_utf8_all text) + forest_bytes others)) rest
+    (moved names [] (has_child_behind true others) (end + forest_bytes others) (at + (length (encode_utf8_all text) + forest_bytes others)) rest
     (further at (length (encode_utf8_all text)) (forest_bytes others)))
-written_from-roots names (Node kind inner others) rest later at =
+written_from-roots names (Node kind inner others) rest has_child at =
     let end = at + forest_bytes inner in
     let behind = forest_steps others ++ rest in
     let within = ap (written_from names (stand ([] ∷ []) false at)) (append_assoc (forest_steps inner) (step.Exit ∷ forest_steps others) rest)
@@ -218,11 +218,11 @@ written_from-roots names (Node kind inner others) rest later at =
     (data_lines (statement_data names at inner)) (written_from names (stand [] true end) behind)
     (data_lines (root_data names end others)) (data_lines (statement_data names at inner ++ root_data names end others))
     (written_from names (stand_behind [] true end others) rest)
-    (written_from names (stand_behind [] later at (Node kind inner others)) rest)
+    (written_from names (stand_behind [] has_child at (Node kind inner others)) rest)
     within (written_from-roots names others rest true end) (flat_map-append _ (statement_data names at inner) (root_data names end others))
-    (moved names [] (later_behind true others) (end + forest_bytes others) (at + (forest_bytes inner + forest_bytes others)) rest
+    (moved names [] (has_child_behind true others) (end + forest_bytes others) (at + (forest_bytes inner + forest_bytes others)) rest
     (further at (forest_bytes inner) (forest_bytes others)))
-written_from-roots names (Error text pos others) rest later at = written_from-roots names others rest later at
+written_from-roots names (Error text pos others) rest has_child at = written_from-roots names others rest has_child at
 
 -- the lines of a tree
 json_lines-forest : (names : Names) (forest : Forest) → json_lines names (forest_steps forest) ≡ data_lines (root_data names 0 forest)

@@ -3,7 +3,7 @@ use Rattle.std.proofs.Common.{◌≡◌, ◌∙◌, ◌≢◌, ℕ, suc, ◌+◌
 use Rattle.std.proofs.lemmas.Bool.{ne_eqb}
 use Rattle.squawk_table.specs.declared.shortcuts.str_step.OwnedStep.{OwnedStep}
 use Rattle.squawk_table.specs.declared.shortcuts.str_step.OwnedStep.TheVariants.{Token, Enter, Exit, Error}
-use Rattle.sql_report.specs.OpenNodes.{closed, front_nodes, open_statement, statements_left}
+use Rattle.sql_report.specs.OpenNodes.{closed, front_nodes, statements_left}
 use Rattle.sql_report.specs.Statements.{bytes_until_left, ending, statements_from}
 use Rattle.sql_report.specs.declared.statement_list.OpenNode.{OpenNode}
 use Rattle.sql_report.specs.declared.statement_list.Statement.{Statement}

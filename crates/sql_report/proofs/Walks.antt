@@ -1,12 +1,10 @@
 -- A walk over a text byte by byte, with the line and the column of each.
-use Rattle.std.proofs.Common.{◌≡◌, ◌∙◌, ℕ, ◌+◌, ◌-◌, ◌<◌, ◌≤◌, ◌||◌, not, cond, Bool, true, false, List, [], ◌∷◌, ◌++◌, length, take, drop, get_or, if◌then◌else◌, ap, arith, refl, sym, length-take}
-use Rattle.std.specs.List.{count_by, list_any, prefix_len, take_while}
+use Rattle.std.proofs.Common.{◌≡◌, ◌∙◌, ℕ, ◌+◌, ◌-◌, ◌<◌, ◌||◌, not, cond, Bool, true, false, List, [], ◌∷◌, ◌++◌, length, take, drop, get_or, if◌then◌else◌, ap, arith, refl, sym, length-take}
+use Rattle.std.specs.List.{count_by, list_any, prefix_len}
 use Rattle.std.proofs.lemmas.List.{drop-append-le, drop-take, drop_all, take_more, take_rest}
 use Rattle.std.proofs.lemmas.List.Folds.{list_any-append}
 use Rattle.std.proofs.lemmas.List.Sums.{count_by_more_no, count_by_more_yes, sum_by-append}
-use Rattle.sql_report.specs.ErrorLines.{error_at, shown_error}
-use Rattle.sql_report.specs.Findings.{Told}
-use Rattle.sql_report.specs.Places.{IsCounted, IsPlaceOf, Spot, begins_character, column_at, is_continuation, is_feed, is_in_line, last_line, line_at, shown_before, shown_behind}
+use Rattle.sql_report.specs.Places.{IsCounted, begins_character, is_continuation, is_feed, last_line, shown_before}
 
 -- ---- the last line
 

@@ -36,11 +36,11 @@ with_comma (byte ∷ errors) = (byte ∷ errors) ++ codes ","
 
 -- ---- steps
 
--- Where steps stand: the nodes that are open, as the errors of each so far, joined, the innermost first; whether a child stands
--- before in the innermost; and the byte.
+-- Where steps stand: the nodes that are open, as the errors of each so far, joined, the innermost first; whether a
+-- child stands before in the innermost; and the byte.
 pub record Standing : Type 0 where
   pub nodes : List (List ℕ)
-  pub later : Bool
+  pub has_child : Bool
   pub at : ℕ
 
 -- with an error in the innermost node
@@ -50,10 +50,10 @@ with_error (errors ∷ nodes) error = (with_comma errors ++ error) ∷ nodes
 
 -- where steps stand behind a step
 abbrev pub behind : Standing → OwnedStep → Standing
-behind s (Token kind text) = record { nodes = s.nodes; later = true; at = s.at + bytes_in (Token kind text) }
-behind s (Enter kind) = record { nodes = [] ∷ s.nodes; later = false; at = s.at }
-behind s Exit = record { nodes = drop 1 s.nodes; later = true; at = s.at }
-behind s (Error text pos) = record { nodes = with_error s.nodes (error_object text pos); later = s.later; at = s.at }
+behind s (Token kind text) = record { nodes = s.nodes; has_child = true; at = s.at + bytes_in (Token kind text) }
+behind s (Enter kind) = record { nodes = [] ∷ s.nodes; has_child = false; at = s.at }
+behind s Exit = record { nodes = drop 1 s.nodes; has_child = true; at = s.at }
+behind s (Error text pos) = record { nodes = with_error s.nodes (error_object text pos); has_child = s.has_child; at = s.at }
 
 -- what stands in a statement: inside of the root and a node of it
 abbrev pub in_statement : List (List ℕ) → List ℕ → List ℕ
@@ -63,12 +63,12 @@ in_statement (errors ∷ node ∷ nodes) text = text
 
 -- a comma, where a child stands before
 abbrev pub comma : Bool → List ℕ
-comma later = if later then codes "," else []
+comma has_child = if has_child then codes "," else []
 
 -- the beginning of a node: the root has none
 abbrev pub opening : List (List ℕ) → Bool → List ℕ → List ℕ
-opening [] later begins = []
-opening (errors ∷ nodes) later begins = in_statement (errors ∷ nodes) (comma later) ++ begins
+opening [] has_child begins = []
+opening (errors ∷ nodes) has_child begins = in_statement (errors ∷ nodes) (comma has_child) ++ begins
 
 -- the end of a node inside of so many others: the root has none, and a statement's ends the line
 abbrev pub ending_inside : ℕ → List ℕ → List ℕ
@@ -83,8 +83,8 @@ closing (errors ∷ nodes) at = ending_inside (length nodes) (node_closed at err
 
 -- what is written for a step
 abbrev pub written : Names → Standing → OwnedStep → List ℕ
-written names s (Token kind text) = in_statement s.nodes (comma s.later ++ token_object names kind s.at (s.at + bytes_in (Token kind text)))
-written names s (Enter kind) = opening s.nodes s.later (node_opened names kind s.at)
+written names s (Token kind text) = in_statement s.nodes (comma s.has_child ++ token_object names kind s.at (s.at + bytes_in (Token kind text)))
+written names s (Enter kind) = opening s.nodes s.has_child (node_opened names kind s.at)
 written names s Exit = closing s.nodes s.at
 written names s (Error text pos) = []
 
@@ -95,4 +95,4 @@ written_from names s (step ∷ steps) = written names s step ++ written_from nam
 
 -- the lines of the statements of a tree
 abbrev pub json_lines : Names → List OwnedStep → List ℕ
-json_lines names steps = written_from names (record { nodes = []; later = false; at = 0 }) steps
+json_lines names steps = written_from names (record { nodes = []; has_child = false; at = 0 }) steps

@@ -9,7 +9,7 @@ use Rattle.squawk_tree.specs.TreeText.{bytes_in, nodes_open_behind}
 use Rattle.sql_report.specs.Places.{column_at, line_at}
 use Rattle.sql_report.specs.declared.statement_list.Statement.{Statement}
 
--- how many bytes of tokens stand before the closing of a node, in which so many other nodes are open, if a closing closes it
+-- how many bytes of tokens stand before the closing of a node in which so many others are open, if one closes it
 abbrev pub bytes_until_left : List OwnedStep → ℕ → Option ℕ
 bytes_until_left [] inner = None
 bytes_until_left (Token kind text ∷ steps) inner = option_map (λ n. length (encode_utf8_all text) + n) (bytes_until_left steps inner)
@@ -23,7 +23,7 @@ abbrev pub ending : ℕ → ℕ → ℕ → Option ℕ → List Statement
 ending kind start at None = []
 ending kind start at (Some n) = record { kind = kind; start = start; end = at + n } ∷ []
 
--- the statement that a step begins inside of so many nodes, behind so many bytes and before other steps, if it begins one
+-- the statement that a step begins inside of so many nodes, behind so many bytes and before other steps, if any
 abbrev pub statement_at : ℕ → ℕ → OwnedStep → List OwnedStep → List Statement
 statement_at depth at (Token kind text) behind = []
 statement_at depth at (Enter kind) behind = if depth == 1 then ending kind at at (bytes_until_left behind 0) else []

@@ -5,7 +5,8 @@ ghost use Rattle.squawk_table.specs.Shape.{Fits};
 ghost use Rattle.sql_report.specs.JsonLines.{json_lines};
 ghost use Rattle.sql_report.specs.JsonTrees.{HasTreeLines};
 
-use crate::json_text::JsonText;
+use crate::json_writer::JsonWriter;
+use crate::statement_list::steps_of;
 use squawk_kinds::{KindNames, SyntaxKind};
 use squawk_output::Output;
 use squawk_table::{LexedStr, StrSteps};
@@ -32,9 +33,8 @@ pub fn json_lines(
     ensures values { IfOk result (λ lines. HasTreeLines (map (λ pair. (pair.0, pair.1.now)) names.now)
         (sent_list table.now output.now.steps) (string_bytes lines)) }
 {
-    let _text_len = table.text_start(table.len());
     let mut names = KindNames::new(alloc, names);
-    lines_of(alloc, table.str_steps(output), &mut names)
+    lines_of(alloc, steps_of(table, output), &mut names)
 }
 
 /// The lines of the statements in these steps.
@@ -46,9 +46,9 @@ fn lines_of(
     requires { bytes_of steps.steps < 2 ^ 64 }
     ensures { IfOk result (λ lines. string_bytes lines ≡ json_lines names.old steps.entry.steps) }
 {
-    let mut text = JsonText::new(alloc);
+    let mut writer = JsonWriter::new(alloc);
     for step in steps {
-        text.step(names, step)?;
+        writer.step(names, step)?;
     }
-    Ok(text.lines)
+    Ok(writer.lines)
 }

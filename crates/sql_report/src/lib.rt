@@ -13,7 +13,7 @@
 mod errors;
 mod finding_list;
 mod json_list;
-mod json_text;
+mod json_writer;
 mod place;
 mod statement_list;
 #[cfg(test)]

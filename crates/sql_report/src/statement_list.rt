@@ -41,8 +41,17 @@ pub fn statements(
     requires { Fits table.now output.now.steps }
     ensures { IfOk result (λ all. all.items ≡ statements_of (sent_list table.now output.now.steps)) }
 {
+    statements_in(alloc, steps_of(table, output))
+}
+
+/// The steps of an output. So few bytes stand in them that each place fits `usize`.
+pub(crate) fn steps_of<'s>(table: &'s LexedStr<'s>, output: &'s Output) -> StrSteps<'s>
+    requires { Fits table.now output.now.steps }
+    ensures steps { result.steps ≡ sent_list table.now output.now.steps }
+    ensures few { bytes_of result.steps < 2 ^ 64 }
+{
     let _text_len = table.text_start(table.len());
-    statements_in(alloc, table.str_steps(output))
+    table.str_steps(output)
 }
 
 /// The statements in these steps.

@@ -1,3 +1,4 @@
+pub mod Options
 pub mod Listings
 pub mod Reports
 pub mod Printed

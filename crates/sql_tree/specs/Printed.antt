@@ -1,6 +1,14 @@
 -- What is printed.
-use Rattle.std.specs.Prelude.{ℕ, nat_lt, Bool, List, [], ◌++◌, codes, if◌then◌else◌}
+use Rattle.std.specs.Prelude.{ℕ, nat_lt, Bool, false, List, [], ◌++◌, codes, if◌then◌else◌}
+use Rattle.sql_tree.specs.declared.options.Listing.{Listing}
+use Rattle.sql_tree.specs.declared.options.Listing.TheVariants.{Json, Quiet}
 use Rattle.sql_tree.specs.declared.totals.Totals.{Totals}
+
+-- Names stand over what is listed of several texts, but not where nothing is, nor over JSON, of which each line is a value.
+abbrev pub has_headings : Listing → ℕ → Bool
+has_headings Json count = false
+has_headings Quiet count = false
+has_headings listing count = nat_lt 1 count
 
 -- the name of a text over what is listed of it
 abbrev pub heading : Bool → List ℕ → List ℕ

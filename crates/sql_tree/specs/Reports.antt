@@ -20,7 +20,6 @@ use Rattle.sql_report.specs.Statements.{statements_of}
 use Rattle.sql_report.specs.declared.finding_list.Finding.{Finding}
 use Rattle.sql_tree.specs.Listings.{listed}
 use Rattle.sql_tree.specs.declared.options.Listing.{Listing}
-use Rattle.sql_tree.specs.Listings.{listed}
 use Rattle.sql_tree.specs.declared.options.Listing.TheVariants.{Json, Quiet}
 use Rattle.sql_tree.specs.declared.report.Report.{Report}
 use Rattle.sql_tree.specs.declared.sql.Sql.{Sql}
@@ -40,9 +39,9 @@ pub record AreOfFile (sql : Sql) (table : Table) (steps : List Step) : Type 0 wh
   pub file : IsFile (input_of (contextual_keyword_of sql.vocabulary) table) draft
   pub is : steps ≡ plain draft.items
 
--- The steps of a parse of the text, which fit its table: the texts of what is sent for them are the text. What is listed is that of
--- what is sent, and the errors are the lexical ones and those that are sent, in the order of their places. With --json the listing has
--- values of JSON: the statements of a tree that is sent.
+-- The steps of a parse of the text, which fit its table: the texts of what is sent for them are the text. What is
+-- listed is that of what is sent, and the errors are the lexical ones and those that are sent, in the order of their
+-- places. With --json the listing has values of JSON: the statements of a tree that is sent.
 pub record IsReport (sql : Sql) (listing : Listing) (name text : List ℕ) (report : Report) : Type 0 where
   pub steps : List Step
   pub fits : Fits (table_in sql text) steps

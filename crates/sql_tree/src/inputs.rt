@@ -1,7 +1,7 @@
 //! The texts that are named, one after another.
 ghost use Rattle.std.specs.Prelude.{◌≡◌, ◌++◌, true, IfOk, IsOk, MatchResult, OnOk, string_bytes};
 ghost use Rattle.std.specs.Io.KnownBytes.{Appends};
-ghost use Rattle.sql_tree.specs.Printed.{heading};
+ghost use Rattle.sql_tree.specs.Printed.{has_headings, heading};
 ghost use Rattle.sql_tree.specs.Reports.{IsReport};
 
 use crate::options::Listing;
@@ -23,7 +23,7 @@ pub fn tell_all(rt: &HostRuntime, listing: Listing, files: &[&str]) -> io::Resul
     let mut out = io::writer(rt);
     let mut errors = rt.stderr();
     let mut totals = Totals::new();
-    let has_headings = files.len() > 1 && listing != Listing::Quiet;
+    let has_headings = has_headings(listing, files.len());
     if files.is_empty() {
         let bytes = read_all(alloc, &mut rt.reader());
         let report = report(alloc, &sql, listing, STANDARD_INPUT, bytes);
@@ -52,6 +52,16 @@ pub fn tell_all(rt: &HostRuntime, listing: Listing, files: &[&str]) -> io::Resul
         tell_totals(&mut errors, totals)?;
     }
     Ok(totals.status())
+}
+
+/// Whether the name of each of so many texts stands over what is listed of it.
+pub fn has_headings(listing: Listing, count: usize) -> bool
+    ensures { result ≡ has_headings listing count }
+{
+    match listing {
+        Listing::Json | Listing::Quiet => false,
+        _ => count > 1,
+    }
 }
 
 /// All that a reader has.

@@ -1,4 +1,7 @@
 //! The program's arguments.
+ghost use Rattle.std.specs.Prelude.{◌≡◌};
+ghost use Rattle.clap.specs.Matches.{found_of};
+ghost use Rattle.sql_tree.specs.Options as spec;
 
 use clap::{Arg, ArgAction, ArgMatches, Command};
 use std::alloc::{AllocError, Global};
@@ -28,7 +31,7 @@ pub fn command<'a>(alloc: Global) -> Result<Command<'a>, AllocError> {
         .num_args(0..)
         .help("SQL files in UTF-8; the standard input where none is named");
     Command::new(alloc, "sql_tree")
-        .version("0.1.0")
+        .version("0.2.0")
         .about("Prints the lossless tree of SQL, statement by statement, with its errors")
         .arg(files)?
         .arg(flag(alloc, "statements", "Print a line for each statement")?)?
@@ -59,16 +62,25 @@ fn flag<'a>(alloc: Global, name: &'a str, help: &'a str) -> Result<Arg<'a>, Allo
 }
 
 /// What the arguments say is to be printed.
-pub fn asked_listing(matches: &ArgMatches<'_>) -> Listing {
-    if matches.get_flag("statements") {
-        Listing::Statements
-    } else if matches.get_flag("json") {
-        Listing::Json
-    } else if matches.get_flag("tokens") {
-        Listing::Tokens
-    } else if matches.get_flag("quiet") {
-        Listing::Quiet
-    } else {
-        Listing::Tree
+pub fn asked_listing(matches: &ArgMatches<'_>) -> Listing
+    ensures { spec.IsAsked (found_of matches.now) result }
+{
+    let statements = matches.get_flag("statements");
+    let json = matches.get_flag("json");
+    let tokens = matches.get_flag("tokens");
+    let quiet = matches.get_flag("quiet");
+    listing_by(statements, json, tokens, quiet)
+}
+
+/// What is printed by the flags, of which one is set at the most.
+fn listing_by(statements: bool, json: bool, tokens: bool, quiet: bool) -> Listing
+    ensures { result ≡ spec.listing_by statements json tokens quiet }
+{
+    match (statements, json, tokens, quiet) {
+        (true, ..) => Listing::Statements,
+        (_, true, ..) => Listing::Json,
+        (_, _, true, _) => Listing::Tokens,
+        (.., true) => Listing::Quiet,
+        _ => Listing::Tree,
     }
 }

@@ -1,5 +1,6 @@
 //! What is told of texts.
 
+use crate::inputs::has_headings;
 use crate::options::Listing;
 use crate::report::Report;
 use crate::sql::Sql;
@@ -98,6 +99,15 @@ fn lists_statements_as_json(rt: HostRuntime) -> Result<(), Fail> {
     let report = Report::new(alloc, &sql, Listing::Json, "x", text)?;
     assert_eq!(rt; report.listing.as_str(), JSON);
     assert_eq!(rt; (report.statement_count, report.error_count), (2, 2));
+    Ok(())
+}
+
+#[test]
+fn has_no_headings_in_json(rt: HostRuntime) -> Result<(), Fail> {
+    assert_eq!(rt; has_headings(Listing::Json, 2), false);
+    assert_eq!(rt; has_headings(Listing::Quiet, 2), false);
+    assert_eq!(rt; has_headings(Listing::Statements, 2), true);
+    assert_eq!(rt; has_headings(Listing::Statements, 1), false);
     Ok(())
 }
 

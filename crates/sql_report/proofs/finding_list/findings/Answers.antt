@@ -1,8 +1,7 @@
-use Rattle.std.proofs.Common.{◌≡◌, ◌∙◌, ◌++◌, ℕ, List, ap, map, rules}
+use Rattle.std.proofs.Common.{◌≡◌, ◌∙◌, ◌++◌, ℕ, ap, map, rules}
 use Rattle.std.specs.List.{flat_map}
 use Rattle.std.proofs.lemmas.Fn.{always_returns_same}
-use Rattle.squawk_table.specs.Sent.{sent_list}
-use Rattle.sql_report.specs.Findings.{all_told, told, told_in, told_lexical}
+use Rattle.sql_report.specs.Findings.{told, told_in, told_lexical}
 use Rattle.sql_report.specs.declared.finding_list.Finding.{Finding}
 use Rattle.sql_report.proofs.finding_list.findings.Goals as goal
 

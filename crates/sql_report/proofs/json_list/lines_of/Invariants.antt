@@ -6,7 +6,7 @@ use Rattle.sql_report.proofs.json_list.lines_of.Given as goal
 
 abbrev pub invariant-loop-step : goal.invariant-loop-step
 invariant-loop-step l = record {
-  room : l.text.at + bytes_of l.step-iterator.steps < 2 ^ 64;
+  room : l.writer.at + bytes_of l.step-iterator.steps < 2 ^ 64;
   same : l.names ≡ l.initial.names;
-  all : string_bytes l.text.lines ++ written_from l.names (standing l.text) l.step-iterator.steps ≡ json_lines l.names l.initial.step-iterator.steps;
+  all : string_bytes l.writer.lines ++ written_from l.names (standing l.writer) l.step-iterator.steps ≡ json_lines l.names l.initial.step-iterator.steps;
 }

@@ -1,6 +1,6 @@
 use Rattle.std.proofs.lemmas.Bool.{ne_eqb}
-use Rattle.std.proofs.Common.{rules, ◌≡◌, ◌∙◌, false, true, get_or, sym}
-use Rattle.sql_report.specs.Places.{is_continuation, is_feed}
+use Rattle.std.proofs.Common.{rules, ◌≡◌, ◌∙◌, false, get_or, sym}
+use Rattle.sql_report.specs.Places.{is_feed}
 use Rattle.sql_report.proofs.Walks.{counted_begin, counted_feed, counted_inside}
 use Rattle.sql_report.proofs.place.Place.pass.Goals as goal
 

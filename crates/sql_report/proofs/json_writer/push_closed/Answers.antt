@@ -4,7 +4,7 @@ use Rattle.std.proofs.lemmas.Str.{encode_ascii}
 use Rattle.squawk_tree.proofs.Written.{OnOk-same}
 use Rattle.sql_report.specs.JsonLines.{node_closed}
 use Rattle.sql_report.proofs.JsonLemmas.{ending_deeper}
-use Rattle.sql_report.proofs.json_text.push_closed.Goals as goal
+use Rattle.sql_report.proofs.json_writer.push_closed.Goals as goal
 
 pub returns-then-outer-eq1 : goal.returns-then-outer-eq1
 returns-then-outer-eq1 c =

@@ -1,10 +1,10 @@
-use Rattle.std.proofs.Common.{◌≡◌, ◌<◌, ◌^◌, ◌∙◌, ap, arith, length, slice_index, sym}
-use Rattle.squawk_table.specs.Sent.{bytes_of, sent_list}
+use Rattle.std.proofs.Common.{◌≡◌, ◌∙◌, ap, arith, length, slice_index}
+use Rattle.squawk_table.specs.Sent.{sent_list}
 use Rattle.sql_report.proofs.Bounds.{bytes_of-beginning}
-use Rattle.sql_report.proofs.statement_list.statements.Goals as goal
+use Rattle.sql_report.proofs.statement_list.steps_of.Goals as goal
 
-pub statements_in-requires : goal.statements_in-requires
-statements_in-requires c =
+pub returns-clause-few : goal.returns-clause-few
+returns-clause-few c =
     let table = c.args.table.now in
     let steps = sent_list table c.args.output.now.steps in
     let is_table = c.len.ensures.table in

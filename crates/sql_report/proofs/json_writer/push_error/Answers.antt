@@ -4,7 +4,7 @@ use Rattle.std.specs.Fmt.{decimal}
 use Rattle.std.proofs.lemmas.Result.{on_ok_weaker}
 use Rattle.squawk_json.specs.JsonStrings.{json_of}
 use Rattle.sql_report.specs.JsonLines.{with_comma}
-use Rattle.sql_report.proofs.json_text.push_error.Goals as goal
+use Rattle.sql_report.proofs.json_writer.push_error.Goals as goal
 
 grouped : (old first second third fourth fifth : List ℕ) → ((old ++ first) ++ second) ++ ((third ++ fourth) ++ fifth) ≡ old ++ ((((first ++ second) ++ third) ++ fourth) ++ fifth)
 grouped old first second third fourth fifth = simp append_assoc

@@ -18,27 +18,27 @@ use std::fmt::Write;
 
 /// The lines so far, and where the next step stands.
 #[derive(Drop)]
-pub(crate) struct JsonText {
+pub(crate) struct JsonWriter {
     alloc: Global,
     pub(crate) lines: String,
     /// The errors of each open node so far, joined, those of the innermost last.
     errors: Vec<String>,
     /// Whether a child stands before in the innermost node.
-    later: bool,
+    has_child: bool,
     at: usize,
 }
 
-impl JsonText {
+impl JsonWriter {
     /// Nothing, before the first step.
-    pub(crate) fn new(alloc: Global) -> JsonText
+    pub(crate) fn new(alloc: Global) -> JsonWriter
         ensures lines { string_bytes result.lines ≡ [] }
-        ensures first { standing result ≡ record { nodes = []; later = false; at = 0 } }
+        ensures first { standing result ≡ record { nodes = []; has_child = false; at = 0 } }
     {
-        JsonText {
+        JsonWriter {
             alloc,
             lines: String::new(alloc),
             errors: Vec::new(alloc),
-            later: false,
+            has_child: false,
             at: 0,
         }
     }
@@ -78,7 +78,7 @@ impl JsonText {
     {
         let end = self.at + byte_len(text);
         self.push_token(names, kind, end)?;
-        self.later = true;
+        self.has_child = true;
         self.at = end;
         Ok(())
     }
@@ -92,7 +92,7 @@ impl JsonText {
     {
         self.push_opening(names, kind)?;
         self.errors.push(String::new(self.alloc))?;
-        self.later = false;
+        self.has_child = false;
         Ok(())
     }
 
@@ -102,7 +102,7 @@ impl JsonText {
             ≡ string_bytes self.old.lines ++ closing (nodes_of self.old.errors.items) self.old.at) }
         ensures behind { OnOk result (standing self.new ≡ behind (standing self.old) Exit) }
     {
-        self.later = true;
+        self.has_child = true;
         match self.errors.pop() {
             Some(errors) => push_closed(&mut self.lines, self.errors.len(), self.at, &errors),
             None => Ok(()),
@@ -132,7 +132,7 @@ impl JsonText {
         end: usize,
     ) -> Result<(), AllocError>
         ensures written { OnOk result (string_bytes self.new.lines ≡ string_bytes self.old.lines
-            ++ in_statement (nodes_of self.old.errors.items) (comma self.old.later ++ token_object names.old kind self.old.at end)) }
+            ++ in_statement (nodes_of self.old.errors.items) (comma self.old.has_child ++ token_object names.old kind self.old.at end)) }
         ensures unmoved { standing self.new ≡ standing self.old }
         ensures same { names.new ≡ names.old }
     {
@@ -151,7 +151,7 @@ impl JsonText {
         kind: SyntaxKind,
     ) -> Result<(), AllocError>
         ensures written { OnOk result (string_bytes self.new.lines ≡ string_bytes self.old.lines
-            ++ opening (nodes_of self.old.errors.items) self.old.later (node_opened names.old kind self.old.at)) }
+            ++ opening (nodes_of self.old.errors.items) self.old.has_child (node_opened names.old kind self.old.at)) }
         ensures unmoved { standing self.new ≡ standing self.old }
         ensures same { names.new ≡ names.old }
     {
@@ -166,10 +166,10 @@ impl JsonText {
     /// Puts a comma behind the lines, where a child stands before in a node of a statement.
     fn push_comma(&mut self) -> Result<(), AllocError>
         ensures written { OnOk result (string_bytes self.new.lines ≡ string_bytes self.old.lines
-            ++ in_statement (nodes_of self.old.errors.items) (comma self.old.later)) }
+            ++ in_statement (nodes_of self.old.errors.items) (comma self.old.has_child)) }
         ensures unmoved { standing self.new ≡ standing self.old }
     {
-        if self.later && self.errors.len() > 1 {
+        if self.has_child && self.errors.len() > 1 {
             self.lines.push(',')
         } else {
             Ok(())
