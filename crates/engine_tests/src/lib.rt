@@ -12,6 +12,8 @@ mod bounds;
 #[cfg(test)]
 mod cases;
 #[cfg(test)]
+mod deep;
+#[cfg(test)]
 mod error_lines;
 #[cfg(test)]
 mod events;

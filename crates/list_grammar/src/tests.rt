@@ -2,12 +2,16 @@
 
 ghost use Rattle.std.specs.Prelude.{◌≤◌};
 
-use crate::send;
-use squawk_parser::{Base, EntryPoint, LiteralKind, OwnedStep, Sent, StepList, Token, TokenKind};
+use crate::{Lists, send};
+use squawk_parser::{
+    Base, EntryPoint, LiteralKind, NoKeywords, Sent, StepList, StrStep, SyntaxKind, Token,
+    TokenKind,
+};
 use std::alloc::{AllocError, Global};
 use std::fmt::Write;
 use std::process::Abort;
 use std::test::Fail;
+use syntax_tree::{SyntaxTree, parse_tree};
 
 /// The raw tokens of a text whose characters are tokens by themselves.
 fn tokens_of(alloc: Global, text: &str) -> Result<Vec<Token>, AllocError> {
@@ -33,19 +37,19 @@ fn tokens_of(alloc: Global, text: &str) -> Result<Vec<Token>, AllocError> {
     Ok(tokens)
 }
 
-/// The line of steps that were sent: `710{ 3:a !1 text; }` is a node 710 with a token `a` of kind 3 and
+/// The line of a tree's steps: `710{ 3:a !1 text; }` is a node 710 with a token `a` of kind 3 and
 /// an error at byte 1 in it.
-fn line_of(alloc: Global, steps: &[OwnedStep]) -> Result<String, AllocError> {
+fn line_of(alloc: Global, tree: &SyntaxTree<'_>) -> Result<String, AllocError> {
     let mut line = String::new(alloc);
-    for step in steps {
+    for step in tree.steps() {
         if !line.is_empty() {
             line.push(' ')?;
         }
         match step {
-            OwnedStep::Enter { kind } => write!(line, "{}{{", kind.0)?,
-            OwnedStep::Token { kind, text } => write!(line, "{}:{}", kind.0, text.as_str())?,
-            OwnedStep::Error { msg, pos } => write!(line, "!{pos} {};", msg.as_str())?,
-            OwnedStep::Exit => line.push('}')?,
+            StrStep::Enter { kind } => write!(line, "{}{{", kind.0)?,
+            StrStep::Token { kind, text } => write!(line, "{}:{text}", kind.0)?,
+            StrStep::Error { msg, pos } => write!(line, "!{pos} {msg};")?,
+            StrStep::Exit => line.push('}')?,
         }
     }
     Ok(line)
@@ -85,7 +89,10 @@ fn assert_row(
         let mut list = StepList::new(rt.alloc());
         let sent = send(rt.alloc(), text, &tokens, entry, &mut list)?;
         assert_eq!(rt; sent, wanted_counts);
-        let line = line_of(rt.alloc(), list.steps())?;
+        let names = [(SyntaxKind::COMMA, ","), (SyntaxKind::R_PAREN, ")")];
+        let lists = Lists { names: &names };
+        let tree = parse_tree(rt.alloc(), text, &tokens, &NoKeywords, &lists, entry)?;
+        let line = line_of(rt.alloc(), &tree)?;
         assert_eq!(rt; line.as_str(), wanted);
     }
     Ok(())

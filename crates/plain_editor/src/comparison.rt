@@ -4,7 +4,9 @@ use crate::counts::Counts;
 use crate::draft::Draft;
 use crate::editor::edit;
 use crate::generator::{Random, Sample};
+use crate::nested::lines_of_nested;
 use crate::source::Source;
+use crate::trees::lines_of_tree;
 use crate::trivia::{Sent, send, stands_in_one_root};
 use crate::words::{NAMES, words};
 use row_fixtures::keywords::KEYWORDS;
@@ -22,6 +24,8 @@ struct Answer<'a> {
     turns: u64,
     stands_in_one_root: bool,
     sent: Option<Sent<'a>>,
+    /// What is read of the tree of what is sent, a line for each element.
+    tree: Option<String>,
     /// Whether the same is sent to a list as one by one.
     is_listed: bool,
 }
@@ -78,7 +82,10 @@ fn judge(
         Err(error) => return refused(alloc, error, edited),
     };
     match EntryPoint::SourceFile.parse(alloc, &input, &script) {
-        Ok(output) => difference(alloc, &Ok(parsed(alloc, &table, &output)?), edited),
+        Ok(output) => {
+            let answer = parsed(alloc, source.text.as_str(), &table, &output)?;
+            difference(alloc, &Ok(answer), edited)
+        }
         Err(error) => refused(alloc, error, edited),
     }
 }
@@ -105,16 +112,23 @@ fn difference(
 /// The answer of the engine.
 fn parsed<'a>(
     alloc: Global,
+    text: &str,
     table: &'a LexedStr<'a>,
     output: &'a Output,
 ) -> Result<Answer<'a>, AllocError> {
     let list = sent_over_table(alloc, table, output)?;
+    let sent = walked(alloc, table, output)?;
+    let tree = match &sent {
+        Some(sent) => lines_of_tree(alloc, text, &sent.steps)?,
+        None => None,
+    };
     Ok(Answer {
         steps: output.iter().collect(alloc)?,
         recorded: u64::from(output.recorded()),
         turns: output.turns(),
         stands_in_one_root: output.stands_in_one_root(),
-        sent: walked(alloc, table, output)?,
+        sent,
+        tree,
         is_listed: list.is_none_or(|list| list.is_given),
     })
 }
@@ -146,16 +160,22 @@ fn edited<'a>(
     };
     let items = draft.items.as_slice();
     let is_root = stands_in_one_root(items);
+    let sent = if is_root {
+        Some(send(alloc, source, items)?)
+    } else {
+        None
+    };
+    let tree = match &sent {
+        Some(sent) => Some(lines_of_nested(alloc, &sent.steps)?),
+        None => None,
+    };
     Ok(Ok(Answer {
         steps: items.iter().filter_map(|item| item.step()).collect(alloc)?,
         recorded: draft.recorded,
         turns: draft.turns,
         stands_in_one_root: is_root,
-        sent: if is_root {
-            Some(send(alloc, source, items)?)
-        } else {
-            None
-        },
+        sent,
+        tree,
         is_listed: true,
     }))
 }

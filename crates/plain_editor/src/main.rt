@@ -12,8 +12,10 @@ mod draft;
 mod editor;
 mod generator;
 mod looks;
+mod nested;
 mod pieces;
 mod source;
+mod trees;
 mod trivia;
 mod words;
 

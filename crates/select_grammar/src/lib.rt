@@ -43,7 +43,10 @@ impl<'n> Grammar for Selects<'n> {
 
     ghost runs = { λ _ _ _ _. Unit {0} };
 
-    ghost meaning = { λ selects. record { operator_first = operator_set; names = map (λ pair. (pair.0, pair.1.now)) selects.names.now } };
+    ghost meaning = { λ selects. record {
+      operator_first = operator_set;
+      names = map (λ pair. (pair.0, pair.1.now)) selects.names.now;
+    } };
 
     fn words(&self) -> Words<'_> {
         Words {

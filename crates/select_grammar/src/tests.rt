@@ -2,13 +2,12 @@
 
 use crate::kinds::NAMES;
 use crate::{send, vocabulary};
-use squawk_parser::{
-    Base, LiteralKind, OwnedStep, StepList, StepSink, StrStep, SyntaxKind, Token, TokenKind,
-};
+use squawk_parser::{Base, LiteralKind, StepSink, StrStep, SyntaxKind, Token, TokenKind};
 use std::alloc::{AllocError, Global};
 use std::fmt::Write;
 use std::process::Abort;
 use std::test::Fail;
+use syntax_tree::{SyntaxTree, TreeBuilder};
 
 /// The kind of the raw token that a character is, or begins.
 fn kind_of(byte: u8) -> TokenKind {
@@ -51,30 +50,40 @@ fn push_byte(tokens: &mut Vec<Token>, kind: TokenKind) -> Result<(), AllocError>
     Ok(())
 }
 
-/// The line of steps that were sent: `700{3:a !1 text;}` is a node 700 with a token `a` of kind 3 and an
+fn put_token(line: &mut String, kind: SyntaxKind, text: &str) -> Result<(), AllocError> {
+    if text == " " {
+        line.push('_')
+    } else {
+        write!(line, "{}:{text} ", kind.0)
+    }
+}
+
+/// The line of a tree's steps: `700{3:a !1 text;}` is a node 700 with a token `a` of kind 3 and an
 /// error at byte 1 in it. A space is an underscore.
-fn line_of(alloc: Global, steps: &[OwnedStep]) -> Result<String, AllocError> {
+fn line_of(alloc: Global, tree: &SyntaxTree<'_>) -> Result<String, AllocError> {
     let mut line = String::new(alloc);
-    for step in steps {
+    for step in tree.steps() {
         match step {
-            OwnedStep::Enter { kind } => write!(line, "{}{{", kind.0)?,
-            OwnedStep::Token { kind: _, text } if text.as_str() == " " => line.push('_')?,
-            OwnedStep::Token { kind, text } => write!(line, "{}:{} ", kind.0, text.as_str())?,
-            OwnedStep::Error { msg, pos } => write!(line, "!{pos} {};", msg.as_str())?,
-            OwnedStep::Exit => line.push('}')?,
+            StrStep::Enter { kind } => write!(line, "{}{{", kind.0)?,
+            StrStep::Token { kind, text } => put_token(&mut line, kind, text)?,
+            StrStep::Error { msg, pos } => write!(line, "!{pos} {msg};")?,
+            StrStep::Exit => line.push('}')?,
         }
     }
     Ok(line)
 }
 
-/// Parses the text, and ends the test unless all of it is sent by these steps.
+/// Parses the text, and ends the test unless all of it is sent, and its tree has these steps.
 fn assert_sent(rt: &(impl Abort + AllocGlobal), text: &str, wanted: &str) -> Result<(), Fail> {
     let tokens = tokens_of(rt.alloc(), text)?;
-    let mut list = StepList::new(rt.alloc());
+    let mut builder = TreeBuilder::new(rt.alloc(), text);
     let keywords = vocabulary(rt.alloc())?;
-    let sent = send(rt.alloc(), text, &tokens, &keywords, &NAMES, &mut list)?;
+    let sent = send(rt.alloc(), text, &tokens, &keywords, &NAMES, &mut builder)?;
     assert!(rt; sent.all);
-    let line = line_of(rt.alloc(), list.steps())?;
+    let Ok(tree) = builder.finish() else {
+        return Err(Fail::from("no tree"));
+    };
+    let line = line_of(rt.alloc(), &tree)?;
     assert_eq!(rt; line.as_str(), wanted);
     Ok(())
 }

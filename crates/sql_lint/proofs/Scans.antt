@@ -10,24 +10,9 @@ use Rattle.sql_report.specs.declared.finding_list.Finding.{Finding}
 use Rattle.syntax_tree.specs.Layout.{Laid, IsTree}
 use Rattle.syntax_tree.specs.Trees.{kind_at, start_at}
 use Rattle.syntax_tree.specs.Views.{At, place_in}
+use Rattle.syntax_tree.proofs.PlacesLeft.{BeginsAt, begins, no_places}
 use Rattle.sql_lint.specs.Rules.{broken_rule, finding_at, findings_in, message_of, stand_together, told_at, words_at, words_of}
 use Rattle.sql_lint.specs.declared.rules.Rule.{Rule}
-
--- what is left of a walk over places begins with one of them
-pub record BeginsAt (laid : Laid) (places : List ℕ) (place : At) (rest : List At) : Type 0 where
-  pub at : ℕ
-  pub behind : List ℕ
-  pub is : places ≡ at ∷ behind
-  pub place_is : place ≡ place_in laid at
-  pub rest_is : rest ≡ map (place_in laid) behind
-
-begins : (laid : Laid) (places : List ℕ) (place : At) (rest : List At) → map (place_in laid) places ≡ place ∷ rest → BeginsAt laid places place rest
-begins laid [] place rest e = cc
-begins laid (at ∷ behind) place rest e = record { at = at; behind = behind; is = refl; place_is = cc; rest_is = cc }
-
-no_places : (laid : Laid) (places : List ℕ) → map (place_in laid) places ≡ [] → places ≡ []
-no_places laid [] e = refl
-no_places laid (at ∷ behind) e = cc
 
 -- ---- words that stand together
 

@@ -1,5 +1,5 @@
 -- What a loop over the elements of a tree has put, and what is left.
-use Rattle.std.proofs.Common.{arith, ◌≡◌, ◌∙◌, ◌==◌, length, encode_utf8_all, ℕ, not, Bool, true, false, List, [], ◌∷◌, ◌++◌, map, refl, ap, sym, subst, append_assoc}
+use Rattle.std.proofs.Common.{arith, ◌≡◌, ◌∙◌, ◌==◌, length, encode_utf8_all, ℕ, Bool, true, false, List, [], ◌∷◌, ◌++◌, map, ap, sym, subst, append_assoc}
 use Rattle.std.specs.List.{flat_map}
 use Rattle.std.proofs.lemmas.Bool.{cond-false, cond-true}
 use Rattle.std.proofs.lemmas.List.{append-nil}
@@ -13,6 +13,7 @@ use Rattle.syntax_tree.specs.Layout.{Laid, IsTree}
 use Rattle.syntax_tree.specs.Parsed.{IsParsedTree}
 use Rattle.syntax_tree.specs.Trees.{descendants_of, end_at, is_token_at, kind_at, text_at, text_of, tokens_among}
 use Rattle.syntax_tree.specs.Views.{At, place_in}
+use Rattle.syntax_tree.proofs.PlacesLeft.{BeginsAt, begins, no_places}
 use Rattle.sql_trim.specs.Formatted.{ends_text, formatted, piece}
 use Rattle.sql_trim.specs.Trimmed.{trimmed}
 
@@ -21,22 +22,6 @@ pub record PutsPieces (laid : Laid) (tree : Forest) (text : List ℕ) (walk : Li
   pub places : List ℕ
   pub left : walk ≡ map (place_in laid) places
   pub same : text ++ flat_map (piece tree) (tokens_among tree places) ≡ formatted tree
-
--- what is left of a walk over places begins with one of them
-pub record BeginsAt (laid : Laid) (places : List ℕ) (place : At) (rest : List At) : Type 0 where
-  pub at : ℕ
-  pub behind : List ℕ
-  pub is : places ≡ at ∷ behind
-  pub place_is : place ≡ place_in laid at
-  pub rest_is : rest ≡ map (place_in laid) behind
-
-begins : (laid : Laid) (places : List ℕ) (place : At) (rest : List At) → map (place_in laid) places ≡ place ∷ rest → BeginsAt laid places place rest
-begins laid [] place rest e = cc
-begins laid (at ∷ behind) place rest e = record { at = at; behind = behind; is = refl; place_is = cc; rest_is = cc }
-
-no_places : (laid : Laid) (places : List ℕ) → map (place_in laid) places ≡ [] → places ≡ []
-no_places laid [] e = refl
-no_places laid (at ∷ behind) e = cc
 
 pub puts_none : (laid : Laid) (tree : Forest) (text : List ℕ) (walk : List At) → text ≡ [] → walk ≡ map (place_in laid) (descendants_of tree 0)
     → PutsPieces laid tree text walk

@@ -6,7 +6,8 @@ use Rattle.syntax_tree.specs.Trees.{size}
 use Rattle.syntax_tree.specs.Layout.{layout, last_of, node_element}
 use Rattle.syntax_tree.specs.Drafts.{Draft, Within, draft_size, draft_bytes, draft_elements, innermost, open_element}
 use Rattle.syntax_tree.specs.declared.element.Element.{Element}
-use Rattle.syntax_tree.proofs.Layouts.{length-layout, layout-none, last_of-none}
+use Rattle.syntax_tree.proofs.Beside.{last_of-none}
+use Rattle.syntax_tree.proofs.Layouts.{length-layout, layout-none}
 use Rattle.syntax_tree.proofs.DraftsGrown.{grow, HasRoom, draft_elements-grow, last_behind-node, length-draft}
 use Rattle.syntax_tree.proofs.DraftsLast.{with_last, ending}
 

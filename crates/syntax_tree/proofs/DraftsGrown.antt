@@ -7,7 +7,8 @@ use Rattle.squawk_tree.specs.Forest.{Forest, Nothing, Token, Node, Error, forest
 use Rattle.syntax_tree.specs.Trees.{size, text_of}
 use Rattle.syntax_tree.specs.Layout.{layout, errors_of, last_of, outermost, AreTexts}
 use Rattle.syntax_tree.specs.Drafts.{Draft, Outside, Within, draft_size, draft_bytes, draft_text, draft_steps, draft_elements, draft_errors, innermost, open_element, HasOneRoot, HasTexts}
-use Rattle.syntax_tree.proofs.Layouts.{beside, layout-none, outermost-none, size-beside, text_of-beside, forest_steps-beside, length-text_of, few_steps, AreTexts-beside, both_utf8, IsUtf8-texts, IsOneRoot-beside, IsOneRoot-node, length-layout, last_of-beside, outermost-last, layout-at, layout-beside, errors_of-at, errors_of-beside}
+use Rattle.syntax_tree.proofs.Beside.{beside, size-beside, last_of-beside, outermost-none}
+use Rattle.syntax_tree.proofs.Layouts.{layout-none, text_of-beside, forest_steps-beside, length-text_of, few_steps, AreTexts-beside, both_utf8, IsUtf8-texts, IsOneRoot-beside, IsOneRoot-node, length-layout, outermost-last, layout-at, layout-beside, errors_of-at, errors_of-beside}
 
 -- ---- what a draft has
 

@@ -4,7 +4,8 @@ use Rattle.squawk_tree.specs.Forest.{Forest, Nothing, Token, Node, Error, forest
 use Rattle.syntax_tree.specs.Trees.{size}
 use Rattle.syntax_tree.specs.Layout.{layout, last_of, token_element, node_element}
 use Rattle.syntax_tree.specs.declared.element.Element.{Element}
-use Rattle.syntax_tree.proofs.Layouts.{layout-none, last_of-none, last_of-some, outermost-none, outermost-some}
+use Rattle.syntax_tree.proofs.Beside.{last_of-none, last_of-some, outermost-none, outermost-some}
+use Rattle.syntax_tree.proofs.Layouts.{layout-none}
 
 abbrev pub with_last : ℕ → Element → Element
 with_last all e = record e { last = all }

@@ -8,7 +8,7 @@ use Rattle.syntax_tree.specs.Layout.{Laid, layout, outermost}
 use Rattle.syntax_tree.specs.Views.{element_in, no_element}
 use Rattle.syntax_tree.specs.declared.element.Element.{Element}
 use Rattle.syntax_tree.proofs.Beside.{last_of-none, outermost-none, outermost-some}
-use Rattle.syntax_tree.proofs.Texts.{length-layout}
+use Rattle.syntax_tree.proofs.Layouts.{length-layout}
 
 -- the element at an index of a layout
 abbrev pub laid_at : Forest → ℕ → ℕ → ℕ → ℕ → ℕ → Element

@@ -7,20 +7,9 @@ use Rattle.squawk_tree.specs.Forest.{Forest, Nothing, Token, Node, Error, forest
 use Rattle.syntax_tree.specs.Trees.{size, text_of, IsOneRoot}
 use Rattle.syntax_tree.specs.Layout.{layout, errors_of, last_of, outermost, token_element, node_element, AreTexts}
 use Rattle.syntax_tree.specs.declared.tree.TreeError.{TreeError}
-
-abbrev pub beside : Forest → Forest → Forest
-beside Nothing more = more
-beside (Token kind text others) more = Token kind text (beside others more)
-beside (Node kind inner others) more = Node kind inner (beside others more)
-beside (Error text pos others) more = Error text pos (beside others more)
+use Rattle.syntax_tree.proofs.Beside.{beside, size-beside}
 
 -- ---- sizes, texts and steps
-
-pub size-beside : (f g : Forest) → size (beside f g) ≡ size f + size g
-size-beside Nothing g = omega arith
-size-beside (Token kind text others) g = omega (arith, size-beside others g)
-size-beside (Node kind inner others) g = omega (arith, size-beside others g)
-size-beside (Error text pos others) g = size-beside others g
 
 pub text_of-beside : (f g : Forest) → text_of (beside f g) ≡ text_of f ++ text_of g
 text_of-beside Nothing g = refl
@@ -120,16 +109,6 @@ length-layout (Node kind inner others) parent at start all =
     )
 length-layout (Error text pos others) parent at start all = length-layout others parent at start all
 
-pub last_of-beside : (f g : Forest) (at none : ℕ) → last_of (beside f g) at none ≡ last_of g (at + size f) (last_of f at none)
-last_of-beside Nothing g at none = ap (λ a. last_of g a none) (sym (add-zero at))
-last_of-beside (Token kind text others) g at none =
-    let at_is : at + 1 + size others ≡ at + suc (size others) = omega arith in
-    last_of-beside others g (at + 1) at ∙ ap (λ a. last_of g a (last_of others (at + 1) at)) at_is
-last_of-beside (Node kind inner others) g at none =
-    let at_is : at + 1 + size inner + size others ≡ at + suc (size inner + size others) = omega arith in
-    last_of-beside others g (at + 1 + size inner) at ∙ ap (λ a. last_of g a (last_of others (at + 1 + size inner) at)) at_is
-last_of-beside (Error text pos others) g at none = last_of-beside others g at none
-
 -- the outermost element that ends with trees is the last of them, or that which ends with the trees before
 pub outermost-last : (g : Forest) (at none : ℕ) → outermost g none (last_of g at none) ≡ none
 outermost-last Nothing at none = refl
@@ -178,30 +157,6 @@ layout-beside (Error text pos others) g parent at start all none = layout-beside
 
 pub layout-none : (f : Forest) (parent at start all : ℕ) → size f ≡ 0 → layout f parent at start all ≡ []
 layout-none f parent at start all none = nil_from_length (layout f parent at start all) (length-layout f parent at start all ∙ none)
-
-pub last_of-none : (f : Forest) (at none : ℕ) → size f ≡ 0 → last_of f at none ≡ none
-last_of-none Nothing at none empty = refl
-last_of-none (Token kind text others) at none empty = absurd (omega (arith, empty))
-last_of-none (Node kind inner others) at none empty = absurd (omega (arith, empty))
-last_of-none (Error text pos others) at none empty = last_of-none others at none empty
-
-pub last_of-some : (f : Forest) (at none none' : ℕ) → 1 ≤ size f → last_of f at none ≡ last_of f at none'
-last_of-some Nothing at none none' some = absurd (omega (arith, some))
-last_of-some (Token kind text others) at none none' some = refl
-last_of-some (Node kind inner others) at none none' some = refl
-last_of-some (Error text pos others) at none none' some = last_of-some others at none none' some
-
-pub outermost-none : (f : Forest) (at all : ℕ) → size f ≡ 0 → outermost f at all ≡ all
-outermost-none Nothing at all empty = refl
-outermost-none (Token kind text others) at all empty = absurd (omega (arith, empty))
-outermost-none (Node kind inner others) at all empty = absurd (omega (arith, empty))
-outermost-none (Error text pos others) at all empty = outermost-none others at all empty
-
-pub outermost-some : (f : Forest) (at all : ℕ) → 1 ≤ size f → outermost f at all ≡ at
-outermost-some Nothing at all some = absurd (omega (arith, some))
-outermost-some (Token kind text others) at all some = refl
-outermost-some (Node kind inner others) at all some = refl
-outermost-some (Error text pos others) at all some = outermost-some others at all some
 
 -- ---- errors
 

@@ -3,6 +3,7 @@ pub mod DraftsLast
 pub mod DraftsGrown
 pub mod DraftsClosed
 pub mod Drafts
+pub mod DraftsToken
 pub mod Texts
 pub mod Beside
 pub mod Laid
@@ -16,10 +17,15 @@ pub mod Ancestors
 pub mod Unique
 pub mod NextNode
 pub mod Searches
-pub mod ByteHolders
+pub mod Apart
+pub mod TokenOfByte
+pub mod CoveringElement
+pub mod SentWalks
+pub mod SentTrees
 pub mod SentRoots
 pub mod ParsedTrees
 pub mod NodesLeft
+pub mod PlacesLeft
 pub mod SiblingLoops
 pub mod WalksByRule
 pub mod WalksLaid

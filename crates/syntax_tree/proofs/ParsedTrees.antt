@@ -1,8 +1,7 @@
 -- The tree of a text, from what its sink was sent.
-use Rattle.std.proofs.Common.{◌≡◌, ◌∙◌, ℕ, List, [], ◌∷◌, ◌++◌, arith, ap, sym, refl, subst}
+use Rattle.std.proofs.Common.{◌≡◌, ◌∙◌, ℕ, List, [], ◌∷◌, ◌++◌, arith, ap, sym, subst}
 use Rattle.std.specs.Prelude.{IsUtf8, MatchResult, Result, Ok, Err, encode_utf8_all}
 use Rattle.std.specs.Str.{chars}
-use Rattle.std.proofs.lemmas.List.Concat.{flat_map-append}
 use Rattle.std.proofs.lemmas.Str.{encodes-append, encodes-chars, encodes_same}
 use Rattle.squawk_tokens.proofs.StandApart.{stand_apart}
 use Rattle.squawk_output.specs.Draft.{Draft}
@@ -10,7 +9,7 @@ use Rattle.squawk_output.specs.OneRoot.{StandsInOneRoot}
 use Rattle.squawk_output.specs.Steps.{Walk, without_errors}
 use Rattle.squawk_table.specs.ParserInput.{Entry}
 use Rattle.squawk_table.specs.RawTable.{IsTable, raw_tokens}
-use Rattle.squawk_table.specs.Sent.{sent_list, text_in, texts_of}
+use Rattle.squawk_table.specs.Sent.{sent_list, texts_of}
 use Rattle.squawk_table.specs.Shape.{Fits, no_keywords}
 use Rattle.squawk_table.specs.declared.shortcuts.str_step.OwnedStep.{OwnedStep}
 use Rattle.squawk_table.specs.declared.shortcuts.str_step.OwnedStep.TheVariants as step
@@ -19,12 +18,14 @@ use Rattle.squawk_table.proofs.OverTable.{IsOver-keywords, length-keywords}
 use Rattle.squawk_table.proofs.TableLemmas.{IsTable-table_of}
 use Rattle.squawk_parser.specs.Pipeline.{Given, IsParsed, IsParsedInto, IsStopped, table_for}
 use Rattle.squawk_parser.specs.declared.pipeline.Sent.{Sent}
-use Rattle.squawk_tree.specs.Forest.{Forest, Nothing, Token, Node, Error, forest_steps}
+use Rattle.squawk_tree.specs.Forest.{Forest, forest_steps}
 use Rattle.syntax_tree.specs.Drafts.{Growing, StandsAfter}
 use Rattle.syntax_tree.specs.Layout.{Laid, IsTree}
-use Rattle.syntax_tree.specs.Parsed.{IsParsedTo, IsParsedTree, RefusesOver, RefusesStep, StandsOver}
-use Rattle.syntax_tree.specs.Trees.{IsOneRoot, text_of}
+use Rattle.syntax_tree.specs.Parsed.{IsParsedTo, IsParsedTree, RefusesOver, StandsOver}
+use Rattle.syntax_tree.specs.Refusals.{RefusesStep}
+use Rattle.syntax_tree.specs.Trees.{IsOneRoot}
 use Rattle.syntax_tree.specs.declared.builder.TreeRefusal.{TreeRefusal}
+use Rattle.syntax_tree.proofs.Refusals.{texts_of-forest}
 use Rattle.syntax_tree.proofs.SentRoots.{Answers, answers, begins, errors_sent, root_of, sends}
 
 -- ---- a builder over a source
@@ -45,16 +46,6 @@ takes_over old new next (Ok x) source takes list over = record {
 takes_over old new next (Err answer) source takes list over =
     let refused = takes over.steps over.stands in
     (subst (λ g. StandsOver g list) (sym refused.0) over, record { source = old.source; steps = over.steps; is = over.is; refused = refused.1 })
-
--- ---- texts
-
-texts-forest : (forest : Forest) → texts_of (forest_steps forest) ≡ text_of forest
-texts-forest Nothing = refl
-texts-forest (Token kind text others) = ap (λ l. text ++ l) (texts-forest others)
-texts-forest (Node kind inner others) =
-    flat_map-append text_in (forest_steps inner) (step.Exit ∷ forest_steps others)
-    ∙ (ap (λ l. l ++ texts_of (forest_steps others)) (texts-forest inner) ∙ ap (λ l. text_of inner ++ l) (texts-forest others))
-texts-forest (Error text pos others) = texts-forest others
 
 -- ---- the call
 
@@ -111,7 +102,7 @@ module _ (g : Given) (leaves : List Entry → Draft → Type 0) (law : AreKeywor
       parsed_tree laid finished =
           let f = finished all stands in
           let sending = into.sending in
-          let bytes : laid.text ≡ encode_utf8_all (texts_of all) = f.1.text ∙ ap encode_utf8_all (sym (texts-forest f.0) ∙ ap texts_of f.2) in
+          let bytes : laid.text ≡ encode_utf8_all (texts_of all) = f.1.text ∙ ap encode_utf8_all (sym (texts_of-forest f.0) ∙ ap texts_of f.2) in
           let source = encodes-chars g.text utf8 in
           let same = length-keywords g.contextual no_keywords (raw_tokens (table_for g)) in
           let rest = sending.beginning.0 in

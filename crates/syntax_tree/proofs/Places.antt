@@ -3,11 +3,12 @@ use Rattle.std.proofs.Common.{◌≡◌, ◌∙◌, inl, inr, ℕ, zero, suc, �
 use Rattle.std.proofs.lemmas.Bool.{cases_lt}
 use Rattle.std.proofs.lemmas.List.{get_or_default}
 use Rattle.squawk_tree.specs.Forest.{Forest, Nothing, Token, Node, Error, forest_bytes}
-use Rattle.syntax_tree.specs.Trees.{size, forest_at, kind_of, is_token, inner_of, is_token_at, kind_at, start_at, size_at, IsOneRoot}
+use Rattle.syntax_tree.specs.Trees.{size, forest_at, kind_of, is_token, inner_of, is_token_at, kind_at, start_at, size_at}
 use Rattle.syntax_tree.specs.Layout.{Laid, IsTree, HoldsTree, last_of, outermost}
 use Rattle.syntax_tree.specs.Views.{element_in, no_element}
 use Rattle.syntax_tree.specs.declared.element.Element.{Element}
 use Rattle.syntax_tree.proofs.Beside.{beside, last_of-some}
+use Rattle.syntax_tree.proofs.Layouts.{size-IsOneRoot}
 use Rattle.syntax_tree.proofs.Lies.{Lies, lies_behind_error, lies_behind_token, lies_within_node, lies_behind_node}
 use Rattle.syntax_tree.proofs.Laid.{laid_at, laid_within_node, parents_are, next_is}
 use Rattle.syntax_tree.proofs.Texts.{elements_are}
@@ -211,14 +212,8 @@ element_read inside laid same at below e read =
     read ∙ (ap (λ l. get_or l.elements at e) same ∙ get_or_default laid.elements at e no_element below)
 
 -- a tree has an element
-root_counts : (f : Forest) → IsOneRoot f → 1 ≤ size f
-root_counts Nothing one = absurd one
-root_counts (Token kind text others) one = absurd one
-root_counts (Node kind inner others) one = omega arith
-root_counts (Error text pos others) one = root_counts others one
-
 pub some_element : (laid : Laid) (tree : Forest) → IsTree laid tree → 0 < length laid.elements
-some_element laid tree is = omega (arith, root_counts tree is.one, elements_are laid tree is)
+some_element laid tree is = omega (arith, size-IsOneRoot tree is.one, elements_are laid tree is)
 
 -- the invariant of a tree's model
 pub held_in : (inside laid : Laid) → inside ≡ laid → HoldsTree inside → HoldsTree laid

@@ -18,7 +18,8 @@ use Rattle.syntax_tree.specs.declared.builder.TreeRefusal.{TreeRefusal}
 use Rattle.syntax_tree.specs.declared.builder.TreeRefusal.TheVariants.{OutOfMemory}
 use Rattle.syntax_tree.proofs.Layouts.{size-IsOneRoot}
 use Rattle.syntax_tree.proofs.DraftsGrown.{IsUtf8-draft}
-use Rattle.syntax_tree.proofs.Drafts.{size_is, some_chars, IsNextPart}
+use Rattle.syntax_tree.proofs.Drafts.{size_is}
+use Rattle.syntax_tree.proofs.DraftsToken.{some_chars, IsNextPart}
 
 -- ---- what the steps of trees and drafts have
 
@@ -39,7 +40,7 @@ nodes_open-draft (Within d kind f) =
     fold-append nodes_open_behind 0 (draft_steps d) (step.Enter kind ∷ forest_steps f)
     ∙ (ap (λ m. fold nodes_open_behind m (step.Enter kind ∷ forest_steps f)) (nodes_open-draft d) ∙ (open_behind-forest f (suc (draft_depth d)) ∙ more))
 
-elements_in-append : (a b : List OwnedStep) → elements_in (a ++ b) ≡ elements_in a + elements_in b
+pub elements_in-append : (a b : List OwnedStep) → elements_in (a ++ b) ≡ elements_in a + elements_in b
 elements_in-append [] b = omega arith
 elements_in-append (step.Token kind text ∷ a) b = omega (arith, elements_in-append a b)
 elements_in-append (step.Enter kind ∷ a) b = omega (arith, elements_in-append a b)
@@ -58,7 +59,7 @@ elements_in-draft (Outside f) = elements_in-forest f
 elements_in-draft (Within d kind f) =
     omega (arith, elements_in-append (draft_steps d) (step.Enter kind ∷ forest_steps f), elements_in-draft d, elements_in-forest f)
 
-errors_in-append : (a b : List OwnedStep) → errors_in (a ++ b) ≡ errors_in a + errors_in b
+pub errors_in-append : (a b : List OwnedStep) → errors_in (a ++ b) ≡ errors_in a + errors_in b
 errors_in-append [] b = omega arith
 errors_in-append (step.Token kind text ∷ a) b = errors_in-append a b
 errors_in-append (step.Enter kind ∷ a) b = errors_in-append a b
@@ -92,7 +93,7 @@ errors_in-draft (Within d kind f) =
       errors_in-forest f at (at + 1) given,
     )
 
-texts_of-forest : (f : Forest) → texts_of (forest_steps f) ≡ text_of f
+pub texts_of-forest : (f : Forest) → texts_of (forest_steps f) ≡ text_of f
 texts_of-forest Nothing = refl
 texts_of-forest (Token kind text others) = ap (λ t. text ++ t) (texts_of-forest others)
 texts_of-forest (Node kind inner others) =

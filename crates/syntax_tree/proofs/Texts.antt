@@ -4,46 +4,11 @@ use Rattle.std.specs.Prelude.{IsUtf8, IsCharBoundary, slice_range, encode_utf8_a
 use Rattle.std.specs.Str.{chars}
 use Rattle.std.proofs.lemmas.Bool.{cases_lt, cond_below, cond_above}
 use Rattle.std.proofs.lemmas.List.{length-append, drop_at, take_at}
-use Rattle.std.proofs.lemmas.Str.{IsUtf8-nil, IsUtf8-append, IsCharBoundary-at_seam, chars_from_encodes, encodes-append}
+use Rattle.std.proofs.lemmas.Str.{IsUtf8-append, IsCharBoundary-at_seam, chars_from_encodes, encodes-append}
 use Rattle.squawk_tree.specs.Forest.{Forest, Nothing, Token, Node, Error, forest_bytes}
 use Rattle.syntax_tree.specs.Trees.{size, text_of, forest_at, inner_of, first_text, text_at, size_at, start_at, end_at}
-use Rattle.syntax_tree.specs.Layout.{Laid, layout, outermost, AreTexts, IsTree}
-
--- ---- elements and bytes
-
-pub length-layout : (trees : Forest) (parent at start all : ℕ) → length (layout trees parent at start all) ≡ size trees
-length-layout Nothing parent at start all = refl
-length-layout (Token kind text others) parent at start all = ap suc (length-layout others parent (at + 1) (start + length (encode_utf8_all text)) all)
-length-layout (Node kind inner others) parent at start all =
-    let last = outermost others at all in
-    let within = layout inner at (at + 1) start last in
-    let behind = layout others parent (at + 1 + size inner) (start + forest_bytes inner) all in
-    omega (arith, length-append within behind, length-layout inner at (at + 1) start last, length-layout others parent (at + 1 + size inner) (start + forest_bytes inner) all)
-length-layout (Error text pos others) parent at start all = length-layout others parent at start all
-
--- the bytes of trees are those of their text
-pub length-text_of : (trees : Forest) → length (encode_utf8_all (text_of trees)) ≡ forest_bytes trees
-length-text_of Nothing = refl
-length-text_of (Token kind text others) =
-    omega (arith, ap length (encodes-append text (text_of others)), length-append (encode_utf8_all text) (encode_utf8_all (text_of others)), length-text_of others)
-length-text_of (Node kind inner others) =
-    omega (
-      arith,
-      ap length (encodes-append (text_of inner) (text_of others)),
-      length-append (encode_utf8_all (text_of inner)) (encode_utf8_all (text_of others)),
-      length-text_of inner,
-      length-text_of others,
-    )
-length-text_of (Error text pos others) = length-text_of others
-
-IsUtf8-joined : (a b : List ℕ) → IsUtf8 (encode_utf8_all a) → IsUtf8 (encode_utf8_all b) → IsUtf8 (encode_utf8_all (a ++ b))
-IsUtf8-joined a b left right = subst IsUtf8 (sym (encodes-append a b)) (IsUtf8-append (encode_utf8_all a) (encode_utf8_all b) left right)
-
-IsUtf8-text_of : (trees : Forest) → AreTexts trees → IsUtf8 (encode_utf8_all (text_of trees))
-IsUtf8-text_of Nothing texts = IsUtf8-nil
-IsUtf8-text_of (Token kind text others) texts = IsUtf8-joined text (text_of others) texts.0 (IsUtf8-text_of others texts.2)
-IsUtf8-text_of (Node kind inner others) texts = IsUtf8-joined (text_of inner) (text_of others) (IsUtf8-text_of inner texts.0) (IsUtf8-text_of others texts.1)
-IsUtf8-text_of (Error text pos others) texts = IsUtf8-text_of others texts
+use Rattle.syntax_tree.specs.Layout.{Laid, AreTexts, IsTree}
+use Rattle.syntax_tree.proofs.Layouts.{length-layout, length-text_of, both_utf8, IsUtf8-texts}
 
 -- ---- a place inside of a node, or behind it
 
@@ -146,7 +111,7 @@ module _ (whole : List ℕ) (start end : ℕ) (here : List ℕ) (cut : Cut whole
     starts = cut.starts;
     ends = cut.ends;
     utf8 = cut.utf8;
-    rest = IsUtf8-joined cut.behind back cut.rest utf8;
+    rest = both_utf8 cut.behind back cut.rest utf8;
   }
 
 -- trees at the front
@@ -165,7 +130,7 @@ cut_first here back end ends utf8 rest = record {
 cut : (tree : Forest) → AreTexts tree → (at : ℕ) → at < size tree → Cut (text_of tree) (start_at tree at) (end_at tree at) (text_at tree at)
 cut Nothing texts at below = absurd (omega (arith, below))
 cut (Token kind text others) texts zero below =
-    cut_first text (text_of others) (end_at (Token kind text others) 0) (omega (arith, start-first others)) texts.0 (IsUtf8-text_of others texts.2)
+    cut_first text (text_of others) (end_at (Token kind text others) 0) (omega (arith, start-first others)) texts.0 (IsUtf8-texts others texts.2)
 cut (Token kind text others) texts (suc i) below =
     let there = cut others texts.2 i (omega (arith, below)) in
     let next : suc i + size_at others i ≡ suc (i + size_at others i) = omega arith in
@@ -174,14 +139,14 @@ cut (Token kind text others) texts (suc i) below =
 cut (Node kind inner others) texts zero below =
     let all : 0 + size_at (Node kind inner others) 0 ≡ suc (size inner) = omega arith in
     let ends = ap (start_at (Node kind inner others)) all ∙ (start-within kind inner others (size inner) (omega arith) ∙ (start-all inner ∙ sym (length-text_of inner))) in
-    cut_first (text_of inner) (text_of others) (end_at (Node kind inner others) 0) ends (IsUtf8-text_of inner texts.0) (IsUtf8-text_of others texts.1)
+    cut_first (text_of inner) (text_of others) (end_at (Node kind inner others) 0) ends (IsUtf8-texts inner texts.0) (IsUtf8-texts others texts.1)
 cut (Node kind inner others) texts (suc i) below =
     let tree = Node kind inner others in
     elim (cases_lt i (size inner)) [
       | inl lt ↦
           let same = at-inner kind inner others i lt in
           let end : suc i + size_at tree (suc i) ≡ suc (i + size_at inner i) = omega (arith, ap (λ f. size (inner_of f)) same) in
-          cut_same _ _ _ _ (cut_before _ _ _ _ (cut inner texts.0 i lt) (text_of others) (IsUtf8-text_of others texts.1)) (start_at tree (suc i)) (end_at tree (suc i)) (text_at tree (suc i))
+          cut_same _ _ _ _ (cut_before _ _ _ _ (cut inner texts.0 i lt) (text_of others) (IsUtf8-texts others texts.1)) (start_at tree (suc i)) (end_at tree (suc i)) (text_at tree (suc i))
           (start-inner kind inner others i lt)
           (ap (start_at tree) end ∙ start-within kind inner others (i + size_at inner i) (at-within inner i lt))
           (ap first_text same)

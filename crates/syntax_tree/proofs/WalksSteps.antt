@@ -1,5 +1,5 @@
 -- The walk that gives the steps of a tree.
-use Rattle.std.proofs.Common.{◌≡◌, ◌∙◌, ℕ, suc, ◌+◌, ◌*◌, ◌<◌, ◌≤◌, List, [], ◌∷◌, length, arith, ap, sym, refl, subst, add-zero, nat_lt, eqb, true, false, slice_range, chars, encode_utf8_all}
+use Rattle.std.proofs.Common.{◌≡◌, ◌∙◌, ℕ, suc, ◌+◌, ◌<◌, ◌≤◌, List, [], ◌∷◌, length, arith, ap, sym, refl, subst, add-zero, nat_lt, eqb, true, false, slice_range, chars, encode_utf8_all}
 use Rattle.std.proofs.lemmas.Bool.{cond-false, lt-ltb, le-ltb}
 use Rattle.std.proofs.lemmas.List.{append-nil, length-append}
 use Rattle.std.proofs.lemmas.List.Elements.{All-nil}
@@ -11,6 +11,7 @@ use Rattle.syntax_tree.specs.Layout.{Laid, IsTree, errors_of, outermost, last_of
 use Rattle.syntax_tree.specs.Views.{element_in}
 use Rattle.syntax_tree.specs.Walks.{Ends, Gives, Walking, walking, enough, ends_before, start_in, error_in, has_error, element_turn, step_turn, steps_left, IsOnWalk}
 use Rattle.syntax_tree.specs.declared.element.Element.{Element}
+use Rattle.syntax_tree.proofs.Layouts.{few_steps}
 use Rattle.syntax_tree.proofs.Texts.{elements_are}
 use Rattle.syntax_tree.proofs.Places.{lies_whole}
 use Rattle.syntax_tree.proofs.WalksByRule.{goes, Leads, leads_on, all_given}
@@ -119,20 +120,6 @@ module _ (laid : Laid) (tree : Forest) (is : IsTree laid tree) where
 
 -- ---- the walk over a whole tree
 
-steps_few : (trees : Forest) (node at given : ℕ) → length (forest_steps trees) ≤ 2 * size trees + length (errors_of trees node at given)
-steps_few Nothing node at given = omega arith
-steps_few (Token kind text others) node at given = omega (arith, steps_few others node (at + 1) (given + 1))
-steps_few (Node kind inner others) node at given =
-    let next = given + 2 + length (forest_steps inner) in
-    omega (
-      arith,
-      length-append (forest_steps inner) (step.Exit ∷ forest_steps others),
-      length-append (errors_of inner at (at + 1) (given + 1)) (errors_of others node (at + 1 + size inner) next),
-      steps_few inner at (at + 1) (given + 1),
-      steps_few others node (at + 1 + size inner) next,
-    )
-steps_few (Error text pos others) node at given = omega (arith, steps_few others node at (given + 1))
-
 module _ (laid : Laid) (tree : Forest) (is : IsTree laid tree) (few : length laid.elements ≤ 4294967295) where
   errs_at_root : Errs laid tree 4294967295 0 0 0
   errs_at_root = record {
@@ -144,7 +131,7 @@ module _ (laid : Laid) (tree : Forest) (is : IsTree laid tree) (few : length lai
   }
 
   steps_within : length (forest_steps tree) < enough laid
-  steps_within = omega (arith, steps_few tree 4294967295 0 0, elements_are laid tree is, ap length is.errors)
+  steps_within = omega (arith, few_steps tree 4294967295 0 0, elements_are laid tree is, ap length is.errors)
 
   pub steps_are : steps_left laid (walking 0 4294967295 0 0) ≡ forest_steps tree
   steps_are =

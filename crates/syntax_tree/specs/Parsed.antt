@@ -15,9 +15,8 @@ use Rattle.squawk_parser.specs.Words.{Words}
 use Rattle.squawk_tree.specs.Forest.{Forest, forest_steps}
 use Rattle.syntax_tree.specs.Drafts.{Growing, StandsAfter}
 use Rattle.syntax_tree.specs.Layout.{Laid, IsTree}
-use Rattle.syntax_tree.specs.Refusals.{RefusesToken, RefusesNode, RefusesError, elements_in, nodes_open}
+use Rattle.syntax_tree.specs.Refusals.{RefusesStep, elements_in}
 use Rattle.syntax_tree.specs.declared.builder.TreeRefusal.{TreeRefusal}
-use Rattle.syntax_tree.specs.declared.builder.TreeRefusal.TheVariants.{NothingOpen}
 use Rattle.syntax_tree.specs.declared.parse.errors.ParseTreeError.{ParseTreeError}
 use Rattle.syntax_tree.specs.declared.parse.errors.ParseTreeError.TheVariants.{Table, Input, Parse, NoRoot, TooLarge, OutOfMemory}
 
@@ -64,13 +63,6 @@ pub record StandsOver (growing : Growing) (list : List OwnedStep) : Type 0 where
   pub steps : List OwnedStep
   pub is : list ≡ step.Error growing.source 0 ∷ steps
   pub stands : StandsAfter growing steps
-
--- why a builder over a source refuses a step
-abbrev pub RefusesStep : List ℕ → List OwnedStep → OwnedStep → TreeRefusal → Type 0
-RefusesStep source steps (step.Token kind text) answer = RefusesToken source steps text answer
-RefusesStep source steps (step.Enter kind) answer = RefusesNode steps answer
-RefusesStep source steps step.Exit answer = (answer ≡ NothingOpen) × (nodes_open steps ≡ 0)
-RefusesStep source steps (step.Error text pos) answer = RefusesError steps answer
 
 pub record RefusesOver (list : List OwnedStep) (next : OwnedStep) (answer : TreeRefusal) : Type 0 where
   pub source : List ℕ

@@ -67,9 +67,13 @@ RefusesError steps OtherText = ⊥
 RefusesError steps NothingOpen = ⊥
 RefusesError steps OutOfMemory = errors_in steps < 4294967295
 
--- The same of any step, whatever the source is.
+-- why a builder over a source refuses a step
+abbrev pub RefusesStep : List ℕ → List OwnedStep → OwnedStep → TreeRefusal → Type 0
+RefusesStep source steps (step.Token kind text) answer = RefusesToken source steps text answer
+RefusesStep source steps (step.Enter kind) answer = RefusesNode steps answer
+RefusesStep source steps step.Exit answer = RefusesExit steps answer
+RefusesStep source steps (step.Error text pos) answer = RefusesError steps answer
+
+-- why some builder does, whatever its source is
 abbrev pub Refuses : List OwnedStep → OwnedStep → TreeRefusal → Type 0
-Refuses steps (step.Token kind text) answer = (source : List ℕ) × RefusesToken source steps text answer
-Refuses steps (step.Enter kind) answer = RefusesNode steps answer
-Refuses steps step.Exit answer = RefusesExit steps answer
-Refuses steps (step.Error text pos) answer = RefusesError steps answer
+Refuses steps next answer = (source : List ℕ) × RefusesStep source steps next answer

@@ -1,7 +1,7 @@
 -- What stands at a place of a tree. The places of its nodes and tokens are counted from 0 on, a node before what is in
 -- it. An error has no place.
 use Rattle.std.specs.Prelude.{◌≡◌, ◌⊎◌, ℕ, zero, suc, ◌+◌, ◌-◌, ◌<◌, ◌≤◌, nat_lt, if◌then◌else◌, List, [], ◌∷◌, ◌++◌, length, Bool, true, false, not, encode_utf8_all}
-use Rattle.std.specs.List.{filter, range_with_len, All}
+use Rattle.std.specs.List.{filter, range_with_len}
 use Rattle.squawk_tree.specs.Forest.{Forest, Nothing, Token, Node, Error, forest_bytes}
 
 -- how many nodes and tokens trees have

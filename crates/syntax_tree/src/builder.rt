@@ -77,14 +77,7 @@ impl<'s> Model for TreeBuilder<'s> {
       steps = t.steps;
     } };
 
-    ghost invariant = { λ t. IsGrowing (record {
-      source = t.source.now;
-      sent = t.sent;
-      elements = t.elements.items;
-      innermost = t.innermost;
-      errors = t.errors.items;
-      steps = t.steps;
-    }) };
+    ghost invariant = { λ t. IsGrowing (view t) };
 }
 
 impl<'s> TreeBuilder<'s> {

@@ -10,6 +10,8 @@ pub mod offsets;
 pub mod parse;
 pub mod preorder;
 pub mod steps;
+#[cfg(test)]
+mod tests;
 mod tokens;
 pub mod tree;
 pub mod walks;

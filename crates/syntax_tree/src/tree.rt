@@ -21,7 +21,7 @@ impl<'s> Model for SyntaxTree<'s> {
 
     ghost view = { λ t. record { text = t.text.now; elements = t.elements.items; errors = t.errors.items } };
 
-    ghost invariant = { λ t. HoldsTree (record { text = t.text.now; elements = t.elements.items; errors = t.errors.items }) };
+    ghost invariant = { λ t. HoldsTree (view t) };
 }
 
 /// An error of a tree.

@@ -1,7 +1,8 @@
 use Rattle.std.proofs.Common.{◌∙◌, rules, arith, refl, sym, inl, inr, eqb-true}
 use Rattle.std.specs.Str.{chars}
 use Rattle.syntax_tree.specs.Refusals.{RefusesToken}
-use Rattle.syntax_tree.proofs.Drafts.{few_steps_taken, stood, is_part, not_found, IsGrowing-token, StandsAfter-token}
+use Rattle.syntax_tree.proofs.Drafts.{few_steps_taken, stood}
+use Rattle.syntax_tree.proofs.DraftsToken.{is_part, not_found, IsGrowing-token, StandsAfter-token}
 use Rattle.syntax_tree.proofs.Refusals.{none_open, some_open, elements_taken, bytes_more, is_next, not_empty, follows, seen_next, next_seen, wants_memory}
 use Rattle.syntax_tree.proofs.builder.TreeBuilder.token.Goals as goal
 use Rattle.syntax_tree.proofs.builder.TreeBuilder.token.Goals.{then-is_empty-via-then-is_empty, then-is_empty-via-else-is_empty+then-not-starts_with, then-at-via-then-at, then-at-via-else-at+then-end}

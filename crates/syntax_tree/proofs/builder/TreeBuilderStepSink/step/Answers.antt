@@ -12,12 +12,12 @@ returns-in-Token c = λ l stands.
 
 pub returns-in-Enter : goal.returns-in-Enter
 returns-in-Enter c = λ l stands.
-    handed_on c.start_node.result _ _ l _ _ (RefusesNode l) (ap owned_step_of c.in-Enter.is) stands (λ answer why. why) (c.start_node.ensures.step l stands)
+    handed_on c.start_node.result _ _ l _ _ (RefusesNode l) (ap owned_step_of c.in-Enter.is) stands (λ answer why. (c.args.self.now.source, why)) (c.start_node.ensures.step l stands)
 
 pub returns-in-Exit : goal.returns-in-Exit
 returns-in-Exit c = λ l stands.
-    handed_on c.finish_node.result _ _ l _ _ (RefusesExit l) (ap owned_step_of c.in-Exit.is) stands (λ answer why. why) (c.finish_node.ensures.step l stands)
+    handed_on c.finish_node.result _ _ l _ _ (RefusesExit l) (ap owned_step_of c.in-Exit.is) stands (λ answer why. (c.args.self.now.source, why)) (c.finish_node.ensures.step l stands)
 
 pub returns-in-Error : goal.returns-in-Error
 returns-in-Error c = λ l stands.
-    handed_on c.error.result _ _ l _ _ (RefusesError l) (ap owned_step_of c.in-Error.is) stands (λ answer why. why) (c.error.ensures.step l stands)
+    handed_on c.error.result _ _ l _ _ (RefusesError l) (ap owned_step_of c.in-Error.is) stands (λ answer why. (c.args.self.now.source, why)) (c.error.ensures.step l stands)

@@ -1,6 +1,7 @@
 use Rattle.std.proofs.Common.{◌≡◌, ◌∙◌, ◌<◌, ◌≤◌, ◌-◌, min, inl, inr, arith, ap, length, refl, subst, sym}
 use Rattle.squawk_tree.specs.Forest.{Forest, forest_bytes}
-use Rattle.syntax_tree.proofs.ByteHolders.{Holds, byte_of, child_from, covers_range, covers_nothing, holds_parent, holds_token, near, root_covers}
+use Rattle.syntax_tree.proofs.CoveringElement.{Holds, child_from, covers_range, covers_nothing, holds_parent, holds_token, near, root_covers}
+use Rattle.syntax_tree.proofs.TokenOfByte.{byte_of}
 use Rattle.syntax_tree.proofs.Texts.{bytes_are}
 use Rattle.syntax_tree.specs.Layout.{IsTree, HoldsTree}
 use Rattle.syntax_tree.specs.Offsets.{CoversRange}

@@ -1,7 +1,7 @@
 use Rattle.std.proofs.Common.{◌≡◌, ◌-◌, min}
 use Rattle.squawk_tree.specs.Forest.{Forest}
 use Rattle.syntax_tree.specs.Layout.{IsTree}
-use Rattle.syntax_tree.proofs.ByteHolders.{Holds}
+use Rattle.syntax_tree.proofs.CoveringElement.{Holds}
 use Rattle.syntax_tree.proofs.tree.SyntaxTree.covering_element.Given as goal
 
 abbrev pub invariant-loop-range : goal.invariant-loop-range

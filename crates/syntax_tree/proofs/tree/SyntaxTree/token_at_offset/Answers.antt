@@ -1,6 +1,6 @@
 use Rattle.std.proofs.Common.{◌≡◌, ◌∙◌, ◌-◌, ◌+◌, inl, inr, arith, ap, length, subst, sym}
 use Rattle.squawk_tree.specs.Forest.{forest_bytes}
-use Rattle.syntax_tree.proofs.ByteHolders.{byte_of, touches_end, touches_two}
+use Rattle.syntax_tree.proofs.TokenOfByte.{byte_of, touches_end, touches_two}
 use Rattle.syntax_tree.proofs.Texts.{bytes_are}
 use Rattle.syntax_tree.specs.Layout.{IsTree}
 use Rattle.syntax_tree.specs.Trees.{TouchesOne}

@@ -2,7 +2,7 @@ use Rattle.std.proofs.Common.{◌≤◌, ◌-◌, ◌∙◌, leb, rules, ap, sub
 use Rattle.std.proofs.lemmas.List.Sorted.{IsPartitionPoint-from_clause}
 use Rattle.squawk_tree.specs.Forest.{Forest}
 use Rattle.syntax_tree.specs.Layout.{IsTree, HoldsTree}
-use Rattle.syntax_tree.proofs.ByteHolders.{HasByte, token_found}
+use Rattle.syntax_tree.proofs.TokenOfByte.{HasByte, token_found}
 use Rattle.syntax_tree.proofs.tree.SyntaxTree.token_of_byte.Goals as goal
 use Rattle.syntax_tree.proofs.tree.SyntaxTree.token_of_byte.Goals.{After-partition_point-behind}
 
