@@ -2,14 +2,13 @@
 //! tail.
 ghost use Rattle.std.specs.Prelude.{◌≡◌};
 
-use crate::digest::Digest;
-use crate::piece::Piece;
 use crate::setting::Setting;
 use row_fixtures::parts::EatingWith;
 use squawk_parser::{
     EntryPoint, Event, LexedStr, ParseError, Step, SyntaxKind, Text, TokenKind, TokenSet, process,
 };
 use std::alloc::{AllocError, Global};
+use workload_texts::{Digest, Piece};
 
 /// So many small logs, and parses of a kind with a tail.
 pub fn calls(

@@ -1,12 +1,10 @@
 //! Documents as JSON, answered in lines.
 
-use crate::digest::Digest;
-use crate::maker::Maker;
-use crate::piece::Piece;
 use crate::setting::Setting;
 use squawk_answer::{Fault, run};
 use squawk_parser::{LiteralKind, Token, TokenKind};
 use std::alloc::{AllocError, Global};
+use workload_texts::{Digest, Maker, Piece};
 
 /// A piece of a document's text, raw tokens and calls.
 #[derive(Drop)]

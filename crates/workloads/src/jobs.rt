@@ -1,14 +1,12 @@
 //! The jobs that go from a text to a sink in one call.
 
-use crate::digest::Digest;
-use crate::maker::Maker;
-use crate::piece::Piece;
 use crate::questions::Questions;
 use crate::setting::Setting;
 use crate::statements::Statements;
 use squawk_parser::{EntryPoint, LexedStr, WholeGrammar, check_tokens, parse_whole_into};
 use std::alloc::{AllocError, Global};
 use tiny_grammar::Tiny;
+use workload_texts::{Digest, Maker, Piece, file_size, text};
 
 /// How many pieces a text is made of at random.
 const PIECES: usize = 1024;
@@ -54,25 +52,6 @@ impl Make {
     }
 }
 
-/// A text of these pieces at random, with about so many raw tokens.
-pub fn text(
-    alloc: Global,
-    maker: &mut Maker<'_>,
-    pieces: &[Piece],
-    tokens: usize,
-) -> Result<Piece, AllocError> {
-    let mut text = Piece::with_room(alloc, tokens.saturating_mul(6), tokens.saturating_add(64))?;
-    for _ in 0..tokens {
-        if text.tokens.len() >= tokens {
-            break;
-        }
-        if let Some(piece) = pieces.get(maker.random.below(pieces.len())) {
-            text.append(piece)?;
-        }
-    }
-    Ok(text)
-}
-
 /// Parses a text, and adds to a digest what is sent and what it took, or the line of a refusal.
 fn parse<G: WholeGrammar>(
     alloc: Global,
@@ -102,16 +81,6 @@ fn parse<G: WholeGrammar>(
             digest.add_bytes(line.as_bytes());
             Ok(())
         }
-    }
-}
-
-/// How many raw tokens a file has: some hundreds, in one of ten some thousands, in one of a hundred more.
-pub fn file_size(maker: &mut Maker<'_>) -> usize {
-    match maker.random.below(100) {
-        0..=49 => maker.random.below(260).saturating_add(200),
-        50..=89 => maker.random.below(3500).saturating_add(460),
-        90..=98 => maker.random.below(20000).saturating_add(4000),
-        _ => maker.random.below(75000).saturating_add(25000),
     }
 }
 

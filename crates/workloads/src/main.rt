@@ -4,26 +4,20 @@
 //! It prints a digest of all results, which is the same for the same words.
 #![tactic(auto)]
 
-mod awkward;
 mod calls;
-mod digest;
 mod documents;
 mod jobs;
-mod maker;
 mod moved;
-mod piece;
 mod questions;
-mod random;
 mod setting;
-mod sql;
 mod statements;
 
-use crate::digest::Digest;
 use crate::setting::Setting;
 use squawk_document::{Document, value};
 use std::alloc::{AllocError, Global};
 use std::process::ExitCode;
 use std::{env, io};
+use workload_texts::Digest;
 
 /// A job from a seed, over so many inputs; of dumps it is how many raw tokens they have.
 #[derive(Clone, Copy)]
@@ -98,7 +92,6 @@ fn do_job(
         "edits" => jobs::edits(alloc, setting, maker, count, digest)?,
         "moved" => moved::moved(alloc, setting, maker, count, digest)?,
         "documents" => documents::documents(alloc, setting, maker, count, digest)?,
-        "sql" => sql::sql(alloc, maker, count, digest)?,
         "calls" => calls::calls(alloc, setting, count, digest)?,
         "all" => do_all(alloc, setting, order, digest)?,
         _ => return Ok(false),

@@ -1,13 +1,11 @@
 //! Trees whose nodes begin in front of others: by scripts, as steps and as text.
 
-use crate::digest::Digest;
-use crate::maker::Maker;
-use crate::piece::Piece;
 use crate::setting::Setting;
 use squawk_parser::{EntryPoint, Input, LexedStr, Output, ParseError, SyntaxKind, TokenSet, Words};
 use squawk_script::{Call, Script};
 use squawk_tree::TreeText;
 use std::alloc::{AllocError, Global};
+use workload_texts::{Digest, Maker, Piece};
 
 /// Calls over so many tokens.
 #[derive(Drop)]

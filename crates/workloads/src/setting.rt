@@ -1,8 +1,7 @@
 //! What all jobs share.
 
-use crate::maker::Maker;
-use crate::random::Random;
 use squawk_document::Document;
+use workload_texts::{Maker, Random};
 
 /// A document with the vocabulary, the names of kinds and the kinds of operators, and its text.
 #[derive(Drop)]

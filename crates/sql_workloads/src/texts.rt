@@ -1,21 +1,11 @@
-//! The job of SQL: from the bytes of a text to the steps of its tree, by the lexer, the keywords and the
-//! grammar of SQL.
+//! SQL texts at random.
 
-use crate::digest::Digest;
-use crate::jobs::{file_size, text};
-use crate::maker::Maker;
-use crate::piece::Piece;
-use sql_grammar::{NAMES, SqlGrammar};
-use sql_lexer::{TokenizeError, tokenize};
-use sql_words::vocabulary;
-use squawk_parser::{EntryPoint, Vocabulary, parse_accepted_whole_into};
+use sql_lexer::tokenize;
 use std::alloc::{AllocError, Global};
+use workload_texts::{Maker, Piece, Random, file_size, text};
 
 /// How many statements the texts are made of at random.
 const STATEMENTS: usize = 1024;
-
-/// Of the dump: how many raw tokens it has for each file.
-const TOKENS_PER_FILE: usize = 100;
 
 /// Statements. `#` stands for a name, `?` for a constant, and `~` for a comment, with the end of its line.
 const TEMPLATES: [&str; 20] = [
@@ -99,49 +89,43 @@ fn rows(alloc: Global, maker: &mut Maker<'_>) -> Result<Vec<Piece>, AllocError> 
     Ok(pieces)
 }
 
-/// Adds to a digest the steps of a text, or the line of a refusal.
-fn steps<V: Vocabulary>(
-    alloc: Global,
-    words: &V,
-    text: &str,
-    digest: &mut Digest,
-) -> Result<(), AllocError> {
-    let tokens = match tokenize(alloc, text) {
-        Ok(tokens) => tokens,
-        Err(TokenizeError::OutOfMemory) => return Err(AllocError),
-        Err(TokenizeError::TextTooLong) => {
-            digest.add(7);
-            return Ok(());
-        }
-    };
-    let grammar = SqlGrammar { names: &NAMES };
-    let entry = EntryPoint::SourceFile;
-    match parse_accepted_whole_into(alloc, text, &tokens, words, &grammar, entry, digest) {
-        Ok(sent) => digest.add(u64::from(sent.recorded)),
-        Err(refusal) => {
-            let line = format!(in alloc; "{refusal}")?;
-            digest.add_bytes(line.as_bytes());
-        }
-    }
-    Ok(())
+/// A text of SQL statements at random.
+#[derive(Drop)]
+pub struct Texts<'n> {
+    maker: Maker<'n>,
+    statements: Vec<Piece>,
 }
 
-/// Files of SQL, most of them small, and a dump.
-pub fn sql(
-    alloc: Global,
-    mut maker: Maker<'_>,
-    count: usize,
-    digest: &mut Digest,
-) -> Result<(), AllocError> {
-    let words = vocabulary(alloc)?;
-    let pieces = statements(alloc, &mut maker)?;
-    for _ in 0..count {
-        let size = file_size(&mut maker);
-        let file = text(alloc, &mut maker, &pieces, size)?;
-        steps(alloc, &words, file.text.as_str(), digest)?;
+impl<'n> Texts<'n> {
+    /// The texts of a seed.
+    pub fn new(alloc: Global, seed: u64) -> Result<Texts<'static>, AllocError> {
+        let mut maker = Maker {
+            random: Random::new(seed),
+            names: &[],
+        };
+        let statements = statements(alloc, &mut maker)?;
+        Ok(Texts { maker, statements })
     }
-    let pieces = rows(alloc, &mut maker)?;
-    let size = count.saturating_mul(TOKENS_PER_FILE);
-    let dump = text(alloc, &mut maker, &pieces, size)?;
-    steps(alloc, &words, dump.text.as_str(), digest)
+
+    /// A file, most times small.
+    pub fn file(&mut self, alloc: Global) -> Result<String, AllocError> {
+        let size = file_size(&mut self.maker);
+        self.of_size(alloc, size)
+    }
+
+    /// A text of statements with about so many raw tokens.
+    pub fn of_size(&mut self, alloc: Global, tokens: usize) -> Result<String, AllocError> {
+        Ok(text(alloc, &mut self.maker, &self.statements, tokens)?.text)
+    }
+
+    /// A dump with about so many raw tokens.
+    pub fn dump(&mut self, alloc: Global, tokens: usize) -> Result<String, AllocError> {
+        let rows = rows(alloc, &mut self.maker)?;
+        Ok(text(alloc, &mut self.maker, &rows, tokens)?.text)
+    }
+
+    /// An offset in a text of so many bytes, or at its end.
+    pub fn offset(&mut self, len: usize) -> usize {
+        self.maker.random.below(len.saturating_add(1))
+    }
 }

@@ -1,5 +1,5 @@
 use Rattle.std.proofs.Common.{length}
-use Rattle.workloads.proofs.digest.Digest.add_bytes.Given as goal
+use Rattle.workload_texts.proofs.digest.Digest.add_bytes.Given as goal
 
 -- the bytes that are left
 abbrev pub decreases-loop-word : goal.decreases-loop-word
