@@ -1,0 +1,20 @@
+"""Trees, statements and raw tokens of SQL text, for x86-64 Linux.
+
+    >>> import caliperdock
+    >>> print(caliperdock.parse("select 1"))
+    SOURCE_FILE@0..8
+      SELECT@0..8
+        SELECT_CLAUSE@0..8
+          SELECT_KW@0..6 "select"
+          WHITESPACE@6..7 " "
+          INT_NUMBER@7..8 "1"
+
+A text may be wrong: it has a tree all the same, and `errors` says what is wrong with it. Places count
+characters, as Python does; those that count bytes of UTF-8 have names that end in `_byte`. `print` of a
+tree shows bytes.
+"""
+from ._library import Refused
+from ._sql import Error, Statement, Token, errors, split, tokenize
+from ._tree import Node, Tree, parse
+
+__all__ = ["Error", "Node", "Refused", "Statement", "Token", "Tree", "errors", "parse", "split", "tokenize"]

@@ -1,0 +1,123 @@
+"""The shared library by ctypes. Lists cross as arrays."""
+import ctypes
+import os
+
+_U16, _U32, _U64, _SIZE = ctypes.c_uint16, ctypes.c_uint32, ctypes.c_uint64, ctypes.c_size_t
+
+
+class _Answer(ctypes.Structure):
+    _fields_ = [("status", _U32), ("place", _U64)]
+
+
+class RawToken(ctypes.Structure):
+    _fields_ = [("kind", _U32), ("len", _U32), ("a", _U32), ("b", _U32), ("flags", _U32)]
+
+
+class RawStatement(ctypes.Structure):
+    _fields_ = [("kind", _U64), ("start", _U64), ("end", _U64)]
+
+
+class RawStep(ctypes.Structure):
+    _fields_ = [("tag", _U16), ("kind", _U16), ("start", _U32), ("end", _U32)]
+
+
+class RawError(ctypes.Structure):
+    _fields_ = [("start", _U32), ("end", _U32), ("message_start", _U64), ("message_end", _U64), ("hint_end", _U64)]
+
+
+class _Counts(ctypes.Structure):
+    _fields_ = [
+        ("tokens", _U64),
+        ("statements", _U64),
+        ("steps", _U64),
+        ("step_errors", _U64),
+        ("errors", _U64),
+        ("texts", _U64),
+        ("whole", _U64),
+    ]
+
+
+_ABI = 1
+_NAME = f"libcaliperdock.so.{_ABI}"
+_TOO_SMALL = 1
+
+_REASONS = {
+    2: "memory was refused",
+    3: "the text isn't UTF-8",
+    5: "the text has more than 4294967295 bytes",
+    8: "the text has too many nodes and tokens",
+    13: "the text has too many errors",
+}
+
+
+class Refused(Exception):
+    """Why the library did nothing: `status` is its number in caliperdock.h, `place` what that speaks of."""
+
+    def __init__(self, status: int, place: int):
+        self.status = status
+        self.place = place
+        super().__init__(_REASONS.get(status, f"status {status} at {place}"))
+
+
+def _load():
+    """The library beside this file, as a wheel has it, or in the folder where bindings/build leaves it."""
+    here = os.path.dirname(os.path.abspath(__file__))
+    for folder in (os.environ.get("CALIPERDOCK_LIB"), here, os.path.join(here, "..", "..", "out")):
+        if folder is not None and os.path.exists(os.path.join(folder, _NAME)):
+            return ctypes.CDLL(os.path.join(folder, _NAME))
+    raise ImportError(f"{_NAME} isn't there: run bindings/build, or name its folder in CALIPERDOCK_LIB")
+
+
+_library = _load()
+_library.caliperdock_abi.restype = _U32
+if _library.caliperdock_abi() != _ABI:
+    raise ImportError(f"{_NAME} isn't of version {_ABI}")
+
+_sql = _library.caliperdock_sql
+_sql.restype = _Answer
+_sql.argtypes = [
+    ctypes.c_char_p,
+    _SIZE,
+    ctypes.POINTER(RawToken),
+    _SIZE,
+    ctypes.POINTER(RawStatement),
+    _SIZE,
+    ctypes.POINTER(RawStep),
+    _SIZE,
+    ctypes.POINTER(RawError),
+    _SIZE,
+    ctypes.c_char_p,
+    _SIZE,
+    ctypes.POINTER(_Counts),
+]
+
+
+class Written:
+    """What the library wrote of a text: the lists that were wanted."""
+
+    def __init__(self, data: bytes, tokens: bool = False, statements: bool = False, steps: bool = False, errors: bool = False):
+        wanted = (tokens, statements, steps, errors, errors)
+        guess = (len(data) // 3 + 16, len(data) // 40 + 4, len(data) // 2 + 32, 4, 256)
+        counts = _Counts()
+        room = [n if want else 0 for n, want in zip(guess, wanted)]
+        while True:
+            self.tokens = (RawToken * max(room[0], 1))()
+            self.statements = (RawStatement * max(room[1], 1))()
+            self.steps = (RawStep * max(room[2], 1))()
+            self.errors = (RawError * max(room[3], 1))()
+            self._texts = ctypes.create_string_buffer(max(room[4], 1))
+            answer = _sql(
+                data, len(data), self.tokens, room[0], self.statements, room[1], self.steps, room[2],
+                self.errors, room[3], self._texts, room[4], ctypes.byref(counts),
+            )
+            if answer.status > _TOO_SMALL:
+                raise Refused(answer.status, answer.place)
+            there = (counts.tokens, counts.statements, counts.steps, counts.errors, counts.texts)
+            if all(n <= has for n, has, want in zip(there, room, wanted) if want):
+                break
+            room = [n if want else 0 for n, want in zip(there, wanted)]
+        self.counts = counts
+
+    def text(self, start: int, end: int) -> str:
+        """These bytes of the errors' texts."""
+        return ctypes.string_at(ctypes.addressof(self._texts) + start, end - start).decode()

@@ -1,0 +1,79 @@
+"""Tests of the package: python3 -m unittest tests."""
+import doctest
+import pathlib
+import unittest
+
+import caliperdock
+from caliperdock import _sql, _tree
+
+
+def load_tests(loader, tests, ignore):
+    for module in (caliperdock, _sql, _tree):
+        tests.addTests(doctest.DocTestSuite(module))
+    return tests
+
+
+class Split(unittest.TestCase):
+    def check(self, *statements):
+        told = caliperdock.split(" ".join(statements))
+        self.assertEqual([statement.text for statement in told], list(statements))
+
+    def test_quotes(self):
+        self.check("select ';';", 'select ";";', "select E'\\';';", "select $$;$$;", "select $a$;$$;$a$;")
+
+    def test_comments(self):
+        self.check("select /* ; /* ; */ ; */ 1;", "select 1 -- ;\n;")
+
+    def test_bodies(self):
+        self.check("create function f() returns int begin atomic select 1; select 2; end;", "select 3;")
+        self.check("create rule r as on insert to t do also (delete from a; delete from b);", "select 4;")
+
+    def test_places(self):
+        first, second = caliperdock.split("select 'é'; select 2")
+        self.assertEqual((first.start, first.end, first.start_byte, first.end_byte), (0, 11, 0, 12))
+        self.assertEqual((second.start, second.end, second.start_byte, second.end_byte), (12, 20, 13, 21))
+        self.assertEqual(second.kind, "SELECT")
+
+
+class Trees(unittest.TestCase):
+    def test_nodes(self):
+        tree = caliperdock.parse("select a -- é\nfrom t")
+        select = tree.root.children[0]
+        self.assertEqual([child.kind for child in select.children], ["SELECT_CLAUSE", "WHITESPACE", "COMMENT", "WHITESPACE", "FROM_CLAUSE"])
+        clause = select.children[4]
+        self.assertEqual((clause.text, clause.start, clause.end, clause.start_byte), ("from t", 14, 20, 15))
+        self.assertEqual(clause.parent, select)
+        self.assertIsNone(tree.root.parent)
+        self.assertEqual("".join(node.text for node in tree.root.walk() if node.is_token), "select a -- é\nfrom t")
+
+    def test_errors(self):
+        message, hint, start, end, start_byte, end_byte = caliperdock.errors("select 'é")[0]
+        self.assertEqual(message, "missing trailing `'` symbol to terminate the string literal")
+        self.assertIsNone(hint)
+        self.assertEqual((start, end, start_byte, end_byte), (7, 9, 7, 10))
+
+    def test_nothing(self):
+        self.assertEqual(caliperdock.split(""), [])
+        self.assertEqual(caliperdock.tokenize(""), [])
+        self.assertEqual(str(caliperdock.parse("")), "SOURCE_FILE@0..0")
+
+
+class Corpus(unittest.TestCase):
+    """The trees of the corpus' texts are those that the program prints: the files are those of bindings/corpus.py."""
+
+    def test_trees(self):
+        folder = pathlib.Path(__file__).resolve().parent.parent / "out" / "corpus"
+        texts = sorted(folder.glob("*.sql"))
+        if not texts:
+            self.skipTest("bindings/corpus.py writes the texts")
+        for file in texts:
+            text = file.read_bytes().decode()
+            with self.subTest(text=text):
+                tree = caliperdock.parse(text)
+                self.assertEqual(str(tree), file.with_suffix(".tree").read_bytes().decode())
+                self.assertEqual("".join(node.text for node in tree.root.walk() if node.is_token), text)
+                self.assertEqual("".join(token.text for token in caliperdock.tokenize(text)), text)
+
+
+if __name__ == "__main__":
+    unittest.main()

@@ -1,0 +1,33 @@
+//! Trees of SQL text for x86-64 Linux, and trees of any parser's events.
+//!
+//! The work is done by a library that is proved correct; this crate calls it, and owns what it returns.
+//!
+//! ```
+//! use caliperdock::{SyntaxKind, Tree};
+//!
+//! let tree = Tree::parse("select a from t; -- that's all")?;
+//! let statement = tree.root().first_child().unwrap();
+//! assert_eq!(statement.kind(), SyntaxKind::SELECT);
+//! assert_eq!(statement.text(), "select a from t;");
+//! # Ok::<(), caliperdock::Refused>(())
+//! ```
+//!
+//! A text may be wrong: it has a tree all the same, and [`Tree::errors`] says what is wrong with it.
+#![no_std]
+
+extern crate alloc;
+
+mod error;
+mod event;
+mod ffi;
+mod sql;
+mod syntax_kind;
+mod token;
+mod tree;
+
+pub use error::{Refused, SyntaxError};
+pub use event::{steps, Event, Sent, Step};
+pub use sql::{statements, tokens, Statement};
+pub use syntax_kind::SyntaxKind;
+pub use token::{Base, LiteralKind, Token, TokenKind};
+pub use tree::{SyntaxElement, SyntaxNode, SyntaxToken, Tree};

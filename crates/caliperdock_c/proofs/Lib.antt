@@ -1,0 +1,11 @@
+pub mod Astray
+pub mod ErrorLists
+pub mod Logs
+pub mod Messages
+pub mod Overlays
+pub mod ReadsBack
+pub mod Reasons
+pub mod SentNumbers
+pub mod SqlReasons
+pub mod Starts
+pub mod Unknowns

@@ -1,0 +1,12 @@
+pub mod Answers
+pub mod Errors
+pub mod Events
+pub mod Links
+pub mod Overlays
+pub mod Refusals
+pub mod Sent
+pub mod Sql
+pub mod Statements
+pub mod TokenNumbers
+pub mod Steps
+pub mod Tokens

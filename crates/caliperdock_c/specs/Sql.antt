@@ -1,0 +1,113 @@
+-- What is written of a text of SQL, and why nothing is.
+use Rattle.std.specs.Prelude.{◌≡◌, ◌<◌, ◌≤◌, ℕ, List, IsUtf8, length, map}
+use Rattle.std.specs.Str.{chars}
+use Rattle.std.specs.Str.Lossy.{utf8_valid_len}
+use Rattle.squawk_keywords.specs.KeywordAnswers.{contextual_keyword_of, keyword_of}
+use Rattle.squawk_keywords.specs.declared.keywords.Keywords.{Keywords}
+use Rattle.squawk_kinds.specs.Keywords.{Keywords as WordKinds}
+use Rattle.squawk_output.specs.Draft.{Draft, plain}
+use Rattle.squawk_output.specs.Steps.{Step}
+use Rattle.squawk_parser.specs.Parse.{IsRefused}
+use Rattle.squawk_parser.specs.State.{fresh}
+use Rattle.squawk_parser.specs.Words.{Words}
+use Rattle.squawk_parser.specs.declared.parser.parse_error.ParseError.{ParseError}
+use Rattle.squawk_parser.specs.declared.parser.parse_error.ParseError.TheVariants as parse
+use Rattle.squawk_table.specs.ParserInput.{input_of}
+use Rattle.squawk_table.specs.RawTable.{table_of}
+use Rattle.squawk_table.specs.RawTable.{Table as RawTable}
+use Rattle.squawk_table.specs.Sent.{sent_list, texts_of}
+use Rattle.squawk_table.specs.Shape.{Fits}
+use Rattle.squawk_tokens.specs.declared.check.TableError.TheVariants as table
+use Rattle.sql_grammar.specs.Files.{IsFile}
+use Rattle.sql_lexer.specs.Scripts.{script_tokens}
+use Rattle.sql_report.specs.Statements.{statements_of}
+use Rattle.sql_words.specs.SqlVocabulary.{KnowsKeywords}
+use Rattle.caliperdock_c.specs.Overlays.{over}
+use Rattle.caliperdock_c.specs.Sent.{AreWritten, HasRoom, no_counts}
+use Rattle.caliperdock_c.specs.Statements.{numbered_statement}
+use Rattle.caliperdock_c.specs.TokenNumbers.{number_of}
+use Rattle.caliperdock_c.specs.declared.answer.Refusal.{Refusal}
+use Rattle.caliperdock_c.specs.declared.answer.Refusal.TheVariants.{OutOfMemory, NotUtf8, Table, TooManyEvents, TooManyErrors}
+use Rattle.caliperdock_c.specs.declared.errors.CError.{CError}
+use Rattle.caliperdock_c.specs.declared.sql_lists.CSqlCounts.{CSqlCounts}
+use Rattle.caliperdock_c.specs.declared.statement.CStatement.{CStatement}
+use Rattle.caliperdock_c.specs.declared.steps.CStep.{CStep}
+use Rattle.caliperdock_c.specs.declared.token.CToken.{CToken}
+
+-- ---- the parse
+
+-- the table of a text of SQL by a vocabulary: its raw tokens are the lexer's, and its keywords PostgreSQL's
+pub record HasSqlTable (text : List ℕ) (keywords : Keywords) (table : RawTable) : Type 0 where
+  pub utf8 : IsUtf8 text
+  pub known : KnowsKeywords keywords
+  pub is : table ≡ table_of (keyword_of keywords) text (script_tokens text)
+
+-- the steps of a file of SQL: one node over all tokens of a table, and in it the nodes of its statements
+pub record AreOfFile (contextual : WordKinds) (table : RawTable) (steps : List Step) : Type 0 where
+  pub draft : Draft
+  pub file : IsFile (input_of contextual table) draft
+  pub is : steps ≡ plain draft.items
+
+-- the same of a text
+pub record AreOfSql (text : List ℕ) (table : RawTable) (steps : List Step) : Type 0 where
+  pub keywords : Keywords
+  pub of_text : HasSqlTable text keywords table
+  pub of_file : AreOfFile (contextual_keyword_of keywords) table steps
+
+-- ---- refusals
+
+-- a parse of the table is refused
+pub record IsRefusedParse (contextual : WordKinds) (table : RawTable) (reason : ParseError) : Type 0 where
+  pub words : Words
+  pub refused : IsRefused (λ _ _. Unit {0}) (fresh (input_of contextual table) words 4294967295 2147483648) reason
+
+-- why a table has no output; at want of memory nothing is said of it
+abbrev pub RefusesParse : WordKinds → RawTable → Refusal → Type 0
+RefusesParse contextual table OutOfMemory = Unit {0}
+RefusesParse contextual table TooManyEvents = IsRefusedParse contextual table parse.TooManyEvents
+RefusesParse contextual table TooManyErrors = IsRefusedParse contextual table parse.TooManyErrors
+RefusesParse contextual table reason = ⊥
+
+-- the parse of a text is refused
+pub record IsRefusedSql (text : List ℕ) (reason : ParseError) : Type 0 where
+  pub keywords : Keywords
+  pub table : RawTable
+  pub of_text : HasSqlTable text keywords table
+  pub refused : IsRefusedParse (contextual_keyword_of keywords) table reason
+
+-- Why nothing is written: what stands before in this list is good.
+abbrev pub RefusesSql : List ℕ → Refusal → Type 0
+RefusesSql text OutOfMemory = IsUtf8 text
+RefusesSql text (NotUtf8 at) = (¬ (IsUtf8 text)) × (at ≡ utf8_valid_len text)
+RefusesSql text (Table table.TextTooLong) = IsUtf8 text × (4294967295 < length text)
+RefusesSql text TooManyEvents = IsRefusedSql text parse.TooManyEvents
+RefusesSql text TooManyErrors = IsRefusedSql text parse.TooManyErrors
+RefusesSql text reason = ⊥
+
+-- ---- what is written
+
+abbrev pub no_sql_counts : CSqlCounts
+no_sql_counts = record { tokens = 0; statements = 0; sent = no_counts }
+
+-- there is room for all
+pub record HasSqlRoom (tokens : List CToken) (statements : List CStatement) (steps : List CStep) (errors : List CError) (texts : List ℕ)
+    (counts : CSqlCounts) : Type 0 where
+  pub tokens_fit : counts.tokens ≤ length tokens
+  pub statements_fit : counts.statements ≤ length statements
+  pub sent_fit : HasRoom steps errors texts counts.sent
+
+-- The raw tokens of the text, its statements and what is sent for its parse, whose texts are all of the text, in numbers, over what stood
+-- there before; and how many there are.
+pub record AreSqlWritten (text : List ℕ) (tokens : List CToken) (statements : List CStatement) (steps : List CStep) (errors : List CError) (texts : List ℕ)
+    (new_tokens : List CToken) (new_statements : List CStatement) (new_steps : List CStep) (new_errors : List CError) (new_texts : List ℕ)
+    (counts : CSqlCounts) : Type 0 where
+  pub table : RawTable
+  pub walk : List Step
+  pub of_text : AreOfSql text table walk
+  pub fits : Fits table walk
+  pub whole : texts_of (sent_list table walk) ≡ chars text
+  pub tokens_are : new_tokens ≡ over (map number_of (script_tokens text)) tokens
+  pub token_count : counts.tokens ≡ length (script_tokens text)
+  pub statements_are : new_statements ≡ over (map numbered_statement (statements_of (sent_list table walk))) statements
+  pub statement_count : counts.statements ≡ length (statements_of (sent_list table walk))
+  pub written : AreWritten table (sent_list table walk) steps errors texts new_steps new_errors new_texts counts.sent
