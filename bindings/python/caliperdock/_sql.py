@@ -66,10 +66,13 @@ def split(sql: str) -> List[Statement]:
     """
     source = Source(sql)
     written = Written(source.data, statements=True)
-    return [
-        Statement(kind_name(raw.kind), source.text(raw.start, raw.end), source.char(raw.start), source.char(raw.end), raw.start, raw.end)
-        for raw in written.statements[: written.counts.statements]
-    ]
+    statements, at, char = [], 0, 0
+    for raw in written.statements[: written.counts.statements]:
+        start = char + len(source.text(at, raw.start))
+        text = source.text(raw.start, raw.end)
+        at, char = raw.end, start + len(text)
+        statements.append(Statement(kind_name(raw.kind), text, start, char, raw.start, raw.end))
+    return statements
 
 
 def tokenize(sql: str) -> List[Token]:
