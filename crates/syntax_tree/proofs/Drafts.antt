@@ -174,11 +174,11 @@ module _ (growing : Growing) (few : length growing.elements ≤ 4294967295) (ins
 
 -- ---- an error
 
-abbrev pub tree_error : List ℕ → ℕ → ℕ → ℕ → TreeError
-tree_error text pos node given = record { msg = text; pos = pos; node = node; step = given }
+abbrev pub tree_error : List ℕ → ℕ → ℕ → ℕ → ℕ → TreeError
+tree_error text pos node next given = record { msg = text; pos = pos; node = node; next = next; step = given }
 
 module _ (growing : Growing) (text : List ℕ) (pos : ℕ) (errors' : List TreeError)
-    (put : errors' ≡ growing.errors ++ tree_error text pos growing.innermost growing.steps ∷ []) where
+    (put : errors' ≡ growing.errors ++ tree_error text pos growing.innermost (length growing.elements) growing.steps ∷ []) where
   abbrev with_error : Growing
   with_error = record {
     source = growing.source;
@@ -196,10 +196,11 @@ module _ (growing : Growing) (text : List ℕ) (pos : ℕ) (errors' : List TreeE
         elements = is.elements ∙ (sym (append-nil (draft_elements d)) ∙ sym (draft_elements-grow d error (HasRoom-error d text pos)));
         innermost_is = is.innermost_is ∙ sym (innermost-grow d error);
         errors = put
-            ∙ (ap (λ l. l ++ tree_error text pos growing.innermost growing.steps ∷ []) is.errors
-            ∙ (ap (λ node. draft_errors d ++ tree_error text pos node growing.steps ∷ []) is.innermost_is
-            ∙ (ap (λ given. draft_errors d ++ tree_error text pos (innermost d) given ∷ []) is.steps
-            ∙ sym (draft_errors-grow d error))));
+            ∙ (ap (λ l. l ++ tree_error text pos growing.innermost (length growing.elements) growing.steps ∷ []) is.errors
+            ∙ (ap (λ node. draft_errors d ++ tree_error text pos node (length growing.elements) growing.steps ∷ []) is.innermost_is
+            ∙ (ap (λ next. draft_errors d ++ tree_error text pos (innermost d) next growing.steps ∷ []) (size_is growing d is)
+            ∙ (ap (λ given. draft_errors d ++ tree_error text pos (innermost d) (draft_size d) given ∷ []) is.steps
+            ∙ sym (draft_errors-grow d error)))));
         steps = omega (arith, is.steps, ap length (draft_steps-grow d error), length-append (draft_steps d) (forest_steps error));
         sent = is.sent;
         text = is.text ∙ ap encode_utf8_all (sym (append-nil (draft_text d)) ∙ sym (draft_text-grow d error));
@@ -213,7 +214,7 @@ module _ (growing : Growing) (text : List ℕ) (pos : ℕ) (errors' : List TreeE
     is = IsDraft-error is.draft is.is;
     utf8 = is.utf8;
     few = is.few;
-    few_errors = omega (arith, ap length put, length-append growing.errors (tree_error text pos growing.innermost growing.steps ∷ []));
+    few_errors = omega (arith, ap length put, length-append growing.errors (tree_error text pos growing.innermost (length growing.elements) growing.steps ∷ []));
     short = is.short;
   }
 

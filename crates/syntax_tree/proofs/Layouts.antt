@@ -182,6 +182,6 @@ errors_of-beside (Node kind inner others) g node at given =
     ∙ sym (append_assoc within (errors_of others node at' given') _)
 errors_of-beside (Error text pos others) g node at given =
     let step_is : given + 1 + length (forest_steps others) ≡ given + suc (length (forest_steps others)) = omega arith in
-    let error : TreeError = record { msg = text; pos = pos; node = node; step = given } in
+    let error : TreeError = record { msg = text; pos = pos; node = node; next = at; step = given } in
     ap (λ l. error ∷ l)
     (errors_of-beside others g node at (given + 1) ∙ ap (λ l. errors_of others node at (given + 1) ++ l) (errors_of-at g node _ _ _ _ refl step_is))

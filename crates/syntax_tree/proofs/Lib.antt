@@ -30,5 +30,6 @@ pub mod SiblingLoops
 pub mod WalksByRule
 pub mod WalksLaid
 pub mod WalksErrors
+pub mod ErrorsPlaced
 pub mod WalksSteps
 pub mod WalksEvents

@@ -16,7 +16,7 @@ filter-map_one : {A B : Type 0} (f : A → B) (b : Bool) (x : A) (list : List A)
 filter-map_one f true x list rest same = ap (λ l. f x ∷ l) same
 filter-map_one f false x list rest same = same
 
-filter-map : {A B : Type 0} (f : A → B) (p : B → Bool) (q : A → Bool) → ((x : A) → p (f x) ≡ q x) → (list : List A) → filter p (map f list) ≡ map f (filter q list)
+pub filter-map : {A B : Type 0} (f : A → B) (p : B → Bool) (q : A → Bool) → ((x : A) → p (f x) ≡ q x) → (list : List A) → filter p (map f list) ≡ map f (filter q list)
 filter-map f p q same [] = refl
 filter-map f p q same (x ∷ list) =
     ap (λ b. cond b (f x ∷ filter p (map f list)) (filter p (map f list))) (same x)

@@ -1,15 +1,14 @@
 -- The errors of trees that lie at a place of a tree.
-use Rattle.std.proofs.Common.{◌≡◌, ◌∙◌, ℕ, suc, ◌+◌, ◌<◌, ◌≤◌, List, [], ◌∷◌, ◌++◌, length, arith, ap, sym, refl, append_assoc, nat_lt, eqb, true, false, get_or, All}
+use Rattle.std.proofs.Common.{◌≡◌, ◌∙◌, ℕ, suc, ◌+◌, ◌<◌, ◌≤◌, List, [], ◌∷◌, ◌++◌, length, arith, ap, sym, append_assoc, nat_lt, eqb, true, false, get_or, All}
 use Rattle.std.proofs.lemmas.Bool.{cond-true, lt-ltb, le-ltb, eq-eqb, ne_eqb}
 use Rattle.std.proofs.lemmas.List.{length-append, get_or_at}
-use Rattle.std.proofs.lemmas.List.Elements.{All-nil, All-cons, All-head, All-append, All-weaker, All-same}
+use Rattle.std.proofs.lemmas.List.Elements.{All-nil, All-cons, All-head, All-append, All-weaker}
 use Rattle.squawk_table.specs.declared.shortcuts.str_step.OwnedStep.TheVariants as step
 use Rattle.squawk_tree.specs.Forest.{Forest, Nothing, Token, Node, Error, forest_steps}
 use Rattle.syntax_tree.specs.Trees.{size}
-use Rattle.syntax_tree.specs.Layout.{Laid, IsTree, errors_of}
+use Rattle.syntax_tree.specs.Layout.{Laid, errors_of}
 use Rattle.syntax_tree.specs.Walks.{blank_error, error_in, has_error}
 use Rattle.syntax_tree.specs.declared.tree.TreeError.{TreeError}
-use Rattle.syntax_tree.proofs.Texts.{elements_are}
 
 pub errors_later : (trees : Forest) (node at given : ℕ) → All (λ e. given ≤ e.step) (errors_of trees node at given)
 errors_later Nothing node at given = All-nil (λ e. given ≤ e.step)
@@ -24,7 +23,7 @@ errors_later (Node kind inner others) node at given =
     (All-weaker (λ e. next ≤ e.step) (λ e. given ≤ e.step) (λ e later. omega (arith, later)) (errors_of others node (at + 1 + size inner) next)
     (errors_later others node (at + 1 + size inner) next))
 errors_later (Error text pos others) node at given =
-    All-cons (λ e. given ≤ e.step) (record { msg = text; pos = pos; node = node; step = given }) (errors_of others node at (given + 1)) (omega arith)
+    All-cons (λ e. given ≤ e.step) (record { msg = text; pos = pos; node = node; next = at; step = given }) (errors_of others node at (given + 1)) (omega arith)
     (All-weaker (λ e. given + 1 ≤ e.step) (λ e. given ≤ e.step) (λ e later. omega (arith, later)) (errors_of others node at (given + 1))
     (errors_later others node at (given + 1)))
 
@@ -110,7 +109,7 @@ module _ (laid : Laid) (node at error given : ℕ) where
 
   module _ (text : List ℕ) (pos : ℕ) (others : Forest) (errs : Errs laid (Error text pos others) node at error given) where
     abbrev first : TreeError
-    first = record { msg = text; pos = pos; node = node; step = given }
+    first = record { msg = text; pos = pos; node = node; next = at; step = given }
 
     abbrev after : List TreeError
     after = errors_of others node at (given + 1) ++ errs.rest
@@ -138,30 +137,3 @@ module _ (laid : Laid) (node at error given : ℕ) where
           All-weaker (λ e. given + suc (length (forest_steps others)) ≤ e.step) (λ e. given + 1 + length (forest_steps others) ≤ e.step)
           (λ e later. omega (arith, later)) errs.rest errs.later;
     }
-
--- ---- their nodes
-
-module _ (bound : ℕ) where
-  -- an error is in no node, or in one below a place
-  abbrev IsBelow : TreeError → Type 0
-  IsBelow e = (e.node ≡ 4294967295 → ⊥) → e.node < bound
-
-  nodes_below : (trees : Forest) (node at given : ℕ) → ((node ≡ 4294967295 → ⊥) → node < bound) → at + size trees ≤ bound → All IsBelow (errors_of trees node at given)
-  nodes_below Nothing node at given here within = All-nil IsBelow
-  nodes_below (Token kind text others) node at given here within = nodes_below others node (at + 1) (given + 1) here (omega (arith, within))
-  nodes_below (Node kind inner others) node at given here within =
-      let next = given + 2 + length (forest_steps inner) in
-      All-append IsBelow (errors_of inner at (at + 1) (given + 1)) (errors_of others node (at + 1 + size inner) next)
-      (nodes_below inner at (at + 1) (given + 1) (λ some. omega (arith, within)) (omega (arith, within)))
-      (nodes_below others node (at + 1 + size inner) next here (omega (arith, within)))
-  nodes_below (Error text pos others) node at given here within =
-      All-cons IsBelow (record { msg = text; pos = pos; node = node; step = given }) (errors_of others node at (given + 1)) here
-      (nodes_below others node at (given + 1) here within)
-
-pub node_below : (laid : Laid) (tree : Forest) → IsTree laid tree → (i : ℕ) → i < length laid.errors → ((error_in laid i).node ≡ 4294967295 → ⊥)
-    → (error_in laid i).node < length laid.elements
-node_below laid tree is i below =
-    All-same (IsBelow (length laid.elements)) laid.errors (errors_of tree 4294967295 0 0) is.errors
-    (nodes_below (length laid.elements) tree 4294967295 0 0 (λ some. absurd (some refl))
-    (omega (arith, elements_are laid tree is)))
-    i blank_error below

@@ -53,7 +53,7 @@ errors_of (Node kind inner others) node at step =
     errors_of inner at (at + 1) (step + 1)
     ++ errors_of others node (at + 1 + size inner) (step + 2 + length (forest_steps inner))
 errors_of (Error text pos others) node at step =
-    record { msg = text; pos = pos; node = node; step = step } ∷ errors_of others node at (step + 1)
+    record { msg = text; pos = pos; node = node; next = at; step = step } ∷ errors_of others node at (step + 1)
 
 -- the text of each token is text, and not empty
 abbrev pub AreTexts : Forest → Type 0

@@ -64,7 +64,7 @@ abbrev pub start_in : Laid → ℕ → ℕ
 start_in laid at = if nat_lt at (length laid.elements) then (element_in laid at).start else length laid.text
 
 abbrev pub blank_error : TreeError
-blank_error = record { msg = []; pos = 0; node = 0; step = 0 }
+blank_error = record { msg = []; pos = 0; node = 0; next = 0; step = 0 }
 
 -- the error at an index
 abbrev pub error_in : Laid → ℕ → TreeError

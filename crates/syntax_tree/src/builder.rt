@@ -222,10 +222,12 @@ impl<'s> TreeBuilder<'s> {
         }
         self.errors.reserve(1)?;
         let msg = Text::new(String::from_str(self.alloc, msg)?);
+        let next = self.elements.len() as u32;
         self.errors.push_reserved(TreeError {
             msg,
             pos,
             node: self.innermost,
+            next,
             step: self.steps,
         });
         self.steps += 1;

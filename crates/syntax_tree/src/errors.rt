@@ -18,27 +18,33 @@ pub struct SyntaxError<'t> {
     ghost within: { at < length tree.now.errors },
 }
 
-/// The errors that are left of a tree, in the order of the walk.
+/// The errors that are left of those of a tree, in the order of the walk.
 #[derive(Drop)]
 pub struct Errors<'t> {
     tree: &'t SyntaxTree<'t>,
+    /// The index of the next one.
     at: usize,
+    /// The index behind the last one.
+    stop: usize,
 }
 
 impl<'t> Model for Errors<'t> {
-    ghost use Rattle.std.specs.Prelude.{List};
+    ghost use Rattle.std.specs.Prelude.{List, length, ◌≤◌};
     ghost use Rattle.syntax_tree.specs.Errors.{errors_left};
     ghost use Rattle.syntax_tree.specs.Walks.{InTree};
     ghost use Rattle.syntax_tree.specs.declared.tree.TreeError.{TreeError};
 
     ghost Value = { List (InTree TreeError) };
 
-    ghost view = { λ e. errors_left e.tree.now e.at };
+    ghost view = { λ e. errors_left e.tree.now e.at e.stop };
+
+    ghost invariant = { λ e. e.stop ≤ length e.tree.now.errors };
 }
 
 /// The errors that are left of those in an element, in the order of the walk.
 #[derive(Drop)]
 pub struct ErrorsIn<'t> {
+    /// Those in the element, and others that come directly behind it.
     all: Errors<'t>,
     /// The place of the element.
     at: u32,
@@ -58,13 +64,25 @@ impl<'t> Model for ErrorsIn<'t> {
 }
 
 impl<'s> SyntaxTree<'s> {
+    ghost use Rattle.syntax_tree.specs.Errors.{ComeBefore};
     ghost use Rattle.syntax_tree.specs.Walks.{in_tree};
 
     /// The errors, in the order of the walk.
     pub fn errors<'t>(&'t self) -> Errors<'t>
         ensures { (tree : Forest) → IsTree self.now tree → result ≡ map (in_tree self.now) (errors_of tree 4294967295 0 0) }
     {
-        Errors { tree: self, at: 0 }
+        Errors {
+            tree: self,
+            at: 0,
+            stop: self.errors.len(),
+        }
+    }
+
+    /// How many errors come before an element that begins behind a place.
+    pub(crate) fn errors_before(&self, place: u32) -> usize
+        ensures { ComeBefore self.now place result }
+    {
+        self.errors.partition_point(|error| error.next <= place)
     }
 }
 
@@ -73,15 +91,24 @@ impl<'t> SyntaxElement<'t> {
     ghost use Rattle.syntax_tree.specs.Walks.{in_tree};
     ghost use Rattle.syntax_tree.specs.Views.{IsTreeOf};
 
-    /// The errors in it, in the order of the walk. Finding one takes time in the number of errors of the tree before it.
+    /// The errors in it, in the order of the walk. It takes logarithmic time in the number of errors of the tree to
+    /// find them. Those that stand directly behind it, up to where the next element begins, are passed over.
     pub fn errors_in(self) -> ErrorsIn<'t>
         ensures { (tree : Forest) → IsTreeOf self.entry tree → let errors = map (in_tree self.entry.tree.now) (errors_of tree 4294967295 0 0) in
             result ≡ errors_between self.entry.at (self.entry.at + size_at tree self.entry.at) errors }
     {
+        let tree = self.tree;
+        let behind = self.behind();
+        let first = tree.errors_before(self.at);
+        let stop = tree.errors_before(behind);
         ErrorsIn {
-            all: self.tree.errors(),
+            all: Errors {
+                tree,
+                at: first,
+                stop,
+            },
             at: self.at,
-            behind: self.behind(),
+            behind,
         }
     }
 }
@@ -140,7 +167,7 @@ impl<'t> Iterator for Errors<'t> {
     fn next(&mut self) -> Option<SyntaxError<'t>> {
         let tree = self.tree;
         let at = self.at;
-        if at >= tree.errors.len() {
+        if at >= self.stop {
             return None;
         }
         self.at = at + 1;

@@ -32,6 +32,8 @@ pub(crate) struct TreeError {
     pub(crate) pos: usize,
     /// The place of the innermost node that it is in.
     pub(crate) node: u32,
+    /// The place of the first element that begins behind it. These places rise along the errors of a tree.
+    pub(crate) next: u32,
     /// How many steps of the walk stand before it.
     pub(crate) step: usize,
 }

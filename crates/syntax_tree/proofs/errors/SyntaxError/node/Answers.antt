@@ -1,5 +1,5 @@
 use Rattle.std.proofs.Common.{◌∙◌, ◌<◌, length, subst, sym}
-use Rattle.syntax_tree.proofs.WalksErrors.{node_below}
+use Rattle.syntax_tree.proofs.ErrorsPlaced.{node_below}
 use Rattle.syntax_tree.proofs.errors.SyntaxError.node.Goals as goal
 
 pub invariant_of-result : goal.invariant_of-result
