@@ -38,7 +38,7 @@ list_of_crossing = refl
 turns_of_crossing : turns_of crossing ≡ 12
 turns_of_crossing = refl
 
--- two links to one place: the first takes it and what lies beyond
+-- two links to one index: the first takes it and what lies beyond
 abbrev forest : Log
 forest = Start 700 (Some 2) ∷ Start 701 (Some 1) ∷ Start 702 (Some 1) ∷ Start 703 None ∷ []
 

@@ -5,7 +5,7 @@ use Rattle.std.specs.List.{fold}
 use Rattle.std.proofs.Math.Dec.{eqb-suc-zero}
 use Rattle.std.proofs.lemmas.Bool.{and_parts, eqb-true, false≢true, ne_eqb}
 use Rattle.squawk_output.specs.OneRoot.{StandsInOneRoot}
-use Rattle.squawk_output.specs.RootNote.{Noted, note_of, noted, tells_root}
+use Rattle.squawk_output.specs.RootNote.{Noted, note_of, noted, has_one_root}
 use Rattle.squawk_output.specs.Steps.{Step, Token, Enter, Exit, Error, is_enter, is_exit, closings, openings, without_errors}
 use Rattle.squawk_output.proofs.Sums.{count_by-cons}
 use Rattle.squawk_output.specs.declared.output.root_note.RootNote.{RootNote}
@@ -16,7 +16,7 @@ behind count depth top_level = record { count = count; note = record { depth = d
 
 -- what a note tells with more steps
 abbrev tells : Noted → List Step → Type 0
-tells so_far steps = IsTrue (tells_root (fold noted so_far steps).note (fold noted so_far steps).count)
+tells so_far steps = IsTrue (has_one_root (fold noted so_far steps).note (fold noted so_far steps).count)
 
 -- two steps that found none open are not in one root
 spoilt : (count depth top_level : ℕ) (steps : List Step) → 1 < top_level → ¬ (tells (behind count depth top_level) steps)
@@ -96,7 +96,7 @@ tells-closes count (suc depth) (Exit ∷ steps) some more =
     (tells-closes (count + 1) (suc depth - 1) steps (omega arith) (λ none. omega (arith, some))))
 tells-closes count depth (Error text ∷ steps) some more = tells-closes count depth steps some more
 
-root-told : (steps : List Step) → IsTrue (tells_root (note_of steps).note (note_of steps).count) ↔ StandsInOneRoot (without_errors steps)
+root-told : (steps : List Step) → IsTrue (has_one_root (note_of steps).note (note_of steps).count) ↔ StandsInOneRoot (without_errors steps)
 root-told [] = (λ told. absurd (false≢true told), λ root. absurd root.begins)
 root-told (Token kind n ∷ steps) = (λ told. absurd (late steps told), λ root. absurd root.begins)
 root-told (Exit ∷ steps) = (λ told. absurd (late steps told), λ root. absurd root.begins)
@@ -114,5 +114,5 @@ root-told (Enter kind ∷ steps) =
     )
 root-told (Error text ∷ steps) = root-told steps
 
-pub note_tells : (steps : List Step) (count : ℕ) (note : RootNote) → note_of steps ≡ record { count = count; note = note } → IsTrue (tells_root note count) ↔ StandsInOneRoot (without_errors steps)
-note_tells steps count note is = subst (λ n. IsTrue (tells_root n.note n.count) ↔ StandsInOneRoot (without_errors steps)) is (root-told steps)
+pub note_has_one_root : (steps : List Step) (count : ℕ) (note : RootNote) → note_of steps ≡ record { count = count; note = note } → IsTrue (has_one_root note count) ↔ StandsInOneRoot (without_errors steps)
+note_has_one_root steps count note is = subst (λ n. IsTrue (has_one_root n.note n.count) ↔ StandsInOneRoot (without_errors steps)) is (root-told steps)

@@ -1,4 +1,4 @@
-//! The steps that a pass makes.
+//! The steps that a pass makes. What is inlined runs for each event.
 ghost use Rattle.std.specs.Prelude.{◌≡◌, [], ◌∷◌, ◌++◌, ◌+◌, ◌<◌, ◌^◌, ◌↔◌, IfOk, IsTrue, length, slice_index_or};
 ghost use Rattle.squawk_output.specs.OneRoot.{StandsInOneRoot};
 ghost use Rattle.squawk_output.specs.PackedEvents.{IsPlain};
@@ -12,25 +12,24 @@ use crate::output::text::Text;
 use std::alloc::{AllocError, Global};
 use std::marker::Model;
 
-/// The steps that a pass has made so far, and how many turns it took. Room for all steps is reserved when
-/// it begins.
+/// The steps that a pass has made so far, and the number of its turns.
 ///
-/// Each step is a word. The text of each error stands in a list of its own, at the error's number, from
-/// the beginning of the pass on.
+/// Room for all steps is reserved when it begins. Each step is a word. The texts of all errors are there
+/// from the beginning, each at its error's number.
 #[derive(Drop)]
-pub(crate) struct PassedSteps {
+pub(crate) struct OutputBuilder {
     words: Vec<u32>,
     errors: Vec<Text>,
     /// How many of the steps are errors.
-    told: usize,
+    error_steps: usize,
     turns: u64,
     note: RootNote,
 }
 
-impl Model for PassedSteps {
-    ghost use Rattle.squawk_output.specs.Steps.{Passed};
+impl Model for OutputBuilder {
+    ghost use Rattle.squawk_output.specs.Steps.{Built};
 
-    ghost Value = { Passed };
+    ghost Value = { Built };
 
     ghost use Rattle.std.specs.Prelude.{◌≡◌, ◌≤◌, ◌-◌, length, map};
     ghost use Rattle.squawk_output.specs.RootNote.{note_of};
@@ -42,48 +41,47 @@ impl Model for PassedSteps {
     ghost invariant = { λ p. record {
       words : AreWords p.words.items;
       have_texts : HaveTexts p.errors.items p.words.items;
-      note : note_of (map (step_in p.errors.items) p.words.items) ≡ record { count = length p.words.items - p.told; note = p.note };
-      told : p.told ≤ length p.words.items;
+      note : note_of (map (step_in p.errors.items) p.words.items) ≡ record { count = length p.words.items - p.error_steps; note = p.note };
+      error_steps : p.error_steps ≤ length p.words.items;
       low : p.note.depth ≤ length p.words.items;
       few : p.note.top_level ≤ length p.words.items;
     } };
 }
 
-impl PassedSteps {
+impl OutputBuilder {
     /// No steps.
-    pub(crate) fn empty(alloc: Global) -> PassedSteps
+    pub(crate) fn empty(alloc: Global) -> OutputBuilder
         ensures { result ≡ record { steps = []; room = 0; texts = []; turns = 0 } }
     {
-        PassedSteps {
+        OutputBuilder {
             words: Vec::new(alloc),
             errors: Vec::new(alloc),
-            told: 0,
+            error_steps: 0,
             turns: 0,
             note: RootNote::new(),
         }
     }
 
-    /// No steps, and room for so many. These are the texts of the errors to come.
+    /// No steps, with room for `steps`, and the texts of the errors to come.
     pub(crate) fn with_capacity(
         alloc: Global,
         steps: usize,
         errors: Vec<Text>,
-    ) -> Result<PassedSteps, AllocError>
+    ) -> Result<OutputBuilder, AllocError>
         ensures { IfOk result (λ p. p ≡ record { steps = []; room = steps; texts = errors.items; turns = 0 }) }
     {
-        Ok(PassedSteps {
+        Ok(OutputBuilder {
             words: Vec::with_capacity(alloc, steps)?,
             errors,
-            told: 0,
+            error_steps: 0,
             turns: 0,
             note: RootNote::new(),
         })
     }
 
-    /// Puts the step of a word at the end: an event that gives exactly this step where it stands. It makes
-    /// a turn, and one more for the beginning of a node.
+    /// Appends the step of a word, and counts a turn for its event and one more if that is a `Start`.
     ///
-    /// No jump depends on what the step is.
+    /// No branch depends on what the step is.
     #[inline(always)]
     pub(crate) fn put_plain(&mut self, word: u32)
         requires plain { IsPlain word }
@@ -98,7 +96,7 @@ impl PassedSteps {
         self.turns += u64::from(1 + enters);
     }
 
-    /// The same for the error of a number, which makes a turn. Numbers of errors have 31 bits.
+    /// Appends the error with this number, of 31 bits, and counts its turn.
     #[inline(always)]
     pub(crate) fn put_error(&mut self, number: u32)
         requires text { number < length self.old.texts }
@@ -109,11 +107,11 @@ impl PassedSteps {
     {
         self.words
             .push_reserved(StoredStep::Error { number }.pack());
-        self.told += 1;
+        self.error_steps += 1;
         self.turns += 1;
     }
 
-    /// An event that gives no step, and is the beginning of no node: it makes two turns.
+    /// Counts the two turns of a `Start` that gives no step.
     #[inline(always)]
     pub(crate) fn pass_by(&mut self)
         requires { self.old.turns + 2 < 2 ^ 64 }
@@ -122,7 +120,7 @@ impl PassedSteps {
         self.turns += 2;
     }
 
-    /// The steps in their order.
+    /// The steps in order.
     pub(crate) fn iter(&self) -> Steps<'_>
         ensures steps { result ≡ self.now.steps }
         ensures few { length self.now.steps < 2 ^ 64 }
@@ -131,14 +129,14 @@ impl PassedSteps {
     }
 
     /// Whether the steps stand in one root, errors aside.
-    #[tactic(auto, using(crate::proofs::NotedRoot::note_tells))]
+    #[tactic(auto, using(crate::proofs::NotedRoot::note_has_one_root))]
     pub(crate) fn stands_in_one_root(&self) -> bool
         ensures { IsTrue result ↔ StandsInOneRoot (without_errors self.now.steps) }
     {
-        self.note.tells_root(self.words.len() - self.told)
+        self.note.has_one_root(self.words.len() - self.error_steps)
     }
 
-    /// How many turns it took.
+    /// The number of turns.
     pub(crate) fn turns(&self) -> u64
         ensures { result ≡ self.now.turns }
     {

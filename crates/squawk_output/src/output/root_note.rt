@@ -1,13 +1,13 @@
-//! Whether steps stand in one root, noted as they are made.
+//! Whether steps stand in one root, noted as they are made. What is inlined runs for each step.
 ghost use Rattle.std.specs.Prelude.{◌≡◌, ◌+◌, ◌-◌, ◌<◌, ◌^◌};
-ghost use Rattle.squawk_output.specs.RootNote.{stepped, tells_root, unnoted};
+ghost use Rattle.squawk_output.specs.RootNote.{stepped, has_one_root, unnoted};
 
-/// What the openings and closings of steps tell of their root. Errors count for nothing.
+/// What steps other than errors say of their root.
 #[derive(Drop)]
 pub(crate) struct RootNote {
-    /// How many nodes are open.
+    /// The number of open nodes.
     depth: usize,
-    /// How many of the steps found none open. In one root it is the first of them alone.
+    /// The number of steps that found no node open. In one root it is the first step alone.
     top_level: usize,
 }
 
@@ -22,7 +22,7 @@ impl RootNote {
         }
     }
 
-    /// Notes a step that enters and leaves so many nodes. It takes no jump.
+    /// Notes a step that enters and leaves so many nodes. It has no branch.
     #[inline(always)]
     pub(crate) fn step(&mut self, enters: usize, leaves: usize)
         requires enters { self.old.depth + enters < 2 ^ 64 }
@@ -33,9 +33,9 @@ impl RootNote {
         self.depth = (self.depth + enters).saturating_sub(leaves);
     }
 
-    /// Whether so many steps stand in one root.
-    pub(crate) fn tells_root(&self, steps: usize) -> bool
-        ensures { result ≡ tells_root self.now steps }
+    /// Whether the steps, which are this many, stand in one root.
+    pub(crate) fn has_one_root(&self, steps: usize) -> bool
+        ensures { result ≡ has_one_root self.now steps }
     {
         self.top_level == 1 && self.depth == 0 && steps > 1
     }

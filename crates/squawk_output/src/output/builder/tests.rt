@@ -67,6 +67,6 @@ fn an_output_has_a_word_for_each_step(rt: HostRuntime) -> Result<(), Fail> {
     let wanted = [
         0x02bc0011, 0x02bd0011, 0x00030101, 0x00000021, 0x00000000, 0x00000021,
     ];
-    assert_eq!(rt; output.passed.words.as_slice(), wanted.as_slice());
+    assert_eq!(rt; output.builder.words.as_slice(), wanted.as_slice());
     Ok(())
 }
