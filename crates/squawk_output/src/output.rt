@@ -4,7 +4,7 @@ ghost use Rattle.squawk_output.specs.OneRoot.{StandsInOneRoot};
 ghost use Rattle.squawk_output.specs.Steps.{without_errors};
 
 pub(crate) mod builder;
-mod root_note;
+mod root_tracker;
 pub mod step;
 pub mod steps;
 pub(crate) mod stored;
@@ -60,7 +60,7 @@ impl Output {
 
     /// Whether the steps stand in one root: errors aside, they are one node with its contents.
     ///
-    /// It takes constant time: the pass has noted it.
+    /// It takes constant time: the pass has kept track of it.
     pub fn stands_in_one_root(&self) -> bool
         ensures { IsTrue result ↔ StandsInOneRoot (without_errors self.now.steps) }
     {

@@ -5,7 +5,7 @@ ghost use Rattle.squawk_output.specs.PackedEvents.{IsPlain};
 ghost use Rattle.squawk_output.specs.Steps.{Error, without_errors};
 ghost use Rattle.squawk_output.specs.StoredSteps.{enters_of, step_in, unpacked};
 
-use crate::output::root_note::RootNote;
+use crate::output::root_tracker::RootTracker;
 use crate::output::steps::Steps;
 use crate::output::stored::{StoredStep, enters, leaves};
 use crate::output::text::Text;
@@ -23,7 +23,7 @@ pub(crate) struct OutputBuilder {
     /// How many of the steps are errors.
     error_steps: usize,
     turns: u64,
-    note: RootNote,
+    tracker: RootTracker,
 }
 
 impl Model for OutputBuilder {
@@ -32,7 +32,7 @@ impl Model for OutputBuilder {
     ghost Value = { Built };
 
     ghost use Rattle.std.specs.Prelude.{◌≡◌, ◌≤◌, ◌-◌, length, map};
-    ghost use Rattle.squawk_output.specs.RootNote.{note_of};
+    ghost use Rattle.squawk_output.specs.RootTracker.{tracked_of};
     ghost use Rattle.squawk_output.specs.StoredSteps.{AreWords, HaveTexts, step_in};
     ghost use Rattle.std.specs.Vec.{vec_capacity};
 
@@ -41,10 +41,10 @@ impl Model for OutputBuilder {
     ghost invariant = { λ p. record {
       words : AreWords p.words.items;
       have_texts : HaveTexts p.errors.items p.words.items;
-      note : note_of (map (step_in p.errors.items) p.words.items) ≡ record { count = length p.words.items - p.error_steps; note = p.note };
+      tracker : tracked_of (map (step_in p.errors.items) p.words.items) ≡ record { count = length p.words.items - p.error_steps; tracker = p.tracker };
       error_steps : p.error_steps ≤ length p.words.items;
-      low : p.note.depth ≤ length p.words.items;
-      few : p.note.top_level ≤ length p.words.items;
+      low : p.tracker.depth ≤ length p.words.items;
+      few : p.tracker.top_level ≤ length p.words.items;
     } };
 }
 
@@ -58,7 +58,7 @@ impl OutputBuilder {
             errors: Vec::new(alloc),
             error_steps: 0,
             turns: 0,
-            note: RootNote::new(),
+            tracker: RootTracker::new(),
         }
     }
 
@@ -75,7 +75,7 @@ impl OutputBuilder {
             errors,
             error_steps: 0,
             turns: 0,
-            note: RootNote::new(),
+            tracker: RootTracker::new(),
         })
     }
 
@@ -92,7 +92,7 @@ impl OutputBuilder {
         let enters = enters(word);
         let leaves = leaves(word);
         self.words.push_reserved(word);
-        self.note.step(enters as usize, leaves as usize);
+        self.tracker.step(enters as usize, leaves as usize);
         self.turns += u64::from(1 + enters);
     }
 
@@ -129,11 +129,12 @@ impl OutputBuilder {
     }
 
     /// Whether the steps stand in one root, errors aside.
-    #[tactic(auto, using(crate::proofs::NotedRoot::note_has_one_root))]
+    #[tactic(auto, using(crate::proofs::TrackedRoot::tracked_in_one_root))]
     pub(crate) fn stands_in_one_root(&self) -> bool
         ensures { IsTrue result ↔ StandsInOneRoot (without_errors self.now.steps) }
     {
-        self.note.has_one_root(self.words.len() - self.error_steps)
+        self.tracker
+            .is_one_root(self.words.len() - self.error_steps)
     }
 
     /// The number of turns.
