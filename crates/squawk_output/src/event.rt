@@ -54,7 +54,7 @@ pub enum Event {
     },
 }
 
-/// The output of a log of events. `recorded` is the number of recorded events that it keeps.
+/// The output of a log of events. Its [`Output::recorded`] is `recorded`.
 ///
 /// Each event gives its step where it stands; a `Start` of `TOMBSTONE` gives none. If a `Start` has a link,
 /// all nodes along the links begin there, the farthest first, and none begins where those stand. If links

@@ -1,4 +1,4 @@
--- Lists that a function makes of their places.
+-- Lists whose items a function makes of their indices.
 use Rattle.std.proofs.Common.{◌≡◌, ◌∙◌, ℕ, ◌+◌, ◌<◌, Some, [], ◌∷◌, ◌++◌, map, length, ap, sym, zero-add}
 use Rattle.std.specs.List.{range_with_len, slice_get}
 use Rattle.std.proofs.lemmas.List.FromFn.{fill_by_all, length-map-range_with_len, get_or-map-range_with_len, map-range_with_len_more}

@@ -1,4 +1,4 @@
--- The steps before a place of a walk, and one more.
+-- The steps before a spot of a walk, and one more.
 use Rattle.std.proofs.Common.{◌≡◌, ◌∙◌, ℕ, ◌+◌, ◌<◌, List, ◌∷◌, cond, length, take, drop, get_or, arith, ap, sym}
 use Rattle.std.proofs.lemmas.List.{drop_more, length-drop}
 use Rattle.std.proofs.lemmas.List.Sums.{sum_by_more}
