@@ -8,9 +8,6 @@ ghost use Rattle.squawk_kinds.specs.TokenSets.{has};
 use crate::syntax_kind::SyntaxKind;
 use std::marker::Model;
 
-/// The number of token kinds.
-const TOKEN_KINDS: usize = SyntaxKind::WHITESPACE.0 as usize + 1;
-
 /// A set of token kinds: of the kinds up to [`SyntaxKind::WHITESPACE`].
 ///
 /// It takes 80 bytes, one bit for each token kind, and is `Copy`. It has the kind `k` if and only if bit
@@ -108,6 +105,6 @@ impl TokenSet {
         ensures { result ≡ has self.now kind }
     {
         let number = usize::from(u16::from(kind));
-        number < TOKEN_KINDS && (self.0[number / 64] >> (number % 64)) & 1 == 1
+        number < 640 && (self.0[number / 64] >> (number % 64)) & 1 == 1
     }
 }
