@@ -14,6 +14,9 @@ use serde_json::Value;
 use squawk_kinds::{SyntaxKind, TokenSet};
 use std::alloc::Global;
 
+/// The greatest number of a kind.
+const GREATEST: u64 = u16::MAX as u64;
+
 /// The members of a document's words.
 #[derive(Clone, Copy)]
 pub struct WordMembers<'v> {
@@ -48,7 +51,7 @@ fn name(value: &Value) -> Result<(u16, &str), DocumentError>
     ensures { GivesExactly (λ pair. (pair.0, pair.1.now)) result (kind_and_name_in (view value.now)) }
 {
     let (kind, name) = value::pair(value)?;
-    let kind = value::number(kind, 0, u64::from(u16::MAX))?;
+    let kind = value::number(kind, 0, GREATEST)?;
     let name = value::string(name)?;
     Ok((kind as u16, name))
 }
