@@ -6,7 +6,7 @@ use Rattle.std.specs.List.{flat_map}
 use Rattle.std.proofs.lemmas.List.Sums.{length-filter, sum_by-append, sum_by-cons}
 use Rattle.squawk_output.specs.Steps.{Step, Token, Enter, Exit, Error, errors_in, is_error}
 use Rattle.squawk_table.specs.RawTable.{Table, IsTable, RawToken}
-use Rattle.squawk_table.specs.Sending.{depth_behind, next_place, place_here, sent_from, sent_here, trivia_here}
+use Rattle.squawk_table.specs.Sending.{depth_behind, next_raw, raw_here, sent_from, sent_here, trivia_here}
 use Rattle.squawk_table.specs.Sent.{ErrorsArePlaced, IsBeginning, bytes_of, errors_moved, sent_list, sent_raw, text_in, texts_of}
 use Rattle.squawk_table.specs.Shape.{Fits}
 use Rattle.squawk_table.specs.declared.shortcuts.str_step.OwnedStep.{OwnedStep}
@@ -44,9 +44,9 @@ no_error (r ∷ trivia) rest = no_error trivia rest
 errors_from : (t : Table) (place depth : ℕ) (left : List Step) → length (flat_map error_in (sent_from t place depth left)) ≡ length (filter is_error left)
 errors_from t place depth [] = refl
 errors_from t place depth (step ∷ left) =
-    let at = place_here t place depth step in
-    let after = sent_from t (next_place at step) (depth_behind depth step) left in
-    ap length (no_error (trivia_here t place depth step) (sent_here t at step ∷ after)) ∙ one at step after left (errors_from t (next_place at step) (depth_behind depth step) left)
+    let at = raw_here t place depth step in
+    let after = sent_from t (next_raw at step) (depth_behind depth step) left in
+    ap length (no_error (trivia_here t place depth step) (sent_here t at step ∷ after)) ∙ one at step after left (errors_from t (next_raw at step) (depth_behind depth step) left)
   where
     one : (at : ℕ) (step : Step) (after : List OwnedStep) (left : List Step) → length (flat_map error_in after) ≡ length (filter is_error left)
         → length (flat_map error_in (sent_here t at step ∷ after)) ≡ length (filter is_error (step ∷ left))

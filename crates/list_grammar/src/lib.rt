@@ -17,7 +17,7 @@ ghost use Rattle.squawk_output.specs.Steps.{Step};
 ghost use Rattle.squawk_table.specs.ParserInput.{kinds_in};
 ghost use Rattle.squawk_table.specs.Shape.{no_keywords};
 ghost use Rattle.squawk_parser.specs.Eaten.{one};
-ghost use Rattle.squawk_parser.specs.Pipeline.{IsParsedInto, IsRefusal, asking, given};
+ghost use Rattle.squawk_parser.specs.Pipeline.{IsParsedInto, IsRefusal, as_into_error, given};
 ghost use Rattle.squawk_parser.specs.Recorded.{Puts};
 ghost use Rattle.squawk_parser.specs.State.{IsSound, ahead, kind_at};
 ghost use Rattle.list_grammar.specs.DeepLists.{deep_steps, unclosed_behind, up_to_close};
@@ -211,7 +211,7 @@ pub fn send(
     ensures all { IfOk result (λ sent. sent.all ≡ true) }
     ensures refused { IfErr result (λ reason. IsRefusal (given no_keywords no_keywords text.now tokens.now)
         IsFile (λ _ _. Unit {0}) list_words (λ steps. sink.old ≡ steps) (λ steps. sink.new ≡ steps) (λ _ _ _. Unit {0})
-        (sink.new ≡ sink.old) (asking reason)) }
+        (sink.new ≡ sink.old) (as_into_error reason)) }
 {
     let names = [(SyntaxKind::COMMA, ","), (SyntaxKind::R_PAREN, ")")];
     let lists = Lists { names: &names };

@@ -5,7 +5,7 @@ use Rattle.std.specs.Char.{to_ascii_lowercase}
 use Rattle.std.proofs.lemmas.Bool.{cond_both, eqb-true, and_parts, cases_lt}
 use Rattle.std.proofs.lemmas.List.{get_or_past, length-take-le}
 use Rattle.squawk_tokens.specs.declared.token.TokenKind.{TokenKind}
-use Rattle.squawk_tokens.specs.TokenRows.{MeetsKind, IsQuoted}
+use Rattle.squawk_tokens.specs.TokenRules.{MeetsKind, IsQuoted}
 use Rattle.sql_lexer.specs.Rules.{first, first_of, begins, closed_at}
 use Rattle.sql_lexer.specs.Comments.{block_comment, comment_kind, comment_end}
 use Rattle.sql_lexer.specs.Strings.{string, string_kind, quoted_identifier, identifier_kind, quote_end, escape_end, has_letter, escape_kind, bit_kind, byte_kind, national_kind, has_unicode, unicode_kind, unicode_identifier_kind, prefixed}

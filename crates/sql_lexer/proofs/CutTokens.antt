@@ -8,7 +8,7 @@ use Rattle.std.proofs.lemmas.List.Sums.{sum_by-cons}
 use Rattle.std.proofs.lemmas.Str.{IsUtf8-drop, IsCharBoundary-from_rest}
 use Rattle.squawk_tokens.specs.declared.token.Token.{Token}
 use Rattle.squawk_tokens.specs.AcceptedTokens.{IsGoodToken, AreAcceptedTokens, start_of}
-use Rattle.squawk_tokens.specs.TokenRows.{MeetsKind}
+use Rattle.squawk_tokens.specs.TokenRules.{MeetsKind}
 use Rattle.sql_lexer.specs.Pushes.{Pushes}
 use Rattle.sql_lexer.specs.Tokens.{tokens_by}
 use Rattle.sql_lexer.proofs.Fits.{Fits}

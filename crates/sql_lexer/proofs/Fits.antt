@@ -2,7 +2,7 @@
 use Rattle.std.proofs.Common.{◌≡◌, ℕ, ◌<◌, true, false, Bool, Option, Some, None, List, [], ◌∷◌, take, refl}
 use Rattle.std.specs.Prelude.{IfSome, IsCharBoundary}
 use Rattle.squawk_tokens.specs.declared.token.Token.{Token}
-use Rattle.squawk_tokens.specs.TokenRows.{MeetsKind}
+use Rattle.squawk_tokens.specs.TokenRules.{MeetsKind}
 use Rattle.sql_lexer.specs.Rules.{when, or_else, first_of}
 
 -- it isn't empty, a character ends where it ends, and its text is what its kind says

@@ -5,7 +5,7 @@ use Rattle.std.proofs.lemmas.Bool.{cond_both, eqb-true, and_parts}
 use Rattle.std.proofs.lemmas.Str.{IsCharBoundary-end}
 use lib.Pointwise.{bytes_decides}
 use Rattle.squawk_tokens.specs.declared.token.TokenKind.{TokenKind}
-use Rattle.squawk_tokens.specs.TokenRows.{MeetsKind}
+use Rattle.squawk_tokens.specs.TokenRules.{MeetsKind}
 use Rattle.sql_lexer.specs.Rules.{begins, past, closed_at}
 use Rattle.sql_lexer.specs.Strings.{quote_end, escape_end}
 use Rattle.sql_lexer.specs.Comments.{comment_end, opens, closes}

@@ -7,7 +7,7 @@ use Rattle.std.proofs.lemmas.List.{length-take-le, take-take}
 use Rattle.std.proofs.lemmas.List.Sums.{prefix_len-le-length, prefix_len_stops}
 use Rattle.std.proofs.lemmas.Str.{IsUtf8-take, IsCharBoundary-from_take}
 use Rattle.squawk_tokens.specs.declared.token.TokenKind.TheVariants.{PsqlCommand, Whitespace}
-use Rattle.squawk_tokens.specs.TokenRows.{MeetsKind}
+use Rattle.squawk_tokens.specs.TokenRules.{MeetsKind}
 use Rattle.sql_lexer.specs.Rules.{begins, first, token}
 use Rattle.sql_lexer.specs.Scripts.{data_token, ends_data, has_mark, line_end_len, line_len, newline_at}
 use Rattle.sql_lexer.specs.Tokens.{first_token}

@@ -14,7 +14,7 @@ use Rattle.squawk_tokens.specs.declared.token.LiteralKind.{LiteralKind}
 use Rattle.squawk_tokens.specs.declared.token.LiteralKind.TheVariants.{Int, Numeric}
 use Rattle.squawk_tokens.specs.declared.token.Base.{Base}
 use Rattle.squawk_tokens.specs.declared.token.Base.TheVariants.{Binary, Octal, Decimal, Hexadecimal}
-use Rattle.squawk_tokens.specs.TokenRows.{IsLiteral, IsParam}
+use Rattle.squawk_tokens.specs.TokenRules.{IsLiteral, IsParam}
 use Rattle.sql_lexer.specs.Bytes.{is_name_start, is_name_part}
 use Rattle.sql_lexer.specs.Rules.{token, first, first_of}
 use Rattle.sql_lexer.specs.Identifiers.{junk_len}

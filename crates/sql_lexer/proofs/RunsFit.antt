@@ -6,7 +6,7 @@ use Rattle.std.proofs.lemmas.Bool.{cond_both, eqb-true, and_parts, false≢true}
 use Rattle.std.proofs.lemmas.Bool.Decides.{nat_tests}
 use Rattle.squawk_tokens.specs.declared.token.TokenKind.{TokenKind}
 use Rattle.squawk_tokens.specs.declared.token.TokenKind.TheVariants.{Whitespace, LineComment, Ident, Literal, PositionalParam, PsqlCommand, DotDot, Eof}
-use Rattle.squawk_tokens.specs.TokenRows.{MeetsKind}
+use Rattle.squawk_tokens.specs.TokenRules.{MeetsKind}
 use Rattle.sql_lexer.specs.Bytes.{is_space, is_line_end, is_name_part, is_name_start}
 use Rattle.sql_lexer.specs.Rules.{token, first, begins}
 use Rattle.sql_lexer.specs.Signs.{whitespace, dot_dot, sign, signs, kind_in}

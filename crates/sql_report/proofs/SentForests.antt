@@ -7,7 +7,7 @@ use Rattle.squawk_output.specs.OneRoot.{StandsInOneRoot}
 use Rattle.squawk_output.specs.Steps.{Step, Token, Enter, Exit, Error, is_enter, is_exit, openings, closings, without_errors}
 use Rattle.squawk_table.proofs.SentLaws.{others-errors_moved}
 use Rattle.squawk_table.specs.RawTable.{RawToken, Table, raw_tokens}
-use Rattle.squawk_table.specs.Sent.{Marked, Place, PutBack, Walked, eaten_at, errors_moved, places_behind, sent_behind, sent_list, sent_raw, sent_step, trivia_at, unmarked}
+use Rattle.squawk_table.specs.Sent.{Marked, Spot, PutBack, Walked, eaten_at, errors_moved, spots_behind, sent_behind, sent_list, sent_raw, sent_step, trivia_at, unmarked}
 use Rattle.squawk_table.specs.Shape.{Fits}
 use Rattle.squawk_table.specs.declared.shortcuts.str_step.OwnedStep.{OwnedStep}
 use Rattle.squawk_table.specs.declared.shortcuts.str_step.OwnedStep.TheVariants as sent
@@ -86,46 +86,46 @@ with_trivia : (trivia : List RawToken) (rest : List Marked) (n : ℕ) → Closes
 with_trivia [] rest n closes = closes
 with_trivia (raw ∷ trivia) rest n closes = with_trivia trivia rest n closes
 
--- a place, with what was sent before its step and behind it
-module _ (raw : List RawToken) (earlier : List Place) (before : List OwnedStep) (place : Place) where
+-- a spot, with what was sent before its step and behind it
+module _ (raw : List RawToken) (earlier : List Spot) (before : List OwnedStep) (spot : Spot) where
   abbrev past : List OwnedStep
-  past = before ++ map sent_raw (trivia_at raw earlier place)
+  past = before ++ map sent_raw (trivia_at raw earlier spot)
 
   abbrev step : OwnedStep
-  step = sent_step raw (eaten_at place) past place.step
+  step = sent_step raw (eaten_at spot) past spot.step
 
   abbrev sent_past : List OwnedStep
   sent_past = past ++ step ∷ []
 
-  abbrev rest : List Place → List Marked
-  rest places = sent_behind raw (earlier ++ place ∷ []) sent_past places
+  abbrev rest : List Spot → List Marked
+  rest spots = sent_behind raw (earlier ++ spot ∷ []) sent_past spots
 
-  past_trivia : (places : List Place) (n : ℕ) → Closes (step ∷ map unmarked (rest places)) n → Closes (map unmarked (sent_behind raw earlier before (place ∷ places))) n
-  past_trivia places n closes = with_trivia (trivia_at raw earlier place) (Walked step ∷ rest places) n closes
+  past_trivia : (spots : List Spot) (n : ℕ) → Closes (step ∷ map unmarked (rest spots)) n → Closes (map unmarked (sent_behind raw earlier before (spot ∷ spots))) n
+  past_trivia spots n closes = with_trivia (trivia_at raw earlier spot) (Walked step ∷ rest spots) n closes
 
-abbrev place_at : List Step → Step → List Step → Place
-place_at walked step steps = record { before = walked; step = step; behind = steps }
+abbrev spot_at : List Step → Step → List Step → Spot
+spot_at walked step steps = record { before = walked; step = step; behind = steps }
 
-sent_closes : (steps walked : List Step) (raw : List RawToken) (earlier : List Place) (before : List OwnedStep) (n : ℕ) → WalkCloses steps n
-    → Closes (map unmarked (sent_behind raw earlier before (places_behind walked steps))) n
+sent_closes : (steps walked : List Step) (raw : List RawToken) (earlier : List Spot) (before : List OwnedStep) (n : ℕ) → WalkCloses steps n
+    → Closes (map unmarked (sent_behind raw earlier before (spots_behind walked steps))) n
 sent_closes [] walked raw earlier before n closes = closes
 sent_closes (Token kind count ∷ steps) walked raw earlier before n closes =
-    let place = place_at walked (Token kind count) steps in
+    let spot = spot_at walked (Token kind count) steps in
     let more = walked ++ Token kind count ∷ [] in
-    past_trivia raw earlier before place (places_behind more steps) n (sent_closes steps more raw (earlier ++ place ∷ []) (sent_past raw earlier before place) n closes)
+    past_trivia raw earlier before spot (spots_behind more steps) n (sent_closes steps more raw (earlier ++ spot ∷ []) (sent_past raw earlier before spot) n closes)
 sent_closes (Enter kind ∷ steps) walked raw earlier before n closes =
-    let place = place_at walked (Enter kind) steps in
+    let spot = spot_at walked (Enter kind) steps in
     let more = walked ++ Enter kind ∷ [] in
-    past_trivia raw earlier before place (places_behind more steps) n (sent_closes steps more raw (earlier ++ place ∷ []) (sent_past raw earlier before place) (suc n) closes)
+    past_trivia raw earlier before spot (spots_behind more steps) n (sent_closes steps more raw (earlier ++ spot ∷ []) (sent_past raw earlier before spot) (suc n) closes)
 sent_closes (Exit ∷ steps) walked raw earlier before zero closes = absurd closes
 sent_closes (Exit ∷ steps) walked raw earlier before (suc n) closes =
-    let place = place_at walked Exit steps in
+    let spot = spot_at walked Exit steps in
     let more = walked ++ Exit ∷ [] in
-    past_trivia raw earlier before place (places_behind more steps) (suc n) (sent_closes steps more raw (earlier ++ place ∷ []) (sent_past raw earlier before place) n closes)
+    past_trivia raw earlier before spot (spots_behind more steps) (suc n) (sent_closes steps more raw (earlier ++ spot ∷ []) (sent_past raw earlier before spot) n closes)
 sent_closes (Error text ∷ steps) walked raw earlier before n closes =
-    let place = place_at walked (Error text) steps in
+    let spot = spot_at walked (Error text) steps in
     let more = walked ++ Error text ∷ [] in
-    past_trivia raw earlier before place (places_behind more steps) n (sent_closes steps more raw (earlier ++ place ∷ []) (sent_past raw earlier before place) n closes)
+    past_trivia raw earlier before spot (spots_behind more steps) n (sent_closes steps more raw (earlier ++ spot ∷ []) (sent_past raw earlier before spot) n closes)
 
 -- ---- trees
 

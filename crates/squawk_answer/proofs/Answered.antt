@@ -1,9 +1,9 @@
--- What a parse by the grammar of a document answers, and what a document tells then.
+-- What a parse by the grammar of a document returns, and what is returned for the document then.
 use Rattle.std.proofs.Common.{◌≡◌, ◌≢◌, ◌∙◌, ℕ, ◌≤◌, Bool, List, ◌++◌, Some, None, Ok, Err, inl, inr, ap, arith, sym, subst}
 use Rattle.std.specs.Prelude.{Result, IsErrAnd, MatchResult, ◌==◌, ◌↔◌, IsTrue, length}
 use Rattle.std.proofs.lemmas.Bool.Decides.{Decides-eqb, same_from_decides}
-use Rattle.squawk_document.specs.DocumentGrammars.{ToldGrammar, by_calls}
-use Rattle.squawk_document.specs.Documents.{Told}
+use Rattle.squawk_document.specs.DocumentGrammars.{GrammarContent, by_calls}
+use Rattle.squawk_document.specs.Documents.{Content}
 use Rattle.squawk_tokens.specs.AcceptedTokens.{AreAcceptedTokens}
 use Rattle.squawk_table.specs.ParserInput.{Entry, input_of}
 use Rattle.squawk_table.specs.RawTable.{Table}
@@ -21,7 +21,7 @@ use Rattle.squawk_script.specs.Events.{FailsByLimits, IsRunOf, events_of, refusa
 use Rattle.squawk_script.specs.Meaning.{Meaning, run_of}
 use Rattle.squawk_script.specs.declared.call.Call.{Call}
 use Rattle.squawk_script.proofs.Laws.{unrefused}
-use Rattle.squawk_answer.specs.Answers.{HasCalls, ParseOf, ParseTells, Tells, lines, refusal_by, steps, steps_by, table_for}
+use Rattle.squawk_answer.specs.Answers.{HasCalls, ParseOf, ParseReturns, Returns, lines, refusal_by, steps, steps_by, table_for}
 use Rattle.squawk_answer.specs.Fault.{fault_of_parse}
 use Rattle.squawk_answer.specs.Lines.{Texts, last_line, lex_lines, step_lines}
 use Rattle.squawk_answer.specs.declared.fault.Fault.{Fault}
@@ -30,23 +30,23 @@ use Rattle.squawk_answer.specs.declared.fault.Fault.TheVariants.{Json, Shape, Te
 -- ---- a parse
 
 -- one that is refused
-pub refusal-told : (g : ToldGrammar) (words : Words) (input : List Entry) (t : Table) (reason : ParseError) → HasCalls g
-    → (reason ≢ parse.OutOfMemory → refusal_by g words input ≡ Some reason) → ParseTells g words input t (Err (fault_of_parse reason))
-refusal-told g words input t parse.OutOfMemory has fails = tt
-refusal-told g words input t parse.TooManyEvents has fails = (has, fails (λ same. let p = same in cc))
-refusal-told g words input t parse.TooManyErrors has fails = (has, fails (λ same. let p = same in cc))
+pub refusal-returned : (g : GrammarContent) (words : Words) (input : List Entry) (t : Table) (reason : ParseError) → HasCalls g
+    → (reason ≢ parse.OutOfMemory → refusal_by g words input ≡ Some reason) → ParseReturns g words input t (Err (fault_of_parse reason))
+refusal-returned g words input t parse.OutOfMemory has fails = tt
+refusal-returned g words input t parse.TooManyEvents has fails = (has, fails (λ same. let p = same in cc))
+refusal-returned g words input t parse.TooManyErrors has fails = (has, fails (λ same. let p = same in cc))
 
--- a fault that is answered
-pub fault-told : {X : Type 0} (result : Result X Fault) (Q : X → Type 0) (P : Fault → Type 0) (fault : Fault) → IsErrAnd result (λ f. f ≡ fault) → P fault → MatchResult result Q P
-fault-told (Ok x) Q P fault is told = absurd is
-fault-told (Err f) Q P fault is told = subst P (sym is) told
+-- a fault that is returned
+pub fault-returned : {X : Type 0} (result : Result X Fault) (Q : X → Type 0) (P : Fault → Type 0) (fault : Fault) → IsErrAnd result (λ f. f ≡ fault) → P fault → MatchResult result Q P
+fault-returned (Ok x) Q P fault is known = absurd is
+fault-returned (Err f) Q P fault is known = subst P (sym is) known
 
 -- ---- a parse by calls
 
 -- what refuses it, if it isn't want of memory
-pub limit-told : (script : Meaning) (begun : State) (reason : ParseError) → IsRefused (FailsByLimits script) begun reason → reason ≢ parse.OutOfMemory
+pub limit-returned : (script : Meaning) (begun : State) (reason : ParseError) → IsRefused (FailsByLimits script) begun reason → reason ≢ parse.OutOfMemory
     → refusal begun.max_events begun.max_errors (events_of script.words begun.input script.calls) ≡ Some reason
-limit-told script begun reason refused other = cases refused.refusal
+limit-returned script begun reason refused other = cases refused.refusal
   where
     cases : IsRefusalOf refused.left reason → refusal begun.max_events begun.max_errors (events_of script.words begun.input script.calls) ≡ Some reason
     cases (inl first) = refused.ran reason first other
@@ -65,8 +65,8 @@ module _ (entry : EntryPoint) (cs : List Call) (words : Words) (input : List Ent
       ∙ ap (λ entries. refusal 4294967295 2147483648 (events_of words entries cs)) same_input
 
   module _ (output : Walk) (is : IsParse (IsRunOf script parsed) parsed output) where
-    pub steps-told : output.steps ≡ steps_by (by_calls entry cs) words input
-    steps-told =
+    pub steps-returned : output.steps ≡ steps_by (by_calls entry cs) words input
+    steps-returned =
         is.steps
         ∙ (ap (λ d. plain d.items) is.left
         ∙ (ap (λ s. plain (run_of s.words parsed s.calls).draft.items) same_script ∙ ap (λ entries. plain (run_of words entries cs).draft.items) same_input))
@@ -79,37 +79,37 @@ module _ (entry : EntryPoint) (cs : List Call) (words : Words) (input : List Ent
 
 -- ---- a document
 
--- what is told of its parse, over its table as it was made and with its words as they are lent
-pub parse-told : (d : Told) (t : Table) (words : Words) (answer : Result (List Step) Fault) → t ≡ table_for d → words ≡ d.words
-    → ParseTells d.grammar words (input_of d.vocabulary.contextual.kind_of t) t answer → ParseOf d answer
-parse-told d t words answer same_table same_words told =
-    subst (λ table. ParseTells d.grammar d.words (input_of d.vocabulary.contextual.kind_of table) table answer) same_table
-    (subst (λ words. ParseTells d.grammar words (input_of d.vocabulary.contextual.kind_of t) t answer) same_words told)
+-- what is returned for its parse, over its table as it was made and with its words as they are lent
+pub parse-returned : (d : Content) (t : Table) (words : Words) (answer : Result (List Step) Fault) → t ≡ table_for d → words ≡ d.words
+    → ParseReturns d.grammar words (input_of d.vocabulary.contextual.kind_of t) t answer → ParseOf d answer
+parse-returned d t words answer same_table same_words known =
+    subst (λ table. ParseReturns d.grammar d.words (input_of d.vocabulary.contextual.kind_of table) table answer) same_table
+    (subst (λ words. ParseReturns d.grammar words (input_of d.vocabulary.contextual.kind_of t) t answer) same_words known)
 
 -- a fault of its parse is the document's
-pub parse_fault-told : (d : Told) (fault : Fault) → AreAcceptedTokens d.text d.tokens → ParseOf d (Err fault) → Tells d (Err fault)
-parse_fault-told d Json accepted told = absurd told
-parse_fault-told d Shape accepted told = absurd told
-parse_fault-told d TextTooLong accepted told = absurd told
-parse_fault-told d (BadToken index) accepted told = absurd told
-parse_fault-told d (TextLeft at) accepted told = absurd told
-parse_fault-told d (BadCall index) accepted told = (accepted, told)
-parse_fault-told d (Unspent marker) accepted told = (accepted, told)
-parse_fault-told d TooManyEvents accepted told = (accepted, told)
-parse_fault-told d TooManyErrors accepted told = (accepted, told)
-parse_fault-told d DoesNotFit accepted told = (accepted, told)
-parse_fault-told d Memory accepted told = tt
-parse_fault-told d Io accepted told = tt
+pub parse_fault-returned : (d : Content) (fault : Fault) → AreAcceptedTokens d.text d.tokens → ParseOf d (Err fault) → Returns d (Err fault)
+parse_fault-returned d Json accepted known = absurd known
+parse_fault-returned d Shape accepted known = absurd known
+parse_fault-returned d TextTooLong accepted known = absurd known
+parse_fault-returned d (BadToken index) accepted known = absurd known
+parse_fault-returned d (TextLeft at) accepted known = absurd known
+parse_fault-returned d (BadCall index) accepted known = (accepted, known)
+parse_fault-returned d (Unspent marker) accepted known = (accepted, known)
+parse_fault-returned d TooManyEvents accepted known = (accepted, known)
+parse_fault-returned d TooManyErrors accepted known = (accepted, known)
+parse_fault-returned d DoesNotFit accepted known = (accepted, known)
+parse_fault-returned d Memory accepted known = tt
+parse_fault-returned d Io accepted known = tt
 
 -- two texts
 abbrev texts : List ℕ → List ℕ → Texts
 texts errors steps = record { errors = errors; steps = steps }
 
 -- the two texts of a table and of the steps that are sent over it
-pub texts-told : (d : Told) (table : Table) (sent : List Step) (all : Bool) (errors steps_text : List ℕ) → table ≡ table_for d → sent ≡ steps d
+pub texts-returned : (d : Content) (table : Table) (sent : List Step) (all : Bool) (errors steps_text : List ℕ) → table ≡ table_for d → sent ≡ steps d
     → IsTrue all ↔ (eaten sent ≡ length (input_of no_keywords table))
     → errors ≡ lex_lines table.errors → steps_text ≡ step_lines (sent_list table sent) ++ last_line all → texts errors steps_text ≡ lines d
-texts-told d table sent all errors steps_text same_table same_steps is same_errors same_text =
+texts-returned d table sent all errors steps_text same_table same_steps is same_errors same_text =
     ap (λ text. texts text steps_text) same_errors
     ∙ (ap (texts (lex_lines table.errors)) same_text
     ∙ (ap (λ b. texts (lex_lines table.errors) (step_lines (sent_list table sent) ++ last_line b)) (same_from_decides all (eaten sent == length (input_of no_keywords table)) is (Decides-eqb (eaten sent) (length (input_of no_keywords table))))

@@ -45,6 +45,6 @@ part_first a b bytes first second split part =
 pub writes_or_fails : (w v : Watched) (a b : Option (List ℕ)) (bytes : List ℕ) (all : Bool) → v ≡ after_write w all → (all ≡ true → Appends a b bytes)
     → (all ≡ false → AppendsPart a b bytes) → WritesOrFails w v a b bytes
 writes_or_fails w v a b bytes all = elim all as (λ all. v ≡ after_write w all → (all ≡ true → Appends a b bytes) → (all ≡ false → AppendsPart a b bytes) → WritesOrFails w v a b bytes) [
-  | true ↦ λ noted yes no. inl (noted, yes refl)
-  | false ↦ λ noted yes no. inr (noted, no refl)
+  | true ↦ λ watched yes no. inl (watched, yes refl)
+  | false ↦ λ watched yes no. inr (watched, no refl)
 ]

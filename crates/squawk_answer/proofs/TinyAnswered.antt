@@ -2,7 +2,7 @@
 use Rattle.std.proofs.Common.{◌≡◌, ◌≢◌, ◌∙◌, ℕ, ◌+◌, ◌≤◌, Bool, Some, None, Ok, Err, List, [], ◌∷◌, length, map, arith, ap, refl, sym, subst, inl, inr}
 use Rattle.std.specs.Prelude.{◌⊎◌, MatchResult, Result}
 use Rattle.std.proofs.lemmas.List.{length-map, map-append}
-use Rattle.squawk_document.specs.DocumentGrammars.{ToldGrammar, by_tiny}
+use Rattle.squawk_document.specs.DocumentGrammars.{GrammarContent, by_tiny}
 use Rattle.squawk_table.specs.ParserInput.{Entry}
 use Rattle.squawk_table.specs.RawTable.{Table}
 use Rattle.squawk_output.specs.Steps.{Step, Walk, errors_in, is_error}
@@ -17,7 +17,7 @@ use Rattle.squawk_script.specs.Events.{errors_among, refusal}
 use Rattle.squawk_script.proofs.Laws.{none-refused, refused-first}
 use Rattle.tiny_grammar.specs.Expressions.{FailsTiny, IsTiny, tiny_in_order, tiny_steps}
 use Rattle.tiny_grammar.proofs.InOrder.{tiny-errors}
-use Rattle.squawk_answer.specs.Answers.{ParseTells, refusal_by}
+use Rattle.squawk_answer.specs.Answers.{ParseReturns, refusal_by}
 use Rattle.squawk_answer.specs.declared.fault.Fault.{Fault}
 
 -- the errors among steps
@@ -67,9 +67,9 @@ module _ (words : Words) (input : List Entry) where
           omega (arith, within.1, ap errors_in steps-tiny, errors_among-steps events, tiny-errors input),
         )
 
--- what is told of the small grammar, whose steps no words change, is told of a grammar that is it
-pub tiny-told : {X : Type 0} (result : Result X Fault) (steps : X → List Step) (grammar : ToldGrammar) (input : List Entry) (t : Table) → grammar ≡ by_tiny
-    → MatchResult result (λ x. (words : Words) → ParseTells by_tiny words input t (Ok (steps x))) (λ fault. (words : Words) → ParseTells by_tiny words input t (Err fault))
-    → (words : Words) → MatchResult result (λ x. ParseTells grammar words input t (Ok (steps x))) (λ fault. ParseTells grammar words input t (Err fault))
-tiny-told (Ok x) steps grammar input t is told words = subst (λ g. ParseTells g words input t (Ok (steps x))) (sym is) (told words)
-tiny-told (Err fault) steps grammar input t is told words = subst (λ g. ParseTells g words input t (Err fault)) (sym is) (told words)
+-- what is known of the small grammar, whose steps no words change, is known of a grammar that is it
+pub tiny-returned : {X : Type 0} (result : Result X Fault) (steps : X → List Step) (grammar : GrammarContent) (input : List Entry) (t : Table) → grammar ≡ by_tiny
+    → MatchResult result (λ x. (words : Words) → ParseReturns by_tiny words input t (Ok (steps x))) (λ fault. (words : Words) → ParseReturns by_tiny words input t (Err fault))
+    → (words : Words) → MatchResult result (λ x. ParseReturns grammar words input t (Ok (steps x))) (λ fault. ParseReturns grammar words input t (Err fault))
+tiny-returned (Ok x) steps grammar input t is known words = subst (λ g. ParseReturns g words input t (Ok (steps x))) (sym is) (known words)
+tiny-returned (Err fault) steps grammar input t is known words = subst (λ g. ParseReturns g words input t (Err fault)) (sym is) (known words)

@@ -1,4 +1,4 @@
--- The lines that an answer has.
+-- The lines of an answer.
 use Rattle.std.specs.Prelude.{string_bytes}
 use Rattle.squawk_answer.specs.Lines.{Texts}
 use Rattle.squawk_answer.specs.declared.answer.Answer.{Answer}

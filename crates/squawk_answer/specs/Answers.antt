@@ -1,7 +1,7 @@
--- What is answered.
+-- The answer to the bytes of a document.
 use Rattle.std.specs.Prelude.{◌≡◌, ℕ, ◌==◌, Bool, List, ◌++◌, length, map, Option, Some, None, Result, Ok, Err}
-use Rattle.squawk_document.specs.DocumentGrammars.{ToldGrammar, by_calls, by_tiny}
-use Rattle.squawk_document.specs.Documents.{Told, document_in}
+use Rattle.squawk_document.specs.DocumentGrammars.{GrammarContent, by_calls, by_tiny}
+use Rattle.squawk_document.specs.Documents.{Content, document_in}
 use Rattle.squawk_document.specs.Values.{◌>>=◌, json_value}
 use Rattle.squawk_document.specs.declared.document_error.DocumentError.{DocumentError}
 use Rattle.squawk_document.specs.declared.document_error.DocumentError.TheVariants as document
@@ -29,117 +29,117 @@ use Rattle.squawk_answer.specs.declared.fault.Fault.TheVariants.{Json, Shape, Te
 -- ---- a document
 
 -- the document that these bytes are
-abbrev pub document_of : List ℕ → Result Told DocumentError
+abbrev pub document_of : List ℕ → Result Content DocumentError
 document_of input = json_value input >>= document_in
 
 -- the table of its raw tokens
-abbrev pub table_for : Told → Table
+abbrev pub table_for : Content → Table
 table_for d = table_of d.vocabulary.keywords.kind_of d.text d.tokens
 
 -- the input of its parse
-abbrev pub parser_input : Told → List Entry
+abbrev pub parser_input : Content → List Entry
 parser_input d = input_of d.vocabulary.contextual.kind_of (table_for d)
 
 -- ---- a parse by a grammar
 
 -- its calls are accepted, and the small grammar has none
-abbrev pub HasCalls : ToldGrammar → Type 0
+abbrev pub HasCalls : GrammarContent → Type 0
 HasCalls (by_calls entry cs) = script.IsAccepted cs
 HasCalls by_tiny = Unit {0}
 
 -- its calls are refused
-abbrev pub RefusesCalls : ToldGrammar → ScriptError → Type 0
+abbrev pub RefusesCalls : GrammarContent → ScriptError → Type 0
 RefusesCalls (by_calls entry cs) e = script.Refuses cs e
 RefusesCalls by_tiny e = ⊥
 
 -- the steps that its run leaves over an input
-abbrev pub steps_by : ToldGrammar → Words → List Entry → List Step
+abbrev pub steps_by : GrammarContent → Words → List Entry → List Step
 steps_by (by_calls entry cs) words input = plain (run_of words input cs).draft.items
 steps_by by_tiny words input = tiny_steps input
 
 -- the events that its run records, in their order, each as whether it is an error
-abbrev pub events_by : ToldGrammar → Words → List Entry → List Bool
+abbrev pub events_by : GrammarContent → Words → List Entry → List Bool
 events_by (by_calls entry cs) words input = events_of words input cs
 events_by by_tiny words input = map is_error (tiny_in_order input)
 
 -- why the run is refused, if it is: it may record 4294967295 events, and 2147483648 errors among them
-abbrev pub refusal_by : ToldGrammar → Words → List Entry → Option ParseError
+abbrev pub refusal_by : GrammarContent → Words → List Entry → Option ParseError
 refusal_by grammar words input = refusal 4294967295 2147483648 (events_by grammar words input)
 
 -- its calls are accepted, and its run is not refused
-abbrev pub HasSteps : ToldGrammar → Words → List Entry → Type 0
+abbrev pub HasSteps : GrammarContent → Words → List Entry → Type 0
 HasSteps grammar words input = HasCalls grammar × (refusal_by grammar words input ≡ None)
 
--- What a parse by a grammar over the input of a table tells: its steps, or the first fault. Of memory nothing is said, and the other
+-- What a parse by a grammar over the input of a table returns: its steps, or the first fault. Nothing is said of memory, and the other
 -- faults aren't those of a parse.
-abbrev pub ParseTells : ToldGrammar → Words → List Entry → Table → Result (List Step) Fault → Type 0
-ParseTells g words input t (Ok steps) = HasSteps g words input × Fits t steps × (steps ≡ steps_by g words input)
-ParseTells g words input t (Err (BadCall index)) = RefusesCalls g (calls.BadCall index)
-ParseTells g words input t (Err (Unspent marker)) = RefusesCalls g (calls.Unspent marker)
-ParseTells g words input t (Err TooManyEvents) = HasCalls g × (refusal_by g words input ≡ Some parse.TooManyEvents)
-ParseTells g words input t (Err TooManyErrors) = HasCalls g × (refusal_by g words input ≡ Some parse.TooManyErrors)
-ParseTells g words input t (Err DoesNotFit) = HasSteps g words input × ¬ (Fits t (steps_by g words input))
-ParseTells g words input t (Err Memory) = Unit {0}
-ParseTells g words input t (Err fault) = ⊥
+abbrev pub ParseReturns : GrammarContent → Words → List Entry → Table → Result (List Step) Fault → Type 0
+ParseReturns g words input t (Ok steps) = HasSteps g words input × Fits t steps × (steps ≡ steps_by g words input)
+ParseReturns g words input t (Err (BadCall index)) = RefusesCalls g (calls.BadCall index)
+ParseReturns g words input t (Err (Unspent marker)) = RefusesCalls g (calls.Unspent marker)
+ParseReturns g words input t (Err TooManyEvents) = HasCalls g × (refusal_by g words input ≡ Some parse.TooManyEvents)
+ParseReturns g words input t (Err TooManyErrors) = HasCalls g × (refusal_by g words input ≡ Some parse.TooManyErrors)
+ParseReturns g words input t (Err DoesNotFit) = HasSteps g words input × ¬ (Fits t (steps_by g words input))
+ParseReturns g words input t (Err Memory) = Unit {0}
+ParseReturns g words input t (Err fault) = ⊥
 
 -- of a document
-abbrev pub ParseOf : Told → Result (List Step) Fault → Type 0
-ParseOf d answer = ParseTells d.grammar d.words (parser_input d) (table_for d) answer
+abbrev pub ParseOf : Content → Result (List Step) Fault → Type 0
+ParseOf d answer = ParseReturns d.grammar d.words (parser_input d) (table_for d) answer
 
 -- ---- a document's answer
 
 -- the steps that its grammar leaves
-abbrev pub steps : Told → List Step
+abbrev pub steps : Content → List Step
 steps d = steps_by d.grammar d.words (parser_input d)
 
 -- whether the steps have all raw tokens that aren't trivia
-abbrev pub eats_all : Told → Bool
+abbrev pub eats_all : Content → Bool
 eats_all d = eaten (steps d) == length (input_of no_keywords (table_for d))
 
 -- the lines of its lexical errors, and those of what is sent for the steps, with the last one
-abbrev pub lines : Told → Texts
+abbrev pub lines : Content → Texts
 lines d = record { errors = lex_lines (table_for d).errors; steps = step_lines (sent_list (table_for d) (steps d)) ++ last_line (eats_all d) }
 
--- its raw tokens are accepted, and this is what its parse tells
-abbrev pub IsParsed : Told → Result (List Step) Fault → Type 0
+-- its raw tokens are accepted, and this is what its parse returns
+abbrev pub IsParsed : Content → Result (List Step) Fault → Type 0
 IsParsed d answer = AreAcceptedTokens d.text d.tokens × ParseOf d answer
 
--- What a document tells: its lines, or the first fault. Of memory nothing is said, and reading and writing aren't the document's.
-abbrev pub Tells : Told → Result Texts Fault → Type 0
-Tells d (Ok texts) = IsParsed d (Ok (steps d)) × (texts ≡ lines d)
-Tells d (Err Json) = ⊥
-Tells d (Err Shape) = ⊥
-Tells d (Err TextTooLong) = RefusesTokens d.text d.tokens table.TextTooLong
-Tells d (Err (BadToken index)) = RefusesTokens d.text d.tokens (table.BadToken index)
-Tells d (Err (TextLeft at)) = RefusesTokens d.text d.tokens (table.TextLeft at)
-Tells d (Err (BadCall index)) = IsParsed d (Err (BadCall index))
-Tells d (Err (Unspent marker)) = IsParsed d (Err (Unspent marker))
-Tells d (Err TooManyEvents) = IsParsed d (Err TooManyEvents)
-Tells d (Err TooManyErrors) = IsParsed d (Err TooManyErrors)
-Tells d (Err DoesNotFit) = IsParsed d (Err DoesNotFit)
-Tells d (Err Memory) = Unit {0}
-Tells d (Err Io) = Unit {0}
+-- What is returned for a document: its lines, or the first fault. Nothing is said of memory, reading and writing.
+abbrev pub Returns : Content → Result Texts Fault → Type 0
+Returns d (Ok texts) = IsParsed d (Ok (steps d)) × (texts ≡ lines d)
+Returns d (Err Json) = ⊥
+Returns d (Err Shape) = ⊥
+Returns d (Err TextTooLong) = RefusesTokens d.text d.tokens table.TextTooLong
+Returns d (Err (BadToken index)) = RefusesTokens d.text d.tokens (table.BadToken index)
+Returns d (Err (TextLeft at)) = RefusesTokens d.text d.tokens (table.TextLeft at)
+Returns d (Err (BadCall index)) = IsParsed d (Err (BadCall index))
+Returns d (Err (Unspent marker)) = IsParsed d (Err (Unspent marker))
+Returns d (Err TooManyEvents) = IsParsed d (Err TooManyEvents)
+Returns d (Err TooManyErrors) = IsParsed d (Err TooManyErrors)
+Returns d (Err DoesNotFit) = IsParsed d (Err DoesNotFit)
+Returns d (Err Memory) = Unit {0}
+Returns d (Err Io) = Unit {0}
 
--- what reading a document tells
-abbrev pub ReadTells : Result Told DocumentError → Result Texts Fault → Type 0
-ReadTells (Ok d) answer = Tells d answer
-ReadTells (Err document.Json) answer = answer ≡ Err Json
-ReadTells (Err document.Shape) answer = answer ≡ Err Shape
-ReadTells (Err document.OutOfMemory) answer = ⊥
+-- what is returned for the read of a document
+abbrev pub ReadReturns : Result Content DocumentError → Result Texts Fault → Type 0
+ReadReturns (Ok d) answer = Returns d answer
+ReadReturns (Err document.Json) answer = answer ≡ Err Json
+ReadReturns (Err document.Shape) answer = answer ≡ Err Shape
+ReadReturns (Err document.OutOfMemory) answer = ⊥
 
--- What is told of the bytes that were read: the lines, or the first fault.
+-- What is returned for the bytes that were read: the lines, or the first fault.
 abbrev pub IsAnswer : List ℕ → Result Texts Fault → Type 0
 IsAnswer input (Err Memory) = Unit {0}
 IsAnswer input (Err Io) = Unit {0}
-IsAnswer input answer = ReadTells (document_of input) answer
+IsAnswer input answer = ReadReturns (document_of input) answer
 
--- an answer that is told of the bytes alone: no memory was refused, and no read or write failed
-abbrev pub IsTold : Result Texts Fault → Type 0
-IsTold (Err Memory) = ⊥
-IsTold (Err Io) = ⊥
-IsTold answer = Unit {0}
+-- an answer that the bytes alone determine: no allocation, read or write failed
+abbrev pub IsDetermined : Result Texts Fault → Type 0
+IsDetermined (Err Memory) = ⊥
+IsDetermined (Err Io) = ⊥
+IsDetermined answer = Unit {0}
 
--- Bytes have one answer: another that is told of them is this one.
+-- Bytes have one answer: another one that they determine is this one.
 pub record IsTheAnswer (input : List ℕ) (answer : Result Texts Fault) : Type 0 where
   pub is : IsAnswer input answer
-  pub only : IsTold answer → (other : Result Texts Fault) → IsTold other → IsAnswer input other → other ≡ answer
+  pub only : IsDetermined answer → (other : Result Texts Fault) → IsDetermined other → IsAnswer input other → other ≡ answer

@@ -27,7 +27,7 @@ fault_status DoesNotFit = 6
 fault_status Memory = 7
 fault_status Io = 8
 
--- what it prints as
+-- the line of a fault
 abbrev pub fault_line : Fault → List ℕ
 fault_line Json = codes "json"
 fault_line Shape = codes "shape"
@@ -46,31 +46,31 @@ fault_line Io = codes "io"
 abbrev pub printed_line : Fault → List ℕ
 printed_line fault = fault_line fault ++ codes "\n"
 
--- a number behind words, if there is one
+-- the number of a line, if there is one
 abbrev pub number_text : Option ℕ → List ℕ
 number_text None = []
 number_text (Some n) = decimal n
 
--- the fault of what can't be read as a document
+-- the fault of an error of a document
 abbrev pub fault_of_document : DocumentError → Fault
 fault_of_document document.Json = Json
 fault_of_document document.Shape = Shape
 fault_of_document document.OutOfMemory = Memory
 
--- the fault of a refused table
+-- the fault of an error of a table
 abbrev pub fault_of_table : TableError → Fault
 fault_of_table table.TextTooLong = TextTooLong
 fault_of_table (table.BadToken index) = BadToken index
 fault_of_table (table.TextLeft at) = TextLeft at
 fault_of_table table.OutOfMemory = Memory
 
--- the fault of a refused list of calls
+-- the fault of an error of a script
 abbrev pub fault_of_script : ScriptError → Fault
 fault_of_script (script.BadCall index) = BadCall index
 fault_of_script (script.Unspent marker) = Unspent marker
 fault_of_script script.OutOfMemory = Memory
 
--- the fault of a refused parse
+-- the fault of an error of a parse
 abbrev pub fault_of_parse : ParseError → Fault
 fault_of_parse parse.OutOfMemory = Memory
 fault_of_parse parse.TooManyEvents = TooManyEvents

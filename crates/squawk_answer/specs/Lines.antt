@@ -7,7 +7,7 @@ use Rattle.squawk_tokens.specs.LexicalErrors.{LexicalError as LexicalError}
 use Rattle.squawk_table.specs.declared.shortcuts.str_step.OwnedStep.{OwnedStep}
 use Rattle.squawk_table.specs.declared.shortcuts.str_step.OwnedStep.TheVariants.{Token, Enter, Exit, Error}
 
--- what is wanted, where an error says so
+-- the hint of an error, if it has one
 abbrev pub hint_part : Option (List ℕ) → List ℕ
 hint_part None = []
 hint_part (Some hint) = codes " " ++ json_string hint

@@ -1,4 +1,4 @@
--- What a run does with the bytes that a reader has left and a writer holds, where those are known.
+-- What a run does with the bytes that a reader has left and a writer holds, if those are known.
 use Rattle.std.specs.Prelude.{ℕ, List, Option, Ok, Err, IfSome}
 use Rattle.std.specs.Io.KnownBytes.{Appends}
 use Rattle.squawk_answer.specs.Answers.{IsTheAnswer}
@@ -10,7 +10,7 @@ use Rattle.squawk_answer.specs.declared.fault.Fault.{Fault}
 abbrev pub WritesAnswer : Option (List ℕ) → Option (List ℕ) → Option (List ℕ) → Type 0
 WritesAnswer input old new = IfSome input (λ bytes. (texts : Texts) × IsTheAnswer bytes (Ok texts) × Appends old new (joined texts))
 
--- a beginning of them is, and not all
+-- a prefix of them is, and not all
 abbrev pub WritesPart : Option (List ℕ) → Option (List ℕ) → Option (List ℕ) → Type 0
 WritesPart input old new = IfSome input (λ bytes. (texts : Texts) × IsTheAnswer bytes (Ok texts) × AppendsPart old new (joined texts))
 

@@ -3,7 +3,7 @@ use Rattle.std.specs.Prelude.{◌≡◌, ℕ, ◌+◌, ◌==◌, ◌||◌, Bool,
 use Rattle.squawk_answer.specs.declared.watch.ReadOutcome.{ReadOutcome}
 use Rattle.squawk_answer.specs.declared.watch.ReadOutcome.TheVariants.{Bytes, Interrupted, Failed}
 
--- how often it has read, whether a read has found the end, and whether a read or a write has failed
+-- the number of reads, whether one found the end, and whether a read or a write failed
 pub record Watched : Type 0 where
   pub reads : ℕ
   pub ended : Bool
@@ -14,7 +14,7 @@ pub record Watched : Type 0 where
 abbrev pub new_watch : Watched
 new_watch = record { reads = 0; ended = false; read_failed = false; write_failed = false }
 
--- a read more, with this outcome
+-- one more read, with this outcome
 abbrev pub after_read : Watched → ReadOutcome → Watched
 after_read w (Bytes n) = record w { reads = w.reads + 1; ended = (n == 0) || w.ended }
 after_read w Interrupted = record w { reads = w.reads + 1 }
@@ -25,7 +25,7 @@ abbrev pub after_write : Watched → Bool → Watched
 after_write w true = w
 after_write w false = record w { write_failed = true }
 
--- the most reads of a run, interrupted ones too
+-- the greatest number of reads of a run, interrupted ones too
 abbrev pub most_reads : ℕ
 most_reads = 4294967296
 

@@ -1,12 +1,12 @@
-//! From a document to the lines of its answer.
+//! The lines of the answer to a document.
 ghost use Rattle.std.specs.Prelude.{◌≡◌, ◌≢◌, ℕ, List, Ok, Err, false, IfErr, MatchResult};
 ghost use Rattle.serde_json.specs.View.{view};
-ghost use Rattle.squawk_document.specs.Documents.{told};
+ghost use Rattle.squawk_document.specs.Documents.{content_of};
 ghost use Rattle.squawk_document.specs.Values.{json_value};
 ghost use Rattle.squawk_kinds.specs.Kinds.{EOF};
 ghost use Rattle.squawk_kinds.specs.TokenSets.{has};
 ghost use Rattle.squawk_answer.specs.AnswerLines.{answer_texts};
-ghost use Rattle.squawk_answer.specs.Answers.{IsTheAnswer, Tells};
+ghost use Rattle.squawk_answer.specs.Answers.{IsTheAnswer, Returns};
 
 use crate::fault::Fault;
 use crate::lines::{error_lines, step_lines};
@@ -16,17 +16,17 @@ use squawk_document::{Document, value};
 use squawk_parser::LexedStr;
 use std::alloc::Global;
 
-/// The lines of an answer.
+/// The lines of the answer to a document.
 #[derive(Drop)]
 pub struct Answer {
     /// A line for each lexical error.
     pub errors: String,
-    /// A line for each step, and a last one that says whether all tokens were eaten.
+    /// A line for each step, then one that says whether all tokens were eaten.
     pub steps: String,
 }
 
 impl Answer {
-    /// The answer to what was read, which is let go as soon as its value is made.
+    /// Makes the answer to the bytes of a document, which are dropped once their JSON is parsed.
     pub fn new(alloc: Global, input: Vec<u8>) -> Result<Answer, Fault>
         ensures answer { MatchResult result
             (λ a. IsTheAnswer input.items (Ok (answer_texts a)))
@@ -38,7 +38,7 @@ impl Answer {
         Answer::to_value(alloc, &value)
     }
 
-    /// The answer to bytes of which this value was read.
+    /// Makes the answer to bytes whose JSON is this value.
     fn to_value(alloc: Global, value: &Value) -> Result<Answer, Fault>
         ensures answer { (input : List ℕ) → json_value input ≡ Ok (view value.now) → MatchResult result
             (λ a. IsTheAnswer input (Ok (answer_texts a)))
@@ -48,12 +48,12 @@ impl Answer {
         Answer::to_document(alloc, Document::from_value(alloc, value)?)
     }
 
-    /// The answer to a document.
+    /// Makes the answer to a document.
     fn to_document(alloc: Global, document: Document<'_>) -> Result<Answer, Fault>
         requires { has document.operator_first EOF ≡ false }
         ensures answer { MatchResult result
-            (λ a. Tells (told document.entry) (Ok (answer_texts a)))
-            (λ fault. Tells (told document.entry) (Err fault)) }
+            (λ a. Returns (content_of document.entry) (Ok (answer_texts a)))
+            (λ fault. Returns (content_of document.entry) (Err fault)) }
         ensures unwritten { IfErr result (λ fault. fault ≢ Fault.Io) }
     {
         let Document {

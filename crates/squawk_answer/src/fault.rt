@@ -1,4 +1,4 @@
-//! Why there is no answer.
+//! The error of a run.
 ghost use Rattle.std.specs.Prelude.{◌≡◌, ◌++◌};
 ghost use Rattle.squawk_answer.specs.Fault.{fault_line, fault_status, number_text};
 
@@ -9,40 +9,39 @@ use std::alloc::AllocError;
 use std::error::Error;
 use std::fmt;
 
-/// A reason to end without an answer.
+/// Why there is no answer.
 ///
-/// If several apply, the first one listed is returned; running out of memory and failures to read or
-/// write come when they occur.
+/// If several apply, the first one listed is returned. `Memory` and `Io` come when they occur.
 #[derive(Clone, Copy, Debug, PartialEq, Eq)]
 pub enum Fault {
-    /// What was read is no JSON, or no UTF-8.
+    /// The bytes aren't JSON in UTF-8.
     Json,
-    /// It isn't the shape of a document.
+    /// The JSON doesn't have the shape of a document.
     Shape,
-    /// The text has more bytes than places in it can tell.
+    /// The text has more than `u32::MAX` bytes.
     TextTooLong,
-    /// The raw token at this place isn't one of the text.
+    /// The raw token at this index is the first that isn't one of the text.
     BadToken { index: usize },
-    /// The raw tokens end at this byte, before the text does.
+    /// The raw tokens end at this byte, before the end of the text.
     TextLeft { at: usize },
-    /// The call at this place can't be made after those before it.
+    /// The call at this index is the first that can't be made.
     BadCall { index: usize },
-    /// This marker is left open.
+    /// This marker is the least that is open after the last call.
     Unspent { marker: u32 },
-    /// The parse records more events than it may.
+    /// An event past the limit of events was to be recorded.
     TooManyEvents,
-    /// The parse records more errors than it may.
+    /// An error past the limit of errors was to be recorded.
     TooManyErrors,
     /// The output isn't one node over the text.
     DoesNotFit,
-    /// Memory was refused.
+    /// An allocation failed.
     Memory,
-    /// Reading or writing failed, or the reader doesn't end.
+    /// A read or a write failed, or the reader doesn't end.
     Io,
 }
 
 impl Fault {
-    /// The status that the program ends with.
+    /// The exit status of the program.
     pub fn status(&self) -> u8
         ensures status { result ≡ fault_status self.now }
         ensures io { result ≡ 8 → self.now ≡ Fault.Io }
@@ -58,7 +57,7 @@ impl Fault {
         }
     }
 
-    /// The words of what it prints as, and the number behind them, if there is one.
+    /// The text of its line, and the number behind it, if there is one.
     pub(crate) fn parts(&self) -> (&'static str, Option<usize>)
         ensures { fault_line self.now ≡ result.0.now ++ number_text result.1 }
     {
@@ -87,8 +86,8 @@ impl fmt::Display for Fault {
 
     fn fmt<W: fmt::Write>(&self, f: &mut fmt::Formatter<W>) -> fmt::Result {
         match self.parts() {
-            (words, None) => write!(f, "{words}"),
-            (words, Some(number)) => write!(f, "{words}{number}"),
+            (text, None) => write!(f, "{text}"),
+            (text, Some(number)) => write!(f, "{text}{number}"),
         }
     }
 }

@@ -1,7 +1,7 @@
 //! The answer to a document: the lines of its lexical errors and of its steps, or why there are none.
 //!
-//! [`run`] goes from a reader to a writer, and [`program`] is what a process does with it. [`Answer`]
-//! has the lines without either:
+//! [`run`] goes from a reader to a writer, and [`program`] also to an exit status. [`Answer`] has the lines
+//! without reader and writer:
 //!
 //! ```text
 //! let answer = Answer::new(alloc, document)?;
@@ -9,7 +9,7 @@
 //! answer.steps     a line for each step: enter 700, token 3 "x", .., and then all or rest
 //! ```
 //!
-//! Either the answer is whole or there is none: a [`Fault`] says why.
+//! If there is no whole answer, a [`Fault`] says why.
 #![tactic(auto)]
 
 mod answer;

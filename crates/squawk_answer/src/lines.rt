@@ -1,4 +1,4 @@
-//! A line for each lexical error, and one for each step.
+//! The lines of lexical errors and of steps.
 ghost use Rattle.std.specs.Prelude.{◌≡◌, ◌++◌, option_map, string_bytes, IfOk, OnOk};
 ghost use Rattle.std.specs.Str.{chars};
 ghost use Rattle.squawk_table.specs.SinkViews.{owned_step_of};
@@ -10,7 +10,7 @@ use squawk_table::{LexError, LexErrors, StrStep, StrSteps};
 use std::alloc::{AllocError, Global};
 use std::fmt::Write;
 
-/// The lines of steps, and a last one that says whether all tokens were eaten.
+/// A line for each step, then one that says whether all tokens were eaten.
 pub fn step_lines(alloc: Global, mut steps: StrSteps<'_>) -> Result<String, AllocError>
     ensures { IfOk result (λ s. string_bytes s ≡ step_lines steps.entry.steps ++ last_line steps.entry.eaten_all) }
 {
@@ -22,7 +22,7 @@ pub fn step_lines(alloc: Global, mut steps: StrSteps<'_>) -> Result<String, Allo
     Ok(text)
 }
 
-/// Puts the line of a step behind others.
+/// Appends the line of a step.
 pub fn push_step_line(
     alloc: Global,
     lines: &mut String,
@@ -45,9 +45,9 @@ pub fn push_step_line(
     }
 }
 
-/// Puts the line of a token behind others.
+/// Appends the line of a token.
 ///
-/// Most texts of tokens are the same in a JSON string, so that nothing has to be made of them before.
+/// Most texts need no escape in a JSON string, so no copy is made of them.
 fn push_token_line(
     alloc: Global,
     lines: &mut String,
@@ -64,7 +64,7 @@ fn push_token_line(
     }
 }
 
-/// The lines of lexical errors.
+/// A line for each lexical error.
 pub fn error_lines(alloc: Global, errors: LexErrors<'_>) -> Result<String, AllocError>
     ensures { IfOk result (λ s. string_bytes s ≡ lex_lines errors.entry) }
 {
@@ -75,7 +75,7 @@ pub fn error_lines(alloc: Global, errors: LexErrors<'_>) -> Result<String, Alloc
     Ok(text)
 }
 
-/// Puts the line of a lexical error behind others.
+/// Appends the line of a lexical error.
 fn push_error_line(alloc: Global, lines: &mut String, error: &LexError) -> Result<(), AllocError>
     ensures { OnOk result (string_bytes lines.new ≡ string_bytes lines.old ++ lex_line error.now) }
 {
@@ -88,7 +88,7 @@ fn push_error_line(alloc: Global, lines: &mut String, error: &LexError) -> Resul
     lines.push('\n')
 }
 
-/// Puts the hint behind a message, if there is one.
+/// Appends the hint, if there is one.
 fn push_hint(alloc: Global, lines: &mut String, hint: Option<&str>) -> Result<(), AllocError>
     ensures { OnOk result (string_bytes lines.new ≡ string_bytes lines.old ++ hint_part (option_map (λ hint. hint.now) hint.entry)) }
 {

@@ -1,12 +1,12 @@
-//! The parse of a table's input by a document's grammar.
+//! Parses a table's input by a document's grammar.
 ghost use Rattle.std.specs.Prelude.{◌≡◌, ◌≢◌, Ok, Err, false, IfErr, MatchResult};
-ghost use Rattle.squawk_document.specs.DocumentGrammars.{by_calls, by_tiny, told_grammar};
+ghost use Rattle.squawk_document.specs.DocumentGrammars.{by_calls, by_tiny, grammar_content};
 ghost use Rattle.squawk_document.specs.KeywordAnswers.{answers};
 ghost use Rattle.squawk_kinds.specs.Kinds.{EOF};
 ghost use Rattle.squawk_kinds.specs.TokenSets.{has};
-ghost use Rattle.squawk_parser.specs.Words.{Words as WordsTold, words_of};
+ghost use Rattle.squawk_parser.specs.Words.{Words as SpecWords, words_of};
 ghost use Rattle.squawk_table.specs.ParserInput.{input_of};
-ghost use Rattle.squawk_answer.specs.Answers.{ParseTells};
+ghost use Rattle.squawk_answer.specs.Answers.{ParseReturns};
 
 use crate::fault::Fault;
 use squawk_document::DocumentGrammar;
@@ -16,7 +16,7 @@ use squawk_script::{Call, Script};
 use std::alloc::Global;
 use tiny_grammar::Tiny;
 
-/// The output of a parse by the grammar. It fits the table.
+/// Parses by the grammar. The output fits the table.
 pub fn parse(
     alloc: Global,
     table: &LexedStr<'_>,
@@ -27,8 +27,8 @@ pub fn parse(
 ) -> Result<Output, Fault>
     requires { has operator_first EOF ≡ false }
     ensures parsed { let input = input_of (answers vocabulary.now).contextual.kind_of table.now in MatchResult result
-        (λ output. ParseTells (told_grammar grammar) (words_of (record { operator_first = operator_first; names = names.entry })) input table.now (Ok output.steps))
-        (λ fault. ParseTells (told_grammar grammar) (words_of (record { operator_first = operator_first; names = names.entry })) input table.now (Err fault)) }
+        (λ output. ParseReturns (grammar_content grammar) (words_of (record { operator_first = operator_first; names = names.entry })) input table.now (Ok output.steps))
+        (λ fault. ParseReturns (grammar_content grammar) (words_of (record { operator_first = operator_first; names = names.entry })) input table.now (Err fault)) }
     ensures unwritten { IfErr result (λ fault. fault ≢ Fault.Io) }
 {
     match grammar {
@@ -47,7 +47,7 @@ pub fn parse(
     }
 }
 
-/// The output of these calls, from an entry point.
+/// Parses by these calls, from an entry point.
 fn parse_calls(
     alloc: Global,
     table: &LexedStr<'_>,
@@ -59,8 +59,8 @@ fn parse_calls(
 ) -> Result<Output, Fault>
     requires { has operator_first EOF ≡ false }
     ensures parsed { let input = input_of (answers vocabulary.now).contextual.kind_of table.now in MatchResult result
-        (λ output. ParseTells (by_calls entry calls.items) (words_of (record { operator_first = operator_first; names = names.entry })) input table.now (Ok output.steps))
-        (λ fault. ParseTells (by_calls entry calls.items) (words_of (record { operator_first = operator_first; names = names.entry })) input table.now (Err fault)) }
+        (λ output. ParseReturns (by_calls entry calls.items) (words_of (record { operator_first = operator_first; names = names.entry })) input table.now (Ok output.steps))
+        (λ fault. ParseReturns (by_calls entry calls.items) (words_of (record { operator_first = operator_first; names = names.entry })) input table.now (Err fault)) }
     ensures unwritten { IfErr result (λ fault. fault ≢ Fault.Io) }
 {
     let words = Words {
@@ -76,15 +76,15 @@ fn parse_calls(
     Ok(output)
 }
 
-/// The output of the small grammar, which always fits.
+/// Parses by the small grammar, whose output always fits.
 fn parse_tiny(
     alloc: Global,
     table: &LexedStr<'_>,
     vocabulary: &Keywords<'_>,
 ) -> Result<Output, Fault>
     ensures parsed { let input = input_of (answers vocabulary.now).contextual.kind_of table.now in MatchResult result
-        (λ output. (words : WordsTold) → ParseTells by_tiny words input table.now (Ok output.steps))
-        (λ fault. (words : WordsTold) → ParseTells by_tiny words input table.now (Err fault)) }
+        (λ output. (words : SpecWords) → ParseReturns by_tiny words input table.now (Ok output.steps))
+        (λ fault. (words : SpecWords) → ParseReturns by_tiny words input table.now (Err fault)) }
     ensures unwritten { IfErr result (λ fault. fault ≢ Fault.Io) }
 {
     let output = Tiny::new().parse(alloc, table, vocabulary, EntryPoint::SourceFile)?;

@@ -1,4 +1,4 @@
-//! The line of a fault, printed without memory.
+//! Prints the line of a fault, without allocating.
 ghost use Rattle.std.specs.Prelude.{◌≡◌, ◌+◌, ◌<◌, [], ◌∷◌, false, true};
 ghost use Rattle.std.specs.Fmt.{decimal};
 ghost use Rattle.std.specs.Io.KnownBytes.{Appends};
@@ -10,15 +10,15 @@ use crate::fault::Fault;
 use crate::watch::Watch;
 use std::io::Write;
 
-/// Prints the line of a fault, or a beginning of it where a write fails. Whether it printed all.
+/// Prints the line of a fault, or a prefix of it if a write fails. Returns whether it printed all.
 #[tactic(auto, using(crate::proofs::Parts::part_second))]
 pub fn print_line<W: Write>(watch: &mut Watch, writer: &mut W, fault: Fault) -> bool
     ensures all { result ≡ true → Appends (W.contents writer.old) (W.contents writer.new) (printed_line fault) }
     ensures part { result ≡ false → AppendsPart (W.contents writer.old) (W.contents writer.new) (printed_line fault) }
-    ensures noted { watch.new ≡ after_write watch.old result }
+    ensures watched { watch.new ≡ after_write watch.old result }
 {
-    let (words, number) = fault.parts();
-    if !watch.write_all(writer, words.as_bytes()) {
+    let (text, number) = fault.parts();
+    if !watch.write_all(writer, text.as_bytes()) {
         return false;
     }
     if !print_number(watch, writer, number) {
@@ -31,7 +31,7 @@ pub fn print_line<W: Write>(watch: &mut Watch, writer: &mut W, fault: Fault) -> 
 fn print_number<W: Write>(watch: &mut Watch, writer: &mut W, number: Option<usize>) -> bool
     ensures all { result ≡ true → Appends (W.contents writer.old) (W.contents writer.new) (number_text number) }
     ensures part { result ≡ false → AppendsPart (W.contents writer.old) (W.contents writer.new) (number_text number) }
-    ensures noted { watch.new ≡ after_write watch.old result }
+    ensures watched { watch.new ≡ after_write watch.old result }
 {
     match number {
         Some(n) => print_decimal(watch, writer, n),
@@ -44,7 +44,7 @@ fn print_number<W: Write>(watch: &mut Watch, writer: &mut W, number: Option<usiz
 fn print_decimal<W: Write>(watch: &mut Watch, writer: &mut W, n: usize) -> bool
     ensures all { result ≡ true → Appends (W.contents writer.old) (W.contents writer.new) (decimal n) }
     ensures part { result ≡ false → AppendsPart (W.contents writer.old) (W.contents writer.new) (decimal n) }
-    ensures noted { watch.new ≡ after_write watch.old result }
+    ensures watched { watch.new ≡ after_write watch.old result }
 {
     if n < 10 {
         return print_digit(watch, writer, n);
@@ -60,7 +60,7 @@ fn print_digit<W: Write>(watch: &mut Watch, writer: &mut W, digit: usize) -> boo
     requires { digit < 10 }
     ensures all { result ≡ true → Appends (W.contents writer.old) (W.contents writer.new) ((48 + digit) ∷ []) }
     ensures part { result ≡ false → AppendsPart (W.contents writer.old) (W.contents writer.new) ((48 + digit) ∷ []) }
-    ensures noted { watch.new ≡ after_write watch.old result }
+    ensures watched { watch.new ≡ after_write watch.old result }
 {
     watch.write_all(writer, &[b'0' + digit as u8])
 }

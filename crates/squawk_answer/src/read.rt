@@ -1,4 +1,4 @@
-//! Reading to the end.
+//! Reads to the end.
 ghost use Rattle.std.specs.Prelude.{◌≡◌, ◌≢◌, ◌≤◌, false, Err, IfOk, IfErr, OnOk, IfSome, ◌⊎◌};
 ghost use Rattle.std.specs.Io.KnownBytes.{IsAtEnd};
 ghost use Rattle.squawk_answer.specs.Watched.{IsUnread, most_reads, new_watch};
@@ -8,13 +8,13 @@ use crate::watch::{ReadOutcome, Watch};
 use std::alloc::Global;
 use std::io::Read;
 
-/// The most bytes of one read.
+/// The greatest number of bytes of one read.
 const LONGEST_READ: usize = 8192;
 
-/// The most reads of a run, interrupted ones too.
-pub const MOST_READS: u64 = 4294967296;
+/// The greatest number of reads of a run, interrupted ones too.
+pub const MOST_READS: u64 = 1 << 32;
 
-/// All that a reader gives, in at most [`MOST_READS`] reads.
+/// Reads all bytes of a reader, in at most [`MOST_READS`] reads.
 pub fn read_all<R: Read>(alloc: Global, watch: &mut Watch, reader: &mut R) -> Result<Vec<u8>, Fault>
     requires { watch.old ≡ new_watch }
     ensures bytes { IfOk result (λ v. IfSome (R.remaining reader.old) (λ input. v.items ≡ input)) }

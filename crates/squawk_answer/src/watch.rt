@@ -1,4 +1,4 @@
-//! The reads and the writes of a run, watched.
+//! Watches the reads and the writes of a run.
 ghost use Rattle.std.specs.Prelude.{◌≡◌, ◌≢◌, ◌+◌, ◌<◌, ◌≤◌, ◌^◌, [], length, take, true, false, is_some, IfOk, IfErr, IfSome, IfNone, Ok};
 ghost use Rattle.std.specs.Io.{WritesAtMost};
 ghost use Rattle.std.specs.Io.KnownBytes.{Appends, WriteAppends};
@@ -11,8 +11,9 @@ use std::io;
 use std::io::{ErrorKind, Read, Write};
 use std::marker::Model;
 
-/// How often a run has read, whether a read has found the end, and whether a read or a write has
-/// failed. An interrupted read is counted, and is no failure.
+/// The number of reads of a run, whether one found the end, and whether a read or a write failed.
+///
+/// An interrupted read is counted, and is no failure.
 #[derive(Drop)]
 pub struct Watch {
     reads: u64,
@@ -29,17 +30,17 @@ impl Model for Watch {
     ghost view = { λ w. record { reads = w.reads; ended = w.ended; read_failed = w.read_failed; write_failed = w.write_failed } };
 }
 
-/// What one read gave.
+/// The result of one read.
 #[derive(Clone, Copy, PartialEq, Eq)]
 pub enum ReadOutcome {
-    /// So many bytes; none at the end.
+    /// This many bytes were read; none at the end.
     Bytes(usize),
     Interrupted,
     Failed,
 }
 
 impl Watch {
-    /// Nothing was read or written yet.
+    /// Makes a watch of no reads and writes.
     pub fn new() -> Watch
         ensures { result ≡ new_watch }
     {
@@ -51,21 +52,21 @@ impl Watch {
         }
     }
 
-    /// One read.
+    /// Reads once.
     pub fn read<R: Read>(&mut self, reader: &mut R, buffer: &mut [u8]) -> ReadOutcome
         requires { self.old.reads < 2 ^ 63 }
         ensures bytes { OutcomeConsumes (R.remaining reader.old) (R.remaining reader.new) result buffer.new }
-        ensures noted { self.new ≡ after_read self.old result }
+        ensures watched { self.new ≡ after_read self.old result }
     {
         let answer = reader.read(buffer);
-        self.note_read(answer)
+        self.watch_read(answer)
     }
 
-    /// Writes all of these bytes, or a beginning of them where a write fails. Whether it wrote all.
+    /// Writes all of these bytes, or a prefix of them if a write fails. Returns whether it wrote all.
     pub fn write_all<W: Write>(&mut self, writer: &mut W, bytes: &[u8]) -> bool
         ensures all { result ≡ true → Appends (W.contents writer.old) (W.contents writer.new) bytes.now }
         ensures part { result ≡ false → AppendsPart (W.contents writer.old) (W.contents writer.new) bytes.now }
-        ensures noted { self.new ≡ after_write self.old result }
+        ensures watched { self.new ≡ after_write self.old result }
     {
         let mut rest = bytes;
         while !rest.is_empty() {
@@ -77,43 +78,43 @@ impl Watch {
         true
     }
 
-    /// How often it was read.
+    /// The number of reads.
     pub fn reads(&self) -> u64
         ensures { result ≡ self.now.reads }
     {
         self.reads
     }
 
-    /// Whether a read has found the end.
+    /// Whether a read found the end.
     pub fn ended(&self) -> bool
         ensures { result ≡ self.now.ended }
     {
         self.ended
     }
 
-    /// Whether a read has failed.
+    /// Whether a read failed.
     pub fn read_failed(&self) -> bool
         ensures { result ≡ self.now.read_failed }
     {
         self.read_failed
     }
 
-    /// Whether a write has failed.
+    /// Whether a write failed.
     pub fn write_failed(&self) -> bool
         ensures { result ≡ self.now.write_failed }
     {
         self.write_failed
     }
 
-    /// Counts a read with this answer of its reader, and tells its outcome.
-    fn note_read(&mut self, answer: io::Result<usize>) -> ReadOutcome
+    /// Counts a read that returned this. Returns its outcome.
+    fn watch_read(&mut self, answer: io::Result<usize>) -> ReadOutcome
         requires { self.old.reads < 2 ^ 63 }
         ensures bytes { IfOk answer (λ n. result ≡ ReadOutcome.Bytes n) }
         ensures interrupted { IfErr answer (λ e.
             error_kind e ≡ ErrorKind.Interrupted → result ≡ ReadOutcome.Interrupted) }
         ensures refused { IfErr answer (λ e.
             error_kind e ≢ ErrorKind.Interrupted → result ≡ ReadOutcome.Failed) }
-        ensures noted { self.new ≡ after_read self.old result }
+        ensures watched { self.new ≡ after_read self.old result }
     {
         self.reads += 1;
         match answer {
@@ -129,21 +130,21 @@ impl Watch {
         }
     }
 
-    /// One write, tried again where it is interrupted. How many bytes it took; none where it failed.
+    /// Writes once, again if interrupted. Returns the number of bytes written, or `None` if it failed.
     fn write<W: Write>(&mut self, writer: &mut W, bytes: &[u8]) -> Option<usize>
         ensures some { IfSome result (λ n. (0 < n) × (n ≤ length bytes.now) × Appends (W.contents writer.old) (W.contents writer.new) (take n bytes.now)) }
         ensures none { IfNone result (Appends (W.contents writer.old) (W.contents writer.new) []) }
-        ensures noted { self.new ≡ after_write self.old (is_some result) }
+        ensures watched { self.new ≡ after_write self.old (is_some result) }
     {
         let answer = write_uninterrupted(writer, bytes);
-        self.note_write(answer)
+        self.watch_write(answer)
     }
 
-    /// Notes whether a write with this answer of its writer has failed: one that takes nothing has.
-    fn note_write(&mut self, answer: io::Result<usize>) -> Option<usize>
+    /// Records whether a write that returned this failed: one that takes no bytes did.
+    fn watch_write(&mut self, answer: io::Result<usize>) -> Option<usize>
         ensures some { IfSome result (λ n. (0 < n) × (answer ≡ Ok n)) }
         ensures none { IfNone result (IfOk answer (λ n. n ≡ 0)) }
-        ensures noted { self.new ≡ after_write self.old (is_some result) }
+        ensures watched { self.new ≡ after_write self.old (is_some result) }
     {
         match answer {
             Ok(n) if n > 0 => Some(n),
@@ -155,7 +156,7 @@ impl Watch {
     }
 }
 
-/// The answer of a write that isn't interrupted.
+/// Writes until a write isn't interrupted. Returns what that one returned.
 fn write_uninterrupted<W: Write>(writer: &mut W, bytes: &[u8]) -> io::Result<usize>
     ensures bound { WritesAtMost result bytes.now }
     ensures bytes { WriteAppends (W.contents writer.old) (W.contents writer.new) result bytes.now }

@@ -5,7 +5,7 @@ use Rattle.std.specs.Option.{ok_or}
 use Rattle.serde_json.specs.Data.{Data, Members}
 use Rattle.serde_json.specs.Find.{as_object, get}
 use Rattle.squawk_document.specs.DocumentParts.{MemberData, members_in}
-use Rattle.squawk_document.specs.Documents.{Told, document_in, words_in}
+use Rattle.squawk_document.specs.Documents.{Content, document_in, words_in}
 use Rattle.squawk_document.specs.GrammarWords.{word_members_in}
 use Rattle.squawk_document.specs.KeywordPairs.{answered, keyword_list_in, vocabulary_in}
 use Rattle.squawk_document.specs.MemberNames.{HasMembers, IsDocument, vocabulary_names, words_names}
@@ -14,7 +14,7 @@ use Rattle.squawk_document.specs.Values.{◌>>=◌, has_members, member_in, memb
 use Rattle.squawk_document.specs.declared.document_error.DocumentError.{DocumentError}
 use Rattle.squawk_document.specs.declared.document_error.DocumentError.TheVariants.{Shape}
 
--- one reading and another one of what it gives: both succeed
+-- one read and another one of its result: both succeed
 both : {A B : Type 0} (r : Result A DocumentError) (f : A → Result B DocumentError) {y : B} → (r >>= f) ≡ Ok y → (x : A) × (r ≡ Ok x) × (f x ≡ Ok y)
 both (Ok x) f is = (x, refl, is)
 both (Err e) f is = absurd (let p = is in cc)
@@ -55,7 +55,7 @@ pair one other d f is =
     (exact, (some first, (some second, tt)))
 
 -- a law: a document that was read has exactly these members
-pub is_document : (d : Data) (y : Told) → document_in d ≡ Ok y → IsDocument d
+pub is_document : (d : Data) (y : Content) → document_in d ≡ Ok y → IsDocument d
 is_document d y is =
     let (members, of_d, more) = both (members_in d) _ is in
     let (_, _, more) = both (string_in members.text) _ more in

@@ -7,11 +7,11 @@ use Rattle.squawk_script.specs.declared.call.Call.{Call}
 use Rattle.squawk_script.specs.declared.call.Call.TheVariants.{Start, Complete, Abandon, Precede, ExtendTo, Eat, BumpAny, BumpRemap, Expect, Error, ErrRecover, ErrAndBump}
 use Rattle.squawk_document.specs.declared.document_error.DocumentError.{DocumentError}
 use Rattle.squawk_document.specs.declared.document_error.DocumentError.TheVariants.{Shape}
-use Rattle.squawk_document.specs.Calls.{alone, argument, call_in, call_named, calls_in, message_in}
+use Rattle.squawk_document.specs.Calls.{no_arguments, argument, call_in, call_named, calls_in, message_in}
 use Rattle.squawk_document.specs.KindSets.{set_in}
-use Rattle.squawk_document.specs.Values.{◌>>=◌, Gives, each, is_word, item_at, items_in, kind_number_in, string_in, u32_in, with_len}
+use Rattle.squawk_document.specs.Values.{◌>>=◌, Gives, each, is_text, item_at, items_in, kind_number_in, string_in, u32_in, with_len}
 use Rattle.squawk_document.specs.WrittenCalls.{AreCalls, AreNameAndFields, AreNoCalls, Field, IsCall, IsNoCall, IsField, OneForOne, fields_of_call, id_field, kind_field, kinds_field, message_field, name_of_call}
-use Rattle.squawk_document.proofs.WrittenValues.{bound, by_number, by_word}
+use Rattle.squawk_document.proofs.WrittenValues.{bound, by_number, by_text}
 
 -- ---- what is written is read back
 
@@ -100,9 +100,9 @@ module _ (w : List ℕ) (s : Data) (ds : List Data) (call : Call) where
   Others other = other ≡ Ok call → IsWritten w ds call
 
   -- a call without fields, or what is read where the name is another
-  none : (one : Call) {other : Result Call DocumentError} → fields_of_call one ≡ [] → Others other → Others (cond (is_word w (name_of_call one)) (alone (s ∷ ds) one) other)
+  none : (one : Call) {other : Result Call DocumentError} → fields_of_call one ≡ [] → Others other → Others (cond (is_text w (name_of_call one)) (no_arguments (s ∷ ds) one) other)
   none one {other = other} fields go reads =
-      by_word w (name_of_call one) (alone (s ∷ ds) one) other (Ok call) reads
+      by_text w (name_of_call one) (no_arguments (s ∷ ds) one) other (Ok call) reads
       (λ is here. bound (with_len 1 (s ∷ ds)) (λ _. Ok one) call here (λ es fits made. with_len-is 1 (s ∷ ds) es fits (λ len same.
       let call_is : one ≡ call = let p = made in cc in
       subst (IsWritten w ds) call_is (is, (let e = len_one s ds len in rw (e, fields) tt)))))
@@ -111,9 +111,9 @@ module _ (w : List ℕ) (s : Data) (ds : List Data) (call : Call) where
   -- a call with one field
   one : {X : Type 0} (make : X → Call) (field : X → Field) (read : Data → Result X DocumentError) (word : List ℕ) {other : Result Call DocumentError}
       → ((x : X) → name_of_call (make x) ≡ word) → ((x : X) → fields_of_call (make x) ≡ field x ∷ []) → ((x : X) (d : Data) → read d ≡ Ok x → IsField (field x) d)
-      → Others other → Others (cond (is_word w word) (argument (s ∷ ds) >>= read >>= λ x. Ok (make x)) other)
+      → Others other → Others (cond (is_text w word) (argument (s ∷ ds) >>= read >>= λ x. Ok (make x)) other)
   one make field read word {other = other} named fields is_field go reads =
-      by_word w word (argument (s ∷ ds) >>= read >>= λ x. Ok (make x)) other (Ok call) reads
+      by_text w word (argument (s ∷ ds) >>= read >>= λ x. Ok (make x)) other (Ok call) reads
       (λ is here. bound (argument (s ∷ ds) >>= read) (λ x. Ok (make x)) call here (λ x found made.
       bound (argument (s ∷ ds)) read x found (λ a at reads_a.
       bound (with_len 2 (s ∷ ds)) (λ ds. item_at ds 1) a at (λ es fits item.
@@ -130,9 +130,9 @@ module _ (w : List ℕ) (s : Data) (ds : List Data) (call : Call) where
       → ((x : X) (y : Y) → name_of_call (make x y) ≡ word) → ((x : X) (y : Y) → fields_of_call (make x y) ≡ field x ∷ second y ∷ [])
       → ((x : X) (d : Data) → read d ≡ Ok x → IsField (field x) d) → ((y : Y) (d : Data) → read_second d ≡ Ok y → IsField (second y) d)
       → Others other
-      → Others (cond (is_word w word) (with_len 3 (s ∷ ds) >>= λ ds. item_at ds 1 >>= read >>= λ x. item_at ds 2 >>= read_second >>= λ y. Ok (make x y)) other)
+      → Others (cond (is_text w word) (with_len 3 (s ∷ ds) >>= λ ds. item_at ds 1 >>= read >>= λ x. item_at ds 2 >>= read_second >>= λ y. Ok (make x y)) other)
   two make field second read read_second word {other = other} named fields is_first is_second go reads =
-      by_word w word _ other (Ok call) reads
+      by_text w word _ other (Ok call) reads
       (λ is here. bound (with_len 3 (s ∷ ds)) _ call here (λ es fits more.
       with_len-is 3 (s ∷ ds) es fits (λ len same.
       len_three s ds len (λ a b are.

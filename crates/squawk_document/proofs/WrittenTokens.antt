@@ -13,11 +13,11 @@ use Rattle.squawk_tokens.specs.declared.token.TokenKind.{TokenKind}
 use Rattle.squawk_tokens.specs.declared.token.TokenKind.TheVariants.{Unknown, LineComment, BlockComment, Whitespace, Ident, QuotedIdent, PsqlCommand, PositionalParam, Literal, Semi, Comma, Dot, DotDot, OpenParen, CloseParen, OpenBracket, CloseBracket, OpenCurly, CloseCurly, At, Pound, Tilde, Question, Colon, Eq, Bang, Lt, Gt, Minus, And, Or, Plus, Star, Slash, Caret, Percent, Backtick, Eof}
 use Rattle.squawk_document.specs.declared.document_error.DocumentError.{DocumentError}
 use Rattle.squawk_document.specs.declared.document_error.DocumentError.TheVariants.{Shape}
-use Rattle.squawk_document.specs.TokenShapes.{base_in, spelled_kind, kind_of_one, kind_of_three, kind_of_two, place_in, plain_kind, quoted_literal, spelled_token, token_in, tokens_in}
-use Rattle.squawk_document.specs.Values.{◌>>=◌, Gives, GivesExactly, bool_in, is_word, items_in, string_in, u32_in}
+use Rattle.squawk_document.specs.TokenShapes.{base_in, spelled_kind, kind_of_one, kind_of_three, kind_of_two, offset_in, plain_kind, quoted_literal, spelled_token, token_in, tokens_in}
+use Rattle.squawk_document.specs.Values.{◌>>=◌, Gives, GivesExactly, bool_in, is_text, items_in, string_in, u32_in}
 use Rattle.squawk_tokens.specs.Bases.{radix}
-use Rattle.squawk_document.specs.WrittenTokens.{HasKindOf32Bits, HasLiteralOf32Bits, HasNumbersOf32Bits, IsNoToken, IsNoTokens, fields_of_kind, fields_of_literal, place, whole, word_of, word_of_literal, written_token, written_tokens}
-use Rattle.squawk_document.proofs.WrittenValues.{bool_in-is, bound, data_list-items_of, each-is, each-ok, items_in-is, number_in-is, string_in-is, by_number, by_word, u32_in-ok}
+use Rattle.squawk_document.specs.WrittenTokens.{HasKindOf32Bits, HasLiteralOf32Bits, HasNumbersOf32Bits, IsNoToken, IsNoTokens, fields_of_kind, fields_of_literal, offset, whole, spelling_of, spelling_of_literal, written_token, written_tokens}
+use Rattle.squawk_document.proofs.WrittenValues.{bool_in-is, bound, data_list-items_of, each-is, each-ok, items_in-is, number_in-is, string_in-is, by_number, by_text, u32_in-ok}
 
 -- ---- what is written is read back
 
@@ -27,7 +27,7 @@ base-ok Octal = refl
 base-ok Decimal = refl
 base-ok Hexadecimal = refl
 
-literal-ok : (kind : LiteralKind) → HasLiteralOf32Bits kind → spelled_kind (word_of_literal kind) (fields_of_literal kind) ≡ Ok (Literal kind)
+literal-ok : (kind : LiteralKind) → HasLiteralOf32Bits kind → spelled_kind (spelling_of_literal kind) (fields_of_literal kind) ≡ Ok (Literal kind)
 literal-ok (Int empty base junk) fits = rw (base-ok base, u32_in-ok junk fits) refl
 literal-ok (Numeric None junk) fits = rw (u32_in-ok junk fits.1) refl
 literal-ok (Numeric (Some exponent) junk) fits = rw (u32_in-ok exponent fits.0, u32_in-ok junk fits.1) refl
@@ -39,7 +39,7 @@ literal-ok (DollarQuotedString terminated) fits = refl
 literal-ok (UnicodeEscStr terminated) fits = refl
 literal-ok (EscStr terminated) fits = refl
 
-kind-ok : (kind : TokenKind) → HasKindOf32Bits kind → spelled_kind (word_of kind) (fields_of_kind kind) ≡ Ok kind
+kind-ok : (kind : TokenKind) → HasKindOf32Bits kind → spelled_kind (spelling_of kind) (fields_of_kind kind) ≡ Ok kind
 kind-ok (Literal kind) fits = literal-ok kind fits
 kind-ok (PositionalParam junk) fits = rw (u32_in-ok junk fits) refl
 kind-ok (BlockComment terminated) fits = refl
@@ -84,16 +84,16 @@ token-ok token fits = rw (data_list-items_of (fields_of_kind token.kind), u32_in
 
 -- ---- what is read is written so
 
--- a word and fields are those of a kind
+-- a spelling and fields are those of a kind
 abbrev IsWritten : List ℕ → List Data → TokenKind → Type 0
-IsWritten w fields kind = (w ≡ word_of kind) × (fields ≡ fields_of_kind kind)
+IsWritten w fields kind = (w ≡ spelling_of kind) × (fields ≡ fields_of_kind kind)
 
--- a kind without fields, or what is read where the word is another
+-- a kind without fields, or what is read where the spelling is another
 plain : {w : List ℕ} {kind : TokenKind} (one : TokenKind) {other : Result TokenKind DocumentError} → fields_of_kind one ≡ []
-    → (other ≡ Ok kind → IsWritten w [] kind) → cond (is_word w (word_of one)) (Ok one) other ≡ Ok kind → IsWritten w [] kind
+    → (other ≡ Ok kind → IsWritten w [] kind) → cond (is_text w (spelling_of one)) (Ok one) other ≡ Ok kind → IsWritten w [] kind
 plain {w = w} {kind = kind} one {other = other} none go reads =
-    by_word w (word_of one) (Ok one) other (Ok kind) reads
-    (λ is here. let same : one ≡ kind = let p = here in cc in (is ∙ ap word_of same, sym none ∙ ap fields_of_kind same))
+    by_text w (spelling_of one) (Ok one) other (Ok kind) reads
+    (λ is here. let same : one ≡ kind = let p = here in cc in (is ∙ ap spelling_of same, sym none ∙ ap fields_of_kind same))
     go
 
 no_other : {X P : Type 0} {x : X} → Err Shape ≡ Ok x → P
@@ -112,11 +112,11 @@ plain-is w kind =
 -- the same for the literals that say only whether they are terminated
 literal : {w : List ℕ} {kind : LiteralKind} (one : LiteralKind) (terminated : Bool) {other : Result LiteralKind DocumentError}
     → fields_of_literal one ≡ boolean terminated ∷ []
-    → (other ≡ Ok kind → IsWritten w (boolean terminated ∷ []) (Literal kind)) → cond (is_word w (word_of_literal one)) (Ok one) other ≡ Ok kind
+    → (other ≡ Ok kind → IsWritten w (boolean terminated ∷ []) (Literal kind)) → cond (is_text w (spelling_of_literal one)) (Ok one) other ≡ Ok kind
     → IsWritten w (boolean terminated ∷ []) (Literal kind)
 literal {w = w} {kind = kind} one terminated {other = other} field go reads =
-    by_word w (word_of_literal one) (Ok one) other (Ok kind) reads
-    (λ is here. let same : one ≡ kind = let p = here in cc in (is ∙ ap word_of_literal same, sym field ∙ ap fields_of_literal same))
+    by_text w (spelling_of_literal one) (Ok one) other (Ok kind) reads
+    (λ is here. let same : one ≡ kind = let p = here in cc in (is ∙ ap spelling_of_literal same, sym field ∙ ap fields_of_literal same))
     go
 
 literal-is : (w : List ℕ) (b : Bool) (kind : LiteralKind) → quoted_literal w b ≡ Ok kind → IsWritten w (boolean b ∷ []) (Literal kind)
@@ -140,44 +140,44 @@ base-is d base reads = amount d _ base reads (λ n is more. is ∙ ap whole (
     by_number n 16 _ _ (Ok base) more (λ sixteen here. let same : Hexadecimal ≡ base = let p = here in cc in sixteen ∙ ap radix same) (λ more.
     absurd (let p = more in cc)))))))
 
-place-is : (d : Data) (n : Option ℕ) → place_in d ≡ Ok n → d ≡ place n
-place-is null n reads = let none : None ≡ n = let p = reads in cc in ap place none
-place-is (boolean b) n reads = absurd (let p = reads in cc)
-place-is (number x) n reads = amount (number x) _ n reads (λ m is more. let some : Some m ≡ n = let p = more in cc in is ∙ ap place some)
-place-is (string s) n reads = absurd (let p = reads in cc)
-place-is (array ds) n reads = absurd (let p = reads in cc)
-place-is (object ms) n reads = absurd (let p = reads in cc)
+offset-is : (d : Data) (n : Option ℕ) → offset_in d ≡ Ok n → d ≡ offset n
+offset-is null n reads = let none : None ≡ n = let p = reads in cc in ap offset none
+offset-is (boolean b) n reads = absurd (let p = reads in cc)
+offset-is (number x) n reads = amount (number x) _ n reads (λ m is more. let some : Some m ≡ n = let p = more in cc in is ∙ ap offset some)
+offset-is (string s) n reads = absurd (let p = reads in cc)
+offset-is (array ds) n reads = absurd (let p = reads in cc)
+offset-is (object ms) n reads = absurd (let p = reads in cc)
 
 one-is : (w : List ℕ) (a : Data) (kind : TokenKind) → kind_of_one w a ≡ Ok kind → IsWritten w (a ∷ []) kind
 one-is w a kind reads =
-    by_word w (codes "block_comment") _ _ (Ok kind) reads (λ is here. flag a _ kind here (λ b field made.
-    let same : BlockComment b ≡ kind = let p = made in cc in (is ∙ ap word_of same, ap (λ d. d ∷ []) field ∙ ap fields_of_kind same))) (λ reads.
-    by_word w (codes "psql_command") _ _ (Ok kind) reads (λ is here. flag a _ kind here (λ b field made.
-    let same : PsqlCommand b ≡ kind = let p = made in cc in (is ∙ ap word_of same, ap (λ d. d ∷ []) field ∙ ap fields_of_kind same))) (λ reads.
-    by_word w (codes "positional_param") _ _ (Ok kind) reads (λ is here. amount a _ kind here (λ n field made.
-    let same : PositionalParam n ≡ kind = let p = made in cc in (is ∙ ap word_of same, ap (λ d. d ∷ []) field ∙ ap fields_of_kind same))) (λ reads.
+    by_text w (codes "block_comment") _ _ (Ok kind) reads (λ is here. flag a _ kind here (λ b field made.
+    let same : BlockComment b ≡ kind = let p = made in cc in (is ∙ ap spelling_of same, ap (λ d. d ∷ []) field ∙ ap fields_of_kind same))) (λ reads.
+    by_text w (codes "psql_command") _ _ (Ok kind) reads (λ is here. flag a _ kind here (λ b field made.
+    let same : PsqlCommand b ≡ kind = let p = made in cc in (is ∙ ap spelling_of same, ap (λ d. d ∷ []) field ∙ ap fields_of_kind same))) (λ reads.
+    by_text w (codes "positional_param") _ _ (Ok kind) reads (λ is here. amount a _ kind here (λ n field made.
+    let same : PositionalParam n ≡ kind = let p = made in cc in (is ∙ ap spelling_of same, ap (λ d. d ∷ []) field ∙ ap fields_of_kind same))) (λ reads.
     flag a _ kind reads (λ b field more. bound (quoted_literal w b) _ kind more (λ l spelled made.
     let same : Literal l ≡ kind = let p = made in cc in
     let written = literal-is w b l spelled in
-    (written.0 ∙ ap word_of same, ap (λ d. d ∷ []) field ∙ (written.1 ∙ ap fields_of_kind same)))))))
+    (written.0 ∙ ap spelling_of same, ap (λ d. d ∷ []) field ∙ (written.1 ∙ ap fields_of_kind same)))))))
 
 two-is : (w : List ℕ) (a b : Data) (kind : TokenKind) → kind_of_two w a b ≡ Ok kind → IsWritten w (a ∷ b ∷ []) kind
 two-is w a b kind reads =
-    by_word w (codes "quoted_ident") _ _ (Ok kind) reads (λ is here. flag a _ kind here (λ terminated first more. flag b _ kind more (λ uescape second made.
+    by_text w (codes "quoted_ident") _ _ (Ok kind) reads (λ is here. flag a _ kind here (λ terminated first more. flag b _ kind more (λ uescape second made.
     let same : QuotedIdent terminated uescape ≡ kind = let p = made in cc in
-    (is ∙ ap word_of same, (λ i. first i ∷ second i ∷ []) ∙ ap fields_of_kind same)))) (λ reads.
-    by_word w (codes "numeric") _ _ (Ok kind) reads (λ is here. bound (place_in a) _ kind here (λ exponent first more. amount b _ kind more (λ junk second made.
+    (is ∙ ap spelling_of same, (λ i. first i ∷ second i ∷ []) ∙ ap fields_of_kind same)))) (λ reads.
+    by_text w (codes "numeric") _ _ (Ok kind) reads (λ is here. bound (offset_in a) _ kind here (λ exponent first more. amount b _ kind more (λ junk second made.
     let same : Literal (Numeric exponent junk) ≡ kind = let p = made in cc in
-    let at = place-is a exponent first in
-    (is ∙ ap word_of same, (λ i. at i ∷ second i ∷ []) ∙ ap fields_of_kind same))))
+    let at = offset-is a exponent first in
+    (is ∙ ap spelling_of same, (λ i. at i ∷ second i ∷ []) ∙ ap fields_of_kind same))))
     no_other)
 
 three-is : (w : List ℕ) (a b c : Data) (kind : TokenKind) → kind_of_three w a b c ≡ Ok kind → IsWritten w (a ∷ b ∷ c ∷ []) kind
 three-is w a b c kind reads =
-    by_word w (codes "int") _ _ (Ok kind) reads (λ is here. flag a _ kind here (λ empty first more. bound (base_in b) _ kind more (λ base second more. amount c _ kind more (λ junk third made.
+    by_text w (codes "int") _ _ (Ok kind) reads (λ is here. flag a _ kind here (λ empty first more. bound (base_in b) _ kind more (λ base second more. amount c _ kind more (λ junk third made.
     let same : Literal (Int empty base junk) ≡ kind = let p = made in cc in
     let of = base-is b base second in
-    (is ∙ ap word_of same, (λ i. first i ∷ of i ∷ third i ∷ []) ∙ ap fields_of_kind same)))))
+    (is ∙ ap spelling_of same, (λ i. first i ∷ of i ∷ third i ∷ []) ∙ ap fields_of_kind same)))))
     no_other
 
 kind-is : (w : List ℕ) (fields : List Data) (kind : TokenKind) → spelled_kind w fields ≡ Ok kind → IsWritten w fields kind
@@ -187,7 +187,7 @@ kind-is w (a ∷ b ∷ []) kind reads = two-is w a b kind reads
 kind-is w (a ∷ b ∷ c ∷ []) kind reads = three-is w a b c kind reads
 kind-is w (a ∷ b ∷ c ∷ d ∷ fields) kind reads = no_other reads
 
-spelled-is : (ds : List Data) (token : Token) → spelled_token ds ≡ Ok token → ds ≡ string (word_of token.kind) ∷ whole token.len ∷ fields_of_kind token.kind
+spelled-is : (ds : List Data) (token : Token) → spelled_token ds ≡ Ok token → ds ≡ string (spelling_of token.kind) ∷ whole token.len ∷ fields_of_kind token.kind
 spelled-is [] token reads = absurd (let p = reads in cc)
 spelled-is (s ∷ []) token reads = absurd (let p = reads in cc)
 spelled-is (s ∷ l ∷ fields) token reads =
@@ -195,7 +195,7 @@ spelled-is (s ∷ l ∷ fields) token reads =
     let same : record { kind = kind; len = len } ≡ token = let p = made in cc in
     let written = kind-is w fields kind spelled in
     let name = string_in-is s w word ∙ ap string written.0 in
-    (λ i. name i ∷ is i ∷ written.1 i) ∙ ap (λ t. string (word_of t.kind) ∷ whole t.len ∷ fields_of_kind t.kind) same)))
+    (λ i. name i ∷ is i ∷ written.1 i) ∙ ap (λ t. string (spelling_of t.kind) ∷ whole t.len ∷ fields_of_kind t.kind) same)))
 
 token-is : (d : Data) (token : Token) → token_in d ≡ Ok token → d ≡ written_token token
 token-is d token reads =

@@ -1,4 +1,4 @@
--- Values that are read, as they are written: what a reading gives tells what the JSON is.
+-- Values that are read, as they are written: the result of a read determines the JSON.
 use Rattle.std.proofs.Common.{◌≡◌, ℕ, ◌==◌, ◌≤◌, All, List, [], ◌∷◌, Bool, true, false, cond, Ok, Err, refl, ap, sym, ◌∙◌, arith}
 use Rattle.std.specs.Prelude.{Result, map, nat_lt}
 use Rattle.std.specs.Cmp.Lexicographic.{bytes_decides}
@@ -8,7 +8,7 @@ use Rattle.std.proofs.lemmas.List.Elements.{All-head, All-tail}
 use Rattle.serde_json.specs.Data.{Data, Items, null, boolean, number, unsigned, negative, float, string, array, object, no_items, item}
 use Rattle.serde_json.specs.View.{items_of}
 use Rattle.squawk_document.specs.declared.document_error.DocumentError.{DocumentError}
-use Rattle.squawk_document.specs.Values.{◌>>=◌, bool_in, data_list, each, is_word, items_in, number_in, string_in, u32_in}
+use Rattle.squawk_document.specs.Values.{◌>>=◌, bool_in, data_list, each, is_text, items_in, number_in, string_in, u32_in}
 use Rattle.squawk_document.specs.WrittenTokens.{IsOf32Bits, whole}
 
 -- ---- one reading behind another
@@ -24,9 +24,9 @@ by_test : {X P Q : Type 0} (test : Bool) → (test ≡ true → Q) → (here oth
 by_test true holds here other x reads this that = this (holds refl) reads
 by_test false holds here other x reads this that = that reads
 
--- a word is the one that it is compared with, or another
-pub by_word : {X P : Type 0} (w word : List ℕ) (here other x : X) → cond (is_word w word) here other ≡ x → (w ≡ word → here ≡ x → P) → (other ≡ x → P) → P
-by_word w word = by_test (is_word w word) (bytes_decides w word).0
+-- a text is the one that it is compared with, or another
+pub by_text : {X P : Type 0} (w word : List ℕ) (here other x : X) → cond (is_text w word) here other ≡ x → (w ≡ word → here ≡ x → P) → (other ≡ x → P) → P
+by_text w word = by_test (is_text w word) (bytes_decides w word).0
 
 -- and so is a number
 pub by_number : {X P : Type 0} (n one : ℕ) (here other x : X) → cond (n == one) here other ≡ x → (n ≡ one → here ≡ x → P) → (other ≡ x → P) → P

@@ -1,4 +1,4 @@
--- What a document tells about the kinds of its grammar.
+-- The words of a document: the operators of its grammar, and the names of its kinds.
 use Rattle.std.specs.Prelude.{ℕ, List, Result, Ok, codes}
 use Rattle.serde_json.specs.Data.{Data}
 use Rattle.serde_json.specs.View.{view}
@@ -6,7 +6,7 @@ use Rattle.squawk_document.specs.declared.document_error.DocumentError.{Document
 use Rattle.squawk_document.specs.declared.words.WordMembers.{WordMembers}
 use Rattle.squawk_document.specs.Values.{◌>>=◌, each, has_members, items_in, kind_number_in, member_in, pair_in, string_in}
 
--- the members that tell of kinds, as JSON
+-- the members of a document's words, as JSON
 pub record WordData : Type 0 where
   pub operator_first : Data
   pub names : Data

@@ -1,4 +1,4 @@
--- What a refusal of a document's words is.
+-- The errors of making a document's vocabulary.
 use Rattle.squawk_document.specs.declared.document_error.DocumentError.{DocumentError}
 use Rattle.squawk_document.specs.declared.document_error.DocumentError.TheVariants.{Shape, OutOfMemory}
 use Rattle.squawk_keywords.specs.declared.keywords_error.KeywordsError.{KeywordsError}

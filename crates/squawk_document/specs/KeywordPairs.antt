@@ -38,24 +38,24 @@ vocabulary_in d = has_members 2 d
 
 -- ---- what it means
 
--- what a list answers
+-- the answers of a list
 pub record ListAnswers : Type 0 where
   pub kind_of : Keywords
   pub kinds : ℕ → Bool
 
--- what these pairs answer
+-- the answers of these pairs
 abbrev pub list_answers : List (List ℕ × ℕ) → ListAnswers
 list_answers pairs = record { kind_of = kind_of_word pairs; kinds = has_kind pairs }
 
--- what a vocabulary answers
+-- the answers of a vocabulary
 pub record VocabularyAnswers : Type 0 where
   pub keywords : ListAnswers
   pub contextual : ListAnswers
 
--- what the two lists answer
+-- the answers of the two lists
 abbrev pub answers_of : Lists → VocabularyAnswers
 answers_of lists = record { keywords = list_answers lists.keywords; contextual = list_answers lists.contextual }
 
--- what is read of both lists, as what they answer
+-- the answers of the two lists that are read
 abbrev pub answered : Result Lists DocumentError → Result VocabularyAnswers DocumentError
 answered reading = reading >>= λ lists. Ok (answers_of lists)

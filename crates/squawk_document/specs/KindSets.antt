@@ -14,14 +14,14 @@ kinds_in low d = items_in d >>= λ ds. each (number_in low WHITESPACE) ds
 
 -- ---- which kinds a set has
 
--- the set has a kind exactly where the list that is read names it
+-- the set has a kind if and only if the list that is read has it
 abbrev pub HasExactly : TokenSet → Result (List ℕ) DocumentError → Type 0
 HasExactly set (Ok kinds) = (kind : ℕ) → has set kind ≡ list_any (λ one. one == kind) kinds
 HasExactly set (Err e) = ⊥
 
 -- ---- which set it is
 
--- a set and one token kind more: its bit is 1 in the word that holds it
+-- a set with one token kind more, whose bit is set
 abbrev pub with_kind : TokenSet → ℕ → TokenSet
 with_kind set kind = slice_set set (kind / 64) (bit_or (slice_index set (kind / 64)) (2 ^ (kind % 64)))
 

@@ -1,4 +1,5 @@
 pub mod Values
+pub mod ErrorLines
 pub mod TokenShapes
 pub mod WrittenTokens
 pub mod KindSets

@@ -1,4 +1,4 @@
--- Which members the objects of a document have.
+-- The names of the members that the objects of a document have.
 use Rattle.std.specs.Prelude.{◌≡◌, List, [], ◌∷◌, ℕ, IfSome, IsSome, Ok, codes, length}
 use Rattle.serde_json.specs.Data.{Data}
 use Rattle.serde_json.specs.Find.{get}

@@ -1,4 +1,4 @@
--- What is read of a JSON value, or why it can't be.
+-- Reads of JSON values, which may fail.
 use Rattle.std.specs.Prelude.{◌≡◌, ℕ, ◌+◌, ◌==◌, Bool, List, [], ◌∷◌, length, Result, Ok, Err, option_and_then, slice_get, nat_eq, nat_lt, if◌then◌else◌}
 use Rattle.std.specs.Cmp.Lexicographic.{pointwise}
 use Rattle.std.specs.Option.{ok_or}
@@ -11,24 +11,24 @@ use Rattle.squawk_document.specs.declared.document_error.DocumentError.TheVarian
 
 -- ---- readings that may fail
 
--- one reading, and another one of what it gives
+-- one read, and another one of its result
 infixl 10 ◌>>=◌
 abbrev pub ◌>>=◌ : {A B : Type 0} → Result A DocumentError → (A → Result B DocumentError) → Result B DocumentError
 (Ok x) >>= f = f x
 (Err e) >>= f = Err e
 
--- an error that a reading ends in; of memory nothing is said
+-- a read ends in this error; nothing is said of memory
 abbrev pub Fails : {Y : Type 0} → DocumentError → Result Y DocumentError → Type 0
 Fails Json reading = reading ≡ Err Json
 Fails Shape reading = reading ≡ Err Shape
 Fails OutOfMemory reading = Unit {0}
 
--- what a function that takes an allocator answered, seen by view, is what the reading gives, unless memory was refused
+-- the result of a function that allocates, seen by view, is that of the read, unless an allocation failed
 abbrev pub Gives : {X Y : Type 0} → (X → Y) → Result X DocumentError → Result Y DocumentError → Type 0
 Gives view (Ok x) reading = reading ≡ Ok (view x)
 Gives view (Err e) reading = Fails e reading
 
--- what a function that takes none answered, seen by view, is what the reading gives: no memory is asked for, so none is refused
+-- the result of a function that doesn't allocate, seen by view, is that of the read
 abbrev pub GivesExactly : {X Y : Type 0} → (X → Y) → Result X DocumentError → Result Y DocumentError → Type 0
 GivesExactly view (Ok x) reading = reading ≡ Ok (view x)
 GivesExactly view (Err e) reading = reading ≡ Err e
@@ -44,7 +44,7 @@ abbrev pub data_list : Items → List Data
 data_list no_items = []
 data_list (item d ds) = d ∷ data_list ds
 
--- how many members an object has
+-- the number of members of an object
 abbrev pub members_len : Members → ℕ
 members_len no_members = 0
 members_len (member k d ms) = members_len ms + 1
@@ -53,7 +53,7 @@ members_len (member k d ms) = members_len ms + 1
 abbrev pub items_in : Data → Result (List Data) DocumentError
 items_in d = ok_or (as_array d) Shape >>= λ ds. Ok (data_list ds)
 
--- an object has as many members as this
+-- an object with n members
 abbrev pub has_members : ℕ → Data → Result Data DocumentError
 has_members n d = ok_or (as_object d) Shape >>= λ ms. if members_len ms == n then Ok d else Err Shape
 
@@ -83,10 +83,10 @@ abbrev pub bool_in : Data → Result Bool DocumentError
 bool_in d = ok_or (as_bool d) Shape
 
 -- whether a text is this one
-abbrev pub is_word : List ℕ → List ℕ → Bool
-is_word = pointwise nat_eq
+abbrev pub is_text : List ℕ → List ℕ → Bool
+is_text = pointwise nat_eq
 
--- a list of as many items as this
+-- a list of n items
 abbrev pub with_len : ℕ → List Data → Result (List Data) DocumentError
 with_len n ds = if length ds == n then Ok ds else Err Shape
 

@@ -25,7 +25,7 @@ name_of_call (Error message) = codes "error"
 name_of_call (ErrAndBump message) = codes "err_and_bump"
 name_of_call (ErrRecover message recovery) = codes "err_recover"
 
--- what stands after a call's name: the number of a marker or a node, a kind, the characters of a message, or a set of kinds
+-- an argument of a call: the number of a marker or a node, a kind, the characters of a message, or a set of kinds
 pub data Field : Type 0 where
   id_field : ℕ → Field
   kind_field : ℕ → Field

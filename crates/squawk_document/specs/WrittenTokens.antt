@@ -1,4 +1,4 @@
--- How raw tokens are written as JSON: each kind with its word and its fields, each once.
+-- How raw tokens are written as JSON: each kind with its spelling and its fields, each once.
 use Rattle.std.specs.Prelude.{ℕ, ◌≢◌, ◌≤◌, All, List, [], ◌∷◌, codes, map, Option, Some, None, IfSome}
 use Rattle.serde_json.specs.Data.{Data, null, boolean, number, unsigned, string, array}
 use Rattle.serde_json.specs.View.{items_of}
@@ -9,60 +9,60 @@ use Rattle.squawk_tokens.specs.declared.token.Token.{Token}
 use Rattle.squawk_tokens.specs.declared.token.TokenKind.{TokenKind}
 use Rattle.squawk_tokens.specs.declared.token.TokenKind.TheVariants.{Unknown, LineComment, BlockComment, Whitespace, Ident, QuotedIdent, PsqlCommand, PositionalParam, Literal, Semi, Comma, Dot, DotDot, OpenParen, CloseParen, OpenBracket, CloseBracket, OpenCurly, CloseCurly, At, Pound, Tilde, Question, Colon, Eq, Bang, Lt, Gt, Minus, And, Or, Plus, Star, Slash, Caret, Percent, Backtick, Eof}
 
--- ---- words
+-- ---- spellings
 
--- the word of a literal
-abbrev pub word_of_literal : LiteralKind → List ℕ
-word_of_literal (Int empty_int base trailing_junk_start) = codes "int"
-word_of_literal (Numeric empty_exponent_start trailing_junk_start) = codes "numeric"
-word_of_literal (Str terminated) = codes "str"
-word_of_literal (ByteStr terminated) = codes "byte_str"
-word_of_literal (BitStr terminated) = codes "bit_str"
-word_of_literal (EscStr terminated) = codes "esc_str"
-word_of_literal (NationalStr terminated) = codes "national_str"
-word_of_literal (UnicodeEscStr terminated) = codes "unicode_esc_str"
-word_of_literal (DollarQuotedString terminated) = codes "dollar_quoted_string"
+-- the spelling of a literal
+abbrev pub spelling_of_literal : LiteralKind → List ℕ
+spelling_of_literal (Int empty_int base trailing_junk_start) = codes "int"
+spelling_of_literal (Numeric empty_exponent_start trailing_junk_start) = codes "numeric"
+spelling_of_literal (Str terminated) = codes "str"
+spelling_of_literal (ByteStr terminated) = codes "byte_str"
+spelling_of_literal (BitStr terminated) = codes "bit_str"
+spelling_of_literal (EscStr terminated) = codes "esc_str"
+spelling_of_literal (NationalStr terminated) = codes "national_str"
+spelling_of_literal (UnicodeEscStr terminated) = codes "unicode_esc_str"
+spelling_of_literal (DollarQuotedString terminated) = codes "dollar_quoted_string"
 
--- the word of a kind
-abbrev pub word_of : TokenKind → List ℕ
-word_of Whitespace = codes "whitespace"
-word_of LineComment = codes "line_comment"
-word_of (BlockComment terminated) = codes "block_comment"
-word_of Ident = codes "ident"
-word_of (QuotedIdent terminated uescape) = codes "quoted_ident"
-word_of (Literal kind) = word_of_literal kind
-word_of (PositionalParam trailing_junk_start) = codes "positional_param"
-word_of (PsqlCommand ends_query) = codes "psql_command"
-word_of Semi = codes "semi"
-word_of Comma = codes "comma"
-word_of Dot = codes "dot"
-word_of DotDot = codes "dot_dot"
-word_of Colon = codes "colon"
-word_of OpenParen = codes "open_paren"
-word_of CloseParen = codes "close_paren"
-word_of OpenBracket = codes "open_bracket"
-word_of CloseBracket = codes "close_bracket"
-word_of OpenCurly = codes "open_curly"
-word_of CloseCurly = codes "close_curly"
-word_of Plus = codes "plus"
-word_of Minus = codes "minus"
-word_of Star = codes "star"
-word_of Slash = codes "slash"
-word_of Lt = codes "lt"
-word_of Gt = codes "gt"
-word_of Eq = codes "eq"
-word_of Tilde = codes "tilde"
-word_of Bang = codes "bang"
-word_of At = codes "at"
-word_of Pound = codes "pound"
-word_of Percent = codes "percent"
-word_of Caret = codes "caret"
-word_of And = codes "and"
-word_of Or = codes "or"
-word_of Backtick = codes "backtick"
-word_of Question = codes "question"
-word_of Unknown = codes "unknown"
-word_of Eof = codes "eof"
+-- the spelling of a kind
+abbrev pub spelling_of : TokenKind → List ℕ
+spelling_of Whitespace = codes "whitespace"
+spelling_of LineComment = codes "line_comment"
+spelling_of (BlockComment terminated) = codes "block_comment"
+spelling_of Ident = codes "ident"
+spelling_of (QuotedIdent terminated uescape) = codes "quoted_ident"
+spelling_of (Literal kind) = spelling_of_literal kind
+spelling_of (PositionalParam trailing_junk_start) = codes "positional_param"
+spelling_of (PsqlCommand ends_query) = codes "psql_command"
+spelling_of Semi = codes "semi"
+spelling_of Comma = codes "comma"
+spelling_of Dot = codes "dot"
+spelling_of DotDot = codes "dot_dot"
+spelling_of Colon = codes "colon"
+spelling_of OpenParen = codes "open_paren"
+spelling_of CloseParen = codes "close_paren"
+spelling_of OpenBracket = codes "open_bracket"
+spelling_of CloseBracket = codes "close_bracket"
+spelling_of OpenCurly = codes "open_curly"
+spelling_of CloseCurly = codes "close_curly"
+spelling_of Plus = codes "plus"
+spelling_of Minus = codes "minus"
+spelling_of Star = codes "star"
+spelling_of Slash = codes "slash"
+spelling_of Lt = codes "lt"
+spelling_of Gt = codes "gt"
+spelling_of Eq = codes "eq"
+spelling_of Tilde = codes "tilde"
+spelling_of Bang = codes "bang"
+spelling_of At = codes "at"
+spelling_of Pound = codes "pound"
+spelling_of Percent = codes "percent"
+spelling_of Caret = codes "caret"
+spelling_of And = codes "and"
+spelling_of Or = codes "or"
+spelling_of Backtick = codes "backtick"
+spelling_of Question = codes "question"
+spelling_of Unknown = codes "unknown"
+spelling_of Eof = codes "eof"
 
 -- ---- fields
 
@@ -70,15 +70,15 @@ word_of Eof = codes "eof"
 abbrev pub whole : ℕ → Data
 whole n = number (unsigned n)
 
--- a place, and null for none
-abbrev pub place : Option ℕ → Data
-place None = null
-place (Some n) = whole n
+-- a byte offset, or null for none
+abbrev pub offset : Option ℕ → Data
+offset None = null
+offset (Some n) = whole n
 
 -- the fields of a literal, in the order in which the literal has them
 abbrev pub fields_of_literal : LiteralKind → List Data
 fields_of_literal (Int empty_int base trailing_junk_start) = boolean empty_int ∷ whole (radix base) ∷ whole trailing_junk_start ∷ []
-fields_of_literal (Numeric empty_exponent_start trailing_junk_start) = place empty_exponent_start ∷ whole trailing_junk_start ∷ []
+fields_of_literal (Numeric empty_exponent_start trailing_junk_start) = offset empty_exponent_start ∷ whole trailing_junk_start ∷ []
 fields_of_literal (Str terminated) = boolean terminated ∷ []
 fields_of_literal (ByteStr terminated) = boolean terminated ∷ []
 fields_of_literal (BitStr terminated) = boolean terminated ∷ []
@@ -98,9 +98,9 @@ fields_of_kind kind = []
 
 -- ---- tokens
 
--- a word, a length and fields
+-- a spelling, a length and fields
 abbrev pub written_token : Token → Data
-written_token token = array (items_of (string (word_of token.kind) ∷ whole token.len ∷ fields_of_kind token.kind))
+written_token token = array (items_of (string (spelling_of token.kind) ∷ whole token.len ∷ fields_of_kind token.kind))
 
 -- a list of tokens
 abbrev pub written_tokens : List Token → Data

@@ -1,7 +1,7 @@
 //! The calls of a document.
 ghost use Rattle.std.specs.Prelude.{◌≡◌, map, IfOk, IfErr};
 ghost use Rattle.serde_json.specs.View.{view};
-ghost use Rattle.squawk_document.specs.Calls.{alone, argument, call_in, call_named, calls_in, complete_in, err_recover_in, extend_to_in, message_in};
+ghost use Rattle.squawk_document.specs.Calls.{no_arguments, argument, call_in, call_named, calls_in, complete_in, err_recover_in, extend_to_in, message_in};
 ghost use Rattle.squawk_document.specs.WrittenCalls.{AreCalls, AreNoCalls, IsCall, IsNoCall};
 ghost use Rattle.squawk_document.specs.declared.document_error.DocumentError.TheVariants.{Shape};
 ghost use Rattle.squawk_document.specs.Values.{Gives, GivesExactly, kind_number_in};
@@ -14,7 +14,7 @@ use squawk_parser::{SyntaxKind, Text};
 use squawk_script::Call;
 use std::alloc::Global;
 
-/// The calls that a list spells.
+/// Reads calls: an array of them.
 pub fn calls(alloc: Global, value: &Value) -> Result<Vec<Call>, DocumentError>
     ensures reads { Gives (λ v. v.items) result (calls_in (view value.now)) }
     ensures written { IfOk result (λ v. AreCalls v.items (view value.now)) }
@@ -28,7 +28,7 @@ pub fn calls(alloc: Global, value: &Value) -> Result<Vec<Call>, DocumentError>
     Ok(calls)
 }
 
-/// The call that a list spells: its name, and what it needs.
+/// Reads a call: an array of its name and its arguments.
 pub fn call(alloc: Global, value: &Value) -> Result<Call, DocumentError>
     ensures reads { Gives (λ c. c) result (call_in (view value.now)) }
     ensures written { IfOk result (λ c. IsCall c (view value.now)) }
@@ -39,12 +39,12 @@ pub fn call(alloc: Global, value: &Value) -> Result<Call, DocumentError>
     call_named(alloc, name, items)
 }
 
-/// The call of this name. The items are the name, and what the call needs.
+/// Reads the call of this name. The items are the name and the arguments.
 fn call_named(alloc: Global, name: &str, items: &[Value]) -> Result<Call, DocumentError>
     ensures { Gives (λ c. c) result (call_named name.now (map view items.now)) }
 {
     match name {
-        "start" => alone(items, Call::Start),
+        "start" => no_arguments(items, Call::Start),
         "complete" => complete(items),
         "abandon" => Ok(Call::Abandon {
             marker: value::u32_of(argument(items)?)?,
@@ -56,7 +56,7 @@ fn call_named(alloc: Global, name: &str, items: &[Value]) -> Result<Call, Docume
         "eat" => Ok(Call::Eat {
             kind: kind(argument(items)?)?,
         }),
-        "bump_any" => alone(items, Call::BumpAny),
+        "bump_any" => no_arguments(items, Call::BumpAny),
         "bump_remap" => Ok(Call::BumpRemap {
             kind: kind(argument(items)?)?,
         }),
@@ -74,9 +74,9 @@ fn call_named(alloc: Global, name: &str, items: &[Value]) -> Result<Call, Docume
     }
 }
 
-/// A call that needs nothing.
-fn alone(items: &[Value], call: Call) -> Result<Call, DocumentError>
-    ensures { GivesExactly (λ c. c) result (alone (map view items.now) call) }
+/// Reads a call without arguments.
+fn no_arguments(items: &[Value], call: Call) -> Result<Call, DocumentError>
+    ensures { GivesExactly (λ c. c) result (no_arguments (map view items.now) call) }
 {
     value::with_len(items, 1)?;
     Ok(call)
@@ -109,7 +109,7 @@ fn err_recover(alloc: Global, items: &[Value]) -> Result<Call, DocumentError>
     Ok(Call::ErrRecover { message, recovery })
 }
 
-/// The one item after a call's name.
+/// The only argument of a call.
 fn argument(items: &[Value]) -> Result<&Value, DocumentError>
     ensures { GivesExactly (λ v. view v.now) result (argument (map view items.now)) }
 {

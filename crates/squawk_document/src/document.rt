@@ -4,7 +4,7 @@ ghost use Rattle.serde_json.specs.View.{view};
 ghost use Rattle.squawk_kinds.specs.Kinds.{EOF};
 ghost use Rattle.squawk_kinds.specs.TokenSets.{has};
 ghost use Rattle.squawk_keywords.specs.KeywordAnswers.{classes_of, no_classes};
-ghost use Rattle.squawk_document.specs.Documents.{document_in, told};
+ghost use Rattle.squawk_document.specs.Documents.{document_in, content_of};
 ghost use Rattle.squawk_document.specs.Values.{Gives};
 
 use crate::document_error::DocumentError;
@@ -17,12 +17,12 @@ use squawk_keywords::Keywords;
 use squawk_parser::{SyntaxKind, Token, TokenSet};
 use std::alloc::Global;
 
-/// A document: a text with its raw tokens, and what it is parsed by.
+/// A document: a text with its raw tokens, and a vocabulary, words and a grammar to parse it with.
 #[derive(Drop)]
 pub struct Document<'v> {
     pub text: &'v str,
     pub tokens: Vec<Token>,
-    /// The kinds that an operator is made of.
+    /// The kinds of tokens that operators consist of.
     pub operator_first: TokenSet,
     /// Kinds with their names.
     pub names: Vec<(SyntaxKind, &'v str)>,
@@ -31,9 +31,9 @@ pub struct Document<'v> {
 }
 
 impl<'v> Document<'v> {
-    /// The document that a value is.
+    /// Reads a document from a JSON value.
     pub fn from_value(alloc: Global, value: &'v Value) -> Result<Document<'v>, DocumentError>
-        ensures document { Gives told result (document_in (view value.now)) }
+        ensures document { Gives content_of result (document_in (view value.now)) }
         ensures classes { IfOk result (λ d. classes_of d.vocabulary ≡ no_classes) }
         ensures no_end { IfOk result (λ d. has d.operator_first EOF ≡ false) }
     {

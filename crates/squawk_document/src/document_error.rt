@@ -1,18 +1,37 @@
-//! Why a document can't be read.
+//! The error of reading a document.
 
 use squawk_keywords::KeywordsError;
 use std::alloc::{AllocError, AllocFailed};
+use std::error::Error;
+use std::fmt;
 
 /// Why a document can't be read.
 #[derive(Clone, Copy, Debug, PartialEq, Eq)]
 pub enum DocumentError {
-    /// The bytes are no JSON.
+    /// The bytes aren't JSON in UTF-8.
     Json,
-    /// The JSON isn't the shape of a document.
+    /// The JSON doesn't have the shape of a document.
     Shape,
-    /// Memory was refused.
+    /// An allocation failed.
     OutOfMemory,
 }
+
+impl fmt::Display for DocumentError {
+    ghost use Rattle.std.specs.Prelude.{Some};
+    ghost use Rattle.squawk_document.specs.ErrorLines.{document_error_line};
+
+    ghost output = { λ error. Some (document_error_line error) };
+
+    fn fmt<W: fmt::Write>(&self, f: &mut fmt::Formatter<W>) -> fmt::Result {
+        match *self {
+            DocumentError::Json => write!(f, "json"),
+            DocumentError::Shape => write!(f, "shape"),
+            DocumentError::OutOfMemory => write!(f, "memory"),
+        }
+    }
+}
+
+impl Error for DocumentError {}
 
 impl From<AllocError> for DocumentError {
     ghost use Rattle.std.specs.Prelude.{◌≡◌};

@@ -1,4 +1,4 @@
-//! Sets of token kinds.
+//! Reads sets of token kinds.
 ghost use Rattle.std.specs.Prelude.{◌≡◌, ◌<◌, false, IfOk};
 ghost use Rattle.serde_json.specs.View.{view};
 ghost use Rattle.squawk_kinds.specs.Kinds.{EOF};
@@ -11,7 +11,7 @@ use crate::value;
 use serde_json::Value;
 use squawk_kinds::{SyntaxKind, TokenSet};
 
-/// The set of the kinds that a list has, each a token kind and at least `low`.
+/// Reads a set: an array of token kinds, each at least `low`.
 pub fn kind_set(value: &Value, low: u64) -> Result<TokenSet, DocumentError>
     ensures set { GivesExactly (λ set. set) result (set_in low (view value.now)) }
     ensures kinds { IfOk result (λ set. HasExactly set (kinds_in low (view value.now))) }

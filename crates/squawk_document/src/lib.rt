@@ -1,7 +1,6 @@
 //! Documents: a text with its raw tokens, words, a vocabulary and calls, as JSON.
 //!
-//! Of JSON this reads documents and nothing else. Each reading gives what its part has to be, or
-//! refuses it with a [`DocumentError`]:
+//! This reads documents and no other JSON. Whatever isn't one is a [`DocumentError`]:
 //!
 //! ```text
 //! let value = value::parse(alloc, bytes)?;

@@ -1,4 +1,4 @@
-//! The members of a document.
+//! Reads the members of a document.
 ghost use Rattle.serde_json.specs.View.{view};
 ghost use Rattle.squawk_document.specs.DocumentParts.{member_data, members_in};
 ghost use Rattle.squawk_document.specs.Values.{GivesExactly, string_in};
@@ -18,7 +18,7 @@ pub struct DocumentMembers<'v> {
     pub calls: &'v Value,
 }
 
-/// The members of a document: an object with these six and no other.
+/// Reads the members of a document: an object with these six and no other.
 pub fn members(document: &Value) -> Result<DocumentMembers<'_>, DocumentError>
     ensures { GivesExactly member_data result (members_in (view document.now)) }
 {
@@ -39,7 +39,7 @@ pub fn members(document: &Value) -> Result<DocumentMembers<'_>, DocumentError>
     })
 }
 
-/// The text of a document.
+/// Reads the text of a document.
 pub fn text(value: &Value) -> Result<&str, DocumentError>
     ensures { GivesExactly (λ s. s.now) result (string_in (view value.now)) }
 {

@@ -1,4 +1,4 @@
-//! The raw tokens of a document.
+//! Reads the raw tokens of a document.
 ghost use Rattle.std.specs.Prelude.{◌≡◌, map, IfOk, IfErr};
 ghost use Rattle.serde_json.specs.View.{view};
 ghost use Rattle.squawk_document.specs.declared.document_error.DocumentError.TheVariants.{Shape};
@@ -16,7 +16,7 @@ use serde_json::Value;
 use squawk_tokens::Token;
 use std::alloc::Global;
 
-/// The tokens of a list of lists.
+/// Reads raw tokens: an array of them.
 pub fn tokens(alloc: Global, value: &Value) -> Result<Vec<Token>, DocumentError>
     ensures reads { Gives (λ v. v.items) result (tokens_in (view value.now)) }
     ensures written { IfOk result (λ v. view value.now ≡ written_tokens v.items) }
@@ -30,7 +30,7 @@ pub fn tokens(alloc: Global, value: &Value) -> Result<Vec<Token>, DocumentError>
     Ok(tokens)
 }
 
-/// The token that a list spells.
+/// Reads a raw token: an array of its spelling, its length and its fields.
 pub fn token(value: &Value) -> Result<Token, DocumentError>
     ensures reads { GivesExactly (λ t. t) result (token_in (view value.now)) }
     ensures written { IfOk result (λ t. view value.now ≡ written_token t) }
@@ -39,15 +39,15 @@ pub fn token(value: &Value) -> Result<Token, DocumentError>
     spelled_token(items(value)?)
 }
 
-/// A spelling, a length and fields.
+/// Reads a raw token from its spelling, its length in bytes and its fields.
 fn spelled_token(items: &[Value]) -> Result<Token, DocumentError>
     ensures { GivesExactly (λ t. t) result (spelled_token (map view items.now)) }
 {
     match items {
         [spelling, len, fields @ ..] => {
-            let word = string(spelling)?;
+            let spelling = string(spelling)?;
             let len = u32_of(len)?;
-            let kind = kind(word, fields)?;
+            let kind = kind(spelling, fields)?;
             Ok(Token { kind, len })
         }
         _ => Err(DocumentError::Shape),

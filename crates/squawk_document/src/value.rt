@@ -1,4 +1,4 @@
-//! What is read of a JSON value.
+//! Reads of JSON values. All but [`parse`] return only the error `Shape`.
 ghost use Rattle.std.specs.Prelude.{◌≡◌, ℕ, map};
 ghost use Rattle.serde_json.specs.View.{view};
 ghost use Rattle.squawk_document.specs.Values.{Gives, GivesExactly, bool_in, has_members, item_at, items_in, member_in, number_in, pair_in, string_in, u32_in, json_value, with_len};
@@ -7,7 +7,7 @@ use crate::document_error::DocumentError;
 use serde_json::Value;
 use std::alloc::Global;
 
-/// The value that the bytes are.
+/// Parses bytes as JSON.
 pub fn parse(alloc: Global, input: &[u8]) -> Result<Value, DocumentError>
     ensures { Gives (λ v. view v) result (json_value input.now) }
 {
@@ -18,7 +18,7 @@ pub fn parse(alloc: Global, input: &[u8]) -> Result<Value, DocumentError>
     }
 }
 
-/// An object with as many members as this.
+/// Reads an object with `n` members. Returns the value.
 pub fn with_members(value: &Value, n: usize) -> Result<&Value, DocumentError>
     ensures { GivesExactly (λ v. view v.now) result (has_members n (view value.now)) }
 {
@@ -29,14 +29,14 @@ pub fn with_members(value: &Value, n: usize) -> Result<&Value, DocumentError>
     Ok(value)
 }
 
-/// The member of an object at a key.
+/// Reads the member of an object with this key.
 pub fn member<'v>(value: &'v Value, key: &str) -> Result<&'v Value, DocumentError>
     ensures { GivesExactly (λ v. view v.now) result (member_in key.now (view value.now)) }
 {
     value.get(key).ok_or(DocumentError::Shape)
 }
 
-/// The items of an array.
+/// Reads the items of an array.
 pub fn items(value: &Value) -> Result<&[Value], DocumentError>
     ensures { GivesExactly (λ vs. map view vs.now) result (items_in (view value.now)) }
 {
@@ -44,7 +44,7 @@ pub fn items(value: &Value) -> Result<&[Value], DocumentError>
     Ok(items.as_slice())
 }
 
-/// A list of as many items as this.
+/// Checks that there are `n` items.
 pub fn with_len(items: &[Value], n: usize) -> Result<&[Value], DocumentError>
     ensures { GivesExactly (λ vs. map view vs.now) result (with_len n (map view items.now)) }
 {
@@ -54,14 +54,14 @@ pub fn with_len(items: &[Value], n: usize) -> Result<&[Value], DocumentError>
     Ok(items)
 }
 
-/// Item i of a list.
+/// Reads item `i`.
 pub fn item(items: &[Value], i: usize) -> Result<&Value, DocumentError>
     ensures { GivesExactly (λ v. view v.now) result (item_at (map view items.now) i) }
 {
     items.get(i).ok_or(DocumentError::Shape)
 }
 
-/// The items of a list of two.
+/// Reads the items of an array of two.
 pub fn pair(value: &Value) -> Result<(&Value, &Value), DocumentError>
     ensures { GivesExactly (λ p. (view p.0.now, view p.1.now)) result (pair_in (view value.now)) }
 {
@@ -71,7 +71,7 @@ pub fn pair(value: &Value) -> Result<(&Value, &Value), DocumentError>
     Ok((first, second))
 }
 
-/// A whole number from `low` to `high`.
+/// Reads a whole number from `low` to `high`.
 pub fn number(value: &Value, low: u64, high: u64) -> Result<u64, DocumentError>
     ensures { GivesExactly (λ n. n) result (number_in low high (view value.now)) }
 {
@@ -81,7 +81,7 @@ pub fn number(value: &Value, low: u64, high: u64) -> Result<u64, DocumentError>
     }
 }
 
-/// A number of 32 bits.
+/// Reads a whole number of 32 bits.
 pub fn u32_of(value: &Value) -> Result<u32, DocumentError>
     ensures { GivesExactly (λ n. n) result (u32_in (view value.now)) }
 {
@@ -89,14 +89,14 @@ pub fn u32_of(value: &Value) -> Result<u32, DocumentError>
     Ok(n as u32)
 }
 
-/// A string.
+/// Reads a string.
 pub fn string(value: &Value) -> Result<&str, DocumentError>
     ensures { GivesExactly (λ s. s.now) result (string_in (view value.now)) }
 {
     value.as_str().ok_or(DocumentError::Shape)
 }
 
-/// True or false.
+/// Reads `true` or `false`.
 pub fn boolean(value: &Value) -> Result<bool, DocumentError>
     ensures { GivesExactly (λ b. b) result (bool_in (view value.now)) }
 {

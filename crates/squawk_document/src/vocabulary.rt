@@ -1,4 +1,4 @@
-//! The vocabulary of a document.
+//! Reads the vocabulary of a document.
 ghost use Rattle.std.specs.Prelude.{◌≡◌, IfOk};
 ghost use Rattle.serde_json.specs.View.{view};
 ghost use Rattle.squawk_kinds.specs.Kinds.{IsKeyword};
@@ -15,20 +15,26 @@ use squawk_keywords::Keywords;
 use squawk_kinds::SyntaxKind;
 use std::alloc::Global;
 
-/// The kind of a keyword: a token kind other than the end, an open marker, a comment and white
+/// The least kind that a keyword can have.
+const LEAST: u64 = SyntaxKind::ERROR.0 as u64;
+
+/// The greatest kind that a keyword can have.
+const GREATEST: u64 = SyntaxKind::WHITESPACE.0 as u64 - 1;
+
+/// Reads the kind of a keyword: a token kind other than the end, an open marker, a comment or white
 /// space.
 fn keyword_kind(value: &Value) -> Result<u16, DocumentError>
     ensures kind { GivesExactly (λ kind. kind) result (keyword_kind_in (view value.now)) }
     ensures keyword { IfOk result IsKeyword }
 {
-    let kind = value::number(value, 2, 638)? as u16;
+    let kind = value::number(value, LEAST, GREATEST)? as u16;
     if kind == u16::from(SyntaxKind::COMMENT) {
         return Err(DocumentError::Shape);
     }
     Ok(kind)
 }
 
-/// A word and its kind.
+/// Reads a word and its kind.
 fn keyword(value: &Value) -> Result<(&str, u16), DocumentError>
     ensures pair { GivesExactly (λ pair. (pair.0.now, pair.1)) result (keyword_in (view value.now)) }
     ensures keyword { IfOk result (λ pair. IsKeyword pair.1) }
@@ -39,7 +45,7 @@ fn keyword(value: &Value) -> Result<(&str, u16), DocumentError>
     Ok((word, kind))
 }
 
-/// The words of a list with their kinds.
+/// Reads an array of words with their kinds.
 fn keyword_list<'v>(
     alloc: Global,
     value: &'v Value,
@@ -56,8 +62,9 @@ fn keyword_list<'v>(
     Ok(pairs)
 }
 
-/// The vocabulary of a document: an object with these two members and no other. Words are compared
-/// byte for byte.
+/// Reads a vocabulary: an object with these two members and no other.
+///
+/// Words are compared byte for byte.
 pub fn vocabulary<'v>(alloc: Global, value: &'v Value) -> Result<Keywords<'v>, DocumentError>
     ensures answers { Gives answers result (answered (vocabulary_in (view value.now))) }
     ensures classes { IfOk result (λ v. classes_of v ≡ no_classes) }

@@ -1,4 +1,4 @@
-//! What a document tells about the kinds of its grammar.
+//! Reads the words of a document: the operators of its grammar, and the names of its kinds.
 ghost use Rattle.std.specs.Prelude.{◌≡◌, false, map, IfOk};
 ghost use Rattle.serde_json.specs.View.{view};
 ghost use Rattle.squawk_kinds.specs.Kinds.{EOF};
@@ -14,6 +14,9 @@ use serde_json::Value;
 use squawk_kinds::{SyntaxKind, TokenSet};
 use std::alloc::Global;
 
+/// The greatest number of a kind.
+const GREATEST: u64 = u16::MAX as u64;
+
 /// The members of a document's words.
 #[derive(Clone, Copy)]
 pub struct WordMembers<'v> {
@@ -21,7 +24,7 @@ pub struct WordMembers<'v> {
     pub names: &'v Value,
 }
 
-/// The members of a document's words: an object with these two and no other.
+/// Reads the members of a document's words: an object with these two and no other.
 pub fn members(words: &Value) -> Result<WordMembers<'_>, DocumentError>
     ensures { GivesExactly word_data result (word_members_in (view words.now)) }
 {
@@ -34,7 +37,7 @@ pub fn members(words: &Value) -> Result<WordMembers<'_>, DocumentError>
     })
 }
 
-/// The set of the kinds that an operator is made of: token kinds other than the end.
+/// Reads the set of the kinds that operators consist of: token kinds other than the end.
 pub fn operator_first(value: &Value) -> Result<TokenSet, DocumentError>
     ensures set { GivesExactly (λ set. set) result (set_in 1 (view value.now)) }
     ensures kinds { IfOk result (λ set. HasExactly set (kinds_in 1 (view value.now))) }
@@ -43,17 +46,17 @@ pub fn operator_first(value: &Value) -> Result<TokenSet, DocumentError>
     kind_set(value, 1)
 }
 
-/// A kind and its name.
+/// Reads a kind and its name.
 fn name(value: &Value) -> Result<(u16, &str), DocumentError>
     ensures { GivesExactly (λ pair. (pair.0, pair.1.now)) result (kind_and_name_in (view value.now)) }
 {
     let (kind, name) = value::pair(value)?;
-    let kind = value::number(kind, 0, 65535)?;
+    let kind = value::number(kind, 0, GREATEST)?;
     let name = value::string(name)?;
     Ok((kind as u16, name))
 }
 
-/// The names of kinds.
+/// Reads an array of kinds with their names.
 pub fn names<'v>(
     alloc: Global,
     value: &'v Value,

@@ -5,7 +5,7 @@ use Rattle.std.proofs.lemmas.Bool.{cases_lt, le-ltb, lt-leb, lt-ltb}
 use Rattle.std.specs.Char.{to_ascii_lowercase}
 use Rattle.std.specs.Int.{from_le_bytes, w32}
 use Rattle.squawk_keywords.specs.LetterCase.{compared, lowered}
-use Rattle.squawk_keywords.specs.TextKeys.{AreBytes, both, key_of, short_key, word_at}
+use Rattle.squawk_keywords.specs.TextKeys.{AreBytes, both, key_of, short_key, four_bytes_at}
 
 -- ---- bytes
 
@@ -72,27 +72,27 @@ lowered-four n a b c d high ha hb hc hd =
 
 -- four bytes of a text in lower case, and what stands above them
 lowered-word : (n : ℕ) (text : List ℕ) (at high : ℕ) → AreBytes text
-    → lowered (suc (suc (suc (suc n)))) (word_at text at + 2 ^ 32 * high) ≡ word_at (map to_ascii_lowercase text) at + 2 ^ 32 * lowered n high
+    → lowered (suc (suc (suc (suc n)))) (four_bytes_at text at + 2 ^ 32 * high) ≡ four_bytes_at (map to_ascii_lowercase text) at + 2 ^ 32 * lowered n high
 lowered-word n text at high bytes =
     let a = get_or text at 0 in
     let b = get_or text (at + 1) 0 in
     let c = get_or text (at + 2) 0 in
     let d = get_or text (at + 3) 0 in
-    let each : word_at (map to_ascii_lowercase text) at ≡ from_le_bytes w32 (to_ascii_lowercase a ∷ to_ascii_lowercase b ∷ to_ascii_lowercase c ∷ to_ascii_lowercase d ∷ []) =
+    let each : four_bytes_at (map to_ascii_lowercase text) at ≡ from_le_bytes w32 (to_ascii_lowercase a ∷ to_ascii_lowercase b ∷ to_ascii_lowercase c ∷ to_ascii_lowercase d ∷ []) =
     λ i. from_le_bytes w32 (get_or-lower text at i ∷ get_or-lower text (at + 1) i ∷ get_or-lower text (at + 2) i ∷ get_or-lower text (at + 3) i ∷ []) in
     ap (λ word. lowered (suc (suc (suc (suc n)))) (word + 2 ^ 32 * high)) (from_le_bytes-four a b c d)
     ∙ lowered-four n a b c d high (bytes at) (bytes (at + 1)) (bytes (at + 2)) (bytes (at + 3))
-    ∙ ap (λ word. word + 2 ^ 32 * lowered n high)
+    ∙ ap (λ four. four + 2 ^ 32 * lowered n high)
     (sym (from_le_bytes-four (to_ascii_lowercase a) (to_ascii_lowercase b) (to_ascii_lowercase c) (to_ascii_lowercase d))
     ∙ sym each)
 
--- two words
+-- two numbers of 32 bits
 lowered-both : (text : List ℕ) (at next : ℕ) → AreBytes text
-    → lowered 8 (both (word_at text at) (word_at text next)) ≡ both (word_at (map to_ascii_lowercase text) at) (word_at (map to_ascii_lowercase text) next)
+    → lowered 8 (both (four_bytes_at text at) (four_bytes_at text next)) ≡ both (four_bytes_at (map to_ascii_lowercase text) at) (four_bytes_at (map to_ascii_lowercase text) next)
 lowered-both text at next bytes =
-    let alone : word_at text next ≡ word_at text next + 2 ^ 32 * 0 = omega arith in
-    lowered-word 4 text at (word_at text next) bytes
-    ∙ ap (both (word_at (map to_ascii_lowercase text) at)) (ap (lowered 4) alone ∙ lowered-word 0 text next 0 bytes ∙ ap (λ n. word_at (map to_ascii_lowercase text) next + 2 ^ 32 * n) (lowered-none 0) ∙ omega arith)
+    let alone : four_bytes_at text next ≡ four_bytes_at text next + 2 ^ 32 * 0 = omega arith in
+    lowered-word 4 text at (four_bytes_at text next) bytes
+    ∙ ap (both (four_bytes_at (map to_ascii_lowercase text) at)) (ap (lowered 4) alone ∙ lowered-word 0 text next 0 bytes ∙ ap (λ n. four_bytes_at (map to_ascii_lowercase text) next + 2 ^ 32 * n) (lowered-none 0) ∙ omega arith)
 
 abbrev lowered_key : ℕ × ℕ → ℕ × ℕ
 lowered_key key = (lowered 8 key.0, lowered 8 key.1)

@@ -7,7 +7,7 @@ pub or_none : (o : Option ℕ) → option_or o None ≡ o
 or_none None = refl
 or_none (Some x) = refl
 
--- what stands at a place
+-- what stands at an index
 pub slice_get-at : {X : Type 0} (xs : List X) (at : ℕ) (x : X) → at < length xs → ((d : X) → x ≡ get_or xs at d) → slice_get xs at ≡ Some x
 slice_get-at [] at x within is = absurd (omega arith)
 slice_get-at (first ∷ xs) zero x within is = ap Some (sym (is first))

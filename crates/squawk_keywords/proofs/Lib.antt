@@ -7,4 +7,4 @@ mod LowerCaseLemmas
 mod TextKeyLemmas
 mod WordSlotLemmas
 mod TakenSlotLemmas
-mod TellLemmas
+mod AgreeLemmas

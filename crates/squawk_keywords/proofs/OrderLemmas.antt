@@ -26,7 +26,7 @@ order_from-end (suc i) (a ∷ one) (b ∷ other) is = order_from-end i one other
     lengths : (m n : ℕ) → nat_cmp m n ≡ nat_cmp (suc m) (suc n)
     lengths m n = grind (arith, nat_tests)
 
--- ---- what an order tells
+-- ---- what an order says
 
 -- texts are equal where they are ordered so
 pub is_eq-same : (one other : List ℕ) → is_eq (slice_cmp nat_cmp one other) ≡ bytes_eq one other

@@ -140,7 +140,7 @@ module _ (ignores_case : Bool) where
     kind_by-none [] none = refl
     kind_by-none (word ∷ words) none = rw (none 0 word (omega arith)) (kind_by-none words (λ k d lt. none (suc k) d (omega arith)))
 
-    -- what is found at a place
+    -- what is found at an index
     abbrev pub found : Option Word → Option ℕ
     found None = None
     found (Some word) = cond (is_word word) (Some word.1) None
@@ -178,7 +178,7 @@ then_some-cond false kind = refl
 
 module _ (ignores_case : Bool) (words : List Word) (text : List ℕ) (at : ℕ) (ordered : IsInOrder ignores_case words)
     (point : IsPartitionPoint (λ word. is_before ignores_case text word ≡ true) (λ word. is_before ignores_case text word ≡ false) words at) where
-  -- what the word at the place tells
+  -- the kind of the word at the index
   pub kind_by-at : (word : Word) (test : Bool) → at < length words → ((d : Word) → word ≡ get_or words at d)
       → test ≡ is_eq (slice_cmp nat_cmp (compared ignores_case word.0.now) (compared ignores_case text)) → then_some test word.1 ≡ kind_by ignores_case (pairs_of words) text
   kind_by-at word test within is tests =
@@ -187,6 +187,6 @@ module _ (ignores_case : Bool) (words : List Word) (text : List ℕ) (at : ℕ) 
       ∙ ap (found ignores_case text) (sym (slice_get-at words at word within is))
       ∙ sym (kind_by-found ignores_case words at text ordered point)
 
-  -- where no word is at the place, the text is none
+  -- if no word is at the index, the text is none
   pub kind_by-past : length words ≤ at → None ≡ kind_by ignores_case (pairs_of words) text
   kind_by-past le = ap (found ignores_case text) (sym (slice_get_past words at le)) ∙ sym (kind_by-found ignores_case words at text ordered point)

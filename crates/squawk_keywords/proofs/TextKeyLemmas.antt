@@ -8,14 +8,14 @@ use Rattle.std.proofs.lemmas.Nat.{le_bytes_4}
 use Rattle.std.proofs.lemmas.Slice.Eq.{bytes_eq-Decides}
 use Rattle.std.specs.Int.{from_le_bytes, to_le_bytes, w32}
 use Rattle.std.specs.Str.{bytes_eq}
-use Rattle.squawk_keywords.specs.TextKeys.{AreBytes, IsOfText, both, key_of, short_key, text_of, word_at}
+use Rattle.squawk_keywords.specs.TextKeys.{AreBytes, IsOfText, both, key_of, short_key, text_of, four_bytes_at}
 
--- ---- the key that are read
+-- ---- the key that is read
 
-pub key-4 : (bytes : List ℕ) (one two three four : ℕ) → 4 ≤ length bytes → one ≡ word_at bytes 0 → two ≡ word_at bytes (min (length bytes - 4) 4)
-    → three ≡ word_at bytes (min (length bytes - 4) 8) → four ≡ word_at bytes (length bytes - 4) → (both one two, both three four) ≡ key_of bytes
+pub key-4 : (bytes : List ℕ) (one two three four : ℕ) → 4 ≤ length bytes → one ≡ four_bytes_at bytes 0 → two ≡ four_bytes_at bytes (min (length bytes - 4) 4)
+    → three ≡ four_bytes_at bytes (min (length bytes - 4) 8) → four ≡ four_bytes_at bytes (length bytes - 4) → (both one two, both three four) ≡ key_of bytes
 unfolding key_of
-key-4 bytes one two three four long first next third last = rw (le-leb 4 (length bytes) long) (ap (λ n. (n, both three four)) (ap (λ n. both n two) first ∙ ap (both (word_at bytes 0)) next) ∙ ap (λ n. (both (word_at bytes 0) (word_at bytes (min (length bytes - 4) 4)), n)) (ap (λ n. both n four) third ∙ ap (both (word_at bytes (min (length bytes - 4) 8))) last))
+key-4 bytes one two three four long first next third last = rw (le-leb 4 (length bytes) long) (ap (λ n. (n, both three four)) (ap (λ n. both n two) first ∙ ap (both (four_bytes_at bytes 0)) next) ∙ ap (λ n. (both (four_bytes_at bytes 0) (four_bytes_at bytes (min (length bytes - 4) 4)), n)) (ap (λ n. both n four) third ∙ ap (both (four_bytes_at bytes (min (length bytes - 4) 8))) last))
 
 key-few : (bytes : List ℕ) → length bytes < 4 → key_of bytes ≡ short_key bytes
 unfolding key_of
@@ -82,16 +82,16 @@ four_at (a ∷ b ∷ []) zero within = absurd (omega (arith, within))
 four_at (a ∷ b ∷ c ∷ []) zero within = absurd (omega (arith, within))
 four_at (a ∷ b ∷ c ∷ d ∷ text) zero within = refl
 
--- a word is of four bytes
-word-back : (text : List ℕ) (at : ℕ) → AreBytes text → at + 4 ≤ length text → to_le_bytes w32 (word_at text at) ≡ take 4 (drop at text)
-word-back text at bytes within =
+-- a number is of four bytes
+four_bytes-back : (text : List ℕ) (at : ℕ) → AreBytes text → at + 4 ≤ length text → to_le_bytes w32 (four_bytes_at text at) ≡ take 4 (drop at text)
+four_bytes-back text at bytes within =
     let four = get_or text at 0 ∷ get_or text (at + 1) 0 ∷ get_or text (at + 2) 0 ∷ get_or text (at + 3) 0 ∷ [] in
     le_bytes_4 four _ refl (four-bytes _ _ _ _ (bytes at) (bytes (at + 1)) (bytes (at + 2)) (bytes (at + 3))) refl ∙ sym (four_at text at within)
 
-word-fits : (text : List ℕ) (at : ℕ) → AreBytes text → word_at text at < 2 ^ 32
-word-fits text at bytes = omega (arith, bytes at, bytes (at + 1), bytes (at + 2), bytes (at + 3))
+four_bytes-fits : (text : List ℕ) (at : ℕ) → AreBytes text → four_bytes_at text at < 2 ^ 32
+four_bytes-fits text at bytes = omega (arith, bytes at, bytes (at + 1), bytes (at + 2), bytes (at + 3))
 
--- of the words at 0, 4 and 8 those that are needed are there
+-- of the bytes from 0, 4 and 8 on those that are needed are there
 front : (text : List ℕ) → 4 ≤ length text → length text ≤ 16
     → take (length text - 4) (take 4 (drop 0 text) ++ take 4 (drop (min (length text - 4) 4) text) ++ take 4 (drop (min (length text - 4) 8) text)) ≡ take (length text - 4) text
 front text long short =
@@ -118,19 +118,19 @@ front text long short =
 
 back-4 : (text : List ℕ) → AreBytes text → 4 ≤ length text → length text ≤ 16 → text_of (length text) (key_of text) ≡ text
 back-4 text bytes long short =
-    let one = word_at text 0 in
-    let two = word_at text (min (length text - 4) 4) in
-    let three = word_at text (min (length text - 4) 8) in
-    let four = word_at text (length text - 4) in
+    let one = four_bytes_at text 0 in
+    let two = four_bytes_at text (min (length text - 4) 4) in
+    let three = four_bytes_at text (min (length text - 4) 8) in
+    let four = four_bytes_at text (length text - 4) in
     let key : key_of text ≡ (both one two, both three four) = sym (key-4 text one two three four long refl refl refl refl) in
     let last : length text - (length text - 4) ≡ 4 = omega arith in
     let tail : take 4 (drop (length text - 4) text) ≡ drop (length text - 4) text = ap (λ n. take n (drop (length text - 4) text)) (sym last) ∙ take_rest text (length text - 4) in
-    ap (text_of (length text)) key ∙ text_of-4 (length text) one two three four long (word-fits text 0 bytes) (word-fits text (min (length text - 4) 8) bytes)
-    ∙ ap (λ xs. take (length text - 4) (xs ++ to_le_bytes w32 two ++ to_le_bytes w32 three) ++ to_le_bytes w32 four) (word-back text 0 bytes (omega arith))
-    ∙ ap (λ xs. take (length text - 4) (take 4 (drop 0 text) ++ xs ++ to_le_bytes w32 three) ++ to_le_bytes w32 four) (word-back text (min (length text - 4) 4) bytes (omega arith))
-    ∙ ap (λ xs. take (length text - 4) (take 4 (drop 0 text) ++ take 4 (drop (min (length text - 4) 4) text) ++ xs) ++ to_le_bytes w32 four) (word-back text (min (length text - 4) 8) bytes (omega arith))
+    ap (text_of (length text)) key ∙ text_of-4 (length text) one two three four long (four_bytes-fits text 0 bytes) (four_bytes-fits text (min (length text - 4) 8) bytes)
+    ∙ ap (λ xs. take (length text - 4) (xs ++ to_le_bytes w32 two ++ to_le_bytes w32 three) ++ to_le_bytes w32 four) (four_bytes-back text 0 bytes (omega arith))
+    ∙ ap (λ xs. take (length text - 4) (take 4 (drop 0 text) ++ xs ++ to_le_bytes w32 three) ++ to_le_bytes w32 four) (four_bytes-back text (min (length text - 4) 4) bytes (omega arith))
+    ∙ ap (λ xs. take (length text - 4) (take 4 (drop 0 text) ++ take 4 (drop (min (length text - 4) 4) text) ++ xs) ++ to_le_bytes w32 four) (four_bytes-back text (min (length text - 4) 8) bytes (omega arith))
     ∙ ap (λ xs. xs ++ to_le_bytes w32 four) (front text long short)
-    ∙ ap (λ xs. take (length text - 4) text ++ xs) (word-back text (length text - 4) bytes (omega arith) ∙ tail)
+    ∙ ap (λ xs. take (length text - 4) text ++ xs) (four_bytes-back text (length text - 4) bytes (omega arith) ∙ tail)
     ∙ take-append-drop (length text - 4) text
 
 -- the text of its key is the text
@@ -158,7 +158,7 @@ differ xs ys ne =
       | inr other ↦ other
     ]
 
--- with its key, the length tells
+-- with the same key, the length decides
 same-key : (len : ℕ) (key : ℕ × ℕ) (text : List ℕ) → IsOfText len key → AreBytes text → key ≡ key_of text → (len == length text) ≡ bytes_eq (text_of len key) text
 same-key len key text are bytes is =
     elim (cases_eq len (length text)) [
@@ -169,11 +169,11 @@ same-key len key text are bytes is =
       | inr ne ↦ ne_eqb len (length text) ne ∙ sym (differ _ _ (λ e. ne (sym are.long ∙ ap length e)))
     ]
 
--- other key are of another text
+-- another key is of another text
 other-key : (len : ℕ) (key of : ℕ × ℕ) (text : List ℕ) → IsOfText len key → of ≡ key_of text → (key ≡ of → ⊥) → bytes_eq (text_of len key) text ≡ false
 other-key len key of text are is ne = differ _ _ (λ e. ne (sym are.are ∙ ap key_of e ∙ sym is))
 
--- both tell
+-- both decide
 pub is-text : (len low high : ℕ) (of : ℕ × ℕ) (text : List ℕ) → IsOfText len (low, high) → AreBytes text → of ≡ key_of text
     → ((low == of.0) && (high == of.1) && (len == length text)) ≡ bytes_eq (text_of len (low, high)) text
 is-text len low high of text are bytes is =

@@ -1,4 +1,4 @@
--- What a vocabulary of lists of words answers.
+-- What the calls of a vocabulary of lists of words return.
 use Rattle.std.specs.Prelude.{◌≡◌, ℕ, List, Result, Ok, Err}
 use Rattle.squawk_kinds.specs.Keywords.{Keywords as KindsOfTexts}
 use Rattle.squawk_kinds.specs.TokenSets.{has, no_kinds}
@@ -21,7 +21,7 @@ kind_in list = kind_by list.ignores_case (pairs_of list.words.items)
 abbrev pub keyword_of : Keywords → KindsOfTexts
 keyword_of v = kind_in v.keywords
 
--- the keyword that a text is where the grammar asks for one
+-- the keyword that a text is where the grammar requires it
 abbrev pub contextual_keyword_of : Keywords → KindsOfTexts
 contextual_keyword_of v = kind_in v.contextual
 
@@ -49,7 +49,7 @@ no_classes = record {
 
 -- ---- vocabularies of lists
 
--- a vocabulary answers by these two lists, whose words have kinds in one way, and has no classes
+-- a vocabulary is that of these two lists, whose words have kinds in one way, and has no classes
 pub record AnswersBy (kind_of : List (List ℕ × ℕ) → KindsOfTexts) (keywords contextual : List (List ℕ × ℕ)) (v : Keywords) : Type 0 where
   pub keyword : (text : List ℕ) → keyword_of v text ≡ kind_of keywords text
   pub contextual_keyword : (text : List ℕ) → contextual_keyword_of v text ≡ kind_of contextual text
@@ -57,14 +57,14 @@ pub record AnswersBy (kind_of : List (List ℕ × ℕ) → KindsOfTexts) (keywor
   pub contextual_keywords : (kind : ℕ) → has (contextual_keywords_of v) kind ≡ has_kind contextual kind
   pub classes : classes_of v ≡ no_classes
 
--- what is made of two lists: a vocabulary that answers by them, if each word has a keyword's kind; or the first that has none
+-- the result of making a vocabulary of two lists: it is theirs if each word has a keyword's kind; or the first that has none
 abbrev pub IsMadeOf : (List (List ℕ × ℕ) → KindsOfTexts) → List (List ℕ × ℕ) → List (List ℕ × ℕ) → Result Keywords KeywordsError → Type 0
 IsMadeOf kind_of keywords contextual (Ok v) = AreKeywords keywords × AreKeywords contextual × AnswersBy kind_of keywords contextual v
 IsMadeOf kind_of keywords contextual (Err (Keyword i)) = IsFirstOther keywords i
 IsMadeOf kind_of keywords contextual (Err (Contextual i)) = AreKeywords keywords × IsFirstOther contextual i
 IsMadeOf kind_of keywords contextual (Err OutOfMemory) = AreKeywords keywords × AreKeywords contextual
 
--- a vocabulary answers as it did, and has these classes
+-- a vocabulary is as before, but has these classes
 pub record HasClasses (old : Keywords) (given : Classes) (new : Keywords) : Type 0 where
   pub keyword : keyword_of new ≡ keyword_of old
   pub contextual_keyword : contextual_keyword_of new ≡ contextual_keyword_of old

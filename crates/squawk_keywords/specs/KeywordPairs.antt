@@ -8,7 +8,7 @@ use Rattle.squawk_kinds.specs.Keywords.{Keywords}
 use Rattle.squawk_kinds.specs.Kinds.{IsKeyword}
 use denote.Ref.{Bor}
 
--- words as code has them, with their bytes
+-- words as the code has them, as their bytes
 abbrev pub pairs_of : List (Bor (List ℕ) × ℕ) → List (List ℕ × ℕ)
 pairs_of = map (λ pair. (pair.0.now, pair.1))
 
@@ -20,7 +20,7 @@ kind_of_word pairs text = lookup (λ word. bytes_eq word text) pairs
 abbrev pub kind_of_word_ignoring_case : List (List ℕ × ℕ) → Keywords
 kind_of_word_ignoring_case pairs text = lookup (λ word. bytes_eq (map to_ascii_lowercase word) (map to_ascii_lowercase text)) pairs
 
--- which kinds have a word
+-- whether a word has this kind
 abbrev pub has_kind : List (List ℕ × ℕ) → ℕ → Bool
 has_kind pairs kind = list_any (λ pair. pair.1 == kind) pairs
 

@@ -1,4 +1,4 @@
--- Texts as they are compared, with or without regard to case. Only the look-up of words speaks of it.
+-- Texts as they are compared, with or without regard to case. Only the look-up of words uses it.
 use Rattle.std.specs.Prelude.{ℕ, ◌+◌, ◌*◌, ◌/◌, ◌%◌, zero, suc, Bool, cond, List, map}
 use Rattle.std.specs.Char.{to_ascii_lowercase}
 use Rattle.std.specs.Cmp.Lexicographic.{slice_cmp}
@@ -17,7 +17,7 @@ compared ignores_case text = cond ignores_case (map to_ascii_lowercase text) tex
 abbrev pub kind_by : Bool → List (List ℕ × ℕ) → Keywords
 kind_by ignores_case pairs text = lookup (λ word. bytes_eq (compared ignores_case word) (compared ignores_case text)) pairs
 
--- words ascend as they are compared
+-- words are sorted as they are compared
 abbrev pub IsInOrder : Bool → List (Bor (List ℕ) × ℕ) → Type 0
 IsInOrder ignores_case = IsSortedBy (λ one other. is_lt (slice_cmp nat_cmp (compared ignores_case one.0.now) (compared ignores_case other.0.now)))
 

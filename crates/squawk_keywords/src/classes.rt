@@ -15,7 +15,7 @@ pub struct Classes {
 }
 
 impl Classes {
-    /// No kind is in a class.
+    /// The classes without a kind.
     pub const EMPTY: Classes = Classes {
         operators: TokenSet::EMPTY,
         punctuation: TokenSet::EMPTY,

@@ -1,4 +1,4 @@
-//! A short word with its kind.
+//! A short word with its kind. What is inlined runs at each look-up.
 ghost use Rattle.std.specs.Prelude.{◌≡◌, ℕ, ◌<◌, ◌≤◌, List, length};
 ghost use Rattle.std.specs.Str.{bytes_eq};
 ghost use Rattle.squawk_keywords.specs.LetterCase.{compared};
@@ -8,7 +8,7 @@ use crate::text_key::key;
 use squawk_kinds::SyntaxKind;
 use std::marker::Model;
 
-/// A word of at most 16 bytes, as it is compared, with the kind of a keyword. It takes 24 bytes.
+/// A word of at most 16 bytes, as it is compared, and the kind of its keyword. It takes 24 bytes.
 #[derive(Drop)]
 pub struct KeptWord {
     low: u64,
@@ -29,10 +29,10 @@ impl Model for KeptWord {
 }
 
 impl KeptWord {
-    /// How many bytes a word has at most.
+    /// The greatest length of a word, in bytes.
     pub const LONGEST: usize = 16;
 
-    /// This word with this kind.
+    /// Keeps this word with this kind.
     pub fn new(ignores_case: bool, word: &str, kind: SyntaxKind) -> KeptWord
         requires { length word.now ≤ 16 }
         ensures { result ≡ (compared ignores_case word.now, kind) }
@@ -46,7 +46,7 @@ impl KeptWord {
         }
     }
 
-    /// Whether a text of this key and this length is the word. It takes no jump.
+    /// Whether a text with this key and length is the word. It has no branch.
     #[inline(always)]
     pub fn is(&self, key: (u64, u64), len: usize) -> bool
         ensures { (text : List ℕ) → AreBytes text → key ≡ key_of text → len ≡ length text → result ≡ bytes_eq self.now.0 text }

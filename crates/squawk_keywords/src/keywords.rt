@@ -11,13 +11,12 @@ use crate::word_list::WordList;
 use squawk_kinds::{SyntaxKind, TokenSet, Vocabulary};
 use std::alloc::Global;
 
-/// A vocabulary of two lists of words: the keywords, and those that are keywords only where the
-/// grammar asks for them.
+/// A vocabulary of two lists of words: the keywords, and the contextual keywords.
 ///
-/// Each word has a kind; of a word that stands in its list twice the first kind counts. The words are
-/// borrowed: where they are constants, `'k` is `'static`. Whatever the words are, making the vocabulary
-/// takes a number of comparisons that grows like n log n, and looking a text up one like log n; most
-/// texts of up to 16 bytes are told by one look into a table of 8 kilobytes.
+/// A contextual keyword is a keyword only where the grammar requires it. Each word has a kind; if a list
+/// has a word twice, its first kind counts. The words are borrowed: if they are constants, `'k` is
+/// `'static`. For n words, whatever they are, making the vocabulary takes O(n log n) comparisons and a
+/// look-up O(log n). Most texts of up to 16 bytes need one read of a hash table of 8 kilobytes.
 #[derive(Drop)]
 pub struct Keywords<'k> {
     keywords: WordList<'k>,
@@ -26,8 +25,9 @@ pub struct Keywords<'k> {
 }
 
 impl<'k> Keywords<'k> {
-    /// The vocabulary of these keywords and contextual keywords. A text is a word that has the same
-    /// bytes. The classes are empty.
+    /// Makes the vocabulary of these keywords and contextual keywords, with empty classes.
+    ///
+    /// A text is a word if it has the same bytes.
     pub fn new(
         alloc: Global,
         keywords: &[(&'k str, SyntaxKind)],
@@ -38,8 +38,9 @@ impl<'k> Keywords<'k> {
         Keywords::of_lists(alloc, false, keywords, contextual)
     }
 
-    /// The same without regard to ASCII case: a text is a word that has the same bytes once both are
-    /// in lower case.
+    /// Makes the vocabulary of these words without regard to ASCII case, with empty classes.
+    ///
+    /// A text is a word if both have the same bytes in ASCII lower case.
     pub fn ignoring_case(
         alloc: Global,
         keywords: &[(&'k str, SyntaxKind)],
@@ -86,7 +87,7 @@ impl<'k> Keywords<'k> {
     }
 }
 
-/// The first word whose kind can be no keyword's.
+/// The index of the first word whose kind can't be a keyword's.
 fn first_other(pairs: &[(&str, SyntaxKind)]) -> Option<usize>
     ensures { MatchOption result (AreKeywords (pairs_of pairs.now)) (IsFirstOther (pairs_of pairs.now)) }
 {
@@ -98,8 +99,8 @@ fn first_other(pairs: &[(&str, SyntaxKind)]) -> Option<usize>
     None
 }
 
-/// Whether a kind can be a keyword's: a token kind other than the end, an open marker, a comment and
-/// white space.
+/// Whether a kind can be a keyword's: a token kind other than the end, an open marker, a comment or white
+/// space.
 fn is_keyword(kind: SyntaxKind) -> bool
     ensures { IsTrue result ↔ IsKeyword kind }
 {

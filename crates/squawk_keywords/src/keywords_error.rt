@@ -1,17 +1,17 @@
-//! Why lists of words make no vocabulary.
+//! The error of making a vocabulary.
 
 use std::alloc::AllocError;
 use std::error::Error;
 use std::fmt;
 
-/// Why lists of words make no vocabulary.
+/// Why no vocabulary can be made of two lists. If several apply, the first one listed is returned.
 #[derive(Clone, Copy, Debug, PartialEq, Eq)]
 pub enum KeywordsError {
-    /// The kind of the keyword with this index can be no keyword's.
+    /// The keyword at this index is the first whose kind can't be a keyword's.
     Keyword(usize),
-    /// The kind of the contextual keyword with this index can be no keyword's.
+    /// The contextual keyword at this index is the first whose kind can't be a keyword's.
     Contextual(usize),
-    /// Memory was refused.
+    /// An allocation failed.
     OutOfMemory,
 }
 

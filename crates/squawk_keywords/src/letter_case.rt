@@ -1,4 +1,4 @@
-//! Letters in lower case, and texts compared without regard to it.
+//! ASCII lower case, and the order of texts with or without regard to case.
 ghost use Rattle.std.specs.Prelude.{◌≡◌, true};
 ghost use Rattle.std.specs.Cmp.Lexicographic.{slice_cmp};
 ghost use Rattle.std.specs.Ordering.{nat_cmp};
@@ -8,8 +8,10 @@ use std::cmp::Ordering;
 
 /// Eight bytes, each in ASCII lower case.
 ///
-/// In `from_a` the highest bit of a byte tells that it is `A` or above, in `past_z` that it is above `Z`.
-/// Both tell it of each byte from 128 on, so the two differ at capital letters alone, whose bit 5 is set.
+/// In `from_a` the highest bit of a byte says whether it is `A` or above, in `past_z` whether it is above
+/// `Z`. In both it is set for a byte from 128 on. So they differ only at capital letters, whose bit 5 is
+/// then set.
+// Runs at each look-up.
 #[inline(always)]
 pub fn lower_case(bytes: u64) -> u64
     ensures { result ≡ lowered 8 bytes }

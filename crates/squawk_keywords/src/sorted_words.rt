@@ -1,4 +1,4 @@
-//! Words with their kinds in the order of the words, so that few of them are compared with a text.
+//! Sorted words with their kinds, for a binary search.
 ghost use Rattle.std.specs.Prelude.{◌≡◌, ℕ, List, IfOk};
 ghost use Rattle.squawk_keywords.specs.KeywordPairs.{pairs_of};
 ghost use Rattle.squawk_keywords.specs.LetterCase.{IsInOrder, kind_by};
@@ -7,7 +7,7 @@ use crate::letter_case::order;
 use squawk_kinds::SyntaxKind;
 use std::alloc::{AllocError, Global};
 
-/// These words in their order. Words that are the same stay in the order in which they are given.
+/// Sorts these words. Equal words stay in the order given.
 pub fn sorted<'k>(
     alloc: Global,
     ignores_case: bool,
@@ -21,7 +21,7 @@ pub fn sorted<'k>(
     Ok(words)
 }
 
-/// The kind of the first of the words in order that a text is.
+/// The kind of the first of these sorted words that equals a text.
 pub fn look_up(ignores_case: bool, words: &[(&str, SyntaxKind)], text: &str) -> Option<SyntaxKind>
     requires { IsInOrder ignores_case words.now }
     ensures { result ≡ kind_by ignores_case (pairs_of words.now) text.now }

@@ -1,7 +1,7 @@
-//! Looks of vocabularies that were worked out by hand, and of long lists.
+//! Look-ups that were worked out by hand, and in long lists.
 //!
-//! The tests of texts and of sets also pass where one allocation is refused: so each vocabulary is asked for at most
-//! twice. Without memory for its slots it answers the same.
+//! The tests of texts and of sets also pass if one allocation fails: so each vocabulary is made at most twice. Without
+//! memory for its slots it answers the same.
 
 use crate::{Classes, Keywords, KeywordsError};
 use squawk_kinds::{SyntaxKind, TokenSet, Vocabulary};
@@ -23,8 +23,8 @@ const KEYWORDS: [(&str, SyntaxKind); 7] = [
 
 const CONTEXTUAL: [(&str, SyntaxKind); 2] = [("over", SyntaxKind(300)), ("from", SyntaxKind(301))];
 
-/// Texts, and the numbers of their kinds as a keyword and as a contextual one, or 0 for none: byte for
-/// byte, and then without regard to case.
+/// Texts, and the numbers of their kinds as a keyword and as a contextual one, or 0 for none: first byte
+/// for byte, then without regard to case.
 const TEXTS: [(&str, u16, u16, u16, u16); 14] = [
     ("select", 200, 0, 200, 0),
     ("SELECT", 203, 0, 200, 0),
@@ -44,10 +44,7 @@ const TEXTS: [(&str, u16, u16, u16, u16); 14] = [
 
 /// The number of a kind that was found, or 0.
 fn number(found: Option<SyntaxKind>) -> u16 {
-    match found {
-        Some(kind) => kind.0,
-        None => 0,
-    }
+    found.map_or(0, |kind| kind.0)
 }
 
 /// The vocabulary of two lists.
@@ -126,7 +123,7 @@ fn sets_are_of_the_kinds_of_their_lists(rt: HostRuntime) {
     assert_eq!(rt; number(keywords.from_keyword("select")), 200);
 }
 
-/// What the lists are refused for, as it is printed.
+/// The line of the error of these lists.
 fn refusal(
     rt: &(impl Abort + AllocGlobal),
     keywords: &[(&str, SyntaxKind)],
@@ -145,15 +142,22 @@ fn first_kind_that_is_no_keywords_is_refused(rt: HostRuntime) -> Result<(), Fail
         ("b", SyntaxKind(640)),
         ("c", SyntaxKind::EOF),
     ];
-    for kind in [0, 1, 4, 639, 640, 65535] {
-        let line = refusal(&rt, &KEYWORDS, &[("a", SELECT), ("b", SyntaxKind(kind))])?;
+    for kind in [
+        SyntaxKind::EOF,
+        SyntaxKind::TOMBSTONE,
+        SyntaxKind::COMMENT,
+        SyntaxKind::WHITESPACE,
+        SyntaxKind(640),
+        SyntaxKind(u16::MAX),
+    ] {
+        let line = refusal(&rt, &KEYWORDS, &[("a", SELECT), ("b", kind)])?;
         assert_eq!(rt; line.as_str(), "kind of contextual keyword 1");
     }
     assert_eq!(rt; refusal(&rt, list, list)?.as_str(), "kind of keyword 1");
     Ok(())
 }
 
-/// The kind of the first of these words that a text is, looked for from the first on.
+/// The kind of the first of these words that equals a text, by a search from the first on.
 fn first_kind(words: &[(&str, SyntaxKind)], ignores_case: bool, text: &str) -> Option<SyntaxKind> {
     for (word, kind) in words {
         if *word == text || (ignores_case && word.eq_ignore_ascii_case(text)) {
@@ -163,7 +167,7 @@ fn first_kind(words: &[(&str, SyntaxKind)], ignores_case: bool, text: &str) -> O
     None
 }
 
-/// This many words of some places and lengths, some of them twice, and some in two cases.
+/// This many words of several buckets and lengths, some of them twice, and some in two cases.
 fn words(rt: &impl AllocGlobal, count: u32) -> Result<Vec<String>, Fail> {
     let mut words = Vec::new(rt.alloc());
     for i in 0..count {
@@ -178,7 +182,7 @@ fn words(rt: &impl AllocGlobal, count: u32) -> Result<Vec<String>, Fail> {
     Ok(words)
 }
 
-/// These words, each with a kind of its own.
+/// These words with kinds that differ from one to the next.
 fn pairs_of<'w>(
     rt: &impl AllocGlobal,
     words: &'w [String],
@@ -191,7 +195,7 @@ fn pairs_of<'w>(
     Ok(pairs)
 }
 
-/// The text has the kind of the first of the words that it is.
+/// Asserts that a text has the kind of the first word that equals it.
 fn assert_first(
     rt: &impl Abort,
     keywords: &Keywords<'_>,
@@ -203,7 +207,7 @@ fn assert_first(
     assert_eq!(rt; keywords.from_keyword(text), first, "{text}");
 }
 
-/// So has each of these words, as it is and in upper case.
+/// Asserts that of each of these words, as it is and in upper case.
 fn assert_list(
     rt: &(impl Abort + AllocGlobal),
     words: &[String],

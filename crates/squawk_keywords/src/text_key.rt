@@ -1,7 +1,7 @@
-//! The key of a text, by which short texts are told apart.
+//! The key of a text, by which short texts are compared. What is inlined runs at each look-up.
 ghost use Rattle.std.specs.Prelude.{◌≡◌, ◌+◌, ◌<◌, ◌≤◌, ◌^◌, length};
 ghost use Rattle.squawk_keywords.specs.LetterCase.{compared};
-ghost use Rattle.squawk_keywords.specs.TextKeys.{key_of, word_at};
+ghost use Rattle.squawk_keywords.specs.TextKeys.{key_of, four_bytes_at};
 
 use crate::letter_case::lower_case;
 
@@ -20,9 +20,9 @@ pub fn key(ignores_case: bool, text: &str) -> (u64, u64)
 
 /// The key of a text: its first four bytes, the next, the next, and its last four, as two numbers.
 ///
-/// These may overlap, so no jump depends on the length of a text of four bytes or more. Of a shorter
-/// one the first number has all. Two texts of at most 16 bytes and of one length are equal where their
-/// keys are.
+/// These may overlap, so no branch depends on the length of a text of four bytes or more. A shorter text
+/// is all in the first number. Two texts of the same length, at most 16 bytes, are equal if and only if
+/// their keys are.
 #[inline(always)]
 fn exact_key(text: &str) -> (u64, u64)
     ensures { result ≡ key_of text.now }
@@ -31,10 +31,10 @@ fn exact_key(text: &str) -> (u64, u64)
     let len = bytes.len();
     if len >= 4 {
         let last = len - 4;
-        let one = word(bytes, 0);
-        let two = word(bytes, last.min(4));
-        let three = word(bytes, last.min(8));
-        let four = word(bytes, last);
+        let one = four_bytes(bytes, 0);
+        let two = four_bytes(bytes, last.min(4));
+        let three = four_bytes(bytes, last.min(8));
+        let four = four_bytes(bytes, last);
         return (one + 0x1_0000_0000 * two, three + 0x1_0000_0000 * four);
     }
     if len == 0 {
@@ -44,13 +44,13 @@ fn exact_key(text: &str) -> (u64, u64)
     (u64::from(all), 0)
 }
 
-/// Four bytes, from `at` on.
+/// Four bytes from offset `at` on, as a little-endian number.
 #[inline(always)]
-fn word(bytes: &[u8], at: usize) -> u64
+fn four_bytes(bytes: &[u8], at: usize) -> u64
     requires { at + 4 ≤ length bytes.now }
-    ensures word { result ≡ word_at bytes.now at }
+    ensures value { result ≡ four_bytes_at bytes.now at }
     ensures fits { result < 2 ^ 32 }
 {
-    let word = [bytes[at], bytes[at + 1], bytes[at + 2], bytes[at + 3]];
-    u64::from(u32::from_le_bytes(word))
+    let four = [bytes[at], bytes[at + 1], bytes[at + 2], bytes[at + 3]];
+    u64::from(u32::from_le_bytes(four))
 }

@@ -1,11 +1,11 @@
-//! A list of words with their kinds.
+//! A list of words with their kinds. What is inlined runs at each look-up.
 ghost use Rattle.std.specs.Prelude.{◌≡◌, ◌↔◌, ℕ, ◌<◌, List, length, Some, IfOk, IfSome, IsSome};
 ghost use Rattle.std.proofs.Props.{props};
 ghost use Rattle.squawk_kinds.specs.Kinds.{IsKeyword};
 ghost use Rattle.squawk_kinds.specs.TokenSets.{has};
 ghost use Rattle.squawk_keywords.specs.KeywordPairs.{AreKeywords, has_kind, pairs_of};
 ghost use Rattle.squawk_keywords.specs.LetterCase.{IsInOrder, kind_by};
-ghost use Rattle.squawk_keywords.specs.WordSlots.{TellOf};
+ghost use Rattle.squawk_keywords.specs.WordSlots.{AgreeWith};
 ghost use Rattle.squawk_keywords.specs.declared.word_slots.WordSlots.{WordSlots as Slots};
 
 use crate::sorted_words::{look_up, sorted};
@@ -13,21 +13,21 @@ use crate::word_slots::WordSlots;
 use squawk_kinds::{SyntaxKind, TokenSet};
 use std::alloc::{AllocError, Global};
 
-/// Words, each with the kind of a keyword, and the set of these kinds.
+/// Words, each with the kind of its keyword, and the set of these kinds.
 #[derive(Drop)]
 pub struct WordList<'k> {
     ignores_case: bool,
     words: Vec<(&'k str, SyntaxKind)>,
     set: TokenSet,
-    /// None where there are no words, or memory was refused.
+    /// None if there are no words, or if an allocation failed.
     slots: Option<WordSlots>,
     ghost in_order: { IsInOrder ignores_case words.items },
     ghost keywords: { (text : List ℕ) → IfSome (kind_by ignores_case (pairs_of words.items) text) IsKeyword } by { Prim.hlevel props },
-    ghost told: { (s : Slots) → slots ≡ Some s → TellOf ignores_case (kind_by ignores_case (pairs_of words.items)) s.slots.items s.words.items },
+    ghost agree: { (s : Slots) → slots ≡ Some s → AgreeWith ignores_case (kind_by ignores_case (pairs_of words.items)) s.slots.items s.words.items },
 }
 
 impl<'k> WordList<'k> {
-    /// These words. Of a word that stands there twice the first kind counts.
+    /// Makes the list of these words. If a word stands there twice, its first kind counts.
     pub fn new(
         alloc: Global,
         ignores_case: bool,
@@ -46,30 +46,30 @@ impl<'k> WordList<'k> {
         })
     }
 
-    /// The kind of a word.
+    /// The kind of a text, if it is a word.
     #[inline(always)]
     pub fn kind_of(&self, text: &str) -> Option<SyntaxKind>
         ensures { result ≡ kind_by self.now.ignores_case (pairs_of self.now.words.items) text.now }
     {
-        match self.told(text) {
+        match self.probe(text) {
             Some(kind) => kind,
             None => self.looked_up(text),
         }
     }
 
-    /// What is known of a word before it is looked up.
+    /// The kind of a text, or `Some(None)` if it is no word, as far as that is known without a search.
     #[inline(always)]
-    fn told(&self, text: &str) -> Option<Option<SyntaxKind>>
+    fn probe(&self, text: &str) -> Option<Option<SyntaxKind>>
         ensures { IfSome result (λ kind. kind ≡ kind_by self.now.ignores_case (pairs_of self.now.words.items) text.now) }
     {
         match &self.slots {
-            Some(slots) => slots.told(self.ignores_case, text),
+            Some(slots) => slots.probe(self.ignores_case, text),
             None if self.words.is_empty() => Some(None),
             None => None,
         }
     }
 
-    /// The same among the words in their order.
+    /// The kind of a text by a binary search.
     #[inline(never)]
     fn looked_up(&self, text: &str) -> Option<SyntaxKind>
         ensures { result ≡ kind_by self.now.ignores_case (pairs_of self.now.words.items) text.now }
@@ -85,14 +85,14 @@ impl<'k> WordList<'k> {
     }
 }
 
-/// The slots of these words, if there are any.
+/// The slots of these words, if there are words.
 fn slots_of(
     alloc: Global,
     ignores_case: bool,
     pairs: &[(&str, SyntaxKind)],
 ) -> Result<Option<WordSlots>, AllocError>
     ensures some { IfOk result (λ slots. IsSome slots ↔ (0 < length pairs.now)) }
-    ensures tell { IfOk result (λ found. (s : Slots) → found ≡ Some s → TellOf ignores_case (kind_by ignores_case (pairs_of pairs.now)) s.slots.items s.words.items) }
+    ensures agree { IfOk result (λ found. (s : Slots) → found ≡ Some s → AgreeWith ignores_case (kind_by ignores_case (pairs_of pairs.now)) s.slots.items s.words.items) }
 {
     if pairs.is_empty() {
         return Ok(None);
@@ -101,7 +101,7 @@ fn slots_of(
     Ok(Some(slots))
 }
 
-/// The kinds of words.
+/// The set of the kinds of these words.
 fn kinds_of(pairs: &[(&str, SyntaxKind)]) -> TokenSet
     requires { AreKeywords (pairs_of pairs.now) }
     ensures { (kind : ℕ) → has result kind ≡ has_kind (pairs_of pairs.now) kind }

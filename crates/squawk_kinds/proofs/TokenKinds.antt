@@ -1,12 +1,12 @@
--- Kinds of a list that are token kinds, told by computing.
+-- A list's kinds are token kinds, by a test that computes.
 use Rattle.std.proofs.Common.{◌≡◌, ℕ, ◌≤◌, ◌&&◌, Bool, true, false, List, [], ◌∷◌, All, nat_le, arith, refl}
 use Rattle.std.proofs.lemmas.List.Elements.{All-nil, All-cons}
-use Rattle.squawk_kinds.specs.Kinds.{IsTokenKind}
+use Rattle.squawk_kinds.specs.Kinds.{IsTokenKind, WHITESPACE}
 
 -- whether they are
 abbrev pub are_token_kinds : List ℕ → Bool
 are_token_kinds [] = true
-are_token_kinds (kind ∷ kinds) = nat_le kind 639 && are_token_kinds kinds
+are_token_kinds (kind ∷ kinds) = nat_le kind WHITESPACE && are_token_kinds kinds
 
 both : (x y : Bool) → (x && y) ≡ true → (x ≡ true) × (y ≡ true)
 both true true e = (refl, refl)
@@ -17,6 +17,6 @@ both false y e = absurd (cc)
 pub all_token_kinds : (kinds : List ℕ) → are_token_kinds kinds ≡ true → All IsTokenKind kinds
 all_token_kinds [] e = All-nil IsTokenKind
 all_token_kinds (kind ∷ kinds) e =
-    let parts = both (nat_le kind 639) (are_token_kinds kinds) e in
-    let within : kind ≤ 639 = grind (arith, parts.0) in
+    let parts = both (nat_le kind WHITESPACE) (are_token_kinds kinds) e in
+    let within : kind ≤ WHITESPACE = grind (arith, parts.0) in
     All-cons IsTokenKind kind kinds within (all_token_kinds kinds parts.1)

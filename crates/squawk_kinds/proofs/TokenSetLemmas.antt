@@ -14,7 +14,7 @@ use Rattle.squawk_kinds.specs.TokenSets.{has, no_kinds}
 abbrev pub bit_of : List ℕ → ℕ → ℕ
 bit_of words k = bit_at (get_or words (k / 64) 0) (k % 64)
 
--- of a token kind the words tell
+-- whether the words have a token kind
 pub has-token : (words : List ℕ) (k : ℕ) → k ≤ WHITESPACE → has words k ≡ (bit_of words k == 1)
 unfolding has
 has-token words k le = rw (le-leb k WHITESPACE le) refl

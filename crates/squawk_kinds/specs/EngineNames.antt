@@ -6,7 +6,7 @@ use Rattle.squawk_kinds.specs.KindNames.{Names}
 use Rattle.squawk_kinds.specs.declared.engine_names.NamedKind.{NamedKind}
 use denote.Ref.{Bor}
 
--- the words of a text in which a space stands between two
+-- the words of a text, which are separated by one space each; what stands behind a word that has begun
 abbrev pub words_behind : List ℕ → List ℕ → List (List ℕ)
 words_behind word [] = word ∷ []
 words_behind word (byte ∷ rest) = cond (byte == 32) (word ∷ words_behind [] rest) (words_behind (word ++ byte ∷ []) rest)
@@ -14,7 +14,7 @@ words_behind word (byte ∷ rest) = cond (byte == 32) (word ∷ words_behind [] 
 abbrev pub words_in : List ℕ → List (List ℕ)
 words_in = words_behind []
 
--- each kind is called as its constant is
+-- the name of each kind is that of its constant
 unfoldable pub engine_names : Names
 engine_names = zip constants (
     words_in (codes "EOF TOMBSTONE ERROR IDENT COMMENT SEMICOLON COMMA DOT DOT_DOT L_PAREN R_PAREN L_BRACK R_BRACK") ++
@@ -30,9 +30,9 @@ engine_names = zip constants (
     words_in (codes "NOT_SIMILAR_TO IS_NOT_DISTINCT_FROM OPERATOR_CALL IS_DISTINCT_FROM NOT_LIKE NOT_ILIKE NOT_IN") ++
     words_in (codes "IS_NOT CUSTOM_OP UNICODE_NORMAL_FORM"))
 
--- kinds with names as code has them
+-- kinds with names, as the code has them
 abbrev pub names_in : List NamedKind → Names
-names_in = map (λ row. (row.kind, row.name.now))
+names_in = map (λ named. (named.kind, named.name.now))
 
 abbrev pub names_of : List (ℕ × Bor (List ℕ)) → Names
 names_of = map (λ pair. (pair.0, pair.1.now))

@@ -5,11 +5,11 @@ use Rattle.std.specs.Prelude.{◌≢◌, ℕ, ◌≤◌, ◌==◌, ◌||◌, Boo
 abbrev pub EOF : ℕ
 EOF = 0
 
--- no kind of a node: what an open marker has
+-- an open or abandoned marker's, never a node's
 abbrev pub TOMBSTONE : ℕ
 TOMBSTONE = 1
 
--- what is no other token
+-- a token of no other kind
 abbrev pub ERROR : ℕ
 ERROR = 2
 
@@ -26,11 +26,11 @@ WHITESPACE = 639
 abbrev pub IsTokenKind : ℕ → Type 0
 IsTokenKind kind = kind ≤ WHITESPACE
 
--- whether tokens of the kind carry no meaning for a parser
+-- whether a parser doesn't see tokens of the kind
 abbrev pub is_trivia : ℕ → Bool
 is_trivia kind = (kind == WHITESPACE) || (kind == COMMENT)
 
--- a kind that a vocabulary may give an identifier
+-- a kind that a vocabulary may give to an identifier
 pub record IsKeyword (kind : ℕ) : Type 0 where
   pub token : IsTokenKind kind
   pub not_end : kind ≢ EOF

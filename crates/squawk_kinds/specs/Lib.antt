@@ -3,5 +3,5 @@ pub mod Constants
 pub mod TokenSets
 pub mod Keywords
 pub mod KindNames
-pub mod FirstPlaces
+pub mod FirstSlots
 pub mod EngineNames

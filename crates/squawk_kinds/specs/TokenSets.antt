@@ -8,6 +8,6 @@ use Rattle.squawk_kinds.specs.declared.token_set.TokenSet.{TokenSet}
 unfoldable pub has : TokenSet → ℕ → Bool
 has set kind = nat_le kind WHITESPACE && (bit_at (slice_index set (kind / 64)) (kind % 64) == 1)
 
--- the set without a kind
+-- the empty set
 abbrev pub no_kinds : TokenSet
 no_kinds = replicate 10 0

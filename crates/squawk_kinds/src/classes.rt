@@ -1,4 +1,4 @@
-//! Classes of token kinds, after the caller's vocabulary.
+//! Classes of token kinds, as the caller's vocabulary defines them.
 ghost use Rattle.std.specs.Prelude.{◌≡◌, ◌||◌};
 ghost use Rattle.squawk_kinds.specs.TokenSets.{has};
 

@@ -5,13 +5,13 @@ ghost use Rattle.squawk_kinds.specs.EngineNames.{engine_names, names_in, names_o
 use crate::SyntaxKind;
 use std::alloc::{AllocError, Global};
 
-/// A kind's number, and the name of its constant.
+/// A kind's number and the name of its constant.
 struct NamedKind {
     kind: u16,
     name: &'static str,
 }
 
-/// The kinds that have a constant, in the order of their numbers: as kinds, or with their names.
+/// An array of the kinds that have a constant, in the order of their numbers: `kinds`, or `named` with their names.
 #[rattlefmt::skip]
 macro_rules! engine_kinds {
     (@kinds $($name:ident)*) => { [$(SyntaxKind::$name),*] };
@@ -43,18 +43,20 @@ pub(crate) use engine_kinds;
 
 static NAMED_KINDS: [NamedKind; 105] = engine_kinds![named];
 
-/// Each kind that has a constant, with that constant's name, which upstream calls it by, in the order of
-/// their numbers; and behind them the pairs that are given. A kind is called by the name of its first pair.
+/// Each kind that has a constant with that constant's name, in the order of their numbers, then `own`.
+///
+/// The names are upstream's. [`KindNames`](crate::KindNames) reads a kind's first pair, so a pair of
+/// `own` can't rename such a kind.
 pub fn with_engine_names<'n>(
     alloc: Global,
     own: &[(SyntaxKind, &'n str)],
 ) -> Result<Vec<(SyntaxKind, &'n str)>, AllocError>
     ensures { IfOk result (λ all. names_of all.items ≡ engine_names ++ names_of own.now) }
 {
-    let named = named_kinds();
-    let mut names = Vec::with_capacity(alloc, named.len() + own.len())?;
-    for row in named {
-        names.push_reserved((SyntaxKind(row.kind), row.name));
+    let kinds = named_kinds();
+    let mut names = Vec::with_capacity(alloc, kinds.len() + own.len())?;
+    for named in kinds {
+        names.push_reserved((SyntaxKind(named.kind), named.name));
     }
     names.extend_from_slice(own)?;
     Ok(names)

@@ -1,45 +1,45 @@
-//! The names of kinds, by their numbers.
+//! The names of kinds. What is inlined runs at each line of a tree, what is cold once.
 ghost use Rattle.std.specs.Prelude.{◌≡◌, ◌<◌, All, IfSome, length, map};
-ghost use Rattle.squawk_kinds.specs.FirstPlaces.{Tells, first_place};
+ghost use Rattle.squawk_kinds.specs.FirstSlots.{IsIndex, first_slot};
 
 use crate::syntax_kind::SyntaxKind;
 use std::alloc::Global;
 use std::marker::Model;
 
-/// Up to so many pairs are walked, without an index.
+/// Up to this many pairs are searched without an index.
 const FEW: usize = 16;
 
 /// Kinds with their names. The name of a kind is that of its first pair.
 ///
-/// Where there are more than 16 pairs, the first look-up makes an index, of 4 bytes for each kind up to
-/// the greatest that has a pair. A look-up then reads one entry. Where memory for the index is refused,
-/// look-ups walk over the pairs.
+/// If there are more than 16 pairs, the first look-up makes an index, which takes 4 bytes for each kind
+/// up to the greatest that has a pair; then a look-up reads one entry. If that allocation fails, a
+/// look-up searches the pairs.
 #[derive(Drop)]
 pub struct KindNames<'p, 'n> {
     alloc: Global,
     pairs: &'p [(SyntaxKind, &'n str)],
-    /// The place of each kind's first pair, or how many pairs there are. Empty where there is no index.
+    /// The slot of each kind's first pair, or the number of pairs. Empty if there is no index.
     index: Vec<u32>,
 }
 
 impl<'p, 'n> Model for KindNames<'p, 'n> {
     ghost use Rattle.std.specs.Prelude.{◌<◌, length, map};
-    ghost use Rattle.squawk_kinds.specs.FirstPlaces.{Tells};
+    ghost use Rattle.squawk_kinds.specs.FirstSlots.{IsIndex};
     ghost use Rattle.squawk_kinds.specs.KindNames.{Names};
 
     ghost Value = { Names };
 
     ghost view = { λ n. map (λ pair. (pair.0, pair.1.now)) n.pairs.now };
 
-    ghost invariant = { λ n. 0 < length n.index.items → Tells (map (λ pair. (pair.0, pair.1.now)) n.pairs.now) n.index.items };
+    ghost invariant = { λ n. 0 < length n.index.items → IsIndex (map (λ pair. (pair.0, pair.1.now)) n.pairs.now) n.index.items };
 }
 
 impl<'p, 'n> KindNames<'p, 'n> {
     ghost use Rattle.std.specs.Prelude.{◌≡◌, map, option_copied};
-    ghost use Rattle.squawk_kinds.specs.FirstPlaces.{first_place};
+    ghost use Rattle.squawk_kinds.specs.FirstSlots.{first_slot};
     ghost use Rattle.squawk_kinds.specs.KindNames.{first_name};
 
-    /// The names in these pairs. Nothing is allocated before the first look-up.
+    /// The names in these pairs. Allocates nothing: the index comes with the first look-up.
     pub fn new(alloc: Global, pairs: &'p [(SyntaxKind, &'n str)]) -> KindNames<'p, 'n>
         ensures { result ≡ map (λ pair. (pair.0, pair.1.now)) pairs.entry.now }
     {
@@ -56,15 +56,15 @@ impl<'p, 'n> KindNames<'p, 'n> {
         ensures name { option_copied result ≡ first_name self.old kind }
         ensures same { self.new ≡ self.old }
     {
-        let place = self.place(kind);
-        let (_, name) = self.pairs.get(place)?;
+        let slot = self.slot(kind);
+        let (_, name) = self.pairs.get(slot)?;
         Some(name)
     }
 
-    /// The place of a kind's first pair, or how many pairs there are.
+    /// The slot of a kind's first pair, or the number of pairs.
     #[inline(always)]
-    fn place(&mut self, kind: SyntaxKind) -> usize
-        ensures place { result ≡ first_place self.old kind }
+    fn slot(&mut self, kind: SyntaxKind) -> usize
+        ensures slot { result ≡ first_slot self.old kind }
         ensures same { self.new ≡ self.old }
     {
         let number = usize::from(u16::from(kind));
@@ -74,11 +74,11 @@ impl<'p, 'n> KindNames<'p, 'n> {
         self.look_up(kind)
     }
 
-    /// The place of the first pair of a kind that the index has no entry for.
+    /// The slot of the first pair of a kind that the index has no entry for, or the number of pairs.
     #[cold]
     #[inline(never)]
     fn look_up(&mut self, kind: SyntaxKind) -> usize
-        ensures place { result ≡ first_place self.old kind }
+        ensures slot { result ≡ first_slot self.old kind }
         ensures same { self.new ≡ self.old }
     {
         if self.index.is_empty() && self.pairs.len() > FEW {
@@ -90,34 +90,34 @@ impl<'p, 'n> KindNames<'p, 'n> {
             return walked(self.pairs, kind);
         }
         match self.index.get(usize::from(u16::from(kind))) {
-            Some(place) => *place as usize,
+            Some(slot) => *slot as usize,
             None => self.pairs.len(),
         }
     }
 }
 
-/// The index of pairs, if they can be counted in 32 bits and there is memory for it.
+/// The index of these pairs, if their number fits in 32 bits and its allocation succeeds.
 fn index_of(alloc: Global, pairs: &[(SyntaxKind, &str)]) -> Option<Vec<u32>>
-    ensures { IfSome result (λ index. Tells (map (λ pair. (pair.0, pair.1.now)) pairs.now) index.items) }
+    ensures { IfSome result (λ index. IsIndex (map (λ pair. (pair.0, pair.1.now)) pairs.now) index.items) }
 {
     let len = u32::try_from(pairs.len()).ok()?;
     let greatest = pairs.iter().map(|(kind, _)| u16::from(*kind)).max()?;
     let mut index = vec![in alloc; len; usize::from(greatest) + 1].ok()?;
     // From the last to the first, so that the first pair of a kind stays.
-    for place in (0..len).rev() {
-        let (kind, _) = pairs[place as usize];
-        index[usize::from(u16::from(kind))] = place;
+    for slot in (0..len).rev() {
+        let (kind, _) = pairs[slot as usize];
+        index[usize::from(u16::from(kind))] = slot;
     }
     Some(index)
 }
 
-/// The place of a kind's first pair, or how many pairs there are, found by a walk over the pairs.
+/// The slot of a kind's first pair, or the number of pairs, found by a search of the pairs.
 fn walked(pairs: &[(SyntaxKind, &str)], kind: SyntaxKind) -> usize
-    ensures { result ≡ first_place (map (λ pair. (pair.0, pair.1.now)) pairs.now) kind }
+    ensures { result ≡ first_slot (map (λ pair. (pair.0, pair.1.now)) pairs.now) kind }
 {
-    for (place, (named, _)) in pairs.iter().enumerate() {
+    for (slot, (named, _)) in pairs.iter().enumerate() {
         if *named == kind {
-            return place;
+            return slot;
         }
     }
     pairs.len()

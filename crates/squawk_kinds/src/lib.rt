@@ -1,6 +1,6 @@
 //! Kinds of tokens and nodes, sets of token kinds, and the caller's keywords.
 //!
-//! `squawk_parser` hands on all that a user needs; a kind's number is `kind.0`.
+//! `squawk_parser` re-exports all that a user needs; a kind's number is `kind.0`.
 #![tactic(auto)]
 
 pub mod classes;

@@ -4,11 +4,11 @@ ghost use Rattle.squawk_kinds.specs.Kinds.{is_trivia};
 
 use std::marker::Model;
 
-/// The kind of a token or of a node: a number of 16 bits, and every number is a kind.
+/// The kind of a token or of a node: a number of 16 bits. Every such number is a kind.
 ///
-/// A kind up to [`SyntaxKind::WHITESPACE`] is a token kind. The kinds 200 to 638 are the caller's
-/// tokens, those from 700 on the caller's nodes. The other numbers are the engine's; those without
-/// a constant are kept for it, and nothing refuses them. Contracts see a kind as its number.
+/// A kind up to [`SyntaxKind::WHITESPACE`] is a token kind. The caller's tokens have kinds 200 to 638, the
+/// caller's nodes kinds from 700 on. The other numbers are the engine's, also those without a constant,
+/// though nothing refuses them. Contracts see a kind as its number.
 #[derive(Clone, Copy, PartialEq, Eq, PartialOrd, Ord, Hash, Debug)]
 pub struct SyntaxKind(pub u16);
 
@@ -23,7 +23,7 @@ impl Model for SyntaxKind {
 }
 
 impl SyntaxKind {
-    // The end of an input, an open marker, and tokens that no other kind fits.
+    // The end of an input, an open marker, and a token of no other kind.
     pub const EOF: SyntaxKind = SyntaxKind(0);
 
     pub const TOMBSTONE: SyntaxKind = SyntaxKind(1);

@@ -10,17 +10,19 @@ use std::marker::Model;
 
 /// A set of token kinds: of the kinds up to [`SyntaxKind::WHITESPACE`].
 ///
-/// A set is 80 bytes, one bit for each token kind, and is copied like a number. Token kind `k` is in it
-/// where bit `k % 64` of word `k / 64` is 1, counted from the lowest bit. A question reads one word.
+/// It takes 80 bytes, one bit for each token kind, and is `Copy`. It has the kind `k` if and only if bit
+/// `k % 64`, counted from the lowest, of word `k / 64` is 1. `contains` reads one word.
 ///
 /// [`token_set!`](crate::token_set!) makes a constant of kinds; [`TokenSet::new`] makes a set of a list.
 #[derive(Clone, Copy, PartialEq, Eq, Debug)]
 pub struct TokenSet(pub [u64; 10]);
 
-/// The set of these kinds, as the value of a constant:
+/// The set of these token kinds, as the value of a constant.
+///
 /// `const FIRST: TokenSet = token_set![SyntaxKind::IDENT, SyntaxKind::L_PAREN];`
 ///
-/// Each is a token kind; others are in no set. `has-words_of` tells which kinds the constant has.
+/// Kinds past [`SyntaxKind::WHITESPACE`] are in no set. The lemma `has-words_of` says which kinds the
+/// constant has.
 #[macro_export]
 macro_rules! token_set {
     (@word $word:expr; $($kind:expr),*) => {
@@ -53,12 +55,10 @@ impl Model for TokenSet {
 }
 
 impl TokenSet {
-    /// The set without a kind.
+    /// The empty set.
     pub const EMPTY: TokenSet = TokenSet([0; 10]);
 
-    /// The set of these kinds, in one pass over them.
-    ///
-    /// Each is a token kind.
+    /// The set of these token kinds, in one pass over them.
     pub fn new(kinds: &[SyntaxKind]) -> TokenSet
         requires { All IsTokenKind kinds.now }
         ensures { (kind : ℕ) → has result kind ≡ list_any (λ one. one == kind) kinds.now }
@@ -71,7 +71,7 @@ impl TokenSet {
         set
     }
 
-    /// The set with these words.
+    /// The set with these ten words.
     pub fn from_words(words: [u64; 10]) -> TokenSet
         ensures words { result ≡ words }
         ensures kinds { (kind : ℕ) → IsTrue (has result kind)
@@ -80,7 +80,7 @@ impl TokenSet {
         TokenSet(words)
     }
 
-    /// The kinds of both sets.
+    /// The set of the kinds that are in either set.
     pub fn union(self, other: TokenSet) -> TokenSet
         ensures { (kind : ℕ) → has result kind ≡ (has self kind || has other kind) }
     {

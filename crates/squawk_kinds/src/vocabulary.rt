@@ -4,20 +4,20 @@ ghost use Rattle.std.specs.Prelude.{◌≡◌};
 use crate::syntax_kind::SyntaxKind;
 use crate::token_set::TokenSet;
 
-/// Which identifiers are keywords, of which kinds, and which kinds of tokens make up a class.
+/// The keywords with their kinds, and the token kinds of each class.
 ///
-/// Each answer is a function of what the value holds and of the bytes of the text. The sets are kept
-/// in the value, made once, and a call of one copies it.
+/// Each result is a function of the value and of the bytes of the text. An implementation makes its sets
+/// once and keeps them: a call copies one.
 pub trait Vocabulary {
     ghost use Rattle.std.specs.Prelude.{List, ℕ, IfSome};
     ghost use Rattle.squawk_kinds.specs.Kinds.{IsKeyword};
     ghost use Rattle.squawk_kinds.specs.Keywords.{Keywords};
     ghost use Rattle.squawk_kinds.specs.declared.token_set.TokenSet.{TokenSet};
 
-    /// The keyword that a text is.
+    /// The kind of each text that is a keyword.
     ghost keyword: { Self → Keywords };
 
-    /// The keyword that a text is where the grammar asks for one.
+    /// The kind of each text that is a contextual keyword.
     ghost contextual_keyword: { Self → Keywords };
 
     /// The kinds of all keywords.
@@ -45,8 +45,7 @@ pub trait Vocabulary {
     fn from_keyword(&self, text: &str) -> Option<SyntaxKind>
         ensures { result ≡ keyword self.now text.now };
 
-    /// The kind that an identifier with this text has for a grammar that looks for a contextual
-    /// keyword.
+    /// The kind that an identifier with this text has where the grammar tries a contextual keyword.
     fn from_contextual_keyword(&self, text: &str) -> Option<SyntaxKind>
         ensures { result ≡ contextual_keyword self.now text.now };
 
@@ -78,9 +77,9 @@ pub trait Vocabulary {
     fn type_func_name_keywords(&self) -> TokenSet
         ensures { result ≡ type_func_name_keywords self.now };
 
-    /// A keyword is a token that a parser sees.
+    /// A keyword is a token that a parser sees: neither trivia nor the end.
     ghost keywords_are_tokens: { (v : Self) (text : List ℕ) → IfSome (keyword v text) IsKeyword };
 
-    /// So is a contextual keyword.
+    /// A contextual keyword is such a token, too.
     ghost contextual_keywords_are_tokens: { (v : Self) (text : List ℕ) → IfSome (contextual_keyword v text) IsKeyword };
 }

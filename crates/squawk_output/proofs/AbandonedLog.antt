@@ -1,4 +1,5 @@
--- A marker is abandoned: its hole's mark is taken away, or its event, where that is the last one and was made by a start.
+-- A marker is abandoned: its hole's mark is taken away, or its event, where that is the last one and was made by a
+-- start.
 use Rattle.std.proofs.Common.{◌≡◌, ◌∙◌, ℕ, suc, ◌+◌, ◌==◌, Bool, true, false, List, [], ◌∷◌, ◌++◌, length, get_or, set, refl, sym, ap, arith, inl, inr}
 use Rattle.std.specs.Prelude.{Contains, count_by}
 use Rattle.std.proofs.Math.Bool.{and-false}
@@ -129,9 +130,9 @@ module _ (log : Log) (marks : List Bool) (event : Event) (mark : Bool) (recorded
       )
 
   holes-popped : HaveHoles log marks
-  holes-popped place lt marked =
-      sym (get_or-append log (event ∷ []) Finish place lt)
-      ∙ is.holes place (omega (arith, lt, length-push log event)) (get_or-append marks (mark ∷ []) false place (omega (arith, lt, same)) ∙ marked)
+  holes-popped index lt marked =
+      sym (get_or-append log (event ∷ []) Finish index lt)
+      ∙ is.holes index (omega (arith, lt, length-push log event)) (get_or-append marks (mark ∷ []) false index (omega (arith, lt, same)) ∙ marked)
 
   record-popped : IsRecordOf log marks recorded errors (abandoned whole (length log))
   record-popped =

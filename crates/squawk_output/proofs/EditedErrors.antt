@@ -8,7 +8,7 @@ use Rattle.squawk_output.specs.declared.event.Event.{Event}
 use Rattle.squawk_output.specs.declared.event.Event.TheVariants as event
 use Rattle.squawk_output.specs.EventLog.{Log, errors_logged, has_link, is_error_event}
 use Rattle.squawk_output.specs.LogDraft.{draft_items, items_of}
-use Rattle.squawk_output.proofs.GatheredItems.{made_by, place_items, size-draft_items}
+use Rattle.squawk_output.proofs.GatheredItems.{made_by, items_of_index, size-draft_items}
 use Rattle.squawk_output.proofs.Sizes.{total, total-same}
 use Rattle.squawk_output.proofs.Sums.{count_by-cons}
 use Rattle.squawk_output.specs.Edits.{filled, is_hole_of, is_opening_of, replaced, preceded_item, without_hole, stands_before, moved, extended_items}
@@ -20,7 +20,7 @@ either_way : (b : Bool) (xs ys : List Item) → errors_of xs ≡ 0 → errors_of
 either_way true xs ys e h = e
 either_way false xs ys e h = h
 
--- items that are no errors give place to others that are none
+-- items that are no errors are replaced by others that are none
 module _ (p : Item → Bool) (f : Item → List Item) (spares : (text : List ℕ) → p (Error text) ≡ false) (none : (item : Item) → is_error_item item ≡ false → errors_of (f item) ≡ 0) where
   errors-step : (item : Item) → errors_of (if p item then f item else item ∷ []) ≡ errors_of (item ∷ [])
   errors-step (Error text) = rw (spares text) refl
@@ -55,10 +55,10 @@ errors-extended node id items = cases (stands_before (is_hole_of id) (is_opening
 
 -- ---- the errors of a log's draft are its events that are errors
 
-errors-items_of : (place : ℕ) (made : Made) (event : Event) (mark : Bool) → errors_of (items_of place made event mark) ≡ cond (is_error_event event) 1 0
-errors-items_of place made (event.Start kind link) true = refl
-errors-items_of place made (event.Start kind link) false = either_way (kind == TOMBSTONE) [] (Open place kind (not (has_link (event.Start kind link))) ∷ []) refl refl
-errors-items_of place made other mark = refl
+errors-items_of : (index : ℕ) (made : Made) (event : Event) (mark : Bool) → errors_of (items_of index made event mark) ≡ cond (is_error_event event) 1 0
+errors-items_of index made (event.Start kind link) true = refl
+errors-items_of index made (event.Start kind link) false = either_way (kind == TOMBSTONE) [] (Open index kind (not (has_link (event.Start kind link))) ∷ []) refl refl
+errors-items_of index made other mark = refl
 
 total-errors : (log : Log) → total (λ j. cond (is_error_event (get_or log j event.Finish)) 1 0) (length log) ≡ errors_logged log
 total-errors [] = refl
@@ -67,5 +67,5 @@ total-errors (x ∷ xs) = omega (arith, total-errors xs, count_by-cons is_error_
 pub errors-draft_items : (log : Log) (marks : List Bool) → errors_of (draft_items log marks) ≡ errors_logged log
 errors-draft_items log marks =
     size-draft_items errors_of refl errors-append log marks
-    ∙ (total-same (λ j. errors_of (place_items log marks j)) (λ j. cond (is_error_event (get_or log j event.Finish)) 1 0) (length log)
+    ∙ (total-same (λ j. errors_of (items_of_index log marks j)) (λ j. cond (is_error_event (get_or log j event.Finish)) 1 0) (length log)
     (λ j. errors-items_of j (made_by log j) (get_or log j event.Finish) (get_or marks j false)) ∙ total-errors log)

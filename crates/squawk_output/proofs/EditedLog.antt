@@ -57,17 +57,17 @@ module _ (log : Log) (marks : List Bool) (recorded errors : ℕ) (is : IsRecord 
 
   module _ (event : Event) (mark : Bool) (lands : Lands event []) (empty : mark ≡ true → event ≡ tombstone) where
     holes-put : HaveHoles (log ++ event ∷ []) (marks ++ mark ∷ [])
-    holes-put place lt marked =
-        elim (eqb_tells place (length log)) [
+    holes-put index lt marked =
+        elim (eqb_tells index (length log)) [
           | inl e ↦
-              let last : get_or (marks ++ mark ∷ []) place false ≡ mark =
+              let last : get_or (marks ++ mark ∷ []) index false ≡ mark =
               ap (λ i. get_or (marks ++ mark ∷ []) i false) (e.1 ∙ sym is.same_length) ∙ get_or-append_seam marks mark [] false in
               ap (λ i. get_or (log ++ event ∷ []) i Finish) e.1 ∙ (get_or-append_seam log event [] Finish ∙ empty (sym last ∙ marked))
           | inr e ↦
               let ne = e.1 in
-              let within : place < length log = omega (arith, lt, ne, length-push log event) in
-              get_or-append log (event ∷ []) Finish place within
-              ∙ is.holes place within (sym (get_or-append marks (mark ∷ []) false place (omega (arith, within, is.same_length))) ∙ marked)
+              let within : index < length log = omega (arith, lt, ne, length-push log event) in
+              get_or-append log (event ∷ []) Finish index within
+              ∙ is.holes index within (sym (get_or-append marks (mark ∷ []) false index (omega (arith, within, is.same_length))) ∙ marked)
         ]
 
     pub record-put : recorded + 1 < 2 ^ 32 → (wrong : ℕ) → wrong ≡ errors + one_if (is_error_event event)
@@ -79,35 +79,35 @@ module _ (log : Log) (marks : List Bool) (recorded errors : ℕ) (is : IsRecord 
         (omega (arith, more, errors_are, sum_by-append (λ x. one_if (is_error_event x)) log (event ∷ [])))
         (draft_items-push log marks event mark is.links is.same_length) refl (omega (arith, length-push log event)) (turns_of-push log event)
 
-  -- ---- a Start in a Start's place, without a mark
+  -- ---- a Start at a Start, without a mark
 
-  holes-unmarked : (place : ℕ) (event : Event) → place < length log → HaveHoles (set log place event) (set marks place false)
-  holes-unmarked place event lt i h marked =
-      elim (eqb_tells i place) [
+  holes-unmarked : (index : ℕ) (event : Event) → index < length log → HaveHoles (set log index event) (set marks index false)
+  holes-unmarked index event lt i h marked =
+      elim (eqb_tells i index) [
         | inl e ↦
-            let gone : get_or (set marks place false) i false ≡ false =
-            ap (λ j. get_or (set marks place false) j false) e.1 ∙ get_or-set_same marks place false false (omega (arith, lt, is.same_length)) in
+            let gone : get_or (set marks index false) i false ≡ false =
+            ap (λ j. get_or (set marks index false) j false) e.1 ∙ get_or-set_same marks index false false (omega (arith, lt, is.same_length)) in
             absurd (cc)
         | inr e ↦
-            get_or-set_other log place i event Finish e.1
-            ∙ is.holes i (omega (arith, h, length-set log place event)) (sym (get_or-set_other marks place i false false e.1) ∙ marked)
+            get_or-set_other log index i event Finish e.1
+            ∙ is.holes i (omega (arith, h, length-set log index event)) (sym (get_or-set_other marks index i false false e.1) ∙ marked)
       ]
 
-  module _ (place kind : ℕ) (event : Event) (within : place < length log) (old : get_or log place Finish ≡ Start kind None) (start : is_start event ≡ true) where
-    pub record-set : {d : Draft} → LinksLead (set log place event) → draft_items (set log place event) (set marks place false) ≡ d.items → recorded ≡ d.recorded
-        → length log ≡ d.entries → turns_of log + turns_at event ≡ d.turns_due + 2 → IsRecordOf (set log place event) (set marks place false) recorded errors d
+  module _ (index kind : ℕ) (event : Event) (within : index < length log) (old : get_or log index Finish ≡ Start kind None) (start : is_start event ≡ true) where
+    pub record-set : {d : Draft} → LinksLead (set log index event) → draft_items (set log index event) (set marks index false) ≡ d.items → recorded ≡ d.recorded
+        → length log ≡ d.entries → turns_of log + turns_at event ≡ d.turns_due + 2 → IsRecordOf (set log index event) (set marks index false) recorded errors d
     record-set {d} links items count entries turns =
-        record_of (length-set marks place false ∙ (is.same_length ∙ sym (length-set log place event))) links (holes-unmarked place event within)
-        (omega (arith, length-set log place event, is.few)) is.small
+        record_of (length-set marks index false ∙ (is.same_length ∙ sym (length-set log index event))) links (holes-unmarked index event within)
+        (omega (arith, length-set log index event, is.few)) is.small
         (omega (
           arith,
           errors_are,
-          sum_by-set (λ x. one_if (is_error_event x)) log place event Finish within,
+          sum_by-set (λ x. one_if (is_error_event x)) log index event Finish within,
           ap (λ x. one_if (is_error_event x)) old,
           ap one_if (start-no_error event start),
         ))
-        items count (length-set log place event ∙ entries)
-        (omega (arith, turns, turns_of-set log place event Finish within, ap turns_at old))
+        items count (length-set log index event ∙ entries)
+        (omega (arith, turns, turns_of-set log index event Finish within, ap turns_at old))
 
   -- a hole becomes a node's opening
   module _ (id : ℕ) (within : id < length log) (marked : get_or marks id false ≡ true) where
@@ -131,8 +131,8 @@ module _ (log : Log) (marks : List Bool) (recorded errors : ℕ) (is : IsRecord 
         ∙ draft_items-extended log marks id node kind (node - id - 1) is.same_length away (is.holes id within marked) marked here)
         refl refl (omega arith)
       where
-        start-here : (log : Log) (place kind : ℕ) → place < length log → get_or log place Finish ≡ Start kind None → is_start_at log place ≡ true
-        start-here [] place kind lt e = absurd (omega arith)
+        start-here : (log : Log) (index kind : ℕ) → index < length log → get_or log index Finish ≡ Start kind None → is_start_at log index ≡ true
+        start-here [] index kind lt e = absurd (omega arith)
         start-here (x ∷ xs) zero kind lt e = rw e refl
         start-here (x ∷ xs) (suc n) kind lt e = start-here xs n kind (omega arith) e
 

@@ -1,7 +1,7 @@
 -- Kinds entered from the last to the first.
 use Rattle.std.proofs.Common.{◌≡◌, ◌∙◌, ℕ, ◌+◌, ◌≤◌, List, [], ◌∷◌, ◌++◌, length, sym, ap, arith, append_assoc, length-append}
 use Rattle.std.proofs.lemmas.List.{append-nil}
-use Rattle.squawk_output.specs.Steps.{Passed}
+use Rattle.squawk_output.specs.Steps.{Built}
 use Rattle.squawk_output.specs.EventLog.{entering}
 use Rattle.squawk_output.specs.Chain.{entered_back}
 use Rattle.squawk_output.specs.Pass.{Enters}
@@ -11,7 +11,7 @@ entered_back-push [] kind = sym (append-nil (entering kind))
 entered_back-push (k ∷ ks) kind = ap (λ ys. ys ++ entering k) (entered_back-push ks kind) ∙ append_assoc (entering kind) (entered_back ks) (entering k)
 
 -- one kind more
-pub Enters-next : (kinds before after : List ℕ) (output made entered : Passed) (kind : ℕ) → before ≡ after ++ kind ∷ []
+pub Enters-next : (kinds before after : List ℕ) (output made entered : Built) (kind : ℕ) → before ≡ after ++ kind ∷ []
     → entered ≡ record made { steps = made.steps ++ entering kind; turns = made.turns + 2 } → Enters kinds output before made → Enters kinds output after entered
 Enters-next kinds before after output made entered kind popped is enters = record {
   turns = omega (arith, ap length popped, length-append after (kind ∷ []), enters.turns, ap (λ w. w.turns) is);
@@ -24,7 +24,7 @@ Enters-next kinds before after output made entered kind popped is enters = recor
 }
 
 -- the next kind to be entered has room
-pub next_enters : (kinds before after : List ℕ) (output made : Passed) (kind : ℕ) → before ≡ after ++ kind ∷ [] → Enters kinds output before made
+pub next_enters : (kinds before after : List ℕ) (output made : Built) (kind : ℕ) → before ≡ after ++ kind ∷ [] → Enters kinds output before made
     → length output.steps + length (entered_back kinds) ≤ output.room → length made.steps + length (entering kind) ≤ made.room
 next_enters kinds before after output made kind popped enters room =
     omega (

@@ -13,10 +13,10 @@ use Rattle.squawk_output.specs.declared.event.Event.TheVariants.{Start, Finish}
 use Rattle.squawk_output.specs.Chain.{tombstone}
 use Rattle.squawk_output.specs.Draft.{Item, Hole, Open}
 use Rattle.squawk_output.specs.Edits.{extended_items, is_hole_of, is_opening_of, moved, replaced, stands_before, without_hole}
-use Rattle.squawk_output.specs.EventLog.{Log, linked_place}
+use Rattle.squawk_output.specs.EventLog.{Log, linked_index}
 use Rattle.squawk_output.proofs.Gathered.{flat_map-twice, gathered, least_owner, picked}
 use Rattle.squawk_output.specs.LogDraft.{draft_items}
-use Rattle.squawk_output.proofs.GatheredItems.{draft_items-gathered, draft_items-same, flat_map-draft_items, made_by, place_items}
+use Rattle.squawk_output.proofs.GatheredItems.{draft_items-gathered, draft_items-same, flat_map-draft_items, made_by, items_of_index}
 use Rattle.squawk_output.proofs.Groups.{itself}
 use Rattle.squawk_output.proofs.LogItems.{IsNodeAt, no_hole, no_opening, replaced-none}
 use Rattle.squawk_output.proofs.Owners.{farthest, gathered-joined, owner-elsewhere, owner-most, owner-remains}
@@ -45,27 +45,27 @@ module _ (log : Log) (marks : List Bool) (id node kind d : ℕ) (same : length m
   id_within : id < n
   id_within = omega (arith, far, is.within)
 
-  none : linked_place (get_or log id Finish) ≡ None
+  none : linked_index (get_or log id Finish) ≡ None
   none = rw hole refl
 
-  ends : linked_place (get_or log node Finish) ≡ None
+  ends : linked_index (get_or log node Finish) ≡ None
   ends = rw is.event refl
 
-  some_link : linked_place linked ≡ Some d
+  some_link : linked_index linked ≡ Some d
   some_link = ap Some (omega arith)
 
   owns : (j : ℕ) → j ≢ node → least_owner new j ≡ least_owner log j
   owns j ne = owner-elsewhere log id node d linked far none ends some_link is.within j ne
 
-  -- ---- the items at the two places
+  -- ---- the items at the two indices
 
-  old_hole : place_items log marks id ≡ Hole id (made_by log id) ∷ []
+  old_hole : items_of_index log marks id ≡ Hole id (made_by log id) ∷ []
   old_hole = rw (hole, marked) refl
 
-  old_node : place_items log marks node ≡ opening ∷ []
+  old_node : items_of_index log marks node ≡ opening ∷ []
   old_node = rw (is.event, is.unmarked, is.whole) refl
 
-  new_hole : place_items new new_marks id ≡ []
+  new_hole : items_of_index new new_marks id ≡ []
   new_hole =
       let event = get_or-set_same log id linked Finish id_within in
       let mark = get_or-set_same marks id false false (omega (arith, id_within, same)) in
@@ -74,16 +74,16 @@ module _ (log : Log) (marks : List Bool) (id node kind d : ℕ) (same : length m
   not_id : node ≢ id
   not_id e = absurd (omega (arith, e, older))
 
-  new_node : place_items new new_marks node ≡ opening ∷ []
+  new_node : items_of_index new new_marks node ≡ opening ∷ []
   new_node = rw (get_or-set_other log id node linked Finish not_id, get_or-set_other marks id node false false not_id, is.event, is.unmarked, is.whole) refl
 
-  elsewhere : (j : ℕ) → j ≢ id → j ≢ node → place_items new new_marks j ≡ place_items log marks j
+  elsewhere : (j : ℕ) → j ≢ id → j ≢ node → items_of_index new new_marks j ≡ items_of_index log marks j
   elsewhere j ne not_node = rw (owns j not_node, get_or-set_other log id j linked Finish ne, get_or-set_other marks id j false false ne) refl
 
   -- ---- which stands first
 
   abbrev group : ℕ → List Item
-  group i = picked (λ j. least_owner log j == i) (place_items log marks) n
+  group i = picked (λ j. least_owner log j == i) (items_of_index log marks) n
 
   not_same : least_owner log id ≢ least_owner log node
   not_same e = farthest log id node Finish none older is.within (sym e)
@@ -93,10 +93,10 @@ module _ (log : Log) (marks : List Bool) (id node kind d : ℕ) (same : length m
       ap (stands_before (is_hole_of id) (is_opening_of node)) (draft_items-gathered log marks)
       ∙ each-first (is_hole_of id) (is_opening_of node) group n (least_owner log id) (least_owner log node) not_same
       (omega (arith, owner-most log id, id_within)) (omega (arith, owner-most log node, is.within))
-      (group-none (least_owner log) (place_items log marks) n id (is_hole_of id) (no_hole log marks id))
-      (group-none (least_owner log) (place_items log marks) n node (is_opening_of node) (no_opening log marks node))
-      (group-some (least_owner log) (place_items log marks) n id (is_hole_of id) (no_hole log marks id) id_within (rw (old_hole, itself id) refl))
-      (group-some (least_owner log) (place_items log marks) n node (is_opening_of node) (no_opening log marks node) is.within (rw (old_node, itself node) refl))
+      (group-none (least_owner log) (items_of_index log marks) n id (is_hole_of id) (no_hole log marks id))
+      (group-none (least_owner log) (items_of_index log marks) n node (is_opening_of node) (no_opening log marks node))
+      (group-some (least_owner log) (items_of_index log marks) n id (is_hole_of id) (no_hole log marks id) id_within (rw (old_hole, itself id) refl))
+      (group-some (least_owner log) (items_of_index log marks) n node (is_opening_of node) (no_opening log marks node) is.within (rw (old_node, itself node) refl))
 
   -- ---- the opening moves
 
@@ -109,9 +109,9 @@ module _ (log : Log) (marks : List Bool) (id node kind d : ℕ) (same : length m
   abbrev edit : Item → List Item
   edit item = replaced (is_hole_of id) filled (without_opening item)
 
-  edited_elsewhere : (j : ℕ) → j < n → j ≢ node → j ≢ id → flat_map edit (place_items log marks j) ≡ place_items new new_marks j
+  edited_elsewhere : (j : ℕ) → j < n → j ≢ node → j ≢ id → flat_map edit (items_of_index log marks j) ≡ items_of_index new new_marks j
   edited_elsewhere j lt not_node ne =
-      let items = place_items log marks j in
+      let items = items_of_index log marks j in
       sym (flat_map-twice (λ item. if is_hole_of id item then filled item else item ∷ []) without_opening items)
       ∙ (ap (replaced (is_hole_of id) filled) (replaced-none (is_opening_of node) (λ item. []) items (no_opening log marks node j not_node))
       ∙ (replaced-none (is_hole_of id) filled items (no_hole log marks id j ne) ∙ sym (elsewhere j ne not_node)))
@@ -119,8 +119,8 @@ module _ (log : Log) (marks : List Bool) (id node kind d : ℕ) (same : length m
   opening_moves : least_owner log id < least_owner log node → draft_items new new_marks ≡ moved (record { id = node; kind = kind }) id (draft_items log marks)
   opening_moves lt =
       draft_items-gathered new new_marks
-      ∙ (ap (gathered (least_owner new) (place_items new new_marks)) (length-set log id linked)
-      ∙ (gathered-joined log id node d linked far none ends some_link is.within lt (place_items new new_marks) (λ j. flat_map edit (place_items log marks j))
+      ∙ (ap (gathered (least_owner new) (items_of_index new new_marks)) (length-set log id linked)
+      ∙ (gathered-joined log id node d linked far none ends some_link is.within lt (items_of_index new new_marks) (λ j. flat_map edit (items_of_index log marks j))
       (rw (old_hole, itself id, new_node, new_hole) refl) (rw (old_node, itself node) refl) edited_elsewhere
       ∙ (sym (flat_map-draft_items edit log marks) ∙ sym (flat_map-twice (λ item. if is_hole_of id item then filled item else item ∷ []) without_opening (draft_items log marks)))))
 
@@ -139,7 +139,7 @@ module _ (log : Log) (marks : List Bool) (id node kind d : ℕ) (same : length m
       (λ j. elim (eqb_tells j id) [
         | inl e ↦ rw e.1 (new_hole ∙ sym (rw (old_hole, itself id) refl))
         | inr e ↦ rw (node_owner_stays lt j, get_or-set_other log id j linked Finish e.1, get_or-set_other marks id j false false e.1)
-            (sym (replaced-none (is_hole_of id) (λ item. []) (place_items log marks j) (no_hole log marks id j e.1)))
+            (sym (replaced-none (is_hole_of id) (λ item. []) (items_of_index log marks j) (no_hole log marks id j e.1)))
       ])
 
   pub draft_items-extended : draft_items (set log id (Start TOMBSTONE (Some (suc d)))) (set marks id false)

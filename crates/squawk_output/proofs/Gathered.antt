@@ -1,4 +1,4 @@
--- The list of a log as proofs take it apart: by functions of a place, where the definitions have words for lists.
+-- The list of a log as proofs take it apart: by functions of an index, where the definitions have words for lists.
 use Rattle.std.proofs.Common.{◌≡◌, ◌∙◌, ℕ, zero, suc, ◌+◌, ◌==◌, ◌<◌, Bool, true, false, not, cond, List, [], ◌∷◌, ◌++◌, length, get_or, refl, sym, ap, arith, if◌then◌else◌}
 use Rattle.std.specs.Prelude.{filter, reverse}
 use Rattle.std.specs.List.{enumerate_from, flat_map, position_or_len, range_with_len}
@@ -7,32 +7,32 @@ use Rattle.std.proofs.lemmas.List.{append-nil}
 use Rattle.squawk_output.specs.Steps.{Step}
 use Rattle.squawk_output.specs.declared.event.Event.{Event}
 use Rattle.squawk_output.specs.declared.event.Event.TheVariants.{Finish}
-use Rattle.squawk_output.specs.EventLog.{Log, in_list_order, list_of, owned, owner, places, reaches, steps_of_event}
+use Rattle.squawk_output.specs.EventLog.{Log, in_list_order, list_of, owned, owner, indices, reaches, steps_of_event}
 
 -- the least number below n that passes a test, or n
 abbrev pub least : (ℕ → Bool) → ℕ → ℕ
 least p zero = zero
 least p (suc n) = if p 0 then 0 else suc (least (λ i. p (suc i)) n)
 
--- the owner of a place, and the place itself where that is past the log
+-- the owner of an index, and the index itself where that is past the log
 abbrev pub least_owner : Log → ℕ → ℕ
 least_owner log j = least (λ i. reaches log i j) j
 
--- the items of the places below n that pass a test, those of the farthest place first
+-- the items of the indices below n that pass a test, those of the farthest index first
 abbrev pub picked : {X : Type 0} → (ℕ → Bool) → (ℕ → List X) → ℕ → List X
 picked p items zero = []
 picked p items (suc n) = picked (λ j. p (suc j)) (λ j. items (suc j)) n ++ (if p 0 then items 0 else [])
 
--- the items of the places below n, one place after another
+-- the items of the indices below n, one index after another
 abbrev pub each : {X : Type 0} → (ℕ → List X) → ℕ → List X
 each items zero = []
 each items (suc n) = items 0 ++ each (λ i. items (suc i)) n
 
--- for each place in order, the items of the places that it owns, those of the farthest first
+-- for each index in order, the items of the indices that it owns, those of the farthest first
 abbrev pub gathered : {X : Type 0} → (ℕ → ℕ) → (ℕ → List X) → ℕ → List X
 gathered owner_of items n = each (λ i. picked (λ j. owner_of j == i) items n) n
 
--- the steps of the event at a place
+-- the steps of the event at an index
 abbrev pub steps_at : Log → ℕ → List Step
 steps_at [] j = []
 steps_at (event ∷ log) zero = steps_of_event event
@@ -60,11 +60,11 @@ position-least p q a (suc n) (suc j) same lt here =
     ∙ ap (λ k. if q 0 then 0 else suc k)
     (position-least p (λ i. q (suc i)) (a + 1) n j (λ i b e. same (suc i) b (omega (arith, e))) (omega arith) here))
 
--- on the places of the log it is the owner
+-- on the indices of the log it is the owner
 pub owner-least : (log : Log) (j : ℕ) → j < length log → owner log j ≡ least_owner log j
 owner-least log j lt =
     position-least (λ i. reaches log i j) (λ i. reaches log i j) 0 (length log) j
-    (λ i b e. let place : b ≡ i = omega (arith, e) in ap (λ k. reaches log k j) place) lt (reaches-itself log j lt)
+    (λ i b e. let index : b ≡ i = omega (arith, e) in ap (λ k. reaches log k j) index) lt (reaches-itself log j lt)
 
 -- ---- lists
 
@@ -105,17 +105,17 @@ module _ {X : Type 0} where
   pub in_list_order-gathered : (f : ℕ × Event → List X) (items : ℕ → List X) (log : Log) (d : Event) → ((j : ℕ) → j < length log → f (j, get_or log j d) ≡ items j)
       → flat_map f (in_list_order log) ≡ gathered (least_owner log) items (length log)
   in_list_order-gathered f items log d gives =
-      flat_map-twice f (owned log) (places log)
+      flat_map-twice f (owned log) (indices log)
       ∙ flat_map-each (λ i. flat_map f (owned log i)) (λ i. picked (λ j. least_owner log j == i) items (length log)) 0 (length log)
-      (λ i b e. flat_map-picked f (λ (place, event). owner log place == b) (λ j. least_owner log j == i) items 0 log d
-      (λ j c lt here. let place : c ≡ j = omega (arith, here) in let first : b ≡ i = omega (arith, e) in rw (place, first, owner-least log j lt) refl)
-      (λ j c lt here. let place : c ≡ j = omega (arith, here) in rw place (gives j lt)))
+      (λ i b e. flat_map-picked f (λ (index, event). owner log index == b) (λ j. least_owner log j == i) items 0 log d
+      (λ j c lt here. let index : c ≡ j = omega (arith, here) in let first : b ≡ i = omega (arith, e) in rw (index, first, owner-least log j lt) refl)
+      (λ j c lt here. let index : c ≡ j = omega (arith, here) in rw index (gives j lt)))
 
-pub steps-here : (log : Log) (place : ℕ) (d : Event) → place < length log → steps_of_event (get_or log place d) ≡ steps_at log place
-steps-here [] place d lt = absurd (omega arith)
+pub steps-here : (log : Log) (index : ℕ) (d : Event) → index < length log → steps_of_event (get_or log index d) ≡ steps_at log index
+steps-here [] index d lt = absurd (omega arith)
 steps-here (x ∷ xs) zero d lt = refl
 steps-here (x ∷ xs) (suc n) d lt = steps-here xs n d (omega arith)
 
 -- both are the same list
 pub list_of-gathered : (log : Log) → list_of log ≡ gathered (least_owner log) (steps_at log) (length log)
-list_of-gathered log = in_list_order-gathered (λ (place, event). steps_of_event event) (steps_at log) log Finish (λ j lt. steps-here log j Finish lt)
+list_of-gathered log = in_list_order-gathered (λ (index, event). steps_of_event event) (steps_at log) log Finish (λ j lt. steps-here log j Finish lt)

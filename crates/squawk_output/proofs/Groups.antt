@@ -12,7 +12,7 @@ itself a = eq-eqb a a refl
 module _ {X : Type 0} where
   -- ---- the farthest first
 
-  -- the items of the places below n, those of the farthest place first
+  -- the items of the indices below n, those of the farthest index first
   abbrev pub down : (ℕ → List X) → ℕ → List X
   down f zero = []
   down f (suc n) = f n ++ down f n
@@ -54,7 +54,7 @@ module _ {X : Type 0} where
       each-same (λ i. picked (λ j. own j == i) items n) (λ i. picked (λ j. own' j == i) items' n) n
       (λ i h. picked-same (λ j. own j == i) (λ j. own' j == i) items items' n (λ j k. rw (owns j k, same j k) refl))
 
-  -- ---- one place more, which owns itself
+  -- ---- one index more, which owns itself
 
   module _ (own own' : ℕ → ℕ) (items items' : ℕ → List X) (n : ℕ) (owns : (j : ℕ) → j < n → own' j ≡ own j) (same : (j : ℕ) → j < n → items' j ≡ items j)
       (within : (j : ℕ) → j < n → own j < n) (itself_last : own' n ≡ n) where
@@ -88,7 +88,7 @@ module _ {X : Type 0} where
         (each-same (λ i. picked (λ j. own' j == i) items' (suc n)) (λ i. picked (λ j. own j == i) items n) n group_below)
         ∙ ap (λ ys. gathered own items n ++ ys) group_last)
 
-  -- ---- a place that joins another's group
+  -- ---- an index that joins another's group
 
   module _ (f g : ℕ → List X) (m c : ℕ) (before : (j : ℕ) → j < m → g j ≡ f j) (at : g m ≡ f c ++ f m) where
     down-to : (n : ℕ) → m < n → n ≤ c → ((j : ℕ) → m < j → j < c → f j ≡ []) → ((j : ℕ) → m < j → j < c → g j ≡ []) → down g n ≡ f c ++ down f n
@@ -109,7 +109,8 @@ module _ {X : Type 0} where
               (down-past n lo (omega (arith, ne)) (λ j h k. fs j h (omega arith)) (λ j h k. gs j h (omega arith)))
         ]
 
-  -- c comes to the owner of m, and m is the farthest that this owner had: the items of c then stand directly before those of m
+  -- c comes to the owner of m, and m is the farthest that this owner had: the items of c then stand directly before
+  -- those of m
   module _ (own own' : ℕ → ℕ) (items items' : ℕ → List X) (m c n : ℕ) (lo : m < c) (hi : c < n) (moves : own' c ≡ own m)
       (stays : (j : ℕ) → j ≢ c → own' j ≡ own j) (farthest : (j : ℕ) → m < j → j < n → own j ≢ own m) (at : items' m ≡ items c ++ items m)
       (gone : items' c ≡ []) (rest : (j : ℕ) → j < n → j ≢ c → j ≢ m → items' j ≡ items j) where

@@ -67,12 +67,12 @@ reads-push {texts} {events} {log} {marks} x reads has = record {
   have = All-append (HasEventText texts) events (x ∷ []) reads.have (All-cons (HasEventText texts) x [] has (All-nil (HasEventText texts)));
 }
 
-reads-set : {texts : List (List ℕ)} {events : List StoredEvent} {log : Log} {marks : List Bool} (place : ℕ) (x : StoredEvent) → Reads texts events log marks → HasEventText texts x
-    → Reads texts (set events place x) (set log place (event_of texts x)) (set marks place (is_open_event x))
-reads-set {texts} {events} {log} {marks} place x reads has = record {
-  log_is = map-set (event_of texts) events place x ∙ ap (λ ys. set ys place (event_of texts x)) reads.log_is;
-  marks_are = map-set is_open_event events place x ∙ ap (λ ms. set ms place (is_open_event x)) reads.marks_are;
-  have = All-set (HasEventText texts) events place x has reads.have;
+reads-set : {texts : List (List ℕ)} {events : List StoredEvent} {log : Log} {marks : List Bool} (index : ℕ) (x : StoredEvent) → Reads texts events log marks → HasEventText texts x
+    → Reads texts (set events index x) (set log index (event_of texts x)) (set marks index (is_open_event x))
+reads-set {texts} {events} {log} {marks} index x reads has = record {
+  log_is = map-set (event_of texts) events index x ∙ ap (λ ys. set ys index (event_of texts x)) reads.log_is;
+  marks_are = map-set is_open_event events index x ∙ ap (λ ms. set ms index (is_open_event x)) reads.marks_are;
+  have = All-set (HasEventText texts) events index x has reads.have;
 }
 
 module _ (texts : List (List ℕ)) (events : List StoredEvent) (recorded : ℕ) (old : Draft) (kept : IsKeptRecord texts events recorded)

@@ -11,7 +11,7 @@ pub mod Visits
 pub mod StoredVisits
 pub mod PlainVisits
 pub mod Examples
-pub mod NotedRoot
+pub mod TrackedRoot
 pub mod StoredEvents
 pub mod Owners
 pub mod Groups

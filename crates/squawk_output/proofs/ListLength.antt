@@ -11,10 +11,10 @@ length-steps_of_event : (event : Event) → length (steps_of_event event) ≤ 1
 length-steps_of_event (Start kind link) = grind arith
 length-steps_of_event event = omega arith
 
-length-steps_at : (log : Log) (place : ℕ) → length (steps_at log place) ≤ 1
-length-steps_at [] place = omega arith
+length-steps_at : (log : Log) (index : ℕ) → length (steps_at log index) ≤ 1
+length-steps_at [] index = omega arith
 length-steps_at (event ∷ log) zero = length-steps_of_event event
-length-steps_at (event ∷ log) (suc place) = length-steps_at log place
+length-steps_at (event ∷ log) (suc index) = length-steps_at log index
 
 pub length-list_of : (log : Log) → length (list_of log) ≤ length log
 length-list_of log =

@@ -13,10 +13,10 @@ use Rattle.squawk_output.specs.Draft.{Item, Hole, Open}
 use Rattle.squawk_output.specs.declared.log.Made.{Made}
 use Rattle.squawk_output.specs.declared.log.Made.TheVariants.{ByPrecede, ByStart}
 use Rattle.squawk_output.specs.Edits.{is_hole_of, is_opening_of, preceded_item, replaced}
-use Rattle.squawk_output.specs.EventLog.{LinksLead, Log, linked_place}
+use Rattle.squawk_output.specs.EventLog.{LinksLead, Log, linked_index}
 use Rattle.squawk_output.proofs.Gathered.{gathered, least_owner}
 use Rattle.squawk_output.specs.LogDraft.{draft_items, items_of}
-use Rattle.squawk_output.proofs.GatheredItems.{draft_items-gathered, draft_items-same, flat_map-draft_items, made_by, place_items}
+use Rattle.squawk_output.proofs.GatheredItems.{draft_items-gathered, draft_items-same, flat_map-draft_items, made_by, items_of_index}
 use Rattle.squawk_output.proofs.Groups.{gathered-push, itself}
 use Rattle.squawk_output.proofs.LogItems.{IsNodeAt, no_hole, no_opening, replaced-none}
 use Rattle.squawk_output.proofs.Owners.{gathered-joined, owner-elsewhere, owner-joins, owner-kept, owner-last, owner-most, owner-push}
@@ -26,7 +26,7 @@ length-push xs x = omega (arith, length-append xs (x ∷ []))
 
 -- an event at the end, with its mark: its items stand at the end
 module _ (log : Log) (marks : List Bool) (event : Event) (mark : Bool) (links : LinksLead log) (same : length marks ≡ length log) where
-  pub pushed-below : (j : ℕ) → j < length log → place_items (log ++ event ∷ []) (marks ++ mark ∷ []) j ≡ place_items log marks j
+  pub pushed-below : (j : ℕ) → j < length log → items_of_index (log ++ event ∷ []) (marks ++ mark ∷ []) j ≡ items_of_index log marks j
   pushed-below j lt =
       let marked : j < length marks = omega (arith, lt, same) in
       rw (owner-push log event j lt, get_or-append log (event ∷ []) Finish j lt, get_or-append marks (mark ∷ []) false j marked) refl
@@ -34,22 +34,22 @@ module _ (log : Log) (marks : List Bool) (event : Event) (mark : Bool) (links : 
   last_mark : get_or (marks ++ mark ∷ []) (length log) false ≡ mark
   last_mark = ap (λ i. get_or (marks ++ mark ∷ []) i false) (sym same) ∙ get_or-append_seam marks mark [] false
 
-  pushed-last : place_items (log ++ event ∷ []) (marks ++ mark ∷ []) (length log) ≡ items_of (length log) ByStart event mark
+  pushed-last : items_of_index (log ++ event ∷ []) (marks ++ mark ∷ []) (length log) ≡ items_of (length log) ByStart event mark
   pushed-last = rw (owner-last log event links, itself (length log), get_or-append_seam log event [] Finish, last_mark) refl
 
   pub draft_items-push : draft_items (log ++ event ∷ []) (marks ++ mark ∷ []) ≡ draft_items log marks ++ items_of (length log) ByStart event mark
   draft_items-push =
       draft_items-gathered (log ++ event ∷ []) (marks ++ mark ∷ [])
-      ∙ (ap (gathered (least_owner (log ++ event ∷ [])) (place_items (log ++ event ∷ []) (marks ++ mark ∷ []))) (length-push log event)
-      ∙ (gathered-push (least_owner log) (least_owner (log ++ event ∷ [])) (place_items log marks) (place_items (log ++ event ∷ []) (marks ++ mark ∷ [])) (length log) (owner-push log event)
+      ∙ (ap (gathered (least_owner (log ++ event ∷ [])) (items_of_index (log ++ event ∷ []) (marks ++ mark ∷ []))) (length-push log event)
+      ∙ (gathered-push (least_owner log) (least_owner (log ++ event ∷ [])) (items_of_index log marks) (items_of_index (log ++ event ∷ []) (marks ++ mark ∷ [])) (length log) (owner-push log event)
       pushed-below (λ j lt. omega (arith, owner-most log j, lt)) (owner-last log event links)
-      ∙ (ap (λ ys. gathered (least_owner log) (place_items log marks) (length log) ++ ys) pushed-last
+      ∙ (ap (λ ys. gathered (least_owner log) (items_of_index log marks) (length log) ++ ys) pushed-last
       ∙ ap (λ ys. ys ++ items_of (length log) ByStart event mark) (sym (draft_items-gathered log marks)))))
 
--- a hole's event changed to one without a link, and its mark taken away: the hole gives place to what the event then
+-- a hole's event changed to one without a link, and its mark taken away: the hole is replaced by what the event then
 -- stands for
 pub draft_items-filled : (log : Log) (marks : List Bool) (id kind : ℕ) (event : Event) (f : Item → List Item) → id < length log → length marks ≡ length log
-    → get_or log id Finish ≡ Start kind None → get_or marks id false ≡ true → linked_place event ≡ None → ((made : Made) → items_of id made event false ≡ f (Hole id made))
+    → get_or log id Finish ≡ Start kind None → get_or marks id false ≡ true → linked_index event ≡ None → ((made : Made) → items_of id made event false ≡ f (Hole id made))
     → draft_items (set log id event) (set marks id false) ≡ replaced (is_hole_of id) f (draft_items log marks)
 draft_items-filled log marks id kind event f lt same is marked alone gives =
     let owns : (j : ℕ) → least_owner (set log id event) j ≡ least_owner log j = owner-kept log id event Finish (rw is alone) in
@@ -58,7 +58,7 @@ draft_items-filled log marks id kind event f lt same is marked alone gives =
       | inl e ↦ rw (e.1, owns id, get_or-set_same log id event Finish lt, get_or-set_same marks id false false (omega (arith, lt, same)), is, marked, itself id)
           (gives (made_by log id) ∙ sym (append-nil (f (Hole id (made_by log id)))))
       | inr e ↦ rw (owns j, get_or-set_other log id j event Finish e.1, get_or-set_other marks id j false false e.1)
-          (sym (replaced-none (is_hole_of id) f (place_items log marks j) (no_hole log marks id j e.1)))
+          (sym (replaced-none (is_hole_of id) f (items_of_index log marks j) (no_hole log marks id j e.1)))
     ])
 
 -- a new hole at the end, and a link to it from a node that has none: the hole stands directly before the node's opening
@@ -82,20 +82,20 @@ module _ (log : Log) (marks : List Bool) (node kind d : ℕ) (links : LinksLead 
   abbrev edit : Item → List Item
   edit item = Hole n ByPrecede ∷ preceded_item item ∷ []
 
-  -- the items of a place as the edit has them, and none of the new one, which stand at the node's
+  -- the items of an index as the edit has them, and none of the new one, which stand at the node's
   abbrev edited : ℕ → List Item
-  edited j = if j == n then [] else replaced (is_opening_of node) edit (place_items log marks j)
+  edited j = if j == n then [] else replaced (is_opening_of node) edit (items_of_index log marks j)
 
   n_within : n < length more
   n_within = omega (arith, length-push log tombstone)
 
-  none : linked_place (get_or more node Finish) ≡ None
+  none : linked_index (get_or more node Finish) ≡ None
   none = rw (get_or-append log (tombstone ∷ []) Finish node is.within, is.event) refl
 
-  ends : linked_place (get_or more n Finish) ≡ None
+  ends : linked_index (get_or more n Finish) ≡ None
   ends = rw (get_or-append_seam log tombstone [] Finish) refl
 
-  some : linked_place linked ≡ Some d
+  some : linked_index linked ≡ Some d
   some = ap Some (omega arith)
 
   owns : (j : ℕ) → j < n → least_owner new j ≡ least_owner log j
@@ -113,7 +113,7 @@ module _ (log : Log) (marks : List Bool) (node kind d : ℕ) (links : LinksLead 
   marks_below : (j : ℕ) → j < n → get_or new_marks j false ≡ get_or marks j false
   marks_below j lt = get_or-append marks (true ∷ []) false j (omega (arith, lt, same))
 
-  new_last : place_items new new_marks n ≡ Hole n ByPrecede ∷ []
+  new_last : items_of_index new new_marks n ≡ Hole n ByPrecede ∷ []
   new_last =
       let event : get_or new n Finish ≡ tombstone =
       get_or-set_other more node n linked Finish (λ e. absurd (omega (arith, e, is.within))) ∙ get_or-append_seam log tombstone [] Finish in
@@ -122,46 +122,46 @@ module _ (log : Log) (marks : List Bool) (node kind d : ℕ) (links : LinksLead 
       ne_eqb (least_owner new n) n (λ e. absurd (omega (arith, e, owner-most log node, owns_last, node_owner, is.within))) in
       rw (owned, event, mark) refl
 
-  new_node : place_items new new_marks node ≡ Open node kind false ∷ []
+  new_node : items_of_index new new_marks node ≡ Open node kind false ∷ []
   new_node =
       let event : get_or new node Finish ≡ linked = get_or-set_same more node linked Finish (omega (arith, is.within, n_within)) in
       let mark : get_or new_marks node false ≡ false = marks_below node is.within ∙ is.unmarked in
       rw (event, mark, is.whole) refl
 
-  old_node : replaced (is_opening_of node) edit (place_items log marks node) ≡ Hole n ByPrecede ∷ Open node kind false ∷ []
+  old_node : replaced (is_opening_of node) edit (items_of_index log marks node) ≡ Hole n ByPrecede ∷ Open node kind false ∷ []
   old_node = rw (is.event, is.unmarked, is.whole, itself node) refl
 
-  elsewhere : (j : ℕ) → j < n → j ≢ node → place_items new new_marks j ≡ place_items log marks j
+  elsewhere : (j : ℕ) → j < n → j ≢ node → items_of_index new new_marks j ≡ items_of_index log marks j
   elsewhere j lt ne = rw (owns j lt, get_or-set_other more node j linked Finish ne, get_or-append log (tombstone ∷ []) Finish j lt, marks_below j lt) refl
 
-  edited_below : (j : ℕ) → j < n → edited j ≡ replaced (is_opening_of node) edit (place_items log marks j)
+  edited_below : (j : ℕ) → j < n → edited j ≡ replaced (is_opening_of node) edit (items_of_index log marks j)
   edited_below j lt = rw (ne_eqb j n (λ e. absurd (omega (arith, e, lt)))) refl
 
   edited_last : edited n ≡ []
   edited_last = rw (itself n) refl
 
-  edited_node : edited node ≡ place_items new new_marks n ++ place_items new new_marks node
+  edited_node : edited node ≡ items_of_index new new_marks n ++ items_of_index new new_marks node
   edited_node = edited_below node is.within ∙ (old_node ∙ rw (new_last, new_node) refl)
 
-  edited_elsewhere : (j : ℕ) → j < suc n → j ≢ n → j ≢ node → edited j ≡ place_items new new_marks j
+  edited_elsewhere : (j : ℕ) → j < suc n → j ≢ n → j ≢ node → edited j ≡ items_of_index new new_marks j
   edited_elsewhere j h ne not_node =
       let lt : j < n = omega (arith, h, ne) in
       edited_below j lt
-      ∙ (replaced-none (is_opening_of node) edit (place_items log marks j) (no_opening log marks node j not_node) ∙ sym (elsewhere j lt not_node))
+      ∙ (replaced-none (is_opening_of node) edit (items_of_index log marks j) (no_opening log marks node j not_node) ∙ sym (elsewhere j lt not_node))
 
   whole_edit : gathered (least_owner more) edited (suc n) ≡ replaced (is_opening_of node) edit (draft_items log marks)
   whole_edit =
-      gathered-push (least_owner log) (least_owner more) (λ j. replaced (is_opening_of node) edit (place_items log marks j)) edited n (owner-push log tombstone) edited_below
+      gathered-push (least_owner log) (least_owner more) (λ j. replaced (is_opening_of node) edit (items_of_index log marks j)) edited n (owner-push log tombstone) edited_below
       (λ j lt. omega (arith, owner-most log j, lt)) (owner-last log tombstone links)
-      ∙ (ap (λ ys. gathered (least_owner log) (λ j. replaced (is_opening_of node) edit (place_items log marks j)) n ++ ys) edited_last
-      ∙ (append-nil (gathered (least_owner log) (λ j. replaced (is_opening_of node) edit (place_items log marks j)) n)
+      ∙ (ap (λ ys. gathered (least_owner log) (λ j. replaced (is_opening_of node) edit (items_of_index log marks j)) n ++ ys) edited_last
+      ∙ (append-nil (gathered (least_owner log) (λ j. replaced (is_opening_of node) edit (items_of_index log marks j)) n)
       ∙ sym (flat_map-draft_items (λ item. if is_opening_of node item then edit item else item ∷ []) log marks)))
 
   pub draft_items-preceded : draft_items (set (log ++ tombstone ∷ []) node (Start kind (Some (suc d)))) (marks ++ true ∷ [])
       ≡ replaced (is_opening_of node) (λ item. Hole (length log) ByPrecede ∷ preceded_item item ∷ []) (draft_items log marks)
   draft_items-preceded =
       draft_items-gathered new new_marks
-      ∙ (ap (gathered (least_owner new) (place_items new new_marks)) (length-set more node linked)
-      ∙ (gathered-joined more node n d linked far none ends some n_within owner_first (place_items new new_marks) edited edited_node edited_last
+      ∙ (ap (gathered (least_owner new) (items_of_index new new_marks)) (length-set more node linked)
+      ∙ (gathered-joined more node n d linked far none ends some n_within owner_first (items_of_index new new_marks) edited edited_node edited_last
       (λ j h. edited_elsewhere j (omega (arith, h, length-push log tombstone)))
       ∙ (ap (gathered (least_owner more) edited) (length-push log tombstone) ∙ whole_edit)))

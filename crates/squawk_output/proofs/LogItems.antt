@@ -14,24 +14,25 @@ use Rattle.squawk_output.specs.Edits.{is_hole_of, is_opening_of, replaced}
 use Rattle.squawk_output.specs.EventLog.{Log, has_link}
 use Rattle.squawk_output.proofs.Gathered.{each, gathered, least_owner, picked}
 use Rattle.squawk_output.specs.LogDraft.{draft_items, items_of}
-use Rattle.squawk_output.proofs.GatheredItems.{draft_items-gathered, made_by, place_items}
+use Rattle.squawk_output.proofs.GatheredItems.{draft_items-gathered, made_by, items_of_index}
 
--- the items of an event are none or one: a hole where it has a mark, an opening where it is a node's and has none, or one without an id
+-- the items of an event are none or one: a hole where it has a mark, an opening where it is a node's and has none, or
+-- one without an id
 pub items_of-cases : (P : List Item → Type 0) → P [] → P (Close ∷ []) → ((kind n : ℕ) → P (draft.Token kind n ∷ [])) → ((text : List ℕ) → P (draft.Error text ∷ []))
-    → (place : ℕ) (made : Made) (event : Event) (mark : Bool) → (mark ≡ true → P (Hole place made ∷ []))
-    → ((kind : ℕ) (link : Option ℕ) → event ≡ Start kind link → mark ≡ false → (kind == TOMBSTONE) ≡ false → P (Open place kind (not (has_link (Start kind link))) ∷ []))
-    → P (items_of place made event mark)
-items_of-cases P none close token error place made (Start kind link) true hole opening = hole refl
-items_of-cases P none close token error place made (Start kind link) false hole opening = cases (kind == TOMBSTONE) refl
+    → (index : ℕ) (made : Made) (event : Event) (mark : Bool) → (mark ≡ true → P (Hole index made ∷ []))
+    → ((kind : ℕ) (link : Option ℕ) → event ≡ Start kind link → mark ≡ false → (kind == TOMBSTONE) ≡ false → P (Open index kind (not (has_link (Start kind link))) ∷ []))
+    → P (items_of index made event mark)
+items_of-cases P none close token error index made (Start kind link) true hole opening = hole refl
+items_of-cases P none close token error index made (Start kind link) false hole opening = cases (kind == TOMBSTONE) refl
   where
-    cases : (b : Bool) → (kind == TOMBSTONE) ≡ b → P (if b then [] else Open place kind (not (has_link (Start kind link))) ∷ [])
+    cases : (b : Bool) → (kind == TOMBSTONE) ≡ b → P (if b then [] else Open index kind (not (has_link (Start kind link))) ∷ [])
     cases true is = none
     cases false is = opening kind link refl refl is
-items_of-cases P none close token error place made Finish mark hole opening = close
-items_of-cases P none close token error place made (Token kind n) mark hole opening = token kind n
-items_of-cases P none close token error place made (Error text) mark hole opening = error text
+items_of-cases P none close token error index made Finish mark hole opening = close
+items_of-cases P none close token error index made (Token kind n) mark hole opening = token kind n
+items_of-cases P none close token error index made (Error text) mark hole opening = error text
 
--- ---- items of other places
+-- ---- items of other indices
 
 pub replaced-none : (p : Item → Bool) (f : Item → List Item) (items : List Item) → list_any p items ≡ false → replaced p f items ≡ items
 replaced-none p f [] none = refl
@@ -81,17 +82,17 @@ module _ {X : Type 0} (P : X → Type 0) where
   All-each items zero all = All-nil P
   All-each items (suc n) all = All-append P (items 0) (each (λ i. items (suc i)) n) (all 0) (All-each (λ i. items (suc i)) n (λ i. all (suc i)))
 
-  -- what is gathered has what the items of all places have
+  -- what is gathered has what the items of all indices have
   All-gathered : (own : ℕ → ℕ) (items : ℕ → List X) (n : ℕ) → ((j : ℕ) → j < n → All P (items j)) → All P (gathered own items n)
   All-gathered own items n all = All-each (λ i. picked (λ j. own j == i) items n) n (λ i. All-picked (λ j. own j == i) items n all)
 
 module _ (log : Log) (marks : List Bool) where
-  pub no_hole : (id j : ℕ) → j ≢ id → list_any (is_hole_of id) (place_items log marks j) ≡ false
+  pub no_hole : (id j : ℕ) → j ≢ id → list_any (is_hole_of id) (items_of_index log marks j) ≡ false
   no_hole id j ne =
       items_of-cases (λ items. list_any (is_hole_of id) items ≡ false) refl refl (λ kind n. refl) (λ text. refl) j (made_by log j) (get_or log j Finish) (get_or marks j false)
       (λ marked. rw (ne_eqb j id ne) refl) (λ kind link is unmarked whole. refl)
 
-  pub no_opening : (id j : ℕ) → j ≢ id → list_any (is_opening_of id) (place_items log marks j) ≡ false
+  pub no_opening : (id j : ℕ) → j ≢ id → list_any (is_opening_of id) (items_of_index log marks j) ≡ false
   no_opening id j ne =
       items_of-cases (λ items. list_any (is_opening_of id) items ≡ false) refl refl (λ kind n. refl) (λ text. refl) j (made_by log j) (get_or log j Finish) (get_or marks j false)
       (λ marked. refl) (λ kind link is unmarked whole. rw (ne_eqb j id ne) refl)
@@ -103,8 +104,8 @@ module _ (log : Log) (marks : List Bool) where
   Says (Open id kind false) = id < length log
   Says item = Unit {0}
 
-  place_says : (j : ℕ) → j < length log → All (Says) (place_items log marks j)
-  place_says j lt =
+  index_says : (j : ℕ) → j < length log → All (Says) (items_of_index log marks j)
+  index_says j lt =
       items_of-cases (All Says) (All-nil Says) (All-only Says Close tt) (λ kind n. All-only Says (draft.Token kind n) tt) (λ text. All-only Says (draft.Error text) tt)
       j (made_by log j) (get_or log j Finish) (get_or marks j false)
       (λ marked. All-only Says (Hole j (made_by log j)) (record { within = lt; marked = marked; how = refl }))
@@ -116,7 +117,7 @@ module _ (log : Log) (marks : List Bool) where
       opened kind (Some distance) is unmarked whole = lt
 
   says : All Says (draft_items log marks)
-  says = rw (draft_items-gathered log marks) (All-gathered Says (least_owner log) (place_items log marks) (length log) place_says)
+  says = rw (draft_items-gathered log marks) (All-gathered Says (least_owner log) (items_of_index log marks) (length log) index_says)
 
   pub IsHoleAt-found : (id : ℕ) (made : Made) → Contains (draft_items log marks) (Hole id made) → IsHoleAt log marks id made
   IsHoleAt-found id made = All-contains Says (draft_items log marks) (Hole id made) says
@@ -124,7 +125,7 @@ module _ (log : Log) (marks : List Bool) where
   pub IsNodeAt-found : (id kind : ℕ) → Contains (draft_items log marks) (Open id kind true) → IsNodeAt log marks id kind
   IsNodeAt-found id kind = All-contains Says (draft_items log marks) (Open id kind true) says
 
-  -- an id is a place of the log
+  -- an id is an index of the log
   pub ids_within : IsAboveIds (length log) (draft_items log marks)
   ids_within = All-flat_map (λ i. i < length log) ids_of (draft_items log marks) (λ k item lt. within (get_or (draft_items log marks) k item) (says k item lt))
     where

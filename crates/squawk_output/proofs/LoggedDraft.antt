@@ -10,7 +10,7 @@ use Rattle.squawk_output.specs.Draft.{IsLogged, Item, ids, ids_of}
 use Rattle.squawk_output.specs.EventLog.{Log}
 use Rattle.squawk_output.specs.KeptLogs.{IsRecord}
 use Rattle.squawk_output.specs.LogDraft.{draft_items, draft_of}
-use Rattle.squawk_output.proofs.GatheredItems.{made_by, place_items, size-draft_items}
+use Rattle.squawk_output.proofs.GatheredItems.{made_by, items_of_index, size-draft_items}
 use Rattle.squawk_output.proofs.Groups.{itself}
 use Rattle.squawk_output.proofs.LogItems.{ids_within, items_of-cases}
 use Rattle.squawk_output.proofs.LogTurns.{turns_of-most}
@@ -23,13 +23,13 @@ length-draft_items log marks =
     omega (
       arith,
       size-draft_items length refl length-append log marks,
-      total-most (λ j. length (place_items log marks j)) (λ j. 1) (length log)
+      total-most (λ j. length (items_of_index log marks j)) (λ j. 1) (length log)
           (λ j. items_of-cases (λ items. length items ≤ 1) (omega arith) (omega arith) (λ kind n. omega arith) (λ text. omega arith) j (made_by log j) (get_or log j Finish)
           (get_or marks j false) (λ marked. omega arith) (λ kind link is unmarked whole. omega arith)),
       total-ones (length log),
     )
 
--- ---- and its id is the event's place
+-- ---- and its id is the event's index
 
 module _ (id : ℕ) where
   -- how often items have the id
@@ -39,11 +39,11 @@ module _ (id : ℕ) where
   times-append : (xs ys : List Item) → times (xs ++ ys) ≡ times xs + times ys
   times-append xs ys = ap (count_by (λ i. i == id)) (flat_map-append ids_of xs ys) ∙ sum_by-append (λ i. cond (i == id) 1 0) (ids xs) (ids ys)
 
-  once_there : (place : ℕ) → count_by (λ i. i == id) (place ∷ []) ≤ (if id == place then 1 else 0)
-  once_there place =
-      elim (eqb_tells id place) [
-        | inl e ↦ rw (e.1, itself place) (omega arith)
-        | inr e ↦ let other = ne_eqb place id (λ same. e.1 (sym same)) in rw (other, e.0) (omega arith)
+  once_there : (index : ℕ) → count_by (λ i. i == id) (index ∷ []) ≤ (if id == index then 1 else 0)
+  once_there index =
+      elim (eqb_tells id index) [
+        | inl e ↦ rw (e.1, itself index) (omega arith)
+        | inr e ↦ let other = ne_eqb index id (λ same. e.1 (sym same)) in rw (other, e.0) (omega arith)
       ]
 
   times-draft_items : (log : Log) (marks : List Bool) → times (draft_items log marks) ≤ total (λ j. if id == j then 1 else 0) (length log)
@@ -51,7 +51,7 @@ module _ (id : ℕ) where
       omega (
         arith,
         size-draft_items times refl times-append log marks,
-        total-most (λ j. times (place_items log marks j)) (λ j. if id == j then 1 else 0) (length log)
+        total-most (λ j. times (items_of_index log marks j)) (λ j. if id == j then 1 else 0) (length log)
             (λ j. items_of-cases (λ items. times items ≤ (if id == j then 1 else 0)) (omega arith) (omega arith) (λ kind n. omega arith) (λ text. omega arith) j (made_by log j)
             (get_or log j Finish) (get_or marks j false) (λ marked. once_there j) (λ kind link is unmarked whole. once_there j)),
       )

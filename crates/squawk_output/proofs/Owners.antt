@@ -1,10 +1,10 @@
--- From where a place is reached, and who owns it.
+-- From where an index is reached, and who owns it.
 use Rattle.std.proofs.Common.{◌≡◌, ◌≢◌, ◌∙◌, ℕ, zero, suc, ◌+◌, ◌-◌, ◌<◌, ◌≤◌, ◌||◌, ◌&&◌, Bool, true, false, Some, None, Option, List, [], ◌∷◌, ◌++◌, length, length-append, get_or, set, refl, sym, ap, arith, if◌then◌else◌}
 use Rattle.std.proofs.Math.Bool.{and-false, and-true, or-false, or-true}
 use Rattle.std.proofs.lemmas.Bool.{false_from_ne_true}
 use Rattle.squawk_output.specs.declared.event.Event.{Event}
 use Rattle.squawk_output.specs.declared.event.Event.TheVariants.{Start, Finish}
-use Rattle.squawk_output.specs.EventLog.{Lands, LinksLead, Log, linked_place, leads, reaches}
+use Rattle.squawk_output.specs.EventLog.{Lands, LinksLead, Log, linked_index, leads, reaches}
 use Rattle.squawk_output.specs.Draft.{Item}
 use Rattle.squawk_output.proofs.Gathered.{gathered, least, least_owner, reaches-itself}
 use Rattle.squawk_output.proofs.Groups.{gathered-moved}
@@ -21,19 +21,19 @@ leads-both : (link : Option ℕ) (p q : ℕ → Bool) (R : Type 0) → leads lin
 leads-both None p q R a b go = absurd (cc)
 leads-both (Some n) p q R a b go = go n a b
 
--- of two places that one reaches, the nearer reaches the farther
+-- of two indices that one reaches, the nearer reaches the farther
 reaches-between : (log : Log) (i m j : ℕ) → reaches log i m ≡ true → reaches log i j ≡ true → m ≤ j → reaches log m j ≡ true
 reaches-between [] i m j a b le = absurd (cc)
 reaches-between (x ∷ xs) zero zero j a b le = b
 reaches-between (x ∷ xs) zero (suc m) zero a b le = absurd (omega arith)
 reaches-between (x ∷ xs) zero (suc m) (suc j) a b le =
-    leads-both (linked_place x) (λ n. reaches xs n m) (λ n. reaches xs n j) (reaches xs m j ≡ true) a b (λ n c d. reaches-between xs n m j c d (omega arith))
+    leads-both (linked_index x) (λ n. reaches xs n m) (λ n. reaches xs n j) (reaches xs m j ≡ true) a b (λ n c d. reaches-between xs n m j c d (omega arith))
 reaches-between (x ∷ xs) (suc i) zero j a b le = absurd (cc)
 reaches-between (x ∷ xs) (suc i) (suc m) zero a b le = absurd (cc)
 reaches-between (x ∷ xs) (suc i) (suc m) (suc j) a b le = reaches-between xs i m j a b (omega arith)
 
 -- an event without a link reaches itself alone
-reaches-alone : (log : Log) (m j : ℕ) (d : Event) → linked_place (get_or log m d) ≡ None → reaches log m j ≡ true → j ≡ m
+reaches-alone : (log : Log) (m j : ℕ) (d : Event) → linked_index (get_or log m d) ≡ None → reaches log m j ≡ true → j ≡ m
 reaches-alone [] m j d none h = absurd (cc)
 reaches-alone (x ∷ xs) zero zero d none h = refl
 reaches-alone (x ∷ xs) zero (suc j) d none h = let there = rw none at h in absurd (cc)
@@ -45,11 +45,11 @@ reaches-alone (x ∷ xs) (suc m) (suc j) d none h = ap suc (reaches-alone xs m j
 reaches-push : (log : Log) (x : Event) (i j : ℕ) → j < length log → reaches (log ++ x ∷ []) i j ≡ reaches log i j
 reaches-push [] x i j lt = absurd (omega arith)
 reaches-push (y ∷ ys) x zero zero lt = refl
-reaches-push (y ∷ ys) x zero (suc j) lt = leads-same (linked_place y) (λ n. reaches (ys ++ x ∷ []) n j) (λ n. reaches ys n j) (λ n. reaches-push ys x n j (omega arith))
+reaches-push (y ∷ ys) x zero (suc j) lt = leads-same (linked_index y) (λ n. reaches (ys ++ x ∷ []) n j) (λ n. reaches ys n j) (λ n. reaches-push ys x n j (omega arith))
 reaches-push (y ∷ ys) x (suc i) zero lt = refl
 reaches-push (y ∷ ys) x (suc i) (suc j) lt = reaches-push ys x i j (omega arith)
 
-leads-nowhere : (y : Event) (ys : Log) (p : ℕ → Bool) → Lands y ys → ((n : ℕ) → n < length ys → p n ≡ false) → leads (linked_place y) p ≡ false
+leads-nowhere : (y : Event) (ys : Log) (p : ℕ → Bool) → Lands y ys → ((n : ℕ) → n < length ys → p n ≡ false) → leads (linked_index y) p ≡ false
 leads-nowhere (Start kind None) ys p lands none = refl
 leads-nowhere (Start kind (Some distance)) ys p lands none = none (distance - 1) (is_start_at-within ys (distance - 1) lands.1)
 leads-nowhere event ys p lands none = refl
@@ -60,14 +60,14 @@ reaches-last [] x i links lt = absurd (omega arith)
 reaches-last (y ∷ ys) x zero links lt = leads-nowhere y ys (λ n. reaches (ys ++ x ∷ []) n (length ys)) links.0 (λ n k. reaches-last ys x n links.1 k)
 reaches-last (y ∷ ys) x (suc i) links lt = reaches-last ys x i links.1 (omega arith)
 
--- ---- a new link, from a place that had none
+-- ---- a new link, from an index that had none
 
 leads-or : (link : Option ℕ) (p q r : ℕ → Bool) (s : Bool) → ((n : ℕ) → p n ≡ (q n || (r n && s))) → leads link p ≡ (leads link q || (leads link r && s))
 leads-or None p q r s same = refl
 leads-or (Some n) p q r s same = same n
 
--- what reaches the place reaches also what the link leads to
-reaches-linked : (log : Log) (m c d : ℕ) (y z : Event) → c ≡ m + suc d → linked_place (get_or log m z) ≡ None → linked_place y ≡ Some d → m < length log → (i j : ℕ)
+-- what reaches the index reaches also what the link leads to
+reaches-linked : (log : Log) (m c d : ℕ) (y z : Event) → c ≡ m + suc d → linked_index (get_or log m z) ≡ None → linked_index y ≡ Some d → m < length log → (i j : ℕ)
     → reaches (set log m y) i j ≡ (reaches log i j || (reaches log i m && reaches log c j))
 reaches-linked [] m c d y z far none some lt i j = absurd (omega arith)
 reaches-linked (x ∷ xs) m zero d y z far none some lt i j = absurd (omega arith)
@@ -77,25 +77,25 @@ reaches-linked (x ∷ xs) zero (suc c) d y z far none some lt (suc i) zero = ref
 reaches-linked (x ∷ xs) zero (suc c) d y z far none some lt (suc i) (suc j) = sym (or-false (reaches xs i j))
 reaches-linked (x ∷ xs) (suc m) (suc c) d y z far none some lt zero zero = refl
 reaches-linked (x ∷ xs) (suc m) (suc c) d y z far none some lt zero (suc j) =
-    leads-or (linked_place x) (λ n. reaches (set xs m y) n j) (λ n. reaches xs n j) (λ n. reaches xs n m) (reaches xs c j)
+    leads-or (linked_index x) (λ n. reaches (set xs m y) n j) (λ n. reaches xs n j) (λ n. reaches xs n m) (reaches xs c j)
     (λ n. reaches-linked xs m c d y z (omega arith) none some (omega arith) n j)
 reaches-linked (x ∷ xs) (suc m) (suc c) d y z far none some lt (suc i) zero = sym (and-false (reaches xs i m))
 reaches-linked (x ∷ xs) (suc m) (suc c) d y z far none some lt (suc i) (suc j) = reaches-linked xs m c d y z (omega arith) none some (omega arith) i j
 
 -- ---- the same link
 
-reaches-kept : (log : Log) (m : ℕ) (y d : Event) → linked_place y ≡ linked_place (get_or log m d) → (i j : ℕ) → reaches (set log m y) i j ≡ reaches log i j
+reaches-kept : (log : Log) (m : ℕ) (y d : Event) → linked_index y ≡ linked_index (get_or log m d) → (i j : ℕ) → reaches (set log m y) i j ≡ reaches log i j
 reaches-kept [] m y d e i j = refl
 reaches-kept (x ∷ xs) zero y d e zero zero = refl
 reaches-kept (x ∷ xs) zero y d e zero (suc j) = ap (λ link. leads link (λ n. reaches xs n j)) e
 reaches-kept (x ∷ xs) zero y d e (suc i) zero = refl
 reaches-kept (x ∷ xs) zero y d e (suc i) (suc j) = refl
 reaches-kept (x ∷ xs) (suc m) y d e zero zero = refl
-reaches-kept (x ∷ xs) (suc m) y d e zero (suc j) = leads-same (linked_place x) (λ n. reaches (set xs m y) n j) (λ n. reaches xs n j) (λ n. reaches-kept xs m y d e n j)
+reaches-kept (x ∷ xs) (suc m) y d e zero (suc j) = leads-same (linked_index x) (λ n. reaches (set xs m y) n j) (λ n. reaches xs n j) (λ n. reaches-kept xs m y d e n j)
 reaches-kept (x ∷ xs) (suc m) y d e (suc i) zero = refl
 reaches-kept (x ∷ xs) (suc m) y d e (suc i) (suc j) = reaches-kept xs m y d e i j
 
-pub owner-kept : (log : Log) (m : ℕ) (y d : Event) → linked_place y ≡ linked_place (get_or log m d) → (j : ℕ) → least_owner (set log m y) j ≡ least_owner log j
+pub owner-kept : (log : Log) (m : ℕ) (y d : Event) → linked_index y ≡ linked_index (get_or log m d) → (j : ℕ) → least_owner (set log m y) j ≡ least_owner log j
 owner-kept log m y d e j = least-same (λ i. reaches (set log m y) i j) (λ i. reaches log i j) j (λ i. reaches-kept log m y d e i j)
 
 -- ---- the least
@@ -143,7 +143,7 @@ pub owner-below : (log : Log) (j i : ℕ) → i < least_owner log j → reaches 
 owner-below log j i lt = least-below (λ i. reaches log i j) j i lt
 
 -- what has no link is the farthest of those that its owner has
-pub farthest : (log : Log) (m j : ℕ) (d : Event) → linked_place (get_or log m d) ≡ None → m < j → j < length log → least_owner log j ≢ least_owner log m
+pub farthest : (log : Log) (m j : ℕ) (d : Event) → linked_index (get_or log m d) ≡ None → m < j → j < length log → least_owner log j ≢ least_owner log m
 farthest log m j d none lt within same =
     let there = owner-reaches log j within in
     let here = owner-reaches log m (omega arith) in
@@ -160,8 +160,8 @@ owner-last log x links =
     (reaches-itself (log ++ x ∷ []) (length log) (omega (arith, length-append log (x ∷ [])))) (λ i lt. reaches-last log x i links lt)
 
 -- a new link from m to c, where neither had one
-module _ (log : Log) (m c d : ℕ) (y : Event) (far : c ≡ m + suc d) (none : linked_place (get_or log m Finish) ≡ None) (ends : linked_place (get_or log c Finish) ≡ None)
-    (some : linked_place y ≡ Some d) (within : c < length log) where
+module _ (log : Log) (m c d : ℕ) (y : Event) (far : c ≡ m + suc d) (none : linked_index (get_or log m Finish) ≡ None) (ends : linked_index (get_or log c Finish) ≡ None)
+    (some : linked_index y ≡ Some d) (within : c < length log) where
   m_within : m < length log
   m_within = omega (arith, far, within)
 

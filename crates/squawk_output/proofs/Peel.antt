@@ -1,11 +1,11 @@
--- The list of a log begins with what the chain from its first place finds there. What follows is the list of the log
--- behind that place, with the chain taken out.
+-- The list of a log begins with what the chain from its first index finds there. What follows is the list of the log
+-- behind that index, with the chain taken out.
 use Rattle.std.proofs.Common.{◌≡◌, ◌∙◌, ℕ, zero, suc, ◌==◌, ◌<◌, Bool, true, false, Some, None, Option, List, [], ◌∷◌, ◌++◌, length, refl, sym, ap, arith, if◌then◌else◌}
 use Rattle.std.proofs.Math.Dec.{eqb-suc-suc, eqb-suc-zero, eqb-zero-suc}
 use Rattle.std.proofs.lemmas.List.{append-nil}
 use Rattle.squawk_output.specs.Steps.{Step}
 use Rattle.squawk_output.specs.declared.event.Event.{Event}
-use Rattle.squawk_output.specs.EventLog.{Log, linked_place, list_of, reaches, steps_of_event}
+use Rattle.squawk_output.specs.EventLog.{Log, linked_index, list_of, reaches, steps_of_event}
 use Rattle.squawk_output.specs.Chain.{erased}
 use Rattle.squawk_output.proofs.Erased.{comes, length-erased, reaches-erased, steps-erased}
 use Rattle.squawk_output.proofs.Gathered.{each, gathered, least, least_owner, list_of-gathered, picked, steps_at}
@@ -42,7 +42,7 @@ module _ {X : Type 0} where
   second_case true m m' i v v' same e = rw (eqb-zero-suc i, e) (sym (either_same (m' == i) []))
   second_case false m m' i v v' same e = rw (eqb-suc-suc m i, same refl) (ap (λ u. if m == i then u else []) (sym e))
 
-  -- where the first place owns itself and those that the chain comes to, and all others keep their owners
+  -- where the first index owns itself and those that the chain comes to, and all others keep their owners
   module _ (own o o' : ℕ → ℕ) (a : ℕ → Bool) (items items' : ℕ → List X) (n : ℕ) (zeroth : own 0 ≡ 0)
       (next : (j : ℕ) → own (suc j) ≡ (if a j then 0 else suc (o j))) (same : (j : ℕ) → a j ≡ false → o' j ≡ o j)
       (left : (j : ℕ) → items' j ≡ (if a j then [] else items (suc j))) where
@@ -70,11 +70,11 @@ module _ {X : Type 0} where
         ∙ ap (λ ys. (picked a (λ j. items (suc j)) n ++ items 0) ++ ys)
         (each-same (λ i. picked (λ j. own j == suc i) items (suc n)) (λ i. picked (λ j. o' j == i) items' n) n (λ i h. behind i))
 
--- what the chain from a place enters, the farthest first
+-- what the chain from an index enters, the farthest first
 abbrev pub entered : Option ℕ → Log → List Step
 entered from [] = []
 entered None (x ∷ xs) = []
-entered (Some zero) (x ∷ xs) = entered (linked_place x) xs ++ steps_of_event x
+entered (Some zero) (x ∷ xs) = entered (linked_index x) xs ++ steps_of_event x
 entered (Some (suc n)) (x ∷ xs) = entered (Some n) xs
 
 none_picked : (xs : Log) → picked (λ j. false) (steps_at xs) (length xs) ≡ []
@@ -85,16 +85,16 @@ picked_entered : (from : Option ℕ) (log : Log) → picked (comes from log) (st
 picked_entered None [] = refl
 picked_entered (Some n) [] = refl
 picked_entered None (x ∷ xs) = none_picked (x ∷ xs)
-picked_entered (Some zero) (x ∷ xs) = ap (λ ys. ys ++ steps_of_event x) (picked_entered (linked_place x) xs)
+picked_entered (Some zero) (x ∷ xs) = ap (λ ys. ys ++ steps_of_event x) (picked_entered (linked_index x) xs)
 picked_entered (Some (suc n)) (x ∷ xs) = append-nil (picked (comes (Some n) xs) (steps_at xs) (length xs)) ∙ picked_entered (Some n) xs
 
-pub list_of-cons : (x : Event) (xs : Log) → list_of (x ∷ xs) ≡ (entered (linked_place x) xs ++ steps_of_event x) ++ list_of (erased (linked_place x) xs)
+pub list_of-cons : (x : Event) (xs : Log) → list_of (x ∷ xs) ≡ (entered (linked_index x) xs ++ steps_of_event x) ++ list_of (erased (linked_index x) xs)
 list_of-cons x xs =
-    let left = erased (linked_place x) xs in
+    let left = erased (linked_index x) xs in
     list_of-gathered (x ∷ xs)
-    ∙ (peel (least_owner (x ∷ xs)) (least_owner xs) (least_owner left) (comes (linked_place x) xs) (steps_at (x ∷ xs)) (steps_at left) (length xs) refl (λ j. refl)
-    (λ j away. least-same (λ i. reaches left i j) (λ i. reaches xs i j) j (reaches-erased (linked_place x) xs j away))
-    (steps-erased (linked_place x) xs)
-    ∙ (ap (λ ys. (ys ++ steps_of_event x) ++ gathered (least_owner left) (steps_at left) (length xs)) (picked_entered (linked_place x) xs)
-    ∙ (ap (λ n. (entered (linked_place x) xs ++ steps_of_event x) ++ gathered (least_owner left) (steps_at left) n) (sym (length-erased (linked_place x) xs))
-    ∙ ap (λ ys. (entered (linked_place x) xs ++ steps_of_event x) ++ ys) (sym (list_of-gathered left)))))
+    ∙ (peel (least_owner (x ∷ xs)) (least_owner xs) (least_owner left) (comes (linked_index x) xs) (steps_at (x ∷ xs)) (steps_at left) (length xs) refl (λ j. refl)
+    (λ j away. least-same (λ i. reaches left i j) (λ i. reaches xs i j) j (reaches-erased (linked_index x) xs j away))
+    (steps-erased (linked_index x) xs)
+    ∙ (ap (λ ys. (ys ++ steps_of_event x) ++ gathered (least_owner left) (steps_at left) (length xs)) (picked_entered (linked_index x) xs)
+    ∙ (ap (λ n. (entered (linked_index x) xs ++ steps_of_event x) ++ gathered (least_owner left) (steps_at left) n) (sym (length-erased (linked_index x) xs))
+    ∙ ap (λ ys. (entered (linked_index x) xs ++ steps_of_event x) ++ ys) (sym (list_of-gathered left)))))

@@ -14,26 +14,26 @@ use Rattle.squawk_output.specs.EventLog.{Log, has_link, list_of, steps_of_event}
 use Rattle.squawk_output.proofs.Gathered.{least_owner, list_of-gathered, steps-here, steps_at}
 use Rattle.squawk_output.proofs.Sums.{count_by-cons}
 use Rattle.squawk_output.specs.LogDraft.{draft_items, items_of}
-use Rattle.squawk_output.proofs.GatheredItems.{flat_map-draft_items, made_by, place_items}
+use Rattle.squawk_output.proofs.GatheredItems.{flat_map-draft_items, made_by, items_of_index}
 use Rattle.squawk_output.proofs.Groups.{gathered-same}
 
--- which places are holes, as a record has it
+-- which indices are holes, as a record has it
 abbrev pub HaveHoles : Log → List Bool → Type 0
-HaveHoles log marks = (place : ℕ) → place < length log → get_or marks place false ≡ true → get_or log place Finish ≡ tombstone
+HaveHoles log marks = (index : ℕ) → index < length log → get_or marks index false ≡ true → get_or log index Finish ≡ tombstone
 
-plain-item : (place : ℕ) (made : Made) (event : Event) (mark : Bool) → (mark ≡ true → event ≡ tombstone) → plain (items_of place made event mark) ≡ steps_of_event event
-plain-item place made (Start kind link) true h = sym (ap steps_of_event (h refl))
-plain-item place made (Start kind link) false h = cases (kind == TOMBSTONE) (not (has_link (Start kind link)))
+plain-item : (index : ℕ) (made : Made) (event : Event) (mark : Bool) → (mark ≡ true → event ≡ tombstone) → plain (items_of index made event mark) ≡ steps_of_event event
+plain-item index made (Start kind link) true h = sym (ap steps_of_event (h refl))
+plain-item index made (Start kind link) false h = cases (kind == TOMBSTONE) (not (has_link (Start kind link)))
   where
-    cases : (whole free : Bool) → plain (if whole then [] else draft.Open place kind free ∷ []) ≡ (if whole then [] else steps.Enter kind ∷ [])
+    cases : (whole free : Bool) → plain (if whole then [] else draft.Open index kind free ∷ []) ≡ (if whole then [] else steps.Enter kind ∷ [])
     cases true free = refl
     cases false free = refl
-plain-item place made event mark h = refl
+plain-item index made event mark h = refl
 
 pub plain-draft_items : (log : Log) (marks : List Bool) → HaveHoles log marks → plain (draft_items log marks) ≡ list_of log
 plain-draft_items log marks holes =
     flat_map-draft_items draft.steps_of_item log marks
-    ∙ (gathered-same (least_owner log) (least_owner log) (λ j. plain (place_items log marks j)) (steps_at log) (length log) (λ j lt. refl)
+    ∙ (gathered-same (least_owner log) (least_owner log) (λ j. plain (items_of_index log marks j)) (steps_at log) (length log) (λ j lt. refl)
     (λ j lt. plain-item j (made_by log j) (get_or log j Finish) (get_or marks j false) (holes j lt) ∙ steps-here log j Finish lt)
     ∙ sym (list_of-gathered log))
 

@@ -1,4 +1,4 @@
--- What is gathered by owners is what the places have.
+-- What is gathered by owners is what the indices have.
 use Rattle.std.proofs.Common.{◌≡◌, ℕ, zero, suc, ◌+◌, ◌==◌, ◌<◌, ◌≤◌, Bool, true, false, List, [], ◌++◌, arith, refl, ◌∙◌, if◌then◌else◌}
 use Rattle.std.proofs.Math.Dec.{eqb-suc-suc, eqb-suc-zero, eqb-zero-suc}
 use Rattle.squawk_output.proofs.Gathered.{each, gathered, picked}
@@ -24,18 +24,18 @@ pub total-same : (s t : ℕ → ℕ) (n : ℕ) → ((i : ℕ) → s i ≡ t i) �
 total-same s t zero same = refl
 total-same s t (suc n) same = omega (arith, same 0, total-same (λ i. s (suc i)) (λ i. t (suc i)) n (λ i. same (suc i)))
 
--- one place alone has something
-pub total-one : (place most n : ℕ) → (total (λ i. if place == i then most else 0) n ≤ most) × (place < n → total (λ i. if place == i then most else 0) n ≡ most)
-total-one place most zero = (omega arith, λ lt. absurd (omega arith))
+-- one index alone has something
+pub total-one : (index most n : ℕ) → (total (λ i. if index == i then most else 0) n ≤ most) × (index < n → total (λ i. if index == i then most else 0) n ≡ most)
+total-one index most zero = (omega arith, λ lt. absurd (omega arith))
 total-one zero most (suc n) =
     let rest : total (λ i. if zero == suc i then most else 0) n ≡ 0 =
     total-same (λ i. if zero == suc i then most else 0) (λ i. 0) n (λ i. rw (eqb-zero-suc i) refl) ∙ total-none n in
     (omega (arith, rest), λ lt. omega (arith, rest))
-total-one (suc place) most (suc n) =
-    let first : (if suc place == zero then most else 0) ≡ 0 = rw (eqb-suc-zero place) refl in
-    let rest : total (λ i. if suc place == suc i then most else 0) n ≡ total (λ i. if place == i then most else 0) n =
-    total-same (λ i. if suc place == suc i then most else 0) (λ i. if place == i then most else 0) n (λ i. rw (eqb-suc-suc place i) refl) in
-    let one = total-one place most n in
+total-one (suc index) most (suc n) =
+    let first : (if suc index == zero then most else 0) ≡ 0 = rw (eqb-suc-zero index) refl in
+    let rest : total (λ i. if suc index == suc i then most else 0) n ≡ total (λ i. if index == i then most else 0) n =
+    total-same (λ i. if suc index == suc i then most else 0) (λ i. if index == i then most else 0) n (λ i. rw (eqb-suc-suc index i) refl) in
+    let one = total-one index most n in
     (omega (arith, first, rest, one.0), λ lt. omega (arith, first, rest, one.1 (omega arith)))
 
 pub total-ones : (n : ℕ) → total (λ i. 1) n ≡ n

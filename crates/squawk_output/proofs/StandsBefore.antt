@@ -1,4 +1,4 @@
--- Which of two places has its items first in a gathered list.
+-- Which of two indices has its items first in a gathered list.
 use Rattle.std.proofs.Common.{◌≡◌, ◌≢◌, ◌∙◌, ◌⊎◌, ℕ, zero, suc, ◌==◌, ◌<◌, ◌||◌, ◌&&◌, Bool, true, false, List, [], ◌∷◌, ◌++◌, sym, refl, ap, arith, if◌then◌else◌, inl, inr}
 use Rattle.std.specs.List.{list_any}
 use Rattle.std.proofs.Math.Bool.{or-true}
@@ -42,7 +42,7 @@ module _ (p q : Item → Bool) where
   decided [] ys h = refl
   decided (x ∷ xs) ys h = first_cases (p x) (q x) (list_any p xs) (list_any q xs) (stands_before p q (xs ++ ys)) (stands_before p q ys) h (decided xs ys)
 
-  -- the one test is passed at place a alone, the other at place b alone
+  -- the one test holds at index a alone, the other at index b alone
   pub each-first : (items : ℕ → List Item) (n a b : ℕ) → a ≢ b → a < n → b < n → ((i : ℕ) → i ≢ a → list_any p (items i) ≡ false) → ((i : ℕ) → i ≢ b → list_any q (items i) ≡ false)
       → list_any p (items a) ≡ true → list_any q (items b) ≡ true → stands_before p q (each items n) ≡ ltb a b
   each-first items zero a b ne lo hi ps qs has also = absurd (omega arith)
@@ -58,21 +58,21 @@ module _ (p q : Item → Bool) where
       ∙ rw (no, none, ltb-suc a b)
       (each-first (λ i. items (suc i)) n a b (λ e. ne (ap suc e)) (omega arith) (omega arith) (λ i other. ps (suc i) (omega (arith, other))) (λ i other. qs (suc i) (omega (arith, other))) has also)
 
--- a test that is passed at one place alone is passed in the group of its owner alone
-module _ (own : ℕ → ℕ) (items : ℕ → List Item) (n place : ℕ) (p : Item → Bool) (only : (j : ℕ) → j ≢ place → list_any p (items j) ≡ false) where
+-- a test that holds at one index alone holds in the group of its owner alone
+module _ (own : ℕ → ℕ) (items : ℕ → List Item) (n index : ℕ) (p : Item → Bool) (only : (j : ℕ) → j ≢ index → list_any p (items j) ≡ false) where
   some-if : (b : Bool) (v : List Item) → list_any p v ≡ false → list_any p (if b then v else []) ≡ false
   some-if true v e = e
   some-if false v e = refl
 
-  pub group-none : (i : ℕ) → i ≢ own place → list_any p (picked (λ j. own j == i) items n) ≡ false
+  pub group-none : (i : ℕ) → i ≢ own index → list_any p (picked (λ j. own j == i) items n) ≡ false
   group-none i ne =
-      ap (list_any p) (picked-down (λ j. own j == i) items n) ∙ any-down_none p (λ j. if own j == i then items j else []) n (λ j lt. cases j (eqb_tells j place))
+      ap (list_any p) (picked-down (λ j. own j == i) items n) ∙ any-down_none p (λ j. if own j == i then items j else []) n (λ j lt. cases j (eqb_tells j index))
     where
-      cases : (j : ℕ) → (((j == place) ≡ true) × (j ≡ place)) ⊎ (((j == place) ≡ false) × (j ≢ place)) → list_any p (if own j == i then items j else []) ≡ false
-      cases j (inl e) = rw (e.1, ne_eqb (own place) i (λ y. ne (sym y))) refl
+      cases : (j : ℕ) → (((j == index) ≡ true) × (j ≡ index)) ⊎ (((j == index) ≡ false) × (j ≢ index)) → list_any p (if own j == i then items j else []) ≡ false
+      cases j (inl e) = rw (e.1, ne_eqb (own index) i (λ y. ne (sym y))) refl
       cases j (inr e) = some-if (own j == i) (items j) (only j e.1)
 
-  pub group-some : place < n → list_any p (items place) ≡ true → list_any p (picked (λ j. own j == own place) items n) ≡ true
+  pub group-some : index < n → list_any p (items index) ≡ true → list_any p (picked (λ j. own j == own index) items n) ≡ true
   group-some lt has =
-      ap (list_any p) (picked-down (λ j. own j == own place) items n)
-      ∙ any-down p (λ j. if own j == own place then items j else []) n place lt (rw (itself (own place)) has)
+      ap (list_any p) (picked-down (λ j. own j == own index) items n)
+      ∙ any-down p (λ j. if own j == own index then items j else []) n index lt (rw (itself (own index)) has)

@@ -16,11 +16,11 @@ use Rattle.squawk_output.proofs.Links.{is_start_at-event, is_start_at-within}
 pub length-log_in : (texts : List (List ℕ)) (events : List StoredEvent) → length (log_in texts events) ≡ length events
 length-log_in texts events = length-map events (event_of texts)
 
--- ---- an event at a place
+-- ---- an event at an index
 
-pub event_at : (texts : List (List ℕ)) (events : List StoredEvent) (place : ℕ) (x e : StoredEvent) (d : Event) → place < length events → x ≡ get_or events place e
-    → event_of texts x ≡ get_or (log_in texts events) place d
-event_at texts events place x e d within is = ap (event_of texts) is ∙ sym (get_or-map (event_of texts) events place e d within)
+pub event_at : (texts : List (List ℕ)) (events : List StoredEvent) (index : ℕ) (x e : StoredEvent) (d : Event) → index < length events → x ≡ get_or events index e
+    → event_of texts x ≡ get_or (log_in texts events) index d
+event_at texts events index x e d within is = ap (event_of texts) is ∙ sym (get_or-map (event_of texts) events index e d within)
 
 -- ---- one event more
 
@@ -56,12 +56,12 @@ module _ (texts : List (List ℕ)) (text : List ℕ) where
 
 -- ---- as the code has it
 
--- a link of more than no places
+-- a link that leads on
 pub link_of-some : (link : ℕ) → 0 < link → link_of link ≡ Some link
 link_of-some zero lt = absurd (omega arith)
 link_of-some (suc n) lt = rw (eqb-suc-zero n) refl
 
--- a link of no places
+-- a link of distance 0
 pub link_of-none : (link : ℕ) → link ≤ 0 → link_of link ≡ None
 link_of-none zero none = refl
 link_of-none (suc n) none = absurd (omega arith)

@@ -1,4 +1,4 @@
--- The record of a parse.
+-- The draft of a parse: what it has recorded, as a list that its calls edit.
 use Rattle.std.specs.Prelude.{◌≡◌, ℕ, ◌*◌, ◌<◌, ◌≤◌, ◌==◌, Bool, true, false, List, [], ◌∷◌, All, count_by, filter, length}
 use Rattle.std.specs.List.{flat_map}
 use Rattle.squawk_output.specs.Steps as steps
@@ -16,8 +16,8 @@ pub data Item : Type 0 where
   -- an error with its text
   Error : List ℕ → Item
 
--- The items in their order, and three counts: the recorded events; the entries that a log of them has, from which an abandoned marker's
--- may be taken out again; and the turns that a pass over those entries takes.
+-- The items in their order, and three counts: the recorded events; the entries that a log of them has, from which an
+-- abandoned marker's may be taken out again; and the turns that a pass over those entries takes.
 pub record Draft : Type 0 where
   pub items : List Item
   pub recorded : ℕ
@@ -76,15 +76,15 @@ HasNoIdTwice items = (id : ℕ) → count_by (λ i. i == id) (ids items) ≤ 1
 abbrev pub IsAboveIds : ℕ → List Item → Type 0
 IsAboveIds id items = All (λ i. i < id) (ids items)
 
--- What the draft of every log keeps: an item a recorded event at most, and four turns; every id is below the number of entries, so a new
--- one is above all, and none occurs twice.
+-- What the draft of every log keeps: an item a recorded event at most, and four turns; every id is below the number of
+-- entries, so a new one is above all, and none occurs twice.
 pub record IsLogged (d : Draft) : Type 0 where
   pub few : length d.items ≤ d.recorded
   pub turns : d.turns_due ≤ 4 * d.recorded
   pub below : IsAboveIds d.entries d.items
   pub once : HasNoIdTwice d.items
 
--- what an output has for an item
+-- the steps that an output has for an item
 abbrev pub steps_of_item : Item → List steps.Step
 steps_of_item (Hole i made) = []
 steps_of_item (Open i kind free) = steps.Enter kind ∷ []

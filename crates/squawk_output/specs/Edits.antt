@@ -1,21 +1,21 @@
--- What the acts of a parser make of its draft. Each edit is one recorded event, but for those of a marker that is abandoned or that a
--- node is extended to, and changes nothing else.
+-- What the acts of a parser make of its draft. Each edit is one recorded event, but for those of a marker that is
+-- abandoned or that a node is extended to, and changes nothing else.
 use Rattle.std.specs.Prelude.{ℕ, ◌==◌, ◌+◌, ◌-◌, ◌*◌, ◌&&◌, Bool, true, false, List, [], ◌∷◌, ◌++◌, count_by, if◌then◌else◌}
 use Rattle.std.specs.List.{flat_map}
 use Rattle.squawk_output.specs.Draft.{Draft, Item, Hole, Open, Close, Token, Error, Node}
 use Rattle.squawk_output.specs.declared.log.Made.TheVariants.{ByStart, ByPrecede}
 
--- the hole of a marker
+-- whether an item is the hole of a marker
 abbrev pub is_hole_of : ℕ → Item → Bool
 is_hole_of id (Hole i made) = i == id
 is_hole_of id item = false
 
--- the opening of a node
+-- whether an item is the opening of a node
 abbrev pub is_opening_of : ℕ → Item → Bool
 is_opening_of id (Open i kind free) = i == id
 is_opening_of id item = false
 
--- the items that pass a test give place to these
+-- the items that pass a test are replaced by these
 abbrev pub replaced : (Item → Bool) → (Item → List Item) → List Item → List Item
 replaced p f items = flat_map (λ item. if p item then f item else item ∷ []) items
 
@@ -27,7 +27,7 @@ pushed d item turns = record { items = d.items ++ item ∷ []; recorded = d.reco
 abbrev pub started : Draft → Draft
 started d = pushed d (Hole d.entries ByStart) 2
 
--- the hole becomes a free opening in its place
+-- the hole becomes a free opening, at the same position
 abbrev pub filled : List Item → ℕ → ℕ → List Item
 filled items id kind = replaced (is_hole_of id) (λ item. Open id kind true ∷ []) items
 
@@ -74,7 +74,7 @@ takes_entry id entries item = is_hole_of id item && is_last_start entries item
 abbrev pub entries_gone : Draft → ℕ → ℕ
 entries_gone d id = count_by (takes_entry id d.entries) d.items
 
--- That takes no recorded event away. An entry that goes takes its two turns away.
+-- A marker is abandoned: its hole goes. No recorded event goes; an entry that goes takes its two turns away.
 abbrev pub abandoned : Draft → ℕ → Draft
 abandoned d id = record {
   items = without_hole id d.items;
@@ -88,16 +88,16 @@ abbrev pub stands_before : (Item → Bool) → (Item → Bool) → List Item →
 stands_before p q [] = false
 stands_before p q (item ∷ items) = if p item then true else if q item then false else stands_before p q items
 
--- the opening of a node goes to the hole's place
+-- the opening of a node moves to the hole's position
 abbrev pub moved : Node → ℕ → List Item → List Item
 moved node id items =
     replaced (is_hole_of id) (λ item. Open node.id node.kind true ∷ []) (replaced (is_opening_of node.id) (λ item. []) items)
 
--- the opening moves to the hole's place if that stands before it, and the hole goes
+-- the opening moves to the hole's position if that stands before it, and the hole goes
 abbrev pub extended_items : Node → ℕ → List Item → List Item
 extended_items node id items =
     if stands_before (is_hole_of id) (is_opening_of node.id) items then moved node id items else without_hole id items
 
--- that takes no recorded event and no entry away; a link is made, which takes two turns
+-- A node is extended to a marker. No recorded event and no entry goes; a link is made, which takes two turns.
 abbrev pub extended : Draft → Node → ℕ → Draft
 extended d node id = record d { items = extended_items node id d.items; turns_due = d.turns_due + 2 }

@@ -12,40 +12,40 @@ Log = List Event
 -- ---- links
 
 -- where the link of an event leads, counted from the event behind it
-abbrev pub linked_place : Event → Option ℕ
-linked_place (Start kind (Some distance)) = Some (distance - 1)
-linked_place event = None
+abbrev pub linked_index : Event → Option ℕ
+linked_index (Start kind (Some distance)) = Some (distance - 1)
+linked_index event = None
 
--- what a test says of the place where a link leads; no if there is no link
+-- whether the index to which a link leads passes a test; false if there is no link
 abbrev pub leads : Option ℕ → (ℕ → Bool) → Bool
 leads None p = false
-leads (Some place) p = p place
+leads (Some index) p = p index
 
--- whether links lead from the first place of a log to the second, or both are the same place
+-- whether links lead from the one index of a log to the other, or both are the same
 abbrev pub reaches : Log → ℕ → ℕ → Bool
 reaches [] i j = false
 reaches (event ∷ log) zero zero = true
-reaches (event ∷ log) zero (suc j) = leads (linked_place event) (λ place. reaches log place j)
+reaches (event ∷ log) zero (suc j) = leads (linked_index event) (λ index. reaches log index j)
 reaches (event ∷ log) (suc i) zero = false
 reaches (event ∷ log) (suc i) (suc j) = reaches log i j
 
--- the places of a log, in order
-abbrev pub places : Log → List ℕ
-places log = range_with_len 0 (length log)
+-- the indices of a log, in order
+abbrev pub indices : Log → List ℕ
+indices log = range_with_len 0 (length log)
 
--- the owner of a place: the first place from which links lead there, which may be that place itself
+-- the owner of an index: the first index from which links lead there, which may be that index itself
 abbrev pub owner : Log → ℕ → ℕ
-owner log j = position_or_len (λ i. reaches log i j) (places log)
+owner log j = position_or_len (λ i. reaches log i j) (indices log)
 
 -- ---- the list of a log
 
--- the events that a place owns, each with its place, the farthest along the links first
+-- the events that an index owns, each with its index, the farthest along the links first
 abbrev pub owned : Log → ℕ → List (ℕ × Event)
-owned log i = reverse (filter (λ (place, event). owner log place == i) (enumerate_from 0 log))
+owned log i = reverse (filter (λ (index, event). owner log index == i) (enumerate_from 0 log))
 
--- in order, for each place, the events that it owns
+-- in order, for each index, the events that it owns
 abbrev pub in_list_order : Log → List (ℕ × Event)
-in_list_order log = flat_map (owned log) (places log)
+in_list_order log = flat_map (owned log) (indices log)
 
 -- a node of a kind is entered; TOMBSTONE is no node's kind
 abbrev pub entering : ℕ → List steps.Step
@@ -58,10 +58,10 @@ steps_of_event Finish = steps.Exit ∷ []
 steps_of_event (Token kind n) = steps.Token kind n ∷ []
 steps_of_event (Error text) = steps.Error text ∷ []
 
--- The list of a log: in order, for each place, the steps of the events that it owns, the farthest along the links
+-- The list of a log: in order, for each index, the steps of the events that it owns, the farthest along the links
 -- first.
 abbrev pub list_of : Log → List steps.Step
-list_of log = flat_map (λ (place, event). steps_of_event event) (in_list_order log)
+list_of log = flat_map (λ (index, event). steps_of_event event) (in_list_order log)
 
 -- ---- the turns of a log
 
@@ -90,9 +90,9 @@ errors_logged log = count_by is_error_event log
 -- ---- logs whose links lead to later Starts
 
 abbrev pub is_start_at : Log → ℕ → Bool
-is_start_at [] place = false
+is_start_at [] index = false
 is_start_at (event ∷ log) zero = is_start event
-is_start_at (event ∷ log) (suc place) = is_start_at log place
+is_start_at (event ∷ log) (suc index) = is_start_at log index
 
 -- an event's link, if it has one, leads to a Start of the events behind it
 abbrev pub Lands : Event → Log → Type 0

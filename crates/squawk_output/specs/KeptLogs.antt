@@ -1,5 +1,4 @@
--- The draft of a log as it is kept, and what such a log keeps. The model of a log and its invariant alone speak of
--- these.
+-- The draft of a log as it is kept, and what such a log keeps. Only the model of a log and its invariant cite these.
 use Rattle.std.specs.Prelude.{◌≡◌, ℕ, ◌<◌, ◌≤◌, ◌^◌, Bool, true, false, List, length, map, slice_index_or}
 use Rattle.squawk_output.specs.Chain.{tombstone}
 use Rattle.squawk_output.specs.Draft.{Draft, errors_of}
@@ -14,7 +13,7 @@ use Rattle.squawk_output.specs.StoredEvents.{StoredEvent}
 pub record IsRecord (log : Log) (marks : List Bool) (recorded wrong : ℕ) : Type 0 where
   pub same_length : length marks ≡ length log
   pub links : LinksLead log
-  pub holes : (place : ℕ) → place < length log → slice_index_or marks place false ≡ true → slice_index_or log place Finish ≡ tombstone
+  pub holes : (index : ℕ) → index < length log → slice_index_or marks index false ≡ true → slice_index_or log index Finish ≡ tombstone
   pub few : length log ≤ recorded
   pub small : recorded < 2 ^ 32
   pub errors : wrong ≡ errors_of (draft_items log marks)

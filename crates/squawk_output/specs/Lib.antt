@@ -1,6 +1,6 @@
 pub mod Steps
 pub mod OneRoot
-pub mod RootNote
+pub mod RootTracker
 pub mod StepViews
 pub mod StoredSteps
 pub mod StoredEvents

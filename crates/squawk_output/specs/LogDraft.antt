@@ -1,4 +1,4 @@
--- The draft that a log of events and their marks stand for. An id is the place of an event.
+-- The draft that a log of events and their marks stand for. An id is the index of an event.
 use Rattle.std.specs.Prelude.{ℕ, ◌==◌, Bool, true, false, not, List, [], ◌∷◌, length, slice_index_or, Contains, if◌then◌else◌}
 use Rattle.std.specs.List.{flat_map}
 use Rattle.squawk_kinds.specs.Kinds.{TOMBSTONE}
@@ -10,22 +10,22 @@ use Rattle.squawk_output.specs.declared.event.Event.TheVariants.{Start, Finish, 
 use Rattle.squawk_output.specs.declared.log.Made.{Made}
 use Rattle.squawk_output.specs.declared.log.Made.TheVariants.{ByStart, ByPrecede}
 
--- What the event at a place stands for. A Start with its mark set is a hole, and without it a node's opening, which is free where no link
--- goes out; TOMBSTONE is no node's kind.
+-- The items of the event at an index. A Start with its mark set is a hole, and without it a node's opening, which is
+-- free where no link goes out; TOMBSTONE is no node's kind.
 abbrev pub items_of : ℕ → Made → Event → Bool → List Item
-items_of place made (Start kind link) true = draft.Hole place made ∷ []
-items_of place made (Start kind link) false = if kind == TOMBSTONE then [] else draft.Open place kind (not (has_link (Start kind link))) ∷ []
-items_of place made Finish mark = draft.Close ∷ []
-items_of place made (Token kind n) mark = draft.Token kind n ∷ []
-items_of place made (Error text) mark = draft.Error text ∷ []
+items_of index made (Start kind link) true = draft.Hole index made ∷ []
+items_of index made (Start kind link) false = if kind == TOMBSTONE then [] else draft.Open index kind (not (has_link (Start kind link))) ∷ []
+items_of index made Finish mark = draft.Close ∷ []
+items_of index made (Token kind n) mark = draft.Token kind n ∷ []
+items_of index made (Error text) mark = draft.Error text ∷ []
 
 -- what a link leads to was made by a precede
 abbrev pub made_at : Log → ℕ → Made
-made_at log place = if owner log place == place then ByStart else ByPrecede
+made_at log index = if owner log index == index then ByStart else ByPrecede
 
--- the items of an event with its place
+-- the items of an event with its index
 abbrev pub items_at : Log → List Bool → ℕ × Event → List Item
-items_at log marks (place, event) = items_of place (made_at log place) event (slice_index_or marks place false)
+items_at log marks (index, event) = items_of index (made_at log index) event (slice_index_or marks index false)
 
 -- the items stand where the steps of their events stand in the list of the log
 abbrev pub draft_items : Log → List Bool → List Item

@@ -12,8 +12,8 @@ abbrev pub BeginsWithEnter : List Step → Type 0
 BeginsWithEnter (Enter kind ∷ steps) = Unit {0}
 BeginsWithEnter steps = ⊥
 
--- The walk begins with an opening. No beginning closes more nodes than it opens, and of those that aren't empty only the whole
--- walk closes as many.
+-- The walk begins with an opening. No beginning closes more nodes than it opens, and of those that aren't empty only
+-- the whole walk closes as many.
 pub record StandsInOneRoot (steps : List Step) : Type 0 where
   pub begins : BeginsWithEnter steps
   pub inside : (k : ℕ) → 0 < k → k < length steps → closings (take k steps) < openings (take k steps)

@@ -41,7 +41,7 @@ event_by word operand =
 abbrev pub event_in : ℕ → ℕ → StoredEvent
 event_in word operand = if word == 0 then Error (operand - 1) else event_by word operand
 
--- only an event that gives its step where it stands has operand 0, and one of no node the last
+-- only an event that gives its step where it stands has operand 0, and only one of TOMBSTONE the greatest operand
 pub record IsPacked (word operand : ℕ) : Type 0 where
   pub plain : operand ≡ 0 → IsPlain word
   pub aside : word ≢ 0 → operand ≡ 4294967295 → word / 65536 ≡ TOMBSTONE

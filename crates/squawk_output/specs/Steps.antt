@@ -11,14 +11,15 @@ pub data Step : Type 0 where
   -- an error with its text
   Error : List ℕ → Step
 
--- what an output holds: its steps, how many events were recorded for them, and how many turns the pass took that made them
+-- what an output holds: its steps, the number of recorded events, and the number of turns of the pass that made it
 pub record Walk : Type 0 where
   pub steps : List Step
   pub recorded : ℕ
   pub turns : ℕ
 
--- what a pass has made so far: steps, and for how many there is room in all; the texts of all errors of its log, and how many turns it took
-pub record Passed : Type 0 where
+-- what an OutputBuilder holds: the steps that a pass has made so far, and for how many it has room in all; the texts of
+-- all errors of the log; and the number of turns
+pub record Built : Type 0 where
   pub steps : List Step
   pub room : ℕ
   pub texts : List (List ℕ)

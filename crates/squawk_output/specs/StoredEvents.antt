@@ -9,7 +9,7 @@ use Rattle.squawk_output.specs.declared.event.Event.TheVariants as event
 pub data StoredEvent : Type 0 where
   -- the Start of an open marker, which has neither a kind nor a link
   Hole : StoredEvent
-  -- the beginning of a node of a kind, and how many places on its link leads, or 0
+  -- the beginning of a node of a kind, and by how many events its link leads forward, or 0
   Start : ℕ → ℕ → StoredEvent
   -- the end of a node
   Finish : StoredEvent
@@ -18,11 +18,11 @@ pub data StoredEvent : Type 0 where
   -- an error by its number, counted from 0
   Error : ℕ → StoredEvent
 
--- a link of no places is none
+-- a link of distance 0 is none
 abbrev pub link_of : ℕ → Option ℕ
 link_of link = if link == 0 then None else Some link
 
--- the link of an event, if it has one, doesn't lead to its own place, nor past the last place that a log can have
+-- the link of an event, if it has one, leads forward, and not past the last index that a log can have
 abbrev pub LeadsOn : Event → Type 0
 LeadsOn (event.Start kind (Some distance)) = (0 < distance) × (distance + 1 < 2 ^ 32)
 LeadsOn other = Unit {0}

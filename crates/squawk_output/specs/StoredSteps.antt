@@ -1,4 +1,4 @@
--- The words in which an output keeps its steps.
+-- The words in which an output keeps its steps: numbers of 32 bits.
 use Rattle.std.specs.Prelude.{◌≡◌, ℕ, ◌+◌, ◌*◌, ◌/◌, ◌%◌, ◌<◌, ◌==◌, All, List, length, slice_index_or, if◌then◌else◌, []}
 use Rattle.squawk_output.specs.Steps as plain
 use Rattle.squawk_output.specs.declared.output.stored.StoredStep.{StoredStep}
@@ -33,7 +33,7 @@ FitsWord (Enter kind) = kind < 65536
 FitsWord Exit = Unit {0}
 FitsWord (Error number) = number < 2147483648
 
--- the word of a step, and not another number with the same bits where those are looked at
+-- the word of a step, and no other number with the same bits where `unpacked` reads them
 abbrev pub IsWord : ℕ → Type 0
 IsWord word = packed (unpacked word) ≡ word
 

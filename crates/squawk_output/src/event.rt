@@ -12,10 +12,9 @@ use std::alloc::{AllocError, Global};
 
 /// An event of a parse.
 ///
-/// A node's parent may be begun when the node is complete already, in front of it. Its `Start` then
-/// stands behind the node's, and the node's `Start` has a link to it, the forward parent: the number
-/// of places from the one to the other. Here B was begun in front of A, by
-/// `CompletedMarker::precede`:
+/// `CompletedMarker::precede` begins a node's parent when the node is complete. The parent's `Start` then
+/// stands behind the node's, and the node's `Start` has a link to it, the forward parent: the difference of
+/// their indices in the log. Here B precedes A:
 ///
 /// ```text
 ///  0        1   2        3        4   5                 B
@@ -25,8 +24,8 @@ use std::alloc::{AllocError, Global};
 ///                                                    a
 /// ```
 ///
-/// A node may also be made to begin earlier, where an older marker was started, by
-/// `CompletedMarker::extend_to`. The marker's `Start` is no node's then, and has a link to the node's:
+/// `CompletedMarker::extend_to` makes a node begin earlier, where an older marker was started. The marker's
+/// `Start` then begins no node, and has a link to the node's:
 ///
 /// ```text
 ///  0                1   2        3   4                  N
@@ -36,15 +35,15 @@ use std::alloc::{AllocError, Global};
 /// ```
 #[derive(Debug, Drop)]
 pub enum Event {
-    /// The beginning of a node, and how many places further on its parent's `Start` is, where that
-    /// stands behind it. `TOMBSTONE` is the kind of no node.
+    /// The beginning of a node; of none, if the kind is `TOMBSTONE`. `forward_parent` is by how many events
+    /// the `Start` of the node's parent stands behind this one, if it does.
     Start {
         kind: SyntaxKind,
         forward_parent: Option<u32>,
     },
     /// The end of a node.
     Finish,
-    /// A token of a kind, and how many tokens of the input it has.
+    /// A token of a kind, made of `n_raw_tokens` input tokens.
     Token {
         kind: SyntaxKind,
         n_raw_tokens: u8,
@@ -55,16 +54,16 @@ pub enum Event {
     },
 }
 
-/// The output of a log of events, of which so many were recorded.
+/// The output of a log of events. Its [`Output::recorded`] is `recorded`.
 ///
-/// Each event gives its step where it stands; a `Start` of `TOMBSTONE` gives none. Where a `Start`
-/// has a link, all nodes along the links begin there, the farthest first, and nothing begins where
-/// those stand. If links lead to one `Start` from two places, it begins at the first of them. Every
-/// link leads to a later `Start`, and the log has at most 4294967295 events, of which at most
-/// 2147483648 are errors.
+/// Each event gives its step where it stands; a `Start` of `TOMBSTONE` gives none. If a `Start` has a link,
+/// all nodes along the links begin there, the farthest first, and none begins where those stand. If links
+/// from two events lead to one `Start`, its node begins at the first of them. Every link leads to a later
+/// `Start`, and the log has at most `u32::MAX` events, of which at most 2^31 are errors.
 ///
-/// A turn is an event visited, a link followed, or a kind entered of those that a visit has found.
-/// An event that was reached by a link is visited too.
+/// A turn is an event visited, a link followed, or a kind entered of those that a visit has found. An event
+/// that a link has reached is visited, too. The turns are one for each event, one for each `Start`, and two
+/// for each link.
 pub fn process(alloc: Global, events: Vec<Event>, recorded: u32) -> Result<Output, AllocError>
     requires few { length events.items < 2 ^ 32 }
     requires links { LinksLead events.items }
@@ -79,9 +78,9 @@ pub fn process(alloc: Global, events: Vec<Event>, recorded: u32) -> Result<Outpu
     pass(alloc, stored, errors, recorded)
 }
 
-/// Puts an event at the end, and its text, if it is an error, at the end of theirs.
+/// Appends an event to the log, and the text of an error to the texts.
 ///
-/// A link doesn't lead to its own place, nor past the last place of a log.
+/// Its link, if it has one, leads forward, and not past the last index of a log.
 fn store(
     events: &mut Vec<PackedEvent>,
     errors: &mut Vec<Text>,
@@ -111,7 +110,7 @@ fn store(
     Ok(())
 }
 
-/// A `Start`, with a link unless that is 0.
+/// A `Start` with this link, or without one if that is 0.
 fn start(kind: SyntaxKind, link: u32) -> PackedEvent
     requires { link + 1 < 2 ^ 32 }
     ensures { result ≡ Start kind link }

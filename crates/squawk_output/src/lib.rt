@@ -1,8 +1,7 @@
-//! Steps, outputs and events, and the one pass that makes an output of a log of events.
+//! Steps, outputs and events, and the pass that makes an output of a log of events.
 //!
-//! [`process`] and [`EventLog::finish`] end in that pass; they and [`Output::empty`] make outputs, and
-//! nothing else does. `squawk_parser` hands on all that is public here but [`EventLog`], in which it
-//! records.
+//! Only [`process`], [`EventLog::finish`] and [`Output::empty`] make outputs; the first two run that pass.
+//! `squawk_parser` re-exports all that is public here but [`EventLog`], in which it records.
 #![tactic(auto)]
 
 pub mod event;

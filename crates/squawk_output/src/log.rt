@@ -1,4 +1,4 @@
-//! The log of events in which a parser records.
+//! The log of events in which a parser records. What is inlined runs for each event.
 ghost use Rattle.std.specs.Prelude.{ℕ, ◌≡◌, ◌≢◌, ◌+◌, ◌<◌, ◌≤◌, ◌∷◌, ◌++◌, ◌^◌, [], false, true, map, Contains, IfOk, OnOk, OnErr, length};
 ghost use Rattle.squawk_kinds.specs.Kinds.{TOMBSTONE};
 ghost use Rattle.squawk_output.specs.Draft.{Hole, IsLogged, Open, errors_of, nothing, plain};
@@ -17,20 +17,21 @@ use squawk_kinds::SyntaxKind;
 use std::alloc::{AllocError, Global};
 use std::marker::Model;
 
-/// How a hole was made.
+/// How a hole was made: by which call of the parser.
 #[derive(Clone, Copy, Debug)]
 pub enum Made {
+    /// At the end.
     ByStart,
     /// In front of a completed node.
     ByPrecede,
 }
 
-/// What a parser has recorded, as a log of events, in eight bytes an event.
+/// What a parser has recorded, as a log of events, of eight bytes each.
 ///
-/// Contracts see it as a draft, in which every node begins where it will begin in the output. An id
-/// is the place of an event; the place of one that was taken out again is used anew.
+/// Contracts see it as a draft, in which every node begins where it begins in the output. A hole is what an
+/// open marker has recorded. An id is the index of an event; an event that was removed frees its index.
 ///
-/// The events tell an open marker from one that was given up. No code asks for that, but contracts do.
+/// The events of open and of abandoned markers differ. No code reads the difference, but contracts do.
 #[derive(Drop)]
 pub struct EventLog {
     events: Vec<PackedEvent>,
@@ -51,7 +52,7 @@ impl Model for EventLog {
 }
 
 impl EventLog {
-    /// Nothing, and room for so many events where memory is found for it.
+    /// An empty log, with room for `events` events if that allocation succeeds.
     pub fn with_room(alloc: Global, events: usize) -> EventLog
         ensures { result ≡ nothing }
     {
@@ -66,21 +67,21 @@ impl EventLog {
         }
     }
 
-    /// How many events were recorded.
+    /// The number of recorded events.
     pub fn recorded(&self) -> u32
         ensures { result ≡ self.now.recorded }
     {
         self.recorded
     }
 
-    /// How many of them are errors.
+    /// The number of recorded errors.
     pub fn errors(&self) -> u32
         ensures { result ≡ errors_of self.now.items }
     {
         self.errors.len() as u32
     }
 
-    /// The id that the next hole will have: as many as there are entries.
+    /// The id of the next hole: the number of entries.
     pub fn next_id(&self) -> u32
         ensures id { result ≡ self.now.entries }
         ensures logged { IsLogged self.now }
@@ -88,7 +89,7 @@ impl EventLog {
         self.events.len() as u32
     }
 
-    /// A hole at the end.
+    /// Appends a hole.
     #[inline(always)]
     pub fn start(&mut self) -> Result<(), AllocError>
         requires { self.old.recorded + 1 < 2 ^ 32 }
@@ -101,7 +102,7 @@ impl EventLog {
         Ok(())
     }
 
-    /// The hole becomes an opening in its place, and a closing stands at the end.
+    /// Makes the hole the opening of a node, and appends the closing.
     #[inline(always)]
     pub fn complete(&mut self, id: u32, kind: SyntaxKind) -> Result<(), AllocError>
         requires hole { HasHoleOf self.old.items id }
@@ -117,7 +118,7 @@ impl EventLog {
         Ok(())
     }
 
-    /// A token at the end.
+    /// Appends a token.
     #[inline(always)]
     pub fn token(&mut self, kind: SyntaxKind, n_raw_tokens: u8) -> Result<(), AllocError>
         requires { self.old.recorded + 1 < 2 ^ 32 }
@@ -130,7 +131,7 @@ impl EventLog {
         Ok(())
     }
 
-    /// An error at the end.
+    /// Appends an error.
     pub fn error(&mut self, msg: Text) -> Result<(), AllocError>
         requires { self.old.recorded + 1 < 2 ^ 32 }
         ensures ok { OnOk result (self.new ≡ with_error self.old msg) }
@@ -142,7 +143,7 @@ impl EventLog {
         Ok(())
     }
 
-    /// A hole directly before the opening of a node of this kind, which can't be preceded again.
+    /// Puts a hole directly before the opening of a node of this kind, which can't be preceded again.
     pub fn precede(&mut self, node: u32, kind: SyntaxKind) -> Result<(), AllocError>
         requires node { Contains self.old.items (Open node kind true) }
         requires room { self.old.recorded + 1 < 2 ^ 32 }
@@ -158,7 +159,7 @@ impl EventLog {
         Ok(())
     }
 
-    /// The hole goes, and its event too, where it is the last one and was made by a start.
+    /// Removes the hole, and its event too, if that is the last one and was made by a start.
     pub fn abandon(&mut self, id: u32, made: Made)
         requires { Contains self.old.items (Hole id made) }
         ensures abandoned { self.new ≡ abandoned self.old id }
@@ -171,8 +172,8 @@ impl EventLog {
         }
     }
 
-    /// The opening of a node moves to the hole's place, if that stands before it, and the hole goes.
-    /// The marker was started before the node's.
+    /// Moves the opening of a node to the hole's position, if that stands before it, and removes the hole.
+    /// The hole is older than the node's.
     pub fn extend(&mut self, node: u32, id: u32)
         requires node { HasNodeOf self.old.items node }
         requires hole { HasHoleOf self.old.items id }
@@ -184,7 +185,7 @@ impl EventLog {
         *start = PackedEvent::linked(SyntaxKind::TOMBSTONE, node - id);
     }
 
-    /// The items as an output; holes are left out. It is made in one pass.
+    /// The output of the log, made in one pass: the items without the holes.
     pub fn finish(self, alloc: Global) -> Result<Output, AllocError>
         requires { errors_of self.items ≤ 2147483648 }
         ensures output { IfOk result (λ o. o ≡ record { steps = plain self.items; recorded = self.recorded; turns = self.turns_due }) }
@@ -199,7 +200,7 @@ impl EventLog {
     }
 }
 
-/// Whether the event of a hole is the last of so many, and the hole was made by a start.
+/// Whether the event of a hole is the last of `entries`, and the hole was made by a start.
 fn is_last_start(entries: usize, id: u32, made: Made) -> bool
     ensures { result ≡ spec.is_last_start entries (Hole id made) }
 {
@@ -209,7 +210,7 @@ fn is_last_start(entries: usize, id: u32, made: Made) -> bool
     }
 }
 
-/// Puts an error at the end of the events, and its text at the end of theirs, or neither.
+/// Appends an error to the events and its text to the texts, or neither.
 pub(crate) fn push_error(
     events: &mut Vec<PackedEvent>,
     errors: &mut Vec<Text>,

@@ -3,27 +3,27 @@ ghost use Rattle.std.specs.Prelude.{◌≡◌, ◌<◌, ◌^◌, ◌↔◌, [], 
 ghost use Rattle.squawk_output.specs.OneRoot.{StandsInOneRoot};
 ghost use Rattle.squawk_output.specs.Steps.{without_errors};
 
-pub(crate) mod passed;
-mod root_note;
+pub(crate) mod builder;
+mod root_tracker;
 pub mod step;
 pub mod steps;
 pub(crate) mod stored;
 pub mod text;
 
-use passed::PassedSteps;
+use builder::OutputBuilder;
 use std::alloc::Global;
 use std::marker::Model;
 pub use step::Step;
 pub use steps::Steps;
 pub use text::Text;
 
-/// A walk over a syntax tree from the left, node by node, as a list of steps.
+/// The output of a parse: the steps of a walk over a syntax tree, from left to right.
 ///
-/// It speaks of tokens of the input that was parsed and knows neither their texts nor the trivia
-/// between them. Its errors stand where they were recorded.
+/// Its tokens are of the input, so it has neither texts nor trivia. Its errors stand where they were
+/// recorded.
 #[derive(Drop)]
 pub struct Output {
-    passed: PassedSteps,
+    builder: OutputBuilder,
     recorded: u32,
 }
 
@@ -32,55 +32,55 @@ impl Model for Output {
 
     ghost Value = { Walk };
 
-    ghost view = { λ o. record { steps = o.passed.steps; recorded = o.recorded; turns = o.passed.turns } };
+    ghost view = { λ o. record { steps = o.builder.steps; recorded = o.recorded; turns = o.builder.turns } };
 }
 
 impl Output {
-    /// The output without steps.
+    /// An output without steps.
     pub fn empty(alloc: Global) -> Output
         ensures { result ≡ record { steps = []; recorded = 0; turns = 0 } }
     {
-        Output::new(PassedSteps::empty(alloc), 0)
+        Output::new(OutputBuilder::empty(alloc), 0)
     }
 
-    /// The output with the steps that a pass made of so many recorded events.
-    pub(crate) fn new(passed: PassedSteps, recorded: u32) -> Output
-        ensures { result ≡ record { steps = passed.steps; recorded = recorded; turns = passed.turns } }
+    /// The output with the steps that a pass made, and the number of recorded events.
+    pub(crate) fn new(builder: OutputBuilder, recorded: u32) -> Output
+        ensures { result ≡ record { steps = builder.steps; recorded = recorded; turns = builder.turns } }
     {
-        Output { passed, recorded }
+        Output { builder, recorded }
     }
 
-    /// The steps in their order. There are fewer than 2^64.
+    /// The steps in order, fewer than 2^64.
     pub fn iter(&self) -> Steps<'_>
         ensures steps { result ≡ self.now.steps }
         ensures few { length self.now.steps < 2 ^ 64 }
     {
-        self.passed.iter()
+        self.builder.iter()
     }
 
-    /// Whether the steps stand in one root: errors aside, they are one node with all that it holds.
+    /// Whether the steps stand in one root: errors aside, they are one node with its contents.
     ///
-    /// The pass has noted it, so nothing is gone over.
+    /// It takes constant time: the pass has kept track of it.
     pub fn stands_in_one_root(&self) -> bool
         ensures { IsTrue result ↔ StandsInOneRoot (without_errors self.now.steps) }
     {
-        self.passed.stands_in_one_root()
+        self.builder.stands_in_one_root()
     }
 
-    /// How many events the parse recorded: one for each start, each node that was begun in front of
-    /// another, each completion, token and error, also where a marker was abandoned.
+    /// The number of events that the parse recorded: one for each start, `precede`, completion, token and
+    /// error, also of markers that were abandoned.
     pub fn recorded(&self) -> u32
         ensures { result ≡ self.now.recorded }
     {
         self.recorded
     }
 
-    /// How many turns the pass over the events took that made the steps: one for each event, one for
-    /// each beginning of a node, and two for each link. They are at most four times the recorded
-    /// events of a parse.
+    /// The number of turns of the pass that made the steps: one for each event of the log, one for each
+    /// `Start`, also of an abandoned marker, and two for each link. Of a parse they are at most four times
+    /// `recorded`.
     pub fn turns(&self) -> u64
         ensures { result ≡ self.now.turns }
     {
-        self.passed.turns()
+        self.builder.turns()
     }
 }

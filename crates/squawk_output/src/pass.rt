@@ -1,4 +1,4 @@
-//! The one pass that makes an output of a log of events.
+//! The pass that makes an output of a log of events. What is inlined runs for each event.
 ghost use Rattle.std.specs.Prelude.{◌≡◌, ◌<◌, ◌≤◌, ◌+◌, ◌*◌, ◌^◌, length, not, slice_index_or, true, IfOk, IsTrue, ◌++◌, []};
 ghost use Rattle.squawk_output.specs.Chain.{entered_back};
 ghost use Rattle.squawk_output.specs.EventLog.{LinksLead, entering, has_link, list_of, steps_of_event, turns_of};
@@ -7,7 +7,7 @@ ghost use Rattle.squawk_output.specs.StoredEvents.{HasEventText, HaveEventTexts,
 ghost use Rattle.squawk_output.specs.declared.event.Event.{Event};
 
 use crate::log::packed_event::PackedEvent;
-use crate::output::passed::PassedSteps;
+use crate::output::builder::OutputBuilder;
 use crate::output::stored::StoredStep;
 use crate::output::{Output, Text};
 use squawk_kinds::SyntaxKind;
@@ -15,8 +15,8 @@ use std::alloc::{AllocError, Global};
 
 /// The output of events whose errors have these texts.
 ///
-/// The errors keep their numbers: the texts are the output's, as they stand. A log has no more steps than
-/// events, so room for all is reserved at once.
+/// The errors keep their numbers, so the output takes the texts as they are. A log has at most as many steps
+/// as events, so room for all is reserved at once.
 pub(crate) fn pass(
     alloc: Global,
     mut events: Vec<PackedEvent>,
@@ -29,88 +29,88 @@ pub(crate) fn pass(
     requires errors { length errors.items ≤ 2147483648 }
     ensures { IfOk result (λ output. output ≡ record { steps = list_of (log_in errors.items events.items); recorded = recorded; turns = turns_of (log_in errors.items events.items) }) }
 {
-    let mut passed = PassedSteps::with_capacity(alloc, events.len(), errors)?;
+    let mut builder = OutputBuilder::with_capacity(alloc, events.len(), errors)?;
     let mut kinds = Vec::new(alloc);
-    let mut place = 0;
-    while place < events.len() {
-        place = visit_plain(&events, &mut passed, place);
-        if place < events.len() {
-            visit_linked(&mut events, &mut kinds, &mut passed, place)?;
-            place += 1;
+    let mut index = 0;
+    while index < events.len() {
+        index = visit_plain(&events, &mut builder, index);
+        if index < events.len() {
+            visit_linked(&mut events, &mut kinds, &mut builder, index)?;
+            index += 1;
         }
     }
-    Ok(Output::new(passed, recorded))
+    Ok(Output::new(builder, recorded))
 }
 
-/// Visits events from a place on, up to one with a link. Gives the place where it stops.
-fn visit_plain(events: &[PackedEvent], passed: &mut PassedSteps, place: usize) -> usize
+/// Visits events from an index on, up to one with a link, and returns that one's index, or the log's length.
+fn visit_plain(events: &[PackedEvent], builder: &mut OutputBuilder, index: usize) -> usize
     requires few { length events.now < 2 ^ 32 }
-    requires turns { passed.old.turns < 2 ^ 35 }
-    requires within { place ≤ length events.now }
-    requires texts { HaveEventTexts passed.old.texts events.now }
-    requires errors { length passed.old.texts ≤ 2147483648 }
-    requires room { HasRoom (log_in passed.old.texts events.now) passed.old place }
-    ensures visits { VisitsTo (log_in passed.old.texts events.now) passed.old passed.new place result }
+    requires turns { builder.old.turns < 2 ^ 35 }
+    requires within { index ≤ length events.now }
+    requires texts { HaveEventTexts builder.old.texts events.now }
+    requires errors { length builder.old.texts ≤ 2147483648 }
+    requires room { HasRoom (log_in builder.old.texts events.now) builder.old index }
+    ensures visits { VisitsTo (log_in builder.old.texts events.now) builder.old builder.new index result }
     ensures stops { result < length events.now
-        → has_link (slice_index_or (log_in passed.old.texts events.now) result Event.Finish) ≡ true }
+        → has_link (slice_index_or (log_in builder.old.texts events.now) result Event.Finish) ≡ true }
 {
-    let mut at = place;
-    while at < events.len() && gives_plain(&events[at], passed) {
+    let mut at = index;
+    while at < events.len() && gives_plain(&events[at], builder) {
         at += 1;
     }
     at
 }
 
-/// Visits an event, unless it has a link. Tells whether it did.
+/// Visits an event, unless it has a link, and returns whether it did.
 #[inline(always)]
-fn gives_plain(event: &PackedEvent, passed: &mut PassedSteps) -> bool
-    requires turns { passed.old.turns + 2 < 2 ^ 64 }
-    requires text { HasEventText passed.old.texts event.now }
-    requires errors { length passed.old.texts ≤ 2147483648 }
-    requires room { length passed.old.steps + length (steps_of_event (event_of passed.old.texts event.now)) ≤ passed.old.room }
-    ensures visits { result ≡ not (has_link (event_of passed.old.texts event.now)) }
-    ensures gives { IsTrue result → GivesPlain (event_of passed.old.texts event.now) passed.old passed.new }
-    ensures stays { IsTrue (not result) → passed.new ≡ passed.old }
+fn gives_plain(event: &PackedEvent, builder: &mut OutputBuilder) -> bool
+    requires turns { builder.old.turns + 2 < 2 ^ 64 }
+    requires text { HasEventText builder.old.texts event.now }
+    requires errors { length builder.old.texts ≤ 2147483648 }
+    requires room { length builder.old.steps + length (steps_of_event (event_of builder.old.texts event.now)) ≤ builder.old.room }
+    ensures visits { result ≡ not (has_link (event_of builder.old.texts event.now)) }
+    ensures gives { IsTrue result → GivesPlain (event_of builder.old.texts event.now) builder.old builder.new }
+    ensures stays { IsTrue (not result) → builder.new ≡ builder.old }
 {
     if let Some(word) = event.plain_word() {
-        passed.put_plain(word);
+        builder.put_plain(word);
         return true;
     }
     if let Some(number) = event.error_number() {
-        passed.put_error(number);
+        builder.put_error(number);
         return true;
     }
     if event.is_aside() {
-        passed.pass_by();
+        builder.pass_by();
         return true;
     }
     false
 }
 
-/// Visits the event at a place, which has a link, and follows the links from there. All to which they lead
-/// is taken out; the event itself stays, since nothing comes back to it.
+/// Visits the event at an index, which has a link, and follows the links from there.
 ///
-/// Each event of the chain makes two turns: it is found, and its node is entered.
+/// The events to which they lead become tombstones. The event itself stays, since the pass doesn't come back
+/// to it. Each event of the chain makes two turns: it is found, and its node is entered.
 #[inline(never)]
 fn visit_linked(
     events: &mut Vec<PackedEvent>,
     kinds: &mut Vec<SyntaxKind>,
-    passed: &mut PassedSteps,
-    place: usize,
+    builder: &mut OutputBuilder,
+    index: usize,
 ) -> Result<(), AllocError>
     requires few { length events.old.items < 2 ^ 32 }
-    requires turns { passed.old.turns < 2 ^ 35 }
-    requires within { place < length events.old.items }
-    requires links { LinksLead (log_in passed.old.texts events.old.items) }
-    requires texts { HaveEventTexts passed.old.texts events.old.items }
-    requires room { HasRoom (log_in passed.old.texts events.old.items) passed.old place }
-    requires linked { has_link (slice_index_or (log_in passed.old.texts events.old.items) place Event.Finish) ≡ true }
+    requires turns { builder.old.turns < 2 ^ 35 }
+    requires within { index < length events.old.items }
+    requires links { LinksLead (log_in builder.old.texts events.old.items) }
+    requires texts { HaveEventTexts builder.old.texts events.old.items }
+    requires room { HasRoom (log_in builder.old.texts events.old.items) builder.old index }
+    requires linked { has_link (slice_index_or (log_in builder.old.texts events.old.items) index Event.Finish) ≡ true }
     requires none { kinds.old.items ≡ [] }
-    ensures visits { IfOk result (λ _. Visits (log_in passed.old.texts events.old.items) passed.old (log_in passed.old.texts events.new.items) passed.new place) }
-    ensures texts { IfOk result (λ _. HaveEventTexts passed.old.texts events.new.items) }
+    ensures visits { IfOk result (λ _. Visits (log_in builder.old.texts events.old.items) builder.old (log_in builder.old.texts events.new.items) builder.new index) }
+    ensures texts { IfOk result (λ _. HaveEventTexts builder.old.texts events.new.items) }
     ensures none { IfOk result (λ _. kinds.new.items ≡ []) }
 {
-    let mut at = place;
+    let mut at = index;
     let event = &events[at];
     let mut next = event.distance();
     kinds.push(event.kind())?;
@@ -122,31 +122,31 @@ fn visit_linked(
         events[at] = PackedEvent::tombstone();
         kinds.push(kind)?;
     }
-    enter_all(passed, kinds);
+    enter_all(builder, kinds);
     Ok(())
 }
 
-/// Enters the kinds from the last to the first, until none is left.
-fn enter_all(passed: &mut PassedSteps, kinds: &mut Vec<SyntaxKind>)
-    requires turns { passed.old.turns + 2 * length kinds.old.items + 2 < 2 ^ 64 }
-    requires room { length passed.old.steps + length (entered_back kinds.old.items) ≤ passed.old.room }
+/// Enters a node of each kind, from the last to the first, until none is left.
+fn enter_all(builder: &mut OutputBuilder, kinds: &mut Vec<SyntaxKind>)
+    requires turns { builder.old.turns + 2 * length kinds.old.items + 2 < 2 ^ 64 }
+    requires room { length builder.old.steps + length (entered_back kinds.old.items) ≤ builder.old.room }
     ensures kinds { kinds.new.items ≡ [] }
-    ensures passed { passed.new ≡ record passed.old { steps = passed.old.steps ++ entered_back kinds.old.items; turns = passed.old.turns + 2 * length kinds.old.items } }
+    ensures builder { builder.new ≡ record builder.old { steps = builder.old.steps ++ entered_back kinds.old.items; turns = builder.old.turns + 2 * length kinds.old.items } }
 {
     while let Some(kind) = kinds.pop() {
-        enter(passed, kind);
+        enter(builder, kind);
     }
 }
 
-/// Enters a node of the kind, unless it is no node's, as an event without a link does.
-fn enter(passed: &mut PassedSteps, kind: SyntaxKind)
-    requires turns { passed.old.turns + 2 < 2 ^ 64 }
-    requires room { length passed.old.steps + length (entering kind) ≤ passed.old.room }
-    ensures { passed.new ≡ record passed.old { steps = passed.old.steps ++ entering kind; turns = passed.old.turns + 2 } }
+/// Enters a node of the kind, unless that is TOMBSTONE.
+fn enter(builder: &mut OutputBuilder, kind: SyntaxKind)
+    requires turns { builder.old.turns + 2 < 2 ^ 64 }
+    requires room { length builder.old.steps + length (entering kind) ≤ builder.old.room }
+    ensures { builder.new ≡ record builder.old { steps = builder.old.steps ++ entering kind; turns = builder.old.turns + 2 } }
 {
     if kind == SyntaxKind::TOMBSTONE {
-        passed.pass_by();
+        builder.pass_by();
     } else {
-        passed.put_plain(StoredStep::Enter { kind }.pack());
+        builder.put_plain(StoredStep::Enter { kind }.pack());
     }
 }

@@ -1,4 +1,4 @@
--- What holds of every row of composite kinds.
+-- What holds of every composite kind.
 use Rattle.std.proofs.Common.{◌≡◌, ◌≢◌, ◌∙◌, ◌≤◌, ℕ, ◌==◌, ◌&&◌, not, Bool, true, false, Option, Some, None, List, [], ◌∷◌, length, map, cond, if◌then◌else◌, ap, sym, refl, arith}
 use Rattle.std.specs.Prelude.{option_map, unwrap_or}
 use Rattle.std.specs.List.{find, list_all}
@@ -6,15 +6,15 @@ use Rattle.std.proofs.lemmas.Bool.{eqb-true}
 use Rattle.std.proofs.lemmas.List.Elements.{All-nil, All-cons}
 use Rattle.squawk_kinds.specs.Kinds.{EOF, R_PAREN, UNICODE_NORMAL_FORM}
 use Rattle.squawk_table.specs.ParserInput.{Entry}
-use Rattle.squawk_parser.specs.CompositeRows.{element_of, form_of}
+use Rattle.squawk_parser.specs.CompositeForms.{element_of, form_of}
 use Rattle.squawk_parser.specs.Composites.{Element, One, AtMostOne, Tail, NoTail, Open, ClosedBy, Form, Glued, Touching, Sequence, Operator, Composite, composites, HasNoEndKind, has_form, normal_form, stands_as, stands_at}
-use Rattle.squawk_parser.specs.Eaten.{eat_steps, eaten_as, elements_in, elements_of_kind, form_steps, row_of, tail_in, tail_of_kind}
+use Rattle.squawk_parser.specs.Eaten.{eat_steps, eaten_as, elements_in, elements_of_kind, form_steps, composite_of, tail_in, tail_of_kind}
 use Rattle.squawk_parser.specs.Words.{Words}
-use Rattle.squawk_parser.specs.declared.parser.composite.Form.{Form as Row}
+use Rattle.squawk_parser.specs.declared.parser.composite.Form.{Form as CodeForm}
 use Rattle.squawk_kinds.specs.TokenSets.{has}
 use Rattle.squawk_parser.proofs.SeenSteps.{and-left, and-right}
 
--- ---- tests of a row
+-- ---- tests of a composite kind
 
 no_end : List ℕ → Bool
 no_end kinds = list_all (λ kind. not (kind == EOF)) kinds
@@ -34,7 +34,7 @@ is_good (Touching parts) = no_end parts
 is_good (Sequence elements tail) = no_end (map kind_of elements) && is_closed_well tail
 is_good Operator = true
 
-all_good : list_all (λ row. is_good row.form) composites ≡ true
+all_good : list_all (λ composite. is_good composite.form) composites ≡ true
 unfolding no_end kind_of is_closed_well is_good
 all_good = refl
 
@@ -50,33 +50,33 @@ found p q (y ∷ xs) x is all = found_cases (p y) refl (found p q xs x)
         ap q (sym same) ∙ and-left (q y) (list_all q xs) all
     found_cases false e later = later (sym (ap (λ b. cond b (Some y) (find p xs)) e) ∙ is) (and-right (q y) (list_all q xs) all)
 
--- ---- the row of a kind
+-- ---- the composite of a kind
 
--- the kind's row has this form
-pub record IsRow (kind : ℕ) (form : Form) : Type 0 where
-  pub row : Composite
-  pub is : row_of kind ≡ Some row
-  pub form_is : row.form ≡ form
+-- the kind's composite has this form
+pub record IsComposite (kind : ℕ) (form : Form) : Type 0 where
+  pub composite : Composite
+  pub is : composite_of kind ≡ Some composite
+  pub form_is : composite.form ≡ form
 
-row_cases : (kind : ℕ) (form : Form) (row : Option Composite) → row_of kind ≡ row → Some form ≡ option_map (λ row. row.form) row → IsRow kind form
-row_cases kind form None is same = absurd (cc)
-row_cases kind form (Some row) is same = record { row = row; is = is; form_is = cc }
+composite_cases : (kind : ℕ) (form : Form) (composite : Option Composite) → composite_of kind ≡ composite → Some form ≡ option_map (λ composite. composite.form) composite → IsComposite kind form
+composite_cases kind form None is same = absurd (cc)
+composite_cases kind form (Some composite) is same = record { composite = composite; is = is; form_is = cc }
 
--- a look for the row finds it
-pub is_row : (kind : ℕ) (result : Option Row) (form : Row) → result ≡ Some form
-    → option_map form_of result ≡ option_map (λ row. row.form) (row_of kind) → IsRow kind (form_of form)
-is_row kind result form is same = row_cases kind (form_of form) (row_of kind) refl (sym (ap (option_map form_of) is) ∙ same)
+-- a look for the composite finds it
+pub is_composite : (kind : ℕ) (result : Option CodeForm) (form : CodeForm) → result ≡ Some form
+    → option_map form_of result ≡ option_map (λ composite. composite.form) (composite_of kind) → IsComposite kind (form_of form)
+is_composite kind result form is same = composite_cases kind (form_of form) (composite_of kind) refl (sym (ap (option_map form_of) is) ∙ same)
 
-no_row_cases : (kind : ℕ) (row : Option Composite) → row_of kind ≡ row → None ≡ option_map (λ row. row.form) row → row_of kind ≡ None
-no_row_cases kind None is same = is
-no_row_cases kind (Some row) is same = absurd (cc)
+no_composite_cases : (kind : ℕ) (composite : Option Composite) → composite_of kind ≡ composite → None ≡ option_map (λ composite. composite.form) composite → composite_of kind ≡ None
+no_composite_cases kind None is same = is
+no_composite_cases kind (Some composite) is same = absurd (cc)
 
 -- or there is none
-pub is_no_row : (kind : ℕ) (result : Option Row) → result ≡ None → option_map form_of result ≡ option_map (λ row. row.form) (row_of kind) → row_of kind ≡ None
-is_no_row kind result is same = no_row_cases kind (row_of kind) refl (sym (ap (option_map form_of) is) ∙ same)
+pub is_no_composite : (kind : ℕ) (result : Option CodeForm) → result ≡ None → option_map form_of result ≡ option_map (λ composite. composite.form) (composite_of kind) → composite_of kind ≡ None
+is_no_composite kind result is same = no_composite_cases kind (composite_of kind) refl (sym (ap (option_map form_of) is) ∙ same)
 
-good : {kind : ℕ} {form : Form} → IsRow kind form → is_good form ≡ true
-good {kind} {form} r = ap is_good (sym r.form_is) ∙ found (λ row. row.kind == kind) (λ row. is_good row.form) composites r.row r.is all_good
+good : {kind : ℕ} {form : Form} → IsComposite kind form → is_good form ≡ true
+good {kind} {form} r = ap is_good (sym r.form_is) ∙ found (λ composite. composite.kind == kind) (λ composite. is_good composite.form) composites r.composite r.is all_good
 
 HasNoEndKind-test : (kinds : List ℕ) → no_end kinds ≡ true → HasNoEndKind kinds
 unfolding no_end
@@ -96,7 +96,7 @@ kinds_back (part ∷ parts) = ap (λ k. k ∷ map kind_of (map element_of parts)
 
 -- ---- what holds of its form
 
-module _ {kind : ℕ} {parts : List ℕ} (r : IsRow kind (Glued parts)) where
+module _ {kind : ℕ} {parts : List ℕ} (r : IsComposite kind (Glued parts)) where
   -- there is one at least
   pub glued-some : 1 ≤ length parts
   unfolding is_good
@@ -110,7 +110,7 @@ module _ {kind : ℕ} {parts : List ℕ} (r : IsRow kind (Glued parts)) where
   unfolding is_good
   glued-no_end = HasNoEndKind-test parts (and-left _ _ (good r))
 
-module _ (kind : ℕ) (parts : List ℕ) (tail : Tail) (r : IsRow kind (Sequence (map element_of parts) tail)) where
+module _ (kind : ℕ) (parts : List ℕ) (tail : Tail) (r : IsComposite kind (Sequence (map element_of parts) tail)) where
   pub sequence-no_end : HasNoEndKind parts
   unfolding is_good
   sequence-no_end = HasNoEndKind-test parts (ap no_end (sym (kinds_back parts)) ∙ and-left _ _ (good r))
@@ -124,25 +124,25 @@ module _ (kind : ℕ) (parts : List ℕ) (tail : Tail) (r : IsRow kind (Sequence
 
 -- ---- where it stands, and what it makes
 
-pub stands_at-row : {kind : ℕ} {form : Form} (operator_kind : ℕ → Bool) (seen : List Entry) → IsRow kind form
+pub stands_at-composite : {kind : ℕ} {form : Form} (operator_kind : ℕ → Bool) (seen : List Entry) → IsComposite kind form
     → stands_at operator_kind kind seen ≡ has_form operator_kind form seen
-stands_at-row {kind} {form} operator_kind seen r =
-    ap (λ row. stands_as operator_kind kind row seen) r.is ∙ ap (λ form. has_form operator_kind form seen) r.form_is
+stands_at-composite {kind} {form} operator_kind seen r =
+    ap (λ composite. stands_as operator_kind kind composite seen) r.is ∙ ap (λ form. has_form operator_kind form seen) r.form_is
 
-pub eat_steps-row : {kind : ℕ} {form : Form} (words : Words) (seen : List Entry) → IsRow kind form
+pub eat_steps-composite : {kind : ℕ} {form : Form} (words : Words) (seen : List Entry) → IsComposite kind form
     → eat_steps words kind seen ≡ form_steps (has words.operator_first) kind form seen
-eat_steps-row {kind} {form} words seen r =
-    ap (λ row. eaten_as (has words.operator_first) kind row seen) r.is ∙ ap (λ form. form_steps (has words.operator_first) kind form seen) r.form_is
+eat_steps-composite {kind} {form} words seen r =
+    ap (λ composite. eaten_as (has words.operator_first) kind composite seen) r.is ∙ ap (λ form. form_steps (has words.operator_first) kind form seen) r.form_is
 
-pub stands_at-none : (kind : ℕ) (operator_kind : ℕ → Bool) (seen : List Entry) → row_of kind ≡ None
+pub stands_at-none : (kind : ℕ) (operator_kind : ℕ → Bool) (seen : List Entry) → composite_of kind ≡ None
     → stands_at operator_kind kind seen ≡ stands_as operator_kind kind None seen
-stands_at-none kind operator_kind seen is = ap (λ row. stands_as operator_kind kind row seen) is
+stands_at-none kind operator_kind seen is = ap (λ composite. stands_as operator_kind kind composite seen) is
 
-pub eat_steps-none : (kind : ℕ) (words : Words) (seen : List Entry) → row_of kind ≡ None → eat_steps words kind seen ≡ eaten_as (has words.operator_first) kind None seen
-eat_steps-none kind words seen is = ap (λ row. eaten_as (has words.operator_first) kind row seen) is
+pub eat_steps-none : (kind : ℕ) (words : Words) (seen : List Entry) → composite_of kind ≡ None → eat_steps words kind seen ≡ eaten_as (has words.operator_first) kind None seen
+eat_steps-none kind words seen is = ap (λ composite. eaten_as (has words.operator_first) kind composite seen) is
 
-pub tail-row : {kind : ℕ} {form : Form} → IsRow kind form → tail_of_kind kind ≡ tail_in form
-tail-row {kind} {form} r = ap (λ row. unwrap_or (option_map (λ composite. tail_in composite.form) row) NoTail) r.is ∙ ap tail_in r.form_is
+pub tail-composite : {kind : ℕ} {form : Form} → IsComposite kind form → tail_of_kind kind ≡ tail_in form
+tail-composite {kind} {form} r = ap (λ composite. unwrap_or (option_map (λ composite. tail_in composite.form) composite) NoTail) r.is ∙ ap tail_in r.form_is
 
-pub elements-row : {kind : ℕ} {form : Form} → IsRow kind form → elements_of_kind kind ≡ elements_in form
-elements-row {kind} {form} r = ap (λ row. unwrap_or (option_map (λ composite. elements_in composite.form) row) []) r.is ∙ ap elements_in r.form_is
+pub elements-composite : {kind : ℕ} {form : Form} → IsComposite kind form → elements_of_kind kind ≡ elements_in form
+elements-composite {kind} {form} r = ap (λ composite. unwrap_or (option_map (λ composite. elements_in composite.form) composite) []) r.is ∙ ap elements_in r.form_is

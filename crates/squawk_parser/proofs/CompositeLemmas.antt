@@ -8,21 +8,21 @@ use Rattle.std.proofs.lemmas.Bool.Decides.{nat_tests}
 use Rattle.std.proofs.lemmas.List.{drop-drop, drop_all, length-drop}
 use Rattle.squawk_parser.specs.Composites.{do_touch, sequence_length, normal_forms}
 use Rattle.squawk_kinds.specs.Kinds.{UNICODE_NORMAL_FORM}
-use Rattle.squawk_parser.specs.CompositeRows.{element_of}
+use Rattle.squawk_parser.specs.CompositeForms.{element_of}
 use Rattle.squawk_parser.specs.LookAhead.{touches_next}
 use Rattle.squawk_table.specs.ParserInput.{Entry, kind_in}
 
--- the first of the tokens from place i on is token i
+-- the first of the tokens from index i on is token i
 pub kind_in-drop : (seen : List Entry) (i : ℕ) → kind_in (drop i seen) 0 ≡ kind_in seen i
 kind_in-drop seen zero = refl
 kind_in-drop [] (suc i) = refl
 kind_in-drop (e ∷ seen) (suc i) = kind_in-drop seen i
 
--- whether nothing is left behind place i
+-- whether nothing is left behind index i
 no_more : (parts : List ℕ) (i : ℕ) → i < length parts → (length (drop (suc i) parts) == 0) ≡ not (nat_lt (i + 1) (length parts))
 no_more parts i lt = rw (length-drop (suc i) parts) (grind (arith, nat_tests))
 
--- parts from place i on touch where the first of them stands, touches what is behind it if there is another, and the others touch
+-- parts from index i on touch where the first of them stands, touches what is behind it if there is another, and the others touch
 pub do_touch-next : (parts : List ℕ) (seen : List Entry) (i : ℕ) → i < length parts
     → do_touch (drop i parts) (drop i seen)
     ≡ ((kind_in seen i == get_or parts i 0) && (not (nat_lt (i + 1) (length parts)) || touches_next (drop i seen)) && do_touch (drop (i + 1) parts) (drop (i + 1) seen))
@@ -35,7 +35,7 @@ do_touch-end parts seen i le = ap (λ xs. do_touch xs (drop i seen)) (drop_all i
 
 -- ---- sequences
 
--- how many tokens a sequence has at the front, if it stands there, where its parts before place i have len of them
+-- how many tokens a sequence has at the front, if it stands there, where its parts before index i have len of them
 pub length_with : List ℕ → List Entry → ℕ → ℕ → Option ℕ
 length_with parts seen i len = option_map (λ n. len + n) (sequence_length (map element_of (drop i parts)) (drop len seen))
 

@@ -7,7 +7,7 @@ use Rattle.squawk_kinds.specs.Kinds.{EOF, IDENT, COLON, EQ, R_ANGLE, PLUS, MINUS
 use Rattle.squawk_table.specs.ParserInput.{Entry}
 use Rattle.squawk_output.specs.Steps.{Token, Enter, Exit, Error}
 use Rattle.squawk_parser.specs.Composites.{NoTail, Open, ClosedBy}
-use Rattle.squawk_parser.specs.Eaten.{row_of, eaten_as, tail_of_kind, recovery_steps}
+use Rattle.squawk_parser.specs.Eaten.{composite_of, eaten_as, tail_of_kind, recovery_steps}
 
 abbrev entry : ℕ → Bool → Entry
 entry kind touches = record { kind = kind; contextual_kind = EOF; touches = touches }
@@ -21,30 +21,30 @@ none kind = false
 
 -- ---- what eating makes
 
-pair_is_one_token : eaten_as none COLON_EQ (row_of COLON_EQ) (entry COLON true ∷ entry EQ false ∷ []) ≡ Token COLON_EQ 2 ∷ []
+pair_is_one_token : eaten_as none COLON_EQ (composite_of COLON_EQ) (entry COLON true ∷ entry EQ false ∷ []) ≡ Token COLON_EQ 2 ∷ []
 pair_is_one_token = refl
 
-three_signs_are_one_token : eaten_as none LONG_ARROW (row_of LONG_ARROW) (entry MINUS true ∷ entry R_ANGLE true ∷ entry R_ANGLE false ∷ []) ≡ Token LONG_ARROW 3 ∷ []
+three_signs_are_one_token : eaten_as none LONG_ARROW (composite_of LONG_ARROW) (entry MINUS true ∷ entry R_ANGLE true ∷ entry R_ANGLE false ∷ []) ≡ Token LONG_ARROW 3 ∷ []
 three_signs_are_one_token = refl
 
-two_colons_are_a_node : eaten_as none COLON_COLON (row_of COLON_COLON) (entry COLON true ∷ entry COLON false ∷ [])
+two_colons_are_a_node : eaten_as none COLON_COLON (composite_of COLON_COLON) (entry COLON true ∷ entry COLON false ∷ [])
     ≡ Enter COLON_COLON ∷ Token COLON 1 ∷ Token COLON 1 ∷ Exit ∷ []
 two_colons_are_a_node = refl
 
-normal_form_has_its_node : eaten_as none IS_NORMALIZED (row_of IS_NORMALIZED) (entry IS_KW false ∷ entry NFC_KW false ∷ entry NORMALIZED_KW false ∷ [])
+normal_form_has_its_node : eaten_as none IS_NORMALIZED (composite_of IS_NORMALIZED) (entry IS_KW false ∷ entry NFC_KW false ∷ entry NORMALIZED_KW false ∷ [])
     ≡ Enter IS_NORMALIZED ∷ Token IS_KW 1 ∷ Enter UNICODE_NORMAL_FORM ∷ Token NFC_KW 1 ∷ Exit ∷ Token NORMALIZED_KW 1 ∷ Exit ∷ []
 normal_form_has_its_node = refl
 
-normal_form_may_be_left_out : eaten_as none IS_NORMALIZED (row_of IS_NORMALIZED) (entry IS_KW false ∷ entry NORMALIZED_KW false ∷ [])
+normal_form_may_be_left_out : eaten_as none IS_NORMALIZED (composite_of IS_NORMALIZED) (entry IS_KW false ∷ entry NORMALIZED_KW false ∷ [])
     ≡ Enter IS_NORMALIZED ∷ Token IS_KW 1 ∷ Token NORMALIZED_KW 1 ∷ Exit ∷ []
 normal_form_may_be_left_out = refl
 
 -- the sign at the end stands in it, since `@` does
-operator_is_a_node : eaten_as all CUSTOM_OP (row_of CUSTOM_OP) (entry AT true ∷ entry MINUS false ∷ entry PLUS false ∷ [])
+operator_is_a_node : eaten_as all CUSTOM_OP (composite_of CUSTOM_OP) (entry AT true ∷ entry MINUS false ∷ entry PLUS false ∷ [])
     ≡ Enter CUSTOM_OP ∷ Token AT 1 ∷ Token MINUS 1 ∷ Exit ∷ []
 operator_is_a_node = refl
 
-plain_kind_is_a_token : eaten_as none IDENT (row_of IDENT) (entry IDENT false ∷ []) ≡ Token IDENT 1 ∷ []
+plain_kind_is_a_token : eaten_as none IDENT (composite_of IDENT) (entry IDENT false ∷ []) ≡ Token IDENT 1 ∷ []
 plain_kind_is_a_token = refl
 
 -- ---- tails

@@ -19,7 +19,7 @@ longest-short run (suc n) = cases (is_operator_name (take (suc n) run)) (longest
     cases true shorter = omega arith
     cases false shorter = omega arith
 
--- the token at a place, and those behind it
+-- the token at an index, and those behind it
 record StandsAt (operator_kind : ℕ → Bool) (seen : List Entry) (i : ℕ) : Type 0 where
   entry : Entry
   kind : operator_kind entry.kind ≡ true

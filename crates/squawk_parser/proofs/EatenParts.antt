@@ -8,7 +8,7 @@ use Rattle.std.proofs.lemmas.List.{map-append, take_all}
 use Rattle.squawk_kinds.specs.Kinds.{UNICODE_NORMAL_FORM}
 use Rattle.squawk_table.specs.ParserInput.{Entry, kind_in}
 use Rattle.squawk_output.specs.Steps.{Step, eaten}
-use Rattle.squawk_parser.specs.CompositeRows.{element_of}
+use Rattle.squawk_parser.specs.CompositeForms.{element_of}
 use Rattle.squawk_parser.specs.Composites.{Element, One, do_touch, normal_form, normal_forms, sequence_length}
 use Rattle.squawk_parser.specs.Eaten.{element_steps, one}
 use Rattle.squawk_output.specs.Edits.{with_token}
@@ -18,13 +18,13 @@ use Rattle.squawk_parser.specs.State.{State, Keeps, Records, ahead}
 use Rattle.squawk_parser.proofs.RecordedSteps.{puts-then, token_puts}
 use Rattle.squawk_parser.proofs.SeenSteps.{ahead-moved, and-right, if-true, if-false}
 
--- the part at a place, and those behind it
+-- the part at an index, and those behind it
 part_here : (parts : List ℕ) (i part : ℕ) → i < length parts → part ≡ get_or parts i part → drop i parts ≡ part ∷ drop (i + 1) parts
 part_here parts i part lt is = drop-cons parts i part lt ∙ (ap (λ k. k ∷ drop (suc i) parts) (sym is) ∙ ap (λ j. part ∷ drop j parts) (sym (add-one i)))
 
 -- ---- parts that touch
 
--- the parts before place i are eaten, and the others touch from here on
+-- the parts before index i are eaten, and the others touch from here on
 pub record IsTouched (parts : List ℕ) (i : ℕ) (old now : State) : Type 0 where
   pub puts : Puts (map one (take i parts)) old now
   pub touch : do_touch (drop i parts) (ahead now 0) ≡ true
@@ -52,7 +52,7 @@ touched-all parts i old now le so_far = subst (λ xs. Puts (map one xs) old now)
 
 -- ---- elements of a sequence
 
--- what is recorded and the steps of the parts from place i on are those of all, and the parts that are left stand
+-- what is recorded and the steps of the parts from index i on are those of all, and the parts that are left stand
 pub record IsEaten (parts : List ℕ) (i : ℕ) (old now : State) : Type 0 where
   pub done : List Step
   pub puts : Puts done old now

@@ -85,7 +85,7 @@ extended_twice = refl
 extended_past_a_marker : extended (extended three_markers last_node 1) last_node 3 ≡ extended (extended three_markers last_node 3) last_node 1
 extended_past_a_marker = refl
 
--- a node that is preceded stays before the place of a marker that was older than the new one
+-- a node that is preceded stays before the items of a marker that is older than the new one
 abbrev preceded_past_a_marker : Draft
 preceded_past_a_marker = completed (preceded (completed (token (started (started (started nothing)))) 1 705) 1) 5 701
 

@@ -8,7 +8,7 @@ pub mod Recovery
 pub mod TailHoles
 pub mod Balance
 pub mod Soundness
-pub mod Noted
+pub mod FailedIfRefused
 pub mod Splits
 pub mod Markers
 pub mod ParserViews

@@ -1,4 +1,4 @@
--- The operator kinds at a place under a limit: how many there are, and which.
+-- The operator kinds at an index under a limit: how many there are, and which.
 use Rattle.std.proofs.Common.{◌≡◌, ◌∙◌, ℕ, zero, suc, ◌+◌, ◌-◌, ◌<◌, ◌≤◌, min, Bool, true, false, List, [], ◌∷◌, length, get_or, if◌then◌else◌, add-zero, arith, ap, sym, refl, inl, inr}
 use Rattle.std.proofs.lemmas.Bool.{cases_lt}
 use Rattle.squawk_table.specs.ParserInput.{Entry, kind_in, touches_in}
@@ -6,16 +6,16 @@ use Rattle.squawk_parser.proofs.TouchingRun.{run_at, run_at-limit, run_at-first}
 
 module _ (operator_kind : ℕ → Bool) (input : List Entry) (limit : ℕ) (within : limit ≤ length input) where
   -- a limit cuts the run
-  cut_by : (room place : ℕ) → place + room ≡ limit
-      → length (run_at operator_kind input limit place) ≡ min room (length (run_at operator_kind input (length input) place))
-  cut_by zero place at = ap length (run_at-limit operator_kind input limit place (omega arith)) ∙ omega arith
-  cut_by (suc room) place at =
-      let kind = kind_in input place in
-      let touches = touches_in input place in
-      let more = cut_by room (suc place) (omega arith) in
-      ap length (run_at-first operator_kind input limit place kind touches (omega arith) within refl refl)
+  cut_by : (room index : ℕ) → index + room ≡ limit
+      → length (run_at operator_kind input limit index) ≡ min room (length (run_at operator_kind input (length input) index))
+  cut_by zero index at = ap length (run_at-limit operator_kind input limit index (omega arith)) ∙ omega arith
+  cut_by (suc room) index at =
+      let kind = kind_in input index in
+      let touches = touches_in input index in
+      let more = cut_by room (suc index) (omega arith) in
+      ap length (run_at-first operator_kind input limit index kind touches (omega arith) within refl refl)
       ∙ (here kind (operator_kind kind) touches _ _ more
-      ∙ ap (λ run. min (suc room) (length run)) (sym (run_at-first operator_kind input (length input) place kind touches (omega arith) (omega arith) refl refl)))
+      ∙ ap (λ run. min (suc room) (length run)) (sym (run_at-first operator_kind input (length input) index kind touches (omega arith) (omega arith) refl refl)))
     where
       here : (kind : ℕ) (b touches : Bool) (cut all : List ℕ) → length cut ≡ min room (length all)
           → length (if b then kind ∷ (if touches then cut else []) else []) ≡ min (suc room) (length (if b then kind ∷ (if touches then all else []) else []))
@@ -23,15 +23,15 @@ module _ (operator_kind : ℕ → Bool) (input : List Entry) (limit : ℕ) (with
       here kind true false cut all more = omega arith
       here kind false touches cut all more = omega arith
 
-  pub length-run_at : (place : ℕ) → place ≤ limit
-      → length (run_at operator_kind input limit place) ≡ min (limit - place) (length (run_at operator_kind input (length input) place))
-  length-run_at place le = cut_by (limit - place) place (omega arith)
+  pub length-run_at : (index : ℕ) → index ≤ limit
+      → length (run_at operator_kind input limit index) ≡ min (limit - index) (length (run_at operator_kind input (length input) index))
+  length-run_at index le = cut_by (limit - index) index (omega arith)
 
   -- at the limit there is none
-  pub before_limit : (k place : ℕ) → k < length (run_at operator_kind input limit place) → place < limit
-  before_limit k place lt = elim (cases_lt place limit) [
+  pub before_limit : (k index : ℕ) → k < length (run_at operator_kind input limit index) → index < limit
+  before_limit k index lt = elim (cases_lt index limit) [
     | inl before ↦ before
-    | inr end ↦ absurd (omega (arith, ap length (run_at-limit operator_kind input limit place end)))
+    | inr end ↦ absurd (omega (arith, ap length (run_at-limit operator_kind input limit index end)))
   ]
 
   first_kind : (kind : ℕ) (b touches : Bool) (rest : List ℕ) → 0 < length (if b then kind ∷ (if touches then rest else []) else [])
@@ -45,17 +45,17 @@ module _ (operator_kind : ℕ → Bool) (input : List Entry) (limit : ℕ) (with
   next_kind k kind other true false rest same lt = absurd (omega arith)
   next_kind k kind other false touches rest same lt = absurd (omega arith)
 
-  -- its kinds are those of the tokens from the place on
-  pub kind_at-run : (k place : ℕ) → k < length (run_at operator_kind input limit place) → get_or (run_at operator_kind input limit place) k 0 ≡ kind_in input (place + k)
-  kind_at-run zero place lt =
-      let kind = kind_in input place in
-      let first = run_at-first operator_kind input limit place kind (touches_in input place) (before_limit zero place lt) within refl refl in
+  -- its kinds are those of the tokens from the index on
+  pub kind_at-run : (k index : ℕ) → k < length (run_at operator_kind input limit index) → get_or (run_at operator_kind input limit index) k 0 ≡ kind_in input (index + k)
+  kind_at-run zero index lt =
+      let kind = kind_in input index in
+      let first = run_at-first operator_kind input limit index kind (touches_in input index) (before_limit zero index lt) within refl refl in
       ap (λ run. get_or run 0 0) first
-      ∙ (first_kind kind (operator_kind kind) (touches_in input place) _ (omega (arith, ap length first)) ∙ ap (kind_in input) (sym (add-zero place)))
-  kind_at-run (suc k) place lt =
-      let kind = kind_in input place in
-      let first = run_at-first operator_kind input limit place kind (touches_in input place) (before_limit (suc k) place lt) within refl refl in
-      let at : suc place + k ≡ place + suc k = omega arith in
+      ∙ (first_kind kind (operator_kind kind) (touches_in input index) _ (omega (arith, ap length first)) ∙ ap (kind_in input) (sym (add-zero index)))
+  kind_at-run (suc k) index lt =
+      let kind = kind_in input index in
+      let first = run_at-first operator_kind input limit index kind (touches_in input index) (before_limit (suc k) index lt) within refl refl in
+      let at : suc index + k ≡ index + suc k = omega arith in
       ap (λ run. get_or run (suc k) 0) first
-      ∙ next_kind k kind (kind_in input (place + suc k)) (operator_kind kind) (touches_in input place) _
-      (λ below. kind_at-run k (suc place) below ∙ ap (kind_in input) at) (omega (arith, ap length first))
+      ∙ next_kind k kind (kind_in input (index + suc k)) (operator_kind kind) (touches_in input index) _
+      (λ below. kind_at-run k (suc index) below ∙ ap (kind_in input) at) (omega (arith, ap length first))

@@ -21,30 +21,30 @@ module _ (operator_kind : ℕ → Bool) (input : List Entry) (limit : ℕ) (with
   rest_longer k kind false touches rest lt = absurd (omega arith)
 
   -- each token of a run but the last touches the next, and has an operator's kind
-  joins : (k place : ℕ) → suc k < length (run_at operator_kind input limit place) → IsTrue (touches_in input (place + k) && operator_kind (kind_in input (place + k)))
-  joins zero place lt =
-      let kind = kind_in input place in
-      let first = run_at-first operator_kind input limit place kind (touches_in input place) (before_limit operator_kind input limit within 1 place lt) within refl refl in
-      rw (add-zero place) (first_joins kind (operator_kind kind) (touches_in input place) (run_at operator_kind input limit (suc place)) (omega (arith, ap length first)))
-  joins (suc k) place lt =
-      let kind = kind_in input place in
-      let first = run_at-first operator_kind input limit place kind (touches_in input place) (before_limit operator_kind input limit within (suc (suc k)) place lt) within refl refl in
-      let at : suc place + k ≡ place + suc k = omega arith in
-      let longer = rest_longer (suc k) kind (operator_kind kind) (touches_in input place) (run_at operator_kind input limit (suc place)) (omega (arith, ap length first)) in
-      rw at at (joins k (suc place) longer)
+  joins : (k index : ℕ) → suc k < length (run_at operator_kind input limit index) → IsTrue (touches_in input (index + k) && operator_kind (kind_in input (index + k)))
+  joins zero index lt =
+      let kind = kind_in input index in
+      let first = run_at-first operator_kind input limit index kind (touches_in input index) (before_limit operator_kind input limit within 1 index lt) within refl refl in
+      rw (add-zero index) (first_joins kind (operator_kind kind) (touches_in input index) (run_at operator_kind input limit (suc index)) (omega (arith, ap length first)))
+  joins (suc k) index lt =
+      let kind = kind_in input index in
+      let first = run_at-first operator_kind input limit index kind (touches_in input index) (before_limit operator_kind input limit within (suc (suc k)) index lt) within refl refl in
+      let at : suc index + k ≡ index + suc k = omega arith in
+      let longer = rest_longer (suc k) kind (operator_kind kind) (touches_in input index) (run_at operator_kind input limit (suc index)) (omega (arith, ap length first)) in
+      rw at at (joins k (suc index) longer)
 
   -- so where no block of 16 tokens is in a run, no run has 32
-  pub no_long_run : (place : ℕ) → ((block : ℕ) → block < length input / 16 → IsInRun operator_kind input (block * 16) → ⊥)
-      → length (touching_run operator_kind (seen_from input limit place)) < 32
+  pub no_long_run : (index : ℕ) → ((block : ℕ) → block < length input / 16 → IsInRun operator_kind input (block * 16) → ⊥)
+      → length (touching_run operator_kind (seen_from input limit index)) < 32
   unfolding run_at
-  no_long_run place none = elim (cases_lt (length (run_at operator_kind input limit place)) 32) [
+  no_long_run index none = elim (cases_lt (length (run_at operator_kind input limit index)) 32) [
     | inl short ↦ short
     | inr long ↦
-        let block = (place + 15) / 16 in
-        let before = before_limit operator_kind input limit within 0 place (omega arith) in
-        let all = length-run_at operator_kind input limit within place (omega arith) in
+        let block = (index + 15) / 16 in
+        let before = before_limit operator_kind input limit within 0 index (omega arith) in
+        let all = length-run_at operator_kind input limit within index (omega arith) in
         let there : IsInRun operator_kind input (block * 16) = λ i from to.
-        let at : place + (i - place) ≡ i = omega arith in
-        rw at at (joins (i - place) place (omega arith)) in
+        let at : index + (i - index) ≡ i = omega arith in
+        rw at at (joins (i - index) index (omega arith)) in
         absurd (none block (omega (arith, all)) there)
   ]

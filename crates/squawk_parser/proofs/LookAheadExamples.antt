@@ -136,7 +136,7 @@ distinct_from = refl
 sequence_past_limit : stands_at operator_kind IS_DISTINCT_FROM (seen_from (alone IS_KW ∷ alone DISTINCT_KW ∷ alone FROM_KW ∷ []) 2 0) ≡ false
 sequence_past_limit = refl
 
--- at place 1 of `x is nfc normalized`, and without the normal form
+-- at index 1 of `x is nfc normalized`, and without the normal form
 normalized : stands_at operator_kind IS_NORMALIZED (seen_from (alone IDENT ∷ alone IS_KW ∷ alone NFC_KW ∷ alone NORMALIZED_KW ∷ []) 4 1) ≡ true
 normalized = refl
 

@@ -16,7 +16,7 @@ use Rattle.squawk_parser.proofs.Splits.{Contains-behind, Contains-flat_map, spli
 
 -- ---- items
 
--- an item that gives place to another
+-- an item that gives way to another
 Contains-replaced : (p : Item → Bool) (old new : Item) (items : List Item) → p old ≡ true → Contains items old → Contains (replaced p (λ item. new ∷ []) items) new
 Contains-replaced p old new items passes there = Contains-flat_map _ new old items there (rw passes (0, omega arith, refl))
 

@@ -18,13 +18,13 @@ AreOneToken-take n limit input one = record {
   touch = λ i lt. sym (touches_in-take limit i input (omega (arith, one.there, length-take limit input))) ∙ one.touch i lt;
 }
 
-pub AreOneToken-seen : (n limit place : ℕ) (input : List Entry) → AreOneToken n (seen_from input limit place) → AreOneToken n (drop place input)
+pub AreOneToken-seen : (n limit index : ℕ) (input : List Entry) → AreOneToken n (seen_from input limit index) → AreOneToken n (drop index input)
 AreOneToken-seen n limit zero input one = AreOneToken-take n limit input one
-AreOneToken-seen n zero (suc place) input one = absurd (omega (arith, one.some, one.there))
-AreOneToken-seen n (suc limit) (suc place) [] one = absurd (omega (arith, one.some, one.there))
-AreOneToken-seen n (suc limit) (suc place) (e ∷ input) one = AreOneToken-seen n limit place input one
+AreOneToken-seen n zero (suc index) input one = absurd (omega (arith, one.some, one.there))
+AreOneToken-seen n (suc limit) (suc index) [] one = absurd (omega (arith, one.some, one.there))
+AreOneToken-seen n (suc limit) (suc index) (e ∷ input) one = AreOneToken-seen n limit index input one
 
 -- they stand before the limit
-pub AreOneToken-within : (n limit place : ℕ) (input : List Entry) → AreOneToken n (seen_from input limit place) → place + n ≤ limit
-AreOneToken-within n limit place input one =
-    omega (arith, one.some, one.there, length-drop place (take limit input), length-take limit input)
+pub AreOneToken-within : (n limit index : ℕ) (input : List Entry) → AreOneToken n (seen_from input limit index) → index + n ≤ limit
+AreOneToken-within n limit index input one =
+    omega (arith, one.some, one.there, length-drop index (take limit input), length-take limit input)

@@ -39,7 +39,7 @@ longest_from len special longest [] = longest
 longest_from len special longest (kind ∷ rest) =
     longest_from (suc len) (special || is_special kind) (longest_after (suc len) (special || is_special kind) longest kind) rest
 
--- the last kind tells whether a run ends in a sign
+-- the last kind decides whether a run ends in a sign
 ends_in_sign-push : (kinds : List ℕ) (kind : ℕ) → ends_in_sign (kinds ++ kind ∷ []) ≡ is_sign kind
 ends_in_sign-push [] kind = refl
 ends_in_sign-push (first ∷ []) kind = refl
@@ -49,7 +49,7 @@ ends_in_sign-push (first ∷ second ∷ rest) kind = ends_in_sign-push (second �
 special-push : (kinds : List ℕ) (kind : ℕ) → list_any is_special (kinds ++ kind ∷ []) ≡ (list_any is_special kinds || is_special kind)
 special-push kinds kind = list_any-append is_special kinds (kind ∷ []) ∙ ap (λ last. list_any is_special kinds || last) (or-false (is_special kind))
 
--- so the two and the length tell whether the run is a name
+-- so the two and the length decide whether the run is a name
 pub name-push : (kinds : List ℕ) (kind : ℕ)
     → is_operator_name (kinds ++ kind ∷ []) ≡ (nat_eq (suc (length kinds)) 1 || not (is_sign kind) || (list_any is_special kinds || is_special kind))
 name-push kinds kind =

@@ -24,12 +24,12 @@ errors_room s t e h = rw e h
 
 -- what is one token for a parser is one for another that sees the same
 pub sees_same : (s t u : State) (n : ℕ) → s ≡ t → Keeps u t → t.position ≡ u.position → AreOneToken n (ahead u 0) → AreOneToken n (ahead s 0)
-sees_same s t u n e keeps place one = subst (AreOneToken n) (sym same) one
+sees_same s t u n e keeps same_position one = subst (AreOneToken n) (sym same) one
   where
     same : ahead s 0 ≡ ahead u 0
     same = let input = keeps.input in let limit = keeps.limit in cc
 
--- what a test of the reason to fail tells
+-- what a test of the reason to fail says
 pub goes_on : (s : State) → is_some s.first_reason ≡ false → HasNotFailed s
 goes_on s e = cases s.first_reason e
   where

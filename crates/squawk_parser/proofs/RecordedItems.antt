@@ -50,7 +50,7 @@ none_closed id (item ∷ items) closed =
     count_by-fails (is_hole_of id) item items (closed_one id item (All-head (λ item. is_hole item ≡ false) item items closed))
     ∙ none_closed id items (All-tail (λ item. is_hole item ≡ false) item items closed)
 
--- the hole becomes an opening in its place
+-- the hole becomes an opening there
 pub filled-at : (id kind : ℕ) (made : Made) (xs ys : List Item) → IsAboveIds id xs → HasNoHole ys
     → filled (xs ++ Hole id made ∷ ys) id kind ≡ xs ++ Open id kind true ∷ ys
 filled-at id kind made xs ys above closed =

@@ -21,9 +21,9 @@ same_reason s msg first is reason e h why = let same : is ≡ reason = cc in sub
 -- no error is put by a parser that fails
 not_put : (old new : State) (msg : List ℕ) → Keeps old new → IsSome new.first_reason → new.position ≡ old.position → new.draft ≡ old.draft
     → (HasNotFailed old → (reason : ParseError) → new.first_reason ≡ Some reason → IsReasonFor old msg reason) → Puts (Error msg ∷ []) old new
-not_put old new msg keeps failed place same why = record {
+not_put old new msg keeps failed same_position same why = record {
   keeps = keeps;
-  position = place ∙ omega arith;
+  position = same_position ∙ omega arith;
   draft = λ after. absurd (not_failed new after failed);
   stays = λ _. same;
   refused = λ goes reason refused. record { front = []; next = Error msg; rest = []; is = refl; why = simp add-zero (why goes reason refused) };
@@ -61,6 +61,6 @@ Puts-error s old msg e goes sound = rw (← e) record {
 -- one that had no room for an event
 pub Puts-full : (old new : State) (msg : List ℕ) → Keeps old new → Records old new old.draft → IsSome new.first_reason → new.position ≡ old.position → new.draft ≡ old.draft
     → (HasNotFailed old → (old.draft.recorded ≡ old.max_events) × (new.first_reason ≡ Some TooManyEvents)) → Puts (Error msg ∷ []) old new
-Puts-full old new msg keeps records failed place same full =
-    not_put old new msg keeps failed place same
+Puts-full old new msg keeps records failed same_position same full =
+    not_put old new msg keeps failed same_position same
     (λ goes reason refused. same_reason old msg new.first_reason TooManyEvents reason (full goes).1 refused (records.refused goes TooManyEvents (full goes).1))

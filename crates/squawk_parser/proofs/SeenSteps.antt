@@ -15,17 +15,17 @@ use Rattle.squawk_parser.proofs.CompositeLemmas.{kind_in-drop}
 
 -- ---- what is seen
 
-kind-take : (input : List Entry) (limit place : ℕ) → place < limit → kind_in (take limit input) place ≡ kind_in input place
-kind-take input zero place lt = absurd (omega arith)
-kind-take [] (suc limit) place lt = refl
+kind-take : (input : List Entry) (limit index : ℕ) → index < limit → kind_in (take limit input) index ≡ kind_in input index
+kind-take input zero index lt = absurd (omega arith)
+kind-take [] (suc limit) index lt = refl
 kind-take (e ∷ input) (suc limit) zero lt = refl
-kind-take (e ∷ input) (suc limit) (suc place) lt = kind-take input limit place (omega arith)
+kind-take (e ∷ input) (suc limit) (suc index) lt = kind-take input limit index (omega arith)
 
-kind-take-end : (input : List Entry) (limit place : ℕ) → limit ≤ place → kind_in (take limit input) place ≡ EOF
-kind-take-end input zero place le = refl
-kind-take-end [] (suc limit) place le = refl
+kind-take-end : (input : List Entry) (limit index : ℕ) → limit ≤ index → kind_in (take limit input) index ≡ EOF
+kind-take-end input zero index le = refl
+kind-take-end [] (suc limit) index le = refl
 kind-take-end (e ∷ input) (suc limit) zero le = absurd (omega arith)
-kind-take-end (e ∷ input) (suc limit) (suc place) le = kind-take-end input limit place (omega arith)
+kind-take-end (e ∷ input) (suc limit) (suc index) le = kind-take-end input limit index (omega arith)
 
 -- the current kind is that of the first token that is seen
 pub kind_at-first : (s : State) → kind_at s 0 ≡ kind_in (ahead s 0) 0
@@ -38,8 +38,8 @@ kind_at-first s = cases (nat_lt (s.position + 0) s.limit) refl ∙ sym (kind_in-
 -- after n tokens the others are seen
 pub ahead-moved : {a b : State} (n : ℕ) → Keeps a b → b.position ≡ a.position + n → ahead b 0 ≡ drop n (ahead a 0)
 ahead-moved {a} {b} n keeps position =
-    let place : b.position + 0 ≡ a.position + 0 + n = omega arith in
-    ap (λ place. drop place (take b.limit b.input)) place
+    let start : b.position + 0 ≡ a.position + 0 + n = omega arith in
+    ap (λ start. drop start (take b.limit b.input)) start
     ∙ (ap (λ limit. drop (a.position + 0 + n) (take limit b.input)) keeps.limit
     ∙ (ap (λ input. drop (a.position + 0 + n) (take a.limit input)) keeps.input
     ∙ sym (drop-drop n (a.position + 0) (take a.limit a.input))))
@@ -51,9 +51,9 @@ ahead-still {a} {b} keeps position = ahead-moved 0 keeps (position ∙ (omega ar
 -- a parser at the beginning sees all of its input
 pub ahead-fresh : {s : State} → IsFresh s → ahead s 0 ≡ s.input
 ahead-fresh {s} fresh =
-    let place : s.position + 0 ≡ 0 = omega (arith, ap (λ s. s.position) fresh) in
+    let start : s.position + 0 ≡ 0 = omega (arith, ap (λ s. s.position) fresh) in
     let limit : s.limit ≡ length s.input = ap (λ s. s.limit) fresh in
-    ap (λ place. drop place (take s.limit s.input)) place ∙ (ap (λ limit. take limit s.input) limit ∙ take_all (length s.input) s.input (omega arith))
+    ap (λ start. drop start (take s.limit s.input)) start ∙ (ap (λ limit. take limit s.input) limit ∙ take_all (length s.input) s.input (omega arith))
 
 -- ---- one token
 

@@ -1,4 +1,4 @@
--- Lists split at an element, and items that give place to others there.
+-- Lists split at an element, and items that give way to others there.
 use Rattle.std.proofs.Common.{◌≡◌, ◌∙◌, ℕ, zero, suc, ◌+◌, ◌≤◌, ◌==◌, Bool, true, false, List, [], ◌∷◌, ◌++◌, cond, arith, ap, refl, subst, sym}
 use Rattle.std.specs.Prelude.{All, Contains, count_by}
 use Rattle.std.specs.List.{flat_map}
@@ -152,7 +152,7 @@ holes-once id items once = omega (arith, once id, count-le_ids (is_hole_of id) i
 pub openings-once : (id : ℕ) (items : List Item) → HasNoIdTwice items → count_by (is_opening_of id) items ≤ 1
 openings-once id items once = omega (arith, once id, count-le_ids (is_opening_of id) id (opening_each id) items)
 
--- the hole of a marker gives place to other items
+-- the hole of a marker gives way to other items
 pub spliced-hole : (id : ℕ) (made : Made) (f : Item → List Item) (items : List Item) → HasNoIdTwice items → Contains items (Hole id made)
     → (at : Split (Hole id made) items) × (replaced (is_hole_of id) f items ≡ at.front ++ (f (Hole id made) ++ at.back))
 spliced-hole id made f items once there = spliced (is_hole_of id) f (Hole id made) items (itself id) (holes-once id items once) there

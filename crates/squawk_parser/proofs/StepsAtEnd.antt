@@ -25,29 +25,29 @@ turns_due_of-cons step xs = sum_by-cons turns_of_step step xs
 
 -- ---- their items
 
-items_for-append : (place : ℕ) (xs ys : List Step) → items_for place (xs ++ ys) ≡ items_for place xs ++ items_for (place + length xs) ys
-items_for-append place [] ys = ap (λ n. items_for n ys) (omega arith)
-items_for-append place (x ∷ xs) ys =
-    let same : place + 1 + length xs ≡ place + length (x ∷ xs) = omega arith in
-    ap (λ items. item_for place x ∷ items) (items_for-append (place + 1) xs ys ∙ ap (λ n. items_for (place + 1) xs ++ items_for n ys) same)
+items_for-append : (id : ℕ) (xs ys : List Step) → items_for id (xs ++ ys) ≡ items_for id xs ++ items_for (id + length xs) ys
+items_for-append id [] ys = ap (λ n. items_for n ys) (omega arith)
+items_for-append id (x ∷ xs) ys =
+    let same : id + 1 + length xs ≡ id + length (x ∷ xs) = omega arith in
+    ap (λ items. item_for id x ∷ items) (items_for-append (id + 1) xs ys ∙ ap (λ n. items_for (id + 1) xs ++ items_for n ys) same)
 
-pub plain-items_for : (place : ℕ) (xs : List Step) → plain (items_for place xs) ≡ xs
-plain-items_for place [] = refl
-plain-items_for place (steps.Token kind n ∷ xs) = ap (λ ys. steps.Token kind n ∷ ys) (plain-items_for (place + 1) xs)
-plain-items_for place (Enter kind ∷ xs) = ap (λ ys. Enter kind ∷ ys) (plain-items_for (place + 1) xs)
-plain-items_for place (Exit ∷ xs) = ap (λ ys. Exit ∷ ys) (plain-items_for (place + 1) xs)
-plain-items_for place (steps.Error text ∷ xs) = ap (λ ys. steps.Error text ∷ ys) (plain-items_for (place + 1) xs)
+pub plain-items_for : (id : ℕ) (xs : List Step) → plain (items_for id xs) ≡ xs
+plain-items_for id [] = refl
+plain-items_for id (steps.Token kind n ∷ xs) = ap (λ ys. steps.Token kind n ∷ ys) (plain-items_for (id + 1) xs)
+plain-items_for id (Enter kind ∷ xs) = ap (λ ys. Enter kind ∷ ys) (plain-items_for (id + 1) xs)
+plain-items_for id (Exit ∷ xs) = ap (λ ys. Exit ∷ ys) (plain-items_for (id + 1) xs)
+plain-items_for id (steps.Error text ∷ xs) = ap (λ ys. steps.Error text ∷ ys) (plain-items_for (id + 1) xs)
 
-no_hole_for : (place : ℕ) (step : Step) → is_hole (item_for place step) ≡ false
-no_hole_for place (steps.Token kind n) = refl
-no_hole_for place (Enter kind) = refl
-no_hole_for place Exit = refl
-no_hole_for place (steps.Error text) = refl
+no_hole_for : (id : ℕ) (step : Step) → is_hole (item_for id step) ≡ false
+no_hole_for id (steps.Token kind n) = refl
+no_hole_for id (Enter kind) = refl
+no_hole_for id Exit = refl
+no_hole_for id (steps.Error text) = refl
 
-pub closed-items_for : (place : ℕ) (xs : List Step) → HasNoHole (items_for place xs)
-closed-items_for place [] = All-nil (λ item. is_hole item ≡ false)
-closed-items_for place (x ∷ xs) =
-    All-cons (λ item. is_hole item ≡ false) (item_for place x) (items_for (place + 1) xs) (no_hole_for place x) (closed-items_for (place + 1) xs)
+pub closed-items_for : (id : ℕ) (xs : List Step) → HasNoHole (items_for id xs)
+closed-items_for id [] = All-nil (λ item. is_hole item ≡ false)
+closed-items_for id (x ∷ xs) =
+    All-cons (λ item. is_hole item ≡ false) (item_for id x) (items_for (id + 1) xs) (no_hole_for id x) (closed-items_for (id + 1) xs)
 
 -- ---- the draft
 

@@ -6,54 +6,54 @@ use Rattle.squawk_table.specs.ParserInput.{Entry, kind_in, touches_in}
 use Rattle.squawk_parser.proofs.OperatorLength.{longest_after, longest_from, longest_from-start}
 use Rattle.squawk_parser.proofs.SeenTokens.{seen_next, seen_from-end}
 
--- the kinds of an operator at a place
-unfoldable pub run_at : (operator_kind : ℕ → Bool) (input : List Entry) (limit place : ℕ) → List ℕ
-run_at operator_kind input limit place = touching_run operator_kind (seen_from input limit place)
+-- the kinds of an operator at an index
+unfoldable pub run_at : (operator_kind : ℕ → Bool) (input : List Entry) (limit index : ℕ) → List ℕ
+run_at operator_kind input limit index = touching_run operator_kind (seen_from input limit index)
 
-module _ (operator_kind : ℕ → Bool) (input : List Entry) (limit place : ℕ) where
+module _ (operator_kind : ℕ → Bool) (input : List Entry) (limit index : ℕ) where
   -- there is none at the limit
-  pub run_at-limit : limit ≤ place → run_at operator_kind input limit place ≡ []
+  pub run_at-limit : limit ≤ index → run_at operator_kind input limit index ≡ []
   unfolding run_at
-  run_at-limit end = ap (touching_run operator_kind) (seen_from-end input limit place end)
+  run_at-limit end = ap (touching_run operator_kind) (seen_from-end input limit index end)
 
-  -- before it the first kind and whether it touches the next one tell what there is
-  pub run_at-first : (kind : ℕ) (touches : Bool) → place < limit → limit ≤ length input → kind_in input place ≡ kind → touches_in input place ≡ touches
-      → run_at operator_kind input limit place
-      ≡ (if operator_kind kind then kind ∷ (if touches then run_at operator_kind input limit (suc place) else []) else [])
+  -- before it the first kind and whether it touches the next one decide what there is
+  pub run_at-first : (kind : ℕ) (touches : Bool) → index < limit → limit ≤ length input → kind_in input index ≡ kind → touches_in input index ≡ touches
+      → run_at operator_kind input limit index
+      ≡ (if operator_kind kind then kind ∷ (if touches then run_at operator_kind input limit (suc index) else []) else [])
   unfolding run_at
   run_at-first kind touches before within same_kind same_touches =
-      let next = seen_next input limit place before within in
-      let run = λ (k : ℕ) (t : Bool). if operator_kind k then k ∷ (if t then touching_run operator_kind (seen_from input limit (suc place)) else []) else [] in
+      let next = seen_next input limit index before within in
+      let run = λ (k : ℕ) (t : Bool). if operator_kind k then k ∷ (if t then touching_run operator_kind (seen_from input limit (suc index)) else []) else [] in
       ap (touching_run operator_kind) next.seen ∙ (ap (λ k. run k next.entry.touches) (next.kind ∙ same_kind) ∙ ap (run kind) (next.touches ∙ same_touches))
 
   -- where no token was read, its longest name is the operator's length
-  pub longest_at-start : longest_from 0 false 0 (run_at operator_kind input limit place) ≡ operator_length operator_kind (seen_from input limit place)
+  pub longest_at-start : longest_from 0 false 0 (run_at operator_kind input limit index) ≡ operator_length operator_kind (seen_from input limit index)
   unfolding run_at
-  longest_at-start = longest_from-start (touching_run operator_kind (seen_from input limit place))
+  longest_at-start = longest_from-start (touching_run operator_kind (seen_from input limit index))
 
-  -- len kinds of a run were read, and the others stand at the place
+  -- len kinds of a run were read, and the others stand at the index
   module _ (len : ℕ) (special : Bool) (longest : ℕ) where
     -- nothing stands at the limit
-    pub longest_at-limit : limit ≤ place → longest_from len special longest (run_at operator_kind input limit place) ≡ longest
+    pub longest_at-limit : limit ≤ index → longest_from len special longest (run_at operator_kind input limit index) ≡ longest
     unfolding longest_from
     longest_at-limit end = ap (longest_from len special longest) (run_at-limit end)
 
-    module _ (kind : ℕ) (before : place < limit) (within : limit ≤ length input) (same_kind : kind ≡ kind_in input place) where
+    module _ (kind : ℕ) (before : index < limit) (within : limit ≤ length input) (same_kind : kind ≡ kind_in input index) where
       -- a token that isn't an operator's ends the run
-      pub longest_at-other : operator_kind kind ≡ false → longest_from len special longest (run_at operator_kind input limit place) ≡ longest
+      pub longest_at-other : operator_kind kind ≡ false → longest_from len special longest (run_at operator_kind input limit index) ≡ longest
       unfolding longest_from
       longest_at-other other = rw (run_at-first kind _ before within (sym same_kind) refl, other) refl
 
       -- a token that doesn't touch the next is the run's last
-      pub longest_at-last : operator_kind kind ≡ true → touches_in input place ≡ false
-          → longest_from len special longest (run_at operator_kind input limit place) ≡ longest_after (len + 1) (special || is_special kind) longest kind
+      pub longest_at-last : operator_kind kind ≡ true → touches_in input index ≡ false
+          → longest_from len special longest (run_at operator_kind input limit index) ≡ longest_after (len + 1) (special || is_special kind) longest kind
       unfolding longest_from
       longest_at-last one apart = rw (run_at-first kind false before within (sym same_kind) apart, one, add-one len) refl
 
       -- one that touches it is read, and the others stand behind it
-      pub longest_at-next : operator_kind kind ≡ true → touches_in input place ≡ true
-          → longest_from len special longest (run_at operator_kind input limit place)
+      pub longest_at-next : operator_kind kind ≡ true → touches_in input index ≡ true
+          → longest_from len special longest (run_at operator_kind input limit index)
           ≡ longest_from (len + 1) (special || is_special kind) (longest_after (len + 1) (special || is_special kind) longest kind)
-          (run_at operator_kind input limit (place + 1))
+          (run_at operator_kind input limit (index + 1))
       unfolding longest_from
-      longest_at-next one joined = rw (run_at-first kind true before within (sym same_kind) joined, one, add-one len, add-one place) refl
+      longest_at-next one joined = rw (run_at-first kind true before within (sym same_kind) joined, one, add-one len, add-one index) refl

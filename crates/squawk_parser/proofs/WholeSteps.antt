@@ -54,10 +54,10 @@ root-node kind xs balanced =
 
 -- ---- the end
 
-no_end : (input : List Entry) (place : ℕ) → HasNoEndToken input → place < length input → kind_in input place ≢ EOF
-no_end [] place some lt = absurd (omega arith)
+no_end : (input : List Entry) (index : ℕ) → HasNoEndToken input → index < length input → kind_in input index ≢ EOF
+no_end [] index some lt = absurd (omega arith)
 no_end (e ∷ input) zero some lt = All-head (λ e. e.kind ≢ EOF) e input some
-no_end (e ∷ input) (suc place) some lt = no_end input place (All-tail (λ e. e.kind ≢ EOF) e input some) (omega arith)
+no_end (e ∷ input) (suc index) some lt = no_end input index (All-tail (λ e. e.kind ≢ EOF) e input some) (omega arith)
 
 -- a parser that sees the end, under no limit but that of its input, has eaten all of it
 pub at_end : (s : State) → HasNoEndToken s.input → s.limit ≡ length s.input → kind_at s 0 ≡ EOF → length s.input ≤ s.position

@@ -1,4 +1,4 @@
--- What parts of a grammar do that are made of several acts.
+-- What holds of parts of a grammar that make several calls.
 use Rattle.std.specs.Prelude.{◌≡◌, ◌+◌, true, Some, List, ◌∷◌, ◌++◌, length}
 use Rattle.squawk_output.specs.Steps.{Step, Enter, eaten, errors_in}
 use Rattle.squawk_output.specs.Draft.{Draft, Item, Node, Open, HasNoHole, errors_of, plain}

@@ -1,4 +1,4 @@
--- The composite kinds: which tokens stand for one.
+-- The composite kinds: which tokens each consists of.
 use Rattle.std.specs.Prelude.{◌≢◌, ℕ, suc, All, ◌-◌, ◌==◌, ◌&&◌, ◌||◌, not, Bool, true, Option, Some, None, List, [], ◌∷◌, length, drop, is_some, option_map, if◌then◌else◌}
 use Rattle.std.specs.List.{find, list_any}
 use Rattle.squawk_kinds.specs.Kinds.{EOF, L_PAREN, R_PAREN, COLON, EQ, BANG, L_ANGLE, R_ANGLE, MINUS, COLON_EQ, NEQ, NEQB, LTEQ, FAT_ARROW, LESS_LESS, GREATER_GREATER, GTEQ, LONG_ARROW, SIMILAR_KW, TO_KW, AT_KW, TIME_KW, ZONE_KW, LOCAL_KW, IS_KW, NOT_KW, NFC_KW, NFD_KW, NFKC_KW, NFKD_KW, NORMALIZED_KW, JSON_KW, OBJECT_KW, ARRAY_KW, VALUE_KW, SCALAR_KW, DISTINCT_KW, FROM_KW, OPERATOR_KW, LIKE_KW, ILIKE_KW, IN_KW, SIMILAR_TO, AT_TIME_ZONE, AT_LOCAL, IS_NOT_NORMALIZED, IS_NORMALIZED, COLON_COLON, IS_JSON, IS_NOT_JSON, IS_NOT_JSON_OBJECT, IS_NOT_JSON_ARRAY, IS_NOT_JSON_VALUE, IS_NOT_JSON_SCALAR, IS_JSON_OBJECT, IS_JSON_ARRAY, IS_JSON_VALUE, IS_JSON_SCALAR, NOT_SIMILAR_TO, IS_NOT_DISTINCT_FROM, OPERATOR_CALL, IS_DISTINCT_FROM, NOT_LIKE, NOT_ILIKE, NOT_IN, IS_NOT, CUSTOM_OP, UNICODE_NORMAL_FORM}
@@ -16,20 +16,20 @@ pub data Element : Type 0 where
 -- what follows the elements of a sequence, inside its node
 pub data Tail : Type 0 where
   NoTail : Tail
-  -- what a grammar says
+  -- what the grammar's part records
   Open : Tail
-  -- the same, and a token of this kind is expected behind it
+  -- what the grammar's part records, and then a token of this kind, which is expected
   ClosedBy : ℕ → Tail
 
--- how the tokens of a composite kind stand, and what they make
+-- how the tokens of a composite kind stand, and what they become
 pub data Form : Type 0 where
-  -- they touch, and make one token
+  -- they touch, and become one token
   Glued : List ℕ → Form
-  -- they touch, and make a node with a token each
+  -- they touch, and become a node of one token each
   Touching : List ℕ → Form
-  -- trivia may stand between them; they make a node with a token each
+  -- trivia may stand between them; they become a node of one token each
   Sequence : List Element → Tail → Form
-  -- they are an operator, and make a node with a token each
+  -- they are an operator, and become a node of one token each
   Operator : Form
 
 pub record Composite : Type 0 where
@@ -52,7 +52,7 @@ normal_forms = NFC_KW ∷ NFD_KW ∷ NFKC_KW ∷ NFKD_KW ∷ []
 abbrev pub normal_form : Element
 normal_form = AtMostOne UNICODE_NORMAL_FORM normal_forms
 
--- all of them, each once
+-- all composite kinds, each once
 abbrev pub composites : List Composite
 composites =
     glued COLON_EQ (COLON ∷ EQ ∷ [])
@@ -91,24 +91,24 @@ composites =
     ∷ record { kind = CUSTOM_OP; form = Operator }
     ∷ []
 
--- no kind of these is the end's
+-- none of these kinds is EOF
 abbrev pub HasNoEndKind : List ℕ → Type 0
 HasNoEndKind kinds = All (λ kind. kind ≢ EOF) kinds
 
 -- ---- where they stand
 
--- whether these kinds stand at the front, each touching the next
+-- whether these kinds are at the front and each touches the next
 abbrev pub do_touch : List ℕ → List Entry → Bool
 do_touch [] seen = true
 do_touch (kind ∷ kinds) seen = (kind_in seen 0 == kind) && ((length kinds == 0) || touches_next seen) && do_touch kinds (drop 1 seen)
 
--- Whether the first n tokens, which touch, are no part of another operator: where the first of them and the token behind them
--- are kinds of operators, and the last touches that, the operator is as long as they are.
+-- Whether the first n tokens, which touch, are no part of a longer operator: if the first of them and the token behind them
+-- have kinds of operators, and the last touches that, the operator is as long as they are.
 abbrev pub are_apart : (ℕ → Bool) → ℕ → List Entry → Bool
 are_apart operator_kind n seen =
     not (operator_kind (kind_in seen 0) && operator_kind (kind_in seen n) && touches_next (drop (n - 1) seen)) || (operator_length operator_kind seen == n)
 
--- how many tokens the elements of a sequence have at the front, if they stand there
+-- the number of tokens that the elements of a sequence have at the front, if they are there
 abbrev pub sequence_length : List Element → List Entry → Option ℕ
 sequence_length [] seen = Some 0
 sequence_length (One kind ∷ elements) seen =
@@ -122,11 +122,11 @@ has_form operator_kind (Touching parts) seen = do_touch parts seen && are_apart 
 has_form operator_kind (Sequence elements tail) seen = is_some (sequence_length elements seen)
 has_form operator_kind Operator seen = operator_kind (kind_in seen 0)
 
--- a kind that isn't composite stands where the first token has it
+-- a kind that isn't composite is at the front if the first token has it
 abbrev pub stands_as : (ℕ → Bool) → ℕ → Option Composite → List Entry → Bool
 stands_as operator_kind kind None seen = kind_in seen 0 == kind
 stands_as operator_kind kind (Some composite) seen = has_form operator_kind composite.form seen
 
--- whether the kind stands at the front of these tokens
+-- whether the kind is at the front of these tokens
 abbrev pub stands_at : (ℕ → Bool) → ℕ → List Entry → Bool
 stands_at operator_kind kind seen = stands_as operator_kind kind (find (λ composite. composite.kind == kind) composites) seen

@@ -1,4 +1,4 @@
--- What acts eat, and what they record for it.
+-- What calls eat, and what they record for it.
 use Rattle.std.specs.Prelude.{◌≡◌, ℕ, ◌==◌, ◌++◌, Bool, false, Option, Some, None, List, [], ◌∷◌, length, map, take, drop, option_map, unwrap_or, codes, if◌then◌else◌}
 use Rattle.std.specs.List.{find, list_any}
 use Rattle.std.specs.Str.{chars}
@@ -26,7 +26,7 @@ node kind steps = Enter kind ∷ steps ++ Exit ∷ []
 abbrev pub current_as : ℕ → List Entry → List Step
 current_as kind seen = if kind_in seen 0 == EOF then [] else one kind ∷ []
 
--- the tokens under the elements of a sequence that stands at the front
+-- the steps of the elements of a sequence that is at the front
 abbrev pub element_steps : List Element → List Entry → List Step
 element_steps [] seen = []
 element_steps (One kind ∷ elements) seen = one kind ∷ element_steps elements (drop 1 seen)
@@ -35,25 +35,25 @@ element_steps (AtMostOne kind kinds ∷ elements) seen =
     then node kind (one (kind_in seen 0) ∷ []) ++ element_steps elements (drop 1 seen)
     else element_steps elements seen
 
--- what a composite kind makes of the tokens at the front
+-- the steps of a composite kind that is at the front
 abbrev pub form_steps : (ℕ → Bool) → ℕ → Form → List Entry → List Step
 form_steps operator_kind kind (Glued parts) seen = Token kind (length parts) ∷ []
 form_steps operator_kind kind (Touching parts) seen = node kind (map one parts)
 form_steps operator_kind kind (Sequence elements tail) seen = node kind (element_steps elements seen)
 form_steps operator_kind kind Operator seen = node kind (map (λ e. one e.kind) (take (operator_length operator_kind seen) seen))
 
--- the row of a composite kind
-abbrev pub row_of : ℕ → Option Composite
-row_of kind = find (λ composite. composite.kind == kind) composites
+-- the composite with this kind, if it is one
+abbrev pub composite_of : ℕ → Option Composite
+composite_of kind = find (λ composite. composite.kind == kind) composites
 
--- what a kind that stands at the front makes of the tokens there
+-- the steps of a kind that is at the front
 abbrev pub eaten_as : (ℕ → Bool) → ℕ → Option Composite → List Entry → List Step
 eaten_as operator_kind kind None seen = one kind ∷ []
 eaten_as operator_kind kind (Some composite) seen = form_steps operator_kind kind composite.form seen
 
--- what eating a kind puts at the end of a draft
+-- the steps that eating a kind puts at the end of a draft
 abbrev pub eat_steps : Words → ℕ → List Entry → List Step
-eat_steps words kind seen = eaten_as (has words.operator_first) kind (row_of kind) seen
+eat_steps words kind seen = eaten_as (has words.operator_first) kind (composite_of kind) seen
 
 -- ---- tails
 
@@ -65,7 +65,7 @@ tail_in Operator = NoTail
 
 -- what follows the tokens of a kind, inside its node
 abbrev pub tail_of_kind : ℕ → Tail
-tail_of_kind kind = unwrap_or (option_map (λ composite. tail_in composite.form) (row_of kind)) NoTail
+tail_of_kind kind = unwrap_or (option_map (λ composite. tail_in composite.form) (composite_of kind)) NoTail
 
 -- the elements of a kind's sequence
 abbrev pub elements_in : Form → List Element
@@ -75,20 +75,20 @@ elements_in (Sequence elements tail) = elements
 elements_in Operator = []
 
 abbrev pub elements_of_kind : ℕ → List Element
-elements_of_kind kind = unwrap_or (option_map (λ composite. elements_in composite.form) (row_of kind)) []
+elements_of_kind kind = unwrap_or (option_map (λ composite. elements_in composite.form) (composite_of kind)) []
 
 -- ---- expected kinds
 
--- the text of the error where a kind is expected and doesn't stand
+-- the text of the error that a kind is expected
 abbrev pub expected_text : Words → ℕ → List ℕ
 expected_text words kind = chars (codes "expected " ++ kind_name words.names kind)
 
--- what expecting a kind puts at the end of a draft
+-- the steps that expecting a kind puts at the end of a draft
 abbrev pub expect_steps : Words → ℕ → List Entry → List Step
 expect_steps words kind seen =
     if stands_at (has words.operator_first) kind seen then eat_steps words kind seen else Error (expected_text words kind) ∷ []
 
--- what follows the tail of a kind
+-- the steps after the tail of a kind
 abbrev pub closing_steps : Words → Tail → List Entry → List Step
 closing_steps words NoTail seen = []
 closing_steps words Open seen = []
@@ -96,13 +96,13 @@ closing_steps words (ClosedBy kind) seen = expect_steps words kind seen
 
 -- ---- recovery
 
--- an error, and the current token with it in a node, unless that token is one to go on from
+-- an error, in a node with the current token unless recovery goes on from that
 abbrev pub recovery_steps : List ℕ → (ℕ → Bool) → List Entry → List Step
 recovery_steps text recovers seen =
     let kind = kind_in seen 0 in
     if recovers kind then Error text ∷ [] else node ERROR (Error text ∷ current_as kind seen)
 
--- no kind is one to go on from
+-- recovery goes on from no kind
 abbrev pub no_recovery : ℕ → Bool
 no_recovery kind = false
 
@@ -115,18 +115,18 @@ pub record ◌⨾◌ (does next : State → State → Type 0) (old new : State) 
   pub does_so : does old between
   pub goes_on : next between new
 
--- the steps of what stands ahead are put at the end
+-- the steps of the tokens ahead are put at the end
 abbrev pub PutsAhead : (State → List Step) → State → State → Type 0
 PutsAhead steps old new = Puts (steps old) old new
 
--- a tail does what it does, and leaves the open markers as they are
+-- a tail runs, and leaves the open markers as they are
 pub record RunsTail (does : State → State → Type 0) (old new : State) : Type 0 where
   pub keeps : Keeps old new
   pub runs : does old new
   pub holes : HasNotFailed new → holes_of new.draft.items ≡ holes_of old.draft.items
 
--- A node is begun, the tokens of the kind's sequence are eaten, the tail runs once, what closes it is expected, and the
--- node is completed.
+-- A node is started, the tokens of the kind's sequence are eaten, the tail runs once, the token that closes it is expected,
+-- and the node is completed.
 abbrev pub EatsWith : (State → State → Type 0) → ℕ → State → State → Type 0
 EatsWith does kind old new =
     (Begins (started_mark old)

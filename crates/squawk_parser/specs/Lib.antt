@@ -3,7 +3,7 @@ pub mod Operators
 pub mod OperatorLengths
 pub mod OperatorRuns
 pub mod Composites
-pub mod CompositeRows
+pub mod CompositeForms
 pub mod Words
 pub mod State
 pub mod Recorded

@@ -1,6 +1,6 @@
--- Lengths of operators that are told up to a number.
+-- Lengths of operators that are exact up to a number.
 use Rattle.std.specs.Prelude.{◌≡◌, ◌<◌, ◌⊎◌, ℕ}
 
--- it is the length, or both are above the most
+-- what is found is the length, or both are above the most
 abbrev pub IsLengthUpTo : ℕ → ℕ → ℕ → Type 0
-IsLengthUpTo most length told = (told ≡ length) ⊎ ((most < told) × (most < length))
+IsLengthUpTo most length found = (found ≡ length) ⊎ ((most < found) × (most < length))

@@ -1,4 +1,4 @@
--- What tells the lengths of operators without a pass over them.
+-- The numbers that give the lengths of operators without a pass over each.
 use Rattle.std.specs.Prelude.{◌≡◌, ℕ, ◌+◌, ◌-◌, ◌<◌, ◌≤◌, ◌&&◌, IsTrue, Bool, true, false, not, List, length, slice_index}
 use Rattle.squawk_kinds.specs.TokenSets.{has}
 use Rattle.squawk_table.specs.ParserInput.{Entry, kind_in, touches_in}
@@ -10,21 +10,21 @@ use Rattle.squawk_parser.specs.declared.parser.tokens.operator_runs.OperatorRuns
 abbrev pub is_no_sign : ℕ → Bool
 is_no_sign kind = not (is_sign kind)
 
--- for each token the place where the kinds of an operator end that stand there, if nothing limits it
+-- for each token the index past the run of touching operator kinds that starts there, if nothing limits it
 pub record AreEnds (operator_kind : ℕ → Bool) (input : List Entry) (ends : List ℕ) : Type 0 where
   pub count : length ends ≡ length input
-  pub at : (place : ℕ) → place < length input → slice_index ends place ≡ place + length (touching_run operator_kind (seen_from input (length input) place))
+  pub at : (index : ℕ) → index < length input → slice_index ends index ≡ index + length (touching_run operator_kind (seen_from input (length input) index))
 
--- of the tokens before the end the last whose kind passes the test stands right before this place; 0 where none passes
+-- the index past the last token before the end whose kind passes the test; 0 if none passes
 pub record IsPastLast (test : ℕ → Bool) (input : List Entry) (end past : ℕ) : Type 0 where
   pub within : past ≤ end
   pub last : 0 < past → test (kind_in input (past - 1)) ≡ true
   pub none : (k : ℕ) → past ≤ k → k < end → test (kind_in input k) ≡ false
 
--- for each of the first n tokens such a place, of the tokens up to it
-pub record ArePastLast (test : ℕ → Bool) (input : List Entry) (n : ℕ) (places : List ℕ) : Type 0 where
-  pub count : length places ≡ n
-  pub at : (i : ℕ) → i < n → IsPastLast test input (i + 1) (slice_index places i)
+-- for each of the first n tokens such an index, of the tokens up to it
+pub record ArePastLast (test : ℕ → Bool) (input : List Entry) (n : ℕ) (pasts : List ℕ) : Type 0 where
+  pub count : length pasts ≡ n
+  pub at : (i : ℕ) → i < n → IsPastLast test input (i + 1) (slice_index pasts i)
 
 -- the numbers of each token of an input
 pub record AreRunsOf (runs : OperatorRuns) (input : List Entry) : Type 0 where

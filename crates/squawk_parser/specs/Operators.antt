@@ -1,4 +1,4 @@
--- Names of operators, after PostgreSQL's CREATE OPERATOR.
+-- Names of operators, by the rule of PostgreSQL's CREATE OPERATOR.
 use Rattle.std.specs.Prelude.{ℕ, zero, suc, ◌==◌, ◌&&◌, ◌||◌, not, Bool, true, false, List, [], ◌∷◌, length, take, if◌then◌else◌}
 use Rattle.std.specs.List.{list_any}
 use Rattle.squawk_kinds.specs.Kinds.{AT, POUND, TILDE, QUESTION, BANG, MINUS, AMP, PIPE, PLUS, CARET, PERCENT, BACKTICK}
@@ -25,18 +25,18 @@ ends_in_sign (kind ∷ next ∷ rest) = ends_in_sign (next ∷ rest)
 abbrev pub is_operator_name : List ℕ → Bool
 is_operator_name kinds = (length kinds == 1) || not (ends_in_sign kinds) || list_any is_special kinds
 
--- the kinds at the front that an operator may have, as far as they touch
+-- the run of touching operator kinds at the front
 abbrev pub touching_run : (ℕ → Bool) → List Entry → List ℕ
 touching_run operator_kind [] = []
 touching_run operator_kind (e ∷ seen) =
     if operator_kind e.kind then e.kind ∷ (if e.touches then touching_run operator_kind seen else []) else []
 
--- how long the longest beginning is that is a name and has at most n kinds
+-- the length of the longest prefix that is a name and has at most n kinds
 abbrev pub longest_name : List ℕ → ℕ → ℕ
 longest_name run zero = zero
 longest_name run (suc n) = if is_operator_name (take (suc n) run) then suc n else longest_name run n
 
--- how many tokens the operator at the front has; 0 where there is none
+-- the number of tokens of the operator at the front; 0 if there is none
 abbrev pub operator_length : (ℕ → Bool) → List Entry → ℕ
 operator_length operator_kind seen = let run = touching_run operator_kind seen in longest_name run (length run)
 

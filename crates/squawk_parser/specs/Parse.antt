@@ -1,4 +1,4 @@
--- What a parse answers.
+-- The result of a parse.
 use Rattle.std.specs.Prelude.{◌≡◌, ◌≤◌, ◌*◌, Some, None, List, length, ◌⊎◌}
 use Rattle.squawk_table.specs.ParserInput.{Entry, HasNoEndToken}
 use Rattle.squawk_output.specs.Draft.{Draft, HasNoHole, plain}
@@ -17,18 +17,18 @@ pub record IsParse (leaves : Draft → Type 0) (input : List Entry) (output : Wa
   pub steps : output.steps ≡ plain draft.items
   pub recorded : output.recorded ≡ draft.recorded
   pub turns : output.turns ≡ draft.turns_due
-  -- a recorded event is a step at most, and four turns at most
+  -- each recorded event is at most one step, and at most four turns
   pub few : length output.steps ≤ output.recorded
   pub bound : output.turns ≤ 4 * output.recorded
   pub balanced : IsBalanced output.steps
   pub over : IsOver output.steps input
   pub no_end : HasNoEndToken input
 
--- why a parse that left this parser is refused: for its first reason, and if it has none, by want of memory
+-- the error of a parse that left this parser: its first reason, and if it has none, OutOfMemory
 abbrev pub IsRefusalOf : State → ParseError → Type 0
 IsRefusalOf s reason = (s.first_reason ≡ Some reason) ⊎ ((s.first_reason ≡ None) × (reason ≡ OutOfMemory))
 
--- A run that begins with this parser may leave another, and the parse is refused for what that one is.
+-- A run that begins with this parser may leave another one, which has the parse's error.
 pub record IsRefused (runs : State → State → Type 0) (begun : State) (reason : ParseError) : Type 0 where
   pub left : State
   pub ran : runs begun left

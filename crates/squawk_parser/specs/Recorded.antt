@@ -1,4 +1,4 @@
--- What acts record at the end of a draft, and at its markers.
+-- What calls record at the end of a draft, and at its markers.
 use Rattle.std.specs.Prelude.{◌≡◌, ℕ, ◌+◌, true, Some, List, [], ◌∷◌, ◌++◌, length, sum_by, IsSome, if◌then◌else◌}
 use Rattle.squawk_output.specs.Steps as steps
 use Rattle.squawk_output.specs.Steps.{Step, is_enter, is_error, errors_in, eaten}
@@ -10,19 +10,19 @@ use Rattle.squawk_parser.specs.declared.parser.parse_error.ParseError.{ParseErro
 
 -- ---- steps at the end
 
--- the item of a step that is recorded at a place; the opening of a node has its place as its id
+-- the item of a step; the opening of a node has this id, which is the number of entries before it
 abbrev pub item_for : ℕ → Step → Item
-item_for place (steps.Token kind n) = Token kind n
-item_for place (steps.Enter kind) = Open place kind true
-item_for place steps.Exit = Close
-item_for place (steps.Error text) = Error text
+item_for id (steps.Token kind n) = Token kind n
+item_for id (steps.Enter kind) = Open id kind true
+item_for id steps.Exit = Close
+item_for id (steps.Error text) = Error text
 
--- the items of steps that are recorded from a place on
+-- the items of steps, of which the first has this id
 abbrev pub items_for : ℕ → List Step → List Item
-items_for place [] = []
-items_for place (step ∷ steps) = item_for place step ∷ items_for (place + 1) steps
+items_for id [] = []
+items_for id (step ∷ steps) = item_for id step ∷ items_for (id + 1) steps
 
--- how many turns a step is due in a pass over its events: one, and two where a node is entered
+-- the turns that a step takes in the pass over the events: two if it enters a node, else one
 abbrev pub turns_of_step : Step → ℕ
 turns_of_step step = if is_enter step then 2 else 1
 
@@ -59,15 +59,15 @@ pub record Puts (steps : List Step) (old new : State) : Type 0 where
 
 -- ---- markers
 
--- the marker that a start makes: its id is the number of entries
+-- the marker that `start` makes: its id is the number of entries
 abbrev pub started_mark : State → Mark
 started_mark s = record { id = s.draft.entries; made = ByStart }
 
--- and the one that is made in front of a node
+-- the marker that `precede` makes
 abbrev pub preceding_mark : State → Mark
 preceding_mark s = record { id = s.draft.entries; made = ByPrecede }
 
--- A node is begun. What every parser keeps held before.
+-- A node is started. The invariant of a parser held before.
 pub record Begins (m : Mark) (old new : State) : Type 0 where
   pub sound : IsSound old
   pub is : m ≡ started_mark old
@@ -81,7 +81,7 @@ pub record Completes (id kind : ℕ) (old new : State) : Type 0 where
   pub position : new.position ≡ old.position
   pub records : Records old new (completed old.draft id kind)
 
--- A node is begun in front of another.
+-- A node is started in front of another.
 pub record Precedes (node : Node) (m : Mark) (old new : State) : Type 0 where
   pub sound : IsSound old
   pub is : m ≡ preceding_mark old

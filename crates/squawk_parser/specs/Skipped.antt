@@ -1,4 +1,4 @@
--- What skipping puts at the end of a draft.
+-- The steps that skipping puts at the end of a draft.
 use Rattle.std.specs.Prelude.{ℕ, Bool, List, [], ◌∷◌, map, if◌then◌else◌}
 use Rattle.squawk_kinds.specs.Kinds.{ERROR}
 use Rattle.squawk_table.specs.ParserInput.{Entry}
@@ -14,7 +14,7 @@ before_stop stops (e ∷ seen) = if stops e.kind then [] else e ∷ before_stop 
 abbrev pub one_by_one : List Entry → List Step
 one_by_one tokens = map (λ e. one e.kind) tokens
 
--- skipped tokens stand in a node, behind an error; where there are none, nothing is put
+-- skipped tokens are in a node, behind an error; if there are none, nothing is put
 abbrev pub skip_steps : List ℕ → List Entry → List Step
 skip_steps text [] = []
 skip_steps text (e ∷ tokens) = node ERROR (Error text ∷ one_by_one (e ∷ tokens))

@@ -1,4 +1,4 @@
--- What parts of a grammar do of which no step is named.
+-- What holds of parts of a grammar whose steps aren't named.
 use Rattle.std.specs.Prelude.{◌≡◌, true, List, [], ◌∷◌, ◌++◌}
 use Rattle.squawk_kinds.specs.Kinds.{EOF}
 use Rattle.squawk_output.specs.Draft.{Draft, HasNoHole, Hole, Item, Mark, Node, Open, holes_of}

@@ -14,17 +14,17 @@ use Rattle.squawk_parser.specs.declared.parser.parse_error.ParseError.TheVariant
 pub record State : Type 0 where
   -- what is parsed
   pub input : List Entry
-  -- what the grammar tells about its kinds
+  -- the grammar's operators and the names of its kinds
   pub words : Words
-  -- how many tokens of it are eaten
+  -- the number of its tokens that are eaten
   pub position : ℕ
   -- where its view of the input ends
   pub limit : ℕ
   -- what was recorded
   pub draft : Draft
-  -- how many events may be recorded
+  -- the limit of events
   pub max_events : ℕ
-  -- and how many errors
+  -- the limit of errors
   pub max_errors : ℕ
   -- why the parser failed, if it did
   pub first_reason : Option ParseError
@@ -41,7 +41,7 @@ fresh input words max_events max_errors = record { input = input; words = words;
 abbrev pub IsFresh : State → Type 0
 IsFresh s = s ≡ fresh s.input s.words s.max_events s.max_errors
 
--- the kind of the token that is n places from the position; at the limit and past it the end's
+-- the kind of the token n after the current one; from the limit on it is EOF
 abbrev pub kind_at : State → ℕ → ℕ
 kind_at s n = if nat_lt (s.position + n) s.limit then kind_in s.input (s.position + n) else EOF
 
@@ -49,11 +49,11 @@ kind_at s n = if nat_lt (s.position + n) s.limit then kind_in s.input (s.positio
 abbrev pub contextual_kind_at : State → ℕ → ℕ
 contextual_kind_at s n = if nat_lt (s.position + n) s.limit then contextual_kind_in s.input (s.position + n) else EOF
 
--- the tokens from n places ahead on that stand before the limit
+-- the tokens before the limit, from the one n after the current one on
 abbrev pub ahead : State → ℕ → List Entry
 ahead s n = seen_from s.input s.limit (s.position + n)
 
--- the parser that sees n tokens at most
+-- the parser that sees at most n tokens
 abbrev pub limited : State → ℕ → State
 limited s n = record s { limit = min s.limit (s.position + n) }
 
@@ -61,7 +61,7 @@ limited s n = record s { limit = min s.limit (s.position + n) }
 abbrev pub with_limit_of : State → State → State
 with_limit_of s other = record s { limit = other.limit }
 
--- what every parser keeps, failed or not
+-- the invariant of a parser, failed or not
 pub record IsSound (s : State) : Type 0 where
   pub position : s.position ≤ s.limit
   pub limit : s.limit ≤ length s.input

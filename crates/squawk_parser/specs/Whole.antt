@@ -1,4 +1,4 @@
--- Grammars whose runs leave one node over all of an input.
+-- Grammars whose runs leave one root over all of an input.
 use Rattle.std.specs.Prelude.{◌≤◌, List, length}
 use Rattle.squawk_output.specs.Draft.{Draft, plain}
 use Rattle.squawk_output.specs.OneRoot.{StandsInOneRoot}

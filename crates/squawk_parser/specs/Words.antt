@@ -1,4 +1,4 @@
--- What a grammar tells about its kinds.
+-- The operators of a grammar, and the names of its kinds.
 use Rattle.std.specs.Prelude.{◌≡◌, false, [], map, refl}
 use Rattle.squawk_kinds.specs.KindNames.{Names}
 use Rattle.squawk_kinds.specs.Kinds.{EOF}
@@ -23,7 +23,7 @@ no_words = record { operator_first = no_kinds; names = [] }
 abbrev pub HasNoEnd : Words → Type 0
 HasNoEnd words = has words.operator_first EOF ≡ false
 
--- and it is none where there are none
+-- no words have no end
 pub no_words_has_no_end : HasNoEnd no_words
 unfolding sets.has
 no_words_has_no_end = refl

@@ -3,7 +3,7 @@
 //! A grammar is an `impl` of [`Grammar`]: it looks at the tokens ahead, starts nodes, eats tokens and
 //! completes nodes. [`parse_into`] goes from a text and its raw tokens to a [`StepSink`]. Its stages are
 //! [`LexedStr::new`], [`LexedStr::to_input`], [`EntryPoint::parse`], [`Output::stands_in_one_root`] and
-//! [`LexedStr::intersperse_trivia`]; [`LexedStr::str_steps`] gives the same step by step. This grammar is
+//! [`LexedStr::intersperse_trivia`]; [`LexedStr::str_steps`] returns the same step by step. A grammar
 //! of names:
 //!
 //! ```rust
@@ -92,12 +92,11 @@
 //! Of `one, two` the sink gets a SOURCE_FILE, and in it `one` in a NAME_REF, an error at byte 3 and the
 //! comma in an [`SyntaxKind::ERROR`], the space, and `two` in a NAME_REF.
 //!
-//! The ghost members are what the grammar promises beyond what holds of every parse: `leaves` tells
-//! what it leaves over an input, `runs` what it does to the parser, also where that fails, and
-//! `meaning` what `words` gives. This one always leaves one node over all tokens, so it is a
-//! [`WholeGrammar`]; [`parse_into`] takes any grammar, and asks for a root. Raw tokens that are known to be
-//! accepted, as those of a lexer that promises it, needn't be checked again: [`parse_accepted_into`] and
-//! [`parse_accepted_whole_into`] don't.
+//! The ghost members are your theorems about the grammar. `leaves` is about the result of a run; `runs` is
+//! about every run, also one that fails: leave it trivial; `meaning` is `words` in the proof language. This
+//! grammar always leaves one node over all tokens, so it is a [`WholeGrammar`]. [`parse_into`] takes any
+//! grammar, checks at run time and may return `NoRoot`. If raw tokens are proved to be accepted, as a
+//! lexer's may be, [`parse_accepted_into`] and [`parse_accepted_whole_into`] skip their check.
 #![tactic(auto)]
 
 pub mod parser;

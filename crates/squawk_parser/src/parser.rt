@@ -1,4 +1,4 @@
-//! The parser that a grammar works with.
+//! The parser that a grammar's functions take.
 ghost use Rattle.std.specs.Prelude.{◌≡◌, ◌<◌, ◌≤◌, ◌*◌, ◌^◌, IsOk, IfOk, IfErr, length};
 ghost use Rattle.squawk_output.specs.Draft.{plain};
 ghost use Rattle.squawk_parser.specs.Parse.{IsRefusalOf};
@@ -37,15 +37,15 @@ use tokens::Tokens;
 pub use whole_grammar::WholeGrammar;
 pub use words::Words;
 
-/// For how many events there is room at first, a token of the input: about what a grammar records.
+/// Initial room for events, for each token of the input: about as many as a grammar records.
 const EVENTS_A_TOKEN: usize = 4;
 
-/// A parse that is going on: an input, a position in it, and a log of what was recorded, which
-/// contracts see as a draft.
+/// A parse in progress: an input, a position in it, and the log of what was recorded, which contracts see
+/// as a draft.
 ///
-/// An act that records something can be refused, by want of memory or where a limit of events or
-/// of errors is reached. It doesn't say so. From then on the parser has failed: it keeps its first reason,
-/// it records nothing more, and its position and its looks go on as if it had not failed.
+/// A call that records fails if an allocation fails, or if the limit of events or of errors is reached. It
+/// doesn't return that. From then on the parser has failed: it keeps the first reason and records nothing
+/// more. Its position and look-ahead go on as if it had not failed.
 #[derive(Drop)]
 pub struct Parser<'t> {
     tokens: Tokens<'t>,
@@ -57,7 +57,7 @@ pub struct Parser<'t> {
     log: EventLog,
     limits: Limits,
     first_reason: Option<ParseError>,
-    // What the types of two numbers tell.
+    // The bounds of two numbers' types.
     ghost fits: { (limits.events < 2 ^ 32) × (length tokens.input.now < 2 ^ 64) },
 }
 
@@ -72,7 +72,7 @@ impl<'t> Model for Parser<'t> {
 }
 
 impl<'t> Parser<'t> {
-    /// A parser at the beginning of an input.
+    /// Makes a parser at the beginning of an input.
     fn new(alloc: Global, tokens: Tokens<'t>, words: Words<'t>, limits: Limits) -> Parser<'t>
         requires { HasNoEnd (words_of words) }
         ensures begins { result ≡ fresh tokens.entry.input.now (words_of words.entry) limits.events limits.errors }
@@ -97,18 +97,19 @@ impl<'t> Parser<'t> {
         }
     }
 
-    /// How many tokens of the input were eaten.
+    /// The number of input tokens eaten so far.
     pub fn position(&self) -> usize
         ensures position { result ≡ self.now.position }
-        // The tokens of an input can be counted.
+        // The length of an input is a `usize`.
         ensures few { length self.now.input < 2 ^ 64 }
-        // What every parser keeps.
+        // The invariant of a parser.
         ensures sound { IsSound self.now }
     {
         self.position
     }
 
-    /// Does nothing. Its contract tells what every parser keeps, which a look at a field shows.
+    /// Does nothing. Its contract states the invariant of a parser, which reading a field brings up.
+    // Inlined to nothing.
     #[inline(always)]
     fn witness_sound(&self)
         ensures { IsSound self.now }
@@ -116,17 +117,17 @@ impl<'t> Parser<'t> {
         let _ = &self.limit;
     }
 
-    /// Why the parser failed first, if it did.
+    /// The first reason why the parser failed, if it did.
     pub fn failed(&self) -> Option<ParseError>
         ensures { result ≡ self.now.first_reason }
     {
         self.first_reason
     }
 
-    /// The output of a parse whose grammar answered `run`.
+    /// Makes the output of a parse whose grammar returned `run`.
     ///
-    /// It is refused for the parser's first reason; if that has none, by want of memory, where the
-    /// grammar answers it or the output finds none.
+    /// The error is the parser's first reason; if it has none, `OutOfMemory`, if the grammar returned an error
+    /// or an allocation of the output fails.
     fn finish(self, run: Result<(), AllocError>) -> Result<Output, ParseError>
         requires { self.max_errors ≤ 2147483648 }
         ensures sound { IsSound self.entry }

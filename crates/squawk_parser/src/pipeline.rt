@@ -1,11 +1,11 @@
-//! From a text to a sink in one call.
+//! Calls from a text to a sink.
 ghost use Rattle.std.specs.Prelude.{List, ◌≡◌, ◌++◌, true, IfOk, IfErr};
 ghost use Rattle.squawk_tokens.specs.AcceptedTokens.{AreAcceptedTokens};
 ghost use Rattle.squawk_table.specs.ParserInput.{input_of};
 ghost use Rattle.squawk_table.specs.Shape.{Fits, IsOver, no_keywords};
 ghost use Rattle.squawk_table.specs.Sent.{StopsWithin, sent_list};
 ghost use Rattle.squawk_table.specs.declared.shortcuts.str_step.OwnedStep.{OwnedStep};
-ghost use Rattle.squawk_parser.specs.Pipeline.{IsNotParsed, IsParsed, IsParsedInto, IsRefusal, IsSent, asking, given, table_for};
+ghost use Rattle.squawk_parser.specs.Pipeline.{IsNotParsed, IsParsed, IsParsedInto, IsRefusal, IsSent, as_into_error, given, table_for};
 
 pub mod errors;
 
@@ -16,22 +16,22 @@ use squawk_output::Output;
 use squawk_table::{LexedStr, StepSink, Token, check_tokens};
 use std::alloc::Global;
 
-/// What was sent, and what it took.
+/// Whether all of a text was sent, and the counts of its parse.
 #[derive(Clone, Copy, Debug, PartialEq, Eq)]
 pub struct Sent {
     /// Whether all of the text was sent.
     pub all: bool,
-    /// How many events the parse recorded.
+    /// The number of events that the parse recorded.
     pub recorded: u32,
-    /// How many turns the pass over the events took: at most four for each.
+    /// The number of turns of the pass over the events: at most four for each.
     pub turns: u64,
 }
 
-/// Parses a text with these raw tokens by a grammar, and sends what that leaves to a sink, with the
-/// trivia.
+/// Parses a text with these raw tokens by a grammar, and sends the tree with its trivia to a sink.
 ///
-/// Whether all of the text was sent is answered: a grammar may leave tokens at its end. Where a stage
-/// before the sink refuses, or the grammar leaves no root, the sink is unchanged.
+/// It returns whether all of the text was sent: a grammar may leave tokens at the end. The errors are those
+/// of the stages in turn, then [`ParseIntoError::NoRoot`], then the sink's. Before the sink's error the sink
+/// is unchanged.
 pub fn parse_into<V: Vocabulary, G: Grammar, S: StepSink>(
     alloc: Global,
     text: &str,
@@ -51,7 +51,7 @@ pub fn parse_into<V: Vocabulary, G: Grammar, S: StepSink>(
     parse_accepted_into(alloc, text, tokens, vocabulary, grammar, entry, sink)
 }
 
-/// The same by a grammar that always leaves one node over all tokens: all of the text is sent.
+/// [`parse_into`] for a grammar that always leaves one node over all tokens: all of the text is sent.
 pub fn parse_whole_into<V: Vocabulary, G: WholeGrammar, S: StepSink>(
     alloc: Global,
     text: &str,
@@ -66,14 +66,13 @@ pub fn parse_whole_into<V: Vocabulary, G: WholeGrammar, S: StepSink>(
     ensures all { IfOk result (λ sent. sent.all ≡ true) }
     ensures refused { let g = given (V.keyword vocabulary.now) (V.contextual_keyword vocabulary.now) text.now tokens.now in
         IfErr result (λ reason. IsRefusal g (G.leaves grammar.now entry) (G.runs grammar.now entry) (G.meaning grammar.now)
-        (S.stands_after sink.old) (S.stands_after sink.new) S.refuses (sink.new ≡ sink.old) (asking reason)) }
+        (S.stands_after sink.old) (S.stands_after sink.new) S.refuses (sink.new ≡ sink.old) (as_into_error reason)) }
 {
     check_tokens(text, tokens)?;
     parse_accepted_whole_into(alloc, text, tokens, vocabulary, grammar, entry, sink)
 }
 
-/// [`parse_into`] of raw tokens that are known to be accepted, as those of a lexer that promises it: they
-/// aren't checked.
+/// [`parse_into`] for raw tokens that are proved to be accepted, as a lexer's may be: skips their check.
 pub fn parse_accepted_into<V: Vocabulary, G: Grammar, S: StepSink>(
     alloc: Global,
     text: &str,
@@ -100,7 +99,7 @@ pub fn parse_accepted_into<V: Vocabulary, G: Grammar, S: StepSink>(
     }
 }
 
-/// [`parse_whole_into`] of raw tokens that are known to be accepted: they aren't checked.
+/// [`parse_whole_into`] for raw tokens that are proved to be accepted: skips their check.
 pub fn parse_accepted_whole_into<V: Vocabulary, G: WholeGrammar, S: StepSink>(
     alloc: Global,
     text: &str,
@@ -116,7 +115,7 @@ pub fn parse_accepted_whole_into<V: Vocabulary, G: WholeGrammar, S: StepSink>(
     ensures all { IfOk result (λ sent. sent.all ≡ true) }
     ensures refused { let g = given (V.keyword vocabulary.now) (V.contextual_keyword vocabulary.now) text.now tokens.now in
         IfErr result (λ reason. IsRefusal g (G.leaves grammar.now entry) (G.runs grammar.now entry) (G.meaning grammar.now)
-        (S.stands_after sink.old) (S.stands_after sink.new) S.refuses (sink.new ≡ sink.old) (asking reason)) }
+        (S.stands_after sink.old) (S.stands_after sink.new) S.refuses (sink.new ≡ sink.old) (as_into_error reason)) }
 {
     let parsed = Parsed::new(alloc, text, tokens, vocabulary, grammar, entry)?;
     match parsed.send(sink) {
@@ -125,7 +124,7 @@ pub fn parse_accepted_whole_into<V: Vocabulary, G: WholeGrammar, S: StepSink>(
     }
 }
 
-/// A table, and the output of a parse over its input.
+/// A table of raw tokens, and the output of a parse over its input.
 #[derive(Drop)]
 struct Parsed<'a> {
     table: LexedStr<'a>,

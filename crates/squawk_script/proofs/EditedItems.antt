@@ -7,14 +7,14 @@ use Rattle.squawk_output.specs.Edits.{replaced}
 use Rattle.squawk_output.proofs.LogItems.{Contains-only}
 use Rattle.squawk_parser.proofs.Splits.{Contains-flat_map}
 
--- an item that passes the test, and that gives place to this one among others
+-- an item that passes the test, and that gives way to this one among others
 pub record IsMade (p : Item → Bool) (f : Item → List Item) (new : Item) : Type 0 where
   pub old : Item
   pub passes : p old ≡ true
   pub gives : Contains (f old) new
 
 module _ (p : Item → Bool) (f : Item → List Item) where
-  -- what an item gives place to is in the edited list
+  -- what an item gives way to is in the edited list
   pub Contains-made : (old new : Item) (items : List Item) → p old ≡ true → Contains items old → Contains (f old) new → Contains (replaced p f items) new
   Contains-made old new items passes there gives =
       Contains-flat_map (λ item. cond (p item) (f item) (item ∷ [])) new old items there (rw passes gives)

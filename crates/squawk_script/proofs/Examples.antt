@@ -48,11 +48,11 @@ extended_to_the_nearer_first = (refl, refl, refl, refl)
 extended_to_the_farther_first : leaves (word ∷ word ∷ word ∷ []) (three_markers (ExtendTo 3 1 ∷ ExtendTo 3 2 ∷ Complete 0 700 ∷ [])) extended_steps 9 17 3
 extended_to_the_farther_first = (refl, refl, refl, refl)
 
--- a marker in front of a node is given up
-given_up : leaves (word ∷ word ∷ [])
+-- a marker in front of a node is abandoned
+is_abandoned : leaves (word ∷ word ∷ [])
     (Start ∷ Start ∷ BumpAny ∷ Complete 1 701 ∷ Precede 1 ∷ Abandon 2 ∷ Start ∷ BumpAny ∷ Complete 3 702 ∷ Complete 0 700 ∷ [])
     (Enter 700 ∷ Enter 701 ∷ Token 3 1 ∷ Exit ∷ Enter 702 ∷ Token 3 1 ∷ Exit ∷ Exit ∷ []) 9 15 2
-given_up = (refl, refl, refl, refl)
+is_abandoned = (refl, refl, refl, refl)
 
 -- a preceding node begins before a marker that is older: it stays
 extended_in_vain : leaves (word ∷ [])
@@ -118,7 +118,7 @@ second_is_not = refl
 second_is_at_hand : is_at_hand one_node 1 ≡ true
 second_is_at_hand = refl
 
--- a preceded node is at hand no more, also where the new marker is given up
+-- a preceded node is at hand no more, also where the new marker is abandoned
 preceded_is_not_at_hand : is_at_hand (Start ∷ Start ∷ Complete 1 701 ∷ Precede 1 ∷ Abandon 2 ∷ []) 1 ≡ false
 preceded_is_not_at_hand = refl
 

@@ -8,7 +8,7 @@ use Rattle.std.proofs.lemmas.List.Elements.{at_read}
 use Rattle.std.proofs.lemmas.List.Quantifiers.{position-Some}
 use Rattle.std.proofs.lemmas.List.Sums.{fails_before_first}
 use Rattle.squawk_script.specs.Accepted.{AreGoodBelow, IsAccepted, IsFirstOpen, IsGoodAt, is_open, may_follow}
-use Rattle.squawk_script.specs.Slots.{is_admitted, is_status_open, noted, status_at}
+use Rattle.squawk_script.specs.Slots.{is_admitted, is_status_open, advanced, status_at}
 use Rattle.squawk_script.specs.declared.call.Call.{Call}
 use Rattle.squawk_script.specs.declared.status.Status.{Status}
 use Rattle.squawk_script.specs.declared.status.Status.TheVariants as status
@@ -23,7 +23,7 @@ module _ (calls : List Call) (statuses : List Status) (i : ℕ) (call : Call) (l
   next = take_more calls i call lt ∙ ap (λ c. take i calls ++ c ∷ []) (sym read)
 
   -- one call on
-  pub statuses-more : IsTrue (is_admitted statuses call) → AreStatusesOf (take (i + 1) calls) (noted statuses call)
+  pub statuses-more : IsTrue (is_admitted statuses call) → AreStatusesOf (take (i + 1) calls) (advanced statuses call)
   statuses-more admitted = rw next (statuses-next (take i calls) statuses are call admitted)
 
   pub good-more : IsTrue (is_admitted statuses call) → AreGoodBelow calls i → AreGoodBelow calls (i + 1)

@@ -20,7 +20,7 @@ use Rattle.squawk_script.proofs.SlotLists.{Contains-set, each-push, each-set, pa
 
 -- ---- an open marker's slot is spent
 
--- no hole is left of the marker at place k, and the other slots are what the new items have
+-- no hole is left of the marker in slot k, and the other slots are what the new items have
 module _ (items new : List Item) (slots : List Slot) (k : ℕ) (m : Mark) (made : Slot) where
   holds-edited : slot_at slots k ≡ Open m → Holds items slots → ((i : ℕ) → i ≢ k → IsHeld new (slot_at slots i)) → IsHeld new made
       → ((slot : Slot) → AreInOrder slot (Open m) → AreInOrder slot made) → ((slot : Slot) → AreInOrder (Open m) slot → AreInOrder made slot)
@@ -149,7 +149,7 @@ holds-preceded s slots k n m at is above holds =
       ];
     }
 
--- the opening of a node moves to the place of a hole
+-- the opening of a node takes the place of a hole
 holds-moved : (items : List Item) (slots : List Slot) (j k : ℕ) (n : Node) (m : Mark) → slot_at slots j ≡ Done n → slot_at slots k ≡ Open m
     → Holds items slots → Holds (moved n m.id items) (slice_set slots k Spent)
 holds-moved items slots j k n m at_node at holds =

@@ -18,7 +18,7 @@ use Rattle.squawk_script.specs.declared.call.Call.{Call}
 use Rattle.squawk_script.specs.contracts.script.grammar.ScriptGrammar.TheImpl as grammar
 use Rattle.squawk_output.proofs.PlainLog.{errors-plain}
 use Rattle.squawk_script.proofs.Events.{errors-events, errors_among-append, recorded-events}
-use Rattle.squawk_script.proofs.Refusals.{Tells, error-at, is-none, refused-at, tells}
+use Rattle.squawk_script.proofs.Refusals.{Means, error-at, is-none, refused-at, means}
 
 -- a law: what a script leaves is one draft
 pub leaves_one : (script : Meaning) → LeavesOne script
@@ -47,23 +47,23 @@ module _ (events errors : ℕ) (es : List Bool) where
   -- where none is refused, there is room for all
   pub room-for-all : refusal events errors es ≡ None → Fits events errors es
   room-for-all is =
-      let told = tells events errors es None is in (told.1, omega (arith, told.0, ap errors_among (take_all events es told.1)))
+      let known = means events errors es None is in (known.1, omega (arith, known.0, ap errors_among (take_all events es known.1)))
 
   -- a law: too many events are refused only where there are more than there is room for
   pub more-events : refusal events errors es ≡ Some TooManyEvents → events < length es
-  more-events is = (tells events errors es (Some TooManyEvents) is).1
+  more-events is = (means events errors es (Some TooManyEvents) is).1
 
   -- a law: too many errors are refused only where there are more errors than there is room for
   pub more-errors : refusal events errors es ≡ Some TooManyErrors → errors < errors_among es
   more-errors is =
-      let many = tells events errors es (Some TooManyErrors) is in
+      let many = means events errors es (Some TooManyErrors) is in
       omega (arith, many, ap errors_among (take-append-drop events es), errors_among-append (take events es) (drop events es))
 
   -- a law: what is refused is the first event that finds no room
   pub first-refused : (reason : ParseError) → refusal events errors es ≡ Some reason → IsFirstRefused events errors es reason
-  first-refused reason is = cases reason (tells events errors es (Some reason) is)
+  first-refused reason is = cases reason (means events errors es (Some reason) is)
     where
-      cases : (r : ParseError) → Tells events errors es (Some r) → IsFirstRefused events errors es r
+      cases : (r : ParseError) → Means events errors es (Some r) → IsFirstRefused events errors es r
       cases TooManyErrors many =
           let e = error-at errors (take events es) many in
           record {

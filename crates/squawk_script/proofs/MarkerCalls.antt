@@ -12,7 +12,7 @@ use Rattle.squawk_parser.proofs.Markers.{changed, went-changed}
 use Rattle.squawk_parser.proofs.RecordedSteps.{refuses-one}
 use Rattle.squawk_script.specs.Events.{events_made}
 use Rattle.squawk_script.specs.Meaning.{Run, marker_at, new_marker, seen, stepped}
-use Rattle.squawk_script.specs.Slots.{FailsAt, Holds, IsAt, IsMarkerOf, IsTied, Performs, noted, slot_at, status_of, statuses_of}
+use Rattle.squawk_script.specs.Slots.{FailsAt, Holds, IsAt, IsMarkerOf, IsTied, Performs, advanced, slot_at, status_of, statuses_of}
 use Rattle.squawk_script.specs.declared.call.Call.{Call}
 use Rattle.squawk_script.specs.declared.call.Call.TheVariants as calls
 use Rattle.squawk_script.specs.declared.status.Status.TheVariants as status
@@ -78,7 +78,7 @@ unrecorded {old} {new} {edited} changes = record {
 module _ (old new : State) (slots slots' : List Slot) (tied : IsTied old slots) where
   -- the act of a call: the slots that it leaves are what the draft has, and its run is where the parser is
   pub acted : (call : Call) (after : State) (made : List Slot) (events : List Bool) → Acts old new after events → slots' ≡ made
-      → (Holds old.draft.items slots → Holds after.draft.items made) → statuses_of made ≡ noted (statuses_of slots) call
+      → (Holds old.draft.items slots → Holds after.draft.items made) → statuses_of made ≡ advanced (statuses_of slots) call
       → ((run : Run) → IsAt old slots run → IsAt after made (stepped old.words old.input run call))
       → ((run : Run) → IsAt old slots run → events_made old.words (seen old.input run) call ≡ events) → Performs old new slots slots' call
   acted call after made events acts now holds statuses step makes = rw now record {

@@ -25,7 +25,7 @@ never-both id Spent other lt first second = first
 never-both id one Spent lt first second = second
 never-both id one other lt first second = omega (arith, lt, first, second)
 
--- the slots at other places than this one's have other ids
+-- the other slots have other ids
 pub others : (slots : List Slot) (k id : ℕ) → HasId id (slot_at slots k) → ((i j : ℕ) → i < j → AreInOrder (slot_at slots i) (slot_at slots j))
     → (i : ℕ) → i ≢ k → HasId id (slot_at slots i) → ⊥
 others slots k id has order i other same = elim (cases_order i k) [

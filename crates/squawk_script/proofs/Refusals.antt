@@ -12,31 +12,31 @@ use Rattle.squawk_script.specs.Events.{errors_among, refusal}
 use Rattle.squawk_script.specs.Slots.{FailsAt}
 use Rattle.squawk_script.proofs.Events.{errors_among-append, errors_among-cons, errors_among-steps}
 
--- ---- what a refusal tells
+-- ---- what a refusal means
 
 module _ (events errors : ℕ) (es : List Bool) where
   -- of the events that there is room for, more are errors than may be; they are not, but there are more events; there are none
-  abbrev pub Tells : Option ParseError → Type 0
-  Tells (Some TooManyErrors) = errors < errors_among (take events es)
-  Tells (Some TooManyEvents) = (errors_among (take events es) ≤ errors) × (events < length es)
-  Tells (Some OutOfMemory) = ⊥
-  Tells None = (errors_among (take events es) ≤ errors) × (length es ≤ events)
+  abbrev pub Means : Option ParseError → Type 0
+  Means (Some TooManyErrors) = errors < errors_among (take events es)
+  Means (Some TooManyEvents) = (errors_among (take events es) ≤ errors) × (events < length es)
+  Means (Some OutOfMemory) = ⊥
+  Means None = (errors_among (take events es) ≤ errors) × (length es ≤ events)
 
-  pub is-errors : Tells (Some TooManyErrors) → refusal events errors es ≡ Some TooManyErrors
+  pub is-errors : Means (Some TooManyErrors) → refusal events errors es ≡ Some TooManyErrors
   is-errors many = rw (lt-ltb errors (errors_among (take events es)) many) refl
 
-  pub is-events : Tells (Some TooManyEvents) → refusal events errors es ≡ Some TooManyEvents
+  pub is-events : Means (Some TooManyEvents) → refusal events errors es ≡ Some TooManyEvents
   is-events (few, more) = rw (le-ltb errors (errors_among (take events es)) few, lt-ltb events (length es) more) refl
 
-  pub is-none : Tells None → refusal events errors es ≡ None
+  pub is-none : Means None → refusal events errors es ≡ None
   is-none (few, fit) = rw (le-ltb errors (errors_among (take events es)) few, le-ltb events (length es) fit) refl
 
-  pub tells : (answer : Option ParseError) → refusal events errors es ≡ answer → Tells answer
-  tells answer is = subst Tells is (elim (cases_lt errors (errors_among (take events es))) [
-    | inl many ↦ subst Tells (sym (is-errors many)) many
+  pub means : (answer : Option ParseError) → refusal events errors es ≡ answer → Means answer
+  means answer is = subst Means is (elim (cases_lt errors (errors_among (take events es))) [
+    | inl many ↦ subst Means (sym (is-errors many)) many
     | inr few ↦ elim (cases_lt events (length es)) [
-      | inl more ↦ subst Tells (sym (is-events (few, more))) (few, more)
-      | inr fit ↦ subst Tells (sym (is-none (few, fit))) (few, fit)
+      | inl more ↦ subst Means (sym (is-events (few, more))) (few, more)
+      | inr fit ↦ subst Means (sym (is-none (few, fit))) (few, fit)
     ]
   ])
 
@@ -50,9 +50,9 @@ more-errors-behind (suc n) (x ∷ xs) ys = omega (arith, more-errors-behind n xs
 
 -- what refuses the first events refuses all
 pub refusal-append : (events errors : ℕ) (xs ys : List Bool) (reason : ParseError) → refusal events errors xs ≡ Some reason → refusal events errors (xs ++ ys) ≡ Some reason
-refusal-append events errors xs ys reason is = cases reason (tells events errors xs (Some reason) is)
+refusal-append events errors xs ys reason is = cases reason (means events errors xs (Some reason) is)
   where
-    cases : (r : ParseError) → Tells events errors xs (Some r) → refusal events errors (xs ++ ys) ≡ Some r
+    cases : (r : ParseError) → Means events errors xs (Some r) → refusal events errors (xs ++ ys) ≡ Some r
     cases TooManyErrors many = is-errors events errors (xs ++ ys) (omega (arith, many, more-errors-behind events xs ys))
     cases TooManyEvents (few, more) =
         let same : take events (xs ++ ys) ≡ take events xs = take-append-le events xs ys (omega (arith, more)) in
@@ -96,7 +96,7 @@ error-at (suc n) (true ∷ es) lt =
 module _ (old new : State) where
   -- one of its steps
   pub steps-fail : (steps : List Step) → Refuses steps old new → HasNotFailed old → FailsAt old new (map is_error steps)
-  steps-fail steps refuses goes before count errors reason fails told =
+  steps-fail steps refuses goes before count errors reason fails known =
       let r = refuses goes reason fails in
       let front : List Bool = before ++ map is_error r.front in
       let long : length front ≡ old.draft.recorded + length r.front =
@@ -107,10 +107,10 @@ module _ (old new : State) where
       ap (λ xs. before ++ map is_error xs) r.is
       ∙ (ap (λ es. before ++ es) (map-append is_error r.front (r.next ∷ r.rest)) ∙ sym (append_assoc before (map is_error r.front) (is_error r.next ∷ map is_error r.rest))) in
       ap (refusal old.max_events old.max_errors) all
-      ∙ refused-at old.max_events old.max_errors front (is_error r.next) (map is_error r.rest) reason told (rw (long, wrong) r.why)
+      ∙ refused-at old.max_events old.max_errors front (is_error r.next) (map is_error r.rest) reason known (rw (long, wrong) r.why)
 
   -- none of its events
   pub changes-fails : (edited : Draft) → Changes old new edited → HasNotFailed old → FailsAt old new []
-  changes-fails edited changes goes before count errors reason fails told =
+  changes-fails edited changes goes before count errors reason fails known =
       let same : new.first_reason ≡ old.first_reason = ap (λ s. s.first_reason) (changes.goes goes) in
       absurd (let p = sym fails ∙ (same ∙ goes) in cc)

@@ -1,4 +1,4 @@
--- Where a run of calls stands, before the call at a place.
+-- The state of a run of calls, before each call.
 use Rattle.std.proofs.Common.{◌≡◌, ◌≢◌, ◌∙◌, ℕ, ◌+◌, ◌<◌, ◌≤◌, Bool, true, false, Option, Some, None, List, [], ◌∷◌, ◌++◌, length, get_or, take, ap, sym, refl, subst, Contains, IsTrue}
 use Rattle.std.proofs.Math.ListN.{get_or-map}
 use Rattle.std.proofs.lemmas.List.{get_or_default, take_all}
@@ -49,7 +49,7 @@ stands-begin start calls fresh sound = record {
     count = refl;
     markers = λ i. tt;
   };
-  fails = λ reason failed told. absurd (let p = sym failed ∙ ap (λ s. s.first_reason) fresh in cc);
+  fails = λ reason failed known. absurd (let p = sym failed ∙ ap (λ s. s.first_reason) fresh in cc);
 }
 
 module _ (start : State) (calls : List Call) (s : State) (slots : List Slot) (i : ℕ) (call : Call) (lt : i < length calls) (is : call ≡ get_or calls i call)
@@ -68,9 +68,9 @@ module _ (start : State) (calls : List Call) (s : State) (slots : List Slot) (i 
         let more : run_of start.words start.input (take (i + 1) calls) ≡ stepped start.words start.input run call =
         ap (run_of start.words start.input) upto ∙ fold-append (stepped start.words start.input) begin (take i calls) (call ∷ []) in
         rw more (rw (stands.keeps.words, stands.keeps.input) at (performs.step goes run (stands.at (went keeps goes))));
-    fails = λ reason failed told.
+    fails = λ reason failed known.
         ap (refusal start.max_events start.max_errors) (ap (events_of start.words start.input) upto ∙ events-more start.words start.input (take i calls) call)
-        ∙ refused s.first_reason refl reason failed told;
+        ∙ refused s.first_reason refl reason failed known;
   }
     where
       run : Run
@@ -85,15 +85,15 @@ module _ (start : State) (calls : List Call) (s : State) (slots : List Slot) (i 
       -- what is refused before the call stays so, and else it is the call that is refused
       refused : (first : Option ParseError) → s.first_reason ≡ first → (reason : ParseError) → t.first_reason ≡ Some reason → reason ≢ OutOfMemory
           → refusal start.max_events start.max_errors (before ++ events_made start.words (seen start.input run) call) ≡ Some reason
-      refused None goes reason failed told =
+      refused None goes reason failed known =
           let at : IsAt s slots run = stands.at goes in
           let count = recorded-events start.words start.input (take i calls) ∙ ap (λ d. d.recorded) at.draft in
           let errors = errors-events start.words start.input (take i calls) ∙ ap (λ d. errors_of d.items) at.draft in
           rw (stands.keeps.words, stands.keeps.input, stands.keeps.max_events, stands.keeps.max_errors) at
-          (performs.fails goes run at before count errors reason failed told)
-      refused (Some r) failing reason failed told =
+          (performs.fails goes run at before count errors reason failed known)
+      refused (Some r) failing reason failed known =
           let same : s.first_reason ≡ Some reason = sym (keeps.reason (rw failing refl)) ∙ failed in
-          refusal-append start.max_events start.max_errors before (events_made start.words (seen start.input run) call) reason (stands.fails reason same told)
+          refusal-append start.max_events start.max_errors before (events_made start.words (seen start.input run) call) reason (stands.fails reason same known)
 
 -- ---- behind the last call
 

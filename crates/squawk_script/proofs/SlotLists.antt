@@ -1,17 +1,17 @@
--- Lists with an element more at the end, or with another one at a place.
+-- Lists with an element more at the end, or with another one at an index.
 use Rattle.std.proofs.Common.{◌≡◌, ◌≢◌, ◌∙◌, inl, inr, ℕ, zero, suc, ◌<◌, List, [], ◌∷◌, ◌++◌, length, arith, subst, Contains, slice_index_or, slice_set}
 use Rattle.std.proofs.lemmas.Bool.{cases_eq, cases_lt}
 use Rattle.std.proofs.lemmas.List.{get_or-set_other, get_or-set_same, get_or_default, get_or_past, get_or_push, length-set}
 
 module _ {X : Type 0} (d : X) where
-  -- a place that has another element than the default is one of the list's
+  -- an index that has another element than the default is one of the list's
   pub within : (xs : List X) (k : ℕ) → (slice_index_or xs k d ≡ d → ⊥) → k < length xs
   within xs k other = elim (cases_lt k (length xs)) [
     | inl lt ↦ lt
     | inr le ↦ absurd (other (get_or_past xs k d le))
   ]
 
-  -- what holds at each place, and past the end, holds with one more
+  -- what holds at each index, and past the end, holds with one more
   pub each-push : (P : ℕ → X → Type 0) (xs : List X) (y : X) → ((i : ℕ) → i ≢ length xs → P i (slice_index_or xs i d)) → P (length xs) y
       → (i : ℕ) → P i (slice_index_or (xs ++ y ∷ []) i d)
   each-push P [] y all here zero = here
@@ -19,7 +19,7 @@ module _ {X : Type 0} (d : X) where
   each-push P (x ∷ xs) y all here zero = all 0 (λ e. omega (arith, e))
   each-push P (x ∷ xs) y all here (suc i) = each-push (λ n. P (suc n)) xs y (λ n off. all (suc n) (λ e. off (omega (arith, e)))) here i
 
-  -- with another element at place k, what holds at the other places need not hold there
+  -- with another element at index k, what holds at the other indices need not hold there
   pub each-set : (P : ℕ → X → Type 0) (xs : List X) (k : ℕ) (y : X) → k < length xs → ((i : ℕ) → i ≢ k → P i (slice_index_or xs i d)) → P k y
       → (i : ℕ) → P i (slice_index_or (slice_set xs k y) i d)
   each-set P xs k y lt others here i = elim (cases_eq i k) [
@@ -27,7 +27,7 @@ module _ {X : Type 0} (d : X) where
     | inr other ↦ rw (get_or-set_other xs k i y d other) (others i other)
   ]
 
-  -- what holds at a place holds there afterwards, if the new element has it from the old one
+  -- what holds at an index holds there afterwards, if the new element has it from the old one
   pub stays-set : (P : X → Type 0) (xs : List X) (k : ℕ) (y : X) (i : ℕ) → (P (slice_index_or xs k d) → P y) → P (slice_index_or xs i d)
       → P (slice_index_or (slice_set xs k y) i d)
   stays-set P [] k y i turn there = there
@@ -37,7 +37,7 @@ module _ {X : Type 0} (d : X) where
   stays-set P (x ∷ xs) (suc k) y (suc i) turn there = stays-set P xs k y i turn there
 
   module _ (R : X → X → Type 0) where
-    -- what holds of each two places, one before the other
+    -- what holds of each two indices, one before the other
     pub pairs-push : (xs : List X) (y : X) → ((i j : ℕ) → i < j → R (slice_index_or xs i d) (slice_index_or xs j d))
         → ((i : ℕ) → R (slice_index_or xs i d) y) → ((x : X) → R x d)
         → (i j : ℕ) → i < j → R (slice_index_or (xs ++ y ∷ []) i d) (slice_index_or (xs ++ y ∷ []) j d)
@@ -54,7 +54,7 @@ module _ {X : Type 0} (d : X) where
         let x = slice_index_or (slice_set xs k y) i d in
         stays-set (λ z. R x z) xs k y j (before x) (stays-set (λ z. R z (slice_index_or xs j d)) xs k y i (behind (slice_index_or xs j d)) (all i j lt))
 
-  -- an element that doesn't stand at the place that is set stays
+  -- an element that doesn't stand at the index that is set stays
   pub Contains-set : (x : X) (xs : List X) (k : ℕ) (y : X) → (slice_index_or xs k d ≡ x → ⊥) → Contains xs x → Contains (slice_set xs k y) x
   Contains-set x xs k y other (j, lt, at) =
       let off : j ≢ k = λ same. other (subst (λ n. slice_index_or xs n d ≡ x) same (get_or_default xs j d x lt ∙ at)) in
@@ -62,7 +62,7 @@ module _ {X : Type 0} (d : X) where
 
 -- ---- two lists side by side
 
--- what holds of the elements at each place, and of those past the ends, where both are pushed to or set
+-- what holds of the elements at each index, and of those past the ends, where both are pushed to or set
 module _ {X Y : Type 0} (P : X → Y → Type 0) (d : X) (e : Y) (xs : List X) (ys : List Y) (x : X) (y : Y) (same : length ys ≡ length xs)
     (all : (i : ℕ) → P (slice_index_or xs i d) (slice_index_or ys i e)) (here : P x y) where
   pub sides-pushed : (i : ℕ) → P (slice_index_or (xs ++ x ∷ []) i d) (slice_index_or (ys ++ y ∷ []) i e)

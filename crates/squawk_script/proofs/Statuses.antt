@@ -5,7 +5,7 @@ use Rattle.std.proofs.lemmas.Bool.Decides.{nat_tests}
 use Rattle.squawk_kinds.specs.Kinds.{TOMBSTONE}
 use Rattle.squawk_parser.proofs.Splits.{count_by-append}
 use Rattle.squawk_script.specs.Accepted.{completes, has_number, makes_marker, markers_of, may_follow, precedes, spends}
-use Rattle.squawk_script.specs.Slots.{is_admitted, is_status_at_hand, is_status_open, noted, status_at}
+use Rattle.squawk_script.specs.Slots.{is_admitted, is_status_at_hand, is_status_open, advanced, status_at}
 use Rattle.squawk_script.specs.declared.call.Call.{Call}
 use Rattle.squawk_script.specs.declared.call.Call.TheVariants.{Start, Complete, Abandon, Precede, ExtendTo}
 use Rattle.squawk_script.specs.declared.status.Status.{Status}
@@ -107,7 +107,7 @@ module _ (before : List Call) (statuses : List Status) (are : AreStatusesOf befo
       }
 
   -- the call is made
-  pub statuses-next : (call : Call) → is_admitted statuses call ≡ true → AreStatusesOf (before ++ call ∷ []) (noted statuses call)
+  pub statuses-next : (call : Call) → is_admitted statuses call ≡ true → AreStatusesOf (before ++ call ∷ []) (advanced statuses call)
   statuses-next Start e =
       statuses-made Start statuses refl e refl (refl, refl, refl)
       (λ m old. status-kept before Start m (status_at statuses m) (are.each m) (refl, refl, refl) old)

@@ -13,7 +13,7 @@ use Rattle.squawk_parser.proofs.RecordedSteps.{puts-none, went}
 use Rattle.squawk_parser.proofs.StepsAtEnd.{closed-items_for}
 use Rattle.squawk_script.specs.Events.{events_made}
 use Rattle.squawk_script.specs.Meaning.{Run, call_steps, seen, stepped, with_call}
-use Rattle.squawk_script.specs.Slots.{IsAt, IsTied, Performs, noted, statuses_of}
+use Rattle.squawk_script.specs.Slots.{IsAt, IsTied, Performs, advanced, statuses_of}
 use Rattle.squawk_script.specs.declared.call.Call.{Call}
 use Rattle.squawk_script.specs.declared.call.Call.TheVariants as calls
 use Rattle.squawk_script.specs.declared.slot.Slot.{Slot}
@@ -21,14 +21,14 @@ use Rattle.squawk_script.proofs.Held.{holds-put}
 use Rattle.squawk_script.proofs.MarkerCalls.{Acts, acted, limit-kept}
 use Rattle.squawk_script.proofs.Refusals.{steps-fail}
 
--- a parser sees what a run at its place does
+-- a parser sees what a run in its state does
 seen-same : (s : State) (run : Run) → s.limit ≡ length s.input → run.position ≡ s.position → ahead s 0 ≡ seen s.input run
 seen-same s run limit position =
     ap (λ n. seen_from s.input n (s.position + 0)) limit ∙ ap (λ n. seen_from s.input (length s.input) n) (let p : s.position + 0 ≡ run.position = omega (arith, position) in p)
 
 -- a call whose steps are put at the end
 pub puts-performs : (old new : State) (slots : List Slot) (call : Call) → IsTied old slots → Puts (call_steps old.words (ahead old 0) call) old new
-    → noted (statuses_of slots) call ≡ statuses_of slots
+    → advanced (statuses_of slots) call ≡ statuses_of slots
     → ((run : Run) → stepped old.words old.input run call ≡ with_call run (call_steps old.words (seen old.input run) call))
     → ((tokens : List Entry) → events_made old.words tokens call ≡ map is_error (call_steps old.words tokens call)) → Performs old new slots slots call
 puts-performs old new slots call tied puts stays leads makes =

@@ -1,4 +1,4 @@
--- Which lists of calls are accepted.
+-- The lists of calls that are accepted.
 use Rattle.std.specs.Prelude.{◌≡◌, ℕ, ◌<◌, ◌==◌, ◌&&◌, Bool, true, false, not, List, take, length, count_by, nat_lt, IsTrue, HoldsAt}
 use Rattle.std.specs.List.{list_any}
 use Rattle.squawk_kinds.specs.Kinds.{EOF, TOMBSTONE}
@@ -16,7 +16,7 @@ makes_marker Start = true
 makes_marker (Precede node) = true
 makes_marker call = false
 
--- how many markers the calls make
+-- the number of markers that the calls make
 abbrev pub markers_of : List Call → ℕ
 markers_of calls = count_by makes_marker calls
 
@@ -37,15 +37,15 @@ abbrev pub precedes : ℕ → Call → Bool
 precedes m (Precede node) = node == m
 precedes m call = false
 
--- a marker is open that was made and that no call has spent
+-- whether marker m is open: it was made and no call has spent it
 abbrev pub is_open : List Call → ℕ → Bool
 is_open calls m = nat_lt m (markers_of calls) && not (list_any (spends m) calls)
 
--- a node is at hand that is complete and that no call has preceded
+-- whether node m is at hand: it is completed and no call has preceded it
 abbrev pub is_at_hand : List Call → ℕ → Bool
 is_at_hand calls m = list_any (completes m) calls && not (list_any (precedes m) calls)
 
--- the number of the next marker is at most 4294967295
+-- whether the number of the next marker fits in 32 bits
 abbrev pub has_number : List Call → Bool
 has_number calls = nat_lt (markers_of calls) 4294967296
 
@@ -73,7 +73,7 @@ may_follow before call = true
 abbrev pub IsGoodAt : List Call → ℕ → Type 0
 IsGoodAt calls i = HoldsAt (λ call. IsTrue (may_follow (take i calls) call)) calls i
 
--- so may each call before place n
+-- so may each call before call n
 abbrev pub AreGoodBelow : List Call → ℕ → Type 0
 AreGoodBelow calls n = (i : ℕ) → i < n → IsGoodAt calls i
 
@@ -94,7 +94,7 @@ pub record IsFirstOpen (calls : List Call) (m : ℕ) : Type 0 where
   pub is : IsTrue (is_open calls m)
   pub before : (k : ℕ) → k < m → is_open calls k ≡ false
 
--- why the calls are refused; for want of memory only where they make a marker
+-- why no script can be made of the calls; for want of memory only if they make a marker
 abbrev pub Refuses : List Call → ScriptError → Type 0
 Refuses calls (BadCall index) = IsFirstBad calls index
 Refuses calls (Unspent marker) = IsFirstOpen calls marker

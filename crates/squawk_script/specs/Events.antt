@@ -1,4 +1,4 @@
--- The events that the calls of a run record, and which of them is refused where there is room for so many.
+-- The events that the calls of a run record, and which of them is past a limit.
 use Rattle.std.specs.Prelude.{◌≡◌, ◌≢◌, ℕ, Bool, false, Option, Some, None, List, [], ◌∷◌, ◌++◌, count_by, length, map, nat_lt, take, if◌then◌else◌}
 use Rattle.squawk_table.specs.ParserInput.{Entry}
 use Rattle.squawk_output.specs.Steps.{is_error}
@@ -12,7 +12,7 @@ use Rattle.squawk_script.specs.declared.call.Call.{Call}
 use Rattle.squawk_script.specs.declared.call.Call.TheVariants.{Start, Complete, Precede}
 
 -- the events that a call records where these tokens are seen, each as whether it is an error: one for a marker that is started, completed
--- or made in front of a node, none for one that is given up or that a node is extended to, and one for each step that is put at the end
+-- or made in front of a node, none for one that is abandoned or that a node is extended to, and one for each step that is put at the end
 abbrev pub events_made : Words → List Entry → Call → List Bool
 events_made words seen Start = false ∷ []
 events_made words seen (Complete marker kind) = false ∷ []
@@ -28,12 +28,12 @@ events_from words input run (call ∷ calls) = events_made words (seen input run
 abbrev pub events_of : Words → List Entry → List Call → List Bool
 events_of words input calls = events_from words input begin calls
 
--- how many of the events are errors
+-- the number of errors among the events
 abbrev pub errors_among : List Bool → ℕ
 errors_among events = count_by (λ event. event) events
 
--- Where there is room for so many events, and for so many errors among them: why the first event that finds no room is refused, if one
--- is. Counted from 0, that is error number `max_errors`, where it stands before place `max_events`, or else the event at that place.
+-- Why the first event past a limit of events, or of errors among them, is refused, if there is one. Counted from 0, that is error
+-- number `max_errors`, if it is before event number `max_events`, or else that event.
 abbrev pub refusal : ℕ → ℕ → List Bool → Option ParseError
 refusal max_events max_errors events =
     if nat_lt max_errors (errors_among (take max_events events)) then Some TooManyErrors else

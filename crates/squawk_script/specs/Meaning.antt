@@ -1,4 +1,4 @@
--- What a list of calls means over an input.
+-- What a list of calls does over an input.
 use Rattle.std.specs.Prelude.{ℕ, ◌+◌, List, [], ◌∷◌, ◌++◌, fold, length, slice_index_or, slice_set, if◌then◌else◌}
 use Rattle.squawk_kinds.specs.TokenSets.{has}
 use Rattle.squawk_table.specs.ParserInput.{Entry, kind_in}
@@ -19,8 +19,8 @@ pub record Meaning : Type 0 where
   pub calls : List Call
   pub words : Words
 
--- where a run of calls is: what it recorded, how many input tokens it has eaten, and the markers that it made, each as the node that it
--- begins: the id of its hole and of its opening, and its kind, which counts from its completion on
+-- the state of a run: what it recorded, the number of input tokens that it has eaten, and the markers that it made, each as its node:
+-- the id of its hole and of its opening, and its kind, which counts from its completion on
 pub record Run : Type 0 where
   pub draft : Draft
   pub position : ℕ
@@ -41,7 +41,7 @@ new_marker run = record { id = run.draft.entries; kind = 0 }
 abbrev pub seen : List Entry → Run → List Entry
 seen input run = seen_from input (length input) run.position
 
--- what a call that names no marker puts at the end of the draft, where these tokens are seen
+-- the steps that a call that names no marker puts at the end of the draft, where these tokens are seen
 abbrev pub call_steps : Words → List Entry → Call → List Step
 call_steps words seen (Eat kind) = if stands_at (has words.operator_first) kind seen then eat_steps words kind seen else []
 call_steps words seen BumpAny = current_as (kind_in seen 0) seen
@@ -56,7 +56,7 @@ call_steps words seen call = []
 abbrev pub with_call : Run → List Step → Run
 with_call run steps = record run { draft = with_steps run.draft steps; position = run.position + eaten steps }
 
--- where one call leads
+-- the run after one call
 abbrev pub stepped : Words → List Entry → Run → Call → Run
 stepped words input run Start = record run { draft = started run.draft; markers = run.markers ++ new_marker run ∷ [] }
 stepped words input run (Complete m kind) =
@@ -67,6 +67,6 @@ stepped words input run (Precede n) = record run { draft = preceded run.draft (m
 stepped words input run (ExtendTo n m) = record run { draft = extended run.draft (marker_at run n) (marker_at run m).id }
 stepped words input run call = with_call run (call_steps words (seen input run) call)
 
--- where the calls lead, one after another
+-- the run after the calls, one after another
 abbrev pub run_of : Words → List Entry → List Call → Run
 run_of words input calls = fold (stepped words input) begin calls

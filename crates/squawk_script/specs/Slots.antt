@@ -1,4 +1,4 @@
--- Where the markers of a run stand.
+-- The markers and nodes that a run holds.
 use Rattle.std.specs.Prelude.{◌≡◌, ◌≢◌, ℕ, ◌<◌, ◌==◌, ◌&&◌, Bool, true, false, not, Some, List, [], ◌∷◌, ◌++◌, Contains, length, map, slice_index_or, slice_set, nat_lt, ⊤}
 use Rattle.squawk_kinds.specs.Kinds.{TOMBSTONE}
 use Rattle.squawk_output.specs.Draft as draft
@@ -31,7 +31,7 @@ is_status_at_hand status.Open = false
 is_status_at_hand status.AtHand = true
 is_status_at_hand status.Spent = false
 
--- whether a call may be made where the markers stand so
+-- whether a call can be made with these statuses
 abbrev pub is_admitted : List Status → Call → Bool
 is_admitted statuses calls.Start = nat_lt (length statuses) 4294967296
 is_admitted statuses (calls.Complete marker kind) = is_status_open (status_at statuses marker) && not (kind == TOMBSTONE)
@@ -43,14 +43,14 @@ is_admitted statuses (calls.Eat kind) = is_edible kind
 is_admitted statuses (calls.Expect kind) = is_edible kind
 is_admitted statuses call = true
 
--- where they stand after it
-abbrev pub noted : List Status → Call → List Status
-noted statuses calls.Start = statuses ++ status.Open ∷ []
-noted statuses (calls.Complete marker kind) = slice_set statuses marker status.AtHand
-noted statuses (calls.Abandon marker) = slice_set statuses marker status.Spent
-noted statuses (calls.Precede node) = slice_set statuses node status.Spent ++ status.Open ∷ []
-noted statuses (calls.ExtendTo node marker) = slice_set statuses marker status.Spent
-noted statuses call = statuses
+-- the statuses after a call
+abbrev pub advanced : List Status → Call → List Status
+advanced statuses calls.Start = statuses ++ status.Open ∷ []
+advanced statuses (calls.Complete marker kind) = slice_set statuses marker status.AtHand
+advanced statuses (calls.Abandon marker) = slice_set statuses marker status.Spent
+advanced statuses (calls.Precede node) = slice_set statuses node status.Spent ++ status.Open ∷ []
+advanced statuses (calls.ExtendTo node marker) = slice_set statuses marker status.Spent
+advanced statuses call = statuses
 
 -- ---- slots
 
@@ -102,15 +102,15 @@ IsMarkerOf (Open m) marker = marker.id ≡ m.id
 IsMarkerOf (Done n) marker = marker ≡ n
 IsMarkerOf Spent marker = ⊤
 
--- a parser and its slots are where a run is
+-- a parser and its slots are in the state of a run
 pub record IsAt (s : State) (slots : List Slot) (run : Run) : Type 0 where
   pub draft : run.draft ≡ s.draft
   pub position : run.position ≡ s.position
   pub count : length run.markers ≡ length slots
   pub markers : (i : ℕ) → IsMarkerOf (slot_at slots i) (marker_at run i)
 
--- Where a parser fails as it is to record these events, and not by want of memory: behind the events that it has recorded, its limits
--- refuse one of these for that reason.
+-- If a parser fails as it is to record these events, and not for want of memory, then its limits refuse one of these, behind the events
+-- that it has recorded, for that reason.
 abbrev pub FailsAt : State → State → List Bool → Type 0
 FailsAt old new made =
     (before : List Bool) → length before ≡ old.draft.recorded → errors_among before ≡ errors_of old.draft.items
@@ -119,6 +119,6 @@ FailsAt old new made =
 -- a call was made
 pub record Performs (old new : State) (slots slots' : List Slot) (call : Call) : Type 0 where
   pub tied : IsTied new slots'
-  pub statuses : statuses_of slots' ≡ noted (statuses_of slots) call
+  pub statuses : statuses_of slots' ≡ advanced (statuses_of slots) call
   pub step : HasNotFailed new → (run : Run) → IsAt old slots run → IsAt new slots' (stepped old.words old.input run call)
   pub fails : HasNotFailed old → (run : Run) → IsAt old slots run → FailsAt old new (events_made old.words (seen old.input run) call)

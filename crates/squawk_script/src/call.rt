@@ -4,21 +4,21 @@ use squawk_parser::{SyntaxKind, Text, TokenSet};
 
 /// A call of a parser.
 ///
-/// Calls that make a marker, [`Call::Start`] and [`Call::Precede`], number them from 0. A node has
-/// the number of the marker that was completed.
+/// The markers that [`Call::Start`] and [`Call::Precede`] make are numbered from 0. A node has the number of
+/// its marker.
 #[derive(Debug, Drop)]
 pub enum Call {
-    /// Begins a node, with the next marker.
+    /// Starts a node, with the next marker.
     Start,
-    /// Ends a node, and gives it its kind.
+    /// Completes a node with this kind.
     Complete { marker: u32, kind: SyntaxKind },
-    /// Gives a node up.
+    /// Abandons a marker.
     Abandon { marker: u32 },
-    /// Begins a node in front of a complete one, with the next marker.
+    /// Starts a node in front of a completed one, with the next marker.
     Precede { node: u32 },
-    /// Lets a complete node begin where an older marker was started, which is spent then.
+    /// Extends a completed node to the left, to an older marker, which is then spent.
     ExtendTo { node: u32, marker: u32 },
-    /// Eats a kind, if it stands at the position.
+    /// Eats a kind, if it is at the position.
     Eat { kind: SyntaxKind },
     /// Eats the current token.
     BumpAny,
@@ -28,8 +28,8 @@ pub enum Call {
     Expect { kind: SyntaxKind },
     /// Records an error.
     Error { message: Text },
-    /// Records an error, and unless the current token is in the set, that token with it in a node.
+    /// Records an error, in a node with the current token unless the set has its kind.
     ErrRecover { message: Text, recovery: TokenSet },
-    /// Records an error and the current token in a node.
+    /// Records an error, in a node with the current token.
     ErrAndBump { message: Text },
 }

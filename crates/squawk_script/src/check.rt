@@ -5,7 +5,7 @@ ghost use Rattle.squawk_script.specs.Slots.{is_status_open};
 
 use crate::call::Call;
 use crate::script_error::ScriptError;
-use crate::status::{Status, admits, note};
+use crate::status::{Status, admits, advance};
 use std::alloc::Global;
 
 impl Call {
@@ -20,37 +20,36 @@ impl Call {
     }
 }
 
-/// How many markers the calls make.
+/// The number of markers that the calls make.
 fn count_markers(calls: &[Call]) -> usize
     ensures { result ≡ markers_of calls.now }
 {
     calls.iter().filter(|call| call.makes_marker()).count()
 }
 
-/// The first marker that is open.
-fn first_open(table: &[Status]) -> Option<usize>
-    ensures { result ≡ position is_status_open table.now }
+/// The least marker that is open.
+fn first_open(statuses: &[Status]) -> Option<usize>
+    ensures { result ≡ position is_status_open statuses.now }
 {
-    table.iter().position(|status| *status == Status::Open)
+    statuses.iter().position(|status| *status == Status::Open)
 }
 
-/// Whether the calls can be made one after another and leave no marker open. Gives how many markers
-/// they make.
+/// Checks that the calls can be made one after another and leave no marker open.
 ///
-/// A table of these is reserved first.
+/// Returns the number of markers that they make. Room for their statuses is allocated first.
 pub fn check(alloc: Global, calls: &[Call]) -> Result<usize, ScriptError>
     ensures accepted { IfOk result (λ markers. IsAccepted calls.now × markers ≡ markers_of calls.now) }
     ensures refused { IfErr result (Refuses calls.now) }
 {
     let markers = count_markers(calls);
-    let mut table = Vec::with_capacity(alloc, markers)?;
+    let mut statuses = Vec::with_capacity(alloc, markers)?;
     for (index, call) in calls.iter().enumerate() {
-        if !admits(&table, call) {
+        if !admits(&statuses, call) {
             return Err(ScriptError::BadCall { index });
         }
-        note(&mut table, call);
+        advance(&mut statuses, call);
     }
-    match first_open(&table) {
+    match first_open(&statuses) {
         Some(marker) => Err(ScriptError::Unspent {
             marker: marker as u32,
         }),

@@ -1,4 +1,4 @@
-//! Calls of a parser as values: a grammar that makes the same calls over every input.
+//! Scripts: a list of a parser's calls as a grammar, which makes the same calls over every input.
 #![tactic(auto)]
 
 mod call;

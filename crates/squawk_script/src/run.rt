@@ -1,4 +1,4 @@
-//! A run of calls.
+//! Makes calls of a script.
 ghost use Rattle.std.specs.Prelude.{◌≡◌, ◌<◌, IsTrue, OnOk, vec_len, vec_capacity};
 ghost use Rattle.std.specs.Str.{chars};
 ghost use Rattle.squawk_kinds.specs.TokenSets.{has};
@@ -16,7 +16,7 @@ use crate::slot::{Slot, keep_node, let_go, take_marker, take_node};
 use squawk_parser::{Parser, SyntaxKind, TokenSet};
 use std::alloc::{AllocError, Global};
 
-/// Begins a node, and keeps its marker.
+/// Starts a node, and keeps its marker.
 fn start(slots: &mut Vec<Slot>, p: &mut Parser<'_>)
     requires tied { IsTied p.old slots.old.items }
     requires room { vec_len slots.old < vec_capacity slots.old }
@@ -28,7 +28,7 @@ fn start(slots: &mut Vec<Slot>, p: &mut Parser<'_>)
     slots.push_reserved(Slot::Open(marker));
 }
 
-/// Ends a node.
+/// Completes a node.
 fn complete(slots: &mut Vec<Slot>, marker: u32, kind: SyntaxKind, p: &mut Parser<'_>)
     requires tied { IsTied p.old slots.old.items }
     requires admitted { IsTrue (is_admitted (statuses_of slots.old.items) (calls.Complete marker kind)) }
@@ -40,7 +40,7 @@ fn complete(slots: &mut Vec<Slot>, marker: u32, kind: SyntaxKind, p: &mut Parser
     keep_node(slots, marker, node);
 }
 
-/// Gives a node up.
+/// Abandons a marker.
 fn abandon(slots: &mut Vec<Slot>, marker: u32, p: &mut Parser<'_>)
     requires tied { IsTied p.old slots.old.items }
     requires admitted { IsTrue (is_admitted (statuses_of slots.old.items) (calls.Abandon marker)) }
@@ -51,7 +51,7 @@ fn abandon(slots: &mut Vec<Slot>, marker: u32, p: &mut Parser<'_>)
     take_marker(slots, marker).abandon(p);
 }
 
-/// Begins a node in front of a complete one, and keeps its marker.
+/// Starts a node in front of a completed one, and keeps its marker.
 fn precede(slots: &mut Vec<Slot>, node: u32, p: &mut Parser<'_>)
     requires tied { IsTied p.old slots.old.items }
     requires admitted { IsTrue (is_admitted (statuses_of slots.old.items) (calls.Precede node)) }
@@ -64,7 +64,7 @@ fn precede(slots: &mut Vec<Slot>, node: u32, p: &mut Parser<'_>)
     slots.push_reserved(Slot::Open(marker));
 }
 
-/// Lets a node begin where an older marker was started.
+/// Extends a node to the left, to an older marker.
 fn extend_to(slots: &mut Vec<Slot>, node: u32, marker: u32, p: &mut Parser<'_>)
     requires tied { IsTied p.old slots.old.items }
     requires admitted { IsTrue (is_admitted (statuses_of slots.old.items) (calls.ExtendTo node marker)) }
@@ -77,7 +77,8 @@ fn extend_to(slots: &mut Vec<Slot>, node: u32, marker: u32, p: &mut Parser<'_>)
     keep_node(slots, node, extended);
 }
 
-/// Records an error, and what is skipped with it. The set is copied here and not in the frame of every call.
+/// Records an error, in a node with the current token unless the set has its kind.
+// Keeps the set's copy out of each call's frame.
 #[cold]
 #[inline(never)]
 fn err_recover(message: &str, recovery: &TokenSet, p: &mut Parser<'_>)
@@ -115,7 +116,7 @@ fn perform(call: &Call, slots: &mut Vec<Slot>, p: &mut Parser<'_>)
     }
 }
 
-/// Makes the calls, one after another. A slot for each marker is reserved first.
+/// Makes the calls, one after another. Slots for the markers are allocated first.
 pub fn run_calls(
     calls: &[Call],
     markers: usize,
@@ -129,7 +130,7 @@ pub fn run_calls(
     ensures keeps { Keeps p.old p.new }
     ensures closed { OnOk result (HasNotFailed p.new → HasNoHole p.new.draft.items) }
     ensures leaves { OnOk result (HasNotFailed p.new → IsRunOf (record { calls = calls.now; words = p.old.words }) p.old.input p.new.draft) }
-    // Also where the answer is want of memory.
+    // Also if an allocation fails.
     ensures runs { FailsByLimits (record { calls = calls.now; words = p.old.words }) p.old p.new }
 {
     let mut slots = Vec::with_capacity(alloc, markers)?;

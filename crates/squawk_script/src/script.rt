@@ -13,8 +13,7 @@ use squawk_parser::{SyntaxKind, TokenSet, Words};
 use std::alloc::Global;
 use std::marker::Model;
 
-/// A list of calls of a parser that can be made one after another, over every input, and that leave
-/// no marker open.
+/// A list of calls that can be made one after another over every input, and that leave no marker open.
 #[derive(Drop)]
 pub struct Script<'t> {
     calls: Vec<Call>,
@@ -38,10 +37,10 @@ impl<'t> Model for Script<'t> {
 }
 
 impl<'t> Script<'t> {
-    /// A script of these calls, with these words.
+    /// Makes a script of these calls, with these words.
     ///
-    /// Before its first test it reserves one table, with a place for each call that makes a marker. A
-    /// refusal drops the calls. The end is no kind of an operator.
+    /// Room for the markers is allocated before the calls are checked. An error drops the calls. `EOF` is no
+    /// kind of an operator.
     pub fn new(alloc: Global, calls: Vec<Call>, words: Words<'t>) -> Result<Script<'t>, ScriptError>
         requires { HasNoEnd (words_of words) }
         ensures script { IfOk result (λ s. s ≡ record { calls = calls.items; words = words_of words.entry }) }

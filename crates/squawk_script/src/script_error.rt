@@ -1,20 +1,20 @@
-//! Why there is no script.
+//! The error of making a script.
 
 use std::alloc::AllocError;
 use std::error::Error;
 use std::fmt;
 
-/// Why a list of calls is refused. If both a bad call and an open marker apply, the bad call is
-/// returned; running out of memory comes when it occurs.
+/// Why no script can be made of a list of calls. A failed allocation comes first, then a bad call.
 #[derive(Clone, Copy, Debug, PartialEq, Eq)]
 pub enum ScriptError {
-    /// The call at this place is the first that can't be made: its marker isn't there or is spent,
-    /// its node isn't complete or is preceded already, its marker isn't older than its node, its kind
-    /// is none that it takes, or it would make a marker with a number past 4294967295.
+    /// The call at this index is the first that can't be made.
+    ///
+    /// Its marker doesn't exist or is spent; its node isn't completed or has been preceded; its marker isn't
+    /// older than its node; its kind is none that it takes; or the number of its new marker is past `u32::MAX`.
     BadCall { index: usize },
-    /// This marker is the least that is still open behind the last call.
+    /// This marker is the least that is open after the last call.
     Unspent { marker: u32 },
-    /// Memory was refused.
+    /// An allocation failed.
     OutOfMemory,
 }
 

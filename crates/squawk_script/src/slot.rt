@@ -1,4 +1,4 @@
-//! The markers that a run holds.
+//! The markers and nodes that a run holds.
 ghost use Rattle.std.specs.Prelude.{◌≡◌, ◌<◌, ℕ, false, IsTrue, length, slice_set, vec_capacity};
 ghost use Rattle.squawk_script.specs.Slots.{is_status_at_hand, is_status_open, slot_at, status_of};
 ghost use Rattle.squawk_script.specs.declared.slot.Slot.TheVariants as slot;
@@ -6,17 +6,17 @@ ghost use Rattle.squawk_script.specs.declared.slot.Slot.TheVariants as slot;
 use squawk_parser::{CompletedMarker, Marker};
 use std::mem;
 
-/// One marker of a run. A slot isn't let go while its marker is open.
+/// The marker or the node of one number. A slot can't be dropped while its marker is open.
 pub enum Slot {
-    /// A node that is begun.
+    /// An open marker.
     Open(Marker),
-    /// A node that is complete and hasn't been preceded.
+    /// A node that is completed and hasn't been preceded.
     Done(CompletedMarker),
-    /// What no call names again.
+    /// A number that no call names again.
     Spent,
 }
 
-/// The open marker of this number, which is spent then.
+/// Takes the open marker of this number, which is then spent.
 pub fn take_marker(slots: &mut Vec<Slot>, marker: u32) -> Marker
     requires { IsTrue (is_status_open (status_of (slot_at slots.old.items marker))) }
     ensures took { slot_at slots.old.items marker ≡ slot.Open result }
@@ -30,7 +30,7 @@ pub fn take_marker(slots: &mut Vec<Slot>, marker: u32) -> Marker
     }
 }
 
-/// The complete node of this number, which is spent then.
+/// Takes the completed node of this number, which is then spent.
 pub fn take_node(slots: &mut Vec<Slot>, node: u32) -> CompletedMarker
     requires { IsTrue (is_status_at_hand (status_of (slot_at slots.old.items node))) }
     ensures took { slot_at slots.old.items node ≡ slot.Done result }
@@ -44,7 +44,7 @@ pub fn take_node(slots: &mut Vec<Slot>, node: u32) -> CompletedMarker
     }
 }
 
-/// Keeps a complete node under this number, whose slot is spent.
+/// Keeps a completed node under this number, whose slot is spent.
 pub fn keep_node(slots: &mut Vec<Slot>, number: u32, node: CompletedMarker)
     requires within { number < length slots.old.items }
     requires spent { slot_at slots.old.items number ≡ slot.Spent }
@@ -58,7 +58,7 @@ pub fn keep_node(slots: &mut Vec<Slot>, number: u32, node: CompletedMarker)
     }
 }
 
-/// Lets slots go of which none is open.
+/// Drops slots of which none is open.
 pub fn let_go(mut slots: Vec<Slot>)
     requires { (i : ℕ) → is_status_open (status_of (slot_at slots.items i)) ≡ false }
 {

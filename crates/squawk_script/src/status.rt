@@ -1,23 +1,23 @@
-//! Where the markers of a list of calls stand.
+//! The statuses of markers in a list of calls.
 ghost use Rattle.std.specs.Prelude.{◌≡◌, ◌<◌, IsTrue, length, nat_lt, vec_len, vec_capacity};
 ghost use Rattle.squawk_script.specs.Accepted.{is_edible, makes_marker};
-ghost use Rattle.squawk_script.specs.Slots.{is_admitted, is_status_at_hand, is_status_open, noted, status_at};
+ghost use Rattle.squawk_script.specs.Slots.{is_admitted, is_status_at_hand, is_status_open, advanced, status_at};
 
 use crate::call::Call;
 use squawk_parser::{SyntaxKind, has_tail};
 
-/// Where one marker stands.
+/// The status of one marker.
 #[derive(Clone, Copy, Debug, PartialEq, Eq)]
 pub enum Status {
     /// It is open.
     Open,
-    /// Its node is complete, and hasn't been preceded.
+    /// Its node is completed and hasn't been preceded.
     AtHand,
     /// No call can name it again.
     Spent,
 }
 
-/// Whether a kind is eaten without a tail.
+/// Whether `eat` takes the kind: it isn't `EOF` and has no tail.
 fn is_plain(kind: SyntaxKind) -> bool
     ensures { result ≡ is_edible kind }
 {
@@ -25,45 +25,39 @@ fn is_plain(kind: SyntaxKind) -> bool
 }
 
 /// Whether the marker is open.
-fn is_open(table: &[Status], marker: u32) -> bool
-    ensures { result ≡ is_status_open (status_at table.now marker) }
+fn is_open(statuses: &[Status], marker: u32) -> bool
+    ensures { result ≡ is_status_open (status_at statuses.now marker) }
 {
-    match table.get(marker as usize) {
-        Some(Status::Open) => true,
-        _ => false,
-    }
+    matches!(statuses.get(marker as usize), Some(Status::Open))
 }
 
-/// Whether the node is complete and hasn't been preceded.
-fn is_node(table: &[Status], node: u32) -> bool
-    ensures { result ≡ is_status_at_hand (status_at table.now node) }
+/// Whether the node is completed and hasn't been preceded.
+fn is_node(statuses: &[Status], node: u32) -> bool
+    ensures { result ≡ is_status_at_hand (status_at statuses.now node) }
 {
-    match table.get(node as usize) {
-        Some(Status::AtHand) => true,
-        _ => false,
-    }
+    matches!(statuses.get(node as usize), Some(Status::AtHand))
 }
 
-/// Whether one more marker has a number.
-fn has_number(table: &[Status]) -> bool
-    ensures { result ≡ nat_lt (length table.now) 4294967296 }
+/// Whether the number of one more marker fits in 32 bits.
+fn has_number(statuses: &[Status]) -> bool
+    ensures { result ≡ nat_lt (length statuses.now) 4294967296 }
 {
-    table.len() <= u32::MAX as usize
+    statuses.len() <= u32::MAX as usize
 }
 
-/// Whether the call may be made where the markers stand so.
-pub fn admits(table: &[Status], call: &Call) -> bool
-    ensures { result ≡ is_admitted table.now call.now }
+/// Whether the call can be made with these statuses.
+pub fn admits(statuses: &[Status], call: &Call) -> bool
+    ensures { result ≡ is_admitted statuses.now call.now }
 {
     match call {
-        Call::Start => has_number(table),
+        Call::Start => has_number(statuses),
         Call::Complete { marker, kind } => {
-            is_open(table, *marker) && *kind != SyntaxKind::TOMBSTONE
+            is_open(statuses, *marker) && *kind != SyntaxKind::TOMBSTONE
         }
-        Call::Abandon { marker } => is_open(table, *marker),
-        Call::Precede { node } => is_node(table, *node) && has_number(table),
+        Call::Abandon { marker } => is_open(statuses, *marker),
+        Call::Precede { node } => is_node(statuses, *node) && has_number(statuses),
         Call::ExtendTo { node, marker } => {
-            is_node(table, *node) && is_open(table, *marker) && marker < node
+            is_node(statuses, *node) && is_open(statuses, *marker) && marker < node
         }
         Call::Eat { kind } | Call::Expect { kind } => is_plain(*kind),
         Call::BumpAny
@@ -74,22 +68,22 @@ pub fn admits(table: &[Status], call: &Call) -> bool
     }
 }
 
-/// Makes the call, as far as markers go. There is room for one that it makes.
-pub fn note(table: &mut Vec<Status>, call: &Call)
-    requires admitted { IsTrue (is_admitted table.old.items call.now) }
-    requires room { IsTrue (makes_marker call.now) → vec_len table.old < vec_capacity table.old }
-    ensures items { table.new.items ≡ noted table.old.items call.now }
-    ensures capacity { vec_capacity table.new ≡ vec_capacity table.old }
+/// Sets the statuses after the call. There is room for a marker that it makes.
+pub fn advance(statuses: &mut Vec<Status>, call: &Call)
+    requires admitted { IsTrue (is_admitted statuses.old.items call.now) }
+    requires room { IsTrue (makes_marker call.now) → vec_len statuses.old < vec_capacity statuses.old }
+    ensures items { statuses.new.items ≡ advanced statuses.old.items call.now }
+    ensures capacity { vec_capacity statuses.new ≡ vec_capacity statuses.old }
 {
     match call {
-        Call::Start => table.push_reserved(Status::Open),
-        Call::Complete { marker, .. } => table[*marker as usize] = Status::AtHand,
+        Call::Start => statuses.push_reserved(Status::Open),
+        Call::Complete { marker, .. } => statuses[*marker as usize] = Status::AtHand,
         Call::Abandon { marker } | Call::ExtendTo { marker, .. } => {
-            table[*marker as usize] = Status::Spent;
+            statuses[*marker as usize] = Status::Spent;
         }
         Call::Precede { node } => {
-            table[*node as usize] = Status::Spent;
-            table.push_reserved(Status::Open);
+            statuses[*node as usize] = Status::Spent;
+            statuses.push_reserved(Status::Open);
         }
         Call::Eat { .. }
         | Call::BumpAny

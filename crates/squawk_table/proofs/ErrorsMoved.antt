@@ -18,8 +18,8 @@ leading_first (Error text ∷ steps) = ap (λ xs. Error text ∷ xs) (leading_fi
 abbrev behind : List Step → List Step
 behind steps = drop (length (leading_errors steps)) (errors_moved steps)
 
--- What a list of steps gives stays where it is the same for an error before a closing and behind it, and goes on from that of the steps
--- behind the first.
+-- What a list of steps gives stays where it is the same for an error before a closing and behind it, and goes on from
+-- that of the steps behind the first.
 module _ {X : Type 0} (f : List Step → X) (across : (text : List ℕ) (steps : List Step) → f (Error text ∷ Exit ∷ steps) ≡ f (Exit ∷ Error text ∷ steps))
     (goes_on : (step : Step) (xs ys : List Step) → f xs ≡ f ys → f (step ∷ xs) ≡ f (step ∷ ys)) where
   across-leading : (steps rest : List Step) → f (leading_errors steps ++ Exit ∷ rest) ≡ f (Exit ∷ (leading_errors steps ++ rest))

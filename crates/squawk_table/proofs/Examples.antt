@@ -11,6 +11,7 @@ use Rattle.squawk_table.specs.declared.shortcuts.str_step.OwnedStep.TheVariants 
 use Rattle.squawk_tokens.specs.AcceptedTokens.{start_of}
 use Rattle.squawk_table.specs.RawTable.{Table, table_of}
 use Rattle.squawk_kinds.specs.Keywords.{Keywords}
+use Rattle.squawk_kinds.specs.Kinds.{EOF, EQ, IDENT, R_ANGLE, WHITESPACE}
 use Rattle.squawk_table.specs.ParserInput.{Entry, input_of, touches_in}
 use Rattle.squawk_table.specs.Shape.{IsOver, no_keywords}
 use Rattle.squawk_output.specs.Steps as steps
@@ -19,8 +20,8 @@ use Rattle.squawk_table.specs.Sent.{errors_moved, sent_list, texts_of}
 
 -- ---- texts and their tokens
 
-abbrev word : ℕ → Token
-word len = record { kind = Ident; len = len }
+abbrev ident : ℕ → Token
+ident len = record { kind = Ident; len = len }
 
 abbrev space : ℕ → Token
 space len = record { kind = Whitespace; len = len }
@@ -32,21 +33,21 @@ select_only text = if pointwise nat_eq text (codes "select") then Some 200 else 
 abbrev messages : Keywords
 messages text = if pointwise nat_eq text (codes "message") then Some 201 else if pointwise nat_eq text (codes "raise") then Some 202 else None
 
-abbrev two_words : Table
-two_words = table_of no_keywords (codes "a b") (word 1 ∷ space 1 ∷ word 1 ∷ [])
+abbrev two_idents : Table
+two_idents = table_of no_keywords (codes "a b") (ident 1 ∷ space 1 ∷ ident 1 ∷ [])
 
-abbrev three_words : Table
-three_words = table_of no_keywords (codes "a b c") (word 1 ∷ space 1 ∷ word 1 ∷ space 1 ∷ word 1 ∷ [])
+abbrev three_idents : Table
+three_idents = table_of no_keywords (codes "a b c") (ident 1 ∷ space 1 ∷ ident 1 ∷ space 1 ∷ ident 1 ∷ [])
 
 -- ---- tables
 
-start_of_two : start_of (word 1 ∷ space 1 ∷ word 1 ∷ []) 2 ≡ 2
+start_of_two : start_of (ident 1 ∷ space 1 ∷ ident 1 ∷ []) 2 ≡ 2
 start_of_two = refl
 
-table_of_two : two_words ≡ record { text = codes "a b"; kinds = 3 ∷ 639 ∷ 3 ∷ []; starts = 0 ∷ 1 ∷ 2 ∷ 3 ∷ []; errors = [] }
+table_of_two : two_idents ≡ record { text = codes "a b"; kinds = IDENT ∷ WHITESPACE ∷ IDENT ∷ []; starts = 0 ∷ 1 ∷ 2 ∷ 3 ∷ []; errors = [] }
 table_of_two = refl
 
-table_of_keyword : (table_of select_only (codes "select x") (word 6 ∷ space 1 ∷ word 1 ∷ [])).kinds ≡ 200 ∷ 639 ∷ 3 ∷ []
+table_of_keyword : (table_of select_only (codes "select x") (ident 6 ∷ space 1 ∷ ident 1 ∷ [])).kinds ≡ 200 ∷ WHITESPACE ∷ IDENT ∷ []
 table_of_keyword = refl
 
 -- ---- inputs
@@ -54,19 +55,19 @@ table_of_keyword = refl
 abbrev entry : ℕ → ℕ → Bool → Entry
 entry kind contextual touches = record { kind = kind; contextual_kind = contextual; touches = touches }
 
--- a space keeps two words apart
-input_of_two : input_of no_keywords two_words ≡ entry 3 3 false ∷ entry 3 3 false ∷ []
+-- a space keeps two identifiers apart
+input_of_two : input_of no_keywords two_idents ≡ entry IDENT IDENT false ∷ entry IDENT IDENT false ∷ []
 input_of_two = refl
 
--- nothing stands between the first and the second word, and nothing comes after the second
-input_of_joint : input_of no_keywords (table_of no_keywords (codes "ab") (word 1 ∷ word 1 ∷ [])) ≡ entry 3 3 true ∷ entry 3 3 false ∷ []
+-- nothing stands between the first and the second identifier, and nothing comes after the second
+input_of_joint : input_of no_keywords (table_of no_keywords (codes "ab") (ident 1 ∷ ident 1 ∷ [])) ≡ entry IDENT IDENT true ∷ entry IDENT IDENT false ∷ []
 input_of_joint = refl
 
-input_of_contextual : input_of messages (table_of no_keywords (codes "message raise") (word 7 ∷ space 1 ∷ word 5 ∷ [])) ≡ entry 3 201 false ∷ entry 3 202 false ∷ []
+input_of_contextual : input_of messages (table_of no_keywords (codes "message raise") (ident 7 ∷ space 1 ∷ ident 5 ∷ [])) ≡ entry IDENT 201 false ∷ entry IDENT 202 false ∷ []
 input_of_contextual = refl
 
 -- a keyword has no contextual kind
-input_of_keyword : input_of messages (table_of select_only (codes "select") (word 6 ∷ [])) ≡ entry 200 0 false ∷ []
+input_of_keyword : input_of messages (table_of select_only (codes "select") (ident 6 ∷ [])) ≡ entry 200 EOF false ∷ []
 input_of_keyword = refl
 
 -- ---- what is sent
@@ -74,19 +75,19 @@ input_of_keyword = refl
 -- a node in a node in a root
 abbrev pub crossing_steps : List Step
 crossing_steps =
-    steps.Enter 700 ∷ steps.Enter 703 ∷ steps.Token 3 1 ∷ steps.Enter 704 ∷ steps.Token 3 1 ∷ steps.Exit ∷ steps.Token 3 1 ∷ steps.Exit ∷ steps.Exit ∷ []
+    steps.Enter 700 ∷ steps.Enter 703 ∷ steps.Token IDENT 1 ∷ steps.Enter 704 ∷ steps.Token IDENT 1 ∷ steps.Exit ∷ steps.Token IDENT 1 ∷ steps.Exit ∷ steps.Exit ∷ []
 
 abbrev a : OwnedStep
-a = sent.Token 3 (codes "a")
+a = sent.Token IDENT (codes "a")
 
 abbrev b : OwnedStep
-b = sent.Token 3 (codes "b")
+b = sent.Token IDENT (codes "b")
 
 abbrev c : OwnedStep
-c = sent.Token 3 (codes "c")
+c = sent.Token IDENT (codes "c")
 
 abbrev gap : OwnedStep
-gap = sent.Token 639 (codes " ")
+gap = sent.Token WHITESPACE (codes " ")
 
 -- an empty text
 sent_of_nothing : sent_list (table_of no_keywords [] []) (steps.Enter 700 ∷ steps.Exit ∷ []) ≡ sent.Enter 700 ∷ sent.Exit ∷ []
@@ -94,29 +95,29 @@ unfolding chars
 sent_of_nothing = refl
 
 -- trivia stands before the token after it
-sent_of_two : sent_list two_words (steps.Enter 700 ∷ steps.Token 3 1 ∷ steps.Token 3 1 ∷ steps.Exit ∷ []) ≡ sent.Enter 700 ∷ a ∷ gap ∷ b ∷ sent.Exit ∷ []
+sent_of_two : sent_list two_idents (steps.Enter 700 ∷ steps.Token IDENT 1 ∷ steps.Token IDENT 1 ∷ steps.Exit ∷ []) ≡ sent.Enter 700 ∷ a ∷ gap ∷ b ∷ sent.Exit ∷ []
 unfolding chars
 sent_of_two = refl
 
 -- what comes after the last token that is eaten isn't sent, but for the trivia before the end
-sent_of_one : sent_list two_words (steps.Enter 700 ∷ steps.Token 3 1 ∷ steps.Exit ∷ []) ≡ sent.Enter 700 ∷ a ∷ gap ∷ sent.Exit ∷ []
+sent_of_one : sent_list two_idents (steps.Enter 700 ∷ steps.Token IDENT 1 ∷ steps.Exit ∷ []) ≡ sent.Enter 700 ∷ a ∷ gap ∷ sent.Exit ∷ []
 unfolding chars
 sent_of_one = refl
 
 -- trivia stands before the opening of a node, not in it, and not before the end of an inner one
-sent_of_crossing : sent_list three_words crossing_steps
+sent_of_crossing : sent_list three_idents crossing_steps
     ≡ sent.Enter 700 ∷ sent.Enter 703 ∷ a ∷ gap ∷ sent.Enter 704 ∷ b ∷ sent.Exit ∷ gap ∷ c ∷ sent.Exit ∷ sent.Exit ∷ []
 unfolding chars
 sent_of_crossing = refl
 
 -- trivia at the beginning of a text stands in the root
-sent_of_mark : sent_list (table_of no_keywords (239 ∷ 187 ∷ 191 ∷ codes "a") (space 3 ∷ word 1 ∷ [])) (steps.Enter 700 ∷ steps.Token 3 1 ∷ steps.Exit ∷ [])
-    ≡ sent.Enter 700 ∷ sent.Token 639 (65279 ∷ []) ∷ a ∷ sent.Exit ∷ []
+sent_of_mark : sent_list (table_of no_keywords (239 ∷ 187 ∷ 191 ∷ codes "a") (space 3 ∷ ident 1 ∷ [])) (steps.Enter 700 ∷ steps.Token IDENT 1 ∷ steps.Exit ∷ [])
+    ≡ sent.Enter 700 ∷ sent.Token WHITESPACE (65279 ∷ []) ∷ a ∷ sent.Exit ∷ []
 unfolding chars
 sent_of_mark = refl
 
 -- trivia at the end of a text stands before the end of the root
-sent_of_trailing : sent_list (table_of no_keywords (codes "a ") (word 1 ∷ space 1 ∷ [])) (steps.Enter 700 ∷ steps.Enter 701 ∷ steps.Token 3 1 ∷ steps.Exit ∷ steps.Exit ∷ [])
+sent_of_trailing : sent_list (table_of no_keywords (codes "a ") (ident 1 ∷ space 1 ∷ [])) (steps.Enter 700 ∷ steps.Enter 701 ∷ steps.Token IDENT 1 ∷ steps.Exit ∷ steps.Exit ∷ [])
     ≡ sent.Enter 700 ∷ sent.Enter 701 ∷ a ∷ sent.Exit ∷ gap ∷ sent.Exit ∷ []
 unfolding chars
 sent_of_trailing = refl
@@ -136,15 +137,15 @@ errors_moved_together : errors_moved (steps.Exit ∷ steps.Error (codes "e") ∷
 errors_moved_together = refl
 
 -- an error before the end of the root stands before the trivia there
-sent_of_error : sent_list (table_of no_keywords (codes "x ") (word 1 ∷ space 1 ∷ []))
-    (steps.Enter 700 ∷ steps.Enter 701 ∷ steps.Token 3 1 ∷ steps.Exit ∷ steps.Error (codes "e") ∷ steps.Exit ∷ [])
-    ≡ sent.Enter 700 ∷ sent.Enter 701 ∷ sent.Token 3 (codes "x") ∷ sent.Error (codes "e") 1 ∷ sent.Exit ∷ gap ∷ sent.Exit ∷ []
+sent_of_error : sent_list (table_of no_keywords (codes "x ") (ident 1 ∷ space 1 ∷ []))
+    (steps.Enter 700 ∷ steps.Enter 701 ∷ steps.Token IDENT 1 ∷ steps.Exit ∷ steps.Error (codes "e") ∷ steps.Exit ∷ [])
+    ≡ sent.Enter 700 ∷ sent.Enter 701 ∷ sent.Token IDENT (codes "x") ∷ sent.Error (codes "e") 1 ∷ sent.Exit ∷ gap ∷ sent.Exit ∷ []
 unfolding chars lib.Utf8.encode
 sent_of_error = refl
 
 -- and so does one behind the root, while one before the root stays there
-sent_of_outer_errors : sent_list (table_of no_keywords (codes "a ") (word 1 ∷ space 1 ∷ []))
-    (steps.Error (codes "m") ∷ steps.Enter 700 ∷ steps.Enter 701 ∷ steps.Token 3 1 ∷ steps.Exit ∷ steps.Exit ∷ steps.Error (codes "n") ∷ [])
+sent_of_outer_errors : sent_list (table_of no_keywords (codes "a ") (ident 1 ∷ space 1 ∷ []))
+    (steps.Error (codes "m") ∷ steps.Enter 700 ∷ steps.Enter 701 ∷ steps.Token IDENT 1 ∷ steps.Exit ∷ steps.Exit ∷ steps.Error (codes "n") ∷ [])
     ≡ sent.Error (codes "m") 0 ∷ sent.Enter 700 ∷ sent.Enter 701 ∷ a ∷ sent.Exit ∷ sent.Error (codes "n") 1 ∷ gap ∷ sent.Exit ∷ []
 unfolding chars lib.Utf8.encode
 sent_of_outer_errors = refl
@@ -152,20 +153,20 @@ sent_of_outer_errors = refl
 -- ---- tokens of several input tokens
 
 -- two tokens that touch are one
-over_touching : IsOver (steps.Token 20 2 ∷ []) (entry 20 0 true ∷ entry 23 0 false ∷ [])
+over_touching : IsOver (steps.Token EQ 2 ∷ []) (entry EQ EOF true ∷ entry R_ANGLE EOF false ∷ [])
 over_touching = (record { some = omega arith; there = omega arith; touch = first_touches }, tt)
   where
-    first_touches : (i : ℕ) → i + 1 < 2 → touches_in (entry 20 0 true ∷ entry 23 0 false ∷ []) i ≡ true
+    first_touches : (i : ℕ) → i + 1 < 2 → touches_in (entry EQ EOF true ∷ entry R_ANGLE EOF false ∷ []) i ≡ true
     first_touches zero lt = refl
     first_touches (suc i) lt = absurd (omega arith)
 
 -- and two that stand apart aren't
-apart_isnt_over : IsOver (steps.Token 20 2 ∷ []) (entry 20 0 false ∷ entry 23 0 false ∷ []) → ⊥
+apart_isnt_over : IsOver (steps.Token EQ 2 ∷ []) (entry EQ EOF false ∷ entry R_ANGLE EOF false ∷ []) → ⊥
 apart_isnt_over over = false≢true (over.0.touch 0 (omega arith))
 
 -- the text of two that touch is joined
-sent_of_joined : sent_list (table_of no_keywords (codes "ab c") (word 1 ∷ word 1 ∷ space 1 ∷ word 1 ∷ []))
-    (steps.Enter 700 ∷ steps.Token 3 2 ∷ steps.Error (codes "e") ∷ steps.Token 3 1 ∷ steps.Exit ∷ [])
-    ≡ sent.Enter 700 ∷ sent.Token 3 (codes "ab") ∷ sent.Error (codes "e") 2 ∷ gap ∷ c ∷ sent.Exit ∷ []
+sent_of_joined : sent_list (table_of no_keywords (codes "ab c") (ident 1 ∷ ident 1 ∷ space 1 ∷ ident 1 ∷ []))
+    (steps.Enter 700 ∷ steps.Token IDENT 2 ∷ steps.Error (codes "e") ∷ steps.Token IDENT 1 ∷ steps.Exit ∷ [])
+    ≡ sent.Enter 700 ∷ sent.Token IDENT (codes "ab") ∷ sent.Error (codes "e") 2 ∷ gap ∷ c ∷ sent.Exit ∷ []
 unfolding chars lib.Utf8.encode
 sent_of_joined = refl

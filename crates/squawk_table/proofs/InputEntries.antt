@@ -8,7 +8,7 @@ use Rattle.std.proofs.lemmas.List.{get_or_append_left, get_or_push, length_push}
 use Rattle.std.proofs.lemmas.Option.{slice_get_past}
 use Rattle.squawk_table.specs.InputView.{IsEven, entries_in, entry_in}
 use Rattle.squawk_table.specs.ParserInput.{Entry, kind_in, contextual_kind_in, touches_in}
-use Rattle.squawk_table.proofs.ByPlace.{map_more, slice_get-map}
+use Rattle.squawk_table.proofs.ByIndex.{map_more, slice_get-map}
 
 module _ (kinds contextual_kinds : List ℕ) (touches : List Bool) where
   abbrev entries : List Entry

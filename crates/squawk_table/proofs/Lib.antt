@@ -2,7 +2,7 @@ pub mod TableLemmas
 pub mod RawTokens
 pub mod Examples
 pub mod AllSent
-pub mod ByPlace
+pub mod ByIndex
 pub mod ErrorsMoved
 pub mod FrontTokens
 pub mod InputEntries
@@ -25,7 +25,7 @@ pub mod SentNumbered
 pub mod SentSteps
 pub mod SentTexts
 pub mod SourceChars
-pub mod StepPlaces
+pub mod StepSpots
 pub mod Trimmed
 pub mod Trivia
 pub mod WithoutErrors

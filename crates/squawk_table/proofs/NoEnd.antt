@@ -5,7 +5,7 @@ use Rattle.std.proofs.lemmas.List.Elements.{All-nil, All-cons, All-get_or, All-h
 use Rattle.squawk_kinds.specs.Keywords.{Keywords}
 use Rattle.squawk_kinds.specs.Kinds.{EOF, IDENT, IsKeyword, is_trivia}
 use Rattle.squawk_tokens.specs.AcceptedTokens.{AreAcceptedTokens}
-use Rattle.squawk_tokens.specs.TokenRows.{MeetsKind}
+use Rattle.squawk_tokens.specs.TokenRules.{MeetsKind}
 use Rattle.squawk_tokens.specs.declared.token.Token.{Token as RawText}
 use Rattle.squawk_tokens.specs.declared.token.TokenKind.{TokenKind}
 use Rattle.squawk_tokens.specs.declared.token.TokenKind.TheVariants.{Ident, PsqlCommand, Literal, Eof}

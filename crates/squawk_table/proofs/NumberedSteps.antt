@@ -17,7 +17,7 @@ receives steps i (Some step) = receives_between (take i steps) step (drop (i + 1
 abbrev pub is_receiver : List Step → ℕ → Bool
 is_receiver steps i = receives steps i (slice_get steps i)
 
--- whether a step before place n, with c input tokens before it, receives trivia
+-- whether a step before step n, with c input tokens before it, receives trivia
 abbrev pub is_received : List Step → ℕ → ℕ → Bool
 is_received steps c zero = false
 is_received steps c (suc n) = (is_receiver steps n && (eaten_before steps n == c)) || is_received steps c n

@@ -1,4 +1,4 @@
--- A walk over the input of a table, from a raw place on.
+-- A walk over the input of a table, from a raw token on.
 use Rattle.std.proofs.Common.{◌≡◌, ◌∙◌, ℕ, ◌+◌, ◌-◌, ◌≤◌, Bool, true, false, if◌then◌else◌, List, [], ◌∷◌, length, take, drop, arith, ap, refl, sym, subst}
 use Rattle.std.specs.Prelude.{◌↔◌}
 use Rattle.std.proofs.lemmas.List.{length-map}
@@ -11,28 +11,28 @@ use Rattle.squawk_table.specs.Shape.{IsOver, no_keywords}
 use Rattle.squawk_output.specs.Steps.{Step, Token, Enter, Exit, Error}
 use Rattle.squawk_table.proofs.FrontTokens.{FrontTokens, FrontTokens-one, one-FrontTokens, drop-entries_of, entries_of-past_trivia, length-raw_after, raw_after-add}
 
--- the entries of the raw tokens that are left from a place on
+-- the entries of the raw tokens that are left from one on
 abbrev pub entries_after : Table → ℕ → List Entry
-entries_after t place = entries_of no_keywords (raw_after t place)
+entries_after t raw = entries_of no_keywords (raw_after t raw)
 
-module _ (t : Table) (steps : List Step) (place begin kind n : ℕ) (within : begin ≤ length t.kinds) (past : raw_after t begin ≡ past_trivia (raw_after t place)) where
+module _ (t : Table) (steps : List Step) (raw begin kind n : ℕ) (within : begin ≤ length t.kinds) (past : raw_after t begin ≡ past_trivia (raw_after t raw)) where
   -- the raw tokens that the code looks for stand where the walk goes on with a token
-  pub front_there : IsOver (Token kind n ∷ steps) (entries_after t place) → HasNoTrivia (take n (raw_after t begin)) × 1 ≤ n × begin + n ≤ length t.kinds
+  pub front_there : IsOver (Token kind n ∷ steps) (entries_after t raw) → HasNoTrivia (take n (raw_after t begin)) × 1 ≤ n × begin + n ≤ length t.kinds
   front_there over =
-      let front = subst (FrontTokens n) (sym past) (FrontTokens-one no_keywords n (raw_after t place) over.0) in
+      let front = subst (FrontTokens n) (sym past) (FrontTokens-one no_keywords n (raw_after t raw) over.0) in
       (front.input, front.some, omega (arith, front.there, length-raw_after t (length t.kinds - begin) begin (omega arith)))
 
   -- and the walk goes on behind them
   pub over_behind : HasNoTrivia (take n (raw_after t begin)) → 1 ≤ n → begin + n ≤ length t.kinds
-      → IsOver (Token kind n ∷ steps) (entries_after t place) ↔ IsOver steps (entries_after t (begin + n))
+      → IsOver (Token kind n ∷ steps) (entries_after t raw) ↔ IsOver steps (entries_after t (begin + n))
   over_behind input some room =
       let front : FrontTokens n (raw_after t begin) =
       record { some = some; there = omega (arith, length-raw_after t (length t.kinds - begin) begin (omega arith)); input = input } in
-      let rest : drop n (entries_after t place) ≡ entries_after t (begin + n) =
-      ap (drop n) (sym (entries_of-past_trivia no_keywords (raw_after t place)) ∙ ap (entries_of no_keywords) (sym past))
+      let rest : drop n (entries_after t raw) ≡ entries_after t (begin + n) =
+      ap (drop n) (sym (entries_of-past_trivia no_keywords (raw_after t raw)) ∙ ap (entries_of no_keywords) (sym past))
       ∙ (drop-entries_of no_keywords n (raw_after t begin) front.there input ∙ ap (entries_of no_keywords) (sym (raw_after-add t n begin room))) in (
         λ over. subst (IsOver steps) rest over.1,
-        λ over. (one-FrontTokens no_keywords n (raw_after t place) (subst (FrontTokens n) past front), subst (IsOver steps) (sym rest) over),
+        λ over. (one-FrontTokens no_keywords n (raw_after t raw) (subst (FrontTokens n) past front), subst (IsOver steps) (sym rest) over),
       )
 
 -- which steps are over the entries of raw tokens doesn't depend on contextual keywords

@@ -1,4 +1,4 @@
--- The raw tokens that are left from a place on.
+-- The raw tokens of a table that are left from one on.
 use Rattle.std.proofs.Common.{◌≡◌, ℕ, suc, ◌+◌, ◌-◌, ◌<◌, ◌≤◌, true, false, [], ◌∷◌, length, slice_index, arith, ap, refl}
 use Rattle.squawk_kinds.specs.Kinds.{is_trivia}
 use Rattle.squawk_table.specs.RawTable.{Table, raw_at, raw_from, raw_after, raw_tokens}
@@ -15,7 +15,7 @@ raw_after-end t i le =
     let left : length t.kinds - i ≡ 0 = omega arith in
     ap (λ n. raw_from t i n) left
 
--- from the first place on they are all
+-- from the first on they are all
 pub raw_after-start : (t : Table) → raw_after t 0 ≡ raw_tokens t
 raw_after-start t =
     let left : length t.kinds - 0 ≡ length t.kinds = omega arith in

@@ -9,7 +9,7 @@ use Rattle.squawk_table.specs.RawTable.{RawToken}
 use Rattle.squawk_table.specs.Sent.{leading_trivia, past_trivia, after_input, trivia_run}
 use Rattle.squawk_output.specs.Steps.{Step, count_of, eaten}
 use Rattle.squawk_table.proofs.NumberedSteps.{eaten_before, is_receiver, is_received, trivia_before}
-use Rattle.squawk_table.proofs.StepPlaces.{eaten-take_more}
+use Rattle.squawk_table.proofs.StepSpots.{eaten-take_more}
 use Rattle.squawk_table.proofs.Trivia.{past_trivia-past_trivia, leading_trivia-past_trivia}
 
 -- the raw tokens that are left before step i: without the trivia at their front, if a step received that already

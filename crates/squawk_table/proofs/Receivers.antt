@@ -9,13 +9,13 @@ use Rattle.squawk_table.specs.Sending.{receives_at, depth_behind}
 use Rattle.squawk_output.specs.OneRoot.{StandsInOneRoot}
 use Rattle.squawk_output.specs.Steps.{Step, Token, Enter, Exit, Error, is_enter, is_exit, openings, closings, without_errors}
 use Rattle.squawk_table.proofs.NumberedSteps.{receives, is_receiver}
-use Rattle.squawk_table.proofs.StepPlaces.{openings-take_more, closings-take_more}
+use Rattle.squawk_table.proofs.StepSpots.{openings-take_more, closings-take_more}
 use Rattle.squawk_table.proofs.WithoutErrors.{kept, kept-more, kept-lt, openings-kept, closings-kept, openings-without_errors, closings-without_errors}
 
 pub is_receiver-at : (steps : List Step) (i : ℕ) (step : Step) → i < length steps → get_or steps i step ≡ step → is_receiver steps i ≡ receives steps i (Some step)
 is_receiver-at steps i step lt at = ap (receives steps i) (slice_get-get_or steps i step lt ∙ ap (λ s. Some s) at)
 
--- the closings after a place are those that the beginning lacks
+-- the closings after a spot are those that the beginning lacks
 closings-drop : (steps : List Step) (i : ℕ) → closings (take i steps) + closings (drop i steps) ≡ closings steps
 closings-drop steps i = sum_by-take-drop (λ s. cond (is_exit s) 1 0) steps i
 

@@ -9,7 +9,7 @@ use Rattle.squawk_output.specs.Steps.{Step, Token, Enter, Exit, Error, is_enter,
 use Rattle.squawk_table.proofs.NumberedSteps.{eaten_before, is_receiver, is_received}
 use Rattle.squawk_table.proofs.Received.{left_before, behind, is_received-same}
 use Rattle.squawk_table.proofs.Receivers.{is_receiver-at, last_receives}
-use Rattle.squawk_table.proofs.StepPlaces.{eaten-take_more, openings-take_more, closings-take_more}
+use Rattle.squawk_table.proofs.StepSpots.{eaten-take_more, openings-take_more, closings-take_more}
 use Rattle.squawk_table.proofs.WithoutErrors.{kept, kept-error, kept-more, kept-at, kept-lt}
 
 -- the first step of a walk that begins with an opening

@@ -3,7 +3,7 @@ use Rattle.std.proofs.Common.{◌≡◌, ◌∙◌, ℕ, ◌+◌, ◌-◌, ◌<�
 use Rattle.std.proofs.Math.Seq.{drop-append_seam}
 use Rattle.std.proofs.lemmas.List.{append-nil, length-drop}
 use Rattle.squawk_table.specs.RawTable.{Table, IsTable, raw_after, raw_tokens}
-use Rattle.squawk_table.specs.Sending.{sent_here, next_place, receives_at, depth_behind, trivia_here, place_here, sent_from, end_from, HaveTokens}
+use Rattle.squawk_table.specs.Sending.{sent_here, next_raw, receives_at, depth_behind, trivia_here, raw_here, sent_from, end_from, HaveTokens}
 use Rattle.squawk_table.specs.Sent.{errors_moved, leading_trivia, past_trivia, sent_raw, sent_list}
 use Rattle.squawk_table.specs.Shape.{Fits}
 use Rattle.squawk_output.specs.OneRoot.{StandsInOneRoot}
@@ -18,52 +18,52 @@ use Rattle.squawk_table.proofs.SendsStep.{SendsStep, sends_step}
 use Rattle.squawk_table.proofs.SentBelow.{sent_to, sent_for, sent_below-more}
 use Rattle.squawk_table.proofs.SentNumbered.{sent_list-numbered}
 use Rattle.squawk_table.proofs.SentSteps.{IsOverRaw}
-use Rattle.squawk_table.proofs.StepPlaces.{hand_at, hand_behind, hand_lt}
+use Rattle.squawk_table.proofs.StepSpots.{hand_at, hand_behind, hand_lt}
 use Rattle.squawk_table.proofs.Trivia.{leading_trivia-append-past_trivia}
 
 -- ---- behind trivia
 
-module _ (t : Table) (place : ℕ) (within : place ≤ length t.kinds) where
+module _ (t : Table) (raw : ℕ) (within : raw ≤ length t.kinds) where
   abbrev front : ℕ
-  front = length (leading_trivia (raw_after t place))
+  front = length (leading_trivia (raw_after t raw))
 
-  front-le : place + front ≤ length t.kinds
+  front-le : raw + front ≤ length t.kinds
   front-le =
-      let raw = raw_after t place in
+      let raws = raw_after t raw in
       omega (
         arith,
-        length-raw_after t (length t.kinds - place) place (omega arith),
-        ap length (leading_trivia-append-past_trivia raw),
-        length-append (leading_trivia raw) (past_trivia raw),
+        length-raw_after t (length t.kinds - raw) raw (omega arith),
+        ap length (leading_trivia-append-past_trivia raws),
+        length-append (leading_trivia raws) (past_trivia raws),
       )
 
-  -- the raw tokens behind the trivia at a place, if it is sent
-  left_behind : (b : Bool) → let at = place + length (if b then leading_trivia (raw_after t place) else []) in
-      (at ≤ length t.kinds) × (raw_after t at ≡ (if b then past_trivia (raw_after t place) else raw_after t place))
+  -- the raw tokens behind the trivia, if that is sent
+  left_behind : (b : Bool) → let at = raw + length (if b then leading_trivia (raw_after t raw) else []) in
+      (at ≤ length t.kinds) × (raw_after t at ≡ (if b then past_trivia (raw_after t raw) else raw_after t raw))
   left_behind true =
-      let raw = raw_after t place in (
+      let raws = raw_after t raw in (
         front-le,
-        raw_after-add t front place front-le
-            ∙ (ap (drop front) (sym (leading_trivia-append-past_trivia raw)) ∙ drop-append_seam (leading_trivia raw) (past_trivia raw)),
+        raw_after-add t front raw front-le
+            ∙ (ap (drop front) (sym (leading_trivia-append-past_trivia raws)) ∙ drop-append_seam (leading_trivia raws) (past_trivia raws)),
       )
-  left_behind false = (omega arith, ap (raw_after t) (add-zero place))
+  left_behind false = (omega arith, ap (raw_after t) (add-zero raw))
 
--- Some steps of a walk are sent and others are left. The raw place and the number of open nodes are those between them.
-pub record StandsBetween (t : Table) (steps left : List Step) (i place depth : ℕ) : Type 0 where
+-- Some steps of a walk are sent and others are left. The raw index and the number of open nodes are those between them.
+pub record StandsBetween (t : Table) (steps left : List Step) (i raw depth : ℕ) : Type 0 where
   pub low : i ≤ length steps
   pub rest : left ≡ drop i steps
-  pub within : place ≤ length t.kinds
-  pub raw_left : raw_after t place ≡ left_before (raw_tokens t) steps i
+  pub within : raw ≤ length t.kinds
+  pub raw_left : raw_after t raw ≡ left_before (raw_tokens t) steps i
   pub open_now : closings (take i steps) + depth ≡ openings (take i steps)
 
 -- What is sent for those that are left makes up all, with what was sent before.
-pub record SendsRest (t : Table) (steps left : List Step) (i place depth : ℕ) : Type 0 where
-  pub sent : sent_below (raw_tokens t) steps i ++ sent_from t place depth left ≡ sent_below (raw_tokens t) steps (length steps)
-  pub tokens : HaveTokens t place depth left
-  pub raw_left : raw_after t (end_from t place depth left) ≡ left_before (raw_tokens t) steps (length steps)
+pub record SendsRest (t : Table) (steps left : List Step) (i raw depth : ℕ) : Type 0 where
+  pub sent : sent_below (raw_tokens t) steps i ++ sent_from t raw depth left ≡ sent_below (raw_tokens t) steps (length steps)
+  pub tokens : HaveTokens t raw depth left
+  pub raw_left : raw_after t (end_from t raw depth left) ≡ left_before (raw_tokens t) steps (length steps)
 
 module _ (t : Table) (table : IsTable t) (steps : List Step) (over : IsOverRaw (raw_tokens t) steps) (root : StandsInOneRoot (without_errors steps)) where
-  module _ (i place depth : ℕ) (step : Step) (left : List Step) (here : StandsBetween t steps (step ∷ left) i place depth) where
+  module _ (i raw depth : ℕ) (step : Step) (left : List Step) (here : StandsBetween t steps (step ∷ left) i raw depth) where
     lt : i < length steps
     lt = hand_lt steps (step ∷ left) left i step here.rest refl
 
@@ -74,25 +74,25 @@ module _ (t : Table) (table : IsTable t) (steps : List Step) (over : IsOverRaw (
     receiver = receives_at-receiver steps root i depth lt here.open_now step step_at
 
     -- the trivia before the step
-    trivia : trivia_here t place depth step ≡ trivia_before (raw_tokens t) steps i
+    trivia : trivia_here t raw depth step ≡ trivia_before (raw_tokens t) steps i
     trivia =
-        ap (λ b. if b then leading_trivia (raw_after t place) else []) receiver
-        ∙ (ap (λ raw. if is_receiver steps i then leading_trivia raw else []) here.raw_left ∙ sym (trivia_before-left (raw_tokens t) steps i))
+        ap (λ b. if b then leading_trivia (raw_after t raw) else []) receiver
+        ∙ (ap (λ raws. if is_receiver steps i then leading_trivia raws else []) here.raw_left ∙ sym (trivia_before-left (raw_tokens t) steps i))
 
     abbrev at : ℕ
-    at = place_here t place depth step
+    at = raw_here t raw depth step
 
     -- and what is left behind it
     left_here : raw_after t at ≡ left_at (raw_tokens t) steps i
     left_here =
-        (left_behind t place here.within (receives_at depth step)).1
-        ∙ (ap (λ b. if b then past_trivia (raw_after t place) else raw_after t place) receiver
-        ∙ ap (λ raw. if is_receiver steps i then past_trivia raw else raw) here.raw_left)
+        (left_behind t raw here.within (receives_at depth step)).1
+        ∙ (ap (λ b. if b then past_trivia (raw_after t raw) else raw_after t raw) receiver
+        ∙ ap (λ raws. if is_receiver steps i then past_trivia raws else raws) here.raw_left)
 
     sends : SendsStep t steps i at step
-    sends = sends_step t table steps over i at (left_behind t place here.within (receives_at depth step)).0 left_here lt step step_at
+    sends = sends_step t table steps over i at (left_behind t raw here.within (receives_at depth step)).0 left_here lt step step_at
 
-    behind : StandsBetween t steps left (i + 1) (next_place at step) (depth_behind depth step)
+    behind : StandsBetween t steps left (i + 1) (next_raw at step) (depth_behind depth step)
     behind = record {
       low = omega (arith, lt);
       rest = hand_behind steps (step ∷ left) left i step here.rest refl;
@@ -101,33 +101,33 @@ module _ (t : Table) (table : IsTable t) (steps : List Step) (over : IsOverRaw (
       open_now = open_behind steps root i depth lt here.open_now step step_at;
     }
 
-    one_more : SendsRest t steps left (i + 1) (next_place at step) (depth_behind depth step) → SendsRest t steps (step ∷ left) i place depth
+    one_more : SendsRest t steps left (i + 1) (next_raw at step) (depth_behind depth step) → SendsRest t steps (step ∷ left) i raw depth
     one_more later =
-        let raw = raw_tokens t in
-        let before = sent_below raw steps i in
-        let rest = sent_from t (next_place at step) (depth_behind depth step) left in
+        let raws = raw_tokens t in
+        let before = sent_below raws steps i in
+        let rest = sent_from t (next_raw at step) (depth_behind depth step) left in
         record {
           sent =
-              sym (append_assoc before (map sent_raw (trivia_here t place depth step)) (sent_here t at step ∷ rest))
+              sym (append_assoc before (map sent_raw (trivia_here t raw depth step)) (sent_here t at step ∷ rest))
               ∙ (ap (λ xs. (before ++ map sent_raw xs) ++ sent_here t at step ∷ rest) trivia
-              ∙ (ap (λ s. sent_to raw steps i ++ s ∷ rest) sends.sent
-              ∙ (sym (append_assoc (sent_to raw steps i) (sent_for raw steps i step ∷ []) rest)
-              ∙ (ap (λ xs. xs ++ rest) (sym (sent_below-more raw steps i step lt step_at)) ∙ later.sent))));
+              ∙ (ap (λ s. sent_to raws steps i ++ s ∷ rest) sends.sent
+              ∙ (sym (append_assoc (sent_to raws steps i) (sent_for raws steps i step ∷ []) rest)
+              ∙ (ap (λ xs. xs ++ rest) (sym (sent_below-more raws steps i step lt step_at)) ∙ later.sent))));
           tokens = (sends.token, later.tokens);
           raw_left = later.raw_left;
         }
 
-  sends_rest : (left : List Step) (i place depth : ℕ) → StandsBetween t steps left i place depth → SendsRest t steps left i place depth
-  sends_rest [] i place depth here =
+  sends_rest : (left : List Step) (i raw depth : ℕ) → StandsBetween t steps left i raw depth → SendsRest t steps left i raw depth
+  sends_rest [] i raw depth here =
       let end : i ≡ length steps = omega (arith, here.low, ap length here.rest, length-drop i steps) in
       record {
         sent = append-nil (sent_below (raw_tokens t) steps i) ∙ ap (sent_below (raw_tokens t) steps) end;
         tokens = here.within;
         raw_left = here.raw_left ∙ ap (left_before (raw_tokens t) steps) end;
       }
-  sends_rest (step ∷ left) i place depth here =
-      let next = place_here t place depth step in
-      one_more i place depth step left here (sends_rest left (i + 1) (next_place next step) (depth_behind depth step) (behind i place depth step left here))
+  sends_rest (step ∷ left) i raw depth here =
+      let next = raw_here t raw depth step in
+      one_more i raw depth step left here (sends_rest left (i + 1) (next_raw next step) (depth_behind depth step) (behind i raw depth step left here))
 
 -- ---- all steps
 

@@ -31,7 +31,7 @@ module _ (t : Table) (table : IsTable t) where
   raw_chars-from (suc n) i all =
       ap (λ xs. chars (piece t i) ++ xs) (raw_chars-from n (i + 1) (omega arith)) ∙ sym (chars-piece i (omega arith))
 
-  -- the raw tokens from a place on have the characters of the source from there on
+  -- the raw tokens from one on have the characters of the source from there on
   pub raw_chars-raw_after : (i : ℕ) → i ≤ length t.kinds → raw_chars (raw_after t i) ≡ chars (drop (slice_index t.starts i) t.text)
   raw_chars-raw_after i le = raw_chars-from (length t.kinds - i) i (omega arith)
 
@@ -75,7 +75,7 @@ module _ (t : Table) (table : IsTable t) where
           let same : i + suc n ≡ (i + 1) + n = omega arith in
           let behind = drop (slice_index t.starts (i + suc n)) t.text in
           let rest = text_of (take n (raw_after t (i + 1))) in
-          ap (λ raw. text_of (take (suc n) raw) ++ behind) next
+          ap (λ raws. text_of (take (suc n) raws) ++ behind) next
           ∙ (append_assoc (piece t i) rest behind
           ∙ (ap (λ k. piece t i ++ (rest ++ drop (slice_index t.starts k) t.text)) same
           ∙ (ap (λ xs. piece t i ++ xs) (whole n (i + 1) (omega arith))
@@ -95,15 +95,15 @@ bytes_of-texts (s ∷ steps) =
       length-append (encode_utf8_all (text_in s)) (encode_utf8_all (texts_of steps)),
     )
 
--- where the source from a raw place on is left, so many bytes were sent as stand before it
-pub bytes_of-place : (t : Table) → IsTable t → (place : ℕ) → place ≤ length t.kinds → (steps : List OwnedStep)
-    → texts_of steps ++ raw_chars (raw_after t place) ≡ raw_chars (raw_tokens t) → bytes_of steps ≡ slice_index t.starts place
-bytes_of-place t table place le steps whole =
-    let start = slice_index t.starts place in
-    let boundary = table.boundaries place (omega (arith, table.entries)) in
+-- where the source from a raw token on is left, as many bytes were sent as stand before it
+pub bytes_of-raw : (t : Table) → IsTable t → (raw : ℕ) → raw ≤ length t.kinds → (steps : List OwnedStep)
+    → texts_of steps ++ raw_chars (raw_after t raw) ≡ raw_chars (raw_tokens t) → bytes_of steps ≡ slice_index t.starts raw
+bytes_of-raw t table raw le steps whole =
+    let start = slice_index t.starts raw in
+    let boundary = table.boundaries raw (omega (arith, table.entries)) in
     let utf8 = IsUtf8-take t.text start table.utf8 boundary in
     let all : texts_of steps ++ chars (drop start t.text) ≡ chars (take start t.text) ++ chars (drop start t.text) =
-    ap (λ xs. texts_of steps ++ xs) (sym (raw_chars-raw_after t table place le))
+    ap (λ xs. texts_of steps ++ xs) (sym (raw_chars-raw_after t table raw le))
     ∙ (whole ∙ (raw_chars-raw_tokens t table
     ∙ (sym (ap chars (take-append-drop start t.text)) ∙ chars-append (take start t.text) (drop start t.text) utf8))) in
     let same = append_cancel_right (texts_of steps) (chars (take start t.text)) (chars (drop start t.text)) all in

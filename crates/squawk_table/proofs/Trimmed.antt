@@ -7,7 +7,7 @@ use Rattle.std.proofs.lemmas.List.Folds.{list_any-append}
 use Rattle.std.proofs.lemmas.List.Sums.{sum_by-cons, sum_by-append}
 use Rattle.squawk_output.specs.Steps.{Step, Token, Enter, Exit, Error, is_enter, is_exit, count_of, openings, closings, eaten}
 use Rattle.squawk_table.specs.RawTable.{Table, RawToken, raw_tokens}
-use Rattle.squawk_table.specs.Sent.{Place, Marked, Walked, PutBack, IsError, InnerNodesAreTrimmed, errors_moved, places_behind, receives_between, receives, receives_at_count, trivia_at, trivia_run, sent_raw, sent_step, sent_behind, marked_list}
+use Rattle.squawk_table.specs.Sent.{Spot, Marked, Walked, PutBack, IsError, InnerNodesAreTrimmed, errors_moved, spots_behind, receives_between, receives, receives_at_count, trivia_at, trivia_run, sent_raw, sent_step, sent_behind, marked_list}
 use Rattle.squawk_table.specs.declared.shortcuts.str_step.OwnedStep.{OwnedStep}
 use Rattle.squawk_table.specs.declared.shortcuts.str_step.OwnedStep.TheVariants as sent
 
@@ -22,8 +22,9 @@ eaten-more read step = sum_by-append count_of read (step ∷ [])
 
 -- ---- read from the left
 
--- Behind an opening that another one precedes no trivia stands before another step of the walk, errors aside. It is told of what
--- stands behind a place: whether an opening stands before that, and whether such an opening stands last before it.
+-- Behind an opening that another one precedes no trivia stands before another step of the walk, errors aside. It is
+-- stated of what stands behind a spot: whether an opening stands before that, and whether such an opening stands last
+-- before it.
 abbrev Begin : Bool → Bool → List Marked → Type 0
 Begin opened begun [] = Unit {0}
 Begin opened begun (PutBack raw ∷ all) = (begun ≡ false) × Begin opened begun all
@@ -80,8 +81,8 @@ HasNoClosing (Walked (sent.Enter kind) ∷ all) = HasNoClosing all
 HasNoClosing (Walked sent.Exit ∷ all) = ⊥
 HasNoClosing (Walked (sent.Error text pos) ∷ all) = HasNoClosing all
 
--- Behind a closing before which trivia stands, errors aside, no other one stands. It is told of what stands behind a place: whether
--- trivia stands last before that.
+-- Behind a closing before which trivia stands, errors aside, no other one stands. It is stated of what stands behind a
+-- spot: whether trivia stands last before that.
 abbrev End : Bool → List Marked → Type 0
 End ending [] = Unit {0}
 End ending (PutBack raw ∷ all) = End true all
@@ -124,7 +125,7 @@ none_ends front errors middle rest raw ending are all =
 
 -- ---- what is sent
 
--- behind the trivia before a place, if there is any
+-- behind the trivia before a spot, if there is any
 begin_trivia : (trivia : List RawToken) (step : Marked) (all : List Marked) (opened begun : Bool) → (begun ≡ true → trivia ≡ []) → Begin opened begun (step ∷ all)
     → Begin opened begun (map PutBack trivia ++ step ∷ all)
 begin_trivia [] step all opened begun none here = here
@@ -180,13 +181,13 @@ module _ (raw : List RawToken) (c : ℕ) (past : List OwnedStep) (all : List Mar
   end_step (Error text) read steps false receiver none here = here
   end_step (Error text) read steps true receiver none here = let e = receiver refl in cc
 
--- a place, and what is sent for it
-module _ (raw : List RawToken) (earlier : List Place) (before : List OwnedStep) (read : List Step) (step : Step) (steps : List Step) where
-  abbrev place : Place
-  place = record { before = read; step = step; behind = steps }
+-- a spot, and what is sent for it
+module _ (raw : List RawToken) (earlier : List Spot) (before : List OwnedStep) (read : List Step) (step : Step) (steps : List Step) where
+  abbrev spot : Spot
+  spot = record { before = read; step = step; behind = steps }
 
   abbrev trivia : List RawToken
-  trivia = trivia_at raw earlier place
+  trivia = trivia_at raw earlier spot
 
   abbrev past : List OwnedStep
   past = before ++ map sent_raw trivia
@@ -195,33 +196,33 @@ module _ (raw : List RawToken) (earlier : List Place) (before : List OwnedStep) 
   one = sent_step raw (eaten read) past step
 
   abbrev rest : List Marked
-  rest = sent_behind raw (earlier ++ place ∷ []) (past ++ one ∷ []) (places_behind (read ++ step ∷ []) steps)
+  rest = sent_behind raw (earlier ++ spot ∷ []) (past ++ one ∷ []) (spots_behind (read ++ step ∷ []) steps)
 
   -- no trivia stands before a step that receives none, or behind a receiver with as many input tokens before it
-  other_step : receives place ≡ false → trivia ≡ []
+  other_step : receives spot ≡ false → trivia ≡ []
   other_step other = ap (λ b. if b && not (list_any (receives_at_count (eaten read)) earlier) then trivia_run raw (eaten read) else []) other
 
   received_before : list_any (receives_at_count (eaten read)) earlier ≡ true → trivia ≡ []
   received_before received =
       let any = list_any (receives_at_count (eaten read)) earlier in
-      ap (λ b. if b then trivia_run raw (eaten read) else []) (and_right (receives place) (not any) (ap not received))
+      ap (λ b. if b then trivia_run raw (eaten read) else []) (and_right (receives spot) (not any) (ap not received))
 
 -- where no step closes, nothing that is sent does
-no_closing_sent : (raw : List RawToken) (earlier : List Place) (before : List OwnedStep) (read steps : List Step) → closings steps ≡ 0
-    → HasNoClosing (sent_behind raw earlier before (places_behind read steps))
+no_closing_sent : (raw : List RawToken) (earlier : List Spot) (before : List OwnedStep) (read steps : List Step) → closings steps ≡ 0
+    → HasNoClosing (sent_behind raw earlier before (spots_behind read steps))
 no_closing_sent raw earlier before read [] none = tt
 no_closing_sent raw earlier before read (step ∷ steps) none =
-    let here = place raw earlier before read step steps in
+    let here = spot raw earlier before read step steps in
     let sent_past = past raw earlier before read step steps in
     let sent_one = one raw earlier before read step steps in
     let sent_rest = rest raw earlier before read step steps in
     let behind = no_closing_sent raw (earlier ++ here ∷ []) (sent_past ++ sent_one ∷ []) (read ++ step ∷ []) steps (omega (arith, none, closings-cons step steps)) in
     no_closing_trivia (trivia raw earlier before read step steps) (Walked sent_one ∷ sent_rest) (no_closing_step raw (eaten read) sent_past sent_rest step steps none behind)
 
-end_sent : (raw : List RawToken) (earlier : List Place) (before : List OwnedStep) (read steps : List Step) → End false (sent_behind raw earlier before (places_behind read steps))
+end_sent : (raw : List RawToken) (earlier : List Spot) (before : List OwnedStep) (read steps : List Step) → End false (sent_behind raw earlier before (spots_behind read steps))
 end_sent raw earlier before read [] = tt
 end_sent raw earlier before read (step ∷ steps) =
-    let here = place raw earlier before read step steps in
+    let here = spot raw earlier before read step steps in
     let sent_past = past raw earlier before read step steps in
     let sent_one = one raw earlier before read step steps in
     let sent_rest = rest raw earlier before read step steps in
@@ -237,30 +238,30 @@ opened_more opened read (Enter kind) is = sym (lt-ltb 0 (openings (read ++ Enter
 opened_more opened read Exit is = is ∙ ap (nat_lt 0) (omega (arith, openings-more read Exit))
 opened_more opened read (Error text) is = is ∙ ap (nat_lt 0) (omega (arith, openings-more read (Error text)))
 
-received_more : (earlier : List Place) (read : List Step) (step : Step) (steps : List Step) (opened begun : Bool) → opened ≡ nat_lt 0 (openings read)
+received_more : (earlier : List Spot) (read : List Step) (step : Step) (steps : List Step) (opened begun : Bool) → opened ≡ nat_lt 0 (openings read)
     → (begun ≡ true → list_any (receives_at_count (eaten read)) earlier ≡ true)
     → begun_behind opened begun step ≡ true → list_any (receives_at_count (eaten (read ++ step ∷ []))) (earlier ++ record { before = read; step = step; behind = steps } ∷ []) ≡ true
 received_more earlier read (Token kind n) steps opened begun is received here = cc
 received_more earlier read (Enter kind) steps opened begun is received here =
     let c = eaten (read ++ Enter kind ∷ []) in
-    let place : Place = record { before = read; step = Enter kind; behind = steps } in
+    let spot : Spot = record { before = read; step = Enter kind; behind = steps } in
     let same : eaten read ≡ c = omega (arith, eaten-more read (Enter kind)) in
-    let test : receives_at_count c place ≡ true = ap (λ b. b && (eaten read == c)) (sym is ∙ here) ∙ eq-eqb (eaten read) c same in
-    list_any-append (receives_at_count c) earlier (place ∷ [])
-    ∙ or_right (list_any (receives_at_count c) earlier) (receives_at_count c place || false) (ap (λ b. b || false) test)
+    let test : receives_at_count c spot ≡ true = ap (λ b. b && (eaten read == c)) (sym is ∙ here) ∙ eq-eqb (eaten read) c same in
+    list_any-append (receives_at_count c) earlier (spot ∷ [])
+    ∙ or_right (list_any (receives_at_count c) earlier) (receives_at_count c spot || false) (ap (λ b. b || false) test)
 received_more earlier read Exit steps opened begun is received here = cc
 received_more earlier read (Error text) steps opened begun is received here =
     let c = eaten (read ++ Error text ∷ []) in
-    let place : Place = record { before = read; step = Error text; behind = steps } in
+    let spot : Spot = record { before = read; step = Error text; behind = steps } in
     let same : c ≡ eaten read = omega (arith, eaten-more read (Error text)) in
-    list_any-append (receives_at_count c) earlier (place ∷ [])
-    ∙ or_left (list_any (receives_at_count c) earlier) (list_any (receives_at_count c) (place ∷ [])) (ap (λ n. list_any (receives_at_count n) earlier) same ∙ received here)
+    list_any-append (receives_at_count c) earlier (spot ∷ [])
+    ∙ or_left (list_any (receives_at_count c) earlier) (list_any (receives_at_count c) (spot ∷ [])) (ap (λ n. list_any (receives_at_count n) earlier) same ∙ received here)
 
-begin_sent : (raw : List RawToken) (earlier : List Place) (before : List OwnedStep) (read steps : List Step) (opened begun : Bool) → opened ≡ nat_lt 0 (openings read)
-    → (begun ≡ true → list_any (receives_at_count (eaten read)) earlier ≡ true) → Begin opened begun (sent_behind raw earlier before (places_behind read steps))
+begin_sent : (raw : List RawToken) (earlier : List Spot) (before : List OwnedStep) (read steps : List Step) (opened begun : Bool) → opened ≡ nat_lt 0 (openings read)
+    → (begun ≡ true → list_any (receives_at_count (eaten read)) earlier ≡ true) → Begin opened begun (sent_behind raw earlier before (spots_behind read steps))
 begin_sent raw earlier before read [] opened begun is received = tt
 begin_sent raw earlier before read (step ∷ steps) opened begun is received =
-    let here = place raw earlier before read step steps in
+    let here = spot raw earlier before read step steps in
     let sent_past = past raw earlier before read step steps in
     let sent_one = one raw earlier before read step steps in
     let sent_rest = rest raw earlier before read step steps in

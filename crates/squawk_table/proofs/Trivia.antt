@@ -31,7 +31,7 @@ input_tokens-past_trivia [] = refl
 input_tokens-past_trivia (r ∷ raw) =
     elim (cases_Bool (is_trivia r.kind)) [ inl e ↦ rw e (input_tokens-past_trivia raw) | inr e ↦ rw (e, e) refl ]
 
--- ---- from a place of a table on
+-- ---- from a raw token of a table on
 
 module _ (t : Table) (i : ℕ) (lt : i < length t.kinds) (trivia : is_trivia (slice_index t.kinds i) ≡ true) where
   pub leading_trivia-more : leading_trivia (raw_after t i) ≡ raw_at t i ∷ leading_trivia (raw_after t (i + 1))

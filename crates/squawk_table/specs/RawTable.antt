@@ -8,8 +8,8 @@ use Rattle.squawk_kinds.specs.Keywords.{Keywords}
 use Rattle.squawk_kinds.specs.Kinds.{EOF}
 use Rattle.squawk_table.specs.TokenKinds.{kind_of}
 
--- A source, the syntax kinds of its raw tokens, where they start, and their lexical errors. The last start is the end of the
--- source.
+-- A source, the syntax kinds of its raw tokens, where they start, and their lexical errors. The last start is the end
+-- of the source.
 pub record Table : Type 0 where
   pub text : List ℕ
   pub kinds : List ℕ
@@ -39,8 +39,8 @@ table_of keyword text tokens = record {
 abbrev pub piece : Table → ℕ → List ℕ
 piece t i = slice_range t.text (slice_index t.starts i) (slice_index t.starts (i + 1))
 
--- What every table keeps: the source is text, no raw token is the end, the starts ascend over character boundaries, from 0 to the
--- source's end, and the errors ascend without overlapping, each in one raw token.
+-- What every table keeps: the source is text, no raw token is the end, the starts ascend over character boundaries,
+-- from 0 to the source's end, and the errors ascend without overlapping, each in one raw token.
 pub record IsTable (t : Table) : Type 0 where
   pub utf8 : IsUtf8 t.text
   pub no_end : All (λ kind. kind ≢ EOF) t.kinds
@@ -60,12 +60,12 @@ pub record RawToken : Type 0 where
 abbrev pub raw_at : Table → ℕ → RawToken
 raw_at t i = record { kind = slice_index t.kinds i; text = piece t i }
 
--- n raw tokens of a table, from place i on
+-- n raw tokens of a table, from raw token i on
 abbrev pub raw_from : Table → ℕ → ℕ → List RawToken
 raw_from t i zero = []
 raw_from t i (suc n) = raw_at t i ∷ raw_from t (i + 1) n
 
--- all from place i on
+-- all from raw token i on
 abbrev pub raw_after : Table → ℕ → List RawToken
 raw_after t i = raw_from t i (length t.kinds - i)
 

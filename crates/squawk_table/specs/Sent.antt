@@ -51,9 +51,9 @@ leading_errors (Enter kind ∷ steps) = []
 leading_errors (Exit ∷ steps) = []
 leading_errors (Error text ∷ steps) = Error text ∷ leading_errors steps
 
--- The errors that stand directly behind a closing go directly before it. They go there once: before the closing in front of that
--- they don't climb. Errors at the front of a walk stay there, so the list behind the closing begins with them, too: there they are
--- dropped.
+-- The errors that stand directly behind a closing go directly before it. They go there once: before the closing in
+-- front of that they don't climb. Errors at the front of a walk stay there, so the list behind the closing begins with
+-- them, too: there they are dropped.
 abbrev pub errors_moved : List Step → List Step
 errors_moved [] = []
 errors_moved (Token kind n ∷ steps) = Token kind n ∷ errors_moved steps
@@ -63,49 +63,50 @@ errors_moved (Exit ∷ steps) =
     errors ++ Exit ∷ drop (length errors) (errors_moved steps)
 errors_moved (Error text ∷ steps) = Error text ∷ errors_moved steps
 
--- ---- places
+-- ---- spots in a walk
 
--- a step of a walk, with the steps before it and those behind it
-pub record Place : Type 0 where
+-- a spot: a step of a walk, with the steps before it and those behind it
+pub record Spot : Type 0 where
   pub before : List Step
   pub step : Step
   pub behind : List Step
 
--- the places of steps that stand behind others
-abbrev pub places_behind : List Step → List Step → List Place
-places_behind before [] = []
-places_behind before (step ∷ behind) = record { before = before; step = step; behind = behind } ∷ places_behind (before ++ step ∷ []) behind
+-- the spots of steps behind others
+abbrev pub spots_behind : List Step → List Step → List Spot
+spots_behind before [] = []
+spots_behind before (step ∷ behind) = record { before = before; step = step; behind = behind } ∷ spots_behind (before ++ step ∷ []) behind
 
--- the places of a walk
-abbrev pub places_of : List Step → List Place
-places_of steps = places_behind [] steps
+-- the spots of a walk
+abbrev pub spots_of : List Step → List Spot
+spots_of steps = spots_behind [] steps
 
--- how many input tokens precede a place
-abbrev pub eaten_at : Place → ℕ
-eaten_at place = eaten place.before
+-- how many input tokens precede a spot
+abbrev pub eaten_at : Spot → ℕ
+eaten_at spot = eaten spot.before
 
 -- ---- where trivia stands
 
--- whether trivia may stand directly before a step that stands between others: before a token, an opening that isn't the first, and
--- the last closing
+-- whether trivia may stand directly before a step that stands between others: before a token, an opening that isn't the
+-- first, and the last closing
 abbrev pub receives_between : List Step → Step → List Step → Bool
 receives_between before (Token kind n) behind = true
 receives_between before (Enter kind) behind = nat_lt 0 (openings before)
 receives_between before Exit behind = closings behind == 0
 receives_between before (Error text) behind = false
 
-abbrev pub receives : Place → Bool
-receives place = receives_between place.before place.step place.behind
+abbrev pub receives : Spot → Bool
+receives spot = receives_between spot.before spot.step spot.behind
 
--- whether a place receives trivia, and c input tokens precede it
-abbrev pub receives_at_count : ℕ → Place → Bool
-receives_at_count c place = receives place && (eaten_at place == c)
+-- whether a spot receives trivia, and c input tokens precede it
+abbrev pub receives_at_count : ℕ → Spot → Bool
+receives_at_count c spot = receives spot && (eaten_at spot == c)
 
--- the trivia that stands directly before a place behind earlier ones: run c, if it is the first receiver that c input tokens precede
-abbrev pub trivia_at : List RawToken → List Place → Place → List RawToken
-trivia_at raw earlier place =
-    let c = eaten_at place in
-    if receives place && not (list_any (receives_at_count c) earlier) then trivia_run raw c else []
+-- the trivia that stands directly before a spot behind earlier ones: run c, if it is the first receiver that c input
+-- tokens precede
+abbrev pub trivia_at : List RawToken → List Spot → Spot → List RawToken
+trivia_at raw earlier spot =
+    let c = eaten_at spot in
+    if receives spot && not (list_any (receives_at_count c) earlier) then trivia_run raw c else []
 
 -- ---- texts of what is sent
 
@@ -128,8 +129,8 @@ bytes_of steps = sum_by (λ step. length (encode_utf8_all (text_in step))) steps
 abbrev pub sent_raw : RawToken → OwnedStep
 sent_raw r = sent.Token r.kind (chars r.text)
 
--- A step before which c input tokens were eaten and these steps were sent: a token has the next n input tokens as its text, and the
--- position of an error is the number of bytes that were sent.
+-- A step before which c input tokens were eaten and these steps were sent: a token has the next n input tokens as its
+-- text, and the position of an error is the number of bytes that were sent.
 abbrev pub sent_step : List RawToken → ℕ → List OwnedStep → Step → OwnedStep
 sent_step raw c before (Token kind n) = sent.Token kind (chars (text_of (take n (drop c (input_tokens raw)))))
 sent_step raw c before (Enter kind) = sent.Enter kind
@@ -146,18 +147,19 @@ abbrev pub unmarked : Marked → OwnedStep
 unmarked (Walked step) = step
 unmarked (PutBack raw) = sent_raw raw
 
--- what is sent for places behind earlier ones, for which these steps were sent: for each the trivia before it, and its step
-abbrev pub sent_behind : List RawToken → List Place → List OwnedStep → List Place → List Marked
+-- what is sent for spots behind earlier ones, for which these steps were sent: for each the trivia before it, and its
+-- step
+abbrev pub sent_behind : List RawToken → List Spot → List OwnedStep → List Spot → List Marked
 sent_behind raw earlier before [] = []
-sent_behind raw earlier before (place ∷ places) =
-    let trivia = trivia_at raw earlier place in
+sent_behind raw earlier before (spot ∷ spots) =
+    let trivia = trivia_at raw earlier spot in
     let past = before ++ map sent_raw trivia in
-    let step = sent_step raw (eaten_at place) past place.step in
-    map PutBack trivia ++ Walked step ∷ sent_behind raw (earlier ++ place ∷ []) (past ++ step ∷ []) places
+    let step = sent_step raw (eaten_at spot) past spot.step in
+    map PutBack trivia ++ Walked step ∷ sent_behind raw (earlier ++ spot ∷ []) (past ++ step ∷ []) spots
 
 -- the sent list of a walk, marked: its errors moved, and trivia put back
 abbrev pub marked_list : Table → List Step → List Marked
-marked_list table steps = sent_behind (raw_tokens table) [] [] (places_of (errors_moved steps))
+marked_list table steps = sent_behind (raw_tokens table) [] [] (spots_of (errors_moved steps))
 
 -- the sent list
 abbrev pub sent_list : Table → List Step → List OwnedStep
@@ -178,8 +180,8 @@ abbrev pub IsError : Marked → Type 0
 IsError (Walked (sent.Error text pos)) = Unit {0}
 IsError step = ⊥
 
--- No node but the root begins or ends with trivia that was put back, errors aside: none stands behind an opening that another one
--- precedes, or before a closing that another one follows, directly or with nothing but errors between.
+-- No node but the root begins or ends with trivia that was put back, errors aside: none stands behind an opening that
+-- another one precedes, or before a closing that another one follows, directly or with nothing but errors between.
 pub record InnerNodesAreTrimmed (all : List Marked) : Type 0 where
   pub begins : (front middle errors rest : List Marked) (outer inner : ℕ) (trivia : RawToken) → All IsError errors
       → ¬ (all ≡ front ++ Walked (sent.Enter outer) ∷ (middle ++ Walked (sent.Enter inner) ∷ (errors ++ PutBack trivia ∷ rest)))

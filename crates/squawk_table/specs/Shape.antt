@@ -12,7 +12,8 @@ pub record AreOneToken (n : ℕ) (input : List Entry) : Type 0 where
   pub there : n ≤ length input
   pub touch : (i : ℕ) → i + 1 < n → touches_in input i ≡ true
 
--- Read from the left, each token of the walk has the next tokens of the input, at least one, and these touch one another.
+-- Read from the left, each token of the walk has the next tokens of the input, at least one, and these touch one
+-- another.
 abbrev pub IsOver : List Step → List Entry → Type 0
 IsOver [] input = Unit {0}
 IsOver (Token kind n ∷ steps) input = AreOneToken n input × IsOver steps (drop n input)

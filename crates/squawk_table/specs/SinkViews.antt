@@ -14,10 +14,10 @@ abbrev pub behind_closing : Bool → List Step → List Step
 behind_closing true steps = Exit ∷ steps
 behind_closing false steps = steps
 
--- steps behind one that waits, if one does
-abbrev pub behind_waiting : Option Lent → List Step → List Step
-behind_waiting (Some step) steps = step_of step ∷ steps
-behind_waiting None steps = steps
+-- steps behind one that is pending, if one is
+abbrev pub behind_pending : Option Lent → List Step → List Step
+behind_pending (Some step) steps = step_of step ∷ steps
+behind_pending None steps = steps
 
 -- a step that borrows its text, as the step that owns it
 abbrev pub owned_step_of : StrStep → OwnedStep

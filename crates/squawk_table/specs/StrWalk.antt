@@ -5,8 +5,8 @@ use Rattle.squawk_table.specs.RawTable.{Table}
 use Rattle.squawk_table.specs.Sending.{sent_from, end_from, HaveTokens}
 use Rattle.squawk_table.specs.declared.shortcuts.str_step.OwnedStep.{OwnedStep}
 
--- The steps that are still to come, and whether all tokens of the input are eaten at their end. They are the steps that are left of the
--- output, and trivia among the raw tokens that are left.
+-- The steps that are still to come, and whether all tokens of the input are eaten at their end. They are the steps that
+-- are left of the output, and trivia among the raw tokens that are left.
 pub record StrWalk : Type 0 where
   pub steps : List OwnedStep
   pub eaten_all : Bool
@@ -25,18 +25,18 @@ TakesRawToken before after = (before.steps_left ≡ after.steps_left) × (before
 abbrev pub GoesOn : {X : Type 0} → StrWalk → Option X → StrWalk → Type 0
 GoesOn before item after = (after.eaten_all ≡ before.eaten_all) × MatchOption item (after ≡ before) (λ _. TakesStep before after ⊎ TakesRawToken before after)
 
--- the walk over these steps from a raw place on, inside of so many nodes
+-- the walk over these steps from a raw token on, inside of so many nodes
 abbrev pub walk_from : Table → ℕ → ℕ → List Step → StrWalk
-walk_from table place depth left = record {
-  steps = sent_from table place depth left;
-  eaten_all = end_from table place depth left == length table.kinds;
+walk_from table raw depth left = record {
+  steps = sent_from table raw depth left;
+  eaten_all = end_from table raw depth left == length table.kinds;
   steps_left = length left;
-  raw_left = length table.kinds - place;
+  raw_left = length table.kinds - raw;
 }
 
 -- the walk can be gone to its end, with raw tokens and a depth that can be counted
-pub record CanGoOn (table : Table) (place depth : ℕ) (left : List Step) : Type 0 where
-  pub within : place ≤ length table.kinds
-  pub tokens : HaveTokens table place depth left
+pub record CanGoOn (table : Table) (raw depth : ℕ) (left : List Step) : Type 0 where
+  pub within : raw ≤ length table.kinds
+  pub tokens : HaveTokens table raw depth left
   pub few : length table.kinds < 2 ^ 64
   pub low : depth + length left < 2 ^ 64

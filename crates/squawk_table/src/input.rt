@@ -1,5 +1,5 @@
 //! The input of a parser.
-ghost use Rattle.std.specs.Prelude.{◌≡◌, ◌<◌, ◌+◌, List, [], length, IfOk, IsTrue};
+ghost use Rattle.std.specs.Prelude.{◌≡◌, ◌==◌, ◌<◌, ◌+◌, List, [], length, IfOk, IsTrue};
 ghost use Rattle.squawk_output.specs.Steps.{Step};
 ghost use Rattle.squawk_table.specs.ParserInput.{HasNoEndToken, input_of, kind_in, contextual_kind_in, contextual_kind_of, touches_in};
 ghost use Rattle.squawk_table.specs.RawTable.{raw_at};
@@ -13,15 +13,14 @@ use squawk_kinds::{SyntaxKind, Vocabulary};
 use std::alloc::{AllocError, Global};
 use std::marker::Model;
 
-/// The tokens that a parser sees: the raw tokens of a text without its trivia.
+/// The tokens that a parser sees: the raw tokens of a text that aren't trivia, without their texts.
 ///
-/// The parser doesn't see their texts, only what they are. Places count tokens of the input,
-/// from 0.
+/// Indices count tokens of the input, from 0.
 #[derive(Drop)]
 pub struct Input {
     kinds: Vec<SyntaxKind>,
     contextual_kinds: Vec<SyntaxKind>,
-    /// Whether the next token of the input is the next raw token.
+    /// Whether each token is joint: whether the next raw token is one of the input, too.
     joints: Joints,
 }
 
@@ -41,7 +40,7 @@ impl Model for Input {
 }
 
 impl Input {
-    /// The input without tokens.
+    /// An input without tokens.
     pub fn empty(alloc: Global) -> Input
         ensures { result ≡ [] }
     {
@@ -52,7 +51,7 @@ impl Input {
         }
     }
 
-    /// How many tokens there are. None of them is [`SyntaxKind::EOF`].
+    /// The number of tokens. None of them is [`SyntaxKind::EOF`].
     pub fn len(&self) -> usize
         ensures len { result ≡ length self.now }
         ensures no_end { HasNoEndToken self.now }
@@ -60,7 +59,14 @@ impl Input {
         self.kinds.len()
     }
 
-    /// The kind of token `i`, and [`SyntaxKind::EOF`] past the end.
+    /// Whether there are no tokens.
+    pub fn is_empty(&self) -> bool
+        ensures { result ≡ (length self.now == 0) }
+    {
+        self.len() == 0
+    }
+
+    /// The kind of token `i`; [`SyntaxKind::EOF`] past the end.
     pub fn kind(&self, i: usize) -> SyntaxKind
         ensures { result ≡ kind_in self.now i }
     {
@@ -70,7 +76,9 @@ impl Input {
         }
     }
 
-    /// For an identifier the contextual keyword that it is, or [`SyntaxKind::IDENT`]; for every
+    /// The contextual kind of token `i`.
+    ///
+    /// For an identifier it is the contextual keyword that it spells, or [`SyntaxKind::IDENT`]; for every
     /// other token, and past the end, [`SyntaxKind::EOF`].
     pub fn contextual_kind(&self, i: usize) -> SyntaxKind
         ensures { result ≡ contextual_kind_in self.now i }
@@ -81,7 +89,7 @@ impl Input {
         }
     }
 
-    /// Whether nothing, not even trivia, stands between token `i` and the next. The last token
+    /// Whether token `i` touches the next: nothing, not even trivia, stands between them. The last token
     /// has no next one.
     pub fn is_joint(&self, i: usize) -> bool
         requires { i < length self.now }
@@ -92,25 +100,25 @@ impl Input {
 }
 
 impl LexedStr<'_> {
-    /// The raw tokens that aren't trivia, as the input of a parser, in one pass.
+    /// The input of a parser: the raw tokens that aren't trivia. It takes one pass.
     pub fn to_input<V: Vocabulary>(
         &self,
         alloc: Global,
         vocabulary: &V,
     ) -> Result<Input, AllocError>
         ensures input { IfOk result (λ input. input ≡ input_of (V.contextual_keyword vocabulary.now) self.now) }
-        // So an output of a parse over it fits the table where it stands in one root.
+        // So an output of a parse over it fits the table if it stands in one root.
         ensures over { IfOk result (λ input. (steps : List Step) → IsOver steps input → IsOver steps (input_of no_keywords self.now)) }
     {
         let len = self.len();
         let mut kinds = vec![in alloc; SyntaxKind::EOF; len]?;
         let mut contextual_kinds = vec![in alloc; SyntaxKind::EOF; len]?;
         let mut joints = Joints::with_len(alloc, len)?;
-        // The first `count` items are the input so far. Trivia is written behind them, too, and the
-        // next raw token over it: a jump on what is trivia can't be foreseen.
+        // The first `count` items are the input so far. Trivia is written behind them, too, and then
+        // overwritten by the next raw token: a branch on trivia mispredicts.
         let mut count = 0;
-        // Where the raw token before was written, and whether the input has it: then it touches this
-        // one, if the input has this one too.
+        // Where the previous raw token was written, and whether the input has it: then it touches this
+        // one, if the input has this one, too.
         let mut last = 0;
         let mut was_token = false;
         for i in 0..len {

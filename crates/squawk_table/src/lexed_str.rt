@@ -1,5 +1,5 @@
-//! The table of a text's raw tokens.
-ghost use Rattle.std.specs.Prelude.{◌≡◌, ◌+◌, ◌<◌, ◌≤◌, length, slice_index, slice_range, IfOk, IfErr};
+//! The table of a text's raw tokens. What is inlined runs for each raw token.
+ghost use Rattle.std.specs.Prelude.{◌≡◌, ◌==◌, ◌+◌, ◌<◌, ◌≤◌, length, slice_index, slice_range, IfOk, IfErr};
 ghost use Rattle.squawk_tokens.specs.AcceptedTokens.{AreAcceptedTokens, RefusesTokens};
 ghost use Rattle.squawk_tokens.specs.ErrorRanges.{StandApart};
 ghost use Rattle.squawk_table.specs.RawTable.{Table, IsTable, table_of, piece};
@@ -16,10 +16,10 @@ use std::alloc::{AllocError, Global};
 use std::marker::Model;
 use std::ops::Range;
 
-/// A text and its raw tokens: their syntax kinds, where they start, and their lexical errors.
+/// The table of a text's raw tokens: their syntax kinds, their starts, and their lexical errors.
 ///
-/// Places of raw tokens count from 0, places in the text are bytes. The text is borrowed: what
-/// the readers hand out are parts of it, which live as long as it does.
+/// Indices of raw tokens count from 0, offsets in the text are bytes. The text is borrowed, and what the
+/// readers return are parts of it, which live as long.
 #[derive(Drop)]
 pub struct LexedStr<'a> {
     text: &'a str,
@@ -39,9 +39,9 @@ impl<'a> Model for LexedStr<'a> {
 }
 
 impl<'a> LexedStr<'a> {
-    /// The table of the tokens.
+    /// The table of these tokens.
     ///
-    /// It refuses what [`check_tokens`] refuses, in that order and before it asks for memory.
+    /// It refuses what [`check_tokens`] refuses, with that error, before it allocates.
     pub fn new<V: Vocabulary>(
         alloc: Global,
         text: &'a str,
@@ -58,7 +58,7 @@ impl<'a> LexedStr<'a> {
 
     /// The table of tokens that are known to be accepted, as those of a lexer that promises it.
     ///
-    /// It checks nothing, so only memory may be refused.
+    /// It checks nothing, so the only error is of an allocation.
     pub fn from_accepted<V: Vocabulary>(
         alloc: Global,
         text: &'a str,
@@ -89,13 +89,20 @@ impl<'a> LexedStr<'a> {
         })
     }
 
-    /// How many raw tokens there are.
+    /// The number of raw tokens.
     pub fn len(&self) -> usize
         ensures len { result ≡ length self.now.kinds }
         // What every table keeps.
         ensures table { IsTable self.now }
     {
         self.kinds.len()
+    }
+
+    /// Whether there are no raw tokens.
+    pub fn is_empty(&self) -> bool
+        ensures { result ≡ (length self.now.kinds == 0) }
+    {
+        self.len() == 0
     }
 
     /// The syntax kind of raw token `i`.
@@ -118,7 +125,7 @@ impl<'a> LexedStr<'a> {
         &self.text[start..end]
     }
 
-    /// The text of the raw tokens in a range of at least one.
+    /// The text of the raw tokens in a range, which isn't empty.
     pub fn range_text(&self, r: Range<usize>) -> &'a str
         requires nonempty { r.start < r.end }
         requires within { r.end ≤ length self.now.kinds }
@@ -139,7 +146,7 @@ impl<'a> LexedStr<'a> {
         self.starts[i] as usize..self.starts[i + 1] as usize
     }
 
-    /// The byte at which raw token `i` starts; for the number of raw tokens the end of the text.
+    /// The byte at which raw token `i` starts. If `i` is the number of raw tokens, the end of the text.
     pub fn text_start(&self, i: usize) -> usize
         requires { i ≤ length self.now.kinds }
         ensures { result ≡ slice_index self.now.starts i }
@@ -148,7 +155,7 @@ impl<'a> LexedStr<'a> {
         start as usize
     }
 
-    /// The lexical errors of the raw tokens, in the order of their places.
+    /// The lexical errors of the raw tokens, in the order of the text.
     pub fn errors(&self) -> LexErrors<'_>
         ensures errors { result ≡ self.now.errors }
         // They ascend without overlapping, and each lies in one raw token.

@@ -1,7 +1,7 @@
-//! What stands around a parser: the table of raw tokens, the input, and an output sent over its
+//! What stands around a parser: the table of raw tokens, the input, and the sending of an output over its
 //! text.
 //!
-//! `squawk_parser` hands on all that is public here.
+//! `squawk_parser` re-exports all that is public here.
 #![tactic(auto)]
 
 pub mod input;

@@ -20,14 +20,14 @@ pub use str_step::{OwnedStep, StepSink, StrStep};
 pub use str_steps::StrSteps;
 
 impl LexedStr<'_> {
-    /// Sends the steps of an output to a sink, with the texts of its tokens and with the trivia
-    /// between them. Whether the output has all raw tokens that aren't trivia.
+    /// Sends the steps of an output to a sink, with the texts of its tokens and the trivia between them.
     ///
-    /// Trivia goes directly before the next token, before the opening of a node, or before the end
-    /// of the root, whichever comes first: so no node but the root begins or ends with it. Errors
-    /// that stand directly behind the end of a node go before that end. The position of an error is
-    /// the number of bytes of the source that were sent before it.
-    /// Where the sink refuses a step, nothing more is sent, and its refusal is answered.
+    /// It returns whether the output has all raw tokens that aren't trivia. If the sink refuses a step,
+    /// nothing more is sent, and the refusal is returned.
+    ///
+    /// Trivia goes directly before the next token, the next opening of a node or the end of the root,
+    /// whichever comes first, so no node but the root begins or ends with it. Errors directly behind the
+    /// end of a node go before that end. The position of an error is the number of bytes sent before it.
     ///
     /// The output [`fits`](LexedStr::fits) the table.
     #[tactic(auto, using(crate::proofs::SentLaws::errors_placed, crate::proofs::Trimmed::trimmed))]
@@ -38,13 +38,12 @@ impl LexedStr<'_> {
     ) -> Result<bool, S::Refusal>
         requires { Fits self.now output.now.steps }
 
-        // All is eaten where the input is, and there the texts are the whole source.
+        // True if and only if all input tokens are eaten, and if and only if the texts are the whole source.
         ensures all { IfOk result (λ all. IsTrue all ↔ (eaten output.now.steps ≡ length (input_of no_keywords self.now))) }
         ensures whole { IfOk result (λ all. IsTrue all ↔ (texts_of (sent_list self.now output.now.steps) ≡ chars self.now.text)) }
         ensures beginning { OnOk result (IsBeginning (texts_of (sent_list self.now output.now.steps)) (chars self.now.text)) }
 
-        // In the list that is sent each error stands at its position, and no node but the root begins or ends with trivia that
-        // was put back.
+        // Each error stands at its position, and no node but the root begins or ends with trivia that was put back.
         ensures placed { ErrorsArePlaced (sent_list self.now output.now.steps) }
         ensures trimmed { InnerNodesAreTrimmed (marked_list self.now output.now.steps) }
 

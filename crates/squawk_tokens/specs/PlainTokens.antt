@@ -1,4 +1,4 @@
--- Tokens whose text is not looked into. Only private functions speak of them.
+-- Tokens whose text is not looked into. Only contracts of private functions cite them.
 use Rattle.squawk_tokens.specs.declared.token.TokenKind.{TokenKind}
 use Rattle.squawk_tokens.specs.declared.token.TokenKind.TheVariants.{Literal}
 

@@ -9,11 +9,11 @@ use Rattle.squawk_table.specs.declared.shortcuts.str_step.OwnedStep.{OwnedStep}
 use Rattle.squawk_table.specs.declared.shortcuts.str_step.OwnedStep.TheVariants as step
 use Rattle.squawk_tree.specs.TreeText.{bytes_left, line, text_from, tree_text}
 use Rattle.squawk_tree.specs.Drawing.{Drawing, StandsAfter, lines_text, open_count, openings_in, shown_until}
-use Rattle.squawk_tree.specs.SoundDrawings.{IsPart, IsSoundDrawing, closed_line, open_places}
+use Rattle.squawk_tree.specs.SoundDrawings.{IsPart, IsSoundDrawing, closed_line, open_indices}
 use Rattle.squawk_tree.specs.declared.line.Line.{Line}
 use Rattle.squawk_tree.specs.declared.line.Shown.{Shown}
 use Rattle.squawk_tree.specs.declared.line.Shown.TheVariants.{Node, Token, Error}
-use Rattle.squawk_tree.proofs.OpenLines.{LastOpen, last_open, length-open_places, node, open_count-append, open_places-append, open_places-none}
+use Rattle.squawk_tree.proofs.OpenLines.{LastOpen, last_open, length-open_indices, node, open_count-append, open_indices-append, open_indices-none}
 
 -- ---- lines without an open node
 
@@ -67,7 +67,7 @@ module _ (drawing : Drawing) (sound : IsSoundDrawing drawing) where
   pub StandsAfter-no_node : (open_lines' : List ℕ) → drawing.open_lines ≡ [] → open_lines' ≡ [] → (steps : List OwnedStep) → StandsAfter drawing steps
       → StandsAfter (record { lines = lines; open_lines = open_lines'; texts = texts }) (steps ++ step.Exit ∷ [])
   StandsAfter-no_node open_lines' nil nil' steps stands = λ names further.
-      let none : open_count lines ≡ 0 = sym (length-open_places 0 lines) ∙ ap length (sym sound.places ∙ nil) in
+      let none : open_count lines ≡ 0 = sym (length-open_indices 0 lines) ∙ ap length (sym sound.indices ∙ nil) in
       let depth : length open_lines' ≡ length drawing.open_lines - 1 = rw (nil, nil') refl in
       ended _ _ _ _ _ (lines_text-closed names texts further (step.Exit ∷ further) lines none)
       (ap (λ depth. text_from names depth (length texts) further) depth ∙ ap (λ start. text_from names (length drawing.open_lines - 1) start further) (sym (add-zero (length texts))))
@@ -76,9 +76,9 @@ module _ (drawing : Drawing) (sound : IsSoundDrawing drawing) where
 
   -- ---- a closing of the last open node
 
-  module _ (others : List ℕ) (place : ℕ) (popped : drawing.open_lines ≡ others ++ place ∷ []) where
-    last : LastOpen 0 lines others place
-    last = last_open 0 lines others place (sym sound.places ∙ popped)
+  module _ (others : List ℕ) (index : ℕ) (popped : drawing.open_lines ≡ others ++ index ∷ []) where
+    last : LastOpen 0 lines others index
+    last = last_open 0 lines others index (sym sound.indices ∙ popped)
 
     abbrev open_node : Line
     open_node = node last.depth last.kind last.start
@@ -86,29 +86,29 @@ module _ (drawing : Drawing) (sound : IsSoundDrawing drawing) where
     abbrev ended_node : Line
     ended_node = closed_node last.depth last.kind last.start (length texts)
 
-    place_is : place ≡ length last.front
-    place_is = omega (arith, last.at)
+    index_is : index ≡ length last.front
+    index_is = omega (arith, last.at)
 
-    pub place-below : place < length lines
-    place-below = omega (arith, place_is, ap length last.is, length-append last.front (open_node ∷ last.behind))
+    pub index-below : index < length lines
+    index-below = omega (arith, index_is, ap length last.is, length-append last.front (open_node ∷ last.behind))
 
-    module _ (l l' : Line) (here : l ≡ get_or lines place l) (made : l' ≡ closed_line (length texts) l) where
+    module _ (l l' : Line) (here : l ≡ get_or lines index l) (made : l' ≡ closed_line (length texts) l) where
       l-is : l ≡ open_node
-      l-is = here ∙ (ap (λ all. get_or all place l) last.is
-          ∙ (ap (λ i. get_or (last.front ++ open_node ∷ last.behind) i l) place_is ∙ get_or-append_seam last.front open_node last.behind l))
+      l-is = here ∙ (ap (λ all. get_or all index l) last.is
+          ∙ (ap (λ i. get_or (last.front ++ open_node ∷ last.behind) i l) index_is ∙ get_or-append_seam last.front open_node last.behind l))
 
       l'-is : l' ≡ ended_node
       l'-is = made ∙ ap (closed_line (length texts)) l-is
 
-      lines-is : set lines place l' ≡ last.front ++ ended_node ∷ last.behind
-      lines-is = ap (λ all. set all place l') last.is
-          ∙ (ap (λ i. set (last.front ++ open_node ∷ last.behind) i l') place_is
+      lines-is : set lines index l' ≡ last.front ++ ended_node ∷ last.behind
+      lines-is = ap (λ all. set all index l') last.is
+          ∙ (ap (λ i. set (last.front ++ open_node ∷ last.behind) i l') index_is
           ∙ (set-append_seam last.front open_node last.behind l' ∙ ap (λ x. last.front ++ x ∷ last.behind) l'-is))
 
       pub StandsAfter-closing : (steps : List OwnedStep) → StandsAfter drawing steps
-          → StandsAfter (record { lines = set lines place l'; open_lines = others; texts = texts }) (steps ++ step.Exit ∷ [])
+          → StandsAfter (record { lines = set lines index l'; open_lines = others; texts = texts }) (steps ++ step.Exit ∷ [])
       StandsAfter-closing steps stands = λ names further.
-          let depth : length others ≡ length drawing.open_lines - 1 = omega (arith, ap length popped, length-append others (place ∷ [])) in
+          let depth : length others ≡ length drawing.open_lines - 1 = omega (arith, ap length popped, length-append others (index ∷ [])) in
           ended _ _ _ _ _
           (ap (lines_text names texts further) lines-is
           ∙ (lines_text-closing names texts further last.front last.depth last.kind last.start last.behind last.none
@@ -117,11 +117,11 @@ module _ (drawing : Drawing) (sound : IsSoundDrawing drawing) where
           (stands names (step.Exit ∷ further))
           ∙ ap (λ all. tree_text names all) (sym (append_snoc steps step.Exit further))
 
-      pub IsSoundDrawing-closing : IsSoundDrawing (record { lines = set lines place l'; open_lines = others; texts = texts })
+      pub IsSoundDrawing-closing : IsSoundDrawing (record { lines = set lines index l'; open_lines = others; texts = texts })
       IsSoundDrawing-closing = record {
-        places = sym (ap (open_places 0) lines-is
-            ∙ (open_places-append 0 last.front (ended_node ∷ last.behind)
-            ∙ (ap (λ places. open_places 0 last.front ++ places) (open_places-none (suc (0 + length last.front)) last.behind last.none)
-            ∙ (append-nil (open_places 0 last.front) ∙ last.others))));
-        parts = All-set (λ x. IsPart texts x.shown) lines place l' (subst (λ x. IsPart texts x.shown) (sym l'-is) tt) sound.parts;
+        indices = sym (ap (open_indices 0) lines-is
+            ∙ (open_indices-append 0 last.front (ended_node ∷ last.behind)
+            ∙ (ap (λ indices. open_indices 0 last.front ++ indices) (open_indices-none (suc (0 + length last.front)) last.behind last.none)
+            ∙ (append-nil (open_indices 0 last.front) ∙ last.others))));
+        parts = All-set (λ x. IsPart texts x.shown) lines index l' (subst (λ x. IsPart texts x.shown) (sym l'-is) tt) sound.parts;
       }

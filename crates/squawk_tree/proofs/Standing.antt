@@ -10,12 +10,12 @@ use Rattle.squawk_table.specs.declared.shortcuts.str_step.OwnedStep.{OwnedStep}
 use Rattle.squawk_table.specs.declared.shortcuts.str_step.OwnedStep.TheVariants as step
 use Rattle.squawk_tree.specs.TreeText.{bytes_in, bytes_left, nodes_open_behind, line, tree_line, text_from, token_shown, tree_text}
 use Rattle.squawk_tree.specs.Drawing.{Drawing, StandsAfter, lines_text, open_count, openings_in, shown_until}
-use Rattle.squawk_tree.specs.SoundDrawings.{IsPart, IsSoundDrawing, open_places}
+use Rattle.squawk_tree.specs.SoundDrawings.{IsPart, IsSoundDrawing, open_indices}
 use Rattle.squawk_tree.specs.declared.line.Line.{Line}
 use Rattle.squawk_tree.specs.declared.line.Shown.{Shown}
 use Rattle.squawk_tree.specs.declared.line.Shown.TheVariants.{Node, Token, Error}
 use Rattle.squawk_tree.proofs.Texts.{IsPart-end, length-encodes-chars, parts-append, shown_until-append, slice_range-end}
-use Rattle.squawk_tree.proofs.OpenLines.{open_count-append, open_places-append}
+use Rattle.squawk_tree.proofs.OpenLines.{open_count-append, open_indices-append}
 
 -- ---- one more line
 
@@ -126,7 +126,7 @@ module _ (drawing : Drawing) (sound : IsSoundDrawing drawing) where
 
     pub IsSoundDrawing-token : IsSoundDrawing (record { lines = lines'; open_lines = drawing.open_lines; texts = texts' })
     IsSoundDrawing-token = rw (put, grown) (record {
-      places = sound.places ∙ sym (open_places-append 0 lines (token_line kind text ∷ []) ∙ append-nil (open_places 0 lines));
+      indices = sound.indices ∙ sym (open_indices-append 0 lines (token_line kind text ∷ []) ∙ append-nil (open_indices 0 lines));
       parts = All-push (λ x. IsPart (texts ++ text) x.shown) lines (token_line kind text) (parts-append texts text utf8 utf8' lines sound.parts) (IsPart-end texts text utf8' kind);
     })
 
@@ -139,8 +139,8 @@ module _ (drawing : Drawing) (sound : IsSoundDrawing drawing) where
 
     pub IsSoundDrawing-node : IsSoundDrawing (record { lines = lines'; open_lines = open_lines'; texts = texts })
     IsSoundDrawing-node = rw (put, opened) (record {
-      places = ap (λ places. places ++ length lines ∷ []) sound.places
-          ∙ sym (open_places-append 0 lines (node_line kind ∷ []) ∙ ap (λ place. open_places 0 lines ++ place ∷ []) (zero-add (length lines)));
+      indices = ap (λ indices. indices ++ length lines ∷ []) sound.indices
+          ∙ sym (open_indices-append 0 lines (node_line kind ∷ []) ∙ ap (λ index. open_indices 0 lines ++ index ∷ []) (zero-add (length lines)));
       parts = All-push (λ x. IsPart texts x.shown) lines (node_line kind) sound.parts tt;
     })
 
@@ -152,6 +152,6 @@ module _ (drawing : Drawing) (sound : IsSoundDrawing drawing) where
 
     pub IsSoundDrawing-error : IsSoundDrawing (record { lines = lines'; open_lines = drawing.open_lines; texts = texts })
     IsSoundDrawing-error = rw put (record {
-      places = sound.places ∙ sym (open_places-append 0 lines (error_line text pos ∷ []) ∙ append-nil (open_places 0 lines));
+      indices = sound.indices ∙ sym (open_indices-append 0 lines (error_line text pos ∷ []) ∙ append-nil (open_indices 0 lines));
       parts = All-push (λ x. IsPart texts x.shown) lines (error_line text pos) sound.parts tt;
     })

@@ -8,7 +8,7 @@ use Rattle.squawk_tree.specs.declared.line.Line.{Line}
 use Rattle.squawk_tree.specs.declared.line.Shown.{Shown}
 use Rattle.squawk_tree.specs.declared.line.Shown.TheVariants.{Node, Token, Error}
 
--- the lines so far, the places of those whose nodes are open, and the texts of all tokens, joined
+-- the lines so far, the indices of those that show open nodes, and the texts of all tokens, joined
 pub record Drawing : Type 0 where
   pub lines : List Line
   pub open_lines : List ℕ
@@ -23,7 +23,7 @@ openings_in (Node kind start (Some end)) = 0
 openings_in (Token kind start end) = 0
 openings_in (Error text pos) = 0
 
--- how many lines have open nodes
+-- how many lines show open nodes
 abbrev pub open_count : List Line → ℕ
 open_count [] = 0
 open_count (line ∷ lines) = openings_in line.shown + open_count lines

@@ -1,4 +1,4 @@
--- What a sink keeps of its lines, and how it closes one. Only its invariant and private functions speak of it.
+-- What a sink keeps of its lines, and how it closes one. Only its invariant and contracts of private functions cite it.
 use Rattle.std.specs.Prelude.{◌≡◌, ℕ, suc, ◌≤◌, List, [], ◌∷◌, All, Some, None, IsCharBoundary}
 use Rattle.squawk_tree.specs.Drawing.{Drawing}
 use Rattle.squawk_tree.specs.declared.line.Line.{Line}
@@ -7,17 +7,17 @@ use Rattle.squawk_tree.specs.declared.line.Shown.TheVariants.{Node, Token, Error
 
 -- ---- open nodes
 
--- a place, if what stands there is an open node, before others
-abbrev pub before_places : ℕ → Shown → List ℕ → List ℕ
-before_places place (Node kind start None) places = place ∷ places
-before_places place (Node kind start (Some end)) places = places
-before_places place (Token kind start end) places = places
-before_places place (Error text pos) places = places
+-- the index of a line, if it shows an open node, before others
+abbrev pub before_indices : ℕ → Shown → List ℕ → List ℕ
+before_indices index (Node kind start None) indices = index ∷ indices
+before_indices index (Node kind start (Some end)) indices = indices
+before_indices index (Token kind start end) indices = indices
+before_indices index (Error text pos) indices = indices
 
--- the places of the lines that have open nodes, counted from a number
-abbrev pub open_places : ℕ → List Line → List ℕ
-open_places place [] = []
-open_places place (line ∷ lines) = before_places place line.shown (open_places (suc place) lines)
+-- the indices of the lines that show open nodes, if the first has this index
+abbrev pub open_indices : ℕ → List Line → List ℕ
+open_indices index [] = []
+open_indices index (line ∷ lines) = before_indices index line.shown (open_indices (suc index) lines)
 
 -- what is shown, with this end if it is a node
 abbrev pub closed : ℕ → Shown → Shown
@@ -39,5 +39,5 @@ IsPart texts (Error text pos) = Unit {0}
 
 -- The open lines are those whose nodes have no end, in their order, and the texts have what each line shows of them.
 pub record IsSoundDrawing (drawing : Drawing) : Type 0 where
-  pub places : drawing.open_lines ≡ open_places 0 drawing.lines
+  pub indices : drawing.open_lines ≡ open_indices 0 drawing.lines
   pub parts : All (λ line. IsPart drawing.texts line.shown) drawing.lines

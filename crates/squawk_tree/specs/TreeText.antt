@@ -23,7 +23,7 @@ escaped c =
 abbrev pub quoted_text : List ℕ → List ℕ
 quoted_text text = codes "\"" ++ flat_map escaped text ++ codes "\""
 
--- ---- places
+-- ---- bytes and nodes
 
 -- how many bytes the text of a step has
 abbrev pub bytes_in : OwnedStep → ℕ

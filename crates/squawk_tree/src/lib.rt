@@ -1,4 +1,4 @@
-//! A sink that writes the tree which it is sent as indented text.
+//! A sink that writes the tree that it is sent as indented text.
 #![tactic(auto)]
 
 mod line;

@@ -1,19 +1,19 @@
-//! The lines of a tree, before their text is written.
+//! The lines of a tree, before they are written.
 
 use squawk_kinds::SyntaxKind;
 use squawk_output::Text;
 
-/// A line, inside of so many nodes.
+/// A line of a tree, inside of `depth` nodes.
 #[derive(Drop)]
 pub(crate) struct Line {
     pub(crate) depth: usize,
     pub(crate) shown: Shown,
 }
 
-/// What a line shows. Starts and ends are bytes of the texts of all tokens.
+/// What a line shows. Starts, ends and positions count bytes of the texts of all tokens.
 #[derive(Drop)]
 pub(crate) enum Shown {
-    /// A node, which has no end before it is closed.
+    /// A node. It has no end until it is closed.
     Node {
         kind: SyntaxKind,
         start: usize,
@@ -34,7 +34,7 @@ impl Line {
     ghost use Rattle.std.specs.Prelude.{◌≡◌};
     ghost use Rattle.squawk_tree.specs.SoundDrawings.{closed_line};
 
-    /// Gives the line's node its end, if it shows a node.
+    /// Sets the end of the line's node, if it shows a node.
     pub(crate) fn close(&mut self, at: usize)
         ensures { self.new ≡ closed_line at self.old }
     {

@@ -1,4 +1,4 @@
-//! The text of what a line shows.
+//! The text of a line.
 ghost use Rattle.std.specs.Prelude.{◌≡◌, ◌++◌, length, string_bytes, OnOk};
 ghost use Rattle.std.specs.Str.{chars};
 ghost use Rattle.squawk_kinds.specs.KindNames.{kind_name};
@@ -11,7 +11,7 @@ use squawk_kinds::{KindNames, SyntaxKind};
 use std::alloc::AllocError;
 use std::fmt::Write;
 
-/// Writes what a line shows, where an open node ends behind all texts.
+/// Writes what a line shows. An open node ends at the end of the texts.
 pub(crate) fn write_shown(
     out: &mut String,
     names: &mut KindNames<'_, '_>,
@@ -49,7 +49,7 @@ pub(crate) fn write_indentation(out: &mut String, depth: usize) -> Result<(), Al
     Ok(())
 }
 
-/// Writes the name of a kind, and from which byte to which it goes.
+/// Writes the name of a kind, and its first byte and the byte behind it.
 fn write_span(
     out: &mut String,
     names: &mut KindNames<'_, '_>,
@@ -65,7 +65,7 @@ fn write_span(
     write!(out, "@{start}..{end}")
 }
 
-/// Writes the name of a kind: that of its first pair, else its number.
+/// Writes the name of a kind: that of its first pair, or its number.
 pub fn write_name(
     out: &mut String,
     names: &mut KindNames<'_, '_>,
@@ -93,7 +93,7 @@ fn write_quoted(out: &mut String, text: &str) -> Result<(), AllocError>
     out.push('"')
 }
 
-/// Writes a character between quotes.
+/// Writes a character of a quoted text.
 fn write_escaped(out: &mut String, c: char) -> Result<(), AllocError>
     ensures { OnOk result (string_bytes out.new ≡ string_bytes out.old ++ escaped c) }
 {

@@ -1,4 +1,4 @@
-//! A tree as indented text.
+//! A sink that writes a tree as indented text.
 ghost use Rattle.std.specs.Prelude.{List, map, string_bytes, IfOk};
 ghost use Rattle.squawk_table.specs.declared.shortcuts.str_step.OwnedStep.{OwnedStep};
 ghost use Rattle.squawk_tree.specs.TreeText.{tree_text};
@@ -13,7 +13,7 @@ use squawk_table::{StepSink, StrStep};
 use std::alloc::{AllocError, Global};
 use std::marker::Model;
 
-/// A sink that writes a tree as indented text, a line for each step but a closing:
+/// A sink that writes a tree as indented text: a line for each node, token and error.
 ///
 /// ```text
 /// SOURCE@0..3
@@ -24,12 +24,12 @@ use std::marker::Model;
 ///   error@3 "expected operand"
 /// ```
 ///
-/// It refuses a step only for want of memory.
+/// It refuses a step only if an allocation fails.
 #[derive(Drop)]
 pub struct TreeText {
     alloc: Global,
     lines: Vec<Line>,
-    /// The places of the lines whose nodes are open.
+    /// The indices of the lines that show open nodes.
     open_lines: Vec<usize>,
     /// The texts of all tokens, joined.
     texts: String,
@@ -67,7 +67,7 @@ impl TreeText {
 
     /// The text of the tree so far.
     ///
-    /// A kind is shown by the name of its first pair, else by its number.
+    /// A kind is shown by the name of its first pair, or by its number.
     pub fn finish(&self, alloc: Global, names: &[(SyntaxKind, &str)]) -> Result<String, AllocError>
         ensures text { IfOk result (λ text. (steps : List OwnedStep) → StandsAfter self.now steps
             → string_bytes text ≡ tree_text (map (λ pair. (pair.0, pair.1.now)) names.now) steps) }
@@ -123,13 +123,13 @@ impl TreeText {
         Ok(())
     }
 
-    /// Takes the end of a node. Where none is open it changes nothing.
+    /// Takes the end of a node. If none is open it changes nothing.
     fn exit(&mut self)
         ensures { (steps : List OwnedStep) → StandsAfter self.old steps → StandsAfter self.new (steps ++ Exit ∷ []) }
     {
-        if let Some(place) = self.open_lines.pop() {
+        if let Some(line) = self.open_lines.pop() {
             let end = self.texts.len();
-            self.lines[place].close(end);
+            self.lines[line].close(end);
         }
     }
 

@@ -11,7 +11,7 @@ use Rattle.squawk_output.specs.Steps.{Step, Token, Enter, Exit, Error, is_enter,
 use Rattle.squawk_output.specs.Steps as walk
 use Rattle.squawk_output.proofs.Sums.{count_by-cons}
 use Rattle.squawk_table.specs.RawTable.{Table, IsTable, RawToken, raw_after, raw_from}
-use Rattle.squawk_table.specs.Sending.{HaveTokens, place_here, receives_at, sent_from, sent_here, trivia_here}
+use Rattle.squawk_table.specs.Sending.{HaveTokens, raw_here, receives_at, sent_from, sent_here, trivia_here}
 use Rattle.squawk_table.specs.Sent.{leading_trivia, sent_raw}
 use Rattle.squawk_table.specs.declared.shortcuts.str_step.OwnedStep.{OwnedStep}
 use Rattle.squawk_table.specs.declared.shortcuts.str_step.OwnedStep.TheVariants as sent
@@ -152,19 +152,19 @@ module _ (t : Table) (table : IsTable t) where
   sends-from [] place depth begun goes tokens = goes
   sends-from (Token kind n ∷ steps) place depth begun goes tokens =
       let step = Token kind n in
-      let at = place_here t place depth step in
+      let at = raw_here t place depth step in
       past_trivia place depth step (sent_here t at step ∷ sent_from t (at + n) depth steps) begun (λ _. goes.0)
       (goes.0, some_chars at n tokens.0.0 tokens.0.1, sends-from steps (at + n) depth begun goes.1 tokens.1)
   sends-from (Enter kind ∷ steps) place depth begun goes tokens =
       let step = Enter kind in
-      let at = place_here t place depth step in
+      let at = raw_here t place depth step in
       past_trivia place depth step (sent.Enter kind ∷ sent_from t at (depth + 1) steps) begun (λ e. omega (arith, ltb-true 0 depth e))
       (goes.0, subst (Sends (sent_from t at (depth + 1) steps) true) (add-one depth) (sends-from steps at (depth + 1) true (subst (Goes steps true) (sym (add-one depth)) goes.1) tokens.1))
   sends-from (Exit ∷ steps) place depth begun goes tokens =
-      let at = place_here t place depth Exit in
+      let at = raw_here t place depth Exit in
       past_trivia place depth Exit (sent.Exit ∷ sent_from t at (depth - 1) steps) begun (λ _. goes.0)
       (goes.0, sends-from steps at (depth - 1) begun goes.1 tokens.1)
-  sends-from (Error text ∷ steps) place depth begun goes tokens = sends-from steps (place_here t place depth (Error text)) depth begun goes tokens.1
+  sends-from (Error text ∷ steps) place depth begun goes tokens = sends-from steps (raw_here t place depth (Error text)) depth begun goes tokens.1
 
 -- ---- how many errors are sent
 
@@ -176,7 +176,7 @@ pub errors-from : (t : Table) (steps : List Step) (place depth : ℕ) → errors
 errors-from t [] place depth = refl
 errors-from t (Token kind n ∷ steps) place depth =
     let step = Token kind n in
-    let at = place_here t place depth step in
+    let at = raw_here t place depth step in
     omega (
       arith,
       errors-raw (trivia_here t place depth step) (sent_here t at step ∷ sent_from t (at + n) depth steps),
@@ -185,7 +185,7 @@ errors-from t (Token kind n ∷ steps) place depth =
     )
 errors-from t (Enter kind ∷ steps) place depth =
     let step = Enter kind in
-    let at = place_here t place depth step in
+    let at = raw_here t place depth step in
     omega (
       arith,
       errors-raw (trivia_here t place depth step) (sent.Enter kind ∷ sent_from t at (depth + 1) steps),
@@ -193,7 +193,7 @@ errors-from t (Enter kind ∷ steps) place depth =
       count_by-cons is_error step steps,
     )
 errors-from t (Exit ∷ steps) place depth =
-    let at = place_here t place depth Exit in
+    let at = raw_here t place depth Exit in
     omega (
       arith,
       errors-raw (trivia_here t place depth Exit) (sent.Exit ∷ sent_from t at (depth - 1) steps),
@@ -201,4 +201,4 @@ errors-from t (Exit ∷ steps) place depth =
       count_by-cons is_error Exit steps,
     )
 errors-from t (Error text ∷ steps) place depth =
-    omega (arith, errors-from t steps (place_here t place depth (Error text)) depth, count_by-cons is_error (Error text) steps)
+    omega (arith, errors-from t steps (raw_here t place depth (Error text)) depth, count_by-cons is_error (Error text) steps)

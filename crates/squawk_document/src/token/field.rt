@@ -1,16 +1,16 @@
-//! The fields of raw tokens.
+//! Reads fields of raw tokens.
 ghost use Rattle.serde_json.specs.View.{view};
 ghost use Rattle.squawk_document.specs.Values.{GivesExactly};
-ghost use Rattle.squawk_document.specs.TokenShapes.{base_in, place_in};
+ghost use Rattle.squawk_document.specs.TokenShapes.{base_in, offset_in};
 
 use crate::document_error::DocumentError;
 use crate::value::u32_of;
 use serde_json::Value;
 use squawk_tokens::Base;
 
-/// A place, or `None` at null.
-pub fn place(value: &Value) -> Result<Option<u32>, DocumentError>
-    ensures { GivesExactly (λ n. n) result (place_in (view value.now)) }
+/// Reads a byte offset, or null as `None`.
+pub fn offset(value: &Value) -> Result<Option<u32>, DocumentError>
+    ensures { GivesExactly (λ n. n) result (offset_in (view value.now)) }
 {
     if value.is_null() {
         Ok(None)
@@ -19,7 +19,7 @@ pub fn place(value: &Value) -> Result<Option<u32>, DocumentError>
     }
 }
 
-/// The base of an integer, as a number.
+/// Reads the base of an integer: 2, 8, 10 or 16.
 pub fn base(value: &Value) -> Result<Base, DocumentError>
     ensures { GivesExactly (λ b. b) result (base_in (view value.now)) }
 {

@@ -1,47 +1,47 @@
-//! The kinds of raw tokens, by their spellings and fields.
+//! Reads the kinds of raw tokens, from their spellings and fields.
 ghost use Rattle.std.specs.Prelude.{map};
 ghost use Rattle.serde_json.specs.View.{view};
 ghost use Rattle.squawk_document.specs.Values.{GivesExactly};
 ghost use Rattle.squawk_document.specs.TokenShapes.{spelled_kind, kind_of_one, kind_of_three, kind_of_two, operator_sign, plain_kind, punctuation, quoted_literal};
 
 use crate::document_error::DocumentError;
-use crate::token::field::{base, place};
+use crate::token::field::{base, offset};
 use crate::value::{boolean, u32_of};
 use serde_json::Value;
 use squawk_tokens::{LiteralKind, TokenKind};
 
-/// The kind that is spelled, with all its fields and nothing behind them.
-pub fn kind(word: &str, fields: &[Value]) -> Result<TokenKind, DocumentError>
-    ensures { GivesExactly (λ k. k) result (spelled_kind word.now (map view fields.now)) }
+/// Reads a kind from its spelling and all its fields.
+pub fn kind(spelling: &str, fields: &[Value]) -> Result<TokenKind, DocumentError>
+    ensures { GivesExactly (λ k. k) result (spelled_kind spelling.now (map view fields.now)) }
 {
     match fields {
-        [] => plain_kind(word),
-        [a] => kind_of_one(word, a),
-        [a, b] => kind_of_two(word, a, b),
-        [a, b, c] => kind_of_three(word, a, b, c),
+        [] => plain_kind(spelling),
+        [a] => kind_of_one(spelling, a),
+        [a, b] => kind_of_two(spelling, a, b),
+        [a, b, c] => kind_of_three(spelling, a, b, c),
         _ => Err(DocumentError::Shape),
     }
 }
 
 /// A kind without fields.
-fn plain_kind(word: &str) -> Result<TokenKind, DocumentError>
-    ensures { GivesExactly (λ k. k) result (plain_kind word.now) }
+fn plain_kind(spelling: &str) -> Result<TokenKind, DocumentError>
+    ensures { GivesExactly (λ k. k) result (plain_kind spelling.now) }
 {
-    match word {
+    match spelling {
         "unknown" => Ok(TokenKind::Unknown),
         "line_comment" => Ok(TokenKind::LineComment),
         "whitespace" => Ok(TokenKind::Whitespace),
         "ident" => Ok(TokenKind::Ident),
         "eof" => Ok(TokenKind::Eof),
-        _ => punctuation(word),
+        _ => punctuation(spelling),
     }
 }
 
-/// A sign that separates or encloses, or an operator's.
-fn punctuation(word: &str) -> Result<TokenKind, DocumentError>
-    ensures { GivesExactly (λ k. k) result (punctuation word.now) }
+/// A sign that separates or encloses, or a sign of operators.
+fn punctuation(spelling: &str) -> Result<TokenKind, DocumentError>
+    ensures { GivesExactly (λ k. k) result (punctuation spelling.now) }
 {
-    match word {
+    match spelling {
         "semi" => Ok(TokenKind::Semi),
         "comma" => Ok(TokenKind::Comma),
         "dot" => Ok(TokenKind::Dot),
@@ -53,15 +53,15 @@ fn punctuation(word: &str) -> Result<TokenKind, DocumentError>
         "open_curly" => Ok(TokenKind::OpenCurly),
         "close_curly" => Ok(TokenKind::CloseCurly),
         "colon" => Ok(TokenKind::Colon),
-        _ => operator_sign(word),
+        _ => operator_sign(spelling),
     }
 }
 
-/// A sign that operators are made of.
-fn operator_sign(word: &str) -> Result<TokenKind, DocumentError>
-    ensures { GivesExactly (λ k. k) result (operator_sign word.now) }
+/// A sign that operators consist of.
+fn operator_sign(spelling: &str) -> Result<TokenKind, DocumentError>
+    ensures { GivesExactly (λ k. k) result (operator_sign spelling.now) }
 {
-    match word {
+    match spelling {
         "at" => Ok(TokenKind::At),
         "pound" => Ok(TokenKind::Pound),
         "tilde" => Ok(TokenKind::Tilde),
@@ -84,10 +84,10 @@ fn operator_sign(word: &str) -> Result<TokenKind, DocumentError>
 }
 
 /// A kind with one field.
-fn kind_of_one(word: &str, a: &Value) -> Result<TokenKind, DocumentError>
-    ensures { GivesExactly (λ k. k) result (kind_of_one word.now (view a.now)) }
+fn kind_of_one(spelling: &str, a: &Value) -> Result<TokenKind, DocumentError>
+    ensures { GivesExactly (λ k. k) result (kind_of_one spelling.now (view a.now)) }
 {
-    match word {
+    match spelling {
         "block_comment" => Ok(TokenKind::BlockComment {
             terminated: boolean(a)?,
         }),
@@ -98,16 +98,16 @@ fn kind_of_one(word: &str, a: &Value) -> Result<TokenKind, DocumentError>
             trailing_junk_start: u32_of(a)?,
         }),
         _ => Ok(TokenKind::Literal {
-            kind: quoted_literal(word, boolean(a)?)?,
+            kind: quoted_literal(spelling, boolean(a)?)?,
         }),
     }
 }
 
-/// A literal that says only whether it is terminated.
-fn quoted_literal(word: &str, terminated: bool) -> Result<LiteralKind, DocumentError>
-    ensures { GivesExactly (λ k. k) result (quoted_literal word.now terminated) }
+/// A literal whose only field is whether it is terminated.
+fn quoted_literal(spelling: &str, terminated: bool) -> Result<LiteralKind, DocumentError>
+    ensures { GivesExactly (λ k. k) result (quoted_literal spelling.now terminated) }
 {
-    match word {
+    match spelling {
         "str" => Ok(LiteralKind::Str { terminated }),
         "national_str" => Ok(LiteralKind::NationalStr { terminated }),
         "byte_str" => Ok(LiteralKind::ByteStr { terminated }),
@@ -120,17 +120,17 @@ fn quoted_literal(word: &str, terminated: bool) -> Result<LiteralKind, DocumentE
 }
 
 /// A kind with two fields.
-fn kind_of_two(word: &str, a: &Value, b: &Value) -> Result<TokenKind, DocumentError>
-    ensures { GivesExactly (λ k. k) result (kind_of_two word.now (view a.now) (view b.now)) }
+fn kind_of_two(spelling: &str, a: &Value, b: &Value) -> Result<TokenKind, DocumentError>
+    ensures { GivesExactly (λ k. k) result (kind_of_two spelling.now (view a.now) (view b.now)) }
 {
-    match word {
+    match spelling {
         "quoted_ident" => Ok(TokenKind::QuotedIdent {
             terminated: boolean(a)?,
             uescape: boolean(b)?,
         }),
         "numeric" => Ok(TokenKind::Literal {
             kind: LiteralKind::Numeric {
-                empty_exponent_start: place(a)?,
+                empty_exponent_start: offset(a)?,
                 trailing_junk_start: u32_of(b)?,
             },
         }),
@@ -138,11 +138,16 @@ fn kind_of_two(word: &str, a: &Value, b: &Value) -> Result<TokenKind, DocumentEr
     }
 }
 
-/// The one kind with three fields.
-fn kind_of_three(word: &str, a: &Value, b: &Value, c: &Value) -> Result<TokenKind, DocumentError>
-    ensures { GivesExactly (λ k. k) result (kind_of_three word.now (view a.now) (view b.now) (view c.now)) }
+/// The only kind with three fields.
+fn kind_of_three(
+    spelling: &str,
+    a: &Value,
+    b: &Value,
+    c: &Value,
+) -> Result<TokenKind, DocumentError>
+    ensures { GivesExactly (λ k. k) result (kind_of_three spelling.now (view a.now) (view b.now) (view c.now)) }
 {
-    match word {
+    match spelling {
         "int" => Ok(TokenKind::Literal {
             kind: LiteralKind::Int {
                 empty_int: boolean(a)?,

@@ -1,4 +1,4 @@
-//! Events as a log keeps them.
+//! Events as a log keeps them. What is inlined runs for each event.
 ghost use Rattle.std.specs.Prelude.{◌≡◌, ◌≢◌, ℕ, List, ◌<◌, ◌+◌, ◌^◌, IfSome, is_some};
 ghost use Rattle.squawk_kinds.specs.Kinds.{TOMBSTONE};
 ghost use Rattle.squawk_output.specs.Chain.{forward_parent, node_kind};
@@ -10,11 +10,10 @@ use crate::output::stored::StoredStep;
 use squawk_kinds::SyntaxKind;
 use std::marker::Model;
 
-/// Marks an event that gives no step. No link leads so far: a log has fewer events.
+/// The operand of an event that gives no step. No link has this distance: a log has fewer events.
 const ASIDE: u32 = u32::MAX;
 
-/// The word of an open marker: that of a step would have a kind and a tag, and this has the kind of no
-/// node and the tag of no opening.
+/// The word of an open marker: with the kind TOMBSTONE, which no node has, and a tag that isn't an opening's.
 const HOLE: u32 = 0x0001_0001;
 
 /// An event in eight bytes, ready for the pass.
@@ -22,8 +21,8 @@ const HOLE: u32 = 0x0001_0001;
 /// | event | `word` | `operand` |
 /// |---|---|---|
 /// | a token, the end of a node, a `Start` of a node without a link | that of its step | 0 |
-/// | a `Start` with a link | that of its opening | how many places on the link leads |
-/// | a `Start` of no node, without a link | that of its opening | `ASIDE` |
+/// | a `Start` with a link | that of its opening | by how many events the link leads forward |
+/// | a `Start` of TOMBSTONE, without a link | that of its opening | `ASIDE` |
 /// | an open marker | `HOLE` | `ASIDE` |
 /// | an error | 0 | one more than its number |
 ///
@@ -58,7 +57,7 @@ impl PackedEvent {
         }
     }
 
-    /// The `Start` of no node.
+    /// The `Start` of TOMBSTONE, without a link.
     #[inline(always)]
     pub(crate) fn tombstone() -> PackedEvent
         ensures { result ≡ Start TOMBSTONE 0 }
@@ -84,7 +83,7 @@ impl PackedEvent {
         }
     }
 
-    /// A `Start` whose link leads so many places on.
+    /// A `Start` whose link leads forward by `distance` events.
     #[inline(always)]
     pub(crate) fn linked(kind: SyntaxKind, distance: u32) -> PackedEvent
         requires leads { 0 < distance }
@@ -123,7 +122,7 @@ impl PackedEvent {
         }
     }
 
-    /// The error of this number.
+    /// The error with this number.
     #[inline(always)]
     pub(crate) fn error(number: u32) -> PackedEvent
         requires { number + 1 < 2 ^ 32 }
@@ -135,7 +134,7 @@ impl PackedEvent {
         }
     }
 
-    /// The word of the step that the event gives, if it gives exactly that where it stands.
+    /// The word of the step that the event gives, if it gives exactly one, where it stands.
     #[inline(always)]
     pub(crate) fn plain_word(&self) -> Option<u32>
         ensures word { IfSome result (λ word. IsPlain word × (self.now ≡ plain_event (unpacked word))) }
@@ -161,7 +160,7 @@ impl PackedEvent {
         }
     }
 
-    /// Whether the event gives no step. One that a link was followed to is such a one behind it.
+    /// Whether the event gives no step. An event that a link has reached becomes such a one.
     #[inline(always)]
     pub(crate) fn is_aside(&self) -> bool
         ensures { result ≡ is_aside self.now }
@@ -169,7 +168,7 @@ impl PackedEvent {
         self.operand == ASIDE && self.word != 0
     }
 
-    /// The kind of a `Start`: that of no node for an open marker.
+    /// The kind of a `Start`: TOMBSTONE for an open marker.
     #[inline(always)]
     pub(crate) fn kind(&self) -> SyntaxKind
         requires { IsStarting self.now }
@@ -178,7 +177,7 @@ impl PackedEvent {
         SyntaxKind((self.word >> 16) as u16)
     }
 
-    /// How many places on the link of a `Start` leads, or 0.
+    /// By how many events the link of a `Start` leads forward, or 0.
     #[inline(always)]
     pub(crate) fn distance(&self) -> u32
         requires { IsStarting self.now }

@@ -5,7 +5,7 @@ use squawk_kinds::SyntaxKind;
 /// A step of a walk over a syntax tree.
 #[derive(Clone, Copy, Debug, PartialEq, Eq)]
 pub enum Step<'a> {
-    /// A token of a kind, with so many tokens of the input.
+    /// A token of a kind, made of `n_input_tokens` input tokens.
     Token {
         kind: SyntaxKind,
         n_input_tokens: u8,
@@ -14,7 +14,7 @@ pub enum Step<'a> {
     Enter {
         kind: SyntaxKind,
     },
-    /// The end of the node that was entered last and not left yet.
+    /// The end of the innermost open node.
     Exit,
     /// An error, with its text.
     Error {

@@ -1,4 +1,4 @@
-//! The steps of an output, one after another.
+//! The steps of an output, one after another. What is inlined runs for each step.
 ghost use Rattle.std.specs.Prelude.{◌≡◌, ◌∷◌, false, map, IsNone, IfSome};
 ghost use Rattle.std.specs.Str.{chars};
 ghost use Rattle.squawk_output.specs.StoredSteps.{HaveTexts, step_in};
@@ -9,7 +9,7 @@ use crate::output::stored::StoredStep;
 use crate::output::text::Text;
 use std::marker::Model;
 
-/// The steps that are left of an output.
+/// The steps that are left of an output, as an iterator.
 #[derive(Drop)]
 pub struct Steps<'a> {
     words: &'a [u32],
@@ -38,7 +38,7 @@ impl<'a> Steps<'a> {
         Steps { words, errors }
     }
 
-    /// Takes the next step if it is an error, and gives its text. Any other step stays.
+    /// Takes the next step if it is an error, and returns its text. Any other step stays.
     #[inline(always)]
     pub fn next_error(&mut self) -> Option<&'a str>
         ensures error { IfSome result (λ msg. self.old ≡ Error (chars msg.now) ∷ self.new) }

@@ -1,4 +1,4 @@
-//! The steps of an output as it keeps them, in a word each.
+//! The steps of an output as it keeps them, a word of 32 bits each. What is inlined runs for each step.
 ghost use Rattle.std.specs.Prelude.{◌≡◌, ◌<◌, IfSome, IsNone};
 ghost use Rattle.squawk_output.specs.StepViews.{step_of};
 ghost use Rattle.squawk_output.specs.StoredSteps.{FitsWord, HasText, IsNoError, IsWord, enters_of, leaves_of, odd_word, packed, unpacked, with_text};
@@ -9,13 +9,13 @@ use squawk_kinds::SyntaxKind;
 
 const TOKEN: u32 = 0x01;
 
-/// [`enters`] reads bit 4, which it alone has.
+/// Only this tag has bit 4, which [`enters`] reads.
 const ENTER: u32 = 0x11;
 
-/// [`leaves`] reads bit 5, which it alone has.
+/// Only this tag has bit 5, which [`leaves`] reads.
 const EXIT: u32 = 0x21;
 
-/// A step whose text, if it is an error, is kept elsewhere.
+/// A step as it is kept: an error has a number in place of its text.
 #[derive(Clone, Copy, Debug)]
 pub(crate) enum StoredStep {
     Token {
@@ -73,7 +73,7 @@ impl StoredStep {
         }
     }
 
-    /// The number of an error by its word; none of any other step.
+    /// The number of the error, if the word is an error's.
     #[inline(always)]
     pub(crate) fn as_error(word: u32) -> Option<u32>
         ensures error { IfSome result (λ number. unpacked word ≡ StoredStep.Error number) }
@@ -82,7 +82,7 @@ impl StoredStep {
         if word % 2 == 0 { Some(word / 2) } else { None }
     }
 
-    /// The step, with the text of its error out of all of them.
+    /// The step; an error with its text, which is one of these.
     #[inline(always)]
     pub(crate) fn lend(self, errors: &[Text]) -> Step<'_>
         requires { HasText errors.now self }
@@ -105,7 +105,7 @@ impl StoredStep {
     }
 }
 
-/// How many nodes the step of a word enters.
+/// The number of nodes that the step of a word enters.
 #[inline(always)]
 pub(crate) fn enters(word: u32) -> u32
     requires word { IsWord word }
@@ -115,7 +115,7 @@ pub(crate) fn enters(word: u32) -> u32
     (word >> 4) % 2
 }
 
-/// How many nodes it leaves.
+/// The number of nodes that the step of a word leaves.
 #[inline(always)]
 pub(crate) fn leaves(word: u32) -> u32
     requires word { IsWord word }
@@ -125,7 +125,7 @@ pub(crate) fn leaves(word: u32) -> u32
     (word >> 5) % 2
 }
 
-/// The word of a step that is no error.
+/// The word of a step other than an error.
 #[inline(always)]
 fn odd_word(kind: SyntaxKind, n_input_tokens: u8, tag: u32) -> u32
     requires { tag < 256 }

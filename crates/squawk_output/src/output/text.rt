@@ -1,10 +1,10 @@
-//! Owned texts.
+//! Owned texts of errors.
 ghost use Rattle.std.specs.Prelude.{◌≡◌, string_bytes, encode_utf8_all};
 ghost use Rattle.std.specs.Str.{chars};
 
 use std::marker::Model;
 
-/// A text, which contracts see as its characters.
+/// An owned text, which contracts see as its characters.
 #[derive(Debug, Drop)]
 pub struct Text {
     text: String,

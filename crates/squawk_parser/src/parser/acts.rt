@@ -1,4 +1,4 @@
-//! What a grammar records.
+//! Calls that record. What is inlined runs at each node or token; what is cold, at an error.
 ghost use Rattle.std.specs.Prelude.{◌≡◌, ◌≢◌, ◌+◌, ◌<◌, ◌∷◌, [], false};
 ghost use Rattle.std.specs.Str.{chars};
 ghost use Rattle.squawk_kinds.specs.Kinds.{EOF};
@@ -12,13 +12,15 @@ ghost use Rattle.squawk_parser.specs.State.{HasHole, ahead, kind_at};
 
 use crate::parser::Parser;
 use crate::parser::marker::Marker;
-use crate::parser::recording::note;
+use crate::parser::recording::fail_if_refused;
 use squawk_kinds::{SyntaxKind, TokenSet};
 use squawk_output::Made;
 
 impl Parser<'_> {
-    /// Begins a node: where markers are completed in the order of nesting, all that is recorded until
-    /// this one is completed stands in the node. [`squawk_output::Event`] draws the other cases.
+    /// Starts a node.
+    ///
+    /// If markers are completed in the order of nesting, the node has all that is recorded until its marker is
+    /// completed. [`squawk_output::Event`] draws the other cases.
     #[inline(always)]
     pub fn start(&mut self) -> Marker
         ensures begins { Begins result self.old self.new }
@@ -27,14 +29,14 @@ impl Parser<'_> {
     {
         let id = self.next_id();
         if self.has_room() {
-            note(&mut self.first_reason, self.log.start());
+            fail_if_refused(&mut self.first_reason, self.log.start());
         }
         self.witness_sound();
         let made = Made::ByStart;
         Marker { id, made }
     }
 
-    /// Eats the current token. At the end nothing happens.
+    /// Eats the current token. Does nothing at the end.
     #[inline(always)]
     pub fn bump_any(&mut self)
         ensures puts { Puts (current_as (kind_in (ahead self.old 0) 0) (ahead self.old 0)) self.old self.new }
@@ -50,7 +52,7 @@ impl Parser<'_> {
         self.do_bump(kind, 1);
     }
 
-    /// Eats the current token as one of this kind. At the end nothing happens.
+    /// Eats the current token as one of this kind. Does nothing at the end.
     pub fn bump_remap(&mut self, kind: SyntaxKind)
         ensures puts { Puts (current_as kind (ahead self.old 0)) self.old self.new }
         ensures some { AddsSome self.old self.new }
@@ -63,7 +65,7 @@ impl Parser<'_> {
         }
     }
 
-    /// Records an error. Its text is copied.
+    /// Records an error with a copy of this text.
     #[cold]
     #[inline(never)]
     pub fn error(&mut self, msg: &str)
@@ -76,8 +78,9 @@ impl Parser<'_> {
         }
     }
 
-    /// Records an error. Unless the current token is one to go on from, the error and that token, if
-    /// there is one, stand in a node [`SyntaxKind::ERROR`].
+    /// Records an error, and eats the current token unless `recovery` has its kind.
+    ///
+    /// Unless `recovery` has it, the error and the token, if there is one, are in a node [`SyntaxKind::ERROR`].
     #[cold]
     #[inline(never)]
     pub fn err_recover(&mut self, msg: &str, recovery: TokenSet)
@@ -95,8 +98,7 @@ impl Parser<'_> {
         node.complete(self, SyntaxKind::ERROR);
     }
 
-    /// Records an error and eats the current token, if there is one, in a node
-    /// [`SyntaxKind::ERROR`].
+    /// Records an error and eats the current token, if there is one, both in a node [`SyntaxKind::ERROR`].
     #[cold]
     #[inline(never)]
     pub fn err_and_bump(&mut self, msg: &str)

@@ -1,7 +1,7 @@
-//! The composite kinds: which tokens stand for one, and what they make.
+//! The composite kinds: which tokens each consists of, and what they become.
 ghost use Rattle.std.specs.Prelude.{◌≡◌, ◌==◌, [], ◌∷◌, map, option_map};
 ghost use Rattle.std.specs.List.{find};
-ghost use Rattle.squawk_parser.specs.CompositeRows.{element_of, form_of};
+ghost use Rattle.squawk_parser.specs.CompositeForms.{element_of, form_of};
 ghost use Rattle.squawk_parser.specs.Composites.{composites, Glued, Touching, Sequence, NoTail, Open};
 
 use squawk_kinds::SyntaxKind;
@@ -36,32 +36,33 @@ impl Parts {
 #[derive(Drop)]
 pub(super) enum Tail {
     Nothing,
-    /// What a grammar says.
+    /// What the grammar's part records.
     Open,
-    /// The same, and a token of this kind is expected behind it.
+    /// What the grammar's part records, and then a token of this kind, which is expected.
     ClosedBy(SyntaxKind),
 }
 
-/// How the tokens of a composite kind stand, and what they make.
+/// How the tokens of a composite kind stand, and what they become.
 #[derive(Drop)]
 pub(super) enum Form {
-    /// They touch, and make one token.
+    /// They touch, and become one token.
     Glued(Parts),
-    /// They touch, and make a node with a token each.
+    /// They touch, and become a node of one token each.
     Touching(Parts),
-    /// Trivia may stand between them; they make a node with a token each.
+    /// Trivia may stand between them; they become a node of one token each.
     ///
     /// A part [`SyntaxKind::UNICODE_NORMAL_FORM`] is at most one of the normal forms' keywords, in
     /// a node of its own.
     Sequence { parts: Parts, tail: Tail },
-    /// They are an operator, and make a node with a token each.
+    /// They are an operator, and become a node of one token each.
     Operator,
 }
 
-/// The row of a composite kind; a kind that isn't composite has none.
+/// The form of a composite kind; none of any other kind.
+// A caller's constant kind picks its case.
 #[inline(always)]
 pub(super) fn composite(kind: SyntaxKind) -> Option<Form>
-    ensures { option_map form_of result ≡ option_map (λ row. row.form) (find (λ row. row.kind == kind) composites) }
+    ensures { option_map form_of result ≡ option_map (λ composite. composite.form) (find (λ composite. composite.kind == kind) composites) }
 {
     let form = match kind {
         SyntaxKind::COLON_EQ => glued(two(SyntaxKind::COLON, SyntaxKind::EQ)),

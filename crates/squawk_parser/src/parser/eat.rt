@@ -1,11 +1,13 @@
-//! Acts that eat a kind where it stands, a composite one as its row says.
+//! Calls that eat a kind, composite or not, if it is at the position.
+//!
+//! What is inlined picks the form of a constant kind; what is cold runs at an error.
 ghost use Rattle.std.specs.Prelude.{ℕ, ◌≡◌, ◌≢◌, ◌<◌, ◌∷◌, ◌++◌, [], codes, string_bytes, map, IfOk, IsTrue, IsSome, not};
 ghost use Rattle.squawk_kinds.specs.KindNames.{kind_name};
 ghost use Rattle.squawk_kinds.specs.Kinds.{EOF, R_PAREN, TOMBSTONE};
 ghost use Rattle.squawk_kinds.specs.TokenSets.{has};
 ghost use Rattle.squawk_output.specs.Steps.{Error};
 ghost use Rattle.squawk_table.specs.ParserInput.{kind_in};
-ghost use Rattle.squawk_parser.specs.CompositeRows.{element_of, tail_of};
+ghost use Rattle.squawk_parser.specs.CompositeForms.{element_of, tail_of};
 ghost use Rattle.squawk_parser.specs.Composites.{ClosedBy, HasNoEndKind, NoTail, Operator, do_touch, normal_form, sequence_length, stands_at};
 ghost use Rattle.squawk_parser.specs.Eaten.{EatsWith, closing_steps, eat_steps, element_steps, expect_steps, expected_text, form_steps, node, one, tail_of_kind};
 ghost use Rattle.squawk_parser.specs.Recorded.{Puts};
@@ -20,10 +22,9 @@ use squawk_kinds::{KindNames, SyntaxKind};
 use std::alloc::{AllocError, Global};
 
 impl Parser<'_> {
-    /// Eats the kind, which may be a composite one, if it stands at the position, and tells whether
-    /// it does. Where it doesn't, nothing happens.
+    /// Eats the kind, composite or not, if it is at the position. Returns whether it is.
     ///
-    /// The kind isn't [`SyntaxKind::EOF`], and it has no tail: [`Parser::eat_with`] eats those.
+    /// The kind isn't [`SyntaxKind::EOF`] and has no tail: [`Parser::eat_with`] eats those.
     #[inline(always)]
     pub fn eat(&mut self, kind: SyntaxKind) -> bool
         requires end { kind ≢ EOF }
@@ -43,10 +44,11 @@ impl Parser<'_> {
         true
     }
 
-    /// Eats a kind with a tail, if it stands at the position, and tells whether it does. Its node has
-    /// its tokens and what the tail records; behind that, the closing parenthesis of
-    /// [`SyntaxKind::OPERATOR_CALL`] is expected. Where the kind doesn't stand, nothing happens, and
-    /// the tail isn't run.
+    /// Eats a kind with a tail, if it is at the position. Returns whether it is.
+    ///
+    /// The node has the kind's tokens and what the tail records. After the tail of
+    /// [`SyntaxKind::OPERATOR_CALL`] a closing parenthesis is expected. If the kind isn't at the position, the
+    /// tail isn't run.
     pub fn eat_with<F: Part<Answer = ()> + Drop>(&mut self, kind: SyntaxKind, tail: F) -> bool
         requires { tail_of_kind kind ≢ NoTail }
         ensures at { result ≡ stands_at (has self.old.words.operator_first) kind (ahead self.old 0) }
@@ -76,9 +78,9 @@ impl Parser<'_> {
         true
     }
 
-    /// Eats the kind, which stands at the position.
+    /// Eats the kind, which is at the position.
     ///
-    /// The kind isn't [`SyntaxKind::EOF`], and it has no tail.
+    /// It isn't [`SyntaxKind::EOF`] and has no tail.
     pub fn bump(&mut self, kind: SyntaxKind)
         requires end { kind ≢ EOF }
         requires tail { tail_of_kind kind ≡ NoTail }
@@ -101,10 +103,9 @@ impl Parser<'_> {
         }
     }
 
-    /// Eats the kind if it stands at the position, else records the error that it is expected. Tells
-    /// whether it stands.
+    /// Eats the kind if it is at the position, else records the error that it is expected. Returns whether it is.
     ///
-    /// The kind isn't [`SyntaxKind::EOF`], and it has no tail.
+    /// The kind isn't [`SyntaxKind::EOF`] and has no tail.
     #[inline(always)]
     pub fn expect(&mut self, kind: SyntaxKind) -> bool
         requires end { kind ≢ EOF }
@@ -133,7 +134,7 @@ impl Parser<'_> {
         }
     }
 
-    /// Expects what closes a tail, if something does.
+    /// Expects the token that closes a tail, if one does.
     fn close(&mut self, tail: Tail)
         requires sound { IsSound self.old }
         requires closed { (kind : ℕ) → tail_of tail ≡ ClosedBy kind → kind ≡ R_PAREN }
@@ -175,7 +176,7 @@ impl Parser<'_> {
         node.complete(self, kind);
     }
 
-    /// Eats the elements of a sequence that stands at the position.
+    /// Eats the elements of a sequence, which is at the position.
     fn eat_elements(&mut self, parts: &Parts)
         requires sound { IsSound self.old }
         requires no_end { HasNoEndKind parts.now }
@@ -191,7 +192,7 @@ impl Parser<'_> {
         }
     }
 
-    /// Eats a normal form of Unicode, if its keyword stands at the position.
+    /// Eats the keyword of a normal form of Unicode, if one is at the position, in a node of its own.
     fn eat_normal_form(&mut self)
         requires { IsSound self.old }
         ensures { Puts (element_steps (normal_form ∷ []) (ahead self.old 0)) self.old self.new }
@@ -204,7 +205,7 @@ impl Parser<'_> {
     }
 }
 
-/// The text of the error where a kind is expected.
+/// The text of the error that a kind is expected.
 #[cold]
 fn expected(
     alloc: Global,

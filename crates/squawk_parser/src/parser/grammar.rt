@@ -1,4 +1,4 @@
-//! Grammars, and the parse of an input by one.
+//! Grammars, and how one parses an input.
 ghost use Rattle.std.specs.Prelude.{◌≤◌, IfOk, IfErr};
 ghost use Rattle.squawk_output.specs.Steps.{errors_in};
 ghost use Rattle.squawk_parser.specs.State.{fresh};
@@ -13,20 +13,19 @@ use squawk_output::Output;
 use squawk_table::Input;
 use std::alloc::{AllocError, Global};
 
-/// Where a grammar begins.
+/// The function of a grammar that a parse calls.
 #[derive(Clone, Copy, Debug, PartialEq, Eq)]
 pub enum EntryPoint {
     SourceFile,
     Plpgsql,
 }
 
-/// What an input is parsed by.
+/// A grammar: the functions that parse an input, and theorems about them.
 ///
-/// An entry point is called with a parser at the beginning of an input that has the grammar's words.
-/// It may leave no marker open, and it answers an error only where memory was refused to the grammar
-/// itself: what the parser was refused, the parser keeps. By two relations the grammar says which
-/// drafts a run may leave, and what a run does to the parser, also where that fails. One that has
-/// nothing to say of the second sets it to what is always true.
+/// An entry point is called with a parser at the beginning of an input that has the grammar's words. It
+/// leaves no marker open. It returns an error only if an allocation of its own fails: the parser keeps its
+/// own failures. `leaves` is your theorem about the result, `runs` about every run, also one that fails;
+/// leave it trivial if you need none.
 pub trait Grammar {
     ghost use Rattle.std.specs.Prelude.{List, ◌≡◌, OnOk};
     ghost use Rattle.squawk_table.specs.ParserInput.{Entry};
@@ -35,16 +34,16 @@ pub trait Grammar {
     ghost use Rattle.squawk_parser.specs.Words as spec;
     ghost use Rattle.squawk_parser.specs.declared.parser.grammar.EntryPoint.{EntryPoint};
 
-    /// Which drafts a run from an entry point may leave over an input.
+    /// The drafts that a run from an entry point may leave over an input.
     ghost leaves: { Self → EntryPoint → List Entry → Draft → Type 0 };
 
-    /// What a run from an entry point does: the parser before it, and after it, failed or not.
+    /// What holds of the parser before a run from an entry point and after it, failed or not.
     ghost runs: { Self → EntryPoint → State → State → Type 0 };
 
-    /// What the grammar tells about its kinds.
+    /// `words` in the proof language.
     ghost meaning: { Self → spec.Words };
 
-    /// What the grammar tells about its kinds. The end is no kind of an operator.
+    /// The kinds of the grammar's operators, of which `EOF` is none, and the names of its kinds.
     fn words(&self) -> Words<'_>
         ensures words { spec.words_of result ≡ meaning self.now }
         ensures operators { spec.HasNoEnd (meaning self.now) };
@@ -52,7 +51,7 @@ pub trait Grammar {
     /// Parses the input as a source file.
     fn entry_point(&self, p: &mut Parser<'_>) -> Result<(), AllocError>
         requires fresh { IsFresh p.old }
-        // What every parser keeps.
+        // The invariant of a parser.
         requires sound { IsSound p.old }
         requires words { p.old.words ≡ meaning self.now }
         ensures keeps { Keeps p.old p.new }
@@ -63,7 +62,7 @@ pub trait Grammar {
     /// Parses the input as the body of a PL/pgSQL function.
     fn plpgsql_entry_point(&self, p: &mut Parser<'_>) -> Result<(), AllocError>
         requires fresh { IsFresh p.old }
-        // What every parser keeps.
+        // The invariant of a parser.
         requires sound { IsSound p.old }
         requires words { p.old.words ≡ meaning self.now }
         ensures keeps { Keeps p.old p.new }
@@ -72,18 +71,18 @@ pub trait Grammar {
         ensures runs { runs self.now EntryPoint.Plpgsql p.old p.new };
 }
 
-/// The limits of a parse that is given none.
+/// Default limits.
 const LIMITS: Limits = Limits {
-    events: 4294967295,
-    errors: 2147483648,
+    events: u32::MAX,
+    errors: 1 << 31,
 };
 
 impl EntryPoint {
-    /// The parse of an input by a grammar, from this entry point.
+    /// Parses an input by a grammar, from this entry point.
     ///
-    /// It is refused for the first reason for which the grammar's run left the parser failed; if it
-    /// left none, by want of memory, where the grammar answers that or the output finds none. The
-    /// parse may record 4294967295 events, and 2147483648 errors among them.
+    /// The error is the first reason why the parser failed; if it didn't, `OutOfMemory`, if the grammar
+    /// returned an error or an allocation of the output fails. The parse may record `u32::MAX` events, 2^31 of
+    /// them errors.
     pub fn parse<G: Grammar>(
         &self,
         alloc: Global,
@@ -97,10 +96,9 @@ impl EntryPoint {
         self.parse_within(alloc, input, grammar, LIMITS)
     }
 
-    /// The same, under limits of how many events and how many errors it may record.
+    /// Parses an input by a grammar, from this entry point, with limits of its events and its errors.
     ///
-    /// What is to be recorded is refused where the events have reached their limit; an error also
-    /// where the errors have reached theirs.
+    /// The parser fails at an event past the limit of events, and at an error past the limit of errors.
     pub fn parse_within<G: Grammar>(
         &self,
         alloc: Global,

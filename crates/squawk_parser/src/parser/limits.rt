@@ -1,10 +1,10 @@
-//! How much a parse may record.
+//! The limits of a parse.
 
-/// How many events a parse may record, and how many of them may be errors.
+/// The greatest number of events that a parse may record, and of errors among them.
 #[derive(Clone, Copy, Debug, PartialEq, Eq)]
 pub struct Limits {
-    /// Each start, node in front of another, completion, token and error is an event.
+    /// Each `start`, `precede`, `complete`, token and error is an event.
     pub events: u32,
-    /// At most 2147483648.
+    /// At most 2^31.
     pub errors: u32,
 }

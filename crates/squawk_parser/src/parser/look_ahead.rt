@@ -1,7 +1,7 @@
-//! What a grammar sees of its input.
+//! Look-ahead in the input.
 //!
-//! A look is at the token that is so many places from the current one. It sees no token at the limit
-//! or past it; there, and past the input, both kinds are [`SyntaxKind::EOF`].
+//! A call reads the token that is `n` after the current one. From the limit on, and past the input, both
+//! kinds are [`SyntaxKind::EOF`]. What is inlined runs at each token.
 ghost use Rattle.std.specs.Prelude.{◌≡◌, ◌+◌, ◌<◌, ◌==◌, SomeIff, true};
 ghost use Rattle.squawk_parser.specs.Composites.{stands_at};
 ghost use Rattle.squawk_parser.specs.Operators.{operator_length, is_next_apart};
@@ -20,28 +20,28 @@ impl Parser<'_> {
         self.nth(0)
     }
 
-    /// The kind of the token `n` places ahead.
+    /// The kind of the token `n` after the current one.
     #[inline(always)]
     pub fn nth(&self, n: usize) -> SyntaxKind
         ensures { result ≡ kind_at self.now n }
     {
         match self.seen(n) {
-            Some(place) => self.tokens.kind(place),
+            Some(index) => self.tokens.kind(index),
             None => SyntaxKind::EOF,
         }
     }
 
-    /// The contextual kind of the token `n` places ahead.
+    /// The contextual kind of the token `n` after the current one.
     pub fn nth_contextual_kind(&self, n: usize) -> SyntaxKind
         ensures { result ≡ contextual_kind_at self.now n }
     {
         match self.seen(n) {
-            Some(place) => self.tokens.contextual_kind(place),
+            Some(index) => self.tokens.contextual_kind(index),
             None => SyntaxKind::EOF,
         }
     }
 
-    /// Whether the kind, which may be a composite one, stands at the position.
+    /// Whether the kind, composite or not, is at the position.
     #[inline(always)]
     pub fn at(&self, kind: SyntaxKind) -> bool
         ensures { result ≡ stands_at (has self.now.words.operator_first) kind (ahead self.now 0) }
@@ -49,7 +49,7 @@ impl Parser<'_> {
         self.nth_at(0, kind)
     }
 
-    /// Whether the kind, which may be a composite one, stands `n` places ahead.
+    /// Whether the kind, composite or not, is `n` tokens after the position.
     #[inline(always)]
     pub fn nth_at(&self, n: usize, kind: SyntaxKind) -> bool
         ensures { result ≡ stands_at (has self.now.words.operator_first) kind (ahead self.now n) }
@@ -57,7 +57,7 @@ impl Parser<'_> {
         self.view(n).is_at(kind, &self.operator_first)
     }
 
-    /// Whether the set has the current kind.
+    /// Whether the set has the kind of the current token.
     #[inline(always)]
     pub fn at_ts(&self, set: TokenSet) -> bool
         ensures { result ≡ has set (kind_at self.now 0) }
@@ -65,7 +65,7 @@ impl Parser<'_> {
         self.nth_at_ts(0, set)
     }
 
-    /// Whether the set has the kind of the token `n` places ahead.
+    /// Whether the set has the kind of the token `n` after the current one.
     #[inline(always)]
     pub fn nth_at_ts(&self, n: usize, set: TokenSet) -> bool
         ensures { result ≡ has set (kind_at self.now n) }
@@ -73,7 +73,7 @@ impl Parser<'_> {
         set.contains(self.nth(n))
     }
 
-    /// Whether the set has the contextual kind of the token `n` places ahead.
+    /// Whether the set has the contextual kind of the token `n` after the current one.
     pub fn nth_at_contextual_ts(&self, n: usize, set: TokenSet) -> bool
         ensures { result ≡ has set (contextual_kind_at self.now n) }
     {
@@ -87,14 +87,14 @@ impl Parser<'_> {
         self.nth_at_contextual_kw(0, keyword)
     }
 
-    /// Whether the token `n` places ahead is this contextual keyword.
+    /// Whether the token `n` after the current one is this contextual keyword.
     pub fn nth_at_contextual_kw(&self, n: usize, keyword: SyntaxKind) -> bool
         ensures { result ≡ (contextual_kind_at self.now n == keyword) }
     {
         self.nth_contextual_kind(n) == keyword
     }
 
-    /// How many tokens the operator at the position has; 0 where none stands there.
+    /// The number of tokens of the operator at the position; 0 if there is none.
     pub fn op_len(&self) -> usize
         ensures length { result ≡ operator_length (has self.now.words.operator_first) (ahead self.now 0) }
         ensures some { has self.now.words.operator_first (kind_at self.now 0) ≡ true → 0 < result }
@@ -102,14 +102,14 @@ impl Parser<'_> {
         self.view(0).operator_len(&self.operator_first)
     }
 
-    /// Whether no operator joins the current token and the next.
+    /// Whether the current token and the next aren't joined by an operator.
     pub fn next_not_joined_op(&self) -> bool
         ensures { result ≡ is_next_apart (has self.now.words.operator_first) (ahead self.now 0) }
     {
         self.view(0).is_next_apart(&self.operator_first)
     }
 
-    /// The tokens from `n` places ahead on.
+    /// The tokens from the one `n` after the current one on.
     #[inline(always)]
     pub(super) fn view(&self, n: usize) -> View<'_>
         ensures { result ≡ ahead self.now n }
@@ -117,14 +117,14 @@ impl Parser<'_> {
         View::new(&self.tokens, self.position.saturating_add(n), self.limit)
     }
 
-    /// The place in the input of the token `n` places ahead, if it is seen.
+    /// The input index of the token `n` after the current one, if it is before the limit.
     #[inline(always)]
     fn seen(&self, n: usize) -> Option<usize>
         ensures { SomeIff result (self.now.position + n < self.now.limit) (self.now.position + n) }
     {
-        let place = self.position.saturating_add(n);
-        if place < self.limit {
-            Some(place)
+        let index = self.position.saturating_add(n);
+        if index < self.limit {
+            Some(index)
         } else {
             None
         }

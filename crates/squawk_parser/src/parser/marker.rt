@@ -1,4 +1,4 @@
-//! Markers: nodes that are begun, and nodes that are complete.
+//! Markers of open nodes, and of completed ones. What is inlined runs at each node.
 ghost use Rattle.std.specs.Prelude.{◌≡◌, ◌≢◌, ◌<◌, ◌↔◌, IsTrue};
 ghost use Rattle.squawk_kinds.specs.Kinds.{TOMBSTONE};
 ghost use Rattle.squawk_output.specs.Edits.{abandoned, extended};
@@ -7,14 +7,14 @@ ghost use Rattle.squawk_parser.specs.SomeSteps.{ClosesNode, EndsFile, OpensBefor
 ghost use Rattle.squawk_parser.specs.State.{Changes, HasHole, HasNode, HasNotFailed};
 
 use crate::parser::Parser;
-use crate::parser::recording::note;
+use crate::parser::recording::fail_if_refused;
 use squawk_kinds::SyntaxKind;
 use squawk_output::Made;
 use std::marker::Model;
 
-/// A node that [`Parser::start`] began and that has no kind yet.
+/// An open node, which has no kind yet.
 ///
-/// A marker must be spent: it can't be dropped.
+/// A marker must be completed, abandoned or extended to: it can't be dropped.
 pub struct Marker {
     pub(super) id: u32,
     pub(super) made: Made,
@@ -28,7 +28,7 @@ impl Model for Marker {
     ghost view = { λ m. record { id = m.id; made = m.made } };
 }
 
-/// A node that has its kind and its end.
+/// A completed node, which has a kind and an end.
 #[derive(Debug, Drop)]
 pub struct CompletedMarker {
     id: u32,
@@ -44,11 +44,11 @@ impl Model for CompletedMarker {
 }
 
 impl Marker {
-    /// Ends the node here, and gives it its kind.
+    /// Completes the node: it ends here and has this kind.
     ///
-    /// Where markers are completed in the order of nesting, all that was recorded since this one was
-    /// started stands in the node. The kind isn't [`SyntaxKind::TOMBSTONE`], and the marker's hole is
-    /// in the parser's draft or the parser has failed.
+    /// If markers are completed in the order of nesting, the node has all that was recorded since this one was
+    /// started. The kind isn't [`SyntaxKind::TOMBSTONE`]. The marker is open in the parser's draft, or the
+    /// parser has failed.
     #[inline(always)]
     pub fn complete(self, p: &mut Parser<'_>, kind: SyntaxKind) -> CompletedMarker
         requires hole { HasHole p.old self }
@@ -61,16 +61,16 @@ impl Marker {
     {
         let Marker { id, made: _ } = self;
         if p.has_room() {
-            note(&mut p.first_reason, p.log.complete(id, kind));
+            fail_if_refused(&mut p.first_reason, p.log.complete(id, kind));
         }
         p.witness_sound();
         CompletedMarker { id, kind }
     }
 
-    /// Gives the node up: what was recorded since the marker was started stays where it is.
+    /// Abandons the marker: what was recorded since it was started stays where it is.
     ///
-    /// It takes no memory, and never makes a parser fail. The marker's hole is in the parser's draft,
-    /// or the parser has failed.
+    /// This allocates nothing, and never makes a parser fail. The marker is open in the parser's draft, or the
+    /// parser has failed.
     pub fn abandon(self, p: &mut Parser<'_>)
         requires { HasHole p.old self }
         ensures { Changes p.old p.new (abandoned p.old.draft self.id) }
@@ -82,8 +82,9 @@ impl Marker {
         p.witness_sound();
     }
 
-    /// Whether the marker was started before the node's. Of markers that a failed parser gave nothing
-    /// is promised.
+    /// Whether the marker was started before the node's.
+    ///
+    /// Meaningless for markers that a failed parser returned.
     pub fn started_before(&self, node: &CompletedMarker) -> bool
         ensures { IsTrue result ↔ (self.now.id < node.now.id) }
     {
@@ -92,11 +93,10 @@ impl Marker {
 }
 
 impl CompletedMarker {
-    /// Begins a node in front of this one, which will stand in it when the marker is completed.
-    /// [`squawk_output::Event`] draws the link to it, the forward parent.
+    /// Starts a node in front of this one, as its parent.
     ///
-    /// A node can be preceded once. Its opening is in the parser's draft and hasn't been preceded, or
-    /// the parser has failed.
+    /// [`squawk_output::Event`] draws the link to it, the forward parent. A node can be preceded once: it is
+    /// in the parser's draft and hasn't been preceded, or the parser has failed.
     pub fn precede(self, p: &mut Parser<'_>) -> Marker
         requires { HasNode p.old self }
         ensures precedes { Precedes self result p.old p.new }
@@ -106,19 +106,18 @@ impl CompletedMarker {
         let CompletedMarker { id: node, kind } = self;
         let id = p.next_id();
         if p.has_room() {
-            note(&mut p.first_reason, p.log.precede(node, kind));
+            fail_if_refused(&mut p.first_reason, p.log.precede(node, kind));
         }
         p.witness_sound();
         let made = Made::ByPrecede;
         Marker { id, made }
     }
 
-    /// The node begins where the marker was started, if that is before the node, and the marker goes.
-    /// [`squawk_output::Event`] draws the link from the marker to the node.
+    /// Extends the node to the left: it begins where the marker was started, and the marker is gone.
     ///
-    /// It takes no memory, and never makes a parser fail. The node's opening is in the parser's draft
-    /// and hasn't been preceded, the marker's hole is there, and the marker was started before the
-    /// node's; or the parser has failed.
+    /// [`squawk_output::Event`] draws the link from the marker to the node. This allocates nothing, and never
+    /// makes a parser fail. The node is in the parser's draft and hasn't been preceded, and the marker is open
+    /// there and was started before the node's; or the parser has failed.
     pub fn extend_to(self, p: &mut Parser<'_>, m: Marker) -> CompletedMarker
         requires node { HasNode p.old self }
         requires hole { HasHole p.old m }

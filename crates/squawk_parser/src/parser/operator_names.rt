@@ -1,20 +1,20 @@
-//! Which kinds tell where the name of an operator may end.
+//! The kinds that decide where the name of an operator may end.
 //!
-//! After PostgreSQL's CREATE OPERATOR: a name of several characters can't end in `+` or `-`,
-//! unless it also has one of ``~ ! @ # % ^ & | ` ?``.
+//! By PostgreSQL's CREATE OPERATOR, a name of several characters can't end in `+` or `-` unless it also
+//! has one of ``~ ! @ # % ^ & | ` ?``.
 ghost use Rattle.std.specs.Prelude.{◌≡◌};
 ghost use Rattle.squawk_parser.specs.Operators.{is_sign, is_special};
 
 use squawk_kinds::SyntaxKind;
 
-/// Whether a name of several characters may not end in the kind.
+/// Whether the kind is a sign, in which a name of several characters may not end.
 pub(super) fn is_sign(kind: SyntaxKind) -> bool
     ensures { result ≡ is_sign kind }
 {
     kind == SyntaxKind::PLUS || kind == SyntaxKind::MINUS
 }
 
-/// Whether a name that has the kind may end in a sign.
+/// Whether the kind is special: a name that has it may end in a sign.
 pub(super) fn is_special(kind: SyntaxKind) -> bool
     ensures { result ≡ is_special kind }
 {

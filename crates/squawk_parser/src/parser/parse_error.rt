@@ -1,4 +1,4 @@
-//! Why there is no output.
+//! The error of a parse.
 ghost use Rattle.std.specs.Prelude.{◌≡◌};
 ghost use Rattle.squawk_parser.specs.declared.parser.parse_error.ParseError.TheVariants.{OutOfMemory};
 
@@ -6,14 +6,14 @@ use std::alloc::AllocError;
 use std::error::Error;
 use std::fmt;
 
-/// Why a parse was refused.
+/// Why a parse has no output.
 #[derive(Clone, Copy, Debug, PartialEq, Eq)]
 pub enum ParseError {
-    /// Memory was refused, to the parser or to the grammar.
+    /// An allocation failed, of the parser, the grammar or the output.
     OutOfMemory,
-    /// One more event was to be recorded than may be.
+    /// An event past the limit of events was to be recorded.
     TooManyEvents,
-    /// One more error was to be recorded than may be.
+    /// An error past the limit of errors was to be recorded.
     TooManyErrors,
 }
 

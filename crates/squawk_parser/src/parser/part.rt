@@ -1,27 +1,28 @@
-//! Parts of a grammar that a parser is asked to run.
+//! Parts of a grammar that a parser runs.
 ghost use Rattle.std.specs.Prelude.{◌≡◌};
 ghost use Rattle.squawk_output.specs.Draft.{holes_of};
 ghost use Rattle.squawk_parser.specs.State.{HasNotFailed, Keeps, limited, with_limit_of};
 
 use crate::parser::Parser;
 
-/// A part of a grammar, as a value: what a closure is in Rust.
+/// A part of a grammar as a value, in place of a closure.
 ///
-/// It leaves open the markers that it found open, and no others.
+/// A run leaves the same markers open as before. You can't recurse through a `Part`: write mutually
+/// recursive functions.
 pub trait Part: Sized {
     ghost use Rattle.std.specs.Prelude.{◌≡◌};
     ghost use Rattle.squawk_output.specs.Draft.{holes_of};
     ghost use Rattle.squawk_parser.specs.State.{State, HasNotFailed, IsSound, Keeps};
 
-    /// What a run answers.
+    /// The type of a run's result.
     type Answer;
 
-    /// What a run does: the parser before and after it, and its answer.
+    /// What holds of the parser before and after a run, and of its result.
     ghost does: { Self → State → State → Self.Answer → Type 0 };
 
     /// Runs the part.
     fn run(self, p: &mut Parser<'_>) -> Self::Answer
-        // What every parser keeps.
+        // The invariant of a parser.
         requires { IsSound p.old }
         ensures keeps { Keeps p.old p.new }
         ensures holes { HasNotFailed p.new → holes_of p.new.draft.items ≡ holes_of p.old.draft.items }
@@ -29,8 +30,9 @@ pub trait Part: Sized {
 }
 
 impl Parser<'_> {
-    /// Runs a part that sees at most `n` tokens from the position on, and not past the limit that
-    /// stands already. Afterwards that limit stands again. Gives the part's answer.
+    /// Runs a part that sees at most `n` tokens from the position on, and none past the current limit.
+    ///
+    /// Afterwards the limit is as before. Returns the part's result.
     pub fn with_limit<F: Part>(&mut self, n: usize, f: F) -> F::Answer
         ensures keeps { Keeps self.old self.new }
         ensures holes { HasNotFailed self.new → holes_of self.new.draft.items ≡ holes_of self.old.draft.items }

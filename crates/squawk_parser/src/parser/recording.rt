@@ -1,4 +1,5 @@
-//! One event at a time: the limits are tested first, and memory is asked for last.
+//! Recording of one event: the limits are tested first, then memory is allocated. What is inlined runs at
+//! each event.
 ghost use Rattle.std.specs.Prelude.{◌≡◌, ◌+◌, ◌<◌, ◌∷◌, [], string_bytes, IsTrue, IsSome, Some, IsOk, IsErr, IfOk, List, ℕ, not};
 ghost use Rattle.std.specs.Str.{chars};
 ghost use Rattle.squawk_table.specs.Shape.{AreOneToken};
@@ -15,8 +16,8 @@ use squawk_kinds::SyntaxKind;
 use squawk_output::Text;
 use std::alloc::AllocError;
 
-/// Notes a refused growth as the first reason of a parser that had not failed.
-pub(super) fn note(first_reason: &mut Option<ParseError>, grown: Result<(), AllocError>)
+/// Makes a parser fail that hadn't, if its log couldn't grow.
+pub(super) fn fail_if_refused(first_reason: &mut Option<ParseError>, grown: Result<(), AllocError>)
     ensures ok { IsOk grown → first_reason.new ≡ first_reason.old }
     ensures err { IsErr grown → first_reason.new ≡ Some OutOfMemory }
 {
@@ -26,7 +27,7 @@ pub(super) fn note(first_reason: &mut Option<ParseError>, grown: Result<(), Allo
 }
 
 impl Parser<'_> {
-    /// The id of the next marker: how many entries the log has.
+    /// The id of the next marker: the number of entries of the log.
     #[inline(always)]
     pub(super) fn next_id(&self) -> u32
         ensures id { result ≡ self.now.draft.entries }
@@ -35,7 +36,7 @@ impl Parser<'_> {
         self.log.next_id()
     }
 
-    /// Eats the next `n` tokens of the input, which touch one another, as one token of this kind.
+    /// Eats the next `n_input_tokens` tokens, each of which touches the next, as one token of this kind.
     #[inline(always)]
     pub(super) fn do_bump(&mut self, kind: SyntaxKind, n_input_tokens: u8)
         requires { AreOneToken n_input_tokens (ahead self.old 0) }
@@ -44,13 +45,13 @@ impl Parser<'_> {
         ensures records { Records self.old self.new (with_token self.old.draft kind n_input_tokens) }
     {
         if self.has_room() {
-            note(&mut self.first_reason, self.log.token(kind, n_input_tokens));
+            fail_if_refused(&mut self.first_reason, self.log.token(kind, n_input_tokens));
         }
         self.position += n_input_tokens as usize;
         self.witness_sound();
     }
 
-    /// Records an error, if memory was found for its text.
+    /// Records an error, if the allocation of its text succeeded.
     pub(super) fn put_error(&mut self, text: Result<String, AllocError>)
         requires goes { HasNotFailed self.old }
         requires room { self.old.draft.recorded < self.old.max_events }
@@ -59,12 +60,12 @@ impl Parser<'_> {
     {
         let text = match text {
             Ok(text) => Text::new(text),
-            Err(refused) => return note(&mut self.first_reason, Err(refused)),
+            Err(refused) => return fail_if_refused(&mut self.first_reason, Err(refused)),
         };
-        note(&mut self.first_reason, self.log.error(text));
+        fail_if_refused(&mut self.first_reason, self.log.error(text));
     }
 
-    /// Whether one more event may be recorded. Where the limit is reached, the parser fails.
+    /// Whether one more event may be recorded. At the limit the parser fails.
     #[inline(always)]
     pub(super) fn has_room(&mut self) -> bool
         ensures keeps { Keeps self.old self.new }
@@ -84,7 +85,7 @@ impl Parser<'_> {
         true
     }
 
-    /// Whether one more error may be recorded. Where a limit is reached, the parser fails.
+    /// Whether one more error may be recorded. At a limit the parser fails.
     pub(super) fn has_room_for_error(&mut self) -> bool
         ensures keeps { Keeps self.old self.new }
         ensures room { IsTrue result → (self.new ≡ self.old) × HasNotFailed self.old × (self.old.draft.recorded < self.old.max_events) × (errors_of self.old.draft.items < self.old.max_errors) }

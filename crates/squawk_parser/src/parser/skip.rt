@@ -1,4 +1,4 @@
-//! Tokens that are skipped.
+//! Recovery that skips tokens.
 ghost use Rattle.std.specs.Prelude.{◌≡◌, ◌≢◌, ◌<◌, ◌==◌, ◌||◌, false};
 ghost use Rattle.std.specs.Str.{chars};
 ghost use Rattle.squawk_kinds.specs.Kinds.{EOF};
@@ -12,11 +12,11 @@ use crate::parser::Parser;
 use squawk_kinds::{SyntaxKind, TokenSet};
 
 impl Parser<'_> {
-    /// Puts the error and all tokens up to one of the set, or up to the end, into one node
-    /// [`SyntaxKind::ERROR`]. Where none is to be skipped, nothing happens: no error is recorded.
+    /// Eats all tokens up to one of the set, or up to the end, with an error in one node [`SyntaxKind::ERROR`].
     ///
-    /// Upstream has its kin, [`Parser::err_recover`] and [`Parser::err_and_bump`], which take one token
-    /// at most. Other parsers know it as `skip_until`.
+    /// If there are none, it does nothing and records no error. Upstream has only [`Parser::err_recover`] and
+    /// [`Parser::err_and_bump`], which eat at most one token. Other parsers call it `skip_until`.
+    // Runs at an error.
     #[cold]
     #[inline(never)]
     pub fn skip_to(&mut self, set: TokenSet, message: &str)
@@ -37,7 +37,7 @@ impl Parser<'_> {
         node.complete(self, SyntaxKind::ERROR);
     }
 
-    /// Whether no token is skipped here: at one of the set, and at the end.
+    /// Whether skipping stops here: at a token of the set, or at the end.
     fn stops_at(&self, set: TokenSet) -> bool
         ensures { result ≡ (kind_at self.now 0 == EOF || has set (kind_at self.now 0)) }
     {

@@ -1,4 +1,4 @@
-//! The tokens that a parser is over.
+//! The tokens that a parser reads. What is inlined runs at each look-ahead.
 ghost use Rattle.std.specs.Prelude.{◌≡◌, ◌≤◌, ◌<◌, length, IfSome, Some};
 ghost use Rattle.std.proofs.Props.{props};
 ghost use Rattle.squawk_kinds.specs.TokenSets.{has};
@@ -15,21 +15,22 @@ use squawk_kinds::{SyntaxKind, TokenSet};
 use squawk_table::Input;
 use std::alloc::Global;
 
-/// How many tokens an input may have for places of 32 bits.
-const MOST: usize = 4294967295;
+/// The greatest number of tokens whose indices fit in 32 bits.
+const MOST: usize = u32::MAX as usize;
 
-/// The tokens of an input, and where one of their operators may be long, what tells how long each
-/// is without a pass over it.
+/// The tokens of an input, and the lengths of their operators if one may be long.
 #[derive(Drop)]
 pub(super) struct Tokens<'t> {
     input: &'t Input,
     runs: Option<OperatorRuns>,
-    ghost told: { (numbers : OperatorRuns) → runs ≡ Some numbers → AreRunsOf numbers input.now } by { Prim.hlevel props },
+    ghost right: { (numbers : OperatorRuns) → runs ≡ Some numbers → AreRunsOf numbers input.now } by { Prim.hlevel props },
 }
 
 impl<'t> Tokens<'t> {
-    /// The tokens of an input. Where an operator of these kinds may be long and no memory is found
-    /// for what tells its length, each look reads it.
+    /// Makes the tokens of an input.
+    ///
+    /// If an operator of these kinds may be long, but the allocation of the lengths fails, each look-ahead
+    /// reads the operator.
     pub(super) fn new(alloc: Global, input: &'t Input, operator_first: &TokenSet) -> Tokens<'t>
         ensures { result.input.now ≡ input.now }
     {
@@ -41,7 +42,7 @@ impl<'t> Tokens<'t> {
         Tokens { input, runs }
     }
 
-    /// How many tokens there are.
+    /// The number of tokens.
     pub(super) fn len(&self) -> usize
         ensures len { result ≡ length self.now.input.now }
         ensures no_end { HasNoEndToken self.now.input.now }
@@ -65,7 +66,7 @@ impl<'t> Tokens<'t> {
         self.input.contextual_kind(i)
     }
 
-    /// Whether nothing stands between token `i` and the next.
+    /// Whether token `i` touches the next.
     #[inline(always)]
     pub(super) fn is_joint(&self, i: usize) -> bool
         requires { i < length self.now.input.now }
@@ -74,20 +75,19 @@ impl<'t> Tokens<'t> {
         self.input.is_joint(i)
     }
 
-    /// How many tokens the operator at token `place` has of those before token `limit`, where that is
-    /// told without a pass over it.
+    /// The number of tokens before token `limit` that the operator at token `start` has, if the lengths are known.
     pub(super) fn operator_len(
         &self,
-        place: usize,
+        start: usize,
         limit: usize,
         operator_first: &TokenSet,
     ) -> Option<usize>
         requires { limit ≤ length self.now.input.now }
-        ensures { IfSome result (λ len. len ≡ operator_length (has operator_first.now) (seen_from self.now.input.now limit place)) }
+        ensures { IfSome result (λ len. len ≡ operator_length (has operator_first.now) (seen_from self.now.input.now limit start)) }
     {
         let runs = self.runs.as_ref()?;
         if runs.are_of(operator_first) {
-            Some(runs.operator_len(self.input, place, limit))
+            Some(runs.operator_len(self.input, start, limit))
         } else {
             None
         }

@@ -1,4 +1,4 @@
-//! The tokens that a parser sees from a place on.
+//! The tokens that a parser sees from an index on. What is inlined runs at each look-ahead.
 ghost use Rattle.std.specs.Prelude.{◌≡◌, ◌≤◌, length, drop};
 ghost use Rattle.squawk_parser.specs.LookAhead.{seen_from, touches_next};
 ghost use Rattle.squawk_table.specs.ParserInput.{kind_in};
@@ -10,14 +10,13 @@ use crate::parser::tokens::Tokens;
 use squawk_kinds::SyntaxKind;
 use std::marker::Model;
 
-/// The tokens of an input from a place on, as far as they stand before a limit.
+/// The tokens of an input from index `start` to index `limit`.
 ///
-/// Places in a view count from its first token. At its end and past it the kind is
-/// [`SyntaxKind::EOF`].
+/// Indices in a view count from its first token. From its end on the kind is [`SyntaxKind::EOF`].
 #[derive(Drop)]
 pub(super) struct View<'t> {
     tokens: &'t Tokens<'t>,
-    place: usize,
+    start: usize,
     limit: usize,
 }
 
@@ -28,21 +27,21 @@ impl<'t> Model for View<'t> {
 
     ghost Value = { List Entry };
 
-    ghost view = { λ v. seen_from v.tokens.now.input.now v.limit v.place };
+    ghost view = { λ v. seen_from v.tokens.now.input.now v.limit v.start };
 
     ghost invariant = { λ v. v.limit ≤ length v.tokens.now.input.now };
 }
 
 impl<'t> View<'t> {
-    /// The view from token `place` of the input to token `limit`.
+    /// The view from token `start` of the input to token `limit`.
     #[inline(always)]
-    pub(super) fn new(tokens: &'t Tokens<'t>, place: usize, limit: usize) -> View<'t>
+    pub(super) fn new(tokens: &'t Tokens<'t>, start: usize, limit: usize) -> View<'t>
         requires { limit ≤ length tokens.now.input.now }
-        ensures { result ≡ seen_from tokens.now.input.now limit place }
+        ensures { result ≡ seen_from tokens.now.input.now limit start }
     {
         View {
             tokens,
-            place,
+            start,
             limit,
         }
     }
@@ -52,19 +51,19 @@ impl<'t> View<'t> {
     pub(super) fn kind(&self, i: usize) -> SyntaxKind
         ensures { result ≡ kind_in self.now i }
     {
-        let place = self.place.saturating_add(i);
-        if place < self.limit {
-            self.tokens.kind(place)
+        let index = self.start.saturating_add(i);
+        if index < self.limit {
+            self.tokens.kind(index)
         } else {
             SyntaxKind::EOF
         }
     }
 
-    /// Whether nothing stands between token `i` and the next one that is seen.
+    /// Whether token `i` touches the next one of the view: nothing is between them.
     pub(super) fn touches_next(&self, i: usize) -> bool
         ensures { result ≡ touches_next (drop i self.now) }
     {
-        let next = self.place.saturating_add(i).saturating_add(1);
+        let next = self.start.saturating_add(i).saturating_add(1);
         next < self.limit && self.tokens.is_joint(next - 1)
     }
 }

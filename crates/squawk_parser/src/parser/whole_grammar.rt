@@ -1,10 +1,10 @@
-//! Grammars that always leave one node over all of an input.
+//! Grammars that always leave one root over all of an input.
 
 use crate::parser::grammar::Grammar;
 
-/// A grammar whose every run that isn't refused leaves one node, errors aside, and no token behind it.
+/// A grammar of which every run that doesn't fail leaves one node, errors aside, and eats all tokens.
 ///
-/// It has a law and no function: what `leaves` allows over an input is whole.
+/// It has no function, only a law: what `leaves` allows over an input is whole.
 pub trait WholeGrammar: Grammar {
     ghost use Rattle.std.specs.Prelude.{List};
     ghost use Rattle.squawk_table.specs.ParserInput.{Entry, HasNoEndToken};
@@ -12,7 +12,7 @@ pub trait WholeGrammar: Grammar {
     ghost use Rattle.squawk_parser.specs.Whole.{IsWholeFile};
     ghost use Rattle.squawk_parser.specs.declared.parser.grammar.EntryPoint.{EntryPoint};
 
-    /// What a run leaves over an input is whole. No token of an input is of the kind of its end.
+    /// What a run leaves over an input is whole. No token of an input has the kind `EOF`.
     ghost leaves_whole: { (grammar : Self) (entry : EntryPoint) (input : List Entry) (draft : Draft)
         → HasNoEndToken input → Self.leaves grammar entry input draft → IsWholeFile input draft };
 }

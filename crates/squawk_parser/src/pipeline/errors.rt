@@ -1,4 +1,4 @@
-//! Why a text isn't sent to a sink, or not all of it.
+//! The errors of the calls from a text to a sink.
 ghost use Rattle.std.specs.Prelude.{◌≡◌};
 
 use crate::parser::ParseError;
@@ -7,16 +7,16 @@ use std::alloc::AllocError;
 use std::error::Error;
 use std::fmt;
 
-/// Which stage of [`parse_into`](crate::parse_into) refused, with the error of its own.
+/// The stage of [`parse_into`](crate::parse_into) that failed, with its error.
 #[derive(Debug, Drop)]
 pub enum ParseIntoError<R> {
-    /// The raw tokens aren't those of the text, or memory was refused to their table.
+    /// The raw tokens aren't those of the text, or an allocation of their table failed.
     Table(TableError),
-    /// Memory was refused to the parser's input.
+    /// An allocation of the parser's input failed.
     Input(AllocError),
-    /// The parse was refused.
+    /// The parse failed.
     Parse(ParseError),
-    /// What the grammar left isn't one node, errors aside.
+    /// The grammar didn't leave exactly one node, errors aside.
     NoRoot,
     /// The sink refused a step.
     Sink(R),
@@ -51,9 +51,9 @@ impl<R> From<TableError> for ParseIntoError<R> {
 }
 
 impl<R> From<ParseWholeError<R>> for ParseIntoError<R> {
-    ghost use Rattle.squawk_parser.specs.Pipeline.{asking};
+    ghost use Rattle.squawk_parser.specs.Pipeline.{as_into_error};
 
-    ghost from_gives = { λ reason error. error ≡ asking reason };
+    ghost from_gives = { λ reason error. error ≡ as_into_error reason };
 
     fn from(reason: ParseWholeError<R>) -> ParseIntoError<R> {
         match reason {
@@ -65,14 +65,14 @@ impl<R> From<ParseWholeError<R>> for ParseIntoError<R> {
     }
 }
 
-/// The same of [`parse_whole_into`](crate::parse_whole_into), which asks for no root.
+/// The stage of [`parse_whole_into`](crate::parse_whole_into) that failed, with its error.
 #[derive(Debug, Drop)]
 pub enum ParseWholeError<R> {
-    /// The raw tokens aren't those of the text, or memory was refused to their table.
+    /// The raw tokens aren't those of the text, or an allocation of their table failed.
     Table(TableError),
-    /// Memory was refused to the parser's input.
+    /// An allocation of the parser's input failed.
     Input(AllocError),
-    /// The parse was refused.
+    /// The parse failed.
     Parse(ParseError),
     /// The sink refused a step.
     Sink(R),
@@ -80,9 +80,9 @@ pub enum ParseWholeError<R> {
 
 impl<R: fmt::Display> fmt::Display for ParseWholeError<R> {
     ghost use Rattle.squawk_parser.specs.ErrorLines.{parse_into_error_line};
-    ghost use Rattle.squawk_parser.specs.Pipeline.{asking};
+    ghost use Rattle.squawk_parser.specs.Pipeline.{as_into_error};
 
-    ghost output = { λ error. parse_into_error_line R.output (asking error) };
+    ghost output = { λ error. parse_into_error_line R.output (as_into_error error) };
 
     fn fmt<W: fmt::Write>(&self, f: &mut fmt::Formatter<W>) -> fmt::Result {
         match self {

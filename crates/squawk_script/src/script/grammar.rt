@@ -1,4 +1,4 @@
-//! A script as a grammar: from each entry point it makes its calls.
+//! A script as a grammar: each entry point makes its calls.
 
 use crate::run::run_calls;
 use crate::script::Script;

@@ -1,4 +1,4 @@
-//! Whether tokens touch, as bits in words.
+//! Whether tokens are joint, as bits.
 ghost use Rattle.std.specs.Prelude.{◌≡◌, ℕ, ◌<◌, ◌≤◌, [], false, length, take, replicate, slice_set, IfOk};
 ghost use Rattle.std.specs.List.{slice_index_or};
 
@@ -8,8 +8,8 @@ mod tests;
 use std::alloc::{AllocError, Global};
 use std::marker::Model;
 
-/// Bits in order, 64 in a word: bit `k` is the one of value 2^(`k` % 64) in word `k` / 64. The bits
-/// past the last are 0.
+/// A list of bits, 64 in a word. Bit `k` is the one of value 2^(`k` % 64) in word `k` / 64. Past the last
+/// bit all are 0.
 #[derive(Drop)]
 pub struct Joints {
     words: Vec<u64>,
@@ -38,7 +38,7 @@ impl Joints {
         }
     }
 
-    /// `len` bits, none of which is set.
+    /// `len` bits, of which none is set.
     pub fn with_len(alloc: Global, len: usize) -> Result<Joints, AllocError>
         ensures { IfOk result (λ joints. joints ≡ replicate len false) }
     {
@@ -48,7 +48,7 @@ impl Joints {
         })
     }
 
-    /// Gives bit `k`, which isn't set, this value, without a jump.
+    /// Gives bit `k`, which isn't set, this value, without a branch.
     pub fn set(&mut self, k: usize, bit: bool)
         requires within { k < length self.old }
         requires unset { slice_index_or self.old k false ≡ false }
@@ -57,7 +57,7 @@ impl Joints {
         self.words[k / 64] |= u64::from(bit) << (k % 64);
     }
 
-    /// Cuts the bits to the first `len`, past which none is set.
+    /// Keeps the first `len` bits, past which none is set.
     pub fn truncate(&mut self, len: usize)
         requires within { len ≤ length self.old }
         requires unset { (k : ℕ) → len ≤ k → slice_index_or self.old k false ≡ false }

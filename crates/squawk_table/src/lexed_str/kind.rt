@@ -1,4 +1,4 @@
-//! The syntax kinds of raw tokens.
+//! The syntax kinds of raw tokens. What is inlined runs for each raw token.
 ghost use Rattle.std.specs.Prelude.{◌≡◌, ◌≢◌, ℕ, List};
 ghost use Rattle.squawk_kinds.specs.Kinds.{EOF};
 ghost use Rattle.squawk_kinds.specs.Keywords.{Keywords};
@@ -14,13 +14,13 @@ pub(super) fn syntax_kind<V: Vocabulary>(kind: &TokenKind, text: &str, vocabular
 {
     match *kind {
         TokenKind::Ident => vocabulary.from_keyword(text).unwrap_or(SyntaxKind::IDENT),
-        _ => kind_alone(kind),
+        _ => kind_without_text(kind),
     }
 }
 
-/// The syntax kind of a raw token that is no identifier.
+/// The syntax kind of a raw token other than an identifier.
 #[inline(always)]
-fn kind_alone(kind: &TokenKind) -> SyntaxKind
+fn kind_without_text(kind: &TokenKind) -> SyntaxKind
     requires { IsNoIdent kind.now }
     ensures { (keyword : Keywords) → (text : List ℕ) → result ≡ kind_of keyword kind.now text }
 {
@@ -31,7 +31,7 @@ fn kind_alone(kind: &TokenKind) -> SyntaxKind
     constant
 }
 
-/// The same, for the few whose fields may say it.
+/// The same, also of kinds whose fields count.
 #[inline(never)]
 fn kind_by_fields(kind: &TokenKind) -> SyntaxKind
     requires { IsNoIdent kind.now }
@@ -45,10 +45,10 @@ fn kind_by_fields(kind: &TokenKind) -> SyntaxKind
     }
 }
 
-/// The syntax kind of a raw token which its kind says without its fields, and else the end's.
+/// The syntax kind of a raw token, if its kind says it without fields, else [`SyntaxKind::EOF`].
 ///
-/// All arms are constants and the function isn't inlined, so that it is a look-up in a table and no
-/// jump that is hard to foresee.
+/// All arms are constants and the function isn't inlined, so that it is a look-up in a table, without a
+/// branch that mispredicts.
 #[inline(never)]
 fn constant_kind(kind: &TokenKind) -> SyntaxKind
     ensures constant { IsConstant kind.now → (keyword : Keywords) → (text : List ℕ) → result ≡ kind_of keyword kind.now text }

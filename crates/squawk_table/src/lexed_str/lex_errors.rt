@@ -4,7 +4,7 @@ ghost use Rattle.std.specs.Prelude.{◌≡◌};
 use squawk_tokens::LexError;
 use std::marker::Model;
 
-/// The errors that are left of a table.
+/// The errors that are left of a table, as an iterator.
 #[derive(Drop)]
 pub struct LexErrors<'a> {
     errors: &'a [LexError],

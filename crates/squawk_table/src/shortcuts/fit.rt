@@ -1,4 +1,4 @@
-//! The test whether an output can be sent over a table.
+//! Whether an output can be sent over a table.
 ghost use Rattle.std.specs.Prelude.{◌≡◌, ◌+◌, ◌<◌, ◌≤◌, ◌↔◌, false, IsTrue, SomeIff, length, slice_index, take};
 ghost use Rattle.squawk_kinds.specs.Kinds.{is_trivia};
 ghost use Rattle.squawk_kinds.specs.Keywords.{Keywords};
@@ -13,12 +13,11 @@ use crate::lexed_str::LexedStr;
 use squawk_output::{Output, Step, Steps};
 
 impl LexedStr<'_> {
-    /// Whether the output can be sent over this table: errors aside, it is one node with all that
-    /// it holds, and under each of its tokens stand the next raw tokens that aren't trivia, with
-    /// nothing between them.
+    /// Whether the output can be sent over this table.
     ///
-    /// Of a parse over an input of this table, whatever its contextual keywords were, only the first
-    /// can fail, and [`Output::stands_in_one_root`] tells it without going over the steps.
+    /// Errors aside it must be one node with its contents, and each of its tokens must be the next raw
+    /// tokens that aren't trivia, with nothing between them. An output of a parse over an input of this
+    /// table meets the second; [`Output::stands_in_one_root`] decides the first in constant time.
     pub fn fits(&self, output: &Output) -> bool
         ensures fits { IsTrue result ↔ Fits self.now output.now.steps }
         ensures own { (contextual : Keywords) → IsOver output.now.steps (input_of contextual self.now)
@@ -27,17 +26,16 @@ impl LexedStr<'_> {
         output.stands_in_one_root() && self.tokens_fit(output.iter())
     }
 
-    /// Whether under each token of the steps stand the next raw tokens that aren't trivia, with nothing
-    /// between them.
+    /// Whether each token of the steps is the next raw tokens that aren't trivia, with nothing between them.
     fn tokens_fit(&self, steps: Steps<'_>) -> bool
         ensures { IsTrue result ↔ IsOver steps.entry (input_of no_keywords self.now) }
     {
-        let mut place = 0;
+        let mut raw = 0;
         for step in steps {
             match step {
                 Step::Token { n_input_tokens, .. } => {
-                    match self.one_token(self.past_trivia(place), n_input_tokens) {
-                        Some(end) => place = end,
+                    match self.one_token(self.past_trivia(raw), n_input_tokens) {
+                        Some(end) => raw = end,
                         None => return false,
                     }
                 }
@@ -47,7 +45,7 @@ impl LexedStr<'_> {
         true
     }
 
-    /// The place behind the trivia that stands from a raw place on.
+    /// The first raw token from `from` on that isn't trivia, or the number of raw tokens.
     fn past_trivia(&self, from: usize) -> usize
         requires { from ≤ length self.now.kinds }
         ensures within { result ≤ length self.now.kinds }
@@ -55,25 +53,25 @@ impl LexedStr<'_> {
         ensures no_trivia { result < length self.now.kinds → is_trivia (slice_index self.now.kinds result) ≡ false }
     {
         let len = self.len();
-        let mut place = from;
-        while place < len && self.kind(place).is_trivia() {
-            place += 1;
+        let mut raw = from;
+        while raw < len && self.kind(raw).is_trivia() {
+            raw += 1;
         }
-        place
+        raw
     }
 
-    /// The place behind `n` raw tokens, if they stand from this place on and none of them is trivia.
-    /// What stands at the place itself is none.
-    fn one_token(&self, place: usize, n: u8) -> Option<usize>
-        requires within { place ≤ length self.now.kinds }
-        requires first { place < length self.now.kinds → is_trivia (slice_index self.now.kinds place) ≡ false }
-        ensures { SomeIff result (HasNoTrivia (take n (raw_after self.now place)) × (1 ≤ n) × (place + n ≤ length self.now.kinds)) (place + n) }
+    /// The raw token behind the `n` from this one on, if they are there and none of them is trivia. The first
+    /// isn't trivia.
+    fn one_token(&self, raw: usize, n: u8) -> Option<usize>
+        requires within { raw ≤ length self.now.kinds }
+        requires first { raw < length self.now.kinds → is_trivia (slice_index self.now.kinds raw) ≡ false }
+        ensures { SomeIff result (HasNoTrivia (take n (raw_after self.now raw)) × (1 ≤ n) × (raw + n ≤ length self.now.kinds)) (raw + n) }
     {
-        if n == 0 || n as usize > self.len() - place {
+        if n == 0 || n as usize > self.len() - raw {
             return None;
         }
-        let end = place + n as usize;
-        for i in place + 1..end {
+        let end = raw + n as usize;
+        for i in raw + 1..end {
             if self.kind(i).is_trivia() {
                 return None;
             }

@@ -5,12 +5,11 @@ ghost use Rattle.squawk_table.specs.Sent.{errors_moved};
 use squawk_output::{Step, Steps};
 use std::marker::Model;
 
-/// The steps that are left of an output, where errors that stand directly behind a closing go
-/// before it.
+/// The steps that are left of an output, with errors directly behind a closing moved before it.
 #[derive(Drop)]
 pub(super) struct MovedErrors<'a> {
     steps: Steps<'a>,
-    /// Whether a closing stands before `steps` that wasn't given yet, since errors may follow it.
+    /// Whether a closing before `steps` is held back, since errors may follow it.
     holds_closing: bool,
 }
 
@@ -38,7 +37,7 @@ impl<'a> MovedErrors<'a> {
         }
     }
 
-    /// How many steps are left.
+    /// The number of steps that are left.
     pub(super) fn len(&self) -> usize
         ensures { result ≡ length self.now }
     {

@@ -1,4 +1,4 @@
-//! A list as a sink.
+//! A sink that is a list.
 ghost use Rattle.std.specs.Prelude.{◌≡◌, []};
 
 use crate::shortcuts::str_step::{OwnedStep, StepSink, StrStep};
@@ -6,7 +6,7 @@ use squawk_output::Text;
 use std::alloc::{AllocError, Global};
 use std::marker::Model;
 
-/// A sink that keeps copies of the steps. It refuses a step only for want of memory.
+/// A sink that keeps copies of the steps. It refuses a step only if an allocation fails.
 #[derive(Drop)]
 pub struct StepList {
     alloc: Global,
@@ -23,7 +23,7 @@ impl Model for StepList {
 }
 
 impl StepList {
-    /// The list without steps.
+    /// An empty list.
     pub fn new(alloc: Global) -> StepList
         ensures { result ≡ [] }
     {
@@ -33,7 +33,7 @@ impl StepList {
         }
     }
 
-    /// The steps that were taken, in their order.
+    /// The steps that were taken, in order.
     pub fn steps(&self) -> &[OwnedStep]
         ensures { result.now ≡ self.now }
     {

@@ -1,4 +1,4 @@
-//! What is sent for an output over its text, and the trait of what it is sent to.
+//! The steps that are sent for an output over its text, and the trait of sinks.
 ghost use Rattle.std.specs.Prelude.{List, [], ◌∷◌, ◌++◌, MatchResult};
 
 use squawk_kinds::SyntaxKind;
@@ -11,13 +11,13 @@ pub enum StrStep<'a> {
     Token { kind: SyntaxKind, text: &'a str },
     /// The beginning of a node.
     Enter { kind: SyntaxKind },
-    /// The end of the node that was entered last and not left yet.
+    /// The end of the innermost open node.
     Exit,
-    /// An error, with its text and the number of bytes of the source that stand before it.
+    /// An error, with its text and its position: the number of bytes of the source before it.
     Error { msg: &'a str, pos: usize },
 }
 
-/// The same, with texts of its own.
+/// A [`StrStep`] that owns its texts.
 #[derive(Debug, Drop)]
 pub enum OwnedStep {
     Token { kind: SyntaxKind, text: Text },
@@ -28,7 +28,7 @@ pub enum OwnedStep {
 
 /// What steps are sent to: a builder of trees, a printer, a list.
 ///
-/// A sink may refuse a step. It then stands as before.
+/// A sink may refuse a step. It then keeps the state that it had before.
 pub trait StepSink {
     ghost use Rattle.squawk_table.specs.declared.shortcuts.str_step.OwnedStep.{OwnedStep};
     ghost use Rattle.squawk_table.specs.SinkViews.{owned_step_of};
@@ -39,7 +39,7 @@ pub trait StepSink {
     /// Whether the sink stands after the steps of a list.
     ghost stands_after: { Self → List OwnedStep → Type 0 };
 
-    /// Whether a step that came after the steps of a list may be refused with an answer.
+    /// Whether a step that came after the steps of a list may be refused with this refusal.
     ghost refuses: { List OwnedStep → OwnedStep → Self.Refusal → Type 0 };
 
     /// Takes a step, or refuses it.

@@ -1,10 +1,8 @@
-//! What a builder refuses, and a tree that is deeper than any stack. A tree or a text that is too large, and want of
-//! memory, aren't reached here.
+//! What a builder refuses. A tree or a text that is too large, and want of memory, aren't reached here.
 
-use super::{NAME, ROOT, SUM, take};
-use crate::{SyntaxElement, SyntaxTree, TreeBuilder};
+use super::{NAME, ROOT, take};
+use crate::TreeBuilder;
 use squawk_table::StrStep;
-use std::alloc::Global;
 use std::fmt::Write;
 use std::test::Fail;
 
@@ -96,52 +94,4 @@ fn open_node_is_no_tree(rt: HostRuntime) -> Result<(), Fail> {
         }
     }
     Err(Fail::from("finished too early, or never"))
-}
-
-/// How many nodes are open at most in a deep tree.
-const DEPTH: usize = 1_000_000;
-
-/// A token in so many nodes.
-fn deep(alloc: Global) -> Result<SyntaxTree<'static>, Fail> {
-    let mut builder = TreeBuilder::new(alloc, "a");
-    for _ in 0..DEPTH {
-        builder.start_node(SUM)?;
-    }
-    builder.token(NAME, "a")?;
-    for _ in 0..DEPTH {
-        builder.finish_node()?;
-    }
-    match builder.finish() {
-        Ok(tree) => Ok(tree),
-        Err(_unfinished) => Err(Fail::from("unfinished")),
-    }
-}
-
-fn steps_in(tree: &SyntaxTree<'_>) -> usize {
-    let mut count = 0_usize;
-    for _step in tree.steps() {
-        count = count.wrapping_add(1);
-    }
-    count
-}
-
-fn ancestors_of(element: SyntaxElement<'_>) -> usize {
-    let mut count = 0_usize;
-    for _node in element.ancestors() {
-        count = count.wrapping_add(1);
-    }
-    count
-}
-
-#[test]
-fn deep_tree_takes_no_stack(rt: HostRuntime) -> Result<(), Fail> {
-    let tree = deep(rt.alloc())?;
-    // Each node begins and ends, and stands around the token.
-    assert_eq!(rt; steps_in(&tree), 2_000_001);
-    let Some(token) = tree.root().first_token() else {
-        return Err(Fail::from("no token"));
-    };
-    // The token itself, and each node.
-    assert_eq!(rt; ancestors_of(token), 1_000_001);
-    Ok(())
 }

@@ -4,9 +4,9 @@ use Rattle.squawk_table.specs.ParserInput.{input_of}
 use Rattle.squawk_table.specs.Shape.{Fits}
 use Rattle.squawk_document.specs.KeywordAnswers.{answers}
 use Rattle.squawk_parser.specs.Words.{words_of}
-use Rattle.squawk_answer.specs.Answers.{ParseTells}
+use Rattle.squawk_answer.specs.Answers.{ParseReturns}
 use Rattle.squawk_answer.specs.Fault.{fault_of_parse}
-use Rattle.squawk_answer.proofs.Answered.{fault-told, limit-told, none-refused, refusal-same, refusal-told, steps-told}
+use Rattle.squawk_answer.proofs.Answered.{fault-returned, limit-returned, none-refused, refusal-same, refusal-returned, steps-returned}
 use Rattle.squawk_answer.proofs.parse.parse_calls.Goals as goal
 
 pub returns-in_err-output-clause-parsed : goal.returns-in_err-output-clause-parsed
@@ -15,11 +15,11 @@ returns-in_err-output-clause-parsed c =
     let cs = c.args.calls.items in
     let input = input_of (answers c.args.vocabulary.now).contextual.kind_of c.args.table.now in
     let reason = c.in_err-output.field-0.0 in
-    fault-told c.from_residual-in_err-output.result _ (λ fault. ParseTells (by_calls c.args.entry cs) words input c.args.table.now (Err fault)) (fault_of_parse reason)
+    fault-returned c.from_residual-in_err-output.result _ (λ fault. ParseReturns (by_calls c.args.entry cs) words input c.args.table.now (Err fault)) (fault_of_parse reason)
     c.from_residual-in_err-output.ensures.1
-    (refusal-told (by_calls c.args.entry cs) words input c.args.table.now reason c.in_ok-script.ensures.accepted
+    (refusal-returned (by_calls c.args.entry cs) words input c.args.table.now reason c.in_ok-script.ensures.accepted
     (λ other. sym (refusal-same c.args.entry cs words input c.in_ok-script.script c.in_ok-input.input c.in_ok-script.ensures.script c.in_ok-input.ensures.input)
-    ∙ limit-told c.in_ok-script.script _ reason c.in_err-output.ensures.refused other))
+    ∙ limit-returned c.in_ok-script.script _ reason c.in_err-output.ensures.refused other))
 
 pub returns-then-not-stands_in_one_root-clause-parsed : goal.returns-then-not-stands_in_one_root-clause-parsed
 returns-then-not-stands_in_one_root-clause-parsed c =
@@ -27,7 +27,7 @@ returns-then-not-stands_in_one_root-clause-parsed c =
     let cs = c.args.calls.items in
     let input = input_of (answers c.args.vocabulary.now).contextual.kind_of c.args.table.now in
     let parse = c.in_ok-output.ensures.output in
-    let steps = steps-told c.args.entry cs words input c.in_ok-script.script c.in_ok-input.input c.in_ok-script.ensures.script c.in_ok-input.ensures.input c.in_ok-output.output parse in
+    let steps = steps-returned c.args.entry cs words input c.in_ok-script.script c.in_ok-input.input c.in_ok-script.ensures.script c.in_ok-input.ensures.input c.in_ok-output.output parse in
     let none = none-refused c.args.entry cs words input c.in_ok-script.script c.in_ok-input.input c.in_ok-script.ensures.script c.in_ok-input.ensures.input c.in_ok-output.output parse c.in_ok-output.ensures.within in
     ((c.in_ok-script.ensures.accepted, none), λ fits. absurd (let yes = c.stands_in_one_root.ensures.1 (subst (Fits c.args.table.now) (sym steps) fits).root in let no = c.if-not-stands_in_one_root.true in cc))
 
@@ -37,7 +37,7 @@ returns-clause-parsed c =
     let cs = c.args.calls.items in
     let input = input_of (answers c.args.vocabulary.now).contextual.kind_of c.args.table.now in
     let parse = c.in_ok-output.ensures.output in
-    let steps = steps-told c.args.entry cs words input c.in_ok-script.script c.in_ok-input.input c.in_ok-script.ensures.script c.in_ok-input.ensures.input c.in_ok-output.output parse in
+    let steps = steps-returned c.args.entry cs words input c.in_ok-script.script c.in_ok-input.input c.in_ok-script.ensures.script c.in_ok-input.ensures.input c.in_ok-output.output parse in
     let none = none-refused c.args.entry cs words input c.in_ok-script.script c.in_ok-input.input c.in_ok-script.ensures.script c.in_ok-input.ensures.input c.in_ok-output.output parse c.in_ok-output.ensures.within in
     let fits : Fits c.args.table.now c.in_ok-output.output.steps =
     record { root = c.stands_in_one_root.ensures.0 (let p = c.if-not-stands_in_one_root.false in cc); over = c.in_ok-input.ensures.over c.in_ok-output.output.steps parse.over } in

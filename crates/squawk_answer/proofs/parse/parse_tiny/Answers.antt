@@ -3,9 +3,9 @@ use Rattle.squawk_document.specs.DocumentGrammars.{by_tiny}
 use Rattle.squawk_document.specs.KeywordAnswers.{answers}
 use Rattle.squawk_table.specs.ParserInput.{input_of}
 use Rattle.squawk_parser.specs.Words.{Words}
-use Rattle.squawk_answer.specs.Answers.{ParseTells}
+use Rattle.squawk_answer.specs.Answers.{ParseReturns}
 use Rattle.squawk_answer.specs.Fault.{fault_of_parse}
-use Rattle.squawk_answer.proofs.Answered.{fault-told, refusal-told}
+use Rattle.squawk_answer.proofs.Answered.{fault-returned, refusal-returned}
 use Rattle.squawk_answer.proofs.TinyAnswered.{none-tiny, refusal-tiny, steps-tiny}
 use Rattle.squawk_answer.proofs.parse.parse_tiny.Goals as goal
 
@@ -13,13 +13,13 @@ pub returns-in_err-output-clause-parsed : goal.returns-in_err-output-clause-pars
 returns-in_err-output-clause-parsed c =
     let input = input_of (answers c.args.vocabulary.now).contextual.kind_of c.args.table.now in
     let reason = c.in_err-output.field-0.0 in
-    fault-told c.from_residual.result _ (λ fault. (words : Words) → ParseTells by_tiny words input c.args.table.now (Err fault)) (fault_of_parse reason)
+    fault-returned c.from_residual.result _ (λ fault. (words : Words) → ParseReturns by_tiny words input c.args.table.now (Err fault)) (fault_of_parse reason)
     c.from_residual.ensures.1
-    (λ words. refusal-told by_tiny words input c.args.table.now reason tt (refusal-tiny words input _ reason c.in_err-output.ensures.refused))
+    (λ words. refusal-returned by_tiny words input c.args.table.now reason tt (refusal-tiny words input _ reason c.in_err-output.ensures.refused))
 
 pub returns-clause-parsed : goal.returns-clause-parsed
 returns-clause-parsed c =
     let input = input_of (answers c.args.vocabulary.now).contextual.kind_of c.args.table.now in
     let output = c.in_ok-output.output in
-    let told = c.in_ok-output.ensures in
-    λ words. ((tt, none-tiny words input output told.output told.within), told.fits, steps-tiny words input output told.output)
+    let known = c.in_ok-output.ensures in
+    λ words. ((tt, none-tiny words input output known.output known.within), known.fits, steps-tiny words input output known.output)

@@ -1,5 +1,5 @@
 use Rattle.std.proofs.Common.{◌≡◌, ◌∙◌, ap, subst}
-use Rattle.squawk_keywords.specs.TextKeys.{both, key_of, word_at}
+use Rattle.squawk_keywords.specs.TextKeys.{both, key_of, four_bytes_at}
 use Rattle.squawk_keywords.proofs.TextKeyLemmas.{key-4, key-none, key-short}
 use Rattle.squawk_keywords.proofs.text_key.exact_key.Goals as goal
 
@@ -14,6 +14,6 @@ returns c =
 pub returns-then-len-ge4 : goal.returns-then-len-ge4
 returns-then-len-ge4 c =
     let bytes = c.as_bytes-bytes.result.now in
-    subst (λ text. (both c.word-one.result c.word-two.result, both c.word-three.result c.word-four.result) ≡ key_of text) c.as_bytes-bytes.ensures.value
-    (key-4 bytes _ _ _ _ c.if-len-ge4.true c.word-one.ensures.word (c.word-two.ensures.word ∙ ap (word_at bytes) c.min.ensures)
-    (c.word-three.ensures.word ∙ ap (word_at bytes) c.min-then-len-ge4.ensures) c.word-four.ensures.word)
+    subst (λ text. (both c.four_bytes-one.result c.four_bytes-two.result, both c.four_bytes-three.result c.four_bytes-four.result) ≡ key_of text) c.as_bytes-bytes.ensures.value
+    (key-4 bytes _ _ _ _ c.if-len-ge4.true c.four_bytes-one.ensures.value (c.four_bytes-two.ensures.value ∙ ap (four_bytes_at bytes) c.min.ensures)
+    (c.four_bytes-three.ensures.value ∙ ap (four_bytes_at bytes) c.min-then-len-ge4.ensures) c.four_bytes-four.ensures.value)

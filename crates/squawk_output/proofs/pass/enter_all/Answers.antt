@@ -5,4 +5,4 @@ pub enter-requires-clause-room : goal.enter-requires-clause-room
 enter-requires-clause-room c = next_enters _ _ c.pop.new.self.items _ _ c.in-Some.kind c.in-Some.ensures.items c.loop-kind.invariant c.requires.room
 
 pub loop-kind-preserved : goal.loop-kind-preserved
-loop-kind-preserved c = Enters-next _ _ c.pop.new.self.items _ _ c.enter.new.passed c.in-Some.kind c.in-Some.ensures.items c.enter.ensures c.loop-kind.invariant
+loop-kind-preserved c = Enters-next _ _ c.pop.new.self.items _ _ c.enter.new.builder c.in-Some.kind c.in-Some.ensures.items c.enter.ensures c.loop-kind.invariant

@@ -2,9 +2,9 @@ use Rattle.std.proofs.Common.{◌-◌, ◌≤◌, length}
 use Rattle.squawk_output.specs.Pass.{PassesList}
 use Rattle.squawk_output.proofs.pass.pass.Given as goal
 
-abbrev pub invariant-loop-place : goal.invariant-loop-place
-invariant-loop-place l =
-    PassesList l.initial.events.items l.initial.passed.texts l.events.items l.passed l.kinds.items l.place × (l.place ≤ length l.events.items)
+abbrev pub invariant-loop-index : goal.invariant-loop-index
+invariant-loop-index l =
+    PassesList l.initial.events.items l.initial.builder.texts l.events.items l.builder l.kinds.items l.index × (l.index ≤ length l.events.items)
 
-abbrev pub decreases-loop-place : goal.decreases-loop-place
-decreases-loop-place l = length l.events.items - l.place
+abbrev pub decreases-loop-index : goal.decreases-loop-index
+decreases-loop-index l = length l.events.items - l.index

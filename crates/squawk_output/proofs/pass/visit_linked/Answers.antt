@@ -9,7 +9,7 @@ use Rattle.squawk_output.proofs.pass.visit_linked.Goals as goal
 
 pub loop-next-init : goal.loop-next-init
 loop-next-init c =
-    let texts = c.args.passed.now.texts in (
+    let texts = c.args.builder.now.texts in (
       follows_here texts _ _ c.requires.within _ _ c.index-event.ensures c.requires.linked c.kind.result c.distance-next.result (c.kind.ensures texts) (c.distance-next.ensures texts)
           c.requires.links _ c.push.new.self.items c.requires.none c.in_ok-push.ensures.items,
       c.requires.texts,
@@ -17,7 +17,7 @@ loop-next-init c =
 
 pub overflow_add-at : goal.overflow_add-at
 overflow_add-at c =
-    let texts = c.args.passed.now.texts in
+    let texts = c.args.builder.now.texts in
     omega (
       arith,
       link_within texts c.loop-next.events.items c.loop-next.at c.loop-next.next c.loop-next-test.true c.loop-next.invariant.0.lands,
@@ -29,23 +29,23 @@ overflow_add-at c =
 
 pub index-event-requires-in-loop-next : goal.index-event-requires-in-loop-next
 index-event-requires-in-loop-next c =
-    omega (arith, link_within c.args.passed.now.texts c.loop-next.events.items c.loop-next.at c.loop-next.next c.loop-next-test.true c.loop-next.invariant.0.lands)
+    omega (arith, link_within c.args.builder.now.texts c.loop-next.events.items c.loop-next.at c.loop-next.next c.loop-next-test.true c.loop-next.invariant.0.lands)
 
 pub kind-kind-requires : goal.kind-kind-requires
 kind-kind-requires c =
-    landed_starting c.args.passed.now.texts c.loop-next.events.items c.loop-next.at c.loop-next.next c.loop-next-test.true c.loop-next.invariant.0.lands _ _ c.index-event-in-loop-next.ensures
+    landed_starting c.args.builder.now.texts c.loop-next.events.items c.loop-next.at c.loop-next.next c.loop-next-test.true c.loop-next.invariant.0.lands _ _ c.index-event-in-loop-next.ensures
 
 pub distance-next-requires-in-loop-next : goal.distance-next-requires-in-loop-next
 distance-next-requires-in-loop-next c =
-    landed_starting c.args.passed.now.texts c.loop-next.events.items c.loop-next.at c.loop-next.next c.loop-next-test.true c.loop-next.invariant.0.lands _ _ c.index-event-in-loop-next.ensures
+    landed_starting c.args.builder.now.texts c.loop-next.events.items c.loop-next.at c.loop-next.next c.loop-next-test.true c.loop-next.invariant.0.lands _ _ c.index-event-in-loop-next.ensures
 
 pub index_mut-requires : goal.index_mut-requires
 index_mut-requires c =
-    omega (arith, link_within c.args.passed.now.texts c.loop-next.events.items c.loop-next.at c.loop-next.next c.loop-next-test.true c.loop-next.invariant.0.lands)
+    omega (arith, link_within c.args.builder.now.texts c.loop-next.events.items c.loop-next.at c.loop-next.next c.loop-next-test.true c.loop-next.invariant.0.lands)
 
 pub loop-next-smaller : goal.loop-next-smaller
 loop-next-smaller c =
-    let texts = c.args.passed.now.texts in
+    let texts = c.args.builder.now.texts in
     let next = c.loop-next.next in
     let more = c.loop-next-test.true in
     rw (map-set (event_of texts) c.loop-next.events.items (c.loop-next.at + next) c.tombstone.result)
@@ -56,7 +56,7 @@ loop-next-smaller c =
 
 pub loop-next-preserved : goal.loop-next-preserved
 loop-next-preserved c =
-    let texts = c.args.passed.now.texts in
+    let texts = c.args.builder.now.texts in
     let next = c.loop-next.next in
     let more = c.loop-next-test.true in (
       rw (map-set (event_of texts) c.loop-next.events.items (c.loop-next.at + next) c.tombstone.result)
@@ -69,21 +69,21 @@ loop-next-preserved c =
 
 pub enter_all-requires-clause-turns : goal.enter_all-requires-clause-turns
 enter_all-requires-clause-turns c =
-    let texts = c.args.passed.now.texts in
+    let texts = c.args.builder.now.texts in
     linked_fits texts _ _ c.requires.within _ _ c.index-event.ensures c.requires.linked c.kind.result c.distance-next.result (c.kind.ensures texts) (c.distance-next.ensures texts)
     c.requires.links _ c.push.new.self.items c.requires.none c.in_ok-push.ensures.items c.loop-next.events.items _ c.loop-next.at c.loop-next.next c.loop-next-test.false c.loop-next.invariant.0
-    c.args.passed.now c.requires.few c.requires.turns
+    c.args.builder.now c.requires.few c.requires.turns
 
 pub enter_all-requires-clause-room : goal.enter_all-requires-clause-room
 enter_all-requires-clause-room c =
-    let texts = c.args.passed.now.texts in
+    let texts = c.args.builder.now.texts in
     linked_has_room texts _ _ c.requires.within _ _ c.index-event.ensures c.requires.linked c.kind.result c.distance-next.result (c.kind.ensures texts) (c.distance-next.ensures texts)
     c.requires.links _ c.push.new.self.items c.requires.none c.in_ok-push.ensures.items c.loop-next.events.items _ c.loop-next.at c.loop-next.next c.loop-next-test.false c.loop-next.invariant.0
-    c.args.passed.now c.requires.room
+    c.args.builder.now c.requires.room
 
 pub returns-clause-visits : goal.returns-clause-visits
 returns-clause-visits c =
-    let texts = c.args.passed.now.texts in
+    let texts = c.args.builder.now.texts in
     linked_visits texts _ _ c.requires.within _ _ c.index-event.ensures c.requires.linked c.kind.result c.distance-next.result (c.kind.ensures texts) (c.distance-next.ensures texts)
     c.requires.links _ c.push.new.self.items c.requires.none c.in_ok-push.ensures.items c.loop-next.events.items _ c.loop-next.at c.loop-next.next c.loop-next-test.false c.loop-next.invariant.0
-    c.args.passed.now c.enter_all.new.passed c.enter_all.ensures.passed
+    c.args.builder.now c.enter_all.new.builder c.enter_all.ensures.builder

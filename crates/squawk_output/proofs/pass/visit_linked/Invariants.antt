@@ -6,9 +6,9 @@ use Rattle.squawk_output.proofs.pass.visit_linked.Given as goal
 
 abbrev pub invariant-loop-next : goal.invariant-loop-next
 invariant-loop-next l =
-    Follows (log_in l.passed.texts l.initial.events.items) l.initial.kinds.items (hop l.initial.at (link_of l.initial.next))
-    (log_in l.passed.texts l.events.items) l.kinds.items (hop l.at (link_of l.next))
-    × HaveEventTexts l.passed.texts l.events.items
+    Follows (log_in l.builder.texts l.initial.events.items) l.initial.kinds.items (hop l.initial.at (link_of l.initial.next))
+    (log_in l.builder.texts l.events.items) l.kinds.items (hop l.at (link_of l.next))
+    × HaveEventTexts l.builder.texts l.events.items
 
 abbrev pub decreases-loop-next : goal.decreases-loop-next
-decreases-loop-next l = length (chain (hop l.at (link_of l.next)) (log_in l.passed.texts l.events.items))
+decreases-loop-next l = length (chain (hop l.at (link_of l.next)) (log_in l.builder.texts l.events.items))

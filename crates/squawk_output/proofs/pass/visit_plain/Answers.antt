@@ -7,4 +7,4 @@ gives_plain-requires-clause-room c = next_has_room _ _ _ _ _ c.loop-at.invariant
 
 pub loop-at-preserved : goal.loop-at-preserved
 loop-at-preserved c =
-    visits_next _ _ _ c.gives_plain.new.passed _ _ c.loop-at.invariant _ _ c.loop-at-test.true c.index-events-at.is (c.if-gives_plain.ensures.gives refl)
+    visits_next _ _ _ c.gives_plain.new.builder _ _ c.loop-at.invariant _ _ c.loop-at-test.true c.index-events-at.is (c.if-gives_plain.ensures.gives refl)

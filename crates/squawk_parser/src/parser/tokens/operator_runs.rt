@@ -1,7 +1,7 @@
-//! What tells how long an operator is without a pass over it.
+//! The lengths of operators, without a pass over each.
 //!
-//! An operator ends where its run of touching kinds ends, or at the limit. The last special kind
-//! before that end and the last kind that is no sign then tell how long it is.
+//! An operator's run of touching kinds ends at some token, or at the limit. The last special kind before
+//! that end and the last kind that is no sign then decide its length.
 ghost use Rattle.std.specs.Prelude.{◌≡◌, ◌*◌, ◌+◌, ◌<◌, ◌≤◌, ◌↔◌, ℕ, length, not, IfOk, IsTrue, if◌then◌else◌};
 ghost use Rattle.squawk_kinds.specs.TokenSets.{has};
 ghost use Rattle.squawk_parser.specs.LookAhead.{seen_from};
@@ -17,16 +17,16 @@ use std::alloc::{AllocError, Global};
 #[derive(Drop)]
 pub(super) struct OperatorRuns {
     operator_first: TokenSet,
-    /// Where the kinds of an operator end that stand at the token.
+    /// The index past the run of touching operator kinds that starts at the token.
     ends: Vec<u32>,
-    /// The place past the last special kind, of the tokens up to this one.
+    /// The index past the last special kind of the tokens up to this one.
     past_specials: Vec<u32>,
-    /// The place past the last kind that is no sign, of the tokens up to this one.
+    /// The index past the last kind that is no sign, of the tokens up to this one.
     past_others: Vec<u32>,
 }
 
 impl OperatorRuns {
-    /// The numbers of an input, for operators of these kinds, in two passes.
+    /// Makes the numbers of an input, for operators of these kinds, in two passes.
     pub(super) fn new(
         alloc: Global,
         input: &Input,
@@ -52,33 +52,33 @@ impl OperatorRuns {
         self.operator_first == *operator_first
     }
 
-    /// How many tokens the operator at token `place` has of those before token `limit`.
-    pub(super) fn operator_len(&self, input: &Input, place: usize, limit: usize) -> usize
+    /// The number of tokens before token `limit` that the operator at token `start` has.
+    pub(super) fn operator_len(&self, input: &Input, start: usize, limit: usize) -> usize
         requires runs { AreRunsOf self.now input.now }
         requires limit { limit ≤ length input.now }
-        ensures { result ≡ operator_length (has self.now.operator_first) (seen_from input.now limit place) }
+        ensures { result ≡ operator_length (has self.now.operator_first) (seen_from input.now limit start) }
     {
-        if place >= limit {
+        if start >= limit {
             return 0;
         }
-        let end = limit.min(self.ends[place] as usize);
-        if end <= place {
+        let end = limit.min(self.ends[start] as usize);
+        if end <= start {
             return 0;
         }
         let last = end - 1;
-        if self.past_specials[last] as usize > place {
-            return end - place;
+        if self.past_specials[last] as usize > start {
+            return end - start;
         }
         let past_other = self.past_others[last] as usize;
-        if past_other > place {
-            past_other - place
+        if past_other > start {
+            past_other - start
         } else {
             1
         }
     }
 }
 
-/// For each token the place where the kinds of an operator end that stand there.
+/// For each token the index past the run of touching operator kinds that starts there.
 fn run_ends(alloc: Global, input: &Input, operator_first: &TokenSet) -> Result<Vec<u32>, AllocError>
     requires { length input.now ≤ u32.MAX }
     ensures { IfOk result (λ ends. AreEnds (has operator_first.now) input.now ends.items) }
@@ -86,23 +86,22 @@ fn run_ends(alloc: Global, input: &Input, operator_first: &TokenSet) -> Result<V
     let len = input.len();
     let mut ends = vec![in alloc; 0; len]?;
     let mut end = len;
-    for place in (0..len).rev() {
-        if !operator_first.contains(input.kind(place)) {
-            end = place;
-        } else if !input.is_joint(place) {
-            end = place + 1;
+    for index in (0..len).rev() {
+        if !operator_first.contains(input.kind(index)) {
+            end = index;
+        } else if !input.is_joint(index) {
+            end = index + 1;
         }
-        ends[place] = end as u32;
+        ends[index] = end as u32;
     }
     Ok(ends)
 }
 
-/// For each token the place past the last special kind up to it, and the place past the last kind
-/// that is no sign.
+/// For each token the index past the last special kind up to it, and past the last kind that is no sign.
 fn past_last(alloc: Global, input: &Input) -> Result<(Vec<u32>, Vec<u32>), AllocError>
     requires { length input.now ≤ u32.MAX }
-    ensures specials { IfOk result (λ places. ArePastLast is_special input.now (length input.now) places.0.items) }
-    ensures others { IfOk result (λ places. ArePastLast is_no_sign input.now (length input.now) places.1.items) }
+    ensures specials { IfOk result (λ pasts. ArePastLast is_special input.now (length input.now) pasts.0.items) }
+    ensures others { IfOk result (λ pasts. ArePastLast is_no_sign input.now (length input.now) pasts.1.items) }
 {
     let len = input.len();
     let mut past_specials = Vec::with_capacity(alloc, len)?;
@@ -119,8 +118,7 @@ fn past_last(alloc: Global, input: &Input) -> Result<(Vec<u32>, Vec<u32>), Alloc
     Ok((past_specials, past_others))
 }
 
-/// The place past the last token that passes a test, up to token `i`: past that one if it passes,
-/// else the place `before` it.
+/// The index past the last token up to token `i` that passes a test: past `i` if that one does, else `before`.
 fn past(i: usize, passes: bool, before: u32) -> u32
     requires { i < u32.MAX }
     ensures { result ≡ (if passes then i + 1 else before) }
@@ -128,15 +126,16 @@ fn past(i: usize, passes: bool, before: u32) -> u32
     if passes { i as u32 + 1 } else { before }
 }
 
-/// How many tokens are looked at together.
+/// The number of tokens that are tested together.
 const BLOCK: usize = 16;
 
-/// Whether an operator of these kinds may be long. Where not, none has 32 tokens: a run of so many
-/// has a block of tokens that touch the next.
+/// Whether an operator of these kinds may be long. If not, each has fewer than 32 tokens.
+///
+/// A run of 32 tokens has a whole block in which each touches the next.
 pub(super) fn has_long_run(input: &Input, operator_first: &TokenSet) -> bool
     requires { length input.now ≤ u32.MAX }
-    ensures { IsTrue (not result) → (limit place : ℕ) → limit ≤ length input.now
-        → length (touching_run (has operator_first.now) (seen_from input.now limit place)) < 32 }
+    ensures { IsTrue (not result) → (limit start : ℕ) → limit ≤ length input.now
+        → length (touching_run (has operator_first.now) (seen_from input.now limit start)) < 32 }
 {
     for block in 0..input.len() / BLOCK {
         if is_in_run(input, block * BLOCK, operator_first) {
@@ -146,7 +145,7 @@ pub(super) fn has_long_run(input: &Input, operator_first: &TokenSet) -> bool
     false
 }
 
-/// Whether each token of the block that starts there touches the next and may be one of an operator.
+/// Whether each token of the block at `start` has an operator's kind and touches the next.
 fn is_in_run(input: &Input, start: usize, operator_first: &TokenSet) -> bool
     requires few { length input.now ≤ u32.MAX }
     requires within { start + BLOCK ≤ length input.now }

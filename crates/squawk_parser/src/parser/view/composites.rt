@@ -1,7 +1,7 @@
-//! Whether a composite kind stands at the front of a view.
+//! Whether a composite kind is at the front of a view. What is inlined picks the form of a constant kind.
 ghost use Rattle.std.specs.Prelude.{◌≡◌, ◌≤◌, ◌==◌, map};
 ghost use Rattle.std.specs.List.{list_any};
-ghost use Rattle.squawk_parser.specs.CompositeRows.{element_of};
+ghost use Rattle.squawk_parser.specs.CompositeForms.{element_of};
 ghost use Rattle.squawk_parser.specs.Composites.{stands_at, do_touch, are_apart, sequence_length, normal_forms};
 ghost use Rattle.squawk_kinds.specs.TokenSets.{has};
 
@@ -10,7 +10,7 @@ use crate::parser::view::View;
 use squawk_kinds::{SyntaxKind, TokenSet};
 
 impl View<'_> {
-    /// Whether the kind, composite or not, stands at the front.
+    /// Whether the kind, composite or not, is at the front.
     #[inline(always)]
     pub(in crate::parser) fn is_at(&self, kind: SyntaxKind, operator_first: &TokenSet) -> bool
         ensures { result ≡ stands_at (has operator_first.now) kind self.now }
@@ -26,15 +26,15 @@ impl View<'_> {
         }
     }
 
-    /// The same view, made anew: so a look that ends before it asks has none in memory.
+    /// A copy of the view, so that a test that ends before this call needs none in memory.
     #[inline(always)]
     fn again(&self) -> View<'_>
         ensures { result ≡ self.now }
     {
-        View::new(self.tokens, self.place, self.limit)
+        View::new(self.tokens, self.start, self.limit)
     }
 
-    /// Whether the parts stand at the front, each touching the next.
+    /// Whether the parts are at the front and each touches the next.
     #[inline(always)]
     fn do_touch(&self, parts: &Parts) -> bool
         ensures { result ≡ do_touch parts.now self.now }
@@ -48,7 +48,8 @@ impl View<'_> {
         true
     }
 
-    /// Whether the first `n` tokens, which touch, are no part of another operator.
+    /// Whether the first `n` tokens, which touch, are no part of a longer operator.
+    // Few kinds get here.
     #[cold]
     fn are_apart(&self, n: usize, operator_first: &TokenSet) -> bool
         requires { 1 ≤ n }
@@ -60,7 +61,7 @@ impl View<'_> {
             || self.operator_len_up_to(n, operator_first) == n
     }
 
-    /// How many tokens the parts of a sequence have at the front, if they stand there.
+    /// The number of tokens that the parts of a sequence have at the front, if they are there.
     #[inline(always)]
     fn sequence_len(&self, parts: &Parts) -> Option<usize>
         ensures { result ≡ sequence_length (map element_of parts.now) self.now }
@@ -81,7 +82,7 @@ impl View<'_> {
     }
 }
 
-/// Whether the kind is that of a normal form of Unicode.
+/// Whether the kind is the keyword of a normal form of Unicode.
 pub(in crate::parser) fn is_normal_form(kind: SyntaxKind) -> bool
     ensures { result ≡ list_any (λ form. kind == form) normal_forms }
 {

@@ -1,4 +1,4 @@
-//! How long the operator at the front of a view is.
+//! The length of the operator at the front of a view.
 ghost use Rattle.std.specs.Prelude.{◌≡◌};
 ghost use Rattle.squawk_parser.specs.Operators.{operator_length, is_next_apart};
 ghost use Rattle.squawk_parser.specs.OperatorLengths.{IsLengthUpTo};
@@ -9,19 +9,17 @@ use crate::parser::view::View;
 use squawk_kinds::TokenSet;
 
 impl View<'_> {
-    /// How many tokens the operator at the front has; 0 where there is none.
+    /// The number of tokens of the operator at the front; 0 if there is none.
     pub(in crate::parser) fn operator_len(&self, operator_first: &TokenSet) -> usize
         ensures { result ≡ operator_length (has operator_first.now) self.now }
     {
         self.operator_len_up_to(usize::MAX, operator_first)
     }
 
-    /// How many tokens the operator at the front has, or a number above `most` where it has more than
-    /// that.
+    /// The number of tokens of the operator at the front, or a number above `most` if there are more.
     ///
-    /// Where no run is long: one pass over the tokens that touch. What was read so far is a name or
-    /// not, and the last length at which it was one is the longest. It ends where that is above
-    /// `most`.
+    /// If the lengths aren't known, this is one pass over the tokens that touch. The longest name is the last
+    /// prefix read that is one. The pass ends once it has more than `most` tokens.
     pub(in crate::parser) fn operator_len_up_to(
         &self,
         most: usize,
@@ -31,33 +29,33 @@ impl View<'_> {
     {
         if let Some(len) = self
             .tokens
-            .operator_len(self.place, self.limit, operator_first)
+            .operator_len(self.start, self.limit, operator_first)
         {
             return len;
         }
         let mut longest = 0;
         let mut has_special = false;
-        for place in self.place..self.limit {
+        for index in self.start..self.limit {
             if longest > most {
                 break;
             }
-            let kind = self.tokens.kind(place);
+            let kind = self.tokens.kind(index);
             if !operator_first.contains(kind) {
                 break;
             }
             has_special = has_special || is_special(kind);
-            let len = place - self.place + 1;
+            let len = index - self.start + 1;
             if len == 1 || has_special || !is_sign(kind) {
                 longest = len;
             }
-            if !self.tokens.is_joint(place) {
+            if !self.tokens.is_joint(index) {
                 break;
             }
         }
         longest
     }
 
-    /// Whether no operator joins the first two tokens.
+    /// Whether the first two tokens aren't joined by an operator.
     pub(in crate::parser) fn is_next_apart(&self, operator_first: &TokenSet) -> bool
         ensures { result ≡ is_next_apart (has operator_first.now) self.now }
     {

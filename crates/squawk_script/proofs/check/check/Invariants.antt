@@ -1,4 +1,4 @@
--- The table has the statuses of the markers after the calls so far, which are all good.
+-- The list has the statuses of the markers after the calls so far, which are all good.
 use Rattle.std.proofs.Common.{◌≡◌, vec_capacity, take}
 use Rattle.squawk_script.specs.Accepted.{AreGoodBelow}
 use Rattle.squawk_script.proofs.Statuses.{AreStatusesOf}
@@ -6,7 +6,7 @@ use Rattle.squawk_script.proofs.check.check.Given as goal
 
 abbrev pub invariant-loop-index : goal.invariant-loop-index
 invariant-loop-index l = record {
-  statuses : AreStatusesOf (take l.index l.calls) l.table.items;
-  capacity : vec_capacity l.table ≡ l.markers;
+  statuses : AreStatusesOf (take l.index l.calls) l.statuses.items;
+  capacity : vec_capacity l.statuses ≡ l.markers;
   good : AreGoodBelow l.calls l.index;
 }

@@ -1,4 +1,4 @@
-//! The words of inputs: a word is an identifier of one byte, a space white space of one byte.
+//! The words of joints: inputs of identifiers and spaces of one byte each.
 
 use crate::input::Input;
 use crate::lexed_str::{LexedStr, Token, TokenKind};
@@ -7,7 +7,7 @@ use std::ops::Range;
 use std::process::Abort;
 use std::test::Fail;
 
-const WORD: Token = Token {
+const IDENT: Token = Token {
     kind: TokenKind::Ident,
     len: 1,
 };
@@ -17,8 +17,8 @@ const SPACE: Token = Token {
     len: 1,
 };
 
-/// That the input of the tokens has these words, and that its last tokens, those of `apart`, touch
-/// no next token and all others do.
+/// Asserts that the input of the tokens has joints of these words, and that its last tokens, those of `apart`,
+/// aren't joint and all others are.
 fn assert_joints(
     rt: &(impl Abort + AllocGlobal),
     text: &str,
@@ -27,7 +27,10 @@ fn assert_joints(
     words: &[u64],
 ) -> Result<(), Fail> {
     let alloc = rt.alloc();
-    let input = LexedStr::new(alloc, text, tokens, &NoKeywords)?.to_input(alloc, &NoKeywords)?;
+    let table = LexedStr::new(alloc, text, tokens, &NoKeywords)?;
+    assert!(rt; !table.is_empty());
+    let input = table.to_input(alloc, &NoKeywords)?;
+    assert!(rt; !input.is_empty());
     assert_eq!(rt; input.len(), apart.end);
     for i in 0..input.len() {
         assert_eq!(rt; input.is_joint(i), i < apart.start, "token {i}");
@@ -39,34 +42,34 @@ fn assert_joints(
 }
 
 #[test]
-fn sixty_five_words_that_touch(rt: HostRuntime) -> Result<(), Fail> {
+fn sixty_five_joint_tokens(rt: HostRuntime) -> Result<(), Fail> {
     let text = "a".repeat(rt.alloc(), 65)?;
     assert_joints(
         &rt,
         text.as_str(),
-        &[WORD; 65],
+        &[IDENT; 65],
         64..65,
         &[0xffff_ffff_ffff_ffff, 0],
     )
 }
 
 #[test]
-fn sixty_six_words_that_touch(rt: HostRuntime) -> Result<(), Fail> {
+fn sixty_six_joint_tokens(rt: HostRuntime) -> Result<(), Fail> {
     let text = "a".repeat(rt.alloc(), 66)?;
     assert_joints(
         &rt,
         text.as_str(),
-        &[WORD; 66],
+        &[IDENT; 66],
         65..66,
         &[0xffff_ffff_ffff_ffff, 1],
     )
 }
 
 #[test]
-fn a_space_before_the_sixty_fifth_word(rt: HostRuntime) -> Result<(), Fail> {
+fn a_space_before_the_sixty_fifth_token(rt: HostRuntime) -> Result<(), Fail> {
     let mut text = "a".repeat(rt.alloc(), 64)?;
     text.push_str(" a")?;
-    let mut tokens = [WORD; 66];
+    let mut tokens = [IDENT; 66];
     tokens[64] = SPACE;
     assert_joints(
         &rt,

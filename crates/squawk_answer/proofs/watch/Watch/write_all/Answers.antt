@@ -9,7 +9,7 @@ loop-rest-preserved g c =
     let rest = c.loop-rest.rest.now in
     let n = c.in-Some.n in
     record {
-      watch = c.in-Some.ensures.noted ∙ c.loop-rest.invariant.watch;
+      watch = c.in-Some.ensures.watched ∙ c.loop-rest.invariant.watch;
       written = (done ++ take n rest, part-more _ done rest n split, Appends-trans _ _ _ _ _ appended c.in-Some.ensures.some.2);
     }
 

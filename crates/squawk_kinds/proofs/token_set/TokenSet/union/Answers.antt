@@ -17,7 +17,7 @@ both a b =
     ∷ bit_or (get_or a 9 0) (get_or b 9 0)
     ∷ []
 
--- each is what it should be
+-- each has the bits of both sets
 each_word : (a b : List ℕ) (i : ℕ) → i < 10 → get_or (both a b) i 0 ≡ bit_or (get_or a i 0) (get_or b i 0)
 each_word a b =
     let P : ℕ → Type 0 = λ i. get_or (both a b) i 0 ≡ bit_or (get_or a i 0) (get_or b i 0) in

@@ -5,13 +5,13 @@ use Rattle.squawk_kinds.specs.TokenSets.{has}
 use Rattle.squawk_table.specs.ParserInput.{Entry, kind_in}
 use Rattle.squawk_table.specs.Shape.{AreOneToken}
 use Rattle.squawk_output.specs.Steps.{Token}
-use Rattle.squawk_parser.specs.CompositeRows.{element_of, tail_of}
+use Rattle.squawk_parser.specs.CompositeForms.{element_of, tail_of}
 use Rattle.squawk_parser.specs.Composites.{Glued, do_touch, stands_at}
-use Rattle.squawk_parser.specs.Eaten.{element_steps, node, row_of}
+use Rattle.squawk_parser.specs.Eaten.{element_steps, node, composite_of}
 use Rattle.squawk_parser.specs.Recorded.{Puts}
 use Rattle.squawk_parser.specs.State.{ahead}
 use Rattle.squawk_parser.specs.declared.parser.composite.Form.TheVariants as form
-use Rattle.squawk_parser.proofs.CompositeFacts.{IsRow, eat_steps-none, eat_steps-row, glued-no_end, glued-some, is_no_row, is_row, sequence-no_end, stands_at-none, stands_at-row}
+use Rattle.squawk_parser.proofs.CompositeFacts.{IsComposite, eat_steps-none, eat_steps-composite, glued-no_end, glued-some, is_no_composite, is_composite, sequence-no_end, stands_at-none, stands_at-composite}
 use Rattle.squawk_parser.proofs.Markers.{hole-put}
 use Rattle.squawk_parser.proofs.RecordedSteps.{node_puts, token_puts}
 use Rattle.squawk_parser.proofs.SeenSteps.{ahead-still, and-left, seen_one, touching_all}
@@ -19,14 +19,14 @@ use Rattle.squawk_parser.proofs.SomeSteps.{puts_some}
 use Rattle.squawk_parser.proofs.parser.Parser.bump.Goals as goal
 
 -- glued tokens that stand are one
-glued_one : (kind : ℕ) (parts slice : List ℕ) (seen : List Entry) (operator_kind : ℕ → Bool) → IsRow kind (Glued parts)
+glued_one : (kind : ℕ) (parts slice : List ℕ) (seen : List Entry) (operator_kind : ℕ → Bool) → IsComposite kind (Glued parts)
     → stands_at operator_kind kind seen ≡ true → slice ≡ parts → AreOneToken (length slice) seen
 glued_one kind parts slice seen operator_kind r stands is =
-    let touch : do_touch parts seen ≡ true = and-left _ _ (sym (stands_at-row operator_kind seen r) ∙ stands) in
+    let touch : do_touch parts seen ≡ true = and-left _ _ (sym (stands_at-composite operator_kind seen r) ∙ stands) in
     subst (λ xs. AreOneToken (length xs) seen) (sym is) (touching_all parts seen (glued-some r) (glued-no_end r) touch)
 
 -- so is the token of a kind that isn't composite
-plain_one : (kind : ℕ) (seen : List Entry) (operator_kind : ℕ → Bool) → row_of kind ≡ None → stands_at operator_kind kind seen ≡ true → kind ≢ EOF → AreOneToken 1 seen
+plain_one : (kind : ℕ) (seen : List Entry) (operator_kind : ℕ → Bool) → composite_of kind ≡ None → stands_at operator_kind kind seen ≡ true → kind ≢ EOF → AreOneToken 1 seen
 plain_one kind seen operator_kind none stands some =
     let first : (kind_in seen 0 == kind) ≡ true = sym (stands_at-none kind operator_kind seen none) ∙ stands in
     let same : kind_in seen 0 ≡ kind = eqb-true (kind_in seen 0) kind first in
@@ -35,21 +35,21 @@ plain_one kind seen operator_kind none stands some =
 pub do_bump-requires : goal.do_bump-requires
 do_bump-requires c =
     let old = c.args.self.now in
-    let none = is_no_row c.args.kind c.composite.result c.in-None.is c.composite.ensures in
+    let none = is_no_composite c.args.kind c.composite.result c.in-None.is c.composite.ensures in
     plain_one c.args.kind (ahead old 0) (has old.words.operator_first) none c.requires.at c.requires.end
 
 pub do_bump-requires-in-Some-Glued : goal.do_bump-requires-in-Some-Glued
 do_bump-requires-in-Some-Glued c =
     let old = c.args.self.now in
-    let row = c.in-Some-Glued in
-    let r = is_row c.args.kind c.composite.result (form.Glued row.parts) (row.is ∙ ap Some row.field-0-is) c.composite.ensures in
-    glued_one c.args.kind row.parts c.as_slice.result.now (ahead old 0) (has old.words.operator_first) r c.requires.at c.as_slice.ensures
+    let composite = c.in-Some-Glued in
+    let r = is_composite c.args.kind c.composite.result (form.Glued composite.parts) (composite.is ∙ ap Some composite.field-0-is) c.composite.ensures in
+    glued_one c.args.kind composite.parts c.as_slice.result.now (ahead old 0) (has old.words.operator_first) r c.requires.at c.as_slice.ensures
 
 pub eat_elements-requires-clause-no_end : goal.eat_elements-requires-clause-no_end
 eat_elements-requires-clause-no_end c =
-    let row = c.in-Some-Sequence in
-    let r = is_row c.args.kind c.composite.result (form.Sequence row.parts row.field-0-1) (row.is ∙ ap Some row.field-0-is) c.composite.ensures in
-    sequence-no_end c.args.kind row.parts (tail_of row.field-0-1) r
+    let composite = c.in-Some-Sequence in
+    let r = is_composite c.args.kind c.composite.result (form.Sequence composite.parts composite.field-0-1) (composite.is ∙ ap Some composite.field-0-is) c.composite.ensures in
+    sequence-no_end c.args.kind composite.parts (tail_of composite.field-0-1) r
 
 pub complete-requires-clause-hole : goal.complete-requires-clause-hole
 complete-requires-clause-hole c =
@@ -60,43 +60,43 @@ pub returns-in-None-clause-puts : goal.returns-in-None-clause-puts
 returns-in-None-clause-puts c =
     let old = c.args.self.now in
     let bump = c.do_bump.ensures in
-    let none = is_no_row c.args.kind c.composite.result c.in-None.is c.composite.ensures in
+    let none = is_no_composite c.args.kind c.composite.result c.in-None.is c.composite.ensures in
     subst (λ steps. Puts steps old c.do_bump.new.self) (sym (eat_steps-none c.args.kind old.words (ahead old 0) none)) (token_puts c.args.kind 1 bump.keeps bump.records bump.position)
 
 pub returns-in-Some-Glued-clause-puts : goal.returns-in-Some-Glued-clause-puts
 returns-in-Some-Glued-clause-puts c =
     let old = c.args.self.now in
-    let row = c.in-Some-Glued in
+    let composite = c.in-Some-Glued in
     let bump = c.do_bump-in-Some-Glued.ensures in
-    let r = is_row c.args.kind c.composite.result (form.Glued row.parts) (row.is ∙ ap Some row.field-0-is) c.composite.ensures in
+    let r = is_composite c.args.kind c.composite.result (form.Glued composite.parts) (composite.is ∙ ap Some composite.field-0-is) c.composite.ensures in
     let same = ap (λ parts. Token c.args.kind (length parts) ∷ []) c.as_slice.ensures in
-    subst (λ steps. Puts steps old c.do_bump-in-Some-Glued.new.self) (same ∙ sym (eat_steps-row old.words (ahead old 0) r))
+    subst (λ steps. Puts steps old c.do_bump-in-Some-Glued.new.self) (same ∙ sym (eat_steps-composite old.words (ahead old 0) r))
     (token_puts c.args.kind (length c.as_slice.result.now) bump.keeps bump.records bump.position)
 
 pub returns-in-Some-Touching-clause-puts : goal.returns-in-Some-Touching-clause-puts
 returns-in-Some-Touching-clause-puts c =
     let old = c.args.self.now in
-    let row = c.in-Some-Touching in
-    let r = is_row c.args.kind c.composite.result (form.Touching row.parts) (row.is ∙ ap Some row.field-0-is) c.composite.ensures in
-    subst (λ steps. Puts steps old c.eat_touching.new.self) (sym (eat_steps-row old.words (ahead old 0) r)) c.eat_touching.ensures
+    let composite = c.in-Some-Touching in
+    let r = is_composite c.args.kind c.composite.result (form.Touching composite.parts) (composite.is ∙ ap Some composite.field-0-is) c.composite.ensures in
+    subst (λ steps. Puts steps old c.eat_touching.new.self) (sym (eat_steps-composite old.words (ahead old 0) r)) c.eat_touching.ensures
 
 pub returns-in-Some-Operator-clause-puts : goal.returns-in-Some-Operator-clause-puts
 returns-in-Some-Operator-clause-puts c =
     let old = c.args.self.now in
-    let row = c.in-Some-Operator in
-    let r = is_row c.args.kind c.composite.result form.Operator (row.is ∙ ap Some row.field-0-is) c.composite.ensures in
-    subst (λ steps. Puts steps old c.eat_operator.new.self) (sym (eat_steps-row old.words (ahead old 0) r)) c.eat_operator.ensures.puts
+    let composite = c.in-Some-Operator in
+    let r = is_composite c.args.kind c.composite.result form.Operator (composite.is ∙ ap Some composite.field-0-is) c.composite.ensures in
+    subst (λ steps. Puts steps old c.eat_operator.new.self) (sym (eat_steps-composite old.words (ahead old 0) r)) c.eat_operator.ensures.puts
 
 pub returns-in-Some-Sequence-clause-puts : goal.returns-in-Some-Sequence-clause-puts
 returns-in-Some-Sequence-clause-puts c =
     let old = c.args.self.now in
-    let row = c.in-Some-Sequence in
+    let composite = c.in-Some-Sequence in
     let start = c.start-node.ensures in
     let elements = c.eat_elements.ensures in
     let done = c.complete.ensures in
-    let r = is_row c.args.kind c.composite.result (form.Sequence row.parts row.field-0-1) (row.is ∙ ap Some row.field-0-is) c.composite.ensures in
-    let seen = ap (λ seen. node c.args.kind (element_steps (map element_of row.parts) seen)) (ahead-still start.begins.keeps start.begins.position) in
-    subst (λ steps. Puts steps old c.complete.new.p) (seen ∙ sym (eat_steps-row old.words (ahead old 0) r))
+    let r = is_composite c.args.kind c.composite.result (form.Sequence composite.parts composite.field-0-1) (composite.is ∙ ap Some composite.field-0-is) c.composite.ensures in
+    let seen = ap (λ seen. node c.args.kind (element_steps (map element_of composite.parts) seen)) (ahead-still start.begins.keeps start.begins.position) in
+    subst (λ steps. Puts steps old c.complete.new.p) (seen ∙ sym (eat_steps-composite old.words (ahead old 0) r))
     (node_puts start.begins elements done.completes)
 
 pub returns-in-None-clause-some : goal.returns-in-None-clause-some

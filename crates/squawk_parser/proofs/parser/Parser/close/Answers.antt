@@ -1,6 +1,6 @@
 use Rattle.std.proofs.Common.{◌≡◌, ◌∙◌, ap, sym}
 use Rattle.squawk_kinds.specs.Kinds.{EOF, R_PAREN}
-use Rattle.squawk_parser.specs.CompositeRows.{tail_of}
+use Rattle.squawk_parser.specs.CompositeForms.{tail_of}
 use Rattle.squawk_parser.proofs.parser.Parser.close.Goals as goal
 
 pub expect-requires-clause-end : goal.expect-requires-clause-end

@@ -4,7 +4,7 @@ use Rattle.squawk_output.specs.Draft.{IsLogged}
 use Rattle.squawk_output.specs.Edits.{with_token}
 use Rattle.squawk_table.specs.Shape.{AreOneToken}
 use Rattle.squawk_parser.specs.State.{IsSound, ahead}
-use Rattle.squawk_parser.proofs.Noted.{noted}
+use Rattle.squawk_parser.proofs.FailedIfRefused.{failed_if_refused}
 use Rattle.squawk_parser.proofs.Soundness.{IsSound-with_token, IsSound-failed, IsSound-past}
 use Rattle.squawk_parser.proofs.ParserViews.{seen, has_room, sees_same}
 use Rattle.squawk_parser.proofs.parser.Parser.do_bump.Goals as goal
@@ -25,8 +25,8 @@ invariant_of-self c =
           let after = IsSound-with_token s before can.goes c.args.kind n can.room one in
           let failed = IsSound-past (record s { first_reason = _ }) n (IsSound-failed s before) refl one in
           rw w.self-inside-is
-          (noted IsLogged (λ draft reason. IsSound (record s { draft = draft; first_reason = reason; position = s.position + n })) s (with_token s.draft c.args.kind n)
-          w.token.new.self w.note.new.first_reason w.token.result w.token.ensures.logged after failed w.token.ensures.ok w.token.ensures.err w.note.ensures.ok w.note.ensures.err)
+          (failed_if_refused IsLogged (λ draft reason. IsSound (record s { draft = draft; first_reason = reason; position = s.position + n })) s (with_token s.draft c.args.kind n)
+          w.token.new.self w.fail_if_refused.new.first_reason w.token.result w.token.ensures.logged after failed w.token.ensures.ok w.token.ensures.err w.fail_if_refused.ensures.ok w.fail_if_refused.ensures.err)
       | else-has_room w ↦
           let failed = (w.if-has_room.ensures.full refl).1 in
           let after = IsSound-past s n before (subst (λ t. IsSome t.first_reason) (sym c.self.view_is) failed) one in

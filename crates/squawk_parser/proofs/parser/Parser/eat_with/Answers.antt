@@ -1,25 +1,25 @@
 use Rattle.std.proofs.Common.{◌∙◌, ap, refl, sym, subst, Some}
-use Rattle.squawk_parser.specs.CompositeRows.{tail_of}
+use Rattle.squawk_parser.specs.CompositeForms.{tail_of}
 use Rattle.squawk_parser.specs.Eaten.{closing_steps, element_steps}
 use Rattle.squawk_parser.specs.Recorded.{Completes, Puts}
 use Rattle.squawk_parser.specs.State.{ahead}
 use Rattle.squawk_parser.specs.declared.parser.composite.Form.TheVariants as form
-use Rattle.squawk_parser.proofs.CompositeFacts.{elements-row, is_row, sequence-closed, sequence-no_end, tail-row}
+use Rattle.squawk_parser.proofs.CompositeFacts.{elements-composite, is_composite, sequence-closed, sequence-no_end, tail-composite}
 use Rattle.squawk_parser.proofs.Markers.{hole-put}
 use Rattle.squawk_parser.proofs.TailHoles.{hole-behind_tail}
 use Rattle.squawk_parser.proofs.parser.Parser.eat_with.Goals as goal
 
 pub eat_elements-requires-clause-no_end : goal.eat_elements-requires-clause-no_end
 eat_elements-requires-clause-no_end g c =
-    let row = c.in-Some-Sequence in
-    let r = is_row c.args.kind c.composite.result (form.Sequence row.parts row.closing) (row.is ∙ ap Some row.field-0-is) c.composite.ensures in
-    sequence-no_end c.args.kind row.parts (tail_of row.closing) r
+    let composite = c.in-Some-Sequence in
+    let r = is_composite c.args.kind c.composite.result (form.Sequence composite.parts composite.closing) (composite.is ∙ ap Some composite.field-0-is) c.composite.ensures in
+    sequence-no_end c.args.kind composite.parts (tail_of composite.closing) r
 
 pub close-requires-clause-closed : goal.close-requires-clause-closed
 close-requires-clause-closed g c =
-    let row = c.in-Some-Sequence in
-    let r = is_row c.args.kind c.composite.result (form.Sequence row.parts row.closing) (row.is ∙ ap Some row.field-0-is) c.composite.ensures in
-    sequence-closed c.args.kind row.parts (tail_of row.closing) r
+    let composite = c.in-Some-Sequence in
+    let r = is_composite c.args.kind c.composite.result (form.Sequence composite.parts composite.closing) (composite.is ∙ ap Some composite.field-0-is) c.composite.ensures in
+    sequence-closed c.args.kind composite.parts (tail_of composite.closing) r
 
 pub complete-requires-clause-hole : goal.complete-requires-clause-hole
 complete-requires-clause-hole g c =
@@ -29,23 +29,23 @@ complete-requires-clause-hole g c =
 
 pub returns-clause-eats : goal.returns-clause-eats
 returns-clause-eats g c _ =
-    let row = c.in-Some-Sequence in
+    let composite = c.in-Some-Sequence in
     let begun = c.start-node.new.self in
     let ran = c.run.new.p in
     let begins = c.start-node.ensures.begins in
-    let r = is_row c.args.kind c.composite.result (form.Sequence row.parts row.closing) (row.is ∙ ap Some row.field-0-is) c.composite.ensures in
+    let r = is_composite c.args.kind c.composite.result (form.Sequence composite.parts composite.closing) (composite.is ∙ ap Some composite.field-0-is) c.composite.ensures in
     record {
       between = begun;
       does_so = record { sound = begins.sound; is = refl; keeps = begins.keeps; position = begins.position; records = begins.records };
       goes_on = record {
         between = c.eat_elements.new.self;
-        does_so = subst (λ steps. Puts steps begun c.eat_elements.new.self) (ap (λ elements. element_steps elements (ahead begun 0)) (sym (elements-row r))) c.eat_elements.ensures;
+        does_so = subst (λ steps. Puts steps begun c.eat_elements.new.self) (ap (λ elements. element_steps elements (ahead begun 0)) (sym (elements-composite r))) c.eat_elements.ensures;
         goes_on = record {
           between = ran;
           does_so = record { keeps = c.run.ensures.keeps; runs = c.run.ensures.does; holes = c.run.ensures.holes };
           goes_on = record {
             between = c.close.new.self;
-            does_so = subst (λ steps. Puts steps ran c.close.new.self) (ap (λ tail. closing_steps ran.words tail (ahead ran 0)) (sym (tail-row r))) c.close.ensures;
+            does_so = subst (λ steps. Puts steps ran c.close.new.self) (ap (λ tail. closing_steps ran.words tail (ahead ran 0)) (sym (tail-composite r))) c.close.ensures;
             goes_on = subst (λ id. Completes id c.args.kind c.close.new.self c.complete.new.p) (ap (λ m. m.id) begins.is) c.complete.ensures.completes;
           };
         };

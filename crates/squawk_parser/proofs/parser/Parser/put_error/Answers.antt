@@ -6,7 +6,7 @@ use Rattle.squawk_output.specs.Steps.{Error}
 use Rattle.squawk_parser.specs.Recorded.{Puts}
 use Rattle.squawk_parser.specs.State.{IsSound}
 use Rattle.squawk_parser.specs.declared.parser.parse_error.ParseError.TheVariants.{OutOfMemory}
-use Rattle.squawk_parser.proofs.Noted.{noted}
+use Rattle.squawk_parser.proofs.FailedIfRefused.{failed_if_refused}
 use Rattle.squawk_output.specs.Draft.{IsLogged}
 use Rattle.squawk_parser.proofs.Soundness.{IsSound-with_error, IsSound-failed}
 use Rattle.squawk_parser.proofs.ParserViews.{seen, has_room, errors_room}
@@ -15,7 +15,7 @@ use Rattle.squawk_parser.proofs.parser.Parser.put_error.Goals as goal
 
 pub returns-in-Err : goal.returns-in-Err
 returns-in-Err c =
-    λ msg _. rw (c.note.ensures.err refl)
+    λ msg _. rw (c.fail_if_refused.ensures.err refl)
     (Puts-refused (seen c.self.inside) c.args.self.now msg OutOfMemory c.self.view_is c.requires.goes (c.requires.room, omega (arith, c.requires.errors), λ _. c.requires.errors) (IsSound-failed (seen c.self.inside) c.self.invariant))
 
 pub invariant_of-self-2 : goal.invariant_of-self-2
@@ -27,8 +27,8 @@ invariant_of-self-2 c =
     let before = c.self.invariant in
     let after = IsSound-with_error s before can.goes text can.room errors in
     let failed = IsSound-failed s before in
-    noted IsLogged (λ draft reason. IsSound (record s { draft = draft; first_reason = reason })) s (with_error s.draft text) c.error.new.self c.note-2.new.first_reason
-    c.error.result c.error.ensures.logged after failed c.error.ensures.ok c.error.ensures.err c.note-2.ensures.ok c.note-2.ensures.err
+    failed_if_refused IsLogged (λ draft reason. IsSound (record s { draft = draft; first_reason = reason })) s (with_error s.draft text) c.error.new.self c.fail_if_refused-2.new.first_reason
+    c.error.result c.error.ensures.logged after failed c.error.ensures.ok c.error.ensures.err c.fail_if_refused-2.ensures.ok c.fail_if_refused-2.ensures.err
 
 pub returns : goal.returns
 returns c msg is =
@@ -41,5 +41,5 @@ returns c msg is =
     let errors = errors_room s old c.self.view_is c.requires.errors in
     let sound = IsSound-with_error s c.self.invariant can.goes text can.room errors in
     let put : IsLogged (with_error s.draft text) → Puts (Error msg ∷ []) old (record s { draft = with_error s.draft text }) = λ logged. subst (λ m. Puts (Error m ∷ []) old (record s { draft = with_error s.draft text })) same (Puts-error s old text c.self.view_is c.requires.goes (sound logged)) in
-    noted IsLogged (λ draft reason. Puts (Error msg ∷ []) old (record s { draft = draft; first_reason = reason })) s (with_error s.draft text) c.error.new.self
-    c.note-2.new.first_reason c.error.result c.error.ensures.logged put refused c.error.ensures.ok c.error.ensures.err c.note-2.ensures.ok c.note-2.ensures.err
+    failed_if_refused IsLogged (λ draft reason. Puts (Error msg ∷ []) old (record s { draft = draft; first_reason = reason })) s (with_error s.draft text) c.error.new.self
+    c.fail_if_refused-2.new.first_reason c.error.result c.error.ensures.logged put refused c.error.ensures.ok c.error.ensures.err c.fail_if_refused-2.ensures.ok c.fail_if_refused-2.ensures.err

@@ -2,7 +2,7 @@ use Rattle.std.proofs.Common.{◌≡◌, ◌∙◌, refl}
 use Rattle.squawk_output.specs.Draft.{IsLogged}
 use Rattle.squawk_output.specs.Edits.{started}
 use Rattle.squawk_parser.specs.State.{IsSound}
-use Rattle.squawk_parser.proofs.Noted.{noted}
+use Rattle.squawk_parser.proofs.FailedIfRefused.{failed_if_refused}
 use Rattle.squawk_parser.proofs.Soundness.{IsSound-started, IsSound-failed}
 use Rattle.squawk_parser.proofs.ParserViews.{seen, has_room}
 use Rattle.squawk_parser.proofs.parser.Parser.start.Goals as goal
@@ -14,5 +14,5 @@ invariant_of-self c =
     let same : s ≡ c.args.self.now = c.self.view_is ∙ room.0 in
     let can = has_room s c.args.self.now same (room.1, room.2) in
     let before = c.self.invariant in
-    noted IsLogged (λ draft reason. IsSound (record s { draft = draft; first_reason = reason })) s (started s.draft) c.start.new.self c.note.new.first_reason c.start.result
-    c.start.ensures.logged (IsSound-started s before can.goes can.room) (IsSound-failed s before) c.start.ensures.ok c.start.ensures.err c.note.ensures.ok c.note.ensures.err
+    failed_if_refused IsLogged (λ draft reason. IsSound (record s { draft = draft; first_reason = reason })) s (started s.draft) c.start.new.self c.fail_if_refused.new.first_reason c.start.result
+    c.start.ensures.logged (IsSound-started s before can.goes can.room) (IsSound-failed s before) c.start.ensures.ok c.start.ensures.err c.fail_if_refused.ensures.ok c.fail_if_refused.ensures.err

@@ -8,10 +8,10 @@ pub returns-then-is_trivia : goal.returns-then-is_trivia
 returns-then-is_trivia c = λ found.
     let t = c.args.self.now in
     let trivia : is_trivia (slice_index t.kinds c.loop-i.i) ≡ true = sym (c.is_trivia.ensures ∙ ap is_trivia c.kind.ensures) ∙ c.if-is_trivia.true in
-    true≢false (sym trivia ∙ kinds-HasNoTrivia t c.args.n c.args.place found.2 found.0 c.loop-i.i (omega arith) (omega arith))
+    true≢false (sym trivia ∙ kinds-HasNoTrivia t c.args.n c.args.raw found.2 found.0 c.loop-i.i (omega arith) (omega arith))
 
 pub returns : goal.returns
 returns c =
     let t = c.args.self.now in
-    let room : c.args.place + c.args.n ≤ length t.kinds = omega arith in
-    ((HasNoTrivia-kinds t c.args.n c.args.place room (λ k ge lt. c.loop-i.invariant k ge (omega arith)), omega arith, room), refl)
+    let room : c.args.raw + c.args.n ≤ length t.kinds = omega arith in
+    ((HasNoTrivia-kinds t c.args.n c.args.raw room (λ k ge lt. c.loop-i.invariant k ge (omega arith)), omega arith, room), refl)

@@ -10,7 +10,7 @@ loop-step-preserved-in-Some-one_token c =
     let told = c.in-Some-one_token.ensures in
     let rest = c.next.new.self in
     let next : c.loop-step.step-iterator ≡ Token c.in-Token.kind c.in-Token.n_input_tokens ∷ rest = c.in-Some.ensures.steps ∙ ap (λ s. step_of s ∷ rest) c.in-Token.is in
-    let behind = over_behind c.args.self.now rest c.loop-step.place c.past_trivia.result c.in-Token.kind c.in-Token.n_input_tokens c.past_trivia.ensures.within c.past_trivia.ensures.past
+    let behind = over_behind c.args.self.now rest c.loop-step.raw c.past_trivia.result c.in-Token.kind c.in-Token.n_input_tokens c.past_trivia.ensures.within c.past_trivia.ensures.past
     told.0.0 told.0.1 told.0.2 in
     rw told.1 (record {
       within = told.0.2;
@@ -21,5 +21,5 @@ pub returns-in-None-one_token : goal.returns-in-None-one_token
 returns-in-None-one_token c =
     let rest = c.next.new.self in
     let next : c.loop-step.step-iterator ≡ Token c.in-Token.kind c.in-Token.n_input_tokens ∷ rest = c.in-Some.ensures.steps ∙ ap (λ s. step_of s ∷ rest) c.in-Token.is in
-    let there = front_there c.args.self.now rest c.loop-step.place c.past_trivia.result c.in-Token.kind c.in-Token.n_input_tokens c.past_trivia.ensures.within c.past_trivia.ensures.past in
+    let there = front_there c.args.self.now rest c.loop-step.raw c.past_trivia.result c.in-Token.kind c.in-Token.n_input_tokens c.past_trivia.ensures.within c.past_trivia.ensures.past in
     (λ yes. absurd (false≢true yes), λ over. absurd (c.in-None-one_token.ensures (there (rw next at (c.loop-step.invariant.over.0 over)))))

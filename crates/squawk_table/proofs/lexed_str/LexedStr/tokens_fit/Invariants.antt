@@ -7,6 +7,6 @@ use Rattle.squawk_table.proofs.lexed_str.LexedStr.tokens_fit.Given as goal
 
 abbrev pub invariant-loop-step : goal.invariant-loop-step
 invariant-loop-step l = record {
-  within : l.place ≤ length l.self.kinds;
-  over : IsOver l.fn.steps (input_of no_keywords l.self) ↔ IsOver l.step-iterator (entries_after l.self l.place);
+  within : l.raw ≤ length l.self.kinds;
+  over : IsOver l.fn.steps (input_of no_keywords l.self) ↔ IsOver l.step-iterator (entries_after l.self l.raw);
 }

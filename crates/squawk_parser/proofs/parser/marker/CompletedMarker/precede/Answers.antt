@@ -3,7 +3,7 @@ use Rattle.std.specs.Prelude.{true, Contains}
 use Rattle.squawk_output.specs.Draft.{IsLogged, Node, Open}
 use Rattle.squawk_output.specs.Edits.{preceded}
 use Rattle.squawk_parser.specs.State.{State, HasHole, HasNode, IsSound}
-use Rattle.squawk_parser.proofs.Noted.{noted}
+use Rattle.squawk_parser.proofs.FailedIfRefused.{failed_if_refused}
 use Rattle.squawk_parser.proofs.Soundness.{IsSound-failed, IsSound-preceded}
 use Rattle.squawk_parser.proofs.ParserViews.{seen, has_room}
 use Rattle.squawk_parser.proofs.Markers.{hole-preceded}
@@ -20,9 +20,9 @@ invariant_of-p c =
     let Has : State → Node → Type 0 = λ t m. Contains t.draft.items (Open m.id m.kind true) in
     let there = subst (λ t. Has t node) (sym same) (subst (Has c.args.p.now) (sym c.self.view_is) (c.requires room.1)) in
     let before = c.p.invariant in
-    noted IsLogged (λ draft reason. IsSound (record s { draft = draft; first_reason = reason })) s (preceded s.draft node.id) c.precede.new.self c.note.new.first_reason
+    failed_if_refused IsLogged (λ draft reason. IsSound (record s { draft = draft; first_reason = reason })) s (preceded s.draft node.id) c.precede.new.self c.fail_if_refused.new.first_reason
     c.precede.result c.precede.ensures.logged (IsSound-preceded s before can.goes node.id node.kind can.room there) (IsSound-failed s before)
-    c.precede.ensures.ok c.precede.ensures.err c.note.ensures.ok c.note.ensures.err
+    c.precede.ensures.ok c.precede.ensures.err c.fail_if_refused.ensures.ok c.fail_if_refused.ensures.err
 
 pub returns-clause-precedes : goal.returns-clause-precedes
 returns-clause-precedes c = search rules

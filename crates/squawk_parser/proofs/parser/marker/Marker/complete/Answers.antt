@@ -4,7 +4,7 @@ use Rattle.squawk_output.specs.Draft.{Hole, IsLogged, Mark, Node}
 use Rattle.squawk_output.specs.Edits.{completed}
 use Rattle.squawk_parser.specs.Recorded.{Completes}
 use Rattle.squawk_parser.specs.State.{State, HasHole, IsSound}
-use Rattle.squawk_parser.proofs.Noted.{noted}
+use Rattle.squawk_parser.proofs.FailedIfRefused.{failed_if_refused}
 use Rattle.squawk_parser.proofs.Soundness.{IsSound-completed, IsSound-failed}
 use Rattle.squawk_parser.proofs.ParserViews.{seen, has_room}
 use Rattle.squawk_parser.proofs.Markers.{node-completed}
@@ -22,9 +22,9 @@ invariant_of-p c =
     let there : Contains s.draft.items (Hole m.id m.made) =
     subst (λ t. Has t m) (sym same) (subst (Has c.args.p.now) (sym c.self.view_is) (c.requires.hole room.1)) in
     let before = c.p.invariant in
-    noted IsLogged (λ draft reason. IsSound (record s { draft = draft; first_reason = reason })) s (completed s.draft m.id c.args.kind) c.complete.new.self
-    c.note.new.first_reason c.complete.result c.complete.ensures.logged (IsSound-completed s before can.goes m.id c.args.kind m.made can.room there) (IsSound-failed s before)
-    c.complete.ensures.ok c.complete.ensures.err c.note.ensures.ok c.note.ensures.err
+    failed_if_refused IsLogged (λ draft reason. IsSound (record s { draft = draft; first_reason = reason })) s (completed s.draft m.id c.args.kind) c.complete.new.self
+    c.fail_if_refused.new.first_reason c.complete.result c.complete.ensures.logged (IsSound-completed s before can.goes m.id c.args.kind m.made can.room there) (IsSound-failed s before)
+    c.complete.ensures.ok c.complete.ensures.err c.fail_if_refused.ensures.ok c.fail_if_refused.ensures.err
 
 pub returns-clause-at_hand : goal.returns-clause-at_hand
 returns-clause-at_hand c =

@@ -13,9 +13,9 @@ loop-block-preserved c block lt run =
     ]
   where
     not_here : IsInRun (has c.args.operator_first.now) c.args.input.now (c.loop-block.block * 16) → ⊥
-    not_here run = let told = c.is_in_run.ensures.1 run in let no = c.if-is_in_run.false in cc
+    not_here run = let known = c.is_in_run.ensures.1 run in let no = c.if-is_in_run.false in cc
 
 pub returns : goal.returns
-returns c _ limit place within =
-    no_long_run (has c.args.operator_first.now) c.args.input.now limit within place
+returns c _ limit index within =
+    no_long_run (has c.args.operator_first.now) c.args.input.now limit within index
     (λ block before. c.loop-block.invariant block (omega (arith, c.loop-block-test.false, c.loop-block.auto.block-end, c.len-block-end.ensures.len)))

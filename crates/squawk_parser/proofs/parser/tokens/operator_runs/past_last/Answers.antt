@@ -2,7 +2,7 @@ use Rattle.std.proofs.Common.{◌≡◌, ◌∙◌, ◌+◌, not, if◌then◌el
 use Rattle.squawk_table.specs.ParserInput.{kind_in}
 use Rattle.squawk_parser.specs.Operators.{is_sign, is_special}
 use Rattle.squawk_parser.specs.OperatorRuns.{IsPastLast, is_no_sign}
-use Rattle.squawk_parser.proofs.RunEnds.{past_more, places_more}
+use Rattle.squawk_parser.proofs.RunEnds.{past_more, pasts_more}
 use Rattle.squawk_parser.proofs.parser.tokens.operator_runs.past_last.Goals as goal
 
 pub loop-i-preserved : goal.loop-i-preserved
@@ -19,8 +19,8 @@ loop-i-preserved c =
     record {
       special = special_here;
       other = other_here;
-      specials = rw c.push_reserved.ensures.items (places_more is_special input i c.past-past_special.result c.loop-i.past_specials.items before.specials special_here);
-      others = rw c.push_reserved-in-loop-i.ensures.items (places_more is_no_sign input i c.past-past_other.result c.loop-i.past_others.items before.others other_here);
+      specials = rw c.push_reserved.ensures.items (pasts_more is_special input i c.past-past_special.result c.loop-i.past_specials.items before.specials special_here);
+      others = rw c.push_reserved-in-loop-i.ensures.items (pasts_more is_no_sign input i c.past-past_other.result c.loop-i.past_others.items before.others other_here);
       specials_len = omega (arith, c.push_reserved.ensures.len, before.specials_len);
       others_len = omega (arith, c.push_reserved-in-loop-i.ensures.len, before.others_len);
       specials_room = c.push_reserved.ensures.capacity ∙ before.specials_room;

@@ -4,7 +4,7 @@ use Rattle.squawk_parser.specs.Operators.{is_special}
 use Rattle.squawk_parser.specs.OperatorRuns.{ArePastLast, IsPastLast, is_no_sign}
 use Rattle.squawk_parser.proofs.parser.tokens.operator_runs.past_last.Given as goal
 
--- the places of the tokens so far, and those that are the last now
+-- the indices past the last ones for each token so far, and for all of these
 abbrev pub invariant-loop-i : goal.invariant-loop-i
 invariant-loop-i l = record {
   special : IsPastLast is_special l.input l.i l.past_special;

@@ -6,32 +6,32 @@ use Rattle.squawk_parser.proofs.TouchingRun.{run_at, longest_at-start, longest_a
 use Rattle.squawk_parser.proofs.parser.view.View.operator_len_up_to.Goals as goal
 use Rattle.squawk_parser.proofs.parser.view.View.operator_len_up_to.Goals.{Joined-len-eq1, Joined-has_special, then-has_special, else-has_special, then-len-eq1, then-len-eq1-via-then-len-eq1, then-len-eq1-via-else-len-eq1+then-has_special-2, then-len-eq1-via-else-len-eq1+else-has_special-2+then-not-is_sign, else-len-eq1+else-has_special-2+else-not-is_sign}
 
-pub loop-place-init : goal.loop-place-init
-loop-place-init c =
+pub loop-index-init : goal.loop-index-init
+loop-index-init c =
     let view = c.self.inside in
     let operator_kind = has c.args.operator_first.now in
-    let none : view.place - view.place ≡ 0 = omega arith in
+    let none : view.start - view.start ≡ 0 = omega arith in
     record {
-      all = ap (λ len. longest_from len false 0 (run_at operator_kind view.tokens.now.input.now view.limit view.place)) none
-          ∙ (longest_at-start operator_kind view.tokens.now.input.now view.limit view.place ∙ ap (operator_length operator_kind) c.self.view_is);
+      all = ap (λ len. longest_from len false 0 (run_at operator_kind view.tokens.now.input.now view.limit view.start)) none
+          ∙ (longest_at-start operator_kind view.tokens.now.input.now view.limit view.start ∙ ap (operator_length operator_kind) c.self.view_is);
       within = omega arith;
     }
 
-pub returns-after-loop-place : goal.returns-after-loop-place
-returns-after-loop-place c =
+pub returns-after-loop-index : goal.returns-after-loop-index
+returns-after-loop-index c =
     let view = c.self.inside in
-    let l = c.loop-place in
-    inl (sym (longest_at-limit (has c.args.operator_first.now) view.tokens.now.input.now view.limit l.place (l.place - view.place) l.has_special l.longest c.loop-place-test.false) ∙ l.invariant.all)
+    let l = c.loop-index in
+    inl (sym (longest_at-limit (has c.args.operator_first.now) view.tokens.now.input.now view.limit l.index (l.index - view.start) l.has_special l.longest c.loop-index-test.false) ∙ l.invariant.all)
 
 pub returns-then-not-contains : goal.returns-then-not-contains
 returns-then-not-contains c =
     let view = c.self.inside in
-    let l = c.loop-place in
-    inl (sym (longest_at-other (has c.args.operator_first.now) view.tokens.now.input.now view.limit l.place (l.place - view.place) l.has_special l.longest
-    c.kind-kind.result c.loop-place-test.true c.self.invariant c.kind-kind.ensures (sym c.contains.ensures ∙ c.if-not-contains.true)) ∙ l.invariant.all)
+    let l = c.loop-index in
+    inl (sym (longest_at-other (has c.args.operator_first.now) view.tokens.now.input.now view.limit l.index (l.index - view.start) l.has_special l.longest
+    c.kind-kind.result c.loop-index-test.true c.self.invariant c.kind-kind.ensures (sym c.contains.ensures ∙ c.if-not-contains.true)) ∙ l.invariant.all)
 
 -- what the turn makes of the test for a special kind
-special_here : (c : Joined-has_special) → c.if-has_special.has_special ≡ (c.loop-place.has_special || is_special c.kind-kind.result)
+special_here : (c : Joined-has_special) → c.if-has_special.has_special ≡ (c.loop-index.has_special || is_special c.kind-kind.result)
 special_here c = elim c.if-has_special.branch [
   | then-has_special w ↦ w.has_special-is ∙ (w.if-has_special.true ∙ ap (λ special. special || is_special c.kind-kind.result) (sym w.if-has_special.true))
   | else-has_special w ↦
@@ -40,11 +40,11 @@ special_here c = elim c.if-has_special.branch [
 
 -- what the turn makes of the longest name
 longest_here : (c : Joined-len-eq1)
-    → c.if-len-eq1.longest ≡ longest_after (c.loop-place.place - c.self.inside.place + 1) c.if-has_special.has_special c.loop-place.longest c.kind-kind.result
+    → c.if-len-eq1.longest ≡ longest_after (c.loop-index.index - c.self.inside.start + 1) c.if-has_special.has_special c.loop-index.longest c.kind-kind.result
 longest_here c =
-    let len = c.loop-place.place - c.self.inside.place + 1 in
+    let len = c.loop-index.index - c.self.inside.start + 1 in
     let special = c.if-has_special.has_special in
-    let longest = c.loop-place.longest in
+    let longest = c.loop-index.longest in
     let kind = c.kind-kind.result in
     elim c.if-len-eq1.branch [
       | then-len-eq1 w ↦ elim w.then-len-eq1.branch [
@@ -60,37 +60,37 @@ longest_here c =
 pub returns-then-not-is_joint : goal.returns-then-not-is_joint
 returns-then-not-is_joint c =
     let view = c.self.inside in
-    let l = c.loop-place in
+    let l = c.loop-index in
     let special = special_here (goal.at.returns-then-not-is_joint c).Joined-has_special in
     inl (longest_here (goal.at.returns-then-not-is_joint c).Joined-len-eq1
-    ∙ (ap (λ any. longest_after (l.place - view.place + 1) any l.longest c.kind-kind.result) special
-    ∙ (sym (longest_at-last (has c.args.operator_first.now) view.tokens.now.input.now view.limit l.place (l.place - view.place) l.has_special l.longest
-    c.kind-kind.result c.loop-place-test.true c.self.invariant c.kind-kind.ensures (sym c.contains.ensures ∙ c.if-not-contains.false)
+    ∙ (ap (λ any. longest_after (l.index - view.start + 1) any l.longest c.kind-kind.result) special
+    ∙ (sym (longest_at-last (has c.args.operator_first.now) view.tokens.now.input.now view.limit l.index (l.index - view.start) l.has_special l.longest
+    c.kind-kind.result c.loop-index-test.true c.self.invariant c.kind-kind.ensures (sym c.contains.ensures ∙ c.if-not-contains.false)
     (sym c.is_joint.ensures ∙ c.if-not-is_joint.true)) ∙ l.invariant.all)))
 
 -- a longer name was found than is asked for, and the operator has no shorter one
 pub returns-then-longest-most : goal.returns-then-longest-most
 returns-then-longest-most c =
     let view = c.self.inside in
-    let l = c.loop-place in
-    let run = run_at (has c.args.operator_first.now) view.tokens.now.input.now view.limit l.place in
-    let grows = longest_from-grows run (l.place - view.place) l.has_special l.longest l.invariant.within in
+    let l = c.loop-index in
+    let run = run_at (has c.args.operator_first.now) view.tokens.now.input.now view.limit l.index in
+    let grows = longest_from-grows run (l.index - view.start) l.has_special l.longest l.invariant.within in
     let above : c.args.most < operator_length (has c.args.operator_first.now) c.args.self.now = omega (arith, grows, l.invariant.all, c.if-longest-most.true) in
     inr (c.if-longest-most.true, above)
 
-pub loop-place-preserved : goal.loop-place-preserved
-loop-place-preserved c =
+pub loop-index-preserved : goal.loop-index-preserved
+loop-index-preserved c =
     let view = c.self.inside in
-    let l = c.loop-place in
-    let special = special_here (goal.at.loop-place-preserved c).Joined-has_special in
-    let here = longest_here (goal.at.loop-place-preserved c).Joined-len-eq1 in
-    let longest = here ∙ ap (λ any. longest_after (l.place - view.place + 1) any l.longest c.kind-kind.result) special in
-    let len : l.place + 1 - view.place ≡ l.place - view.place + 1 = omega arith in
-    let bounds = longest_after-bounds (l.place - view.place + 1) c.if-has_special.has_special l.longest c.kind-kind.result (omega (arith, l.invariant.within)) in
+    let l = c.loop-index in
+    let special = special_here (goal.at.loop-index-preserved c).Joined-has_special in
+    let here = longest_here (goal.at.loop-index-preserved c).Joined-len-eq1 in
+    let longest = here ∙ ap (λ any. longest_after (l.index - view.start + 1) any l.longest c.kind-kind.result) special in
+    let len : l.index + 1 - view.start ≡ l.index - view.start + 1 = omega arith in
+    let bounds = longest_after-bounds (l.index - view.start + 1) c.if-has_special.has_special l.longest c.kind-kind.result (omega (arith, l.invariant.within)) in
     record {
-      all = longest_from-same (run_at (has c.args.operator_first.now) view.tokens.now.input.now view.limit (l.place + 1)) len special longest
-          ∙ (sym (longest_at-next (has c.args.operator_first.now) view.tokens.now.input.now view.limit l.place (l.place - view.place) l.has_special l.longest
-          c.kind-kind.result c.loop-place-test.true c.self.invariant c.kind-kind.ensures (sym c.contains.ensures ∙ c.if-not-contains.false)
+      all = longest_from-same (run_at (has c.args.operator_first.now) view.tokens.now.input.now view.limit (l.index + 1)) len special longest
+          ∙ (sym (longest_at-next (has c.args.operator_first.now) view.tokens.now.input.now view.limit l.index (l.index - view.start) l.has_special l.longest
+          c.kind-kind.result c.loop-index-test.true c.self.invariant c.kind-kind.ensures (sym c.contains.ensures ∙ c.if-not-contains.false)
           (sym c.is_joint.ensures ∙ c.if-not-is_joint.false)) ∙ l.invariant.all);
       within = omega (arith, here, bounds.1);
     }

@@ -1,5 +1,5 @@
 use Rattle.std.proofs.Common.{◌≡◌, ◌≤◌, map}
-use Rattle.squawk_parser.specs.CompositeRows.{element_of}
+use Rattle.squawk_parser.specs.CompositeForms.{element_of}
 use Rattle.squawk_parser.specs.Composites.{sequence_length}
 use Rattle.squawk_parser.proofs.CompositeLemmas.{length_with}
 use Rattle.squawk_parser.proofs.parser.view.View.sequence_len.Given as goal
