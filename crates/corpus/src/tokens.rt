@@ -58,7 +58,7 @@ pub fn range_line(
     Ok(format!(in alloc; "range {start} {end} |{text}|")?)
 }
 
-/// Adds the kinds at a place of the input, and `+` if the token touches the next.
+/// Adds the kinds at a place of the input, and `+` if the token is joint with the next.
 fn push_seen(line: &mut String, input: &Input, i: usize) -> Result<(), AllocError> {
     line.push(' ')?;
     push_kind(line, input.kind(i))?;

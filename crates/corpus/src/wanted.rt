@@ -8,7 +8,7 @@
 //! | `raw IDENT 44` | the syntax kinds of the raw tokens, by their names or else their numbers |
 //! | `table IDENT@0..1'a' 1` | the same with their places and texts, and the end of the text |
 //! | `range 0 2 \|a b\|` | the text of the raw tokens from one to before another |
-//! | `input IDENT/RAISE_KW+ .. EOF/EOF EOF/EOF` | the kinds and contextual kinds that a parser sees, `+` where a token touches the next; the end, and what lies far behind it |
+//! | `input IDENT/RAISE_KW+ .. EOF/EOF EOF/EOF` | the kinds and contextual kinds that a parser sees, `+` where a token is joint with the next; the end, and what lies far behind it |
 //! | `refused bad call 3` | that the raw tokens, the calls or the parse are refused, for this reason |
 //! | `tree ROOT(a _) ...` | what is sent (`row_fixtures::lines`), to a list and one by one |
 //! | `shown ROOT@0..1` | a line of the tree that is shown; `shown none`: a case names them all |

@@ -26,7 +26,7 @@ impl Ahead<'_> {
     }
 
     /// Whether nothing stands between a token and the next.
-    fn touches(&self, n: usize) -> bool {
+    fn is_joint(&self, n: usize) -> bool {
         match (self.tokens.get(n), self.tokens.get(n.saturating_add(1))) {
             (Some(token), Some(next)) => token.end == next.start,
             _ => false,
@@ -50,7 +50,7 @@ impl Ahead<'_> {
     fn operator_len(&self) -> usize {
         let mut longest = 0;
         for n in 0..self.tokens.len() {
-            if !self.is_sign(n) || n > 0 && !self.touches(n.saturating_sub(1)) {
+            if !self.is_sign(n) || n > 0 && !self.is_joint(n.saturating_sub(1)) {
                 return longest;
             }
             let len = n.saturating_add(1);
@@ -75,11 +75,11 @@ impl Ahead<'_> {
     }
 
     /// The same of words that touch one another and are no part of another operator.
-    fn touching(&self, words: &'static str) -> usize {
+    fn joint(&self, words: &'static str) -> usize {
         let len = self.sequence(words);
         let last = len.saturating_sub(1);
-        let is_in_run = self.is_sign(0) && self.is_sign(len) && self.touches(last);
-        if (0..last).all(|n| self.touches(n)) && (!is_in_run || self.operator_len() == len) {
+        let is_in_run = self.is_sign(0) && self.is_sign(len) && self.is_joint(last);
+        if (0..last).all(|n| self.is_joint(n)) && (!is_in_run || self.operator_len() == len) {
             len
         } else {
             0

@@ -7,7 +7,7 @@ use Rattle.std.proofs.lemmas.List.Elements.{All-nil, All-cons}
 use Rattle.squawk_kinds.specs.Kinds.{EOF, R_PAREN, UNICODE_NORMAL_FORM}
 use Rattle.squawk_table.specs.ParserInput.{Entry}
 use Rattle.squawk_parser.specs.CompositeForms.{element_of, form_of}
-use Rattle.squawk_parser.specs.Composites.{Element, One, AtMostOne, Tail, NoTail, Open, ClosedBy, Form, Glued, Touching, Sequence, Operator, Composite, composites, HasNoEndKind, has_form, normal_form, stands_as, stands_at}
+use Rattle.squawk_parser.specs.Composites.{Element, One, AtMostOne, Tail, NoTail, Open, ClosedBy, Form, Glued, Joint, Sequence, Operator, Composite, composites, HasNoEndKind, has_form, normal_form, stands_as, stands_at}
 use Rattle.squawk_parser.specs.Eaten.{eat_steps, eaten_as, elements_in, elements_of_kind, form_steps, composite_of, tail_in, tail_of_kind}
 use Rattle.squawk_parser.specs.Words.{Words}
 use Rattle.squawk_parser.specs.declared.parser.composite.Form.{Form as CodeForm}
@@ -30,7 +30,7 @@ is_closed_well (ClosedBy kind) = kind == R_PAREN
 
 is_good : Form → Bool
 is_good (Glued parts) = no_end parts && not (length parts == 0)
-is_good (Touching parts) = no_end parts
+is_good (Joint parts) = no_end parts
 is_good (Sequence elements tail) = no_end (map kind_of elements) && is_closed_well tail
 is_good Operator = true
 

@@ -6,10 +6,10 @@ use Rattle.std.proofs.Math.Seq.{drop-cons}
 use Rattle.std.proofs.lemmas.Bool.{cases_Bool}
 use Rattle.std.proofs.lemmas.Bool.Decides.{nat_tests}
 use Rattle.std.proofs.lemmas.List.{drop-drop, drop_all, length-drop}
-use Rattle.squawk_parser.specs.Composites.{do_touch, sequence_length, normal_forms}
+use Rattle.squawk_parser.specs.Composites.{are_joint, sequence_length, normal_forms}
 use Rattle.squawk_kinds.specs.Kinds.{UNICODE_NORMAL_FORM}
 use Rattle.squawk_parser.specs.CompositeForms.{element_of}
-use Rattle.squawk_parser.specs.LookAhead.{touches_next}
+use Rattle.squawk_parser.specs.LookAhead.{is_joint_next}
 use Rattle.squawk_table.specs.ParserInput.{Entry, kind_in}
 
 -- the first of the tokens from index i on is token i
@@ -23,15 +23,15 @@ no_more : (parts : List ℕ) (i : ℕ) → i < length parts → (length (drop (s
 no_more parts i lt = rw (length-drop (suc i) parts) (grind (arith, nat_tests))
 
 -- parts from index i on touch where the first of them stands, touches what is behind it if there is another, and the others touch
-pub do_touch-next : (parts : List ℕ) (seen : List Entry) (i : ℕ) → i < length parts
-    → do_touch (drop i parts) (drop i seen)
-    ≡ ((kind_in seen i == get_or parts i 0) && (not (nat_lt (i + 1) (length parts)) || touches_next (drop i seen)) && do_touch (drop (i + 1) parts) (drop (i + 1) seen))
-do_touch-next parts seen i lt =
+pub are_joint-next : (parts : List ℕ) (seen : List Entry) (i : ℕ) → i < length parts
+    → are_joint (drop i parts) (drop i seen)
+    ≡ ((kind_in seen i == get_or parts i 0) && (not (nat_lt (i + 1) (length parts)) || is_joint_next (drop i seen)) && are_joint (drop (i + 1) parts) (drop (i + 1) seen))
+are_joint-next parts seen i lt =
     rw (drop-cons parts i 0 lt, kind_in-drop seen i, no_more parts i lt, drop-drop 1 i seen, add-one) refl
 
 -- no parts are left to stand behind the last
-pub do_touch-end : (parts : List ℕ) (seen : List Entry) (i : ℕ) → length parts ≤ i → do_touch (drop i parts) (drop i seen) ≡ true
-do_touch-end parts seen i le = ap (λ xs. do_touch xs (drop i seen)) (drop_all i parts le)
+pub are_joint-end : (parts : List ℕ) (seen : List Entry) (i : ℕ) → length parts ≤ i → are_joint (drop i parts) (drop i seen) ≡ true
+are_joint-end parts seen i le = ap (λ xs. are_joint xs (drop i seen)) (drop_all i parts le)
 
 -- ---- sequences
 

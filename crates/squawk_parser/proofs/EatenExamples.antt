@@ -10,7 +10,7 @@ use Rattle.squawk_parser.specs.Composites.{NoTail, Open, ClosedBy}
 use Rattle.squawk_parser.specs.Eaten.{composite_of, eaten_as, tail_of_kind, recovery_steps}
 
 abbrev entry : ℕ → Bool → Entry
-entry kind touches = record { kind = kind; contextual_kind = EOF; touches = touches }
+entry kind is_joint = record { kind = kind; contextual_kind = EOF; is_joint = is_joint }
 
 -- all kinds may be those of operators, or none
 abbrev all : ℕ → Bool

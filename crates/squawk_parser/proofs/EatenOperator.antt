@@ -4,7 +4,7 @@ use Rattle.std.proofs.lemmas.List.{map-append}
 use Rattle.squawk_kinds.specs.Kinds.{EOF}
 use Rattle.squawk_table.specs.ParserInput.{Entry, kind_in}
 use Rattle.squawk_parser.specs.Eaten.{current_as, one}
-use Rattle.squawk_parser.specs.Operators.{is_operator_name, longest_name, operator_length, touching_run}
+use Rattle.squawk_parser.specs.Operators.{is_operator_name, longest_name, operator_length, joint_run}
 use Rattle.squawk_parser.specs.Recorded.{Puts}
 use Rattle.squawk_parser.specs.State.{State, ahead}
 use Rattle.squawk_parser.proofs.RecordedSteps.{puts-then}
@@ -27,30 +27,30 @@ record StandsAt (operator_kind : ℕ → Bool) (seen : List Entry) (i : ℕ) : T
   more : take (suc i) seen ≡ take i seen ++ entry ∷ []
 
 -- each kind of a run of operators' kinds is that of a token
-module _ (operator_kind : ℕ → Bool) (e : Entry) (seen : List Entry) (later : (i : ℕ) → i < length (touching_run operator_kind seen) → StandsAt operator_kind seen i) where
-  run-behind : (i : ℕ) (touches : Bool) → suc i < suc (length (if touches then touching_run operator_kind seen else [])) → StandsAt operator_kind (e ∷ seen) (suc i)
+module _ (operator_kind : ℕ → Bool) (e : Entry) (seen : List Entry) (later : (i : ℕ) → i < length (joint_run operator_kind seen) → StandsAt operator_kind seen i) where
+  run-behind : (i : ℕ) (is_joint : Bool) → suc i < suc (length (if is_joint then joint_run operator_kind seen else [])) → StandsAt operator_kind (e ∷ seen) (suc i)
   run-behind i true lt =
       let behind = later i (omega arith) in
       record { entry = behind.entry; kind = behind.kind; here = behind.here; more = ap (λ xs. e ∷ xs) behind.more }
   run-behind i false lt = absurd (omega arith)
 
-  run-first : (i : ℕ) → operator_kind e.kind ≡ true → i < suc (length (if e.touches then touching_run operator_kind seen else [])) → StandsAt operator_kind (e ∷ seen) i
+  run-first : (i : ℕ) → operator_kind e.kind ≡ true → i < suc (length (if e.is_joint then joint_run operator_kind seen else [])) → StandsAt operator_kind (e ∷ seen) i
   run-first zero is lt = record { entry = e; kind = is; here = refl; more = refl }
-  run-first (suc i) is lt = run-behind i e.touches lt
+  run-first (suc i) is lt = run-behind i e.is_joint lt
 
   run-cases : (i : ℕ) (b : Bool) → operator_kind e.kind ≡ b
-      → i < length (if b then e.kind ∷ (if e.touches then touching_run operator_kind seen else []) else []) → StandsAt operator_kind (e ∷ seen) i
+      → i < length (if b then e.kind ∷ (if e.is_joint then joint_run operator_kind seen else []) else []) → StandsAt operator_kind (e ∷ seen) i
   run-cases i true is lt = run-first i is lt
   run-cases i false is lt = absurd (omega arith)
 
 -- each kind of a run of operators' kinds is that of a token
-run-stands : (operator_kind : ℕ → Bool) (seen : List Entry) (i : ℕ) → i < length (touching_run operator_kind seen) → StandsAt operator_kind seen i
+run-stands : (operator_kind : ℕ → Bool) (seen : List Entry) (i : ℕ) → i < length (joint_run operator_kind seen) → StandsAt operator_kind seen i
 run-stands operator_kind [] i lt = absurd (omega arith)
 run-stands operator_kind (e ∷ seen) i lt = run-cases operator_kind e seen (λ j. run-stands operator_kind seen j) i (operator_kind e.kind) refl lt
 
 operator-stands : (operator_kind : ℕ → Bool) (seen : List Entry) (i : ℕ) → i < operator_length operator_kind seen → StandsAt operator_kind seen i
 operator-stands operator_kind seen i lt =
-    let run = touching_run operator_kind seen in
+    let run = joint_run operator_kind seen in
     run-stands operator_kind seen i (omega (arith, longest-short run (length run)))
 
 -- the first i of the tokens that were seen are eaten, each with its own kind

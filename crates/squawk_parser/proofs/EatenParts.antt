@@ -9,10 +9,10 @@ use Rattle.squawk_kinds.specs.Kinds.{UNICODE_NORMAL_FORM}
 use Rattle.squawk_table.specs.ParserInput.{Entry, kind_in}
 use Rattle.squawk_output.specs.Steps.{Step, eaten}
 use Rattle.squawk_parser.specs.CompositeForms.{element_of}
-use Rattle.squawk_parser.specs.Composites.{Element, One, do_touch, normal_form, normal_forms, sequence_length}
+use Rattle.squawk_parser.specs.Composites.{Element, One, are_joint, normal_form, normal_forms, sequence_length}
 use Rattle.squawk_parser.specs.Eaten.{element_steps, one}
 use Rattle.squawk_output.specs.Edits.{with_token}
-use Rattle.squawk_parser.specs.LookAhead.{touches_next}
+use Rattle.squawk_parser.specs.LookAhead.{is_joint_next}
 use Rattle.squawk_parser.specs.Recorded.{Puts}
 use Rattle.squawk_parser.specs.State.{State, Keeps, Records, ahead}
 use Rattle.squawk_parser.proofs.RecordedSteps.{puts-then, token_puts}
@@ -22,23 +22,23 @@ use Rattle.squawk_parser.proofs.SeenSteps.{ahead-moved, and-right, if-true, if-f
 part_here : (parts : List ℕ) (i part : ℕ) → i < length parts → part ≡ get_or parts i part → drop i parts ≡ part ∷ drop (i + 1) parts
 part_here parts i part lt is = drop-cons parts i part lt ∙ (ap (λ k. k ∷ drop (suc i) parts) (sym is) ∙ ap (λ j. part ∷ drop j parts) (sym (add-one i)))
 
--- ---- parts that touch
+-- ---- joint parts
 
--- the parts before index i are eaten, and the others touch from here on
+-- the parts before index i are eaten, and the others are joint from here on
 pub record IsTouched (parts : List ℕ) (i : ℕ) (old now : State) : Type 0 where
   pub puts : Puts (map one (take i parts)) old now
-  pub touch : do_touch (drop i parts) (ahead now 0) ≡ true
+  pub touch : are_joint (drop i parts) (ahead now 0) ≡ true
 
 module _ (parts : List ℕ) (i part : ℕ) (old now : State) (lt : i < length parts) (is : part ≡ get_or parts i part) (so_far : IsTouched parts i old now) where
-  both : ((kind_in (ahead now 0) 0 == part) && ((length (drop (i + 1) parts) == 0) || touches_next (ahead now 0))) && do_touch (drop (i + 1) parts) (drop 1 (ahead now 0)) ≡ true
-  both = sym (ap (λ xs. do_touch xs (ahead now 0)) (part_here parts i part lt is)) ∙ so_far.touch
+  both : ((kind_in (ahead now 0) 0 == part) && ((length (drop (i + 1) parts) == 0) || is_joint_next (ahead now 0))) && are_joint (drop (i + 1) parts) (drop 1 (ahead now 0)) ≡ true
+  both = sym (ap (λ xs. are_joint xs (ahead now 0)) (part_here parts i part lt is)) ∙ so_far.touch
 
   -- and is eaten
   pub touched-next : (next : State) → Keeps now next → next.position ≡ now.position + 1 → Records now next (with_token now.draft part 1)
       → IsTouched parts (i + 1) old next
   touched-next next keeps position records = record {
     puts = subst (λ steps. Puts steps old next) (sym more) (puts-then so_far.puts (token_puts part 1 keeps records position));
-    touch = ap (do_touch (drop (i + 1) parts)) (ahead-moved 1 keeps position) ∙ and-right _ _ both;
+    touch = ap (are_joint (drop (i + 1) parts)) (ahead-moved 1 keeps position) ∙ and-right _ _ both;
   }
     where
       more : map one (take (i + 1) parts) ≡ map one (take i parts) ++ one part ∷ []

@@ -30,7 +30,7 @@ pub mod SeenTokens
 pub mod SeenSteps
 pub mod KindsAhead
 pub mod SkippedTokens
-pub mod TouchingRun
+pub mod JointRun
 pub mod EatenExamples
 pub mod AddedSteps
 pub mod SomeSteps

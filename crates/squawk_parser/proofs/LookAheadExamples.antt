@@ -8,12 +8,12 @@ use Rattle.squawk_parser.specs.Operators.{operator_length, is_next_apart}
 use Rattle.squawk_parser.specs.Composites.{stands_at}
 use Rattle.squawk_table.specs.ParserInput.{Entry}
 
--- a token that touches the next, and one that doesn't
+-- a token that is joint with the next, and one that isn't
 abbrev joined : ℕ → Entry
-joined kind = record { kind = kind; contextual_kind = 0; touches = true }
+joined kind = record { kind = kind; contextual_kind = 0; is_joint = true }
 
 abbrev alone : ℕ → Entry
-alone kind = record { kind = kind; contextual_kind = 0; touches = false }
+alone kind = record { kind = kind; contextual_kind = 0; is_joint = false }
 
 abbrev number : Entry
 number = alone 33
@@ -80,7 +80,7 @@ last_colon = refl
 
 -- ---- three signs
 
--- a minus sign and two angles that touch, with these tokens behind them
+-- a minus sign and two joint angles, with these tokens behind them
 abbrev long_arrow : List Entry → List Entry
 long_arrow behind = joined MINUS ∷ joined R_ANGLE ∷ joined R_ANGLE ∷ behind
 

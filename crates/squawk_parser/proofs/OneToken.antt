@@ -1,21 +1,21 @@
 -- Tokens that are one token where a parser sees them are one token of its input.
 use Rattle.std.proofs.Common.{◌≡◌, ◌∙◌, ℕ, zero, suc, ◌+◌, ◌<◌, ◌≤◌, List, [], ◌∷◌, drop, take, arith, sym, refl}
 use Rattle.std.proofs.lemmas.List.{length-drop, length-take}
-use Rattle.squawk_table.specs.ParserInput.{Entry, touches_in}
+use Rattle.squawk_table.specs.ParserInput.{Entry, is_joint_in}
 use Rattle.squawk_table.specs.Shape.{AreOneToken}
 use Rattle.squawk_parser.specs.LookAhead.{seen_from}
 
-touches_in-take : (limit i : ℕ) (input : List Entry) → i < limit → touches_in (take limit input) i ≡ touches_in input i
-touches_in-take zero i input lt = absurd (omega arith)
-touches_in-take (suc limit) i [] lt = refl
-touches_in-take (suc limit) zero (e ∷ input) lt = refl
-touches_in-take (suc limit) (suc i) (e ∷ input) lt = touches_in-take limit i input (omega arith)
+is_joint_in-take : (limit i : ℕ) (input : List Entry) → i < limit → is_joint_in (take limit input) i ≡ is_joint_in input i
+is_joint_in-take zero i input lt = absurd (omega arith)
+is_joint_in-take (suc limit) i [] lt = refl
+is_joint_in-take (suc limit) zero (e ∷ input) lt = refl
+is_joint_in-take (suc limit) (suc i) (e ∷ input) lt = is_joint_in-take limit i input (omega arith)
 
 AreOneToken-take : (n limit : ℕ) (input : List Entry) → AreOneToken n (take limit input) → AreOneToken n input
 AreOneToken-take n limit input one = record {
   some = one.some;
   there = omega (arith, one.there, length-take limit input);
-  touch = λ i lt. sym (touches_in-take limit i input (omega (arith, one.there, length-take limit input))) ∙ one.touch i lt;
+  touch = λ i lt. sym (is_joint_in-take limit i input (omega (arith, one.there, length-take limit input))) ∙ one.touch i lt;
 }
 
 pub AreOneToken-seen : (n limit index : ℕ) (input : List Entry) → AreOneToken n (seen_from input limit index) → AreOneToken n (drop index input)

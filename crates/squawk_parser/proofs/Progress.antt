@@ -6,7 +6,7 @@ use Rattle.squawk_table.specs.ParserInput.{Entry, kind_in}
 use Rattle.squawk_output.specs.Steps.{Step, Enter, Exit, count_of, eaten}
 use Rattle.squawk_parser.specs.Composites.{Operator}
 use Rattle.squawk_parser.specs.Eaten.{form_steps, node, one}
-use Rattle.squawk_parser.specs.Operators.{is_operator_name, longest_name, operator_length, touching_run}
+use Rattle.squawk_parser.specs.Operators.{is_operator_name, longest_name, operator_length, joint_run}
 use Rattle.squawk_parser.proofs.RecordedItems.{eaten-append}
 
 -- ---- steps
@@ -35,7 +35,7 @@ longest-some kind run (suc n) = cases (is_operator_name (take (suc (suc n)) (kin
 pub operator-some : (operator_kind : ℕ → Bool) (seen : List Entry) → operator_kind EOF ≡ false → operator_kind (kind_in seen 0) ≡ true
     → 0 < operator_length operator_kind seen
 operator-some operator_kind [] end first = absurd (let e = sym first ∙ end in cc)
-operator-some operator_kind (e ∷ seen) end first = rw first (longest-some e.kind (if e.touches then touching_run operator_kind seen else []) (length (if e.touches then touching_run operator_kind seen else [])))
+operator-some operator_kind (e ∷ seen) end first = rw first (longest-some e.kind (if e.is_joint then joint_run operator_kind seen else []) (length (if e.is_joint then joint_run operator_kind seen else [])))
 
 -- and its tokens are eaten
 pub operator-eats : (operator_kind : ℕ → Bool) (kind : ℕ) (seen : List Entry) → operator_kind EOF ≡ false → operator_kind (kind_in seen 0) ≡ true

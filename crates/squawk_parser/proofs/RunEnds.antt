@@ -2,9 +2,9 @@
 use Rattle.std.proofs.Common.{◌≡◌, ◌∙◌, ℕ, suc, ◌+◌, ◌-◌, ◌<◌, ◌≤◌, Bool, true, false, List, [], ◌∷◌, ◌++◌, length, get_or, set, if◌then◌else◌, arith, ap, sym, refl, subst, inl, inr, get_or-set_same, get_or-set_other, length-append, length-set}
 use Rattle.std.proofs.lemmas.Bool.{cases_eq}
 use Rattle.std.proofs.lemmas.List.{get_or_push, get_or_append_left, get_or_read_under}
-use Rattle.squawk_table.specs.ParserInput.{Entry, kind_in, touches_in}
+use Rattle.squawk_table.specs.ParserInput.{Entry, kind_in, is_joint_in}
 use Rattle.squawk_parser.specs.OperatorRuns.{AreEnds, ArePastLast, IsPastLast}
-use Rattle.squawk_parser.proofs.TouchingRun.{run_at, run_at-limit, run_at-first}
+use Rattle.squawk_parser.proofs.JointRun.{run_at, run_at-limit, run_at-first}
 
 module _ (operator_kind : ℕ → Bool) (input : List Entry) where
   -- where the run at an index ends
@@ -17,18 +17,18 @@ module _ (operator_kind : ℕ → Bool) (input : List Entry) where
 
   module _ (index : ℕ) (before : index < length input) where
     first : run_at operator_kind input (length input) index
-        ≡ (if operator_kind (kind_in input index) then kind_in input index ∷ (if touches_in input index then run_at operator_kind input (length input) (suc index) else []) else [])
-    first = run_at-first operator_kind input (length input) index (kind_in input index) (touches_in input index) before (omega arith) refl refl
+        ≡ (if operator_kind (kind_in input index) then kind_in input index ∷ (if is_joint_in input index then run_at operator_kind input (length input) (suc index) else []) else [])
+    first = run_at-first operator_kind input (length input) index (kind_in input index) (is_joint_in input index) before (omega arith) refl refl
 
     pub end_of-other : operator_kind (kind_in input index) ≡ false → end_of index ≡ index
     unfolding end_of
     end_of-other other = omega (arith, rw other at (ap length first))
 
-    pub end_of-last : operator_kind (kind_in input index) ≡ true → touches_in input index ≡ false → end_of index ≡ index + 1
+    pub end_of-last : operator_kind (kind_in input index) ≡ true → is_joint_in input index ≡ false → end_of index ≡ index + 1
     unfolding end_of
     end_of-last one apart = omega (arith, rw (one, apart) at (ap length first))
 
-    pub end_of-next : operator_kind (kind_in input index) ≡ true → touches_in input index ≡ true → end_of index ≡ end_of (suc index)
+    pub end_of-next : operator_kind (kind_in input index) ≡ true → is_joint_in input index ≡ true → end_of index ≡ end_of (suc index)
     unfolding end_of
     end_of-next one joined = omega (arith, rw (one, joined) at (ap length first))
 

@@ -2,11 +2,11 @@
 use Rattle.std.proofs.Common.{◌≡◌, ◌∙◌, ℕ, suc, ◌+◌, ◌-◌, ◌<◌, ◌≤◌, min, Bool, true, false, not, List, length, get_or, arith, ap, sym, refl, inl, inr}
 use Rattle.squawk_table.specs.ParserInput.{Entry, kind_in}
 use Rattle.squawk_parser.specs.LookAhead.{seen_from}
-use Rattle.squawk_parser.specs.Operators.{is_sign, is_special, longest_name, operator_length, touching_run}
+use Rattle.squawk_parser.specs.Operators.{is_sign, is_special, longest_name, operator_length, joint_run}
 use Rattle.squawk_parser.specs.OperatorRuns.{IsPastLast, is_no_sign}
 use Rattle.squawk_parser.proofs.LimitedRuns.{kind_at-run, length-run_at}
 use Rattle.squawk_parser.proofs.OperatorNames.{longest-special, longest-other}
-use Rattle.squawk_parser.proofs.TouchingRun.{run_at}
+use Rattle.squawk_parser.proofs.JointRun.{run_at}
 
 sign-true : (kind : ℕ) → is_no_sign kind ≡ false → is_sign kind ≡ true
 sign-true kind fails = cases (is_sign kind) fails
@@ -32,7 +32,7 @@ module _ (operator_kind : ℕ → Bool) (input : List Entry) (limit index : ℕ)
   by_run = refl
 
   module _ (within : limit ≤ length input) (end : ℕ) (before : index ≤ limit)
-      (ends : end ≡ min limit (index + length (touching_run operator_kind (seen_from input (length input) index)))) where
+      (ends : end ≡ min limit (index + length (joint_run operator_kind (seen_from input (length input) index)))) where
     length-run : length run ≡ end - index
     unfolding run_at
     length-run = length-run_at operator_kind input limit within index before ∙ omega arith

@@ -7,7 +7,7 @@ use Rattle.std.proofs.lemmas.List.Elements.{All-head, All-tail}
 use Rattle.squawk_kinds.specs.Kinds.{EOF, UNICODE_NORMAL_FORM}
 use Rattle.squawk_table.specs.ParserInput.{Entry, kind_in}
 use Rattle.squawk_table.specs.Shape.{AreOneToken}
-use Rattle.squawk_parser.specs.Composites.{HasNoEndKind, do_touch, normal_form, normal_forms}
+use Rattle.squawk_parser.specs.Composites.{HasNoEndKind, are_joint, normal_form, normal_forms}
 use Rattle.squawk_parser.specs.Eaten.{current_as, element_steps, node, one}
 use Rattle.squawk_parser.specs.Recorded.{Puts}
 use Rattle.squawk_parser.specs.State.{State, IsFresh, Keeps, ahead, kind_at}
@@ -70,36 +70,36 @@ pub and-right : (x y : Bool) → (x && y) ≡ true → y ≡ true
 and-right true y e = e
 and-right false y e = absurd (cc)
 
-past_first : (n : ℕ) (touches : Bool) → ((suc n == 0) || touches) ≡ true → touches ≡ true
+past_first : (n : ℕ) (is_joint : Bool) → ((suc n == 0) || is_joint) ≡ true → is_joint ≡ true
 past_first n true e = refl
 past_first n false e = let no : (suc n == 0) ≡ false = grind arith in absurd (let p = sym e ∙ ap (λ b. b || false) no in cc)
 
 one_more : (n : ℕ) → ((suc n == 0) || false) ≡ true → ⊥
 one_more n e = let no = past_first n false e in cc
 
--- kinds that touch are one token
-pub touching_one : (part : ℕ) (parts : List ℕ) (seen : List Entry) → HasNoEndKind (part ∷ parts) → do_touch (part ∷ parts) seen ≡ true
+-- joint kinds are one token
+pub joint_one : (part : ℕ) (parts : List ℕ) (seen : List Entry) → HasNoEndKind (part ∷ parts) → are_joint (part ∷ parts) seen ≡ true
     → AreOneToken (suc (length parts)) seen
-touching_one part parts [] no_end touch =
+joint_one part parts [] no_end touch =
     let first : (EOF == part) ≡ true = and-left _ _ (and-left _ _ touch) in
     absurd (All-head (λ kind. kind ≢ EOF) part parts no_end (grind (arith, first)))
-touching_one part [] (e ∷ seen) no_end touch = record { some = omega arith; there = omega arith; touch = λ i lt. absurd (omega arith) }
-touching_one part (next ∷ parts) (e ∷ []) no_end touch =
+joint_one part [] (e ∷ seen) no_end touch = record { some = omega arith; there = omega arith; touch = λ i lt. absurd (omega arith) }
+joint_one part (next ∷ parts) (e ∷ []) no_end touch =
     absurd (one_more (length parts) (and-right _ _ (and-left _ _ touch)))
-touching_one part (next ∷ parts) (e ∷ f ∷ seen) no_end touch =
-    let touches : e.touches ≡ true = past_first (length parts) e.touches (and-right (e.kind == part) _ (and-left _ (do_touch (next ∷ parts) (f ∷ seen)) touch)) in
-    let others = and-right ((e.kind == part) && ((suc (length parts) == 0) || e.touches)) (do_touch (next ∷ parts) (f ∷ seen)) touch in
+joint_one part (next ∷ parts) (e ∷ f ∷ seen) no_end touch =
+    let is_joint : e.is_joint ≡ true = past_first (length parts) e.is_joint (and-right (e.kind == part) _ (and-left _ (are_joint (next ∷ parts) (f ∷ seen)) touch)) in
+    let others = and-right ((e.kind == part) && ((suc (length parts) == 0) || e.is_joint)) (are_joint (next ∷ parts) (f ∷ seen)) touch in
     let rest : AreOneToken (suc (length parts)) (f ∷ seen) =
-    touching_one next parts (f ∷ seen) (All-tail (λ kind. kind ≢ EOF) part (next ∷ parts) no_end) others in
+    joint_one next parts (f ∷ seen) (All-tail (λ kind. kind ≢ EOF) part (next ∷ parts) no_end) others in
     record {
       some = omega arith;
       there = omega (arith, rest.there);
-      touch = elim [ zero ↦ λ lt. touches | suc i ↦ λ lt. rest.touch i (omega arith) ];
+      touch = elim [ zero ↦ λ lt. is_joint | suc i ↦ λ lt. rest.touch i (omega arith) ];
     }
 
-pub touching_all : (parts : List ℕ) (seen : List Entry) → 1 ≤ length parts → HasNoEndKind parts → do_touch parts seen ≡ true → AreOneToken (length parts) seen
-touching_all [] seen some no_end touch = absurd (omega arith)
-touching_all (part ∷ parts) seen some no_end touch = touching_one part parts seen no_end touch
+pub joint_all : (parts : List ℕ) (seen : List Entry) → 1 ≤ length parts → HasNoEndKind parts → are_joint parts seen ≡ true → AreOneToken (length parts) seen
+joint_all [] seen some no_end touch = absurd (omega arith)
+joint_all (part ∷ parts) seen some no_end touch = joint_one part parts seen no_end touch
 
 -- ---- normal forms
 

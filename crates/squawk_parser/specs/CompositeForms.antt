@@ -1,7 +1,7 @@
 -- What contracts see of the forms of composite kinds.
 use Rattle.std.specs.Prelude.{ℕ, ◌==◌, map, if◌then◌else◌}
 use Rattle.squawk_kinds.specs.Kinds.{UNICODE_NORMAL_FORM}
-use Rattle.squawk_parser.specs.Composites.{Element, One, normal_form, Form as TheForm, Glued, Touching, Sequence, Operator, Tail as TheTail, NoTail, Open, ClosedBy}
+use Rattle.squawk_parser.specs.Composites.{Element, One, normal_form, Form as TheForm, Glued, Joint, Sequence, Operator, Tail as TheTail, NoTail, Open, ClosedBy}
 use Rattle.squawk_parser.specs.declared.parser.composite.Form.{Form}
 use Rattle.squawk_parser.specs.declared.parser.composite.Form.TheVariants as form
 use Rattle.squawk_parser.specs.declared.parser.composite.Tail.{Tail}
@@ -20,6 +20,6 @@ tail_of (tail.ClosedBy kind) = ClosedBy kind
 -- and how the tokens of a composite kind stand, and what they become
 abbrev pub form_of : Form → TheForm
 form_of (form.Glued parts) = Glued parts
-form_of (form.Touching parts) = Touching parts
+form_of (form.Joint parts) = Joint parts
 form_of (form.Sequence parts tail) = Sequence (map element_of parts) (tail_of tail)
 form_of form.Operator = Operator

@@ -3,7 +3,7 @@ use Rattle.std.specs.Prelude.{◌≢◌, ℕ, suc, All, ◌-◌, ◌==◌, ◌&&
 use Rattle.std.specs.List.{find, list_any}
 use Rattle.squawk_kinds.specs.Kinds.{EOF, L_PAREN, R_PAREN, COLON, EQ, BANG, L_ANGLE, R_ANGLE, MINUS, COLON_EQ, NEQ, NEQB, LTEQ, FAT_ARROW, LESS_LESS, GREATER_GREATER, GTEQ, LONG_ARROW, SIMILAR_KW, TO_KW, AT_KW, TIME_KW, ZONE_KW, LOCAL_KW, IS_KW, NOT_KW, NFC_KW, NFD_KW, NFKC_KW, NFKD_KW, NORMALIZED_KW, JSON_KW, OBJECT_KW, ARRAY_KW, VALUE_KW, SCALAR_KW, DISTINCT_KW, FROM_KW, OPERATOR_KW, LIKE_KW, ILIKE_KW, IN_KW, SIMILAR_TO, AT_TIME_ZONE, AT_LOCAL, IS_NOT_NORMALIZED, IS_NORMALIZED, COLON_COLON, IS_JSON, IS_NOT_JSON, IS_NOT_JSON_OBJECT, IS_NOT_JSON_ARRAY, IS_NOT_JSON_VALUE, IS_NOT_JSON_SCALAR, IS_JSON_OBJECT, IS_JSON_ARRAY, IS_JSON_VALUE, IS_JSON_SCALAR, NOT_SIMILAR_TO, IS_NOT_DISTINCT_FROM, OPERATOR_CALL, IS_DISTINCT_FROM, NOT_LIKE, NOT_ILIKE, NOT_IN, IS_NOT, CUSTOM_OP, UNICODE_NORMAL_FORM}
 use Rattle.squawk_table.specs.ParserInput.{Entry, kind_in}
-use Rattle.squawk_parser.specs.LookAhead.{touches_next}
+use Rattle.squawk_parser.specs.LookAhead.{is_joint_next}
 use Rattle.squawk_parser.specs.Operators.{operator_length}
 
 -- an element of a sequence
@@ -23,10 +23,10 @@ pub data Tail : Type 0 where
 
 -- how the tokens of a composite kind stand, and what they become
 pub data Form : Type 0 where
-  -- they touch, and become one token
+  -- they are joint, and become one token
   Glued : List ℕ → Form
-  -- they touch, and become a node of one token each
-  Touching : List ℕ → Form
+  -- they are joint, and become a node of one token each
+  Joint : List ℕ → Form
   -- trivia may stand between them; they become a node of one token each
   Sequence : List Element → Tail → Form
   -- they are an operator, and become a node of one token each
@@ -64,7 +64,7 @@ composites =
     ∷ glued GREATER_GREATER (R_ANGLE ∷ R_ANGLE ∷ [])
     ∷ glued GTEQ (R_ANGLE ∷ EQ ∷ [])
     ∷ glued LONG_ARROW (MINUS ∷ R_ANGLE ∷ R_ANGLE ∷ [])
-    ∷ record { kind = COLON_COLON; form = Touching (COLON ∷ COLON ∷ []) }
+    ∷ record { kind = COLON_COLON; form = Joint (COLON ∷ COLON ∷ []) }
     ∷ in_sequence SIMILAR_TO (One SIMILAR_KW ∷ One TO_KW ∷ [])
     ∷ in_sequence NOT_SIMILAR_TO (One NOT_KW ∷ One SIMILAR_KW ∷ One TO_KW ∷ [])
     ∷ in_sequence AT_TIME_ZONE (One AT_KW ∷ One TIME_KW ∷ One ZONE_KW ∷ [])
@@ -97,16 +97,16 @@ HasNoEndKind kinds = All (λ kind. kind ≢ EOF) kinds
 
 -- ---- where they stand
 
--- whether these kinds are at the front and each touches the next
-abbrev pub do_touch : List ℕ → List Entry → Bool
-do_touch [] seen = true
-do_touch (kind ∷ kinds) seen = (kind_in seen 0 == kind) && ((length kinds == 0) || touches_next seen) && do_touch kinds (drop 1 seen)
+-- whether these kinds are at the front and each is joint with the next
+abbrev pub are_joint : List ℕ → List Entry → Bool
+are_joint [] seen = true
+are_joint (kind ∷ kinds) seen = (kind_in seen 0 == kind) && ((length kinds == 0) || is_joint_next seen) && are_joint kinds (drop 1 seen)
 
--- Whether the first n tokens, which touch, are no part of a longer operator: if the first of them and the token behind them
--- have kinds of operators, and the last touches that, the operator is as long as they are.
+-- Whether the first n tokens, which are joint, are no part of a longer operator: if the first of them and the token behind them
+-- have kinds of operators, and the last is joint with that, the operator is as long as they are.
 abbrev pub are_apart : (ℕ → Bool) → ℕ → List Entry → Bool
 are_apart operator_kind n seen =
-    not (operator_kind (kind_in seen 0) && operator_kind (kind_in seen n) && touches_next (drop (n - 1) seen)) || (operator_length operator_kind seen == n)
+    not (operator_kind (kind_in seen 0) && operator_kind (kind_in seen n) && is_joint_next (drop (n - 1) seen)) || (operator_length operator_kind seen == n)
 
 -- the number of tokens that the elements of a sequence have at the front, if they are there
 abbrev pub sequence_length : List Element → List Entry → Option ℕ
@@ -117,8 +117,8 @@ sequence_length (AtMostOne node kinds ∷ elements) seen =
     if list_any (λ kind. kind_in seen 0 == kind) kinds then option_map suc (sequence_length elements (drop 1 seen)) else sequence_length elements seen
 
 abbrev pub has_form : (ℕ → Bool) → Form → List Entry → Bool
-has_form operator_kind (Glued parts) seen = do_touch parts seen && are_apart operator_kind (length parts) seen
-has_form operator_kind (Touching parts) seen = do_touch parts seen && are_apart operator_kind (length parts) seen
+has_form operator_kind (Glued parts) seen = are_joint parts seen && are_apart operator_kind (length parts) seen
+has_form operator_kind (Joint parts) seen = are_joint parts seen && are_apart operator_kind (length parts) seen
 has_form operator_kind (Sequence elements tail) seen = is_some (sequence_length elements seen)
 has_form operator_kind Operator seen = operator_kind (kind_in seen 0)
 

@@ -7,7 +7,7 @@ use Rattle.squawk_kinds.specs.Kinds.{EOF, ERROR}
 use Rattle.squawk_kinds.specs.TokenSets.{has}
 use Rattle.squawk_table.specs.ParserInput.{Entry, kind_in}
 use Rattle.squawk_output.specs.Steps.{Step, Token, Enter, Exit, Error}
-use Rattle.squawk_parser.specs.Composites.{Element, One, AtMostOne, Tail, NoTail, Open, ClosedBy, Form, Glued, Touching, Sequence, Operator, Composite, composites, stands_at}
+use Rattle.squawk_parser.specs.Composites.{Element, One, AtMostOne, Tail, NoTail, Open, ClosedBy, Form, Glued, Joint, Sequence, Operator, Composite, composites, stands_at}
 use Rattle.squawk_output.specs.Draft.{holes_of}
 use Rattle.squawk_parser.specs.Operators.{operator_length}
 use Rattle.squawk_parser.specs.State.{State, HasNotFailed, Keeps, ahead}
@@ -38,7 +38,7 @@ element_steps (AtMostOne kind kinds ∷ elements) seen =
 -- the steps of a composite kind that is at the front
 abbrev pub form_steps : (ℕ → Bool) → ℕ → Form → List Entry → List Step
 form_steps operator_kind kind (Glued parts) seen = Token kind (length parts) ∷ []
-form_steps operator_kind kind (Touching parts) seen = node kind (map one parts)
+form_steps operator_kind kind (Joint parts) seen = node kind (map one parts)
 form_steps operator_kind kind (Sequence elements tail) seen = node kind (element_steps elements seen)
 form_steps operator_kind kind Operator seen = node kind (map (λ e. one e.kind) (take (operator_length operator_kind seen) seen))
 
@@ -59,7 +59,7 @@ eat_steps words kind seen = eaten_as (has words.operator_first) kind (composite_
 
 abbrev pub tail_in : Form → Tail
 tail_in (Glued parts) = NoTail
-tail_in (Touching parts) = NoTail
+tail_in (Joint parts) = NoTail
 tail_in (Sequence elements tail) = tail
 tail_in Operator = NoTail
 
@@ -70,7 +70,7 @@ tail_of_kind kind = unwrap_or (option_map (λ composite. tail_in composite.form)
 -- the elements of a kind's sequence
 abbrev pub elements_in : Form → List Element
 elements_in (Glued parts) = []
-elements_in (Touching parts) = []
+elements_in (Joint parts) = []
 elements_in (Sequence elements tail) = elements
 elements_in Operator = []
 

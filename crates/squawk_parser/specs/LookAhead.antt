@@ -6,8 +6,8 @@ use Rattle.squawk_table.specs.ParserInput.{Entry}
 abbrev pub seen_from : List Entry → ℕ → ℕ → List Entry
 seen_from input limit start = drop start (take limit input)
 
--- whether the first of these tokens touches the second; if there is no second, it doesn't
-abbrev pub touches_next : List Entry → Bool
-touches_next [] = false
-touches_next (e ∷ []) = false
-touches_next (e ∷ next ∷ rest) = e.touches
+-- whether the first of these tokens is joint with the second; if there is no second, it doesn't
+abbrev pub is_joint_next : List Entry → Bool
+is_joint_next [] = false
+is_joint_next (e ∷ []) = false
+is_joint_next (e ∷ next ∷ rest) = e.is_joint

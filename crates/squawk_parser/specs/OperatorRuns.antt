@@ -1,19 +1,19 @@
 -- The numbers that give the lengths of operators without a pass over each.
 use Rattle.std.specs.Prelude.{◌≡◌, ℕ, ◌+◌, ◌-◌, ◌<◌, ◌≤◌, ◌&&◌, IsTrue, Bool, true, false, not, List, length, slice_index}
 use Rattle.squawk_kinds.specs.TokenSets.{has}
-use Rattle.squawk_table.specs.ParserInput.{Entry, kind_in, touches_in}
+use Rattle.squawk_table.specs.ParserInput.{Entry, kind_in, is_joint_in}
 use Rattle.squawk_parser.specs.LookAhead.{seen_from}
-use Rattle.squawk_parser.specs.Operators.{is_sign, is_special, touching_run}
+use Rattle.squawk_parser.specs.Operators.{is_sign, is_special, joint_run}
 use Rattle.squawk_parser.specs.declared.parser.tokens.operator_runs.OperatorRuns.{OperatorRuns}
 
 -- the kinds in which a name of several characters may end
 abbrev pub is_no_sign : ℕ → Bool
 is_no_sign kind = not (is_sign kind)
 
--- for each token the index past the run of touching operator kinds that starts there, if nothing limits it
+-- for each token the index past the run of joint operator kinds that starts there, if nothing limits it
 pub record AreEnds (operator_kind : ℕ → Bool) (input : List Entry) (ends : List ℕ) : Type 0 where
   pub count : length ends ≡ length input
-  pub at : (index : ℕ) → index < length input → slice_index ends index ≡ index + length (touching_run operator_kind (seen_from input (length input) index))
+  pub at : (index : ℕ) → index < length input → slice_index ends index ≡ index + length (joint_run operator_kind (seen_from input (length input) index))
 
 -- the index past the last token before the end whose kind passes the test; 0 if none passes
 pub record IsPastLast (test : ℕ → Bool) (input : List Entry) (end past : ℕ) : Type 0 where
@@ -32,6 +32,6 @@ pub record AreRunsOf (runs : OperatorRuns) (input : List Entry) : Type 0 where
   pub specials : ArePastLast is_special input (length input) runs.past_specials.items
   pub others : ArePastLast is_no_sign input (length input) runs.past_others.items
 
--- each of the 16 tokens from this one on touches the next and has an operator's kind
+-- each of the 16 tokens from this one on is joint with the next and has an operator's kind
 abbrev pub IsInRun : (ℕ → Bool) → List Entry → ℕ → Type 0
-IsInRun operator_kind input start = (i : ℕ) → start ≤ i → i < start + 16 → IsTrue (touches_in input i && operator_kind (kind_in input i))
+IsInRun operator_kind input start = (i : ℕ) → start ≤ i → i < start + 16 → IsTrue (is_joint_in input i && operator_kind (kind_in input i))

@@ -3,7 +3,7 @@ use Rattle.std.specs.Prelude.{ℕ, zero, suc, ◌==◌, ◌&&◌, ◌||◌, not,
 use Rattle.std.specs.List.{list_any}
 use Rattle.squawk_kinds.specs.Kinds.{AT, POUND, TILDE, QUESTION, BANG, MINUS, AMP, PIPE, PLUS, CARET, PERCENT, BACKTICK}
 use Rattle.squawk_table.specs.ParserInput.{Entry, kind_in}
-use Rattle.squawk_parser.specs.LookAhead.{touches_next}
+use Rattle.squawk_parser.specs.LookAhead.{is_joint_next}
 
 -- the signs, in which a name of several characters may not end
 abbrev pub is_sign : ℕ → Bool
@@ -25,11 +25,11 @@ ends_in_sign (kind ∷ next ∷ rest) = ends_in_sign (next ∷ rest)
 abbrev pub is_operator_name : List ℕ → Bool
 is_operator_name kinds = (length kinds == 1) || not (ends_in_sign kinds) || list_any is_special kinds
 
--- the run of touching operator kinds at the front
-abbrev pub touching_run : (ℕ → Bool) → List Entry → List ℕ
-touching_run operator_kind [] = []
-touching_run operator_kind (e ∷ seen) =
-    if operator_kind e.kind then e.kind ∷ (if e.touches then touching_run operator_kind seen else []) else []
+-- the run of joint operator kinds at the front
+abbrev pub joint_run : (ℕ → Bool) → List Entry → List ℕ
+joint_run operator_kind [] = []
+joint_run operator_kind (e ∷ seen) =
+    if operator_kind e.kind then e.kind ∷ (if e.is_joint then joint_run operator_kind seen else []) else []
 
 -- the length of the longest prefix that is a name and has at most n kinds
 abbrev pub longest_name : List ℕ → ℕ → ℕ
@@ -38,10 +38,10 @@ longest_name run (suc n) = if is_operator_name (take (suc n) run) then suc n els
 
 -- the number of tokens of the operator at the front; 0 if there is none
 abbrev pub operator_length : (ℕ → Bool) → List Entry → ℕ
-operator_length operator_kind seen = let run = touching_run operator_kind seen in longest_name run (length run)
+operator_length operator_kind seen = let run = joint_run operator_kind seen in longest_name run (length run)
 
 -- whether the first two tokens aren't joined by an operator
 abbrev pub is_next_apart : (ℕ → Bool) → List Entry → Bool
 is_next_apart operator_kind [] = true
 is_next_apart operator_kind (e ∷ seen) =
-    not (operator_kind e.kind && operator_kind (kind_in seen 0) && touches_next (e ∷ seen) && not (operator_length operator_kind (e ∷ seen) == 1))
+    not (operator_kind e.kind && operator_kind (kind_in seen 0) && is_joint_next (e ∷ seen) && not (operator_length operator_kind (e ∷ seen) == 1))

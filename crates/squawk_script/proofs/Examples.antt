@@ -16,7 +16,7 @@ use Rattle.squawk_script.specs.declared.call.Call.{Call}
 use Rattle.squawk_script.specs.declared.call.Call.TheVariants.{Start, Complete, Abandon, Precede, ExtendTo, Eat, BumpAny, BumpRemap, Error, ErrRecover, ErrAndBump}
 
 abbrev word : Entry
-word = record { kind = IDENT; contextual_kind = IDENT; touches = false }
+word = record { kind = IDENT; contextual_kind = IDENT; is_joint = false }
 
 -- what the calls leave over so many words
 abbrev left : List Entry → List Call → Run
@@ -69,9 +69,9 @@ begun_again = (refl, refl, refl, refl)
 nothing_is_eaten_at_the_end : leaves (word ∷ []) (BumpAny ∷ BumpAny ∷ BumpRemap 5 ∷ []) (Token 3 1 ∷ []) 1 1 1
 nothing_is_eaten_at_the_end = (refl, refl, refl, refl)
 
--- two signs that touch are one token, and where they don't stand nothing is eaten
+-- two joint signs are one token, and where they don't stand nothing is eaten
 abbrev colon_eq : List Entry
-colon_eq = record { kind = COLON; contextual_kind = EOF; touches = true } ∷ record { kind = EQ; contextual_kind = EOF; touches = false } ∷ word ∷ []
+colon_eq = record { kind = COLON; contextual_kind = EOF; is_joint = true } ∷ record { kind = EQ; contextual_kind = EOF; is_joint = false } ∷ word ∷ []
 
 pair_is_eaten : leaves colon_eq (Eat COLON_EQ ∷ Eat COLON_EQ ∷ BumpAny ∷ []) (Token COLON_EQ 2 ∷ Token 3 1 ∷ []) 2 2 3
 unfolding sets.has

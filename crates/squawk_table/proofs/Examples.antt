@@ -12,7 +12,7 @@ use Rattle.squawk_tokens.specs.AcceptedTokens.{start_of}
 use Rattle.squawk_table.specs.RawTable.{Table, table_of}
 use Rattle.squawk_kinds.specs.Keywords.{Keywords}
 use Rattle.squawk_kinds.specs.Kinds.{EOF, EQ, IDENT, R_ANGLE, WHITESPACE}
-use Rattle.squawk_table.specs.ParserInput.{Entry, input_of, touches_in}
+use Rattle.squawk_table.specs.ParserInput.{Entry, input_of, is_joint_in}
 use Rattle.squawk_table.specs.Shape.{IsOver, no_keywords}
 use Rattle.squawk_output.specs.Steps as steps
 use Rattle.squawk_output.specs.Steps.{Step}
@@ -53,7 +53,7 @@ table_of_keyword = refl
 -- ---- inputs
 
 abbrev entry : ℕ → ℕ → Bool → Entry
-entry kind contextual touches = record { kind = kind; contextual_kind = contextual; touches = touches }
+entry kind contextual is_joint = record { kind = kind; contextual_kind = contextual; is_joint = is_joint }
 
 -- a space keeps two identifiers apart
 input_of_two : input_of no_keywords two_idents ≡ entry IDENT IDENT false ∷ entry IDENT IDENT false ∷ []
@@ -152,19 +152,19 @@ sent_of_outer_errors = refl
 
 -- ---- tokens of several input tokens
 
--- two tokens that touch are one
-over_touching : IsOver (steps.Token EQ 2 ∷ []) (entry EQ EOF true ∷ entry R_ANGLE EOF false ∷ [])
-over_touching = (record { some = omega arith; there = omega arith; touch = first_touches }, tt)
+-- two joint tokens are one
+over_joint : IsOver (steps.Token EQ 2 ∷ []) (entry EQ EOF true ∷ entry R_ANGLE EOF false ∷ [])
+over_joint = (record { some = omega arith; there = omega arith; touch = first_is_joint }, tt)
   where
-    first_touches : (i : ℕ) → i + 1 < 2 → touches_in (entry EQ EOF true ∷ entry R_ANGLE EOF false ∷ []) i ≡ true
-    first_touches zero lt = refl
-    first_touches (suc i) lt = absurd (omega arith)
+    first_is_joint : (i : ℕ) → i + 1 < 2 → is_joint_in (entry EQ EOF true ∷ entry R_ANGLE EOF false ∷ []) i ≡ true
+    first_is_joint zero lt = refl
+    first_is_joint (suc i) lt = absurd (omega arith)
 
 -- and two that stand apart aren't
 apart_isnt_over : IsOver (steps.Token EQ 2 ∷ []) (entry EQ EOF false ∷ entry R_ANGLE EOF false ∷ []) → ⊥
 apart_isnt_over over = false≢true (over.0.touch 0 (omega arith))
 
--- the text of two that touch is joined
+-- the text of two joint ones is joined
 sent_of_joined : sent_list (table_of no_keywords (codes "ab c") (ident 1 ∷ ident 1 ∷ space 1 ∷ ident 1 ∷ []))
     (steps.Enter 700 ∷ steps.Token IDENT 2 ∷ steps.Error (codes "e") ∷ steps.Token IDENT 1 ∷ steps.Exit ∷ [])
     ≡ sent.Enter 700 ∷ sent.Token IDENT (codes "ab") ∷ sent.Error (codes "e") 2 ∷ gap ∷ c ∷ sent.Exit ∷ []

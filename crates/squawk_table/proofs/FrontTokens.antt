@@ -5,7 +5,7 @@ use Rattle.std.proofs.lemmas.List.{drop-drop, get_or-take, length-take-le, take-
 use Rattle.std.proofs.lemmas.List.Elements.{All-cons, All-take}
 use Rattle.squawk_kinds.specs.Keywords.{Keywords}
 use Rattle.squawk_kinds.specs.Kinds.{is_trivia}
-use Rattle.squawk_table.specs.ParserInput.{entries_of, is_followed, touches_in}
+use Rattle.squawk_table.specs.ParserInput.{entries_of, is_followed, is_joint_in}
 use Rattle.squawk_table.specs.RawTable.{Table, RawToken, raw_at, raw_after}
 use Rattle.squawk_table.specs.Sent.{after_input, input_tokens, past_trivia, HasNoTrivia}
 use Rattle.squawk_table.specs.Shape.{AreOneToken}
@@ -40,7 +40,7 @@ module _ (contextual : Keywords) where
   followed (suc n) [] some le input = absurd (omega arith)
   followed (suc n) (r ∷ raws) some le input = not_from_false (is_trivia r.kind) (first r (take n raws) input)
 
-  touch-front : (n : ℕ) (raws : List RawToken) → n ≤ length raws → HasNoTrivia (take n raws) → (i : ℕ) → i + 1 < n → touches_in (entries_of contextual raws) i ≡ true
+  touch-front : (n : ℕ) (raws : List RawToken) → n ≤ length raws → HasNoTrivia (take n raws) → (i : ℕ) → i + 1 < n → is_joint_in (entries_of contextual raws) i ≡ true
   touch-front zero raws le input i lt = absurd (omega arith)
   touch-front (suc n) [] le input i lt = absurd (omega arith)
   touch-front (suc n) (r ∷ raws) le input zero lt = rw (first r (take n raws) input) (followed n raws (omega arith) (omega arith) (others r (take n raws) input))
@@ -54,7 +54,7 @@ module _ (contextual : Keywords) where
     touch = touch-front n raws front.there front.input;
   }
 
-  -- and between tokens of the input that touch stands no trivia
+  -- and between joint tokens of the input stands no trivia
   touching : (n : ℕ) (raws : List RawToken) → is_followed raws ≡ true → AreOneToken (suc n) (entries_of contextual raws) → (suc n ≤ length raws) × HasNoTrivia (take (suc n) raws)
   touching n [] begins one = absurd (omega (arith, one.there))
   touching zero (r ∷ raws) begins one =

@@ -3,19 +3,19 @@ use Rattle.std.specs.Prelude.{◌≡◌, ℕ, Bool, false, List, length, map, sl
 use Rattle.std.specs.List.{range_with_len, slice_index_or}
 use Rattle.squawk_table.specs.ParserInput.{Entry}
 
--- token k of an input, by the lists of kinds, of contextual kinds, and of whether each token touches the next
+-- token k of an input, by the lists of kinds, of contextual kinds, and of whether each token is joint with the next
 abbrev pub entry_in : List ℕ → List ℕ → List Bool → ℕ → Entry
-entry_in kinds contextual_kinds touches k = record {
+entry_in kinds contextual_kinds joints k = record {
   kind = slice_index kinds k;
   contextual_kind = slice_index contextual_kinds k;
-  touches = slice_index_or touches k false;
+  joints = slice_index_or joints k false;
 }
 
 -- its tokens
 abbrev pub entries_in : List ℕ → List ℕ → List Bool → List Entry
-entries_in kinds contextual_kinds touches = map (entry_in kinds contextual_kinds touches) (range_with_len 0 (length kinds))
+entries_in kinds contextual_kinds joints = map (entry_in kinds contextual_kinds joints) (range_with_len 0 (length kinds))
 
 -- each of the lists has an item a token
-pub record IsEven (kinds contextual_kinds : List ℕ) (touches : List Bool) : Type 0 where
+pub record IsEven (kinds contextual_kinds : List ℕ) (joints : List Bool) : Type 0 where
   pub contextual : length contextual_kinds ≡ length kinds
-  pub joint : length touches ≡ length kinds
+  pub joint : length joints ≡ length kinds

@@ -4,11 +4,11 @@ use Rattle.squawk_kinds.specs.Kinds.{EOF, IDENT, is_trivia}
 use Rattle.squawk_table.specs.RawTable.{Table, RawToken, raw_tokens}
 use Rattle.squawk_kinds.specs.Keywords.{Keywords}
 
--- a token of an input: its kind, its contextual kind, and whether it touches the next token of the input
+-- a token of an input: its kind, its contextual kind, and whether it is joint with the next token of the input
 pub record Entry : Type 0 where
   pub kind : ℕ
   pub contextual_kind : ℕ
-  pub touches : Bool
+  pub is_joint : Bool
 
 -- an identifier has the contextual keyword that it spells, if any; every other token has none
 abbrev pub contextual_kind_of : Keywords → RawToken → ℕ
@@ -21,7 +21,7 @@ is_followed (next ∷ rest) = not (is_trivia next.kind)
 
 -- the entry of a raw token: it touches its successor if that is the next raw token
 abbrev pub entry_for : Keywords → RawToken → List RawToken → Entry
-entry_for contextual raw rest = record { kind = raw.kind; contextual_kind = contextual_kind_of contextual raw; touches = is_followed rest }
+entry_for contextual raw rest = record { kind = raw.kind; contextual_kind = contextual_kind_of contextual raw; is_joint = is_followed rest }
 
 -- the entries of the raw tokens that aren't trivia
 abbrev pub entries_of : Keywords → List RawToken → List Entry
@@ -49,6 +49,6 @@ kind_in input i = unwrap_or (option_map (λ e. e.kind) (slice_get input i)) EOF
 abbrev pub contextual_kind_in : List Entry → ℕ → ℕ
 contextual_kind_in input i = unwrap_or (option_map (λ e. e.contextual_kind) (slice_get input i)) EOF
 
--- whether token i of an input touches the next
-abbrev pub touches_in : List Entry → ℕ → Bool
-touches_in input i = unwrap_or (option_map (λ e. e.touches) (slice_get input i)) false
+-- whether token i of an input is joint with the next
+abbrev pub is_joint_in : List Entry → ℕ → Bool
+is_joint_in input i = unwrap_or (option_map (λ e. e.is_joint) (slice_get input i)) false

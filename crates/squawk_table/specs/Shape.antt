@@ -2,7 +2,7 @@
 use Rattle.std.specs.Prelude.{◌≡◌, ℕ, ◌+◌, ◌<◌, ◌≤◌, true, List, [], ◌∷◌, None, length, drop}
 use Rattle.squawk_output.specs.OneRoot.{StandsInOneRoot}
 use Rattle.squawk_output.specs.Steps.{Step, Token, Enter, Exit, Error, without_errors}
-use Rattle.squawk_table.specs.ParserInput.{Entry, input_of, touches_in}
+use Rattle.squawk_table.specs.ParserInput.{Entry, input_of, is_joint_in}
 use Rattle.squawk_table.specs.RawTable.{Table}
 use Rattle.squawk_kinds.specs.Keywords.{Keywords}
 
@@ -10,7 +10,7 @@ use Rattle.squawk_kinds.specs.Keywords.{Keywords}
 pub record AreOneToken (n : ℕ) (input : List Entry) : Type 0 where
   pub some : 1 ≤ n
   pub there : n ≤ length input
-  pub touch : (i : ℕ) → i + 1 < n → touches_in input i ≡ true
+  pub touch : (i : ℕ) → i + 1 < n → is_joint_in input i ≡ true
 
 -- Read from the left, each token of the walk has the next tokens of the input, at least one, and these touch one
 -- another.

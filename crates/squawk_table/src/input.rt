@@ -1,7 +1,7 @@
 //! The input of a parser.
 ghost use Rattle.std.specs.Prelude.{◌≡◌, ◌==◌, ◌<◌, ◌+◌, List, [], length, IfOk, IsTrue};
 ghost use Rattle.squawk_output.specs.Steps.{Step};
-ghost use Rattle.squawk_table.specs.ParserInput.{HasNoEndToken, input_of, kind_in, contextual_kind_in, contextual_kind_of, touches_in};
+ghost use Rattle.squawk_table.specs.ParserInput.{HasNoEndToken, input_of, kind_in, contextual_kind_in, contextual_kind_of, is_joint_in};
 ghost use Rattle.squawk_table.specs.RawTable.{raw_at};
 ghost use Rattle.squawk_table.specs.Shape.{IsOver, no_keywords};
 
@@ -89,11 +89,11 @@ impl Input {
         }
     }
 
-    /// Whether token `i` touches the next: nothing, not even trivia, stands between them. The last token
+    /// Whether token `i` is joint with the next: nothing, not even trivia, stands between them. The last token
     /// has no next one.
     pub fn is_joint(&self, i: usize) -> bool
         requires { i < length self.now }
-        ensures { result ≡ touches_in self.now i }
+        ensures { result ≡ is_joint_in self.now i }
     {
         self.joints.get(i)
     }
@@ -117,7 +117,7 @@ impl LexedStr<'_> {
         // The first `count` items are the input so far. Trivia is written behind them, too, and then
         // overwritten by the next raw token: a branch on trivia mispredicts.
         let mut count = 0;
-        // Where the previous raw token was written, and whether the input has it: then it touches this
+        // Where the previous raw token was written, and whether the input has it: then it is joint with this
         // one, if the input has this one, too.
         let mut last = 0;
         let mut was_token = false;

@@ -2,7 +2,7 @@
 ghost use Rattle.std.specs.Prelude.{◌≡◌, ◌==◌, [], ◌∷◌, map, option_map};
 ghost use Rattle.std.specs.List.{find};
 ghost use Rattle.squawk_parser.specs.CompositeForms.{element_of, form_of};
-ghost use Rattle.squawk_parser.specs.Composites.{composites, Glued, Touching, Sequence, NoTail, Open};
+ghost use Rattle.squawk_parser.specs.Composites.{composites, Glued, Joint, Sequence, NoTail, Open};
 
 use squawk_kinds::SyntaxKind;
 use std::marker::Model;
@@ -45,10 +45,10 @@ pub(super) enum Tail {
 /// How the tokens of a composite kind stand, and what they become.
 #[derive(Drop)]
 pub(super) enum Form {
-    /// They touch, and become one token.
+    /// They are joint, and become one token.
     Glued(Parts),
-    /// They touch, and become a node of one token each.
-    Touching(Parts),
+    /// They are joint, and become a node of one token each.
+    Joint(Parts),
     /// Trivia may stand between them; they become a node of one token each.
     ///
     /// A part [`SyntaxKind::UNICODE_NORMAL_FORM`] is at most one of the normal forms' keywords, in
@@ -78,7 +78,7 @@ pub(super) fn composite(kind: SyntaxKind) -> Option<Form>
             SyntaxKind::R_ANGLE,
             SyntaxKind::R_ANGLE,
         )),
-        SyntaxKind::COLON_COLON => touching(two(SyntaxKind::COLON, SyntaxKind::COLON)),
+        SyntaxKind::COLON_COLON => joint(two(SyntaxKind::COLON, SyntaxKind::COLON)),
         SyntaxKind::SIMILAR_TO => sequence(two(SyntaxKind::SIMILAR_KW, SyntaxKind::TO_KW)),
         SyntaxKind::NOT_SIMILAR_TO => sequence(three(
             SyntaxKind::NOT_KW,
@@ -183,10 +183,10 @@ fn glued(parts: Parts) -> Form
     Form::Glued(parts)
 }
 
-fn touching(parts: Parts) -> Form
-    ensures { form_of result ≡ Touching parts }
+fn joint(parts: Parts) -> Form
+    ensures { form_of result ≡ Joint parts }
 {
-    Form::Touching(parts)
+    Form::Joint(parts)
 }
 
 fn sequence(parts: Parts) -> Form

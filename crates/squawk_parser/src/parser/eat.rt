@@ -8,7 +8,7 @@ ghost use Rattle.squawk_kinds.specs.TokenSets.{has};
 ghost use Rattle.squawk_output.specs.Steps.{Error};
 ghost use Rattle.squawk_table.specs.ParserInput.{kind_in};
 ghost use Rattle.squawk_parser.specs.CompositeForms.{element_of, tail_of};
-ghost use Rattle.squawk_parser.specs.Composites.{ClosedBy, HasNoEndKind, NoTail, Operator, do_touch, normal_form, sequence_length, stands_at};
+ghost use Rattle.squawk_parser.specs.Composites.{ClosedBy, HasNoEndKind, NoTail, Operator, are_joint, normal_form, sequence_length, stands_at};
 ghost use Rattle.squawk_parser.specs.Eaten.{EatsWith, closing_steps, eat_steps, element_steps, expect_steps, expected_text, form_steps, node, one, tail_of_kind};
 ghost use Rattle.squawk_parser.specs.Recorded.{Puts};
 ghost use Rattle.squawk_parser.specs.SomeSteps.{AddsSome};
@@ -93,7 +93,7 @@ impl Parser<'_> {
         match composite(kind) {
             None => self.do_bump(kind, 1),
             Some(Form::Glued(parts)) => self.do_bump(kind, parts.as_slice().len() as u8),
-            Some(Form::Touching(parts)) => self.eat_touching(kind, &parts),
+            Some(Form::Joint(parts)) => self.eat_joint(kind, &parts),
             Some(Form::Sequence { parts, tail: _ }) => {
                 let node = self.start();
                 self.eat_elements(&parts);
@@ -148,11 +148,11 @@ impl Parser<'_> {
         }
     }
 
-    /// Eats parts that touch, in a node of this kind.
-    fn eat_touching(&mut self, kind: SyntaxKind, parts: &Parts)
+    /// Eats joint parts, in a node of this kind.
+    fn eat_joint(&mut self, kind: SyntaxKind, parts: &Parts)
         requires kind { kind ≢ TOMBSTONE }
         requires no_end { HasNoEndKind parts.now }
-        requires touch { IsTrue (do_touch parts.now (ahead self.old 0)) }
+        requires touch { IsTrue (are_joint parts.now (ahead self.old 0)) }
         ensures { Puts (node kind (map one parts.now)) self.old self.new }
     {
         let node = self.start();

@@ -36,7 +36,7 @@ impl Parser<'_> {
         self.log.next_id()
     }
 
-    /// Eats the next `n_input_tokens` tokens, each of which touches the next, as one token of this kind.
+    /// Eats the next `n_input_tokens` tokens, each of which is joint with the next, as one token of this kind.
     #[inline(always)]
     pub(super) fn do_bump(&mut self, kind: SyntaxKind, n_input_tokens: u8)
         requires { AreOneToken n_input_tokens (ahead self.old 0) }

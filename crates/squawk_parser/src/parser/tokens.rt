@@ -6,7 +6,7 @@ ghost use Rattle.squawk_parser.specs.LookAhead.{seen_from};
 ghost use Rattle.squawk_parser.specs.Operators.{operator_length};
 ghost use Rattle.squawk_parser.specs.OperatorRuns.{AreRunsOf};
 ghost use Rattle.squawk_parser.specs.declared.parser.tokens.operator_runs.OperatorRuns.{OperatorRuns};
-ghost use Rattle.squawk_table.specs.ParserInput.{HasNoEndToken, kind_in, contextual_kind_in, touches_in};
+ghost use Rattle.squawk_table.specs.ParserInput.{HasNoEndToken, kind_in, contextual_kind_in, is_joint_in};
 
 mod operator_runs;
 
@@ -66,11 +66,11 @@ impl<'t> Tokens<'t> {
         self.input.contextual_kind(i)
     }
 
-    /// Whether token `i` touches the next.
+    /// Whether token `i` is joint with the next.
     #[inline(always)]
     pub(super) fn is_joint(&self, i: usize) -> bool
         requires { i < length self.now.input.now }
-        ensures { result ≡ touches_in self.now.input.now i }
+        ensures { result ≡ is_joint_in self.now.input.now i }
     {
         self.input.is_joint(i)
     }

@@ -1,6 +1,6 @@
 //! The tokens that a parser sees from an index on. What is inlined runs at each look-ahead.
 ghost use Rattle.std.specs.Prelude.{◌≡◌, ◌≤◌, length, drop};
-ghost use Rattle.squawk_parser.specs.LookAhead.{seen_from, touches_next};
+ghost use Rattle.squawk_parser.specs.LookAhead.{seen_from, is_joint_next};
 ghost use Rattle.squawk_table.specs.ParserInput.{kind_in};
 
 pub(super) mod composites;
@@ -59,9 +59,9 @@ impl<'t> View<'t> {
         }
     }
 
-    /// Whether token `i` touches the next one of the view: nothing is between them.
-    pub(super) fn touches_next(&self, i: usize) -> bool
-        ensures { result ≡ touches_next (drop i self.now) }
+    /// Whether token `i` is joint with the next one of the view: nothing is between them.
+    pub(super) fn is_joint_next(&self, i: usize) -> bool
+        ensures { result ≡ is_joint_next (drop i self.now) }
     {
         let next = self.start.saturating_add(i).saturating_add(1);
         next < self.limit && self.tokens.is_joint(next - 1)

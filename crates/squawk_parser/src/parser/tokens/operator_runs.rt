@@ -1,11 +1,11 @@
 //! The lengths of operators, without a pass over each.
 //!
-//! An operator's run of touching kinds ends at some token, or at the limit. The last special kind before
+//! An operator's run of joint kinds ends at some token, or at the limit. The last special kind before
 //! that end and the last kind that is no sign then decide its length.
 ghost use Rattle.std.specs.Prelude.{◌≡◌, ◌*◌, ◌+◌, ◌<◌, ◌≤◌, ◌↔◌, ℕ, length, not, IfOk, IsTrue, if◌then◌else◌};
 ghost use Rattle.squawk_kinds.specs.TokenSets.{has};
 ghost use Rattle.squawk_parser.specs.LookAhead.{seen_from};
-ghost use Rattle.squawk_parser.specs.Operators.{is_special, operator_length, touching_run};
+ghost use Rattle.squawk_parser.specs.Operators.{is_special, operator_length, joint_run};
 ghost use Rattle.squawk_parser.specs.OperatorRuns.{AreEnds, ArePastLast, AreRunsOf, IsInRun, is_no_sign};
 
 use crate::parser::operator_names::{is_sign, is_special};
@@ -17,7 +17,7 @@ use std::alloc::{AllocError, Global};
 #[derive(Drop)]
 pub(super) struct OperatorRuns {
     operator_first: TokenSet,
-    /// The index past the run of touching operator kinds that starts at the token.
+    /// The index past the run of joint operator kinds that starts at the token.
     ends: Vec<u32>,
     /// The index past the last special kind of the tokens up to this one.
     past_specials: Vec<u32>,
@@ -78,7 +78,7 @@ impl OperatorRuns {
     }
 }
 
-/// For each token the index past the run of touching operator kinds that starts there.
+/// For each token the index past the run of joint operator kinds that starts there.
 fn run_ends(alloc: Global, input: &Input, operator_first: &TokenSet) -> Result<Vec<u32>, AllocError>
     requires { length input.now ≤ u32.MAX }
     ensures { IfOk result (λ ends. AreEnds (has operator_first.now) input.now ends.items) }
@@ -131,11 +131,11 @@ const BLOCK: usize = 16;
 
 /// Whether an operator of these kinds may be long. If not, each has fewer than 32 tokens.
 ///
-/// A run of 32 tokens has a whole block in which each touches the next.
+/// A run of 32 tokens has a whole block in which each is joint with the next.
 pub(super) fn has_long_run(input: &Input, operator_first: &TokenSet) -> bool
     requires { length input.now ≤ u32.MAX }
     ensures { IsTrue (not result) → (limit start : ℕ) → limit ≤ length input.now
-        → length (touching_run (has operator_first.now) (seen_from input.now limit start)) < 32 }
+        → length (joint_run (has operator_first.now) (seen_from input.now limit start)) < 32 }
 {
     for block in 0..input.len() / BLOCK {
         if is_in_run(input, block * BLOCK, operator_first) {
@@ -145,7 +145,7 @@ pub(super) fn has_long_run(input: &Input, operator_first: &TokenSet) -> bool
     false
 }
 
-/// Whether each token of the block at `start` has an operator's kind and touches the next.
+/// Whether each token of the block at `start` has an operator's kind and is joint with the next.
 fn is_in_run(input: &Input, start: usize, operator_first: &TokenSet) -> bool
     requires few { length input.now ≤ u32.MAX }
     requires within { start + BLOCK ≤ length input.now }

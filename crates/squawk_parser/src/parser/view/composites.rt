@@ -2,7 +2,7 @@
 ghost use Rattle.std.specs.Prelude.{◌≡◌, ◌≤◌, ◌==◌, map};
 ghost use Rattle.std.specs.List.{list_any};
 ghost use Rattle.squawk_parser.specs.CompositeForms.{element_of};
-ghost use Rattle.squawk_parser.specs.Composites.{stands_at, do_touch, are_apart, sequence_length, normal_forms};
+ghost use Rattle.squawk_parser.specs.Composites.{stands_at, are_joint, are_apart, sequence_length, normal_forms};
 ghost use Rattle.squawk_kinds.specs.TokenSets.{has};
 
 use crate::parser::composite::{Form, Parts, composite};
@@ -17,9 +17,9 @@ impl View<'_> {
     {
         match composite(kind) {
             None => self.kind(0) == kind,
-            Some(Form::Glued(parts) | Form::Touching(parts)) => {
+            Some(Form::Glued(parts) | Form::Joint(parts)) => {
                 let n = parts.as_slice().len();
-                self.do_touch(&parts) && self.again().are_apart(n, operator_first)
+                self.are_joint(&parts) && self.again().are_apart(n, operator_first)
             }
             Some(Form::Sequence { parts, tail: _ }) => self.sequence_len(&parts).is_some(),
             Some(Form::Operator) => operator_first.contains(self.kind(0)),
@@ -34,21 +34,21 @@ impl View<'_> {
         View::new(self.tokens, self.start, self.limit)
     }
 
-    /// Whether the parts are at the front and each touches the next.
+    /// Whether the parts are at the front and each is joint with the next.
     #[inline(always)]
-    fn do_touch(&self, parts: &Parts) -> bool
-        ensures { result ≡ do_touch parts.now self.now }
+    fn are_joint(&self, parts: &Parts) -> bool
+        ensures { result ≡ are_joint parts.now self.now }
     {
         let parts = parts.as_slice();
         for (i, part) in parts.iter().enumerate() {
-            if self.kind(i) != *part || i + 1 < parts.len() && !self.touches_next(i) {
+            if self.kind(i) != *part || i + 1 < parts.len() && !self.is_joint_next(i) {
                 return false;
             }
         }
         true
     }
 
-    /// Whether the first `n` tokens, which touch, are no part of a longer operator.
+    /// Whether the first `n` tokens, which are joint, are no part of a longer operator.
     // Few kinds get here.
     #[cold]
     fn are_apart(&self, n: usize, operator_first: &TokenSet) -> bool
@@ -57,7 +57,7 @@ impl View<'_> {
     {
         !(operator_first.contains(self.kind(0))
             && operator_first.contains(self.kind(n))
-            && self.touches_next(n - 1))
+            && self.is_joint_next(n - 1))
             || self.operator_len_up_to(n, operator_first) == n
     }
 

@@ -18,7 +18,7 @@ impl View<'_> {
 
     /// The number of tokens of the operator at the front, or a number above `most` if there are more.
     ///
-    /// If the lengths aren't known, this is one pass over the tokens that touch. The longest name is the last
+    /// If the lengths aren't known, this is one pass over the joint tokens. The longest name is the last
     /// prefix read that is one. The pass ends once it has more than `most` tokens.
     pub(in crate::parser) fn operator_len_up_to(
         &self,
@@ -61,7 +61,7 @@ impl View<'_> {
     {
         !(operator_first.contains(self.kind(0))
             && operator_first.contains(self.kind(1))
-            && self.touches_next(0)
+            && self.is_joint_next(0)
             && self.operator_len_up_to(1, operator_first) != 1)
     }
 }

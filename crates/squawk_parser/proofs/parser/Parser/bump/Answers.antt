@@ -6,7 +6,7 @@ use Rattle.squawk_table.specs.ParserInput.{Entry, kind_in}
 use Rattle.squawk_table.specs.Shape.{AreOneToken}
 use Rattle.squawk_output.specs.Steps.{Token}
 use Rattle.squawk_parser.specs.CompositeForms.{element_of, tail_of}
-use Rattle.squawk_parser.specs.Composites.{Glued, do_touch, stands_at}
+use Rattle.squawk_parser.specs.Composites.{Glued, are_joint, stands_at}
 use Rattle.squawk_parser.specs.Eaten.{element_steps, node, composite_of}
 use Rattle.squawk_parser.specs.Recorded.{Puts}
 use Rattle.squawk_parser.specs.State.{ahead}
@@ -14,7 +14,7 @@ use Rattle.squawk_parser.specs.declared.parser.composite.Form.TheVariants as for
 use Rattle.squawk_parser.proofs.CompositeFacts.{IsComposite, eat_steps-none, eat_steps-composite, glued-no_end, glued-some, is_no_composite, is_composite, sequence-no_end, stands_at-none, stands_at-composite}
 use Rattle.squawk_parser.proofs.Markers.{hole-put}
 use Rattle.squawk_parser.proofs.RecordedSteps.{node_puts, token_puts}
-use Rattle.squawk_parser.proofs.SeenSteps.{ahead-still, and-left, seen_one, touching_all}
+use Rattle.squawk_parser.proofs.SeenSteps.{ahead-still, and-left, seen_one, joint_all}
 use Rattle.squawk_parser.proofs.SomeSteps.{puts_some}
 use Rattle.squawk_parser.proofs.parser.Parser.bump.Goals as goal
 
@@ -22,8 +22,8 @@ use Rattle.squawk_parser.proofs.parser.Parser.bump.Goals as goal
 glued_one : (kind : ℕ) (parts slice : List ℕ) (seen : List Entry) (operator_kind : ℕ → Bool) → IsComposite kind (Glued parts)
     → stands_at operator_kind kind seen ≡ true → slice ≡ parts → AreOneToken (length slice) seen
 glued_one kind parts slice seen operator_kind r stands is =
-    let touch : do_touch parts seen ≡ true = and-left _ _ (sym (stands_at-composite operator_kind seen r) ∙ stands) in
-    subst (λ xs. AreOneToken (length xs) seen) (sym is) (touching_all parts seen (glued-some r) (glued-no_end r) touch)
+    let touch : are_joint parts seen ≡ true = and-left _ _ (sym (stands_at-composite operator_kind seen r) ∙ stands) in
+    subst (λ xs. AreOneToken (length xs) seen) (sym is) (joint_all parts seen (glued-some r) (glued-no_end r) touch)
 
 -- so is the token of a kind that isn't composite
 plain_one : (kind : ℕ) (seen : List Entry) (operator_kind : ℕ → Bool) → composite_of kind ≡ None → stands_at operator_kind kind seen ≡ true → kind ≢ EOF → AreOneToken 1 seen
@@ -73,12 +73,12 @@ returns-in-Some-Glued-clause-puts c =
     subst (λ steps. Puts steps old c.do_bump-in-Some-Glued.new.self) (same ∙ sym (eat_steps-composite old.words (ahead old 0) r))
     (token_puts c.args.kind (length c.as_slice.result.now) bump.keeps bump.records bump.position)
 
-pub returns-in-Some-Touching-clause-puts : goal.returns-in-Some-Touching-clause-puts
-returns-in-Some-Touching-clause-puts c =
+pub returns-in-Some-Joint-clause-puts : goal.returns-in-Some-Joint-clause-puts
+returns-in-Some-Joint-clause-puts c =
     let old = c.args.self.now in
-    let composite = c.in-Some-Touching in
-    let r = is_composite c.args.kind c.composite.result (form.Touching composite.parts) (composite.is ∙ ap Some composite.field-0-is) c.composite.ensures in
-    subst (λ steps. Puts steps old c.eat_touching.new.self) (sym (eat_steps-composite old.words (ahead old 0) r)) c.eat_touching.ensures
+    let composite = c.in-Some-Joint in
+    let r = is_composite c.args.kind c.composite.result (form.Joint composite.parts) (composite.is ∙ ap Some composite.field-0-is) c.composite.ensures in
+    subst (λ steps. Puts steps old c.eat_joint.new.self) (sym (eat_steps-composite old.words (ahead old 0) r)) c.eat_joint.ensures
 
 pub returns-in-Some-Operator-clause-puts : goal.returns-in-Some-Operator-clause-puts
 returns-in-Some-Operator-clause-puts c =
@@ -105,8 +105,8 @@ returns-in-None-clause-some c = puts_some (returns-in-None-clause-puts c)
 pub returns-in-Some-Glued-clause-some : goal.returns-in-Some-Glued-clause-some
 returns-in-Some-Glued-clause-some c = puts_some (returns-in-Some-Glued-clause-puts c)
 
-pub returns-in-Some-Touching-clause-some : goal.returns-in-Some-Touching-clause-some
-returns-in-Some-Touching-clause-some c = puts_some (returns-in-Some-Touching-clause-puts c)
+pub returns-in-Some-Joint-clause-some : goal.returns-in-Some-Joint-clause-some
+returns-in-Some-Joint-clause-some c = puts_some (returns-in-Some-Joint-clause-puts c)
 
 pub returns-in-Some-Operator-clause-some : goal.returns-in-Some-Operator-clause-some
 returns-in-Some-Operator-clause-some c = puts_some (returns-in-Some-Operator-clause-puts c)

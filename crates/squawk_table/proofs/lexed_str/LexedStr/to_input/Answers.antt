@@ -21,15 +21,15 @@ loop-i-preserved g c =
     let trivia : is_trivia (slice_index t.kinds loop.i) ≡ c.is_trivia-is_token.result =
     sym (ap is_trivia c.kind-kind.ensures) ∙ sym c.is_trivia-is_token.ensures in
     let in_joints : loop.last < length loop.joints = omega (arith, before.joints, before.within, before.next) in
-    let touches = set loop.joints loop.last (loop.was_token && not c.is_trivia-is_token.result) in
-    let many : length touches ≡ length t.kinds = length-set loop.joints loop.last _ ∙ before.joints in
+    let joints = set loop.joints loop.last (loop.was_token && not c.is_trivia-is_token.result) in
+    let many : length joints ≡ length t.kinds = length-set loop.joints loop.last _ ∙ before.joints in
     let settled = subst
     (λ (followed : Bool). entries_in (take loop.count loop.kinds.items) (take loop.count loop.contextual_kinds.items) (take loop.count (set loop.joints loop.last (loop.was_token && followed)))
     ++ entries_of contextual (raw_after t loop.i) ≡ input_of contextual t)
     (followed_at t loop.i c.is_trivia-is_token.result lt trivia) before.done in
     record {
       done = rw (c.set.ensures, c.from-count.ensures, c.kind-kind.ensures, c.contextual_kind-contextual_kind.ensures)
-          (entries_next contextual t loop.i loop.kinds.items loop.contextual_kinds.items touches _ lt loop.count (omega (arith, before.kinds, before.within)) (omega (arith, before.contextual_kinds, before.within)) (omega (arith, many, before.within))
+          (entries_next contextual t loop.i loop.kinds.items loop.contextual_kinds.items joints _ lt loop.count (omega (arith, before.kinds, before.within)) (omega (arith, before.contextual_kinds, before.within)) (omega (arith, many, before.within))
           c.is_trivia-is_token.result trivia settled);
       next = ap (λ n. loop.count + n) c.from-count.ensures;
       within = rw c.from-count.ensures (within_next loop.count loop.i c.is_trivia-is_token.result before.within);

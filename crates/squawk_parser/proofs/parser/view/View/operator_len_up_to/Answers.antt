@@ -2,7 +2,7 @@ use Rattle.std.proofs.Common.{◌≡◌, ◌∙◌, ◌+◌, ◌-◌, ◌<◌, �
 use Rattle.squawk_parser.specs.Operators.{is_special, operator_length}
 use Rattle.squawk_kinds.specs.TokenSets.{has}
 use Rattle.squawk_parser.proofs.OperatorLength.{longest_after, longest_from, longest_from-same, longest_after-one, longest_after-special, longest_after-no_sign, longest_after-sign, longest_after-bounds, longest_from-grows}
-use Rattle.squawk_parser.proofs.TouchingRun.{run_at, longest_at-start, longest_at-limit, longest_at-other, longest_at-last, longest_at-next}
+use Rattle.squawk_parser.proofs.JointRun.{run_at, longest_at-start, longest_at-limit, longest_at-other, longest_at-last, longest_at-next}
 use Rattle.squawk_parser.proofs.parser.view.View.operator_len_up_to.Goals as goal
 use Rattle.squawk_parser.proofs.parser.view.View.operator_len_up_to.Goals.{Joined-len-eq1, Joined-has_special, then-has_special, else-has_special, then-len-eq1, then-len-eq1-via-then-len-eq1, then-len-eq1-via-else-len-eq1+then-has_special-2, then-len-eq1-via-else-len-eq1+else-has_special-2+then-not-is_sign, else-len-eq1+else-has_special-2+else-not-is_sign}
 

@@ -1,6 +1,6 @@
 use Rattle.std.proofs.Common.{◌≡◌, ◌≤◌, ◌-◌}
 use Rattle.squawk_parser.proofs.OperatorLength.{longest_from}
-use Rattle.squawk_parser.proofs.TouchingRun.{run_at}
+use Rattle.squawk_parser.proofs.JointRun.{run_at}
 use Rattle.squawk_parser.specs.Operators.{operator_length}
 use Rattle.squawk_kinds.specs.TokenSets.{has}
 use Rattle.squawk_parser.proofs.parser.view.View.operator_len_up_to.Given as goal

@@ -2,7 +2,7 @@ use Rattle.std.proofs.Common.{◌≡◌, ◌<◌, ◌+◌, ◌∙◌, min, lengt
 use Rattle.std.proofs.lemmas.List.{get_or_read_under}
 use Rattle.squawk_kinds.specs.TokenSets.{has}
 use Rattle.squawk_parser.specs.LookAhead.{seen_from}
-use Rattle.squawk_parser.specs.Operators.{is_special, touching_run}
+use Rattle.squawk_parser.specs.Operators.{is_special, joint_run}
 use Rattle.squawk_parser.specs.OperatorRuns.{IsPastLast, is_no_sign}
 use Rattle.squawk_parser.proofs.RunEnds.{past_read}
 use Rattle.squawk_parser.proofs.RunLengths.{length-none, length-special, length-other, length-sign}
@@ -11,7 +11,7 @@ use Rattle.squawk_parser.proofs.parser.tokens.operator_runs.OperatorRuns.operato
 
 -- where the run ends under the limit
 end_here : (c : After-min-end)
-    → c.min-end.result ≡ min c.args.limit (c.args.start + length (touching_run (has c.args.self.now.operator_first) (seen_from c.args.input.now (length c.args.input.now) c.args.start)))
+    → c.min-end.result ≡ min c.args.limit (c.args.start + length (joint_run (has c.args.self.now.operator_first) (seen_from c.args.input.now (length c.args.input.now) c.args.start)))
 end_here c =
     let ends = c.args.self.now.ends.items in
     let all = c.requires.runs.ends in

@@ -4,7 +4,7 @@ use Rattle.squawk_parser.specs.Recorded.{Puts}
 use Rattle.squawk_parser.proofs.EatenParts.{touched-all, touched-next}
 use Rattle.squawk_parser.proofs.Markers.{hole-put}
 use Rattle.squawk_parser.proofs.RecordedSteps.{node_puts}
-use Rattle.squawk_parser.proofs.parser.Parser.eat_touching.Goals as goal
+use Rattle.squawk_parser.proofs.parser.Parser.eat_joint.Goals as goal
 
 pub loop-part-preserved : goal.loop-part-preserved
 loop-part-preserved c =
