@@ -60,7 +60,7 @@ module _ (kinds contextual_kinds : List ℕ) (joints : List Bool) where
         let joint_stays = get_or_append_left joints (touch ∷ []) false k (omega (arith, even.joint)) in
         rw (kind_stays, contextual_kind_stays, joint_stays) refl
 
-    last : entry_in kinds_more contextual_kinds_more joints_more (length kinds) ≡ record { kind = kind; contextual_kind = contextual_kind; joints = touch }
+    last : entry_in kinds_more contextual_kinds_more joints_more (length kinds) ≡ record { kind = kind; contextual_kind = contextual_kind; is_joint = touch }
     last =
         rw (
           get_or_push kinds kind 0 (length kinds) refl,
@@ -69,7 +69,7 @@ module _ (kinds contextual_kinds : List ℕ) (joints : List Bool) where
         ) refl
 
     -- one token more
-    pub entries_in-push : entries_in kinds_more contextual_kinds_more joints_more ≡ entries ++ record { kind = kind; contextual_kind = contextual_kind; joints = touch } ∷ []
+    pub entries_in-push : entries_in kinds_more contextual_kinds_more joints_more ≡ entries ++ record { kind = kind; contextual_kind = contextual_kind; is_joint = touch } ∷ []
     entries_in-push =
         rw (length_push kinds kind)
         (map_more entry (entry_in kinds_more contextual_kinds_more joints_more) (length kinds) kept ∙ ap (λ e. entries ++ e ∷ []) last)

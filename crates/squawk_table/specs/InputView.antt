@@ -8,7 +8,7 @@ abbrev pub entry_in : List ℕ → List ℕ → List Bool → ℕ → Entry
 entry_in kinds contextual_kinds joints k = record {
   kind = slice_index kinds k;
   contextual_kind = slice_index contextual_kinds k;
-  joints = slice_index_or joints k false;
+  is_joint = slice_index_or joints k false;
 }
 
 -- its tokens

@@ -19,7 +19,7 @@ abbrev pub is_followed : List RawToken → Bool
 is_followed [] = false
 is_followed (next ∷ rest) = not (is_trivia next.kind)
 
--- the entry of a raw token: it touches its successor if that is the next raw token
+-- the entry of a raw token: it is joint with its successor if that is the next raw token
 abbrev pub entry_for : Keywords → RawToken → List RawToken → Entry
 entry_for contextual raw rest = record { kind = raw.kind; contextual_kind = contextual_kind_of contextual raw; is_joint = is_followed rest }
 
