@@ -1,6 +1,6 @@
 //! What a parser and its markers answer to a grammar in code, whose two entry points differ.
 ghost use Rattle.std.specs.Prelude.{◌≡◌};
-ghost use Rattle.squawk_output.specs.Draft.{holes_of};
+ghost use Rattle.squawk_output.specs.Draft.{open_markers_of};
 ghost use Rattle.squawk_parser.specs.State.{HasNotFailed, IsSound, Keeps};
 
 use row_fixtures::keywords::KEYWORDS;
@@ -33,7 +33,7 @@ impl Part for CurrentToken {
 fn bump_if_there(p: &mut Parser<'_>, kind: SyntaxKind)
     requires { IsSound p.old }
     ensures keeps { Keeps p.old p.new }
-    ensures holes { HasNotFailed p.new → holes_of p.new.draft.items ≡ holes_of p.old.draft.items }
+    ensures open_markers { HasNotFailed p.new → open_markers_of p.new.draft.items ≡ open_markers_of p.old.draft.items }
 {
     if kind != SyntaxKind::EOF && !has_tail(kind) && p.at(kind) {
         p.bump(kind);
@@ -51,7 +51,7 @@ impl<R: Abort> Acting<'_, R> {
     fn eat(&self, p: &mut Parser<'_>, kind: SyntaxKind, wanted: bool)
         requires { IsSound p.old }
         ensures keeps { Keeps p.old p.new }
-        ensures holes { HasNotFailed p.new → holes_of p.new.draft.items ≡ holes_of p.old.draft.items }
+        ensures open_markers { HasNotFailed p.new → open_markers_of p.new.draft.items ≡ open_markers_of p.old.draft.items }
     {
         if kind != SyntaxKind::EOF && !has_tail(kind) {
             let answer = p.eat(kind);
@@ -63,7 +63,7 @@ impl<R: Abort> Acting<'_, R> {
     fn eat_with(&self, p: &mut Parser<'_>, kind: SyntaxKind, wanted: bool)
         requires { IsSound p.old }
         ensures keeps { Keeps p.old p.new }
-        ensures holes { HasNotFailed p.new → holes_of p.new.draft.items ≡ holes_of p.old.draft.items }
+        ensures open_markers { HasNotFailed p.new → open_markers_of p.new.draft.items ≡ open_markers_of p.old.draft.items }
     {
         if has_tail(kind) {
             let answer = p.eat_with(kind, CurrentToken);
@@ -75,7 +75,7 @@ impl<R: Abort> Acting<'_, R> {
     fn expect(&self, p: &mut Parser<'_>, kind: SyntaxKind, wanted: bool)
         requires { IsSound p.old }
         ensures keeps { Keeps p.old p.new }
-        ensures holes { HasNotFailed p.new → holes_of p.new.draft.items ≡ holes_of p.old.draft.items }
+        ensures open_markers { HasNotFailed p.new → open_markers_of p.new.draft.items ≡ open_markers_of p.old.draft.items }
     {
         if kind != SyntaxKind::EOF && !has_tail(kind) {
             let answer = p.expect(kind);
@@ -87,7 +87,7 @@ impl<R: Abort> Acting<'_, R> {
     fn bump(&self, p: &mut Parser<'_>, kind: SyntaxKind, position: usize)
         requires { IsSound p.old }
         ensures keeps { Keeps p.old p.new }
-        ensures holes { HasNotFailed p.new → holes_of p.new.draft.items ≡ holes_of p.old.draft.items }
+        ensures open_markers { HasNotFailed p.new → open_markers_of p.new.draft.items ≡ open_markers_of p.old.draft.items }
     {
         bump_if_there(p, kind);
         assert_eq!(self.rt; p.position(), position);
@@ -97,7 +97,7 @@ impl<R: Abort> Acting<'_, R> {
     fn early(&self, p: &mut Parser<'_>) -> CompletedMarker
         requires { IsSound p.old }
         ensures keeps { Keeps p.old p.new }
-        ensures holes { HasNotFailed p.new → holes_of p.new.draft.items ≡ holes_of p.old.draft.items }
+        ensures open_markers { HasNotFailed p.new → open_markers_of p.new.draft.items ≡ open_markers_of p.old.draft.items }
     {
         let marker = p.start();
         self.eat(p, SyntaxKind::COMMA, false);
@@ -108,7 +108,7 @@ impl<R: Abort> Acting<'_, R> {
     fn extend(&self, p: &mut Parser<'_>, early: &CompletedMarker)
         requires { IsSound p.old }
         ensures keeps { Keeps p.old p.new }
-        ensures holes { HasNotFailed p.new → holes_of p.new.draft.items ≡ holes_of p.old.draft.items }
+        ensures open_markers { HasNotFailed p.new → open_markers_of p.new.draft.items ≡ open_markers_of p.old.draft.items }
     {
         let marker = p.start();
         self.eat(p, SyntaxKind::IDENT, true);
@@ -125,7 +125,7 @@ impl<R: Abort> Acting<'_, R> {
     fn precede(&self, p: &mut Parser<'_>)
         requires { IsSound p.old }
         ensures keeps { Keeps p.old p.new }
-        ensures holes { HasNotFailed p.new → holes_of p.new.draft.items ≡ holes_of p.old.draft.items }
+        ensures open_markers { HasNotFailed p.new → open_markers_of p.new.draft.items ≡ open_markers_of p.old.draft.items }
     {
         let marker = p.start();
         self.eat(p, SyntaxKind::IDENT, true);

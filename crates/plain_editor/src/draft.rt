@@ -7,7 +7,7 @@ use std::alloc::{AllocError, Global};
 #[derive(Drop)]
 pub enum Item {
     /// An open marker: whether `start` made it, and how many entries there were before.
-    Hole {
+    OpenMarker {
         marker: u32,
         is_started: bool,
         at: u64,
@@ -28,10 +28,10 @@ pub enum Item {
 }
 
 impl Item {
-    /// The step of an output that the item is; a hole is none.
+    /// The step of an output that the item is; an open marker is none.
     pub fn step(&self) -> Option<Step<'_>> {
         match self {
-            Item::Hole { .. } => None,
+            Item::OpenMarker { .. } => None,
             Item::Open { kind, .. } => Some(Step::Enter { kind: *kind }),
             Item::Close => Some(Step::Exit),
             Item::Token { kind, count } => Some(Step::Token {
@@ -45,7 +45,7 @@ impl Item {
     }
 }
 
-/// A marker is its hole in the list, and a node its opening.
+/// A marker is its item in the list, and a node its opening.
 #[derive(Drop)]
 pub struct Draft {
     pub items: Vec<Item>,
@@ -56,7 +56,7 @@ pub struct Draft {
     entries: u64,
     /// The turns that are due.
     pub turns: u64,
-    /// How many nodes were completed with a hole behind their opening.
+    /// How many nodes were completed with an open marker behind their opening.
     pub crossings: usize,
 }
 
@@ -73,10 +73,11 @@ impl Draft {
     }
 
     /// The place of an open marker.
-    pub fn hole(&self, number: u32) -> Option<usize>
+    pub fn open_marker(&self, number: u32) -> Option<usize>
         ensures { IfSome result (λ place. place < vec_len self.now.items) }
     {
-        let is_it = |item: &Item| matches!(item, Item::Hole { marker, .. } if *marker == number);
+        let is_it =
+            |item: &Item| matches!(item, Item::OpenMarker { marker, .. } if *marker == number);
         self.items.iter().position(is_it)
     }
 
@@ -103,25 +104,25 @@ impl Draft {
         Ok(())
     }
 
-    /// The hole of the next marker.
-    fn new_hole(&self, is_started: bool) -> Item {
-        Item::Hole {
+    /// The item of the next marker.
+    fn new_open_marker(&self, is_started: bool) -> Item {
+        Item::OpenMarker {
             marker: self.markers,
             is_started,
             at: self.entries,
         }
     }
 
-    /// A hole at the end.
+    /// An open marker at the end.
     pub fn start(&mut self) -> Result<(), AllocError> {
-        let hole = self.new_hole(true);
+        let open_marker = self.new_open_marker(true);
         self.markers = self.markers.saturating_add(1);
-        self.put(hole, 2)
+        self.put(open_marker, 2)
     }
 
-    /// The hole becomes an opening, and a closing stands at the end.
+    /// The open marker becomes an opening, and a closing stands at the end.
     pub fn complete(&mut self, marker: u32, kind: SyntaxKind) -> Result<bool, AllocError> {
-        let Some(place) = self.hole(marker) else {
+        let Some(place) = self.open_marker(marker) else {
             return Ok(false);
         };
         if kind == SyntaxKind::TOMBSTONE {
@@ -130,23 +131,23 @@ impl Draft {
         let node = Some(marker);
         self.items[place] = Item::Open { kind, node };
         let mut inside = self.items.iter().skip(place);
-        let is_crossing = inside.any(|item| matches!(item, Item::Hole { .. }));
+        let is_crossing = inside.any(|item| matches!(item, Item::OpenMarker { .. }));
         self.crossings = self.crossings.saturating_add(usize::from(is_crossing));
         self.put(Item::Close, 1)?;
         Ok(true)
     }
 
-    /// The hole goes, and its entry if that is the last one and `start` made it.
+    /// The open marker goes, and its entry if that is the last one and `start` made it.
     pub fn abandon(&mut self, marker: u32) -> bool {
-        let Some(place) = self.hole(marker) else {
+        let Some(place) = self.open_marker(marker) else {
             return false;
         };
-        let hole = self.items.remove(place);
-        if let Item::Hole {
+        let open_marker = self.items.remove(place);
+        if let Item::OpenMarker {
             is_started: true,
             at,
             ..
-        } = hole
+        } = open_marker
         {
             if at.saturating_add(1) == self.entries {
                 self.entries = at;
@@ -156,35 +157,35 @@ impl Draft {
         true
     }
 
-    /// A hole directly before the node's opening, which can't be preceded again.
+    /// An open marker directly before the node's opening, which can't be preceded again.
     pub fn precede(&mut self, node: u32) -> Result<bool, AllocError> {
         let Some(place) = self.node(node) else {
             return Ok(false);
         };
-        let hole = self.new_hole(false);
+        let open_marker = self.new_open_marker(false);
         if let Item::Open { node, .. } = &mut self.items[place] {
             *node = None;
         }
-        self.items.insert(place, hole)?;
+        self.items.insert(place, open_marker)?;
         self.markers = self.markers.saturating_add(1);
         self.count(4);
         Ok(true)
     }
 
-    /// The opening moves to the place of an older hole, if that stands before it, and the hole goes.
+    /// The opening moves to the place of an older open marker, if that stands before it: the marker goes.
     pub fn extend_to(&mut self, node: u32, marker: u32) -> bool {
-        let (Some(opening), Some(hole)) = (self.node(node), self.hole(marker)) else {
+        let (Some(opening), Some(open_marker)) = (self.node(node), self.open_marker(marker)) else {
             return false;
         };
         if marker >= node {
             return false;
         }
         self.turns = self.turns.saturating_add(2);
-        if hole < opening {
+        if open_marker < opening {
             let moved = self.items.remove(opening);
-            self.items[hole] = moved;
+            self.items[open_marker] = moved;
         } else {
-            let _ = self.items.remove(hole);
+            let _ = self.items.remove(open_marker);
         }
         true
     }

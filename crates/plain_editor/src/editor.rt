@@ -44,7 +44,7 @@ pub fn edit(
         }
     }
     let Editor { draft, .. } = editor;
-    let unspent = (0..draft.markers).find(|marker| draft.hole(*marker).is_some());
+    let unspent = (0..draft.markers).find(|marker| draft.open_marker(*marker).is_some());
     Ok(match unspent {
         Some(marker) => Err(ScriptError::Unspent { marker }),
         None => Ok(draft),

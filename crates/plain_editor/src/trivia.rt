@@ -24,7 +24,7 @@ pub fn stands_in_one_root(items: &[Item]) -> bool {
             Item::Open { .. } => depth = depth.saturating_add(1),
             _ if depth == 0 => return false,
             Item::Close => depth = depth.saturating_sub(1),
-            Item::Token { .. } | Item::Hole { .. } => {}
+            Item::Token { .. } | Item::OpenMarker { .. } => {}
         }
         is_ended = depth == 0;
     }
@@ -97,7 +97,7 @@ pub fn send<'i>(
         }
         let (place, pos) = (*place, bytes_of(&placed));
         placed.push(match items.get(place) {
-            None | Some(Item::Hole { .. }) => continue,
+            None | Some(Item::OpenMarker { .. }) => continue,
             Some(Item::Open { kind, .. }) => Placed::Enter { kind: *kind },
             Some(Item::Close) => Placed::Exit,
             Some(Item::Error { .. }) => Placed::Error { place, pos },

@@ -1,7 +1,7 @@
 //! A grammar that looks at what it is asked for, and tells the answers by the kinds of empty nodes.
 ghost use Rattle.std.specs.Prelude.{◌≡◌, ◌≢◌};
 ghost use Rattle.squawk_kinds.specs.Kinds.{TOMBSTONE};
-ghost use Rattle.squawk_output.specs.Draft.{HasNoHole};
+ghost use Rattle.squawk_output.specs.Draft.{HasNoOpenMarker};
 ghost use Rattle.squawk_parser.specs.State.{HasNotFailed, IsSound, Keeps};
 
 use crate::call_list::set_of;
@@ -122,7 +122,7 @@ impl Question {
         requires { IsSound p.old }
         ensures keeps { Keeps p.old p.new }
         ensures went { HasNotFailed p.new → HasNotFailed p.old }
-        ensures closed { HasNoHole p.old.draft.items → HasNotFailed p.new → HasNoHole p.new.draft.items }
+        ensures closed { HasNoOpenMarker p.old.draft.items → HasNotFailed p.new → HasNoOpenMarker p.new.draft.items }
     {
         skip(p, self.behind);
         let kind = match self.limit {
@@ -137,7 +137,7 @@ impl Question {
 fn skip(p: &mut Parser<'_>, count: usize)
     requires { IsSound p.old }
     ensures keeps { Keeps p.old p.new }
-    ensures closed { HasNoHole p.old.draft.items → HasNotFailed p.new → HasNoHole p.new.draft.items }
+    ensures closed { HasNoOpenMarker p.old.draft.items → HasNotFailed p.new → HasNoOpenMarker p.new.draft.items }
 {
     for _ in 0..count {
         p.bump_any();

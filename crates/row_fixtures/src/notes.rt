@@ -1,6 +1,6 @@
 //! Empty nodes whose kinds tell what a parser answered.
 ghost use Rattle.std.specs.Prelude.{◌≢◌};
-ghost use Rattle.squawk_output.specs.Draft.{HasNoHole};
+ghost use Rattle.squawk_output.specs.Draft.{HasNoOpenMarker};
 ghost use Rattle.squawk_kinds.specs.Kinds.{TOMBSTONE};
 ghost use Rattle.squawk_parser.specs.State.{HasNotFailed, Keeps};
 
@@ -18,7 +18,7 @@ pub fn note(p: &mut Parser<'_>, kind: u16)
     requires { kind ≢ TOMBSTONE }
     ensures keeps { Keeps p.old p.new }
     ensures went { HasNotFailed p.new → HasNotFailed p.old }
-    ensures closed { HasNoHole p.old.draft.items → HasNotFailed p.new → HasNoHole p.new.draft.items }
+    ensures closed { HasNoOpenMarker p.old.draft.items → HasNotFailed p.new → HasNoOpenMarker p.new.draft.items }
 {
     let kind = SyntaxKind::from(kind);
     let node = p.start().complete(p, kind);

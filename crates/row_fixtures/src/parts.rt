@@ -1,6 +1,6 @@
 //! A grammar that eats a kind with a tail.
 ghost use Rattle.std.specs.Prelude.{◌≡◌};
-ghost use Rattle.squawk_output.specs.Draft.{holes_of};
+ghost use Rattle.squawk_output.specs.Draft.{open_markers_of};
 ghost use Rattle.squawk_parser.specs.State.{HasNotFailed, IsSound, Keeps};
 
 use crate::kinds::ROOT;
@@ -26,7 +26,7 @@ impl Part for CurrentToken {
 fn eat_with(p: &mut Parser<'_>, kind: SyntaxKind)
     requires { IsSound p.old }
     ensures keeps { Keeps p.old p.new }
-    ensures holes { HasNotFailed p.new → holes_of p.new.draft.items ≡ holes_of p.old.draft.items }
+    ensures open_markers { HasNotFailed p.new → open_markers_of p.new.draft.items ≡ open_markers_of p.old.draft.items }
 {
     if has_tail(kind) {
         p.eat_with(kind, CurrentToken);
@@ -37,7 +37,7 @@ fn eat_with(p: &mut Parser<'_>, kind: SyntaxKind)
 fn eat_in_root(p: &mut Parser<'_>, kind: SyntaxKind)
     requires { IsSound p.old }
     ensures keeps { Keeps p.old p.new }
-    ensures holes { HasNotFailed p.new → holes_of p.new.draft.items ≡ holes_of p.old.draft.items }
+    ensures open_markers { HasNotFailed p.new → open_markers_of p.new.draft.items ≡ open_markers_of p.old.draft.items }
 {
     let root = p.start();
     eat_with(p, kind);

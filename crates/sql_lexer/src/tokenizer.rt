@@ -10,7 +10,7 @@ use std::error::Error;
 use std::fmt;
 
 /// The longest text in bytes: places in it have 32 bits.
-const LONGEST_TEXT: usize = 4294967295;
+const LONGEST_TEXT: usize = u32::MAX as usize;
 
 /// Room is made at first for one raw token in so many bytes.
 const BYTES_PER_TOKEN: usize = 5;
@@ -18,7 +18,7 @@ const BYTES_PER_TOKEN: usize = 5;
 /// Why there are no tokens.
 #[derive(Clone, Copy, Debug, PartialEq, Eq)]
 pub enum TokenizeError {
-    /// The text has more than 4294967295 bytes.
+    /// The text has more than `u32::MAX` bytes.
     TextTooLong,
     /// Memory was refused. The text is short enough.
     OutOfMemory,
@@ -65,7 +65,7 @@ impl<T: Drop> From<AllocFailed<T>> for TokenizeError {
 /// text.
 ///
 /// What isn't closed runs to the end of the text, and its token says so. What is no other token is
-/// `Unknown`, one character long. A text of more than 4294967295 bytes is refused before memory is
+/// `Unknown`, one character long. A text of more than `u32::MAX` bytes is refused before memory is
 /// asked for.
 ///
 /// It takes time proportional to the text's length, and no memory but the list's.

@@ -16,7 +16,7 @@ use std::alloc::{AllocError, Global};
 /// Lexical errors are no part of a tree.
 ///
 /// ```text
-/// {"kind":"SELECT","start":0,"children":[{"kind":"SELECT_KW","start":0,"end":6}, ..],"end":9,"errors":[]}
+/// {"kind":"COMMIT","start":0,"children":[{"kind":"COMMIT_KW","start":0,"end":6}],"end":6,"errors":[]}
 /// ```
 ///
 /// A kind is the name of its first pair, else its number, which is a string, too. Starts and ends are bytes.

@@ -14,7 +14,7 @@ pub enum Unread {
     Io(ErrorKind),
     /// The byte at this place is no UTF-8.
     NotUtf8 { at: usize },
-    /// The text has more than 4294967295 bytes.
+    /// The text has more than `u32::MAX` bytes.
     TextTooLong,
     /// The parse records more events than it may.
     TooManyEvents,

@@ -1,4 +1,4 @@
--- A marker is abandoned: its hole's mark is taken away, or its event, where that is the last one and was made by a
+-- A marker is abandoned: its open marker's mark is taken away, or its event, where that is the last one and was made by a
 -- start.
 use Rattle.std.proofs.Common.{◌≡◌, ◌∙◌, ℕ, suc, ◌+◌, ◌==◌, Bool, true, false, List, [], ◌∷◌, ◌++◌, length, get_or, set, refl, sym, ap, arith, inl, inr}
 use Rattle.std.specs.Prelude.{Contains, count_by}
@@ -17,10 +17,10 @@ use Rattle.squawk_kinds.specs.Kinds.{TOMBSTONE}
 use Rattle.squawk_output.specs.declared.event.Event.{Event}
 use Rattle.squawk_output.specs.declared.event.Event.TheVariants.{Finish}
 use Rattle.squawk_output.specs.Chain.{tombstone}
-use Rattle.squawk_output.specs.Draft.{Draft, Hole, Item}
+use Rattle.squawk_output.specs.Draft.{Draft, OpenMarker, Item}
 use Rattle.squawk_output.specs.declared.log.Made.{Made}
 use Rattle.squawk_output.specs.declared.log.Made.TheVariants.{ByPrecede, ByStart}
-use Rattle.squawk_output.specs.Edits.{abandoned, entries_gone, takes_entry, is_hole_of, is_last_start, without_hole}
+use Rattle.squawk_output.specs.Edits.{abandoned, entries_gone, takes_entry, is_open_marker_of, is_last_start, without_open_marker}
 use Rattle.squawk_output.specs.EventLog.{LinksLead, Log, is_error_event}
 use Rattle.squawk_output.proofs.Gathered.{least_owner}
 use Rattle.squawk_output.specs.KeptLogs.{IsRecord}
@@ -30,9 +30,9 @@ use Rattle.squawk_output.proofs.EditedLog.{IsRecordOf, errors_are, record-set, r
 use Rattle.squawk_output.proofs.GrownLog.{LinksLead-front, turns_of-push}
 use Rattle.squawk_output.proofs.Groups.{itself}
 use Rattle.squawk_output.proofs.LogEdits.{draft_items-filled, draft_items-push, length-push}
-use Rattle.squawk_output.proofs.LogItems.{IsHoleAt, IsHoleAt-found, replaced-none}
+use Rattle.squawk_output.proofs.LogItems.{IsOpenMarkerAt, IsOpenMarkerAt-found, replaced-none}
 use Rattle.squawk_output.proofs.LogTurns.{one_if, turns_at}
-use Rattle.squawk_output.proofs.PlainLog.{HaveHoles}
+use Rattle.squawk_output.proofs.PlainLog.{HaveOpenMarkers}
 use Rattle.squawk_output.proofs.Links.{LinksLead-unlinked}
 use Rattle.squawk_output.proofs.Sums.{count_by-cons}
 use Rattle.squawk_output.proofs.Owners.{owner-below}
@@ -50,14 +50,14 @@ count-none p (x ∷ xs) fails =
 -- ---- the mark is taken away
 
 module _ (log : Log) (marks : List Bool) (recorded errors : ℕ) (is : IsRecord log marks recorded errors) (id : ℕ) (made : Made)
-    (here : IsHoleAt log marks id made) (stays : is_last_start (length log) (Hole id made) ≡ false) where
+    (here : IsOpenMarkerAt log marks id made) (stays : is_last_start (length log) (OpenMarker id made) ≡ false) where
   none_goes : (item : Item) → Contains (draft_items log marks) item → takes_entry id (length log) item ≡ false
-  none_goes (Hole i how) there =
-      let found = IsHoleAt-found log marks i how there in
+  none_goes (OpenMarker i how) there =
+      let found = IsOpenMarkerAt-found log marks i how there in
       elim (eqb_tells i id) [
         | inl e ↦
             let same_made : how ≡ made = sym found.how ∙ (ap (made_by log) e.1 ∙ here.how) in
-            let same : Hole i how ≡ Hole id made = rw (e.1, same_made) refl in
+            let same : OpenMarker i how ≡ OpenMarker id made = rw (e.1, same_made) refl in
             rw (ap (is_last_start (length log)) same ∙ stays) (and-false (i == id))
         | inr e ↦ rw (ne_eqb i id e.1) refl
       ]
@@ -66,7 +66,7 @@ module _ (log : Log) (marks : List Bool) (recorded errors : ℕ) (is : IsRecord 
   pub record-cleared : IsRecordOf (set log id tombstone) (set marks id false) recorded errors (abandoned (draft_of log marks recorded) id)
   record-cleared =
       let none : entries_gone (draft_of log marks recorded) id ≡ 0 = count-none (takes_entry id (length log)) (draft_items log marks) none_goes in
-      let empty = is.holes id here.within here.marked in
+      let empty = is.open_markers id here.within here.marked in
       record-set log marks recorded errors is id TOMBSTONE tombstone here.within empty refl (LinksLead-unlinked log id TOMBSTONE is.links)
       (draft_items-filled log marks id TOMBSTONE tombstone (λ item. []) here.within is.same_length empty here.marked refl (λ how. refl))
       refl (omega (arith, none)) (omega (arith, none))
@@ -77,7 +77,7 @@ owns_itself : (log : Log) (id : ℕ) → made_by log id ≡ ByStart → least_ow
 owns_itself log id made = elim (eqb_tells (least_owner log id) id) [ inl e ↦ e.1 | inr e ↦ let never = rw e.0 at made in absurd (cc) ]
 
 module _ (log : Log) (marks : List Bool) (event : Event) (mark : Bool) (recorded errors : ℕ) (is : IsRecord (log ++ event ∷ []) (marks ++ mark ∷ []) recorded errors)
-    (here : IsHoleAt (log ++ event ∷ []) (marks ++ mark ∷ []) (length log) ByStart) where
+    (here : IsOpenMarkerAt (log ++ event ∷ []) (marks ++ mark ∷ []) (length log) ByStart) where
   abbrev whole : Draft
   whole = draft_of (log ++ event ∷ []) (marks ++ mark ∷ []) recorded
 
@@ -88,55 +88,55 @@ module _ (log : Log) (marks : List Bool) (event : Event) (mark : Bool) (recorded
   mark_is = sym (get_or-append_seam marks mark [] false) ∙ (ap (λ i. get_or (marks ++ mark ∷ []) i false) same ∙ here.marked)
 
   event_is : event ≡ tombstone
-  event_is = sym (get_or-append_seam log event [] Finish) ∙ is.holes (length log) here.within here.marked
+  event_is = sym (get_or-append_seam log event [] Finish) ∙ is.open_markers (length log) here.within here.marked
 
   links-popped : LinksLead log
   links-popped =
       LinksLead-front log event is.links
       (λ i lt. owner-below (log ++ event ∷ []) (length log) i (omega (arith, lt, owns_itself (log ++ event ∷ []) (length log) here.how)))
 
-  items-whole : whole.items ≡ draft_items log marks ++ Hole (length log) ByStart ∷ []
+  items-whole : whole.items ≡ draft_items log marks ++ OpenMarker (length log) ByStart ∷ []
   items-whole = draft_items-push log marks event mark links-popped same ∙ rw (event_is, mark_is) refl
 
-  other_hole : (item : Item) → Contains (draft_items log marks) item → is_hole_of (length log) item ≡ false
-  other_hole (Hole i how) there = let found = IsHoleAt-found log marks i how there in ne_eqb i (length log) (λ e. absurd (omega (arith, e, found.within)))
-  other_hole item there = refl
+  other_open_marker : (item : Item) → Contains (draft_items log marks) item → is_open_marker_of (length log) item ≡ false
+  other_open_marker (OpenMarker i how) there = let found = IsOpenMarkerAt-found log marks i how there in ne_eqb i (length log) (λ e. absurd (omega (arith, e, found.within)))
+  other_open_marker item there = refl
 
-  no_hole_there : list_any (is_hole_of (length log)) (draft_items log marks) ≡ false
-  no_hole_there =
-      list_any_none (is_hole_of (length log)) (draft_items log marks)
-      (λ k item lt. other_hole (get_or (draft_items log marks) k item) (All-contains_itself (draft_items log marks) k item lt))
+  no_open_marker_there : list_any (is_open_marker_of (length log)) (draft_items log marks) ≡ false
+  no_open_marker_there =
+      list_any_none (is_open_marker_of (length log)) (draft_items log marks)
+      (λ k item lt. other_open_marker (get_or (draft_items log marks) k item) (All-contains_itself (draft_items log marks) k item lt))
 
-  items-popped : draft_items log marks ≡ without_hole (length log) whole.items
+  items-popped : draft_items log marks ≡ without_open_marker (length log) whole.items
   items-popped =
-      let gone : without_hole (length log) (Hole (length log) ByStart ∷ []) ≡ [] = rw (itself (length log)) refl in
+      let gone : without_open_marker (length log) (OpenMarker (length log) ByStart ∷ []) ≡ [] = rw (itself (length log)) refl in
       sym
-      (ap (without_hole (length log)) items-whole
-      ∙ (flat_map-append _ (draft_items log marks) (Hole (length log) ByStart ∷ [])
-      ∙ (ap (λ ys. without_hole (length log) (draft_items log marks) ++ ys) gone
-      ∙ (append-nil (without_hole (length log) (draft_items log marks)) ∙ replaced-none (is_hole_of (length log)) (λ item. []) (draft_items log marks) no_hole_there))))
+      (ap (without_open_marker (length log)) items-whole
+      ∙ (flat_map-append _ (draft_items log marks) (OpenMarker (length log) ByStart ∷ [])
+      ∙ (ap (λ ys. without_open_marker (length log) (draft_items log marks) ++ ys) gone
+      ∙ (append-nil (without_open_marker (length log) (draft_items log marks)) ∙ replaced-none (is_open_marker_of (length log)) (λ item. []) (draft_items log marks) no_open_marker_there))))
 
   one_goes : entries_gone whole (length log) ≡ 1
   one_goes =
       let p = takes_entry (length log) (length (log ++ event ∷ [])) in
-      let hole = Hole (length log) ByStart in
-      let last : p hole ≡ true = rw (itself (length log)) (eq-eqb (length log + 1) (length (log ++ event ∷ [])) (omega (arith, length-push log event))) in
+      let open_marker = OpenMarker (length log) ByStart in
+      let last : p open_marker ≡ true = rw (itself (length log)) (eq-eqb (length log + 1) (length (log ++ event ∷ [])) (omega (arith, length-push log event))) in
       omega (
         arith,
         ap (count_by p) items-whole,
-        sum_by-append (λ item. one_if (p item)) (draft_items log marks) (hole ∷ []),
-        count-none p (draft_items log marks) (λ item there. rw (other_hole item there) refl),
+        sum_by-append (λ item. one_if (p item)) (draft_items log marks) (open_marker ∷ []),
+        count-none p (draft_items log marks) (λ item there. rw (other_open_marker item there) refl),
         ap one_if last,
       )
 
-  holes-popped : HaveHoles log marks
-  holes-popped index lt marked =
+  open_markers-popped : HaveOpenMarkers log marks
+  open_markers-popped index lt marked =
       sym (get_or-append log (event ∷ []) Finish index lt)
-      ∙ is.holes index (omega (arith, lt, length-push log event)) (get_or-append marks (mark ∷ []) false index (omega (arith, lt, same)) ∙ marked)
+      ∙ is.open_markers index (omega (arith, lt, length-push log event)) (get_or-append marks (mark ∷ []) false index (omega (arith, lt, same)) ∙ marked)
 
   record-popped : IsRecordOf log marks recorded errors (abandoned whole (length log))
   record-popped =
-      record_of same links-popped holes-popped (omega (arith, is.few, length-push log event)) is.small
+      record_of same links-popped open_markers-popped (omega (arith, is.few, length-push log event)) is.small
       (omega (
         arith,
         errors_are (log ++ event ∷ []) (marks ++ mark ∷ []) recorded errors is,
@@ -145,13 +145,13 @@ module _ (log : Log) (marks : List Bool) (event : Event) (mark : Bool) (recorded
       ))
       items-popped refl (omega (arith, one_goes, length-push log event)) (omega (arith, one_goes, turns_of-push log event, ap turns_at event_is))
 
-last_start : (entries id : ℕ) (how : Made) → is_last_start entries (Hole id how) ≡ true → (how ≡ ByStart) × (id + 1 ≡ entries)
+last_start : (entries id : ℕ) (how : Made) → is_last_start entries (OpenMarker id how) ≡ true → (how ≡ ByStart) × (id + 1 ≡ entries)
 last_start entries id ByStart e = (refl, eqb-true (id + 1) entries e)
 last_start entries id ByPrecede e = absurd (cc)
 
--- the last event is that of a hole which was made by a start
+-- the last event is that of an open marker which was made by a start
 pub record-front : (log front : Log) (marks front_marks : List Bool) (event : Event) (mark : Bool) (recorded errors id : ℕ) (how : Made) → IsRecord log marks recorded errors
-    → IsHoleAt log marks id how → is_last_start (length log) (Hole id how) ≡ true → log ≡ front ++ event ∷ [] → marks ≡ front_marks ++ mark ∷ []
+    → IsOpenMarkerAt log marks id how → is_last_start (length log) (OpenMarker id how) ≡ true → log ≡ front ++ event ∷ [] → marks ≡ front_marks ++ mark ∷ []
     → IsRecordOf front front_marks recorded errors (abandoned (draft_of log marks recorded) id)
 record-front log front marks front_marks event mark recorded errors id how is here last split split_marks =
     let start = last_start (length log) id how last in

@@ -4,7 +4,7 @@ use Rattle.squawk_kinds.specs.Kinds.{IDENT, TOMBSTONE}
 use Rattle.squawk_output.specs.Steps as steps
 use Rattle.squawk_output.specs.Steps.{Step, Enter, Exit}
 use Rattle.squawk_output.specs.declared.event.Event.TheVariants.{Start, Finish}
-use Rattle.squawk_output.specs.Draft.{Item, Hole, Open, Close, Token, plain}
+use Rattle.squawk_output.specs.Draft.{Item, OpenMarker, Open, Close, Token, plain}
 use Rattle.squawk_output.specs.Edits.{extended_items, filled}
 use Rattle.squawk_output.specs.declared.log.Made.TheVariants.{ByPrecede, ByStart}
 use Rattle.squawk_output.specs.LogDraft.{draft_items}
@@ -13,7 +13,7 @@ use Rattle.squawk_output.specs.LogDraft.{draft_items}
 -- open
 draft_of_a_log : draft_items (Start 700 (Some 2) ∷ Finish ∷ Start 701 (Some 2) ∷ Finish ∷ Start TOMBSTONE None ∷ Start TOMBSTONE None ∷ Start TOMBSTONE None ∷ [])
     (false ∷ false ∷ false ∷ false ∷ true ∷ false ∷ true ∷ [])
-    ≡ Hole 4 ByPrecede ∷ Open 2 701 false ∷ Open 0 700 false ∷ Close ∷ Close ∷ Hole 6 ByStart ∷ []
+    ≡ OpenMarker 4 ByPrecede ∷ Open 2 701 false ∷ Open 0 700 false ∷ Close ∷ Close ∷ OpenMarker 6 ByStart ∷ []
 draft_of_a_log = refl
 
 -- Ids matter to a plain list by their order alone. Two markers, a token and a third marker: its id is its event's
@@ -21,7 +21,7 @@ draft_of_a_log = refl
 -- node is extended to the first.
 abbrev steps_with : ℕ → List Step
 steps_with id =
-    let markers : List Item = Hole 0 ByStart ∷ Hole 1 ByStart ∷ Token IDENT 1 ∷ Hole id ByStart ∷ [] in
+    let markers : List Item = OpenMarker 0 ByStart ∷ OpenMarker 1 ByStart ∷ Token IDENT 1 ∷ OpenMarker id ByStart ∷ [] in
     plain (extended_items (record { id = id; kind = 701 }) 0 (filled (filled markers 1 700 ++ Close ∷ []) id 701 ++ Close ∷ []))
 
 steps_with_indices : steps_with 3 ≡ Enter 701 ∷ Enter 700 ∷ steps.Token IDENT 1 ∷ Exit ∷ Exit ∷ []

@@ -1,7 +1,7 @@
--- The errors of a draft stay where holes and openings are edited, and are those of its log.
+-- The errors of a draft stay where open markers and openings are edited, and are those of its log.
 use Rattle.std.proofs.Common.{◌≡◌, ℕ, ◌+◌, ◌==◌, not, length, get_or, Bool, true, false, List, [], ◌∷◌, ◌++◌, cond, if◌then◌else◌, refl, arith, ◌∙◌}
 use Rattle.std.proofs.lemmas.List.Sums.{sum_by-append}
-use Rattle.squawk_output.specs.Draft.{Item, Hole, Open, Error, errors_of, is_error_item, Node}
+use Rattle.squawk_output.specs.Draft.{Item, OpenMarker, Open, Error, errors_of, is_error_item, Node}
 use Rattle.squawk_output.specs.declared.log.Made.{Made}
 use Rattle.squawk_kinds.specs.Kinds.{TOMBSTONE}
 use Rattle.squawk_output.specs.declared.event.Event.{Event}
@@ -11,7 +11,7 @@ use Rattle.squawk_output.specs.LogDraft.{draft_items, items_of}
 use Rattle.squawk_output.proofs.GatheredItems.{made_by, items_of_index, size-draft_items}
 use Rattle.squawk_output.proofs.Sizes.{total, total-same}
 use Rattle.squawk_output.proofs.Sums.{count_by-cons}
-use Rattle.squawk_output.specs.Edits.{filled, is_hole_of, is_opening_of, replaced, preceded_item, without_hole, stands_before, moved, extended_items}
+use Rattle.squawk_output.specs.Edits.{filled, is_open_marker_of, is_opening_of, replaced, preceded_item, without_open_marker, stands_before, moved, extended_items}
 
 pub errors-append : (xs ys : List Item) → errors_of (xs ++ ys) ≡ errors_of xs + errors_of ys
 errors-append xs ys = sum_by-append (λ item. cond (is_error_item item) 1 0) xs ys
@@ -32,26 +32,26 @@ module _ (p : Item → Bool) (f : Item → List Item) (spares : (text : List ℕ
       omega (arith, errors-append (if p item then f item else item ∷ []) (replaced p f items), errors-step item, errors-replaced items, errors-append (item ∷ []) items)
 
 pub errors-filled : (id kind : ℕ) (items : List Item) → errors_of (filled items id kind) ≡ errors_of items
-errors-filled id kind = errors-replaced (is_hole_of id) (λ item. Open id kind true ∷ []) (λ text. refl) (λ item right. refl)
+errors-filled id kind = errors-replaced (is_open_marker_of id) (λ item. Open id kind true ∷ []) (λ text. refl) (λ item right. refl)
 
-pub errors-without_hole : (id : ℕ) (items : List Item) → errors_of (without_hole id items) ≡ errors_of items
-errors-without_hole id = errors-replaced (is_hole_of id) (λ item. []) (λ text. refl) (λ item right. refl)
+pub errors-without_open_marker : (id : ℕ) (items : List Item) → errors_of (without_open_marker id items) ≡ errors_of items
+errors-without_open_marker id = errors-replaced (is_open_marker_of id) (λ item. []) (λ text. refl) (λ item right. refl)
 
-pub errors-preceded : (node id : ℕ) (made : Made) (items : List Item) → errors_of (replaced (is_opening_of node) (λ item. Hole id made ∷ preceded_item item ∷ []) items) ≡ errors_of items
-errors-preceded node id made = errors-replaced (is_opening_of node) (λ item. Hole id made ∷ preceded_item item ∷ []) (λ text. refl) none
+pub errors-preceded : (node id : ℕ) (made : Made) (items : List Item) → errors_of (replaced (is_opening_of node) (λ item. OpenMarker id made ∷ preceded_item item ∷ []) items) ≡ errors_of items
+errors-preceded node id made = errors-replaced (is_opening_of node) (λ item. OpenMarker id made ∷ preceded_item item ∷ []) (λ text. refl) none
   where
-    none : (item : Item) → is_error_item item ≡ false → errors_of (Hole id made ∷ preceded_item item ∷ []) ≡ 0
+    none : (item : Item) → is_error_item item ≡ false → errors_of (OpenMarker id made ∷ preceded_item item ∷ []) ≡ 0
     none (Error text) right = absurd (cc)
     none item right = refl
 
 pub errors-extended : (node : Node) (id : ℕ) (items : List Item) → errors_of (extended_items node id items) ≡ errors_of items
-errors-extended node id items = cases (stands_before (is_hole_of id) (is_opening_of node.id) items)
+errors-extended node id items = cases (stands_before (is_open_marker_of id) (is_opening_of node.id) items)
   where
-    cases : (b : Bool) → errors_of (if b then moved node id items else without_hole id items) ≡ errors_of items
+    cases : (b : Bool) → errors_of (if b then moved node id items else without_open_marker id items) ≡ errors_of items
     cases true =
-        errors-replaced (is_hole_of id) (λ item. Open node.id node.kind true ∷ []) (λ text. refl) (λ item right. refl) (replaced (is_opening_of node.id) (λ item. []) items)
+        errors-replaced (is_open_marker_of id) (λ item. Open node.id node.kind true ∷ []) (λ text. refl) (λ item right. refl) (replaced (is_opening_of node.id) (λ item. []) items)
         ∙ errors-replaced (is_opening_of node.id) (λ item. []) (λ text. refl) (λ item right. refl) items
-    cases false = errors-without_hole id items
+    cases false = errors-without_open_marker id items
 
 -- ---- the errors of a log's draft are its events that are errors
 

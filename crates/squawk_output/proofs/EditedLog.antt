@@ -22,9 +22,9 @@ use Rattle.squawk_output.proofs.ExtendedLog.{draft_items-extended}
 use Rattle.squawk_output.proofs.GrownLog.{LinksLead-linked, LinksLead-push, turns_of-push, turns_of-set}
 use Rattle.squawk_output.proofs.Links.{LinksLead-unlinked}
 use Rattle.squawk_output.proofs.LogEdits.{draft_items-filled, draft_items-preceded, draft_items-push, length-push}
-use Rattle.squawk_output.proofs.LogItems.{IsHoleAt, IsNodeAt}
+use Rattle.squawk_output.proofs.LogItems.{IsOpenMarkerAt, IsNodeAt}
 use Rattle.squawk_output.proofs.LogTurns.{one_if, turns_at}
-use Rattle.squawk_output.proofs.PlainLog.{HaveHoles}
+use Rattle.squawk_output.proofs.PlainLog.{HaveOpenMarkers}
 use Rattle.squawk_output.proofs.EditedErrors.{errors-draft_items}
 
 pub draft_is : (items : List Item) (recorded entries turns : ℕ) (d : Draft) → items ≡ d.items → recorded ≡ d.recorded → entries ≡ d.entries → turns ≡ d.turns_due
@@ -37,11 +37,11 @@ pub record IsRecordOf (log : Log) (marks : List Bool) (recorded wrong : ℕ) (d 
   pub draft_is : draft_of log marks recorded ≡ d
 
 -- the errors of its draft are those of the log
-pub record_of : {log : Log} {marks : List Bool} {recorded wrong : ℕ} {d : Draft} → length marks ≡ length log → LinksLead log → HaveHoles log marks → length log ≤ recorded
+pub record_of : {log : Log} {marks : List Bool} {recorded wrong : ℕ} {d : Draft} → length marks ≡ length log → LinksLead log → HaveOpenMarkers log marks → length log ≤ recorded
     → recorded < 2 ^ 32 → wrong ≡ errors_logged log → draft_items log marks ≡ d.items → recorded ≡ d.recorded → length log ≡ d.entries → turns_of log ≡ d.turns_due
     → IsRecordOf log marks recorded wrong d
-record_of {log} {marks} {recorded} {wrong} {d} same links holes few small errors items count entries turns = record {
-  record_is = record { same_length = same; links = links; holes = holes; few = few; small = small; errors = errors ∙ sym (errors-draft_items log marks) };
+record_of {log} {marks} {recorded} {wrong} {d} same links open_markers few small errors items count entries turns = record {
+  record_is = record { same_length = same; links = links; open_markers = open_markers; few = few; small = small; errors = errors ∙ sym (errors-draft_items log marks) };
   draft_is = draft_is (draft_items log marks) recorded (length log) (turns_of log) d items count entries turns;
 }
 
@@ -56,8 +56,8 @@ module _ (log : Log) (marks : List Bool) (recorded errors : ℕ) (is : IsRecord 
   -- ---- an event at the end
 
   module _ (event : Event) (mark : Bool) (lands : Lands event []) (empty : mark ≡ true → event ≡ tombstone) where
-    holes-put : HaveHoles (log ++ event ∷ []) (marks ++ mark ∷ [])
-    holes-put index lt marked =
+    open_markers-put : HaveOpenMarkers (log ++ event ∷ []) (marks ++ mark ∷ [])
+    open_markers-put index lt marked =
         elim (eqb_tells index (length log)) [
           | inl e ↦
               let last : get_or (marks ++ mark ∷ []) index false ≡ mark =
@@ -67,22 +67,22 @@ module _ (log : Log) (marks : List Bool) (recorded errors : ℕ) (is : IsRecord 
               let ne = e.1 in
               let within : index < length log = omega (arith, lt, ne, length-push log event) in
               get_or-append log (event ∷ []) Finish index within
-              ∙ is.holes index within (sym (get_or-append marks (mark ∷ []) false index (omega (arith, within, is.same_length))) ∙ marked)
+              ∙ is.open_markers index within (sym (get_or-append marks (mark ∷ []) false index (omega (arith, within, is.same_length))) ∙ marked)
         ]
 
     pub record-put : recorded + 1 < 2 ^ 32 → (wrong : ℕ) → wrong ≡ errors + one_if (is_error_event event)
         → IsRecordOf (log ++ event ∷ []) (marks ++ mark ∷ []) (recorded + 1) wrong
         (record { items = draft_items log marks ++ items_of (length log) ByStart event mark; recorded = recorded + 1; entries = length log + 1; turns_due = turns_of log + turns_at event })
     record-put room wrong more =
-        record_of (omega (arith, length-push marks mark, length-push log event, is.same_length)) (LinksLead-push log event is.links lands) holes-put
+        record_of (omega (arith, length-push marks mark, length-push log event, is.same_length)) (LinksLead-push log event is.links lands) open_markers-put
         (omega (arith, is.few, length-push log event)) room
         (omega (arith, more, errors_are, sum_by-append (λ x. one_if (is_error_event x)) log (event ∷ [])))
         (draft_items-push log marks event mark is.links is.same_length) refl (omega (arith, length-push log event)) (turns_of-push log event)
 
   -- ---- a Start at a Start, without a mark
 
-  holes-unmarked : (index : ℕ) (event : Event) → index < length log → HaveHoles (set log index event) (set marks index false)
-  holes-unmarked index event lt i h marked =
+  open_markers-unmarked : (index : ℕ) (event : Event) → index < length log → HaveOpenMarkers (set log index event) (set marks index false)
+  open_markers-unmarked index event lt i h marked =
       elim (eqb_tells i index) [
         | inl e ↦
             let gone : get_or (set marks index false) i false ≡ false =
@@ -90,14 +90,14 @@ module _ (log : Log) (marks : List Bool) (recorded errors : ℕ) (is : IsRecord 
             absurd (cc)
         | inr e ↦
             get_or-set_other log index i event Finish e.1
-            ∙ is.holes i (omega (arith, h, length-set log index event)) (sym (get_or-set_other marks index i false false e.1) ∙ marked)
+            ∙ is.open_markers i (omega (arith, h, length-set log index event)) (sym (get_or-set_other marks index i false false e.1) ∙ marked)
       ]
 
   module _ (index kind : ℕ) (event : Event) (within : index < length log) (old : get_or log index Finish ≡ Start kind None) (start : is_start event ≡ true) where
     pub record-set : {d : Draft} → LinksLead (set log index event) → draft_items (set log index event) (set marks index false) ≡ d.items → recorded ≡ d.recorded
         → length log ≡ d.entries → turns_of log + turns_at event ≡ d.turns_due + 2 → IsRecordOf (set log index event) (set marks index false) recorded errors d
     record-set {d} links items count entries turns =
-        record_of (length-set marks index false ∙ (is.same_length ∙ sym (length-set log index event))) links (holes-unmarked index event within)
+        record_of (length-set marks index false ∙ (is.same_length ∙ sym (length-set log index event))) links (open_markers-unmarked index event within)
         (omega (arith, length-set log index event, is.few)) is.small
         (omega (
           arith,
@@ -109,13 +109,13 @@ module _ (log : Log) (marks : List Bool) (recorded errors : ℕ) (is : IsRecord 
         items count (length-set log index event ∙ entries)
         (omega (arith, turns, turns_of-set log index event Finish within, ap turns_at old))
 
-  -- a hole becomes a node's opening
+  -- an open marker becomes a node's opening
   module _ (id : ℕ) (within : id < length log) (marked : get_or marks id false ≡ true) where
     pub record-filled : (kind : ℕ) → kind ≢ TOMBSTONE
         → IsRecordOf (set log id (Start kind None)) (set marks id false) recorded errors (record (draft_of log marks recorded) { items = filled (draft_items log marks) id kind })
     record-filled kind ne =
-        record-set id TOMBSTONE (Start kind None) within (is.holes id within marked) refl (LinksLead-unlinked log id kind is.links)
-        (draft_items-filled log marks id TOMBSTONE (Start kind None) (λ item. Open id kind true ∷ []) within is.same_length (is.holes id within marked) marked refl
+        record-set id TOMBSTONE (Start kind None) within (is.open_markers id within marked) refl (LinksLead-unlinked log id kind is.links)
+        (draft_items-filled log marks id TOMBSTONE (Start kind None) (λ item. Open id kind true ∷ []) within is.same_length (is.open_markers id within marked) marked refl
         (λ made. rw (ne_eqb kind TOMBSTONE ne) refl))
         refl refl refl
 
@@ -125,10 +125,10 @@ module _ (log : Log) (marks : List Bool) (recorded errors : ℕ) (is : IsRecord 
     record-extended node kind here older =
         let distance : node - id ≡ suc (node - id - 1) = omega (arith, older) in
         let away : node ≡ id + suc (node - id - 1) = omega (arith, older) in
-        record-set id TOMBSTONE (Start TOMBSTONE (Some (node - id))) within (is.holes id within marked) refl
+        record-set id TOMBSTONE (Start TOMBSTONE (Some (node - id))) within (is.open_markers id within marked) refl
         (rw distance (LinksLead-linked log id node (node - id - 1) TOMBSTONE is.links away (start-here log node kind here.within here.event)))
         (ap (λ n. draft_items (set log id (Start TOMBSTONE (Some n))) (set marks id false)) distance
-        ∙ draft_items-extended log marks id node kind (node - id - 1) is.same_length away (is.holes id within marked) marked here)
+        ∙ draft_items-extended log marks id node kind (node - id - 1) is.same_length away (is.open_markers id within marked) marked here)
         refl refl (omega arith)
       where
         start-here : (log : Log) (index kind : ℕ) → index < length log → get_or log index Finish ≡ Start kind None → is_start_at log index ≡ true
@@ -136,9 +136,9 @@ module _ (log : Log) (marks : List Bool) (recorded errors : ℕ) (is : IsRecord 
         start-here (x ∷ xs) zero kind lt e = rw e refl
         start-here (x ∷ xs) (suc n) kind lt e = start-here xs n kind (omega arith) e
 
--- a closing is put at the end, and the hole becomes an opening
+-- a closing is put at the end, and the open marker becomes an opening
 module _ (log : Log) (marks : List Bool) (recorded errors : ℕ) (is : IsRecord log marks recorded errors) where
-  pub record-completed : (id : ℕ) (made : Made) (kind : ℕ) → IsHoleAt log marks id made → kind ≢ TOMBSTONE → recorded + 1 < 2 ^ 32
+  pub record-completed : (id : ℕ) (made : Made) (kind : ℕ) → IsOpenMarkerAt log marks id made → kind ≢ TOMBSTONE → recorded + 1 < 2 ^ 32
       → IsRecordOf (set (log ++ Finish ∷ []) id (Start kind None)) (set (marks ++ false ∷ []) id false) (recorded + 1) errors (completed (draft_of log marks recorded) id kind)
   record-completed id made kind here ne room =
       let ended = record-put log marks recorded errors is Finish false tt (λ never. absurd (cc)) room errors (omega arith) in
@@ -153,7 +153,7 @@ module _ (log : Log) (marks : List Bool) (recorded errors : ℕ) (is : IsRecord 
             (flat_map-append _ (draft_items log marks) (Close ∷ [])));
       }
 
-  -- a new hole at the end, and a link to it from a node
+  -- a new open marker at the end, and a link to it from a node
   pub record-preceded : (node kind : ℕ) → IsNodeAt log marks node kind → recorded + 1 < 2 ^ 32
       → IsRecordOf (set (log ++ tombstone ∷ []) node (Start kind (Some (length log - node)))) (set (marks ++ true ∷ []) node false) (recorded + 1) errors (preceded (draft_of log marks recorded) node)
   record-preceded node kind here room =

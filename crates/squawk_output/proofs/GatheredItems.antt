@@ -12,7 +12,7 @@ use Rattle.squawk_output.specs.declared.log.Made.{Made}
 use Rattle.squawk_output.specs.declared.log.Made.TheVariants.{ByPrecede, ByStart}
 use Rattle.squawk_output.specs.LogDraft.{draft_items, items_at, items_of}
 
--- how a hole at an index was made
+-- how an open marker at an index was made
 abbrev pub made_by : Log → ℕ → Made
 made_by log index = if least_owner log index == index then ByStart else ByPrecede
 

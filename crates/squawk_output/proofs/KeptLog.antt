@@ -9,19 +9,19 @@ use Rattle.squawk_kinds.specs.Kinds.{TOMBSTONE}
 use Rattle.squawk_output.specs.declared.event.Event.TheVariants as event
 use Rattle.squawk_output.specs.declared.log.Made.{Made}
 use Rattle.squawk_output.specs.StoredEvents.{StoredEvent}
-use Rattle.squawk_output.specs.StoredEvents.{Hole, Start, Finish, Token}
+use Rattle.squawk_output.specs.StoredEvents.{OpenMarker, Start, Finish, Token}
 use Rattle.squawk_output.specs.Chain.{tombstone}
 use Rattle.squawk_output.specs.Draft as draft
 use Rattle.squawk_output.specs.Draft.{Draft, IsLogged}
 use Rattle.squawk_output.specs.Edits.{abandoned, completed, extended, is_last_start, preceded, started, with_error, with_token}
 use Rattle.squawk_output.specs.EventLog.{Log, is_error_event}
 use Rattle.squawk_output.specs.KeptLogs.{IsKeptRecord, draft_in}
-use Rattle.squawk_output.specs.LogDraft.{HasHoleOf}
+use Rattle.squawk_output.specs.LogDraft.{HasOpenMarkerOf}
 use Rattle.squawk_output.specs.StoredEvents.{HasEventText, HaveEventTexts, event_of, is_open_event, link_of, log_in}
 use Rattle.squawk_output.proofs.AbandonedLog.{record-cleared, record-front}
 use Rattle.squawk_output.proofs.EditedLog.{IsRecordOf, errors_are, record-completed, record-extended, record-preceded, record-put}
 use Rattle.squawk_output.proofs.LoggedDraft.{IsLogged-draft_of}
-use Rattle.squawk_output.proofs.LogItems.{IsHoleAt, IsHoleAt-found, IsNodeAt, IsNodeAt-found}
+use Rattle.squawk_output.proofs.LogItems.{IsOpenMarkerAt, IsOpenMarkerAt-found, IsNodeAt, IsNodeAt-found}
 use Rattle.squawk_output.proofs.StoredEvents.{HaveEventTexts-front, length-log_in, link_of-some, log_in-push}
 
 -- a log is kept, and this is its draft
@@ -89,16 +89,16 @@ module _ (texts : List (List ℕ)) (events : List StoredEvent) (recorded : ℕ) 
   room_for : old.recorded + 1 < 2 ^ 32 → recorded + 1 < 2 ^ 32
   room_for room = omega (arith, room, ap (λ d. d.recorded) view)
 
-  at_hole : (id : ℕ) (made : Made) → Contains old.items (draft.Hole id made) → IsHoleAt log marks id made
-  at_hole id made there = IsHoleAt-found log marks id made (rw (ap (λ d. d.items) view) there)
+  at_open_marker : (id : ℕ) (made : Made) → Contains old.items (draft.OpenMarker id made) → IsOpenMarkerAt log marks id made
+  at_open_marker id made there = IsOpenMarkerAt-found log marks id made (rw (ap (λ d. d.items) view) there)
 
   at_node : (node kind : ℕ) → Contains old.items (draft.Open node kind true) → IsNodeAt log marks node kind
   at_node node kind there = IsNodeAt-found log marks node kind (rw (ap (λ d. d.items) view) there)
 
-  pub kept-hole : (events' : List StoredEvent) → events' ≡ events ++ Hole ∷ [] → old.recorded + 1 < 2 ^ 32 → IsKeptAs texts events' (recorded + 1) (started old)
-  kept-hole events' put room =
+  pub kept-open_marker : (events' : List StoredEvent) → events' ≡ events ++ OpenMarker ∷ [] → old.recorded + 1 < 2 ^ 32 → IsKeptAs texts events' (recorded + 1) (started old)
+  kept-open_marker events' put room =
       rw put
-      (kept_as (reads-push Hole here tt) (record-put log marks recorded (length texts) kept.log tombstone true tt (λ marked. refl) (room_for room) (length texts) (omega arith))
+      (kept_as (reads-push OpenMarker here tt) (record-put log marks recorded (length texts) kept.log tombstone true tt (λ marked. refl) (room_for room) (length texts) (omega arith))
       (ap started view))
 
   pub kept-token : (kind n : ℕ) (events' : List StoredEvent) → events' ≡ events ++ Token kind n ∷ [] → old.recorded + 1 < 2 ^ 32
@@ -117,19 +117,19 @@ module _ (texts : List (List ℕ)) (events : List StoredEvent) (recorded : ℕ) 
       (record-put log marks recorded (length texts) kept.log (event.Error text) false tt (λ marked. absurd (cc)) (room_for room) (length texts') more)
       (ap (λ d. with_error d text) view)
 
-  module _ (id : ℕ) (there : HasHoleOf old.items id) where
-    hole : IsHoleAt log marks id there.0
-    hole = at_hole id there.0 there.1
+  module _ (id : ℕ) (there : HasOpenMarkerOf old.items id) where
+    open_marker : IsOpenMarkerAt log marks id there.0
+    open_marker = at_open_marker id there.0 there.1
 
-    pub hole-within : id < length events
-    hole-within = omega (arith, hole.within, length-log_in texts events)
+    pub open_marker-within : id < length events
+    open_marker-within = omega (arith, open_marker.within, length-log_in texts events)
 
     pub kept-completed : (kind : ℕ) (ended events' : List StoredEvent) → ended ≡ events ++ Finish ∷ [] → events' ≡ set ended id (Start kind 0) → kind ≢ TOMBSTONE
         → old.recorded + 1 < 2 ^ 32 → IsKeptAs texts events' (recorded + 1) (completed old id kind)
     kept-completed kind ended events' put filled ne room =
         rw (filled, put)
         (kept_as (reads-set id (Start kind 0) (reads-push Finish here tt) tt)
-        (record-completed log marks recorded (length texts) kept.log id there.0 kind hole ne (room_for room)) (ap (λ d. completed d id kind) view))
+        (record-completed log marks recorded (length texts) kept.log id there.0 kind open_marker ne (room_for room)) (ap (λ d. completed d id kind) view))
 
     pub kept-extended : (node kind : ℕ) → Contains old.items (draft.Open node kind true) → id < node → (events' : List StoredEvent)
         → events' ≡ set events id (Start TOMBSTONE (node - id)) → IsKeptAs texts events' recorded (extended old (record { id = node; kind = kind }) id)
@@ -137,26 +137,26 @@ module _ (texts : List (List ℕ)) (events : List StoredEvent) (recorded : ℕ) 
         let linked = link_of-some (node - id) (omega (arith, older)) in
         rw put
         (kept_as (reads-set id (Start TOMBSTONE (node - id)) here tt)
-        (rw linked (record-extended log marks recorded (length texts) kept.log id hole.within hole.marked node kind (at_node node kind opening) older))
+        (rw linked (record-extended log marks recorded (length texts) kept.log id open_marker.within open_marker.marked node kind (at_node node kind opening) older))
         (ap (λ d. extended d (record { id = node; kind = kind }) id) view))
 
-  module _ (id : ℕ) (made : Made) (there : Contains old.items (draft.Hole id made)) where
-    pub kept-cleared : (entries : ℕ) (events' : List StoredEvent) → entries ≡ length events → false ≡ is_last_start entries (draft.Hole id made)
+  module _ (id : ℕ) (made : Made) (there : Contains old.items (draft.OpenMarker id made)) where
+    pub kept-cleared : (entries : ℕ) (events' : List StoredEvent) → entries ≡ length events → false ≡ is_last_start entries (draft.OpenMarker id made)
         → events' ≡ set events id (Start TOMBSTONE 0) → IsKeptAs texts events' recorded (abandoned old id)
     kept-cleared entries events' len other put =
         rw put
         (kept_as (reads-set id (Start TOMBSTONE 0) here tt)
-        (record-cleared log marks recorded (length texts) kept.log id made (at_hole id made there)
-        (ap (λ n. is_last_start n (draft.Hole id made)) (length-log_in texts events ∙ sym len) ∙ sym other))
+        (record-cleared log marks recorded (length texts) kept.log id made (at_open_marker id made there)
+        (ap (λ n. is_last_start n (draft.OpenMarker id made)) (length-log_in texts events ∙ sym len) ∙ sym other))
         (ap (λ d. abandoned d id) view))
 
-    pub kept-popped : (front : List StoredEvent) (entries : ℕ) → entries ≡ length events → true ≡ is_last_start entries (draft.Hole id made) → (popped : Option StoredEvent) (m n : ℕ)
+    pub kept-popped : (front : List StoredEvent) (entries : ℕ) → entries ≡ length events → true ≡ is_last_start entries (draft.OpenMarker id made) → (popped : Option StoredEvent) (m n : ℕ)
         → events ≡ front ++ option_to_list popped → MatchOption popped ((n ≡ 0) × (m ≡ 0)) (λ x. m + 1 ≡ n) → n ≡ length events → IsKeptAs texts front recorded (abandoned old id)
-    kept-popped front entries len test None m n split cases count = absurd (omega (arith, cases.0, count, (at_hole id made there).within, length-log_in texts events))
+    kept-popped front entries len test None m n split cases count = absurd (omega (arith, cases.0, count, (at_open_marker id made there).within, length-log_in texts events))
     kept-popped front entries len test (Some x) m n split cases count =
         kept_as (record { log_is = refl; marks_are = refl; have = HaveEventTexts-front texts front x (rw split at kept.have_texts) })
-        (record-front log (log_in texts front) marks (map is_open_event front) (event_of texts x) (is_open_event x) recorded (length texts) id made kept.log (at_hole id made there)
-        (ap (λ n. is_last_start n (draft.Hole id made)) (length-log_in texts events ∙ sym len) ∙ sym test)
+        (record-front log (log_in texts front) marks (map is_open_event front) (event_of texts x) (is_open_event x) recorded (length texts) id made kept.log (at_open_marker id made there)
+        (ap (λ n. is_last_start n (draft.OpenMarker id made)) (length-log_in texts events ∙ sym len) ∙ sym test)
         (ap (log_in texts) split ∙ log_in-push texts front x) (ap (map is_open_event) split ∙ map-append is_open_event front (x ∷ [])))
         (ap (λ d. abandoned d id) view)
 
@@ -164,11 +164,11 @@ module _ (texts : List (List ℕ)) (events : List StoredEvent) (recorded : ℕ) 
     pub node-within : node < length events
     node-within = omega (arith, (at_node node kind opening).within, length-log_in texts events)
 
-    pub kept-preceded : (link : ℕ) (more events' : List StoredEvent) → more ≡ events ++ Hole ∷ [] → events' ≡ set more node (Start kind link) → link ≡ length events - node
+    pub kept-preceded : (link : ℕ) (more events' : List StoredEvent) → more ≡ events ++ OpenMarker ∷ [] → events' ≡ set more node (Start kind link) → link ≡ length events - node
         → old.recorded + 1 < 2 ^ 32 → IsKeptAs texts events' (recorded + 1) (preceded old node)
     kept-preceded link more events' put joined far room =
         let distance : link ≡ length log - node = omega (arith, far, length-log_in texts events) in
         let linked = ap link_of distance ∙ link_of-some (length log - node) (omega (arith, node-within, length-log_in texts events)) in
         rw (joined, put)
-        (kept_as (reads-set node (Start kind link) (reads-push Hole here tt) tt)
+        (kept_as (reads-set node (Start kind link) (reads-push OpenMarker here tt) tt)
         (rw linked (record-preceded log marks recorded (length texts) kept.log node kind (at_node node kind opening) (room_for room))) (ap (λ d. preceded d node) view))

@@ -1,4 +1,4 @@
--- An event put at the end of a log, a hole that becomes something else, and a link to a hole at the end: each is an
+-- An event put at the end of a log, an open marker that becomes something else, and a link to an open marker at the end: each is an
 -- edit of the draft.
 use Rattle.std.proofs.Common.{◌≡◌, ◌≢◌, ◌∙◌, ℕ, suc, ◌+◌, ◌==◌, ◌<◌, Bool, true, false, Some, None, List, [], ◌∷◌, ◌++◌, length, length-append, get_or, set, refl, sym, ap, arith, if◌then◌else◌, inl, inr}
 use Rattle.std.proofs.Math.ListN.{get_or-append}
@@ -9,16 +9,16 @@ use Rattle.std.proofs.lemmas.List.{append-nil, length-set, get_or-set_same, get_
 use Rattle.squawk_output.specs.declared.event.Event.{Event}
 use Rattle.squawk_output.specs.declared.event.Event.TheVariants.{Start, Finish}
 use Rattle.squawk_output.specs.Chain.{tombstone}
-use Rattle.squawk_output.specs.Draft.{Item, Hole, Open}
+use Rattle.squawk_output.specs.Draft.{Item, OpenMarker, Open}
 use Rattle.squawk_output.specs.declared.log.Made.{Made}
 use Rattle.squawk_output.specs.declared.log.Made.TheVariants.{ByPrecede, ByStart}
-use Rattle.squawk_output.specs.Edits.{is_hole_of, is_opening_of, preceded_item, replaced}
+use Rattle.squawk_output.specs.Edits.{is_open_marker_of, is_opening_of, preceded_item, replaced}
 use Rattle.squawk_output.specs.EventLog.{LinksLead, Log, linked_index}
 use Rattle.squawk_output.proofs.Gathered.{gathered, least_owner}
 use Rattle.squawk_output.specs.LogDraft.{draft_items, items_of}
 use Rattle.squawk_output.proofs.GatheredItems.{draft_items-gathered, draft_items-same, flat_map-draft_items, made_by, items_of_index}
 use Rattle.squawk_output.proofs.Groups.{gathered-push, itself}
-use Rattle.squawk_output.proofs.LogItems.{IsNodeAt, no_hole, no_opening, replaced-none}
+use Rattle.squawk_output.proofs.LogItems.{IsNodeAt, no_open_marker, no_opening, replaced-none}
 use Rattle.squawk_output.proofs.Owners.{gathered-joined, owner-elsewhere, owner-joins, owner-kept, owner-last, owner-most, owner-push}
 
 pub length-push : {X : Type 0} (xs : List X) (x : X) → length (xs ++ x ∷ []) ≡ suc (length xs)
@@ -46,22 +46,22 @@ module _ (log : Log) (marks : List Bool) (event : Event) (mark : Bool) (links : 
       ∙ (ap (λ ys. gathered (least_owner log) (items_of_index log marks) (length log) ++ ys) pushed-last
       ∙ ap (λ ys. ys ++ items_of (length log) ByStart event mark) (sym (draft_items-gathered log marks)))))
 
--- a hole's event changed to one without a link, and its mark taken away: the hole is replaced by what the event then
+-- an open marker's event changed to one without a link, and its mark taken away: the open marker is replaced by what the event then
 -- stands for
 pub draft_items-filled : (log : Log) (marks : List Bool) (id kind : ℕ) (event : Event) (f : Item → List Item) → id < length log → length marks ≡ length log
-    → get_or log id Finish ≡ Start kind None → get_or marks id false ≡ true → linked_index event ≡ None → ((made : Made) → items_of id made event false ≡ f (Hole id made))
-    → draft_items (set log id event) (set marks id false) ≡ replaced (is_hole_of id) f (draft_items log marks)
+    → get_or log id Finish ≡ Start kind None → get_or marks id false ≡ true → linked_index event ≡ None → ((made : Made) → items_of id made event false ≡ f (OpenMarker id made))
+    → draft_items (set log id event) (set marks id false) ≡ replaced (is_open_marker_of id) f (draft_items log marks)
 draft_items-filled log marks id kind event f lt same is marked alone gives =
     let owns : (j : ℕ) → least_owner (set log id event) j ≡ least_owner log j = owner-kept log id event Finish (rw is alone) in
-    draft_items-same (λ item. if is_hole_of id item then f item else item ∷ []) log (set log id event) marks (set marks id false) (length-set log id event) owns
+    draft_items-same (λ item. if is_open_marker_of id item then f item else item ∷ []) log (set log id event) marks (set marks id false) (length-set log id event) owns
     (λ j. elim (eqb_tells j id) [
       | inl e ↦ rw (e.1, owns id, get_or-set_same log id event Finish lt, get_or-set_same marks id false false (omega (arith, lt, same)), is, marked, itself id)
-          (gives (made_by log id) ∙ sym (append-nil (f (Hole id (made_by log id)))))
+          (gives (made_by log id) ∙ sym (append-nil (f (OpenMarker id (made_by log id)))))
       | inr e ↦ rw (owns j, get_or-set_other log id j event Finish e.1, get_or-set_other marks id j false false e.1)
-          (sym (replaced-none (is_hole_of id) f (items_of_index log marks j) (no_hole log marks id j e.1)))
+          (sym (replaced-none (is_open_marker_of id) f (items_of_index log marks j) (no_open_marker log marks id j e.1)))
     ])
 
--- a new hole at the end, and a link to it from a node that has none: the hole stands directly before the node's opening
+-- a new open marker at the end, and a link to it from a node that has none: the open marker stands directly before the node's opening
 module _ (log : Log) (marks : List Bool) (node kind d : ℕ) (links : LinksLead log) (same : length marks ≡ length log) (far : length log ≡ node + suc d)
     (is : IsNodeAt log marks node kind) where
   abbrev n : ℕ
@@ -80,7 +80,7 @@ module _ (log : Log) (marks : List Bool) (node kind d : ℕ) (links : LinksLead 
   new_marks = marks ++ true ∷ []
 
   abbrev edit : Item → List Item
-  edit item = Hole n ByPrecede ∷ preceded_item item ∷ []
+  edit item = OpenMarker n ByPrecede ∷ preceded_item item ∷ []
 
   -- the items of an index as the edit has them, and none of the new one, which stand at the node's
   abbrev edited : ℕ → List Item
@@ -113,7 +113,7 @@ module _ (log : Log) (marks : List Bool) (node kind d : ℕ) (links : LinksLead 
   marks_below : (j : ℕ) → j < n → get_or new_marks j false ≡ get_or marks j false
   marks_below j lt = get_or-append marks (true ∷ []) false j (omega (arith, lt, same))
 
-  new_last : items_of_index new new_marks n ≡ Hole n ByPrecede ∷ []
+  new_last : items_of_index new new_marks n ≡ OpenMarker n ByPrecede ∷ []
   new_last =
       let event : get_or new n Finish ≡ tombstone =
       get_or-set_other more node n linked Finish (λ e. absurd (omega (arith, e, is.within))) ∙ get_or-append_seam log tombstone [] Finish in
@@ -128,7 +128,7 @@ module _ (log : Log) (marks : List Bool) (node kind d : ℕ) (links : LinksLead 
       let mark : get_or new_marks node false ≡ false = marks_below node is.within ∙ is.unmarked in
       rw (event, mark, is.whole) refl
 
-  old_node : replaced (is_opening_of node) edit (items_of_index log marks node) ≡ Hole n ByPrecede ∷ Open node kind false ∷ []
+  old_node : replaced (is_opening_of node) edit (items_of_index log marks node) ≡ OpenMarker n ByPrecede ∷ Open node kind false ∷ []
   old_node = rw (is.event, is.unmarked, is.whole, itself node) refl
 
   elsewhere : (j : ℕ) → j < n → j ≢ node → items_of_index new new_marks j ≡ items_of_index log marks j
@@ -158,7 +158,7 @@ module _ (log : Log) (marks : List Bool) (node kind d : ℕ) (links : LinksLead 
       ∙ sym (flat_map-draft_items (λ item. if is_opening_of node item then edit item else item ∷ []) log marks)))
 
   pub draft_items-preceded : draft_items (set (log ++ tombstone ∷ []) node (Start kind (Some (suc d)))) (marks ++ true ∷ [])
-      ≡ replaced (is_opening_of node) (λ item. Hole (length log) ByPrecede ∷ preceded_item item ∷ []) (draft_items log marks)
+      ≡ replaced (is_opening_of node) (λ item. OpenMarker (length log) ByPrecede ∷ preceded_item item ∷ []) (draft_items log marks)
   draft_items-preceded =
       draft_items-gathered new new_marks
       ∙ (ap (gathered (least_owner new) (items_of_index new new_marks)) (length-set more node linked)

@@ -8,29 +8,29 @@ use Rattle.squawk_kinds.specs.Kinds.{TOMBSTONE}
 use Rattle.squawk_output.specs.declared.event.Event.{Event}
 use Rattle.squawk_output.specs.declared.event.Event.TheVariants.{Start, Finish, Token, Error}
 use Rattle.squawk_output.specs.Draft as draft
-use Rattle.squawk_output.specs.Draft.{IsAboveIds, Item, Hole, Open, Close, ids_of}
+use Rattle.squawk_output.specs.Draft.{IsAboveIds, Item, OpenMarker, Open, Close, ids_of}
 use Rattle.squawk_output.specs.declared.log.Made.{Made}
-use Rattle.squawk_output.specs.Edits.{is_hole_of, is_opening_of, replaced}
+use Rattle.squawk_output.specs.Edits.{is_open_marker_of, is_opening_of, replaced}
 use Rattle.squawk_output.specs.EventLog.{Log, has_link}
 use Rattle.squawk_output.proofs.Gathered.{each, gathered, least_owner, picked}
 use Rattle.squawk_output.specs.LogDraft.{draft_items, items_of}
 use Rattle.squawk_output.proofs.GatheredItems.{draft_items-gathered, made_by, items_of_index}
 
--- the items of an event are none or one: a hole where it has a mark, an opening where it is a node's and has none, or
+-- the items of an event are none or one: an open marker where it has a mark, an opening where it is a node's and has none, or
 -- one without an id
 pub items_of-cases : (P : List Item → Type 0) → P [] → P (Close ∷ []) → ((kind n : ℕ) → P (draft.Token kind n ∷ [])) → ((text : List ℕ) → P (draft.Error text ∷ []))
-    → (index : ℕ) (made : Made) (event : Event) (mark : Bool) → (mark ≡ true → P (Hole index made ∷ []))
+    → (index : ℕ) (made : Made) (event : Event) (mark : Bool) → (mark ≡ true → P (OpenMarker index made ∷ []))
     → ((kind : ℕ) (link : Option ℕ) → event ≡ Start kind link → mark ≡ false → (kind == TOMBSTONE) ≡ false → P (Open index kind (not (has_link (Start kind link))) ∷ []))
     → P (items_of index made event mark)
-items_of-cases P none close token error index made (Start kind link) true hole opening = hole refl
-items_of-cases P none close token error index made (Start kind link) false hole opening = cases (kind == TOMBSTONE) refl
+items_of-cases P none close token error index made (Start kind link) true open_marker opening = open_marker refl
+items_of-cases P none close token error index made (Start kind link) false open_marker opening = cases (kind == TOMBSTONE) refl
   where
     cases : (b : Bool) → (kind == TOMBSTONE) ≡ b → P (if b then [] else Open index kind (not (has_link (Start kind link))) ∷ [])
     cases true is = none
     cases false is = opening kind link refl refl is
-items_of-cases P none close token error index made Finish mark hole opening = close
-items_of-cases P none close token error index made (Token kind n) mark hole opening = token kind n
-items_of-cases P none close token error index made (Error text) mark hole opening = error text
+items_of-cases P none close token error index made Finish mark open_marker opening = close
+items_of-cases P none close token error index made (Token kind n) mark open_marker opening = token kind n
+items_of-cases P none close token error index made (Error text) mark open_marker opening = error text
 
 -- ---- items of other indices
 
@@ -44,7 +44,7 @@ replaced-none p f (item ∷ items) none = cases (p item) none (replaced-none p f
     cases false e go = ap (λ ys. item ∷ ys) (go e)
 
 -- the event of an open marker
-pub record IsHoleAt (log : Log) (marks : List Bool) (id : ℕ) (made : Made) : Type 0 where
+pub record IsOpenMarkerAt (log : Log) (marks : List Bool) (id : ℕ) (made : Made) : Type 0 where
   pub within : id < length log
   pub marked : get_or marks id false ≡ true
   pub how : made_by log id ≡ made
@@ -87,9 +87,9 @@ module _ {X : Type 0} (P : X → Type 0) where
   All-gathered own items n all = All-each (λ i. picked (λ j. own j == i) items n) n (λ i. All-picked (λ j. own j == i) items n all)
 
 module _ (log : Log) (marks : List Bool) where
-  pub no_hole : (id j : ℕ) → j ≢ id → list_any (is_hole_of id) (items_of_index log marks j) ≡ false
-  no_hole id j ne =
-      items_of-cases (λ items. list_any (is_hole_of id) items ≡ false) refl refl (λ kind n. refl) (λ text. refl) j (made_by log j) (get_or log j Finish) (get_or marks j false)
+  pub no_open_marker : (id j : ℕ) → j ≢ id → list_any (is_open_marker_of id) (items_of_index log marks j) ≡ false
+  no_open_marker id j ne =
+      items_of-cases (λ items. list_any (is_open_marker_of id) items ≡ false) refl refl (λ kind n. refl) (λ text. refl) j (made_by log j) (get_or log j Finish) (get_or marks j false)
       (λ marked. rw (ne_eqb j id ne) refl) (λ kind link is unmarked whole. refl)
 
   pub no_opening : (id j : ℕ) → j ≢ id → list_any (is_opening_of id) (items_of_index log marks j) ≡ false
@@ -99,7 +99,7 @@ module _ (log : Log) (marks : List Bool) where
 
   -- what an item says of its event
   abbrev Says : Item → Type 0
-  Says (Hole id made) = IsHoleAt log marks id made
+  Says (OpenMarker id made) = IsOpenMarkerAt log marks id made
   Says (Open id kind true) = IsNodeAt log marks id kind
   Says (Open id kind false) = id < length log
   Says item = Unit {0}
@@ -108,7 +108,7 @@ module _ (log : Log) (marks : List Bool) where
   index_says j lt =
       items_of-cases (All Says) (All-nil Says) (All-only Says Close tt) (λ kind n. All-only Says (draft.Token kind n) tt) (λ text. All-only Says (draft.Error text) tt)
       j (made_by log j) (get_or log j Finish) (get_or marks j false)
-      (λ marked. All-only Says (Hole j (made_by log j)) (record { within = lt; marked = marked; how = refl }))
+      (λ marked. All-only Says (OpenMarker j (made_by log j)) (record { within = lt; marked = marked; how = refl }))
       (λ kind link is unmarked whole. All-only Says (Open j kind (not (has_link (Start kind link)))) (opened kind link is unmarked whole))
     where
       opened : (kind : ℕ) (link : Option ℕ) → get_or log j Finish ≡ Start kind link → get_or marks j false ≡ false → (kind == TOMBSTONE) ≡ false
@@ -119,8 +119,8 @@ module _ (log : Log) (marks : List Bool) where
   says : All Says (draft_items log marks)
   says = rw (draft_items-gathered log marks) (All-gathered Says (least_owner log) (items_of_index log marks) (length log) index_says)
 
-  pub IsHoleAt-found : (id : ℕ) (made : Made) → Contains (draft_items log marks) (Hole id made) → IsHoleAt log marks id made
-  IsHoleAt-found id made = All-contains Says (draft_items log marks) (Hole id made) says
+  pub IsOpenMarkerAt-found : (id : ℕ) (made : Made) → Contains (draft_items log marks) (OpenMarker id made) → IsOpenMarkerAt log marks id made
+  IsOpenMarkerAt-found id made = All-contains Says (draft_items log marks) (OpenMarker id made) says
 
   pub IsNodeAt-found : (id kind : ℕ) → Contains (draft_items log marks) (Open id kind true) → IsNodeAt log marks id kind
   IsNodeAt-found id kind = All-contains Says (draft_items log marks) (Open id kind true) says
@@ -130,7 +130,7 @@ module _ (log : Log) (marks : List Bool) where
   ids_within = All-flat_map (λ i. i < length log) ids_of (draft_items log marks) (λ k item lt. within (get_or (draft_items log marks) k item) (says k item lt))
     where
       within : (item : Item) → Says item → All (λ i. i < length log) (ids_of item)
-      within (Hole id made) is = All-only (λ i. i < length log) id is.within
+      within (OpenMarker id made) is = All-only (λ i. i < length log) id is.within
       within (Open id kind true) is = All-only (λ i. i < length log) id is.within
       within (Open id kind false) is = All-only (λ i. i < length log) id is
       within item is = All-nil (λ i. i < length log)

@@ -17,9 +17,9 @@ use Rattle.squawk_output.specs.LogDraft.{draft_items, items_of}
 use Rattle.squawk_output.proofs.GatheredItems.{flat_map-draft_items, made_by, items_of_index}
 use Rattle.squawk_output.proofs.Groups.{gathered-same}
 
--- which indices are holes, as a record has it
-abbrev pub HaveHoles : Log → List Bool → Type 0
-HaveHoles log marks = (index : ℕ) → index < length log → get_or marks index false ≡ true → get_or log index Finish ≡ tombstone
+-- which indices are open markers, as a record has it
+abbrev pub HaveOpenMarkers : Log → List Bool → Type 0
+HaveOpenMarkers log marks = (index : ℕ) → index < length log → get_or marks index false ≡ true → get_or log index Finish ≡ tombstone
 
 plain-item : (index : ℕ) (made : Made) (event : Event) (mark : Bool) → (mark ≡ true → event ≡ tombstone) → plain (items_of index made event mark) ≡ steps_of_event event
 plain-item index made (Start kind link) true h = sym (ap steps_of_event (h refl))
@@ -30,11 +30,11 @@ plain-item index made (Start kind link) false h = cases (kind == TOMBSTONE) (not
     cases false free = refl
 plain-item index made event mark h = refl
 
-pub plain-draft_items : (log : Log) (marks : List Bool) → HaveHoles log marks → plain (draft_items log marks) ≡ list_of log
-plain-draft_items log marks holes =
+pub plain-draft_items : (log : Log) (marks : List Bool) → HaveOpenMarkers log marks → plain (draft_items log marks) ≡ list_of log
+plain-draft_items log marks open_markers =
     flat_map-draft_items draft.steps_of_item log marks
     ∙ (gathered-same (least_owner log) (least_owner log) (λ j. plain (items_of_index log marks j)) (steps_at log) (length log) (λ j lt. refl)
-    (λ j lt. plain-item j (made_by log j) (get_or log j Finish) (get_or marks j false) (holes j lt) ∙ steps-here log j Finish lt)
+    (λ j lt. plain-item j (made_by log j) (get_or log j Finish) (get_or marks j false) (open_markers j lt) ∙ steps-here log j Finish lt)
     ∙ sym (list_of-gathered log))
 
 -- the errors of items are those of their steps
@@ -50,5 +50,5 @@ errors-plain (item ∷ items) =
     )
   where
     one : (item : Item) → errors_in (draft.steps_of_item item) ≡ cond (draft.is_error_item item) 1 0
-    one (draft.Hole i made) = refl
+    one (draft.OpenMarker i made) = refl
     one item = refl

@@ -10,7 +10,7 @@ use Rattle.squawk_output.specs.declared.event.Event.TheVariants as event
 use Rattle.squawk_output.specs.Chain.{LandsAt, forward_parent, hop, node_kind}
 use Rattle.squawk_output.specs.EventLog.{is_start, is_start_at}
 use Rattle.squawk_output.specs.PackedEvents.{IsStarting}
-use Rattle.squawk_output.specs.StoredEvents.{Error, HasEventText, HaveEventTexts, Hole, Start, StoredEvent, event_of, link_of, log_in}
+use Rattle.squawk_output.specs.StoredEvents.{Error, HasEventText, HaveEventTexts, OpenMarker, Start, StoredEvent, event_of, link_of, log_in}
 use Rattle.squawk_output.proofs.Links.{is_start_at-event, is_start_at-within}
 
 pub length-log_in : (texts : List (List ℕ)) (events : List StoredEvent) → length (log_in texts events) ≡ length events
@@ -72,7 +72,7 @@ start-is (event.Start kind link) is = refl
 start-is other is = absurd (cc)
 
 starting-is : (texts : List (List ℕ)) (x : StoredEvent) → is_start (event_of texts x) ≡ true → IsStarting x
-starting-is texts Hole is = tt
+starting-is texts OpenMarker is = tt
 starting-is texts (Start kind link) is = tt
 starting-is texts other is = absurd (cc)
 

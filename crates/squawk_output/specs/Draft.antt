@@ -6,7 +6,7 @@ use Rattle.squawk_output.specs.declared.log.Made.{Made}
 
 pub data Item : Type 0 where
   -- an open marker: its id, which is the number of entries when it was made, and how it was made
-  Hole : ℕ → Made → Item
+  OpenMarker : ℕ → Made → Item
   -- the beginning of a node: its id, its kind, and whether it can still be preceded
   Open : ℕ → ℕ → Bool → Item
   -- the end of a node
@@ -28,7 +28,7 @@ pub record Draft : Type 0 where
 abbrev pub nothing : Draft
 nothing = record { items = []; recorded = 0; entries = 0; turns_due = 0 }
 
--- a marker: the id of its hole, and how it was made
+-- a marker: the id of its open marker, and how it was made
 pub record Mark : Type 0 where
   pub id : ℕ
   pub made : Made
@@ -38,21 +38,21 @@ pub record Node : Type 0 where
   pub id : ℕ
   pub kind : ℕ
 
-abbrev pub is_hole : Item → Bool
-is_hole (Hole i made) = true
-is_hole item = false
+abbrev pub is_open_marker : Item → Bool
+is_open_marker (OpenMarker i made) = true
+is_open_marker item = false
 
 abbrev pub is_error_item : Item → Bool
 is_error_item (Error text) = true
 is_error_item item = false
 
 -- no open marker is left
-abbrev pub HasNoHole : List Item → Type 0
-HasNoHole items = All (λ item. is_hole item ≡ false) items
+abbrev pub HasNoOpenMarker : List Item → Type 0
+HasNoOpenMarker items = All (λ item. is_open_marker item ≡ false) items
 
 -- the open markers, in the order of the items
-abbrev pub holes_of : List Item → List Item
-holes_of items = filter is_hole items
+abbrev pub open_markers_of : List Item → List Item
+open_markers_of items = filter is_open_marker items
 
 -- how many errors were recorded
 abbrev pub errors_of : List Item → ℕ
@@ -60,11 +60,11 @@ errors_of items = count_by is_error_item items
 
 -- the ids that an item has
 abbrev pub ids_of : Item → List ℕ
-ids_of (Hole i made) = i ∷ []
+ids_of (OpenMarker i made) = i ∷ []
 ids_of (Open i kind free) = i ∷ []
 ids_of item = []
 
--- the ids of holes and openings, in the order of the items
+-- the ids of open markers and openings, in the order of the items
 abbrev pub ids : List Item → List ℕ
 ids items = flat_map ids_of items
 
@@ -86,12 +86,12 @@ pub record IsLogged (d : Draft) : Type 0 where
 
 -- the steps that an output has for an item
 abbrev pub steps_of_item : Item → List steps.Step
-steps_of_item (Hole i made) = []
+steps_of_item (OpenMarker i made) = []
 steps_of_item (Open i kind free) = steps.Enter kind ∷ []
 steps_of_item Close = steps.Exit ∷ []
 steps_of_item (Token kind n) = steps.Token kind n ∷ []
 steps_of_item (Error text) = steps.Error text ∷ []
 
--- the plain list: the items without the holes, the ids, and whether a node can be preceded
+-- the plain list: the items without the open markers, the ids, and whether a node can be preceded
 abbrev pub plain : List Item → List steps.Step
 plain items = flat_map steps_of_item items

@@ -13,7 +13,7 @@ use Rattle.squawk_output.specs.StoredEvents.{StoredEvent}
 pub record IsRecord (log : Log) (marks : List Bool) (recorded wrong : ℕ) : Type 0 where
   pub same_length : length marks ≡ length log
   pub links : LinksLead log
-  pub holes : (index : ℕ) → index < length log → slice_index_or marks index false ≡ true → slice_index_or log index Finish ≡ tombstone
+  pub open_markers : (index : ℕ) → index < length log → slice_index_or marks index false ≡ true → slice_index_or log index Finish ≡ tombstone
   pub few : length log ≤ recorded
   pub small : recorded < 2 ^ 32
   pub errors : wrong ≡ errors_of (draft_items log marks)

@@ -10,10 +10,10 @@ use Rattle.squawk_output.specs.declared.event.Event.TheVariants.{Start, Finish, 
 use Rattle.squawk_output.specs.declared.log.Made.{Made}
 use Rattle.squawk_output.specs.declared.log.Made.TheVariants.{ByStart, ByPrecede}
 
--- The items of the event at an index. A Start with its mark set is a hole, and without it a node's opening, which is
+-- The items of the event at an index. A Start with its mark set is an open marker, and without it a node's opening, which is
 -- free where no link goes out; TOMBSTONE is no node's kind.
 abbrev pub items_of : ℕ → Made → Event → Bool → List Item
-items_of index made (Start kind link) true = draft.Hole index made ∷ []
+items_of index made (Start kind link) true = draft.OpenMarker index made ∷ []
 items_of index made (Start kind link) false = if kind == TOMBSTONE then [] else draft.Open index kind (not (has_link (Start kind link))) ∷ []
 items_of index made Finish mark = draft.Close ∷ []
 items_of index made (Token kind n) mark = draft.Token kind n ∷ []
@@ -38,6 +38,6 @@ draft_of log marks recorded = record { items = draft_items log marks; recorded =
 abbrev pub HasNodeOf : List Item → ℕ → Type 0
 HasNodeOf items id = (kind : ℕ) × Contains items (draft.Open id kind true)
 
--- a hole with this id is among the items
-abbrev pub HasHoleOf : List Item → ℕ → Type 0
-HasHoleOf items id = (made : Made) × Contains items (draft.Hole id made)
+-- an open marker with this id is among the items
+abbrev pub HasOpenMarkerOf : List Item → ℕ → Type 0
+HasOpenMarkerOf items id = (made : Made) × Contains items (draft.OpenMarker id made)

@@ -1,7 +1,7 @@
 -- Events as a log keeps them: a word, and an operand beside it.
 use Rattle.std.specs.Prelude.{◌≡◌, ◌≢◌, ℕ, ◌-◌, ◌/◌, ◌==◌, ◌&&◌, Bool, true, false, not, if◌then◌else◌}
 use Rattle.squawk_kinds.specs.Kinds.{TOMBSTONE}
-use Rattle.squawk_output.specs.StoredEvents.{StoredEvent, Hole, Start, Finish, Token, Error}
+use Rattle.squawk_output.specs.StoredEvents.{StoredEvent, OpenMarker, Start, Finish, Token, Error}
 use Rattle.squawk_output.specs.StoredSteps.{IsWord, unpacked}
 use Rattle.squawk_output.specs.declared.output.stored.StoredStep.{StoredStep}
 use Rattle.squawk_output.specs.declared.output.stored.StoredStep.TheVariants as step
@@ -30,7 +30,7 @@ plain_event (step.Error number) = Error number
 
 -- an event that gives no step: 65537 is the word of an open marker
 abbrev pub aside_event : ℕ → StoredEvent
-aside_event word = if word == 65537 then Hole else Start (word / 65536) 0
+aside_event word = if word == 65537 then OpenMarker else Start (word / 65536) 0
 
 -- an event that is no error
 abbrev pub event_by : ℕ → ℕ → StoredEvent
@@ -61,12 +61,12 @@ is_error other = false
 
 -- it gives no step: an open marker, or the Start of no node
 abbrev pub is_aside : StoredEvent → Bool
-is_aside Hole = true
+is_aside OpenMarker = true
 is_aside (Start kind link) = (link == 0) && (kind == TOMBSTONE)
 is_aside other = false
 
 -- it is a Start
 abbrev pub IsStarting : StoredEvent → Type 0
-IsStarting Hole = Unit {0}
+IsStarting OpenMarker = Unit {0}
 IsStarting (Start kind link) = Unit {0}
 IsStarting other = ⊥

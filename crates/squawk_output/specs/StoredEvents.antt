@@ -8,7 +8,7 @@ use Rattle.squawk_output.specs.declared.event.Event.TheVariants as event
 -- an event whose text, if it is an error, is kept elsewhere
 pub data StoredEvent : Type 0 where
   -- the Start of an open marker, which has neither a kind nor a link
-  Hole : StoredEvent
+  OpenMarker : StoredEvent
   -- the beginning of a node of a kind, and by how many events its link leads forward, or 0
   Start : ℕ → ℕ → StoredEvent
   -- the end of a node
@@ -29,7 +29,7 @@ LeadsOn other = Unit {0}
 
 -- the event that is kept so, beside the texts of a list's errors
 abbrev pub event_of : List (List ℕ) → StoredEvent → Event
-event_of texts Hole = tombstone
+event_of texts OpenMarker = tombstone
 event_of texts (Start kind link) = event.Start kind (link_of link)
 event_of texts Finish = event.Finish
 event_of texts (Token kind n) = event.Token kind n
@@ -37,7 +37,7 @@ event_of texts (Error number) = event.Error (slice_index_or texts number [])
 
 -- whether it is an open marker's
 abbrev pub is_open_event : StoredEvent → Bool
-is_open_event Hole = true
+is_open_event OpenMarker = true
 is_open_event stored = false
 
 -- the text is there

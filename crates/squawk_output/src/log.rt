@@ -1,10 +1,10 @@
 //! The log of events in which a parser records. What is inlined runs for each event.
 ghost use Rattle.std.specs.Prelude.{ℕ, ◌≡◌, ◌≢◌, ◌+◌, ◌<◌, ◌≤◌, ◌∷◌, ◌++◌, ◌^◌, [], false, true, map, Contains, IfOk, OnOk, OnErr, length};
 ghost use Rattle.squawk_kinds.specs.Kinds.{TOMBSTONE};
-ghost use Rattle.squawk_output.specs.Draft.{Hole, IsLogged, Open, errors_of, nothing, plain};
+ghost use Rattle.squawk_output.specs.Draft.{OpenMarker, IsLogged, Open, errors_of, nothing, plain};
 ghost use Rattle.squawk_output.specs.Edits as spec;
 ghost use Rattle.squawk_output.specs.Edits.{abandoned, completed, extended, preceded, started, with_error, with_token};
-ghost use Rattle.squawk_output.specs.LogDraft.{HasHoleOf, HasNodeOf};
+ghost use Rattle.squawk_output.specs.LogDraft.{HasOpenMarkerOf, HasNodeOf};
 ghost use Rattle.squawk_output.specs.StoredEvents.{HaveEventTexts, is_open_event, log_in};
 ghost use Rattle.squawk_output.specs.declared.event.Event.{Event};
 
@@ -17,7 +17,7 @@ use squawk_kinds::SyntaxKind;
 use std::alloc::{AllocError, Global};
 use std::marker::Model;
 
-/// How a hole was made: by which call of the parser.
+/// How an open marker was made: by which call of the parser.
 #[derive(Clone, Copy, Debug)]
 pub enum Made {
     /// At the end.
@@ -28,7 +28,7 @@ pub enum Made {
 
 /// What a parser has recorded, as a log of events, of eight bytes each.
 ///
-/// Contracts see it as a draft, in which every node begins where it begins in the output. A hole is what an
+/// Contracts see it as a draft, in which every node begins where it begins in the output. An open marker is what an
 /// open marker has recorded. An id is the index of an event; an event that was removed frees its index.
 ///
 /// The events of open and of abandoned markers differ. No code reads the difference, but contracts do.
@@ -81,7 +81,7 @@ impl EventLog {
         self.errors.len() as u32
     }
 
-    /// The id of the next hole: the number of entries.
+    /// The id of the next open marker: the number of entries.
     pub fn next_id(&self) -> u32
         ensures id { result ≡ self.now.entries }
         ensures logged { IsLogged self.now }
@@ -89,7 +89,7 @@ impl EventLog {
         self.events.len() as u32
     }
 
-    /// Appends a hole.
+    /// Appends an open marker.
     #[inline(always)]
     pub fn start(&mut self) -> Result<(), AllocError>
         requires { self.old.recorded + 1 < 2 ^ 32 }
@@ -97,15 +97,15 @@ impl EventLog {
         ensures err { OnErr result (self.new ≡ self.old) }
         ensures logged { IsLogged self.new }
     {
-        self.events.push(PackedEvent::hole())?;
+        self.events.push(PackedEvent::open_marker())?;
         self.recorded += 1;
         Ok(())
     }
 
-    /// Makes the hole the opening of a node, and appends the closing.
+    /// Makes the open marker the opening of a node, and appends the closing.
     #[inline(always)]
     pub fn complete(&mut self, id: u32, kind: SyntaxKind) -> Result<(), AllocError>
-        requires hole { HasHoleOf self.old.items id }
+        requires open_marker { HasOpenMarkerOf self.old.items id }
         requires kind { kind ≢ TOMBSTONE }
         requires room { self.old.recorded + 1 < 2 ^ 32 }
         ensures ok { OnOk result (self.new ≡ completed self.old id kind) }
@@ -143,7 +143,7 @@ impl EventLog {
         Ok(())
     }
 
-    /// Puts a hole directly before the opening of a node of this kind, which can't be preceded again.
+    /// Puts an open marker directly before the opening of a node of this kind, which can't be preceded again.
     pub fn precede(&mut self, node: u32, kind: SyntaxKind) -> Result<(), AllocError>
         requires node { Contains self.old.items (Open node kind true) }
         requires room { self.old.recorded + 1 < 2 ^ 32 }
@@ -151,17 +151,17 @@ impl EventLog {
         ensures err { OnErr result (self.new ≡ self.old) }
         ensures logged { IsLogged self.new }
     {
-        let hole = PackedEvent::hole();
+        let open_marker = PackedEvent::open_marker();
         let link = (self.events.len() - node as usize) as u32;
-        self.events.push(hole)?;
+        self.events.push(open_marker)?;
         self.events[node as usize] = PackedEvent::linked(kind, link);
         self.recorded += 1;
         Ok(())
     }
 
-    /// Removes the hole, and its event too, if that is the last one and was made by a start.
+    /// Removes the open marker, and its event too, if that is the last one and was made by a start.
     pub fn abandon(&mut self, id: u32, made: Made)
-        requires { Contains self.old.items (Hole id made) }
+        requires { Contains self.old.items (OpenMarker id made) }
         ensures abandoned { self.new ≡ abandoned self.old id }
         ensures logged { IsLogged self.new }
     {
@@ -172,11 +172,11 @@ impl EventLog {
         }
     }
 
-    /// Moves the opening of a node to the hole's position, if that stands before it, and removes the hole.
-    /// The hole is older than the node's.
+    /// Moves the opening of a node to the open marker's position, if that stands before it, and removes the open marker.
+    /// The open marker is older than the node's.
     pub fn extend(&mut self, node: u32, id: u32)
         requires node { HasNodeOf self.old.items node }
-        requires hole { HasHoleOf self.old.items id }
+        requires open_marker { HasOpenMarkerOf self.old.items id }
         requires older { id < node }
         ensures extended { (kind : ℕ) → Contains self.old.items (Open node kind true) → self.new ≡ extended self.old (record { id = node; kind = kind }) id }
         ensures logged { IsLogged self.new }
@@ -185,7 +185,7 @@ impl EventLog {
         *start = PackedEvent::linked(SyntaxKind::TOMBSTONE, node - id);
     }
 
-    /// The output of the log, made in one pass: the items without the holes.
+    /// The output of the log, made in one pass: the items without the open markers.
     pub fn finish(self, alloc: Global) -> Result<Output, AllocError>
         requires { errors_of self.items ≤ 2147483648 }
         ensures output { IfOk result (λ o. o ≡ record { steps = plain self.items; recorded = self.recorded; turns = self.turns_due }) }
@@ -200,9 +200,9 @@ impl EventLog {
     }
 }
 
-/// Whether the event of a hole is the last of `entries`, and the hole was made by a start.
+/// Whether the event of an open marker is the last of `entries`, and the open marker was made by a start.
 fn is_last_start(entries: usize, id: u32, made: Made) -> bool
-    ensures { result ≡ spec.is_last_start entries (Hole id made) }
+    ensures { result ≡ spec.is_last_start entries (OpenMarker id made) }
 {
     match made {
         Made::ByStart => id as usize + 1 == entries,

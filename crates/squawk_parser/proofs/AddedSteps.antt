@@ -3,7 +3,7 @@ use Rattle.std.proofs.Common.{◌≡◌, ◌∙◌, ℕ, ◌<◌, false, true, L
 use Rattle.std.specs.Prelude.{Contains, count_by}
 use Rattle.std.proofs.lemmas.List.Elements.{All-nil, All-cons, All-append, Contains-append_left}
 use Rattle.squawk_output.specs.Steps.{Step, Enter, Exit}
-use Rattle.squawk_output.specs.Draft.{Draft, Item, Mark, Node, Hole, Open, Close, HasNoHole, IsAboveIds, ids, is_hole, plain}
+use Rattle.squawk_output.specs.Draft.{Draft, Item, Mark, Node, OpenMarker, Open, Close, HasNoOpenMarker, IsAboveIds, ids, is_open_marker, plain}
 use Rattle.squawk_output.specs.declared.log.Made.{Made}
 use Rattle.squawk_output.specs.declared.log.Made.TheVariants.{ByPrecede, ByStart}
 use Rattle.squawk_output.specs.Edits.{completed, filled, is_opening_of, preceded_item, replaced}
@@ -11,14 +11,14 @@ use Rattle.squawk_output.proofs.Groups.{itself}
 use Rattle.squawk_parser.specs.Composed.{Adds, AddsNode}
 use Rattle.squawk_parser.specs.Eaten.{node}
 use Rattle.squawk_parser.specs.Recorded.{Begins, Completes, Precedes, Puts, items_for}
-use Rattle.squawk_parser.specs.State.{State, HasNotFailed, HasHole, HasNode, IsFresh}
+use Rattle.squawk_parser.specs.State.{State, HasNotFailed, HasOpenMarker, HasNode, IsFresh}
 use Rattle.squawk_parser.proofs.RecordedItems.{plain-append, eaten-append, filled-at, ids-append}
 use Rattle.squawk_parser.proofs.RecordedSteps.{Keeps-then, went}
 use Rattle.squawk_parser.proofs.Splits.{All-front, Contains-behind, count_by-append, count_by-passes, openings-once, replaced-at}
 use Rattle.squawk_parser.proofs.StepsAtEnd.{closed-items_for, plain-items_for}
 
-abbrev no_hole : Item → Type 0
-no_hole item = is_hole item ≡ false
+abbrev no_open_marker : Item → Type 0
+no_open_marker item = is_open_marker item ≡ false
 
 -- ---- steps
 
@@ -44,7 +44,7 @@ Adds-node {a} {b} {xs} {n} p = record {
         made = Open n.id n.kind true ∷ put.inner;
         items = put.items;
         steps_made = put.steps_made;
-        closed = All-cons no_hole (Open n.id n.kind true) put.inner refl put.closed;
+        closed = All-cons no_open_marker (Open n.id n.kind true) put.inner refl put.closed;
       };
 }
 
@@ -59,16 +59,16 @@ Adds-then {a} {b} {c} {xs} {ys} p q = record {
         made = first.made ++ second.made;
         items = second.items ∙ (ap (λ zs. zs ++ second.made) first.items ∙ append_assoc a.draft.items first.made second.made);
         steps_made = plain-append first.made second.made ∙ (ap (λ zs. zs ++ plain second.made) first.steps_made ∙ ap (λ zs. xs ++ zs) second.steps_made);
-        closed = All-append no_hole first.made second.made first.closed second.closed;
+        closed = All-append no_open_marker first.made second.made first.closed second.closed;
       };
 }
 
--- a marker's hole stays where steps are added
-pub hole-added : {a b : State} {xs : List Step} (m : Mark) → HasHole a m → Adds xs a b → HasHole b m
-hole-added {a} {b} {xs} m there adds goes =
+-- a marker's item stays where steps are added
+pub open_marker-added : {a b : State} {xs : List Step} (m : Mark) → HasOpenMarker a m → Adds xs a b → HasOpenMarker b m
+open_marker-added {a} {b} {xs} m there adds goes =
     let added = adds.draft goes in
-    let hole = Hole m.id m.made in
-    subst (λ items. Contains items hole) (sym added.items) (Contains-append_left a.draft.items added.made hole (there (went adds.keeps goes)))
+    let open_marker = OpenMarker m.id m.made in
+    subst (λ items. Contains items open_marker) (sym added.items) (Contains-append_left a.draft.items added.made open_marker (there (went adds.keeps goes)))
 
 -- an added node can be preceded
 pub node-added : {a b : State} {xs : List Step} {n : Node} → AddsNode xs n a b → HasNode b n
@@ -79,29 +79,29 @@ node-added {a} {b} {xs} {n} adds goes =
 
 -- ---- nodes
 
--- a hole with items behind it becomes an opening, and a closing stands at the end
-closed_up : (old inner : List Item) (made : Made) (d e : Draft) (id kind : ℕ) → d.items ≡ old ++ Hole id made ∷ inner → e ≡ completed d id kind
-    → IsAboveIds id old → HasNoHole inner → e.items ≡ old ++ Open id kind true ∷ (inner ++ Close ∷ [])
+-- an open marker with items behind it becomes an opening, and a closing stands at the end
+closed_up : (old inner : List Item) (made : Made) (d e : Draft) (id kind : ℕ) → d.items ≡ old ++ OpenMarker id made ∷ inner → e ≡ completed d id kind
+    → IsAboveIds id old → HasNoOpenMarker inner → e.items ≡ old ++ Open id kind true ∷ (inner ++ Close ∷ [])
 closed_up old inner made d e id kind is ends above closed =
     ap (λ d. d.items) ends
     ∙ (ap (λ items. filled items id kind ++ Close ∷ []) is
     ∙ (ap (λ items. items ++ Close ∷ []) (filled-at id kind made old inner above closed) ∙ append_assoc old (Open id kind true ∷ inner) (Close ∷ [])))
 
-closed_end : (inner : List Item) → HasNoHole inner → HasNoHole (inner ++ Close ∷ [])
-closed_end inner closed = All-append no_hole inner (Close ∷ []) closed (All-cons no_hole Close [] refl (All-nil no_hole))
+closed_end : (inner : List Item) → HasNoOpenMarker inner → HasNoOpenMarker (inner ++ Close ∷ [])
+closed_end inner closed = All-append no_open_marker inner (Close ∷ []) closed (All-cons no_open_marker Close [] refl (All-nil no_open_marker))
 
 -- a started marker's id is above all that were before
 pub is_below : {a b : State} {m : Mark} → Begins m a b → IsAboveIds m.id a.draft.items
 is_below {a} {b} {m} begins = subst (λ id. IsAboveIds id a.draft.items) (sym (ap (λ m. m.id) begins.is)) begins.sound.logged.below
 
--- and behind its hole stand the items of what is added
+-- and behind its open marker stand the items of what is added
 pub begun_items : {a b c : State} {m : Mark} {xs : List Step} (begins : Begins m a b) (adds : Adds xs b c) (goes : HasNotFailed c)
-    → c.draft.items ≡ a.draft.items ++ Hole m.id ByStart ∷ (adds.draft goes).made
+    → c.draft.items ≡ a.draft.items ++ OpenMarker m.id ByStart ∷ (adds.draft goes).made
 begun_items {a} {b} {c} {m} {xs} begins adds goes =
     let made = (adds.draft goes).made in
     (adds.draft goes).items
     ∙ (ap (λ d. d.items ++ made) (begins.records.draft (went adds.keeps goes))
-    ∙ (append_assoc a.draft.items (Hole a.draft.entries ByStart ∷ []) made ∙ ap (λ m. a.draft.items ++ Hole m.id ByStart ∷ made) (sym begins.is)))
+    ∙ (append_assoc a.draft.items (OpenMarker a.draft.entries ByStart ∷ []) made ∙ ap (λ m. a.draft.items ++ OpenMarker m.id ByStart ∷ made) (sym begins.is)))
 
 -- a node is begun, steps are added, and it is completed
 pub node_around : {a b c d : State} {m : Mark} {n : Node} {xs : List Step} {kind : ℕ} → Begins m a b → Adds xs b c → Completes m.id kind c d
@@ -124,11 +124,11 @@ node_around {a} {b} {c} {d} {m} {n} {xs} {kind} begins adds completes is =
 
 -- the items where an added node is preceded
 preceded_items : {begun s t : State} {m : Mark} {n : Node} {xs : List Step} → (adds : AddsNode xs n begun s) → Precedes n m s t → (goes : HasNotFailed t) → (gone : HasNotFailed s)
-    → t.draft.items ≡ begun.draft.items ++ Hole s.draft.entries ByPrecede ∷ Open n.id n.kind false ∷ (adds.draft gone).inner
+    → t.draft.items ≡ begun.draft.items ++ OpenMarker s.draft.entries ByPrecede ∷ Open n.id n.kind false ∷ (adds.draft gone).inner
 preceded_items {begun} {s} {t} {m} {n} {xs} adds precedes goes gone =
     let put = adds.draft gone in
     let p = is_opening_of n.id in
-    let f = λ (item : Item). Hole s.draft.entries ByPrecede ∷ preceded_item item ∷ [] in
+    let f = λ (item : Item). OpenMarker s.draft.entries ByPrecede ∷ preceded_item item ∷ [] in
     let opening = Open n.id n.kind true in
     let once = openings-once n.id s.draft.items precedes.sound.logged.once in
     let total = ap (count_by p) put.items ∙ count_by-append p begun.draft.items (opening ∷ put.inner) in
@@ -154,13 +154,13 @@ node_before {begun} {s} {t} {v} {w} {m} {left} {n} {steps} {more} {kind} puts pr
           let node_items : List Item = Open left.id left.kind false ∷ put.inner in
           let inner = node_items ++ added.made in
           let id = ap (λ m. m.id) precedes.is in
-          let items : v.draft.items ≡ old ++ Hole m.id ByPrecede ∷ inner =
+          let items : v.draft.items ≡ old ++ OpenMarker m.id ByPrecede ∷ inner =
           added.items
           ∙ (ap (λ zs. zs ++ added.made) (preceded_items puts precedes first gone)
-          ∙ (append_assoc old (Hole s.draft.entries ByPrecede ∷ node_items) added.made ∙ ap (λ id. old ++ Hole id ByPrecede ∷ inner) (sym id))) in
+          ∙ (append_assoc old (OpenMarker s.draft.entries ByPrecede ∷ node_items) added.made ∙ ap (λ id. old ++ OpenMarker id ByPrecede ∷ inner) (sym id))) in
           let below : IsAboveIds s.draft.entries old =
           ids_front old (Open left.id left.kind true ∷ put.inner) (subst (λ items. IsAboveIds s.draft.entries items) put.items precedes.sound.logged.below) in
-          let closed : HasNoHole inner = All-append no_hole node_items added.made (All-cons no_hole (Open left.id left.kind false) put.inner refl put.closed) added.closed in
+          let closed : HasNoOpenMarker inner = All-append no_open_marker node_items added.made (All-cons no_open_marker (Open left.id left.kind false) put.inner refl put.closed) added.closed in
           record {
             inner = inner ++ Close ∷ [];
             items = closed_up old inner ByPrecede v.draft w.draft m.id kind items (completes.records.draft goes) (subst (λ id. IsAboveIds id old) (sym id) below) closed;
@@ -183,8 +183,8 @@ module _ {a b : State} {xs : List Step} (fresh : IsFresh a) (adds : Adds xs a b)
   all_items : b.draft.items ≡ (adds.draft goes).made
   all_items = (adds.draft goes).items ∙ ap (λ s. s.draft.items ++ (adds.draft goes).made) fresh
 
-  pub closed-fresh : HasNoHole b.draft.items
-  closed-fresh = subst HasNoHole (sym all_items) (adds.draft goes).closed
+  pub closed-fresh : HasNoOpenMarker b.draft.items
+  closed-fresh = subst HasNoOpenMarker (sym all_items) (adds.draft goes).closed
 
   pub plain-fresh : plain b.draft.items ≡ xs
   plain-fresh = ap plain all_items ∙ (adds.draft goes).steps_made

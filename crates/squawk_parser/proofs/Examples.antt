@@ -74,14 +74,14 @@ last_node = record { id = 5; kind = 705 }
 
 -- the node goes to the nearer marker, and then to the farther one
 extended_twice : extended (extended three_markers last_node 3) last_node 1 ≡ record {
-  items = items.Hole 0 made.ByStart ∷ items.Open 5 705 true ∷ items.Token 3 1 ∷ items.Token 3 1 ∷ items.Token 3 1 ∷ items.Close ∷ [];
+  items = items.OpenMarker 0 made.ByStart ∷ items.Open 5 705 true ∷ items.Token 3 1 ∷ items.Token 3 1 ∷ items.Token 3 1 ∷ items.Close ∷ [];
   recorded = 8;
   entries = 8;
   turns_due = 16;
 }
 extended_twice = refl
 
--- or to the farther one at once, so that the nearer one's hole stands behind it, and it stays
+-- or to the farther one at once, so that the nearer one's open marker stands behind it, and it stays
 extended_past_a_marker : extended (extended three_markers last_node 1) last_node 3 ≡ extended (extended three_markers last_node 3) last_node 1
 extended_past_a_marker = refl
 
@@ -90,7 +90,7 @@ abbrev preceded_past_a_marker : Draft
 preceded_past_a_marker = completed (preceded (completed (token (started (started (started nothing)))) 1 705) 1) 5 701
 
 extended_in_vain : extended preceded_past_a_marker (record { id = 5; kind = 701 }) 2 ≡ record {
-  items = items.Hole 0 made.ByStart ∷ items.Open 5 701 true ∷ items.Open 1 705 false ∷ items.Token 3 1 ∷ items.Close ∷ items.Close ∷ [];
+  items = items.OpenMarker 0 made.ByStart ∷ items.Open 5 701 true ∷ items.Open 1 705 false ∷ items.Token 3 1 ∷ items.Close ∷ items.Close ∷ [];
   recorded = 7;
   entries = 7;
   turns_due = 15;

@@ -5,7 +5,7 @@ pub mod RecordedItems
 pub mod RecordedSteps
 pub mod Room
 pub mod Recovery
-pub mod TailHoles
+pub mod TailOpenMarkers
 pub mod Balance
 pub mod Soundness
 pub mod FailedIfRefused
@@ -38,7 +38,7 @@ pub mod StepsInOrder
 pub mod WholeSteps
 pub mod MovedNodes
 pub mod WholeGrammars
-pub mod Holes
-pub mod MovedHoles
+pub mod OpenMarkers
+pub mod MovedOpenMarkers
 pub mod MovedSteps
 pub mod StepsAtEnd

@@ -2,9 +2,9 @@
 use Rattle.std.proofs.Common.{◌≡◌, ◌∙◌, ℕ, Bool, true, false, Option, Some, None, List, [], ◌∷◌, ◌++◌, if◌then◌else◌, arith, ap, sym, refl, append_assoc}
 use Rattle.std.specs.Prelude.{count_by}
 use Rattle.std.proofs.lemmas.List.Elements.{All-append}
-use Rattle.squawk_output.specs.Draft.{Draft, Item, Mark, Node, Hole, Open, is_hole, plain}
+use Rattle.squawk_output.specs.Draft.{Draft, Item, Mark, Node, OpenMarker, Open, is_open_marker, plain}
 use Rattle.squawk_output.specs.declared.log.Made.TheVariants.{ByStart}
-use Rattle.squawk_output.specs.Edits.{abandoned, extended, is_hole_of, is_opening_of, moved, replaced, stands_before, without_hole}
+use Rattle.squawk_output.specs.Edits.{abandoned, extended, is_open_marker_of, is_opening_of, moved, replaced, stands_before, without_open_marker}
 use Rattle.squawk_output.specs.Steps.{Step, Enter, Exit}
 use Rattle.squawk_output.proofs.Groups.{itself}
 use Rattle.squawk_output.proofs.Sums.{count_by-cons}
@@ -59,8 +59,8 @@ abandoned_adds {a} {b} {c} {d} {m} {xs} begins adds changes = record {
       record {
         made = put.made;
         items = ap (λ d. d.items) (changed changes goes)
-            ∙ (ap (without_hole m.id) (begun_items begins adds before)
-            ∙ replaced-at (is_hole_of m.id) (λ item. []) a.draft.items put.made (Hole m.id ByStart) (itself m.id) (none_below m.id a.draft.items (is_below begins)) (none_closed m.id put.made put.closed));
+            ∙ (ap (without_open_marker m.id) (begun_items begins adds before)
+            ∙ replaced-at (is_open_marker_of m.id) (λ item. []) a.draft.items put.made (OpenMarker m.id ByStart) (itself m.id) (none_below m.id a.draft.items (is_below begins)) (none_closed m.id put.made put.closed));
         steps_made = put.steps_made;
         closed = put.closed;
       };
@@ -87,27 +87,27 @@ extended_adds {a} {b} {c} {d} {e} {m} {n} {xs} kind zs begins adds adds_node cha
       let before = went adds_node.keeps gone in
       let added = adds.draft before in
       let old = a.draft.items in
-      let hole = Hole m.id ByStart in
+      let open_marker = OpenMarker m.id ByStart in
       let opening = Open n.id n.kind true in
-      let front = old ++ hole ∷ added.made in
+      let front = old ++ open_marker ∷ added.made in
       let items : d.draft.items ≡ front ++ opening ∷ put.inner = put.items ∙ ap (λ zs. zs ++ opening ∷ put.inner) (begun_items begins adds before) in
       let p = is_opening_of n.id in
       let once = openings-once n.id d.draft.items adds_node.keeps.sound.logged.once in
       let total = ap (count_by p) items ∙ count_by-append p front (opening ∷ put.inner) in
       let one = count_by-passes p opening put.inner (itself n.id) in
-      let closed = All-append (λ item. is_hole item ≡ false) added.made put.inner added.closed put.closed in
-      let stands : stands_before (is_hole_of m.id) p (front ++ opening ∷ put.inner) ≡ true =
-      ap (stands_before (is_hole_of m.id) p) (append_assoc old (hole ∷ added.made) (opening ∷ put.inner))
-      ∙ stands-first (is_hole_of m.id) p old (added.made ++ opening ∷ put.inner) hole (itself m.id) (omega (arith, total, one, once, count_by-append p old (hole ∷ added.made))) in
+      let closed = All-append (λ item. is_open_marker item ≡ false) added.made put.inner added.closed put.closed in
+      let stands : stands_before (is_open_marker_of m.id) p (front ++ opening ∷ put.inner) ≡ true =
+      ap (stands_before (is_open_marker_of m.id) p) (append_assoc old (open_marker ∷ added.made) (opening ∷ put.inner))
+      ∙ stands-first (is_open_marker_of m.id) p old (added.made ++ opening ∷ put.inner) open_marker (itself m.id) (omega (arith, total, one, once, count_by-append p old (open_marker ∷ added.made))) in
       let inner : (n.kind ≡ kind) × (plain put.inner ≡ zs ++ Exit ∷ []) = let e = put.steps_made in (cc, cc) in
       record {
         inner = added.made ++ put.inner;
         items = ap (λ d. d.items) (changed changes goes)
-            ∙ (ap (λ items. if stands_before (is_hole_of m.id) p items then moved n m.id items else without_hole m.id items) items
-            ∙ (ap (λ b. if b then moved n m.id (front ++ opening ∷ put.inner) else without_hole m.id (front ++ opening ∷ put.inner)) stands
-            ∙ (ap (replaced (is_hole_of m.id) (λ item. opening ∷ []))
-            (replaced-at p (λ item. []) front put.inner opening (itself n.id) (omega (arith, total, one, once)) (omega (arith, total, one, once)) ∙ append_assoc old (hole ∷ added.made) put.inner)
-            ∙ replaced-at (is_hole_of m.id) (λ item. opening ∷ []) old (added.made ++ put.inner) hole (itself m.id) (none_below m.id old (is_below begins)) (none_closed m.id (added.made ++ put.inner) closed))));
+            ∙ (ap (λ items. if stands_before (is_open_marker_of m.id) p items then moved n m.id items else without_open_marker m.id items) items
+            ∙ (ap (λ b. if b then moved n m.id (front ++ opening ∷ put.inner) else without_open_marker m.id (front ++ opening ∷ put.inner)) stands
+            ∙ (ap (replaced (is_open_marker_of m.id) (λ item. opening ∷ []))
+            (replaced-at p (λ item. []) front put.inner opening (itself n.id) (omega (arith, total, one, once)) (omega (arith, total, one, once)) ∙ append_assoc old (open_marker ∷ added.made) put.inner)
+            ∙ replaced-at (is_open_marker_of m.id) (λ item. opening ∷ []) old (added.made ++ put.inner) open_marker (itself m.id) (none_below m.id old (is_below begins)) (none_closed m.id (added.made ++ put.inner) closed))));
         steps_made = ap (λ kind. Enter kind ∷ plain (added.made ++ put.inner)) inner.0
             ∙ ap (λ zs. Enter kind ∷ zs) (plain-append added.made put.inner ∙ (ap (λ ys. ys ++ plain put.inner) added.steps_made ∙ (ap (λ ys. xs ++ ys) inner.1 ∙ sym (append_assoc xs zs (Exit ∷ [])))));
         closed = closed;

@@ -1,4 +1,4 @@
--- Views of items and steps that are joined, and a hole among items that becomes an opening.
+-- Views of items and steps that are joined, and an open marker among items that becomes an opening.
 use Rattle.std.proofs.Common.{◌≡◌, ℕ, ◌+◌, ◌<◌, ◌≤◌, ◌==◌, Bool, true, false, List, [], ◌∷◌, ◌++◌, cond, arith, length, length-append, refl, ◌∙◌}
 use Rattle.std.specs.Prelude.{All, count_by}
 use Rattle.std.proofs.lemmas.Bool.{eqb-true}
@@ -6,11 +6,11 @@ use Rattle.std.proofs.lemmas.List.Sums.{sum_by-append}
 use Rattle.std.proofs.lemmas.List.Elements.{All-head, All-tail}
 use Rattle.std.proofs.lemmas.Grind.{flat_map-append}
 use Rattle.squawk_output.specs.Steps.{Step, is_error, errors_in, eaten, count_of}
-use Rattle.squawk_output.specs.Draft.{Item, Hole, Open, Close, Token, Error, HasNoHole, IsAboveIds, ids, ids_of, is_hole, plain, steps_of_item}
+use Rattle.squawk_output.specs.Draft.{Item, OpenMarker, Open, Close, Token, Error, HasNoOpenMarker, IsAboveIds, ids, ids_of, is_open_marker, plain, steps_of_item}
 use Rattle.squawk_output.specs.declared.log.Made.{Made}
-use Rattle.squawk_output.specs.Edits.{filled, is_hole_of}
+use Rattle.squawk_output.specs.Edits.{filled, is_open_marker_of}
 use Rattle.squawk_output.proofs.Groups.{itself}
-use Rattle.squawk_parser.proofs.Splits.{count-le_ids, count_by-fails, hole_each, replaced-at}
+use Rattle.squawk_parser.proofs.Splits.{count-le_ids, count_by-fails, open_marker_each, replaced-at}
 
 pub plain-append : (xs ys : List Item) → plain (xs ++ ys) ≡ plain xs ++ plain ys
 plain-append xs ys = flat_map-append steps_of_item xs ys
@@ -33,31 +33,31 @@ unused : (id : ℕ) (is : List ℕ) → All (λ i. i < id) is → count_by (λ i
 unused id [] all = refl
 unused id (i ∷ is) all = unused_cases id i is (i == id) refl (All-head (λ i. i < id) i is all) (unused id is (All-tail (λ i. i < id) i is all))
 
--- so no hole of its marker is, nor among items without a hole
-pub none_below : (id : ℕ) (items : List Item) → IsAboveIds id items → count_by (is_hole_of id) items ≡ 0
-none_below id items above = omega (arith, count-le_ids (is_hole_of id) id (hole_each id) items, unused id (ids items) above)
+-- so no item of its marker is, nor among items without an open marker
+pub none_below : (id : ℕ) (items : List Item) → IsAboveIds id items → count_by (is_open_marker_of id) items ≡ 0
+none_below id items above = omega (arith, count-le_ids (is_open_marker_of id) id (open_marker_each id) items, unused id (ids items) above)
 
-closed_one : (id : ℕ) (item : Item) → is_hole item ≡ false → is_hole_of id item ≡ false
-closed_one id (Hole i made) closed = absurd (cc)
+closed_one : (id : ℕ) (item : Item) → is_open_marker item ≡ false → is_open_marker_of id item ≡ false
+closed_one id (OpenMarker i made) closed = absurd (cc)
 closed_one id (Open i kind free) closed = refl
 closed_one id Close closed = refl
 closed_one id (Token kind n) closed = refl
 closed_one id (Error text) closed = refl
 
-pub none_closed : (id : ℕ) (items : List Item) → HasNoHole items → count_by (is_hole_of id) items ≡ 0
+pub none_closed : (id : ℕ) (items : List Item) → HasNoOpenMarker items → count_by (is_open_marker_of id) items ≡ 0
 none_closed id [] closed = refl
 none_closed id (item ∷ items) closed =
-    count_by-fails (is_hole_of id) item items (closed_one id item (All-head (λ item. is_hole item ≡ false) item items closed))
-    ∙ none_closed id items (All-tail (λ item. is_hole item ≡ false) item items closed)
+    count_by-fails (is_open_marker_of id) item items (closed_one id item (All-head (λ item. is_open_marker item ≡ false) item items closed))
+    ∙ none_closed id items (All-tail (λ item. is_open_marker item ≡ false) item items closed)
 
--- the hole becomes an opening there
-pub filled-at : (id kind : ℕ) (made : Made) (xs ys : List Item) → IsAboveIds id xs → HasNoHole ys
-    → filled (xs ++ Hole id made ∷ ys) id kind ≡ xs ++ Open id kind true ∷ ys
+-- the open marker becomes an opening there
+pub filled-at : (id kind : ℕ) (made : Made) (xs ys : List Item) → IsAboveIds id xs → HasNoOpenMarker ys
+    → filled (xs ++ OpenMarker id made ∷ ys) id kind ≡ xs ++ Open id kind true ∷ ys
 filled-at id kind made xs ys above closed =
-    replaced-at (is_hole_of id) (λ item. Open id kind true ∷ []) xs ys (Hole id made) (itself id) (none_below id xs above) (none_closed id ys closed)
+    replaced-at (is_open_marker_of id) (λ item. Open id kind true ∷ []) xs ys (OpenMarker id made) (itself id) (none_below id xs above) (none_closed id ys closed)
 
 one_step : (item : Item) → length (steps_of_item item) ≤ 1
-one_step (Hole i made) = omega arith
+one_step (OpenMarker i made) = omega arith
 one_step (Open i kind free) = omega arith
 one_step Close = omega arith
 one_step (Token kind n) = omega arith

@@ -2,7 +2,7 @@
 use Rattle.std.proofs.Common.{◌≡◌, ◌∙◌, ℕ, ◌+◌, false, Option, Some, None, List, [], ◌∷◌, ◌++◌, length, arith, add-zero, ap, sym, refl, append_assoc, length-append}
 use Rattle.std.specs.Prelude.{IsSome}
 use Rattle.squawk_output.specs.Steps.{Step, Enter, Exit, Token, is_error, errors_in}
-use Rattle.squawk_output.specs.Draft.{Draft, Hole, Mark, errors_of}
+use Rattle.squawk_output.specs.Draft.{Draft, OpenMarker, Mark, errors_of}
 use Rattle.squawk_output.specs.declared.log.Made.TheVariants.{ByStart}
 use Rattle.squawk_output.specs.Edits.{completed, started, with_token}
 use Rattle.squawk_output.proofs.EditedErrors.{errors-append}
@@ -138,11 +138,11 @@ token_puts {a} {b} kind n k r position = record {
   refused = refuses-one (Token kind n) refl r;
 }
 
--- the event of a hole is that of an opening to come
+-- the event of an open marker is that of an opening to come
 pub begun_counts : {a b : State} (kind : ℕ) → b.draft ≡ started a.draft → Counts (Enter kind ∷ []) a b
 begun_counts {a} {b} kind is = record {
   recorded = ap (λ d. d.recorded) is;
-  errors = ap (λ d. errors_of d.items) is ∙ errors-append a.draft.items (Hole a.draft.entries ByStart ∷ []);
+  errors = ap (λ d. errors_of d.items) is ∙ errors-append a.draft.items (OpenMarker a.draft.entries ByStart ∷ []);
 }
 
 -- a node is begun, steps are recorded in it, and it is completed

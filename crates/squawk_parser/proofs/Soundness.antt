@@ -4,8 +4,8 @@ use Rattle.std.specs.Prelude.{Contains, IsSome}
 use Rattle.std.proofs.lemmas.List.{append-nil}
 use Rattle.squawk_output.specs.Steps as steps
 use Rattle.squawk_output.specs.Steps.{Step, Enter, Exit, eaten, errors_in}
-use Rattle.squawk_output.specs.Draft.{Draft, Item, Node, Hole, Open, Close, Token, Error, IsLogged, errors_of, plain}
-use Rattle.squawk_output.specs.Edits.{abandoned, completed, extended, is_hole_of, is_opening_of, moved, preceded, preceded_item, stands_before, started, with_error, with_token, without_hole}
+use Rattle.squawk_output.specs.Draft.{Draft, Item, Node, OpenMarker, Open, Close, Token, Error, IsLogged, errors_of, plain}
+use Rattle.squawk_output.specs.Edits.{abandoned, completed, extended, is_open_marker_of, is_opening_of, moved, preceded, preceded_item, stands_before, started, with_error, with_token, without_open_marker}
 use Rattle.squawk_output.specs.declared.log.Made.{Made}
 use Rattle.squawk_output.specs.declared.log.Made.TheVariants.{ByPrecede, ByStart}
 use Rattle.squawk_output.proofs.EditedErrors.{errors-append}
@@ -19,7 +19,7 @@ use Rattle.squawk_parser.proofs.Balance.{depth_after, depth_after-append, depth_
 use Rattle.squawk_parser.proofs.MovedSteps.{IsMoved, IsMoved-around, IsMoved-earlier, IsMoved-same}
 use Rattle.squawk_parser.proofs.OneToken.{AreOneToken-seen, AreOneToken-within}
 use Rattle.squawk_parser.proofs.RecordedItems.{plain-append, eaten-append}
-use Rattle.squawk_parser.proofs.Splits.{spliced-hole, spliced-opening, split-extended}
+use Rattle.squawk_parser.proofs.Splits.{spliced-open_marker, spliced-opening, split-extended}
 
 -- a parser that goes on isn't refused anything
 pub not_refused : (s : State) (reason : ParseError) → HasNotFailed s → s.first_reason ≡ Some reason → ⊥
@@ -63,9 +63,9 @@ module _ (s : State) (sound : IsSound s) (goes : HasNotFailed s) where
 
   pub IsSound-started : s.draft.recorded < s.max_events → IsLogged (started s.draft) → IsSound (record s { draft = started s.draft })
   IsSound-started room logged =
-      let hole : List Item = Hole s.draft.entries ByStart ∷ [] in
+      let open_marker : List Item = OpenMarker s.draft.entries ByStart ∷ [] in
       edited_as (started s.draft) (omega arith) logged
-      (IsMoved-same (plain s.draft.items) (plain (started s.draft).items) (plain-append s.draft.items hole ∙ append-nil (plain s.draft.items)))
+      (IsMoved-same (plain s.draft.items) (plain (started s.draft).items) (plain-append s.draft.items open_marker ∙ append-nil (plain s.draft.items)))
 
   -- n tokens as one, which the parser eats
   pub IsSound-with_token : (kind n : ℕ) → s.draft.recorded < s.max_events → AreOneToken n (ahead s 0) → IsLogged (with_token s.draft kind n)
@@ -94,14 +94,14 @@ module _ (s : State) (sound : IsSound s) (goes : HasNotFailed s) where
 
   -- ---- at a marker
 
-  pub IsSound-completed : (id kind : ℕ) (made : Made) → s.draft.recorded < s.max_events → Contains s.draft.items (Hole id made)
+  pub IsSound-completed : (id kind : ℕ) (made : Made) → s.draft.recorded < s.max_events → Contains s.draft.items (OpenMarker id made)
       → IsLogged (completed s.draft id kind) → IsSound (record s { draft = completed s.draft id kind })
   IsSound-completed id kind made room there logged =
-      let splice = spliced-hole id made (λ item. Open id kind true ∷ []) s.draft.items sound.logged.once there in
+      let splice = spliced-open_marker id made (λ item. Open id kind true ∷ []) s.draft.items sound.logged.once there in
       let front = splice.0.front in
       let back = splice.0.back in
       let opening : Item = Open id kind true in
-      let before : plain s.draft.items ≡ plain front ++ plain back = ap plain splice.0.is ∙ plain-append front (Hole id made ∷ back) in
+      let before : plain s.draft.items ≡ plain front ++ plain back = ap plain splice.0.is ∙ plain-append front (OpenMarker id made ∷ back) in
       let after : plain (completed s.draft id kind).items ≡ plain front ++ Enter kind ∷ (plain back ++ Exit ∷ []) =
       ap (λ items. plain (items ++ Close ∷ [])) splice.1
       ∙ (plain-append (front ++ opening ∷ back) (Close ∷ [])
@@ -115,41 +115,41 @@ module _ (s : State) (sound : IsSound s) (goes : HasNotFailed s) where
   pub IsSound-preceded : (node kind : ℕ) → s.draft.recorded < s.max_events → Contains s.draft.items (Open node kind true)
       → IsLogged (preceded s.draft node) → IsSound (record s { draft = preceded s.draft node })
   IsSound-preceded node kind room there logged =
-      let splice = spliced-opening node kind (λ item. Hole s.draft.entries ByPrecede ∷ preceded_item item ∷ []) s.draft.items sound.logged.once there in
+      let splice = spliced-opening node kind (λ item. OpenMarker s.draft.entries ByPrecede ∷ preceded_item item ∷ []) s.draft.items sound.logged.once there in
       let front = splice.0.front in
       let back = splice.0.back in
       edited_as (preceded s.draft node) (omega arith) logged
       (IsMoved-same (plain s.draft.items) (plain (preceded s.draft node).items)
-      (ap plain splice.1 ∙ (plain-append front (Hole s.draft.entries ByPrecede ∷ Open node kind false ∷ back) ∙ sym (ap plain splice.0.is ∙ plain-append front (Open node kind true ∷ back)))))
+      (ap plain splice.1 ∙ (plain-append front (OpenMarker s.draft.entries ByPrecede ∷ Open node kind false ∷ back) ∙ sym (ap plain splice.0.is ∙ plain-append front (Open node kind true ∷ back)))))
 
-  plain-without_hole : (id : ℕ) (made : Made) → Contains s.draft.items (Hole id made) → IsMoved (plain s.draft.items) (plain (without_hole id s.draft.items))
-  plain-without_hole id made there =
-      let splice = spliced-hole id made (λ item. []) s.draft.items sound.logged.once there in
-      IsMoved-same (plain s.draft.items) (plain (without_hole id s.draft.items))
-      (ap plain splice.1 ∙ (plain-append splice.0.front splice.0.back ∙ sym (ap plain splice.0.is ∙ plain-append splice.0.front (Hole id made ∷ splice.0.back))))
+  plain-without_open_marker : (id : ℕ) (made : Made) → Contains s.draft.items (OpenMarker id made) → IsMoved (plain s.draft.items) (plain (without_open_marker id s.draft.items))
+  plain-without_open_marker id made there =
+      let splice = spliced-open_marker id made (λ item. []) s.draft.items sound.logged.once there in
+      IsMoved-same (plain s.draft.items) (plain (without_open_marker id s.draft.items))
+      (ap plain splice.1 ∙ (plain-append splice.0.front splice.0.back ∙ sym (ap plain splice.0.is ∙ plain-append splice.0.front (OpenMarker id made ∷ splice.0.back))))
 
-  pub IsSound-abandoned : (id : ℕ) (made : Made) → Contains s.draft.items (Hole id made) → IsLogged (abandoned s.draft id)
+  pub IsSound-abandoned : (id : ℕ) (made : Made) → Contains s.draft.items (OpenMarker id made) → IsLogged (abandoned s.draft id)
       → IsSound (record s { draft = abandoned s.draft id })
-  IsSound-abandoned id made there logged = edited_as (abandoned s.draft id) sound.recorded logged (plain-without_hole id made there)
+  IsSound-abandoned id made there logged = edited_as (abandoned s.draft id) sound.recorded logged (plain-without_open_marker id made there)
 
-  pub IsSound-extended : (node : Node) (id : ℕ) (made : Made) → Contains s.draft.items (Hole id made) → Contains s.draft.items (Open node.id node.kind true)
+  pub IsSound-extended : (node : Node) (id : ℕ) (made : Made) → Contains s.draft.items (OpenMarker id made) → Contains s.draft.items (Open node.id node.kind true)
       → IsLogged (extended s.draft node id) → IsSound (record s { draft = extended s.draft node id })
-  IsSound-extended node id made hole there logged =
-      edited_as (extended s.draft node id) sound.recorded logged (cases (stands_before (is_hole_of id) (is_opening_of node.id) s.draft.items) refl)
+  IsSound-extended node id made open_marker there logged =
+      edited_as (extended s.draft node id) sound.recorded logged (cases (stands_before (is_open_marker_of id) (is_opening_of node.id) s.draft.items) refl)
     where
-      cases : (b : _) → stands_before (is_hole_of id) (is_opening_of node.id) s.draft.items ≡ b
-          → IsMoved (plain s.draft.items) (plain (cond b (moved node id s.draft.items) (without_hole id s.draft.items)))
+      cases : (b : _) → stands_before (is_open_marker_of id) (is_opening_of node.id) s.draft.items ≡ b
+          → IsMoved (plain s.draft.items) (plain (cond b (moved node id s.draft.items) (without_open_marker id s.draft.items)))
       cases true before =
           let at = split-extended node id s.draft.items sound.logged.once there before in
           let opening : Item = Open node.id node.kind true in
           let old : plain s.draft.items ≡ plain at.front ++ (plain at.between ++ Enter node.kind ∷ plain at.back) =
           ap plain at.is
-          ∙ (plain-append at.front (Hole id at.made ∷ (at.between ++ opening ∷ at.back)) ∙ ap (λ xs. plain at.front ++ xs) (plain-append at.between (opening ∷ at.back))) in
+          ∙ (plain-append at.front (OpenMarker id at.made ∷ (at.between ++ opening ∷ at.back)) ∙ ap (λ xs. plain at.front ++ xs) (plain-append at.between (opening ∷ at.back))) in
           let new : plain (moved node id s.draft.items) ≡ plain at.front ++ Enter node.kind ∷ (plain at.between ++ plain at.back) =
           ap plain at.edit
           ∙ (plain-append at.front (opening ∷ (at.between ++ at.back)) ∙ ap (λ xs. plain at.front ++ Enter node.kind ∷ xs) (plain-append at.between at.back)) in
           rw (old, new) (IsMoved-earlier node.kind (plain at.front) (plain at.between) (plain at.back))
-      cases false before = plain-without_hole id made hole
+      cases false before = plain-without_open_marker id made open_marker
 
 -- ---- a parser that has failed
 

@@ -7,8 +7,8 @@ use Rattle.std.proofs.lemmas.List.Sums.{sum_by-append}
 use Rattle.std.proofs.lemmas.List.Elements.{All-cons, All-head, All-nil, All-tail, Contains-append_left, Contains-append_right}
 use Rattle.std.proofs.lemmas.Grind.{flat_map-append}
 use Rattle.squawk_output.specs.declared.log.Made.{Made}
-use Rattle.squawk_output.specs.Draft.{Item, Hole, Open, Close, Token, Error, Node, ids, ids_of, HasNoIdTwice}
-use Rattle.squawk_output.specs.Edits.{is_hole_of, is_opening_of, moved, replaced, stands_before}
+use Rattle.squawk_output.specs.Draft.{Item, OpenMarker, Open, Close, Token, Error, Node, ids, ids_of, HasNoIdTwice}
+use Rattle.squawk_output.specs.Edits.{is_open_marker_of, is_opening_of, moved, replaced, stands_before}
 use Rattle.squawk_output.proofs.Groups.{itself}
 use Rattle.squawk_output.proofs.Sums.{count_by-cons}
 
@@ -116,13 +116,13 @@ module _ (p q : Item → Bool) where
 
 -- ---- ids
 
--- what passes the test of a hole is one
-pub a_hole : (id : ℕ) (item : Item) → is_hole_of id item ≡ true → (made : Made) × (item ≡ Hole id made)
-a_hole id (Hole i made) passes = (made, ap (λ n. Hole n made) (eqb-true i id passes))
-a_hole id (Open i kind free) passes = absurd (cc)
-a_hole id Close passes = absurd (cc)
-a_hole id (Token kind n) passes = absurd (cc)
-a_hole id (Error text) passes = absurd (cc)
+-- what passes the test of an open marker is one
+pub a_open_marker : (id : ℕ) (item : Item) → is_open_marker_of id item ≡ true → (made : Made) × (item ≡ OpenMarker id made)
+a_open_marker id (OpenMarker i made) passes = (made, ap (λ n. OpenMarker n made) (eqb-true i id passes))
+a_open_marker id (Open i kind free) passes = absurd (cc)
+a_open_marker id Close passes = absurd (cc)
+a_open_marker id (Token kind n) passes = absurd (cc)
+a_open_marker id (Error text) passes = absurd (cc)
 
 -- items that pass a test by their ids are no more than the id occurs
 pub count-le_ids : (p : Item → Bool) (id : ℕ) → ((item : Item) → cond (p item) 1 0 ≤ count_by (λ i. i == id) (ids_of item)) → (items : List Item)
@@ -131,80 +131,80 @@ count-le_ids p id each [] = omega arith
 count-le_ids p id each (item ∷ items) =
     omega (arith, each item, count-le_ids p id each items, count_by-cons p item items, count_by-append (λ i. i == id) (ids_of item) (ids items))
 
-pub hole_each : (id : ℕ) (item : Item) → cond (is_hole_of id item) 1 0 ≤ count_by (λ i. i == id) (ids_of item)
-hole_each id (Hole i made) = omega (arith, count_by-cons (λ i. i == id) i [])
-hole_each id (Open i kind free) = omega arith
-hole_each id Close = omega arith
-hole_each id (Token kind n) = omega arith
-hole_each id (Error text) = omega arith
+pub open_marker_each : (id : ℕ) (item : Item) → cond (is_open_marker_of id item) 1 0 ≤ count_by (λ i. i == id) (ids_of item)
+open_marker_each id (OpenMarker i made) = omega (arith, count_by-cons (λ i. i == id) i [])
+open_marker_each id (Open i kind free) = omega arith
+open_marker_each id Close = omega arith
+open_marker_each id (Token kind n) = omega arith
+open_marker_each id (Error text) = omega arith
 
 opening_each : (id : ℕ) (item : Item) → cond (is_opening_of id item) 1 0 ≤ count_by (λ i. i == id) (ids_of item)
-opening_each id (Hole i made) = omega arith
+opening_each id (OpenMarker i made) = omega arith
 opening_each id (Open i kind free) = omega (arith, count_by-cons (λ i. i == id) i [])
 opening_each id Close = omega arith
 opening_each id (Token kind n) = omega arith
 opening_each id (Error text) = omega arith
 
--- an id that occurs once has one hole at most, and one opening
-pub holes-once : (id : ℕ) (items : List Item) → HasNoIdTwice items → count_by (is_hole_of id) items ≤ 1
-holes-once id items once = omega (arith, once id, count-le_ids (is_hole_of id) id (hole_each id) items)
+-- an id that occurs once has one open marker at most, and one opening
+pub open_markers-once : (id : ℕ) (items : List Item) → HasNoIdTwice items → count_by (is_open_marker_of id) items ≤ 1
+open_markers-once id items once = omega (arith, once id, count-le_ids (is_open_marker_of id) id (open_marker_each id) items)
 
 pub openings-once : (id : ℕ) (items : List Item) → HasNoIdTwice items → count_by (is_opening_of id) items ≤ 1
 openings-once id items once = omega (arith, once id, count-le_ids (is_opening_of id) id (opening_each id) items)
 
--- the hole of a marker gives way to other items
-pub spliced-hole : (id : ℕ) (made : Made) (f : Item → List Item) (items : List Item) → HasNoIdTwice items → Contains items (Hole id made)
-    → (at : Split (Hole id made) items) × (replaced (is_hole_of id) f items ≡ at.front ++ (f (Hole id made) ++ at.back))
-spliced-hole id made f items once there = spliced (is_hole_of id) f (Hole id made) items (itself id) (holes-once id items once) there
+-- the item of a marker gives way to other items
+pub spliced-open_marker : (id : ℕ) (made : Made) (f : Item → List Item) (items : List Item) → HasNoIdTwice items → Contains items (OpenMarker id made)
+    → (at : Split (OpenMarker id made) items) × (replaced (is_open_marker_of id) f items ≡ at.front ++ (f (OpenMarker id made) ++ at.back))
+spliced-open_marker id made f items once there = spliced (is_open_marker_of id) f (OpenMarker id made) items (itself id) (open_markers-once id items once) there
 
 -- and so does the opening of a node
 pub spliced-opening : (id kind : ℕ) (f : Item → List Item) (items : List Item) → HasNoIdTwice items → Contains items (Open id kind true)
     → (at : Split (Open id kind true) items) × (replaced (is_opening_of id) f items ≡ at.front ++ (f (Open id kind true) ++ at.back))
 spliced-opening id kind f items once there = spliced (is_opening_of id) f (Open id kind true) items (itself id) (openings-once id items once) there
 
--- a node's opening behind a marker's hole, and the items when it moves there
+-- a node's opening behind a marker's item, and the items when it moves there
 pub record ExtendedAt (node : Node) (id : ℕ) (items : List Item) : Type 0 where
   pub made : Made
   pub front : List Item
   pub between : List Item
   pub back : List Item
-  pub is : items ≡ front ++ Hole id made ∷ (between ++ Open node.id node.kind true ∷ back)
+  pub is : items ≡ front ++ OpenMarker id made ∷ (between ++ Open node.id node.kind true ∷ back)
   pub edit : moved node id items ≡ front ++ Open node.id node.kind true ∷ (between ++ back)
 
 pub split-extended : (node : Node) (id : ℕ) (items : List Item) → HasNoIdTwice items → Contains items (Open node.id node.kind true)
-    → stands_before (is_hole_of id) (is_opening_of node.id) items ≡ true → ExtendedAt node id items
+    → stands_before (is_open_marker_of id) (is_opening_of node.id) items ≡ true → ExtendedAt node id items
 split-extended node id items once there before =
-    let p = is_hole_of id in
+    let p = is_open_marker_of id in
     let q = is_opening_of node.id in
     let opening = Open node.id node.kind true in
     let r = first p q items before in
-    let hole = a_hole id r.item r.passes in
-    let begins : items ≡ r.front ++ Hole id hole.0 ∷ r.back = r.is ∙ ap (λ item. r.front ++ item ∷ r.back) hole.1 in
-    let behind : Contains (Hole id hole.0 ∷ r.back) opening =
-    Contains-passed q opening r.front (Hole id hole.0 ∷ r.back) (itself node.id) r.none (subst (λ is. Contains is opening) begins there) in
-    let inside : Contains r.back opening = Contains-passed q opening (Hole id hole.0 ∷ []) r.back (itself node.id) refl behind in
-    let openings : count_by q items ≡ count_by q r.front + (count_by q (Hole id hole.0 ∷ r.back)) = ap (count_by q) begins ∙ count_by-append q r.front (Hole id hole.0 ∷ r.back) in
-    let holes : count_by p items ≡ count_by p r.front + count_by p (Hole id hole.0 ∷ r.back) = ap (count_by p) begins ∙ count_by-append p r.front (Hole id hole.0 ∷ r.back) in
-    let tail = count_by-passes p (Hole id hole.0) r.back (itself id) in
-    let one_hole = holes-once id items once in
+    let open_marker = a_open_marker id r.item r.passes in
+    let begins : items ≡ r.front ++ OpenMarker id open_marker.0 ∷ r.back = r.is ∙ ap (λ item. r.front ++ item ∷ r.back) open_marker.1 in
+    let behind : Contains (OpenMarker id open_marker.0 ∷ r.back) opening =
+    Contains-passed q opening r.front (OpenMarker id open_marker.0 ∷ r.back) (itself node.id) r.none (subst (λ is. Contains is opening) begins there) in
+    let inside : Contains r.back opening = Contains-passed q opening (OpenMarker id open_marker.0 ∷ []) r.back (itself node.id) refl behind in
+    let openings : count_by q items ≡ count_by q r.front + (count_by q (OpenMarker id open_marker.0 ∷ r.back)) = ap (count_by q) begins ∙ count_by-append q r.front (OpenMarker id open_marker.0 ∷ r.back) in
+    let open_markers : count_by p items ≡ count_by p r.front + count_by p (OpenMarker id open_marker.0 ∷ r.back) = ap (count_by p) begins ∙ count_by-append p r.front (OpenMarker id open_marker.0 ∷ r.back) in
+    let tail = count_by-passes p (OpenMarker id open_marker.0) r.back (itself id) in
+    let one_open_marker = open_markers-once id items once in
     let splice = spliced q (λ item. []) opening r.back (itself node.id)
-    (omega (arith, openings, openings-once node.id items once, count_by-fails q (Hole id hole.0) r.back refl)) inside in
+    (omega (arith, openings, openings-once node.id items once, count_by-fails q (OpenMarker id open_marker.0) r.back refl)) inside in
     let at = splice.0 in
-    let taken : replaced q (λ item. []) items ≡ r.front ++ Hole id hole.0 ∷ (at.front ++ at.back) =
+    let taken : replaced q (λ item. []) items ≡ r.front ++ OpenMarker id open_marker.0 ∷ (at.front ++ at.back) =
     ap (replaced q (λ item. [])) begins
-    ∙ (replaced-append q (λ item. []) r.front (Hole id hole.0 ∷ r.back)
-    ∙ (ap (λ zs. zs ++ Hole id hole.0 ∷ replaced q (λ item. []) r.back) (replaced-none q (λ item. []) r.front r.none)
-    ∙ ap (λ zs. r.front ++ Hole id hole.0 ∷ zs) splice.1)) in
-    let back_holes = ap (count_by p) at.is ∙ count_by-append p at.front (opening ∷ at.back) in
-    let none_front : count_by p r.front ≡ 0 = omega (arith, holes, tail, one_hole) in
+    ∙ (replaced-append q (λ item. []) r.front (OpenMarker id open_marker.0 ∷ r.back)
+    ∙ (ap (λ zs. zs ++ OpenMarker id open_marker.0 ∷ replaced q (λ item. []) r.back) (replaced-none q (λ item. []) r.front r.none)
+    ∙ ap (λ zs. r.front ++ OpenMarker id open_marker.0 ∷ zs) splice.1)) in
+    let back_open_markers = ap (count_by p) at.is ∙ count_by-append p at.front (opening ∷ at.back) in
+    let none_front : count_by p r.front ≡ 0 = omega (arith, open_markers, tail, one_open_marker) in
     let none_back : count_by p (at.front ++ at.back) ≡ 0 =
-    omega (arith, holes, tail, one_hole, back_holes, count_by-fails p opening at.back refl, count_by-append p at.front at.back) in
+    omega (arith, open_markers, tail, one_open_marker, back_open_markers, count_by-fails p opening at.back refl, count_by-append p at.front at.back) in
     record {
-      made = hole.0;
+      made = open_marker.0;
       front = r.front;
       between = at.front;
       back = at.back;
-      is = begins ∙ ap (λ zs. r.front ++ Hole id hole.0 ∷ zs) at.is;
+      is = begins ∙ ap (λ zs. r.front ++ OpenMarker id open_marker.0 ∷ zs) at.is;
       edit = ap (replaced p (λ item. opening ∷ [])) taken
-          ∙ replaced-at p (λ item. opening ∷ []) r.front (at.front ++ at.back) (Hole id hole.0) (itself id) none_front none_back;
+          ∙ replaced-at p (λ item. opening ∷ []) r.front (at.front ++ at.back) (OpenMarker id open_marker.0) (itself id) none_front none_back;
     }

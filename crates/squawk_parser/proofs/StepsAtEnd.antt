@@ -5,7 +5,7 @@ use Rattle.std.proofs.lemmas.List.Elements.{All-nil, All-cons}
 use Rattle.std.proofs.lemmas.List.Sums.{sum_by-append, sum_by-cons}
 use Rattle.squawk_output.specs.Steps as steps
 use Rattle.squawk_output.specs.Steps.{Step, Enter, Exit, errors_in}
-use Rattle.squawk_output.specs.Draft.{Draft, Item, Hole, Open, Close, HasNoHole, IsAboveIds, errors_of, is_hole, plain}
+use Rattle.squawk_output.specs.Draft.{Draft, Item, OpenMarker, Open, Close, HasNoOpenMarker, IsAboveIds, errors_of, is_open_marker, plain}
 use Rattle.squawk_output.specs.declared.log.Made.TheVariants.{ByStart}
 use Rattle.squawk_output.specs.Edits.{completed, filled, started}
 use Rattle.squawk_output.proofs.EditedErrors.{errors-append}
@@ -38,16 +38,16 @@ plain-items_for id (Enter kind ∷ xs) = ap (λ ys. Enter kind ∷ ys) (plain-it
 plain-items_for id (Exit ∷ xs) = ap (λ ys. Exit ∷ ys) (plain-items_for (id + 1) xs)
 plain-items_for id (steps.Error text ∷ xs) = ap (λ ys. steps.Error text ∷ ys) (plain-items_for (id + 1) xs)
 
-no_hole_for : (id : ℕ) (step : Step) → is_hole (item_for id step) ≡ false
-no_hole_for id (steps.Token kind n) = refl
-no_hole_for id (Enter kind) = refl
-no_hole_for id Exit = refl
-no_hole_for id (steps.Error text) = refl
+no_open_marker_for : (id : ℕ) (step : Step) → is_open_marker (item_for id step) ≡ false
+no_open_marker_for id (steps.Token kind n) = refl
+no_open_marker_for id (Enter kind) = refl
+no_open_marker_for id Exit = refl
+no_open_marker_for id (steps.Error text) = refl
 
-pub closed-items_for : (id : ℕ) (xs : List Step) → HasNoHole (items_for id xs)
-closed-items_for id [] = All-nil (λ item. is_hole item ≡ false)
+pub closed-items_for : (id : ℕ) (xs : List Step) → HasNoOpenMarker (items_for id xs)
+closed-items_for id [] = All-nil (λ item. is_open_marker item ≡ false)
 closed-items_for id (x ∷ xs) =
-    All-cons (λ item. is_hole item ≡ false) (item_for id x) (items_for (id + 1) xs) (no_hole_for id x) (closed-items_for (id + 1) xs)
+    All-cons (λ item. is_open_marker item ≡ false) (item_for id x) (items_for (id + 1) xs) (no_open_marker_for id x) (closed-items_for (id + 1) xs)
 
 -- ---- the draft
 
@@ -67,16 +67,16 @@ errors-with_steps d xs =
     errors-append d.items (items_for d.entries xs)
     ∙ ap (λ n. errors_of d.items + n) (errors-plain (items_for d.entries xs) ∙ ap errors_in (plain-items_for d.entries xs))
 
--- A node is begun, steps are put behind its hole, and it is completed: that puts the steps of the node.
+-- A node is begun, steps are put behind its open marker, and it is completed: that puts the steps of the node.
 pub with_steps-node : (d : Draft) (kind : ℕ) (xs : List Step) → IsAboveIds d.entries d.items
     → completed (with_steps (started d) xs) d.entries kind ≡ with_steps d (node kind xs)
 with_steps-node d kind xs above =
     let made = items_for (d.entries + 1) xs in
     let new = completed (with_steps (started d) xs) d.entries kind in
-    let hole : Item = Hole d.entries ByStart in
+    let open_marker : Item = OpenMarker d.entries ByStart in
     let opening : Item = Open d.entries kind true in
     draft_is new.items new.recorded new.entries new.turns_due (with_steps d (node kind xs))
-    (ap (λ items. filled items d.entries kind ++ Close ∷ []) (append_assoc d.items (hole ∷ []) made)
+    (ap (λ items. filled items d.entries kind ++ Close ∷ []) (append_assoc d.items (open_marker ∷ []) made)
     ∙ (ap (λ items. items ++ Close ∷ []) (filled-at d.entries kind ByStart d.items made above (closed-items_for (d.entries + 1) xs))
     ∙ (append_assoc d.items (opening ∷ made) (Close ∷ [])
     ∙ ap (λ items. d.items ++ opening ∷ items) (sym (items_for-append (d.entries + 1) xs (Exit ∷ []))))))

@@ -3,7 +3,7 @@ use Rattle.std.proofs.Common.{◌≡◌, ◌≢◌, ◌∙◌, ℕ, zero, suc, �
 use Rattle.std.proofs.lemmas.List.{take-append-le}
 use Rattle.std.proofs.lemmas.List.Elements.{All-head, All-tail, filter-append}
 use Rattle.squawk_kinds.specs.Kinds.{EOF}
-use Rattle.squawk_output.specs.Draft.{Mark, Hole, plain}
+use Rattle.squawk_output.specs.Draft.{Mark, OpenMarker, plain}
 use Rattle.squawk_output.specs.declared.log.Made.TheVariants.{ByStart}
 use Rattle.squawk_output.specs.OneRoot.{IsBalanced, StandsInOneRoot}
 use Rattle.squawk_output.specs.Steps.{Step, Token, Enter, Exit, Error, is_enter, is_exit, is_error, openings, closings, without_errors}
@@ -76,7 +76,7 @@ whole_file {a} {b} {c} {d} {m} {kind} {steps} fresh begins adds done end goes =
     let sound = adds.keeps.sound in
     let before = went done.keeps goes in
     let added = adds.draft before in
-    let inside : plain c.draft.items ≡ steps = ap plain (begun_items begins adds before ∙ ap (λ s. s.draft.items ++ Hole m.id ByStart ∷ added.made) fresh) ∙ added.steps_made in
+    let inside : plain c.draft.items ≡ steps = ap plain (begun_items begins adds before ∙ ap (λ s. s.draft.items ++ OpenMarker m.id ByStart ∷ added.made) fresh) ∙ added.steps_made in
     let is : plain d.draft.items ≡ node kind steps = plain-fresh fresh (Adds-node (node_around begins adds done refl)) goes in
     let input : c.input ≡ a.input = adds.keeps.input ∙ begins.keeps.input in
     let limit : c.limit ≡ length c.input = adds.keeps.limit ∙ (begins.keeps.limit ∙ (ap (λ s. s.limit) fresh ∙ ap length (sym input))) in

@@ -8,7 +8,7 @@ use Rattle.squawk_kinds.specs.TokenSets.{has}
 use Rattle.squawk_table.specs.ParserInput.{Entry, kind_in}
 use Rattle.squawk_output.specs.Steps.{Step, Token, Enter, Exit, Error}
 use Rattle.squawk_parser.specs.Composites.{Element, One, AtMostOne, Tail, NoTail, Open, ClosedBy, Form, Glued, Joint, Sequence, Operator, Composite, composites, stands_at}
-use Rattle.squawk_output.specs.Draft.{holes_of}
+use Rattle.squawk_output.specs.Draft.{open_markers_of}
 use Rattle.squawk_parser.specs.Operators.{operator_length}
 use Rattle.squawk_parser.specs.State.{State, HasNotFailed, Keeps, ahead}
 use Rattle.squawk_parser.specs.Recorded.{Begins, Completes, Puts, started_mark}
@@ -123,7 +123,7 @@ PutsAhead steps old new = Puts (steps old) old new
 pub record RunsTail (does : State → State → Type 0) (old new : State) : Type 0 where
   pub keeps : Keeps old new
   pub runs : does old new
-  pub holes : HasNotFailed new → holes_of new.draft.items ≡ holes_of old.draft.items
+  pub open_markers : HasNotFailed new → open_markers_of new.draft.items ≡ open_markers_of old.draft.items
 
 -- A node is started, the tokens of the kind's sequence are eaten, the tail runs once, the token that closes it is expected,
 -- and the node is completed.

@@ -1,7 +1,7 @@
 -- The result of a parse.
 use Rattle.std.specs.Prelude.{◌≡◌, ◌≤◌, ◌*◌, Some, None, List, length, ◌⊎◌}
 use Rattle.squawk_table.specs.ParserInput.{Entry, HasNoEndToken}
-use Rattle.squawk_output.specs.Draft.{Draft, HasNoHole, plain}
+use Rattle.squawk_output.specs.Draft.{Draft, HasNoOpenMarker, plain}
 use Rattle.squawk_output.specs.Steps.{Walk}
 use Rattle.squawk_table.specs.Shape.{IsOver}
 use Rattle.squawk_output.specs.OneRoot.{IsBalanced}
@@ -9,11 +9,11 @@ use Rattle.squawk_parser.specs.State.{State, IsSound, Keeps}
 use Rattle.squawk_parser.specs.declared.parser.parse_error.ParseError.{ParseError}
 use Rattle.squawk_parser.specs.declared.parser.parse_error.ParseError.TheVariants.{OutOfMemory}
 
--- The output is that of a draft without holes that the grammar may leave. It is balanced, and over the input, which has no end token.
+-- The output is that of a draft without open markers that the grammar may leave. It is balanced, and over the input, which has no end token.
 pub record IsParse (leaves : Draft → Type 0) (input : List Entry) (output : Walk) : Type 0 where
   pub draft : Draft
   pub left : leaves draft
-  pub closed : HasNoHole draft.items
+  pub closed : HasNoOpenMarker draft.items
   pub steps : output.steps ≡ plain draft.items
   pub recorded : output.recorded ≡ draft.recorded
   pub turns : output.turns ≡ draft.turns_due

@@ -44,7 +44,7 @@ input_for g = input_of g.contextual (table_for g)
 -- ---- the parse
 
 -- The raw tokens are accepted, and the grammar's run over their input doesn't fail. The output is the plain list of a draft without
--- holes that the grammar leaves.
+-- open markers that the grammar leaves.
 pub record IsParsed (g : Given) (leaves : List Entry → Draft → Type 0) (output : Walk) : Type 0 where
   pub accepted : AreAcceptedTokens g.text g.tokens
   pub parse : IsParse (leaves (input_for g)) (input_for g) output

@@ -1,21 +1,21 @@
 -- What holds of parts of a grammar whose steps aren't named.
 use Rattle.std.specs.Prelude.{◌≡◌, true, List, [], ◌∷◌, ◌++◌}
 use Rattle.squawk_kinds.specs.Kinds.{EOF}
-use Rattle.squawk_output.specs.Draft.{Draft, HasNoHole, Hole, Item, Mark, Node, Open, holes_of}
+use Rattle.squawk_output.specs.Draft.{Draft, HasNoOpenMarker, OpenMarker, Item, Mark, Node, Open, open_markers_of}
 use Rattle.squawk_parser.specs.Recorded.{Begins}
 use Rattle.squawk_parser.specs.State.{State, HasNode, HasNotFailed, IsFresh, Keeps, kind_at}
 use Rattle.squawk_parser.specs.Whole.{IsWholeFile}
 
--- the holes of open markers, of which the innermost is named first
-abbrev pub holes_for : List Mark → List Item
-holes_for [] = []
-holes_for (m ∷ opened) = holes_for opened ++ Hole m.id m.made ∷ []
+-- the items of open markers, of which the innermost is named first
+abbrev pub open_markers_for : List Mark → List Item
+open_markers_for [] = []
+open_markers_for (m ∷ opened) = open_markers_for opened ++ OpenMarker m.id m.made ∷ []
 
--- Items stand at the end: first the hole of a marker, if one is named, and then items with the holes of these markers.
+-- Items stand at the end: first the item of a marker, if one is named, and then items with the open markers of these markers.
 pub record IsLonger (first opened : List Mark) (old new : Draft) : Type 0 where
   pub made : List Item
-  pub items : new.items ≡ old.items ++ (holes_for first ++ made)
-  pub holes : holes_of made ≡ holes_for opened
+  pub items : new.items ≡ old.items ++ (open_markers_for first ++ made)
+  pub open_markers : open_markers_of made ≡ open_markers_for opened
 
 -- Since a state some steps were added, and these markers were made that are open still.
 pub record HasAdded (first opened : List Mark) (begun now : State) : Type 0 where
@@ -26,9 +26,9 @@ pub record HasAdded (first opened : List Mark) (begun now : State) : Type 0 wher
 pub record EndsInNode (node : Node) (first opened : List Mark) (old new : Draft) : Type 0 where
   pub front : List Item
   pub inner : List Item
-  pub items : new.items ≡ old.items ++ (holes_for first ++ (front ++ Open node.id node.kind true ∷ inner))
-  pub holes : holes_of front ≡ holes_for opened
-  pub closed : HasNoHole inner
+  pub items : new.items ≡ old.items ++ (open_markers_for first ++ (front ++ Open node.id node.kind true ∷ inner))
+  pub open_markers : open_markers_of front ≡ open_markers_for opened
+  pub closed : HasNoOpenMarker inner
 
 pub record HasAddedNode (node : Node) (first opened : List Mark) (begun now : State) : Type 0 where
   pub keeps : Keeps begun now
@@ -38,7 +38,7 @@ pub record HasAddedNode (node : Node) (first opened : List Mark) (begun now : St
 pub record IsNodeLonger (node : Node) (old new : Draft) : Type 0 where
   pub inner : List Item
   pub items : new.items ≡ old.items ++ Open node.id node.kind true ∷ inner
-  pub closed : HasNoHole inner
+  pub closed : HasNoOpenMarker inner
 
 pub record HasAddedOnly (node : Node) (begun now : State) : Type 0 where
   pub keeps : Keeps begun now
@@ -76,6 +76,6 @@ pub record ClosesNode (m : Mark) (node : Node) (old new : State) : Type 0 where
 
 -- The marker that was made first becomes a node, which is a whole file if the parser sees the end.
 pub record EndsFile (m : Mark) (old new : State) : Type 0 where
-  pub closed : (begun inside : State) → Begins m begun inside → IsFresh begun → AddsSome inside old → HasNotFailed new → HasNoHole new.draft.items
+  pub closed : (begun inside : State) → Begins m begun inside → IsFresh begun → AddsSome inside old → HasNotFailed new → HasNoOpenMarker new.draft.items
   pub whole : (begun inside : State) → Begins m begun inside → IsFresh begun → AddsSome inside old → kind_at old 0 ≡ EOF → HasNotFailed new
       → IsWholeFile begun.input new.draft

@@ -4,7 +4,7 @@ use Rattle.squawk_kinds.specs.Kinds.{EOF}
 use Rattle.squawk_table.specs.ParserInput.{Entry, HasNoEndToken, kind_in, contextual_kind_in}
 use Rattle.squawk_parser.specs.LookAhead.{seen_from}
 use Rattle.squawk_parser.specs.Words.{Words, HasNoEnd}
-use Rattle.squawk_output.specs.Draft.{Draft, nothing, Hole, IsLogged, Open, Mark, Node, errors_of, plain}
+use Rattle.squawk_output.specs.Draft.{Draft, nothing, OpenMarker, IsLogged, Open, Mark, Node, errors_of, plain}
 use Rattle.squawk_output.specs.Steps.{eaten}
 use Rattle.squawk_table.specs.Shape.{IsOver}
 use Rattle.squawk_output.specs.OneRoot.{IsBalanced}
@@ -74,7 +74,7 @@ pub record IsSound (s : State) : Type 0 where
   pub refused : s.first_reason ≡ Some TooManyEvents → s.draft.recorded ≡ s.max_events
   -- one that was refused an error has recorded as many errors as it may, and fewer events
   pub refused_error : s.first_reason ≡ Some TooManyErrors → (errors_of s.draft.items ≡ s.max_errors) × (s.draft.recorded < s.max_events)
-  -- holes aside
+  -- open markers aside
   pub balanced : IsBalanced (plain s.draft.items)
   pub over : IsOver (plain s.draft.items) s.input
   pub behind : eaten (plain s.draft.items) ≤ s.position
@@ -111,9 +111,9 @@ pub record Records (old new : State) (edited : Draft) : Type 0 where
   pub refused : HasNotFailed old → (reason : ParseError) → new.first_reason ≡ Some reason
       → IsReason old.max_events old.max_errors old.draft.recorded (errors_of old.draft.items) false reason
 
--- the marker's hole is in the draft, or the parser has failed
-abbrev pub HasHole : State → Mark → Type 0
-HasHole s m = HasNotFailed s → Contains s.draft.items (Hole m.id m.made)
+-- the marker's item is in the draft, or the parser has failed
+abbrev pub HasOpenMarker : State → Mark → Type 0
+HasOpenMarker s m = HasNotFailed s → Contains s.draft.items (OpenMarker m.id m.made)
 
 -- the opening of a completed marker is in the draft and hasn't been preceded, or the parser has failed
 abbrev pub HasNode : State → Node → Type 0

@@ -8,7 +8,7 @@ use Rattle.squawk_output.specs.Draft as draft
 use Rattle.squawk_output.specs.Draft.{Draft, errors_of}
 use Rattle.squawk_output.specs.declared.log.Made.TheVariants.{ByPrecede, ByStart}
 use Rattle.squawk_parser.specs.Words.{Words}
-use Rattle.squawk_output.proofs.EditedErrors.{errors-append, errors-extended, errors-filled, errors-preceded, errors-without_hole}
+use Rattle.squawk_output.proofs.EditedErrors.{errors-append, errors-extended, errors-filled, errors-preceded, errors-without_open_marker}
 use Rattle.squawk_output.proofs.Sums.{count_by-cons}
 use Rattle.squawk_output.specs.Edits.{filled}
 use Rattle.squawk_parser.specs.Recorded.{with_steps}
@@ -56,11 +56,11 @@ module _ (words : Words) (input : List Entry) (run : Run) where
   IsCounted call = HasMore run.draft (stepped words input run call).draft (events_made words (seen input run) call)
 
   more-call : (call : Call) → IsCounted call
-  more-call Start = record { recorded = refl; errors = errors-append run.draft.items (draft.Hole run.draft.entries ByStart ∷ []) }
+  more-call Start = record { recorded = refl; errors = errors-append run.draft.items (draft.OpenMarker run.draft.entries ByStart ∷ []) }
   more-call (Complete m kind) =
       let id = (marker_at run m).id in
       record { recorded = refl; errors = errors-append (filled run.draft.items id kind) (draft.Close ∷ []) ∙ ap (λ n. n + 0) (errors-filled id kind run.draft.items) }
-  more-call (Abandon m) = record { recorded = omega arith; errors = omega (arith, errors-without_hole (marker_at run m).id run.draft.items) }
+  more-call (Abandon m) = record { recorded = omega arith; errors = omega (arith, errors-without_open_marker (marker_at run m).id run.draft.items) }
   more-call (Precede n) = record { recorded = refl; errors = omega (arith, errors-preceded (marker_at run n).id run.draft.entries ByPrecede run.draft.items) }
   more-call (ExtendTo n m) = record { recorded = omega arith; errors = omega (arith, errors-extended (marker_at run n) (marker_at run m).id run.draft.items) }
   more-call call = more-steps run.draft (call_steps words (seen input run) call)

@@ -4,7 +4,7 @@ use Rattle.std.proofs.lemmas.Bool.{cases_order, eq-eqb, ne_eqb}
 use Rattle.std.proofs.lemmas.List.Elements.{Contains-append_left, Contains-push}
 use Rattle.squawk_output.specs.Draft as draft
 use Rattle.squawk_output.specs.Draft.{Item, Mark, Node, IsAboveIds}
-use Rattle.squawk_output.specs.Edits.{is_hole_of, is_opening_of, replaced}
+use Rattle.squawk_output.specs.Edits.{is_open_marker_of, is_opening_of, replaced}
 use Rattle.squawk_parser.proofs.Markers.{Contains-others}
 use Rattle.squawk_script.specs.Slots.{IsHeld, AreInOrder, slot_at}
 use Rattle.squawk_script.specs.declared.slot.Slot.{Slot}
@@ -42,27 +42,27 @@ same-mark m o id made =
 -- ---- what edited items have
 
 pub held-append : (items made : List Item) (slot : Slot) → IsHeld items slot → IsHeld (items ++ made) slot
-held-append items made (Open m) there = Contains-append_left items made (draft.Hole m.id m.made) there
+held-append items made (Open m) there = Contains-append_left items made (draft.OpenMarker m.id m.made) there
 held-append items made (Done n) there = Contains-append_left items made (draft.Open n.id n.kind true) there
 held-append items made Spent there = tt
 
--- what has another id than the edited hole
-pub held-holes : (id : ℕ) (f : Item → List Item) (items : List Item) (slot : Slot) → (HasId id slot → ⊥) → IsHeld items slot
-    → IsHeld (replaced (is_hole_of id) f items) slot
-held-holes id f items (Open m) other there = Contains-others (is_hole_of id) f (draft.Hole m.id m.made) items (ne_eqb m.id id other) there
-held-holes id f items (Done n) other there = Contains-others (is_hole_of id) f (draft.Open n.id n.kind true) items refl there
-held-holes id f items Spent other there = tt
+-- what has another id than the edited open marker
+pub held-open_markers : (id : ℕ) (f : Item → List Item) (items : List Item) (slot : Slot) → (HasId id slot → ⊥) → IsHeld items slot
+    → IsHeld (replaced (is_open_marker_of id) f items) slot
+held-open_markers id f items (Open m) other there = Contains-others (is_open_marker_of id) f (draft.OpenMarker m.id m.made) items (ne_eqb m.id id other) there
+held-open_markers id f items (Done n) other there = Contains-others (is_open_marker_of id) f (draft.Open n.id n.kind true) items refl there
+held-open_markers id f items Spent other there = tt
 
 -- or than the edited opening
 pub held-openings : (id : ℕ) (f : Item → List Item) (items : List Item) (slot : Slot) → (HasId id slot → ⊥) → IsHeld items slot
     → IsHeld (replaced (is_opening_of id) f items) slot
-held-openings id f items (Open m) other there = Contains-others (is_opening_of id) f (draft.Hole m.id m.made) items refl there
+held-openings id f items (Open m) other there = Contains-others (is_opening_of id) f (draft.OpenMarker m.id m.made) items refl there
 held-openings id f items (Done n) other there = Contains-others (is_opening_of id) f (draft.Open n.id n.kind true) items (ne_eqb n.id id other) there
 held-openings id f items Spent other there = tt
 
 -- a new id is behind all slots
 pub before-new : (items : List Item) (m : Mark) (slot : Slot) → IsAboveIds m.id items → IsHeld items slot → AreInOrder slot (Open m)
-before-new items m (Open o) above there = id-below m.id o.id (draft.Hole o.id o.made) items above there (Contains-push [] o.id)
+before-new items m (Open o) above there = id-below m.id o.id (draft.OpenMarker o.id o.made) items above there (Contains-push [] o.id)
 before-new items m (Done n) above there = id-below m.id n.id (draft.Open n.id n.kind true) items above there (Contains-push [] n.id)
 before-new items m Spent above there = tt
 
@@ -70,10 +70,10 @@ pub before-spent : (slot : Slot) → AreInOrder slot Spent
 before-spent Spent = tt
 before-spent slot = tt
 
--- a hole that was edited away isn't one of those that are left
-pub hole-stayed : (id : ℕ) (f : Item → List Item) (items : List Item) (o : Mark) → ((item : Item) → Contains (f item) (draft.Hole o.id o.made) → ⊥)
-    → Contains (replaced (is_hole_of id) f items) (draft.Hole o.id o.made) → (o.id ≢ id) × Contains items (draft.Hole o.id o.made)
-hole-stayed id f items o never there = elim (edited-cases (is_hole_of id) f items (draft.Hole o.id o.made) there) [
+-- an open marker that was edited away isn't one of those that are left
+pub open_marker-stayed : (id : ℕ) (f : Item → List Item) (items : List Item) (o : Mark) → ((item : Item) → Contains (f item) (draft.OpenMarker o.id o.made) → ⊥)
+    → Contains (replaced (is_open_marker_of id) f items) (draft.OpenMarker o.id o.made) → (o.id ≢ id) × Contains items (draft.OpenMarker o.id o.made)
+open_marker-stayed id f items o never there = elim (edited-cases (is_open_marker_of id) f items (draft.OpenMarker o.id o.made) there) [
   | inl made ↦ absurd (never made.old made.gives)
   | inr stayed ↦ ((λ e. absurd (cc (eq-eqb o.id id e, stayed.0))), stayed.1)
 ]

@@ -5,7 +5,7 @@ use Rattle.std.proofs.lemmas.List.{get_or_default, take_all}
 use Rattle.std.proofs.lemmas.List.Elements.{All-contains_itself, All-weaker}
 use Rattle.std.proofs.lemmas.List.Sums.{fold-append}
 use Rattle.squawk_output.specs.Draft as draft
-use Rattle.squawk_output.specs.Draft.{HasNoHole, Item, Mark, errors_of, is_hole}
+use Rattle.squawk_output.specs.Draft.{HasNoOpenMarker, Item, Mark, errors_of, is_open_marker}
 use Rattle.squawk_parser.specs.State.{State, IsSound, HasNotFailed, IsFresh, Keeps}
 use Rattle.squawk_parser.specs.declared.parser.parse_error.ParseError.{ParseError}
 use Rattle.squawk_parser.specs.declared.parser.parse_error.ParseError.TheVariants.{OutOfMemory}
@@ -97,12 +97,12 @@ module _ (start : State) (calls : List Call) (s : State) (slots : List Slot) (i 
 
 -- ---- behind the last call
 
--- items without a hole of any marker have none
-none : (items : List Item) → ((m : Mark) → Contains items (draft.Hole m.id m.made) → ⊥) → HasNoHole items
-none items never = All-weaker (Contains items) (λ item. is_hole item ≡ false) each items (All-contains_itself items)
+-- items without an open marker have none
+none : (items : List Item) → ((m : Mark) → Contains items (draft.OpenMarker m.id m.made) → ⊥) → HasNoOpenMarker items
+none items never = All-weaker (Contains items) (λ item. is_open_marker item ≡ false) each items (All-contains_itself items)
   where
-    each : (item : Item) → Contains items item → is_hole item ≡ false
-    each (draft.Hole i made) there = absurd (never (record { id = i; made = made }) there)
+    each : (item : Item) → Contains items item → is_open_marker item ≡ false
+    each (draft.OpenMarker i made) there = absurd (never (record { id = i; made = made }) there)
     each item there = refl
 
 -- a slot that is open
@@ -117,7 +117,7 @@ module _ (start : State) (calls : List Call) (s : State) (slots : List Slot) (i 
       sym (ap is_status_open (get_or-map status_of slots m Spent))
       ∙ (opened-last calls (statuses_of slots) i end stands.statuses m ∙ accepted.spent m)
 
-  pub ends-closed : HasNotFailed s → HasNoHole s.draft.items
+  pub ends-closed : HasNotFailed s → HasNoOpenMarker s.draft.items
   ends-closed goes = none s.draft.items (λ m there. absurd (open-slot slots m ends-spent ((stands.tied.holds goes).covers m there)))
 
   pub ends-at : HasNotFailed s → IsRunOf (record { calls = calls; words = start.words }) start.input s.draft

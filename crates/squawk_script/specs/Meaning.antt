@@ -20,7 +20,7 @@ pub record Meaning : Type 0 where
   pub words : Words
 
 -- the state of a run: what it recorded, the number of input tokens that it has eaten, and the markers that it made, each as its node:
--- the id of its hole and of its opening, and its kind, which counts from its completion on
+-- the id of its open marker and of its opening, and its kind, which counts from its completion on
 pub record Run : Type 0 where
   pub draft : Draft
   pub position : ℕ

@@ -67,7 +67,7 @@ statuses_of slots = map status_of slots
 
 -- the slot is what the draft has
 abbrev pub IsHeld : List Item → Slot → Type 0
-IsHeld items (Open m) = Contains items (draft.Hole m.id m.made)
+IsHeld items (Open m) = Contains items (draft.OpenMarker m.id m.made)
 IsHeld items (Done n) = Contains items (draft.Open n.id n.kind true)
 IsHeld items Spent = ⊤
 
@@ -83,11 +83,11 @@ AreInOrder (Open m) slot = IsBelow m.id slot
 AreInOrder (Done n) slot = IsBelow n.id slot
 AreInOrder Spent slot = ⊤
 
--- The slots are what the draft has, in the order of their ids, and it has no other holes.
+-- The slots are what the draft has, in the order of their ids, and it has no other open markers.
 pub record Holds (items : List Item) (slots : List Slot) : Type 0 where
   pub each : (i : ℕ) → IsHeld items (slot_at slots i)
   pub order : (i j : ℕ) → i < j → AreInOrder (slot_at slots i) (slot_at slots j)
-  pub covers : (m : Mark) → Contains items (draft.Hole m.id m.made) → Contains slots (Open m)
+  pub covers : (m : Mark) → Contains items (draft.OpenMarker m.id m.made) → Contains slots (Open m)
 
 -- the same, if the parser has not failed, which sees the whole input
 pub record IsTied (s : State) (slots : List Slot) : Type 0 where

@@ -2,7 +2,7 @@
 ghost use Rattle.std.specs.Prelude.{◌≡◌, ◌<◌, IsTrue, OnOk, vec_len, vec_capacity};
 ghost use Rattle.std.specs.Str.{chars};
 ghost use Rattle.squawk_kinds.specs.TokenSets.{has};
-ghost use Rattle.squawk_output.specs.Draft.{HasNoHole};
+ghost use Rattle.squawk_output.specs.Draft.{HasNoOpenMarker};
 ghost use Rattle.squawk_parser.specs.Eaten.{recovery_steps};
 ghost use Rattle.squawk_parser.specs.Recorded.{Puts};
 ghost use Rattle.squawk_parser.specs.State.{HasNotFailed, IsFresh, IsSound, Keeps, ahead};
@@ -128,7 +128,7 @@ pub fn run_calls(
     requires accepted { IsAccepted calls.now }
     requires markers { markers ≡ markers_of calls.now }
     ensures keeps { Keeps p.old p.new }
-    ensures closed { OnOk result (HasNotFailed p.new → HasNoHole p.new.draft.items) }
+    ensures closed { OnOk result (HasNotFailed p.new → HasNoOpenMarker p.new.draft.items) }
     ensures leaves { OnOk result (HasNotFailed p.new → IsRunOf (record { calls = calls.now; words = p.old.words }) p.old.input p.new.draft) }
     // Also if an allocation fails.
     ensures runs { FailsByLimits (record { calls = calls.now; words = p.old.words }) p.old p.new }

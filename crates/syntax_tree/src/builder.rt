@@ -26,7 +26,7 @@ pub enum TreeRefusal {
     NothingOpen,
     /// A token's text is empty, or isn't the next part of the source.
     OtherText,
-    /// The tree would have more than 4294967295 elements, errors or bytes.
+    /// The tree would have more than `u32::MAX` elements, errors or bytes.
     TooLarge,
     OutOfMemory,
 }

@@ -1,6 +1,6 @@
 -- A whole run.
 use Rattle.std.proofs.Common.{◌≡◌, ◌∙◌, ◌++◌, arith, ap, subst}
-use Rattle.squawk_output.specs.Draft.{Node, HasNoHole}
+use Rattle.squawk_output.specs.Draft.{Node, HasNoOpenMarker}
 use Rattle.squawk_parser.specs.Composed.{Adds, AddsNode, RecordsSteps}
 use Rattle.squawk_parser.specs.Recorded.{Puts}
 use Rattle.squawk_parser.specs.State.{State, HasNotFailed, IsFresh, Keeps, ahead}
@@ -33,7 +33,7 @@ module _ {a e : State} (fresh : IsFresh a) (records : RecordsSteps (tiny_in_orde
   source_fails = records.refused (ap (λ s. s.first_reason) fresh)
 
   module _ {n : Node} (adds : AddsNode (tiny_steps a.input) n a e) where
-    pub source_closed : HasNotFailed e → HasNoHole e.draft.items
+    pub source_closed : HasNotFailed e → HasNoOpenMarker e.draft.items
     source_closed = closed-fresh fresh (Adds-node adds)
 
     pub source_leaves : (HasNotFailed e → IsWholeFile a.input e.draft) → HasNotFailed e → IsTiny a.input e.draft

@@ -1,11 +1,11 @@
-use Rattle.squawk_parser.proofs.Markers.{hole-put}
+use Rattle.squawk_parser.proofs.Markers.{open_marker-put}
 use Rattle.squawk_parser.proofs.RecordedSteps.{puts-then}
 use Rattle.list_grammar.proofs.DeepLists.{deep_puts}
 use Rattle.list_grammar.proofs.deep_list.Goals as goal
 
-pub complete-requires-clause-hole : goal.complete-requires-clause-hole
-complete-requires-clause-hole c =
-    hole-put c.start-node.result c.start-node.ensures.hole (puts-then c.error.ensures.puts (puts-then c.bump_any.ensures.puts c.up_to_close.ensures))
+pub complete-requires-clause-open_marker : goal.complete-requires-clause-open_marker
+complete-requires-clause-open_marker c =
+    open_marker-put c.start-node.result c.start-node.ensures.open_marker (puts-then c.error.ensures.puts (puts-then c.bump_any.ensures.puts c.up_to_close.ensures))
 
 pub returns-clause-puts : goal.returns-clause-puts
 returns-clause-puts c =

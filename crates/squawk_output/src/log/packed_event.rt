@@ -3,7 +3,7 @@ ghost use Rattle.std.specs.Prelude.{◌≡◌, ◌≢◌, ℕ, List, ◌<◌, �
 ghost use Rattle.squawk_kinds.specs.Kinds.{TOMBSTONE};
 ghost use Rattle.squawk_output.specs.Chain.{forward_parent, node_kind};
 ghost use Rattle.squawk_output.specs.PackedEvents.{IsPlain, IsStarting, is_aside, is_error, is_plain, plain_event};
-ghost use Rattle.squawk_output.specs.StoredEvents.{Error, Finish, Hole, Start, Token, event_of, link_of};
+ghost use Rattle.squawk_output.specs.StoredEvents.{Error, Finish, OpenMarker, Start, Token, event_of, link_of};
 ghost use Rattle.squawk_output.specs.StoredSteps.{unpacked};
 
 use crate::output::stored::StoredStep;
@@ -48,8 +48,8 @@ impl Model for PackedEvent {
 impl PackedEvent {
     /// An open marker.
     #[inline(always)]
-    pub(crate) fn hole() -> PackedEvent
-        ensures { result ≡ Hole }
+    pub(crate) fn open_marker() -> PackedEvent
+        ensures { result ≡ OpenMarker }
     {
         PackedEvent {
             word: HOLE,

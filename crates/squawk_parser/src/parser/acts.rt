@@ -8,7 +8,7 @@ ghost use Rattle.squawk_output.specs.Steps.{Error};
 ghost use Rattle.squawk_parser.specs.Eaten.{current_as, recovery_steps, no_recovery};
 ghost use Rattle.squawk_parser.specs.Recorded.{Begins, Puts};
 ghost use Rattle.squawk_parser.specs.SomeSteps.{AddsSome, OpensNode};
-ghost use Rattle.squawk_parser.specs.State.{HasHole, ahead, kind_at};
+ghost use Rattle.squawk_parser.specs.State.{HasOpenMarker, ahead, kind_at};
 
 use crate::parser::Parser;
 use crate::parser::marker::Marker;
@@ -25,7 +25,7 @@ impl Parser<'_> {
     pub fn start(&mut self) -> Marker
         ensures begins { Begins result self.old self.new }
         ensures opens { OpensNode result self.old self.new }
-        ensures hole { HasHole self.new result }
+        ensures open_marker { HasOpenMarker self.new result }
     {
         let id = self.next_id();
         if self.has_room() {

@@ -29,7 +29,7 @@ pub enum EntryPoint {
 pub trait Grammar {
     ghost use Rattle.std.specs.Prelude.{List, ◌≡◌, OnOk};
     ghost use Rattle.squawk_table.specs.ParserInput.{Entry};
-    ghost use Rattle.squawk_output.specs.Draft.{Draft, HasNoHole};
+    ghost use Rattle.squawk_output.specs.Draft.{Draft, HasNoOpenMarker};
     ghost use Rattle.squawk_parser.specs.State.{State, HasNotFailed, IsFresh, IsSound, Keeps};
     ghost use Rattle.squawk_parser.specs.Words as spec;
     ghost use Rattle.squawk_parser.specs.declared.parser.grammar.EntryPoint.{EntryPoint};
@@ -55,7 +55,7 @@ pub trait Grammar {
         requires sound { IsSound p.old }
         requires words { p.old.words ≡ meaning self.now }
         ensures keeps { Keeps p.old p.new }
-        ensures closed { OnOk result (HasNotFailed p.new → HasNoHole p.new.draft.items) }
+        ensures closed { OnOk result (HasNotFailed p.new → HasNoOpenMarker p.new.draft.items) }
         ensures leaves { OnOk result (HasNotFailed p.new → leaves self.now EntryPoint.SourceFile p.old.input p.new.draft) }
         ensures runs { runs self.now EntryPoint.SourceFile p.old p.new };
 
@@ -66,7 +66,7 @@ pub trait Grammar {
         requires sound { IsSound p.old }
         requires words { p.old.words ≡ meaning self.now }
         ensures keeps { Keeps p.old p.new }
-        ensures closed { OnOk result (HasNotFailed p.new → HasNoHole p.new.draft.items) }
+        ensures closed { OnOk result (HasNotFailed p.new → HasNoOpenMarker p.new.draft.items) }
         ensures leaves { OnOk result (HasNotFailed p.new → leaves self.now EntryPoint.Plpgsql p.old.input p.new.draft) }
         ensures runs { runs self.now EntryPoint.Plpgsql p.old p.new };
 }

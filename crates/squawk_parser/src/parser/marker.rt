@@ -4,7 +4,7 @@ ghost use Rattle.squawk_kinds.specs.Kinds.{TOMBSTONE};
 ghost use Rattle.squawk_output.specs.Edits.{abandoned, extended};
 ghost use Rattle.squawk_parser.specs.Recorded.{Completes, Precedes};
 ghost use Rattle.squawk_parser.specs.SomeSteps.{ClosesNode, EndsFile, OpensBefore};
-ghost use Rattle.squawk_parser.specs.State.{Changes, HasHole, HasNode, HasNotFailed};
+ghost use Rattle.squawk_parser.specs.State.{Changes, HasOpenMarker, HasNode, HasNotFailed};
 
 use crate::parser::Parser;
 use crate::parser::recording::fail_if_refused;
@@ -51,7 +51,7 @@ impl Marker {
     /// parser has failed.
     #[inline(always)]
     pub fn complete(self, p: &mut Parser<'_>, kind: SyntaxKind) -> CompletedMarker
-        requires hole { HasHole p.old self }
+        requires open_marker { HasOpenMarker p.old self }
         requires kind { kind ≢ TOMBSTONE }
         ensures node { result ≡ record { id = self.id; kind = kind } }
         ensures completes { Completes self.id kind p.old p.new }
@@ -72,7 +72,7 @@ impl Marker {
     /// This allocates nothing, and never makes a parser fail. The marker is open in the parser's draft, or the
     /// parser has failed.
     pub fn abandon(self, p: &mut Parser<'_>)
-        requires { HasHole p.old self }
+        requires { HasOpenMarker p.old self }
         ensures { Changes p.old p.new (abandoned p.old.draft self.id) }
     {
         let Marker { id, made } = self;
@@ -101,7 +101,7 @@ impl CompletedMarker {
         requires { HasNode p.old self }
         ensures precedes { Precedes self result p.old p.new }
         ensures opens { OpensBefore self result p.old p.new }
-        ensures hole { HasHole p.new result }
+        ensures open_marker { HasOpenMarker p.new result }
     {
         let CompletedMarker { id: node, kind } = self;
         let id = p.next_id();
@@ -120,7 +120,7 @@ impl CompletedMarker {
     /// there and was started before the node's; or the parser has failed.
     pub fn extend_to(self, p: &mut Parser<'_>, m: Marker) -> CompletedMarker
         requires node { HasNode p.old self }
-        requires hole { HasHole p.old m }
+        requires open_marker { HasOpenMarker p.old m }
         requires older { HasNotFailed p.old → m.id < self.id }
         ensures node { result ≡ self }
         ensures changes { Changes p.old p.new (extended p.old.draft self m.id) }

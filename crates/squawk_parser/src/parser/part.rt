@@ -1,6 +1,6 @@
 //! Parts of a grammar that a parser runs.
 ghost use Rattle.std.specs.Prelude.{◌≡◌};
-ghost use Rattle.squawk_output.specs.Draft.{holes_of};
+ghost use Rattle.squawk_output.specs.Draft.{open_markers_of};
 ghost use Rattle.squawk_parser.specs.State.{HasNotFailed, Keeps, limited, with_limit_of};
 
 use crate::parser::Parser;
@@ -11,7 +11,7 @@ use crate::parser::Parser;
 /// recursive functions.
 pub trait Part: Sized {
     ghost use Rattle.std.specs.Prelude.{◌≡◌};
-    ghost use Rattle.squawk_output.specs.Draft.{holes_of};
+    ghost use Rattle.squawk_output.specs.Draft.{open_markers_of};
     ghost use Rattle.squawk_parser.specs.State.{State, HasNotFailed, IsSound, Keeps};
 
     /// The type of a run's result.
@@ -25,7 +25,7 @@ pub trait Part: Sized {
         // The invariant of a parser.
         requires { IsSound p.old }
         ensures keeps { Keeps p.old p.new }
-        ensures holes { HasNotFailed p.new → holes_of p.new.draft.items ≡ holes_of p.old.draft.items }
+        ensures open_markers { HasNotFailed p.new → open_markers_of p.new.draft.items ≡ open_markers_of p.old.draft.items }
         ensures does { does self p.old p.new result };
 }
 
@@ -35,7 +35,7 @@ impl Parser<'_> {
     /// Afterwards the limit is as before. Returns the part's result.
     pub fn with_limit<F: Part>(&mut self, n: usize, f: F) -> F::Answer
         ensures keeps { Keeps self.old self.new }
-        ensures holes { HasNotFailed self.new → holes_of self.new.draft.items ≡ holes_of self.old.draft.items }
+        ensures open_markers { HasNotFailed self.new → open_markers_of self.new.draft.items ≡ open_markers_of self.old.draft.items }
         ensures does { F.does f (limited self.old n) (with_limit_of self.new (limited self.old n)) result }
     {
         let limit = self.limit;

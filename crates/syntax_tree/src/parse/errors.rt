@@ -17,7 +17,7 @@ pub enum ParseTreeError {
     Parse(ParseError),
     /// What the grammar left isn't one node, errors aside.
     NoRoot,
-    /// The tree would have more than 4294967295 nodes and tokens.
+    /// The tree would have more than `u32::MAX` nodes and tokens.
     TooLarge,
     /// Memory was refused to the tree.
     OutOfMemory,

@@ -1,13 +1,13 @@
 use Rattle.squawk_table.specs.ParserInput.{kinds_in}
 use Rattle.squawk_parser.specs.State.{ahead}
-use Rattle.squawk_parser.proofs.AddedSteps.{hole-added}
+use Rattle.squawk_parser.proofs.AddedSteps.{open_marker-added}
 use Rattle.sql_grammar.proofs.AddedStatements.{first_added, inner_added, is_first, statement_eats, statement_with}
 use Rattle.sql_grammar.proofs.statements.statement.Goals as goal
 
-pub complete-requires-clause-hole : goal.complete-requires-clause-hole
-complete-requires-clause-hole c =
+pub complete-requires-clause-open_marker : goal.complete-requires-clause-open_marker
+complete-requires-clause-open_marker c =
     let inner = c.with_limit.ensures in
-    hole-added c.start-node.result c.start-node.ensures.hole (inner_added c.len_of-len.result inner.keeps inner.does)
+    open_marker-added c.start-node.result c.start-node.ensures.open_marker (inner_added c.len_of-len.result inner.keeps inner.does)
 
 pub returns-clause-adds : goal.returns-clause-adds
 returns-clause-adds c =

@@ -1,6 +1,6 @@
-use Rattle.squawk_parser.proofs.Holes.{holes-eat}
+use Rattle.squawk_parser.proofs.OpenMarkers.{open_markers-eat}
 use Rattle.engine_tests.proofs.acts.Acting.eat.Goals as goal
 
-pub returns-then-not-has_tail-clause-holes : goal.returns-then-not-has_tail-clause-holes
-returns-then-not-has_tail-clause-holes g c goes =
-    holes-eat _ _ c.eat-answer.result _ c.eat-answer.ensures.puts c.eat-answer.ensures.none goes
+pub returns-then-not-has_tail-clause-open_markers : goal.returns-then-not-has_tail-clause-open_markers
+returns-then-not-has_tail-clause-open_markers g c goes =
+    open_markers-eat _ _ c.eat-answer.result _ c.eat-answer.ensures.puts c.eat-answer.ensures.none goes

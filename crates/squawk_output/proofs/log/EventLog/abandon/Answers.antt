@@ -1,5 +1,5 @@
 use Rattle.std.proofs.Common.{arith, refl}
-use Rattle.squawk_output.proofs.KeptLog.{kept-cleared, kept-popped, hole-within, logged_kept}
+use Rattle.squawk_output.proofs.KeptLog.{kept-cleared, kept-popped, open_marker-within, logged_kept}
 use Rattle.squawk_output.proofs.log.EventLog.abandon.Goals as goal
 
 pub invariant_of-self : goal.invariant_of-self
@@ -16,7 +16,7 @@ pub returns-then-is_last_start-clause-logged : goal.returns-then-is_last_start-c
 returns-then-is_last_start-clause-logged c = logged_kept _ _ _ (invariant_of-self c)
 
 pub index_mut-requires : goal.index_mut-requires
-index_mut-requires c = omega (arith, hole-within _ _ _ _ c.self.invariant c.self.view_is c.args.id (c.args.made, c.requires))
+index_mut-requires c = omega (arith, open_marker-within _ _ _ _ c.self.invariant c.self.view_is c.args.id (c.args.made, c.requires))
 
 pub invariant_of-self-else-is_last_start : goal.invariant_of-self-else-is_last_start
 invariant_of-self-else-is_last_start c =

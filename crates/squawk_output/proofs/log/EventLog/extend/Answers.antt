@@ -1,17 +1,17 @@
 use Rattle.std.proofs.Common.{arith, refl}
-use Rattle.squawk_output.proofs.KeptLog.{hole-within, kept-extended, logged_kept, node-within}
+use Rattle.squawk_output.proofs.KeptLog.{open_marker-within, kept-extended, logged_kept, node-within}
 use Rattle.squawk_output.proofs.StoredEvents.{length-log_in}
 use Rattle.squawk_output.proofs.log.EventLog.extend.Goals as goal
 
 pub index_mut-start-requires : goal.index_mut-start-requires
-index_mut-start-requires c = omega (arith, hole-within _ _ _ _ c.self.invariant c.self.view_is c.args.id c.requires.hole)
+index_mut-start-requires c = omega (arith, open_marker-within _ _ _ _ c.self.invariant c.self.view_is c.args.id c.requires.open_marker)
 
 pub invariant_of-self : goal.invariant_of-self
 invariant_of-self c =
-    (kept-extended _ _ _ _ c.self.invariant c.self.view_is c.args.id c.requires.hole c.args.node c.requires.node.0 c.requires.node.1 c.requires.older _ (rw c.linked.ensures refl)).kept
+    (kept-extended _ _ _ _ c.self.invariant c.self.view_is c.args.id c.requires.open_marker c.args.node c.requires.node.0 c.requires.node.1 c.requires.older _ (rw c.linked.ensures refl)).kept
 
 pub returns-clause-extended : goal.returns-clause-extended
-returns-clause-extended c kind there = (kept-extended _ _ _ _ c.self.invariant c.self.view_is c.args.id c.requires.hole c.args.node kind there c.requires.older _ (rw c.linked.ensures refl)).is
+returns-clause-extended c kind there = (kept-extended _ _ _ _ c.self.invariant c.self.view_is c.args.id c.requires.open_marker c.args.node kind there c.requires.older _ (rw c.linked.ensures refl)).is
 
 pub returns-clause-logged : goal.returns-clause-logged
 returns-clause-logged c = logged_kept _ _ _ (invariant_of-self c)

@@ -7,7 +7,7 @@ use Rattle.squawk_output.proofs.log.EventLog.finish.Goals as goal
 
 pub returns-clause-output : goal.returns-clause-output
 returns-clause-output c =
-    IfOk-weaker c.pass.result _ _ (λ o is. rw (← c.self.view_is) (rw (plain-draft_items _ _ c.self.invariant.log.holes) is)) c.pass.ensures
+    IfOk-weaker c.pass.result _ _ (λ o is. rw (← c.self.view_is) (rw (plain-draft_items _ _ c.self.invariant.log.open_markers) is)) c.pass.ensures
 
 pub returns-clause-logged : goal.returns-clause-logged
 returns-clause-logged c = subst IsLogged c.self.view_is (logged_kept _ _ _ c.self.invariant)

@@ -6,10 +6,10 @@ pub returns-in_err-push-clause-logged : goal.returns-in_err-push-clause-logged
 returns-in_err-push-clause-logged c = rw c.in_err-push.ensures.items (logged_kept _ _ _ c.self.invariant)
 
 pub invariant_of-self-2 : goal.invariant_of-self-2
-invariant_of-self-2 c = (kept-preceded _ _ _ _ c.self.invariant c.self.view_is c.args.node c.args.kind c.requires.node (c.len.result - c.args.node) c.push.new.self.items _ (rw c.hole-hole.ensures at c.in_ok-push.ensures.items) (rw c.linked.ensures refl) (omega arith) c.requires.room).kept
+invariant_of-self-2 c = (kept-preceded _ _ _ _ c.self.invariant c.self.view_is c.args.node c.args.kind c.requires.node (c.len.result - c.args.node) c.push.new.self.items _ (rw c.open_marker-open_marker.ensures at c.in_ok-push.ensures.items) (rw c.linked.ensures refl) (omega arith) c.requires.room).kept
 
 pub returns-clause-ok : goal.returns-clause-ok
-returns-clause-ok c = (kept-preceded _ _ _ _ c.self.invariant c.self.view_is c.args.node c.args.kind c.requires.node (c.len.result - c.args.node) c.push.new.self.items _ (rw c.hole-hole.ensures at c.in_ok-push.ensures.items) (rw c.linked.ensures refl) (omega arith) c.requires.room).is
+returns-clause-ok c = (kept-preceded _ _ _ _ c.self.invariant c.self.view_is c.args.node c.args.kind c.requires.node (c.len.result - c.args.node) c.push.new.self.items _ (rw c.open_marker-open_marker.ensures at c.in_ok-push.ensures.items) (rw c.linked.ensures refl) (omega arith) c.requires.room).is
 
 pub returns-clause-logged : goal.returns-clause-logged
 returns-clause-logged c = logged_kept _ _ _ (invariant_of-self-2 c)

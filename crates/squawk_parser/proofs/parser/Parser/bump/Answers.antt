@@ -12,7 +12,7 @@ use Rattle.squawk_parser.specs.Recorded.{Puts}
 use Rattle.squawk_parser.specs.State.{ahead}
 use Rattle.squawk_parser.specs.declared.parser.composite.Form.TheVariants as form
 use Rattle.squawk_parser.proofs.CompositeFacts.{IsComposite, eat_steps-none, eat_steps-composite, glued-no_end, glued-some, is_no_composite, is_composite, sequence-no_end, stands_at-none, stands_at-composite}
-use Rattle.squawk_parser.proofs.Markers.{hole-put}
+use Rattle.squawk_parser.proofs.Markers.{open_marker-put}
 use Rattle.squawk_parser.proofs.RecordedSteps.{node_puts, token_puts}
 use Rattle.squawk_parser.proofs.SeenSteps.{ahead-still, and-left, seen_one, joint_all}
 use Rattle.squawk_parser.proofs.SomeSteps.{puts_some}
@@ -51,10 +51,10 @@ eat_elements-requires-clause-no_end c =
     let r = is_composite c.args.kind c.composite.result (form.Sequence composite.parts composite.field-0-1) (composite.is ∙ ap Some composite.field-0-is) c.composite.ensures in
     sequence-no_end c.args.kind composite.parts (tail_of composite.field-0-1) r
 
-pub complete-requires-clause-hole : goal.complete-requires-clause-hole
-complete-requires-clause-hole c =
+pub complete-requires-clause-open_marker : goal.complete-requires-clause-open_marker
+complete-requires-clause-open_marker c =
     let start = c.start-node.ensures in
-    hole-put c.start-node.result start.hole c.eat_elements.ensures
+    open_marker-put c.start-node.result start.open_marker c.eat_elements.ensures
 
 pub returns-in-None-clause-puts : goal.returns-in-None-clause-puts
 returns-in-None-clause-puts c =

@@ -2,7 +2,7 @@ use Rattle.std.proofs.Common.{subst, map}
 use Rattle.squawk_parser.specs.Eaten.{node, one}
 use Rattle.squawk_parser.specs.Recorded.{Puts}
 use Rattle.squawk_parser.proofs.EatenParts.{touched-all, touched-next}
-use Rattle.squawk_parser.proofs.Markers.{hole-put}
+use Rattle.squawk_parser.proofs.Markers.{open_marker-put}
 use Rattle.squawk_parser.proofs.RecordedSteps.{node_puts}
 use Rattle.squawk_parser.proofs.parser.Parser.eat_joint.Goals as goal
 
@@ -13,11 +13,11 @@ loop-part-preserved c =
     touched-next c.as_slice-part-items.result.now l.part-index c.part-item.result c.start-node.new.self l.self c.loop-part-test.true c.part-item.is l.invariant
     c.do_bump.new.self bump.keeps bump.position bump.records
 
-pub complete-requires-clause-hole : goal.complete-requires-clause-hole
-complete-requires-clause-hole c =
+pub complete-requires-clause-open_marker : goal.complete-requires-clause-open_marker
+complete-requires-clause-open_marker c =
     let l = c.loop-part in
     let start = c.start-node.ensures in
-    hole-put c.start-node.result start.hole l.invariant.puts
+    open_marker-put c.start-node.result start.open_marker l.invariant.puts
 
 pub returns : goal.returns
 returns c =

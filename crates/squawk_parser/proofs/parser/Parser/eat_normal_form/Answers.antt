@@ -3,13 +3,13 @@ use Rattle.squawk_kinds.specs.Kinds.{EOF}
 use Rattle.squawk_table.specs.ParserInput.{kind_in}
 use Rattle.squawk_parser.specs.Recorded.{Puts}
 use Rattle.squawk_parser.specs.State.{ahead}
-use Rattle.squawk_parser.proofs.Markers.{hole-put}
+use Rattle.squawk_parser.proofs.Markers.{open_marker-put}
 use Rattle.squawk_parser.proofs.RecordedSteps.{node_puts, puts-none}
 use Rattle.squawk_parser.proofs.SeenSteps.{ahead-still, bump_puts, kind_at-first, normal_form-left_out, normal_form-some, normal_form-there}
 use Rattle.squawk_parser.proofs.parser.Parser.eat_normal_form.Goals as goal
 
-pub complete-requires-clause-hole : goal.complete-requires-clause-hole
-complete-requires-clause-hole c = hole-put c.start-node.result c.start-node.ensures.hole c.bump_any.ensures.puts
+pub complete-requires-clause-open_marker : goal.complete-requires-clause-open_marker
+complete-requires-clause-open_marker c = open_marker-put c.start-node.result c.start-node.ensures.open_marker c.bump_any.ensures.puts
 
 pub returns-then-is_normal_form : goal.returns-then-is_normal_form
 returns-then-is_normal_form c =

@@ -4,7 +4,7 @@ use Rattle.squawk_parser.specs.Operators.{operator_length}
 use Rattle.squawk_parser.specs.State.{IsSound, ahead}
 use Rattle.squawk_parser.proofs.EatenOperator.{are_eaten-all, are_eaten-next}
 use Rattle.squawk_parser.proofs.Progress.{operator-eats}
-use Rattle.squawk_parser.proofs.Markers.{hole-put}
+use Rattle.squawk_parser.proofs.Markers.{open_marker-put}
 use Rattle.squawk_parser.proofs.RecordedSteps.{node_puts}
 use Rattle.squawk_parser.proofs.SeenSteps.{ahead-still}
 use Rattle.squawk_parser.proofs.parser.Parser.eat_operator.Goals as goal
@@ -20,10 +20,10 @@ loop-preserved c =
     are_eaten-next operator_kind l.counter c.start-node.new.self l.self c.bump_any.new.self c.self.invariant.words (omega (arith, len, c.loop-test.true)) l.invariant
     c.bump_any.ensures.puts
 
-pub complete-requires-clause-hole : goal.complete-requires-clause-hole
-complete-requires-clause-hole c =
+pub complete-requires-clause-open_marker : goal.complete-requires-clause-open_marker
+complete-requires-clause-open_marker c =
     let start = c.start-node.ensures in
-    hole-put c.start-node.result start.hole c.loop.invariant.puts
+    open_marker-put c.start-node.result start.open_marker c.loop.invariant.puts
 
 pub returns-clause-puts : goal.returns-clause-puts
 returns-clause-puts c =

@@ -5,8 +5,8 @@ use Rattle.squawk_parser.specs.Recorded.{Completes, Puts}
 use Rattle.squawk_parser.specs.State.{ahead}
 use Rattle.squawk_parser.specs.declared.parser.composite.Form.TheVariants as form
 use Rattle.squawk_parser.proofs.CompositeFacts.{elements-composite, is_composite, sequence-closed, sequence-no_end, tail-composite}
-use Rattle.squawk_parser.proofs.Markers.{hole-put}
-use Rattle.squawk_parser.proofs.TailHoles.{hole-behind_tail}
+use Rattle.squawk_parser.proofs.Markers.{open_marker-put}
+use Rattle.squawk_parser.proofs.TailOpenMarkers.{open_marker-behind_tail}
 use Rattle.squawk_parser.proofs.parser.Parser.eat_with.Goals as goal
 
 pub eat_elements-requires-clause-no_end : goal.eat_elements-requires-clause-no_end
@@ -21,11 +21,11 @@ close-requires-clause-closed g c =
     let r = is_composite c.args.kind c.composite.result (form.Sequence composite.parts composite.closing) (composite.is ∙ ap Some composite.field-0-is) c.composite.ensures in
     sequence-closed c.args.kind composite.parts (tail_of composite.closing) r
 
-pub complete-requires-clause-hole : goal.complete-requires-clause-hole
-complete-requires-clause-hole g c =
+pub complete-requires-clause-open_marker : goal.complete-requires-clause-open_marker
+complete-requires-clause-open_marker g c =
     let start = c.start-node.ensures in
-    let there = hole-put c.start-node.result start.hole c.eat_elements.ensures in
-    hole-behind_tail c.start-node.result there c.run.ensures.keeps c.run.ensures.holes c.close.ensures
+    let there = open_marker-put c.start-node.result start.open_marker c.eat_elements.ensures in
+    open_marker-behind_tail c.start-node.result there c.run.ensures.keeps c.run.ensures.open_markers c.close.ensures
 
 pub returns-clause-eats : goal.returns-clause-eats
 returns-clause-eats g c _ =
@@ -42,7 +42,7 @@ returns-clause-eats g c _ =
         does_so = subst (λ steps. Puts steps begun c.eat_elements.new.self) (ap (λ elements. element_steps elements (ahead begun 0)) (sym (elements-composite r))) c.eat_elements.ensures;
         goes_on = record {
           between = ran;
-          does_so = record { keeps = c.run.ensures.keeps; runs = c.run.ensures.does; holes = c.run.ensures.holes };
+          does_so = record { keeps = c.run.ensures.keeps; runs = c.run.ensures.does; open_markers = c.run.ensures.open_markers };
           goes_on = record {
             between = c.close.new.self;
             does_so = subst (λ steps. Puts steps ran c.close.new.self) (ap (λ tail. closing_steps ran.words tail (ahead ran 0)) (sym (tail-composite r))) c.close.ensures;

@@ -2,7 +2,7 @@ use Rattle.std.proofs.Common.{subst, sym, ◌∙◌}
 use Rattle.std.specs.Str.{chars}
 use Rattle.squawk_kinds.specs.TokenSets.{has}
 use Rattle.squawk_parser.specs.Recorded.{Puts}
-use Rattle.squawk_parser.proofs.Markers.{hole-put}
+use Rattle.squawk_parser.proofs.Markers.{open_marker-put}
 use Rattle.squawk_parser.proofs.RecordedSteps.{puts-then}
 use Rattle.squawk_parser.proofs.Recovery.{recovery-there, recovery_puts}
 use Rattle.squawk_parser.proofs.SomeSteps.{puts_some}
@@ -14,8 +14,8 @@ returns-then-at_ts-clause-puts c =
     subst (λ steps. Puts steps old c.error.new.self)
     (sym (recovery-there (chars c.args.msg.now) (has c.args.recovery) old (sym c.at_ts.ensures ∙ c.if-at_ts.true))) c.error.ensures.puts
 
-pub complete-requires-clause-hole : goal.complete-requires-clause-hole
-complete-requires-clause-hole c = hole-put c.start-node.result c.start-node.ensures.hole (puts-then c.error-2.ensures.puts c.bump_any.ensures.puts)
+pub complete-requires-clause-open_marker : goal.complete-requires-clause-open_marker
+complete-requires-clause-open_marker c = open_marker-put c.start-node.result c.start-node.ensures.open_marker (puts-then c.error-2.ensures.puts c.bump_any.ensures.puts)
 
 pub returns-clause-puts : goal.returns-clause-puts
 returns-clause-puts c =

@@ -1,6 +1,6 @@
 use Rattle.std.proofs.Common.{◌≡◌, ◌∙◌, ap, sym, subst}
 use Rattle.std.specs.Prelude.{true, Contains}
-use Rattle.squawk_output.specs.Draft.{Draft, Hole, IsLogged, Open, Mark, Node}
+use Rattle.squawk_output.specs.Draft.{Draft, OpenMarker, IsLogged, Open, Mark, Node}
 use Rattle.squawk_output.specs.Edits.{extended}
 use Rattle.squawk_parser.specs.State.{State, HasNode, HasNotFailed}
 use Rattle.squawk_parser.proofs.Soundness.{IsSound-extended}
@@ -17,13 +17,13 @@ invariant_of-p c =
     let node : Node = record { id = c.self.inside.id; kind = c.self.inside.kind } in
     let m : Mark = record { id = c.m.inside.id; made = c.m.inside.made } in
     let HasNode : State → Node → Type 0 = λ t m. Contains t.draft.items (Open m.id m.kind true) in
-    let HasHole : State → Mark → Type 0 = λ t m. Contains t.draft.items (Hole m.id m.made) in
+    let HasOpenMarker : State → Mark → Type 0 = λ t m. Contains t.draft.items (OpenMarker m.id m.made) in
     let there = subst (λ t. HasNode t node) (sym c.p.view_is)
     (subst (HasNode c.args.p.now) (sym c.self.view_is) (c.requires.node went)) in
-    let hole = subst (λ t. HasHole t m) (sym c.p.view_is)
-    (subst (HasHole c.args.p.now) (sym c.m.view_is) (c.requires.hole went)) in
+    let open_marker = subst (λ t. HasOpenMarker t m) (sym c.p.view_is)
+    (subst (HasOpenMarker c.args.p.now) (sym c.m.view_is) (c.requires.open_marker went)) in
     let edited = c.extend.ensures.extended node.kind there in
-    rw edited (IsSound-extended s c.p.invariant goes node m.id m.made hole there (subst IsLogged edited c.extend.ensures.logged))
+    rw edited (IsSound-extended s c.p.invariant goes node m.id m.made open_marker there (subst IsLogged edited c.extend.ensures.logged))
 
 pub returns-clause-changes : goal.returns-clause-changes
 returns-clause-changes c =
@@ -45,4 +45,4 @@ returns-clause-changes c =
 
 pub returns-clause-at_hand : goal.returns-clause-at_hand
 returns-clause-at_hand c =
-    subst (HasNode c.if-is_none.p) (sym c.self.view_is) (node-extended c.args.self c.args.m c.requires.node c.requires.hole (returns-clause-changes c))
+    subst (HasNode c.if-is_none.p) (sym c.self.view_is) (node-extended c.args.self c.args.m c.requires.node c.requires.open_marker (returns-clause-changes c))

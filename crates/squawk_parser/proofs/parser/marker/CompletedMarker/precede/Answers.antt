@@ -2,11 +2,11 @@ use Rattle.std.proofs.Common.{rules, ◌≡◌, ◌∙◌, sym, refl, subst}
 use Rattle.std.specs.Prelude.{true, Contains}
 use Rattle.squawk_output.specs.Draft.{IsLogged, Node, Open}
 use Rattle.squawk_output.specs.Edits.{preceded}
-use Rattle.squawk_parser.specs.State.{State, HasHole, HasNode, IsSound}
+use Rattle.squawk_parser.specs.State.{State, HasOpenMarker, HasNode, IsSound}
 use Rattle.squawk_parser.proofs.FailedIfRefused.{failed_if_refused}
 use Rattle.squawk_parser.proofs.Soundness.{IsSound-failed, IsSound-preceded}
 use Rattle.squawk_parser.proofs.ParserViews.{seen, has_room}
-use Rattle.squawk_parser.proofs.Markers.{hole-preceded}
+use Rattle.squawk_parser.proofs.Markers.{open_marker-preceded}
 use Rattle.squawk_parser.proofs.SomeSteps.{precedes_opens}
 use Rattle.squawk_parser.proofs.parser.marker.CompletedMarker.precede.Goals as goal
 
@@ -27,12 +27,12 @@ invariant_of-p c =
 pub returns-clause-precedes : goal.returns-clause-precedes
 returns-clause-precedes c = search rules
 
-pub returns-clause-hole : goal.returns-clause-hole
-returns-clause-hole c =
+pub returns-clause-open_marker : goal.returns-clause-open_marker
+returns-clause-open_marker c =
     let old = c.args.p.now in
     let there : HasNode old c.args.self = c.requires in
     let precedes = returns-clause-precedes c in
-    subst (HasHole c.if-has_room.p) (sym precedes.is) (hole-preceded c.args.self precedes.sound.logged.once there precedes.records)
+    subst (HasOpenMarker c.if-has_room.p) (sym precedes.is) (open_marker-preceded c.args.self precedes.sound.logged.once there precedes.records)
 
 pub returns-clause-opens : goal.returns-clause-opens
 returns-clause-opens c = precedes_opens (returns-clause-precedes c)

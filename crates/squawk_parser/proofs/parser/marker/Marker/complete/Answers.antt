@@ -1,9 +1,9 @@
 use Rattle.std.proofs.Common.{rules, ◌≡◌, ◌∙◌, ap, sym, refl, subst}
 use Rattle.std.specs.Prelude.{Contains}
-use Rattle.squawk_output.specs.Draft.{Hole, IsLogged, Mark, Node}
+use Rattle.squawk_output.specs.Draft.{OpenMarker, IsLogged, Mark, Node}
 use Rattle.squawk_output.specs.Edits.{completed}
 use Rattle.squawk_parser.specs.Recorded.{Completes}
-use Rattle.squawk_parser.specs.State.{State, HasHole, IsSound}
+use Rattle.squawk_parser.specs.State.{State, HasOpenMarker, IsSound}
 use Rattle.squawk_parser.proofs.FailedIfRefused.{failed_if_refused}
 use Rattle.squawk_parser.proofs.Soundness.{IsSound-completed, IsSound-failed}
 use Rattle.squawk_parser.proofs.ParserViews.{seen, has_room}
@@ -18,9 +18,9 @@ invariant_of-p c =
     let same : s ≡ c.args.p.now = c.p.view_is ∙ room.0 in
     let can = has_room s c.args.p.now same (room.1, room.2) in
     let m : Mark = record { id = c.self.inside.id; made = c.self.inside.made } in
-    let Has : State → Mark → Type 0 = λ t m. Contains t.draft.items (Hole m.id m.made) in
-    let there : Contains s.draft.items (Hole m.id m.made) =
-    subst (λ t. Has t m) (sym same) (subst (Has c.args.p.now) (sym c.self.view_is) (c.requires.hole room.1)) in
+    let Has : State → Mark → Type 0 = λ t m. Contains t.draft.items (OpenMarker m.id m.made) in
+    let there : Contains s.draft.items (OpenMarker m.id m.made) =
+    subst (λ t. Has t m) (sym same) (subst (Has c.args.p.now) (sym c.self.view_is) (c.requires.open_marker room.1)) in
     let before = c.p.invariant in
     failed_if_refused IsLogged (λ draft reason. IsSound (record s { draft = draft; first_reason = reason })) s (completed s.draft m.id c.args.kind) c.complete.new.self
     c.fail_if_refused.new.first_reason c.complete.result c.complete.ensures.logged (IsSound-completed s before can.goes m.id c.args.kind m.made can.room there) (IsSound-failed s before)
@@ -30,7 +30,7 @@ pub returns-clause-at_hand : goal.returns-clause-at_hand
 returns-clause-at_hand c =
     let old = c.args.p.now in
     let m : Mark = record { id = c.self.inside.id; made = c.self.inside.made } in
-    let there : HasHole old m = subst (HasHole old) (sym c.self.view_is) c.requires.hole in
+    let there : HasOpenMarker old m = subst (HasOpenMarker old) (sym c.self.view_is) c.requires.open_marker in
     let completes : Completes m.id c.args.kind old c.if-has_room.p = search rules in
     node-completed m c.args.kind there completes.records
 

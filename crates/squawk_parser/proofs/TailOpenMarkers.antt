@@ -1,11 +1,11 @@
--- A marker's hole stays where a tail is run.
+-- A marker's item stays where a tail is run.
 use Rattle.std.proofs.Common.{◌≡◌, ◌∙◌, zero, suc, Bool, true, false, List, [], ◌∷◌, cond, arith, ap, sym, refl, subst}
 use Rattle.std.specs.Prelude.{Contains, filter}
 use Rattle.std.proofs.lemmas.List.Elements.{Contains-append_left}
 use Rattle.squawk_output.specs.Steps.{Step}
-use Rattle.squawk_output.specs.Draft.{Hole, Item, Mark, holes_of, is_hole}
+use Rattle.squawk_output.specs.Draft.{OpenMarker, Item, Mark, open_markers_of, is_open_marker}
 use Rattle.squawk_parser.specs.Recorded.{Puts, items_for}
-use Rattle.squawk_parser.specs.State.{State, HasNotFailed, HasHole, Keeps}
+use Rattle.squawk_parser.specs.State.{State, HasNotFailed, HasOpenMarker, Keeps}
 use Rattle.squawk_parser.proofs.RecordedSteps.{went}
 
 module _ {X : Type 0} (x : X) where
@@ -37,12 +37,12 @@ module _ {X : Type 0} (p : X → Bool) (x : X) where
       back true behind (suc k, lt, at) = Contains-tail x y ys (behind (k, omega arith, at))
       back false behind there = Contains-tail x y ys (behind there)
 
--- a part that leaves the holes as they are leaves a marker's hole, and so do steps behind it
-pub hole-behind_tail : {a b c : State} {xs : List Step} (m : Mark) → HasHole a m → Keeps a b
-    → (HasNotFailed b → holes_of b.draft.items ≡ holes_of a.draft.items) → Puts xs b c → HasHole c m
-hole-behind_tail {a} {b} {c} {xs} m there keeps holes puts goes =
+-- a part that leaves the open markers as they are leaves a marker's item, and so do steps behind it
+pub open_marker-behind_tail : {a b c : State} {xs : List Step} (m : Mark) → HasOpenMarker a m → Keeps a b
+    → (HasNotFailed b → open_markers_of b.draft.items ≡ open_markers_of a.draft.items) → Puts xs b c → HasOpenMarker c m
+open_marker-behind_tail {a} {b} {c} {xs} m there keeps open_markers puts goes =
     let ran : HasNotFailed b = went puts.keeps goes in
-    let hole : Item = Hole m.id m.made in
-    let before : Contains (holes_of a.draft.items) hole = Contains-filter is_hole hole a.draft.items refl (there (went keeps ran)) in
-    let after : Contains b.draft.items hole = Contains-unfiltered is_hole hole b.draft.items (subst (λ xs. Contains xs hole) (sym (holes ran)) before) in
-    subst (λ draft. Contains draft.items hole) (sym (puts.draft goes)) (Contains-append_left b.draft.items (items_for b.draft.entries xs) hole after)
+    let open_marker : Item = OpenMarker m.id m.made in
+    let before : Contains (open_markers_of a.draft.items) open_marker = Contains-filter is_open_marker open_marker a.draft.items refl (there (went keeps ran)) in
+    let after : Contains b.draft.items open_marker = Contains-unfiltered is_open_marker open_marker b.draft.items (subst (λ xs. Contains xs open_marker) (sym (open_markers ran)) before) in
+    subst (λ draft. Contains draft.items open_marker) (sym (puts.draft goes)) (Contains-append_left b.draft.items (items_for b.draft.entries xs) open_marker after)
