@@ -1,4 +1,4 @@
-/* Times both calls of the C interface over a file of SQL: doors FILE ROUNDS. The events are those of the file's own tree.
+/* Times the calls of the C interface over a file of SQL: doors FILE ROUNDS. The events are those of the file's own tree.
  * Built by: cc -O2 -Ibindings/c bench/doors.c -o doors bindings/out/libcaliperdock.a */
 #define _POSIX_C_SOURCE 200809L
 #include "caliperdock.h"
@@ -51,6 +51,16 @@ int main(int argc, char **argv) {
         least = took < least ? took : least;
     }
     printf("caliperdock_sql: %.1f ns a byte, %.1f ns a raw token\n", least * 1e9 / (double)len, least * 1e9 / (double)n.tokens);
+
+    uint64_t alone;
+    least = 1e9;
+    for (int i = 0; i < rounds; i++) {
+        double begun = now();
+        a = caliperdock_statements(text, len, statements, n.statements, &alone);
+        double took = now() - begun;
+        least = took < least ? took : least;
+    }
+    printf("caliperdock_statements: %.1f ns a byte; %llu statements\n", least * 1e9 / (double)len, (unsigned long long)alone);
 
     /* Trivia are no events. A token of the tree may be made of several raw tokens. */
     caliperdock_event *events = room(n.sent.steps, sizeof *events);

@@ -237,6 +237,13 @@ caliperdock_answer caliperdock_sql(
     uint8_t *texts, size_t text_room,
     caliperdock_sql_counts *counts);
 
+/* The statements alone, as caliperdock_sql has them, in less time. With any status but CALIPERDOCK_OK and
+ * CALIPERDOCK_TOO_SMALL count is 0. */
+caliperdock_answer caliperdock_statements(
+    const uint8_t *text, size_t text_len,
+    caliperdock_statement *statements, size_t statement_room,
+    uint64_t *count);
+
 /* ---- layout ----------------------------------------------------------------------------------- */
 
 #if defined(__cplusplus)

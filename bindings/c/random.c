@@ -52,7 +52,8 @@ int main(int argc, char **argv) {
         caliperdock_step steps[256];
         caliperdock_error errors[256];
         caliperdock_counts n;
-        caliperdock_statement statements[1];
+        caliperdock_statement statements[24] = {{0}}, alone[24] = {{0}};
+        uint64_t alone_count;
         caliperdock_sql_counts m;
         size_t text_len = below(24), token_count = below(8), event_count = 0;
         for (size_t i = 0; i < text_len; i++)
@@ -84,7 +85,11 @@ int main(int argc, char **argv) {
         told[a.status]++;
         if (a.status == CALIPERDOCK_OK)
             walk(steps, n.steps, text_len, n.whole == 1);
-        a = caliperdock_sql(text, text_len, tokens, 32, statements, 0, steps, 256, errors, 256, texts, sizeof texts, &m);
+        a = caliperdock_sql(text, text_len, tokens, 32, statements, 24, steps, 256, errors, 256, texts, sizeof texts, &m);
+        if (caliperdock_statements(text, text_len, alone, 24, &alone_count).status > CALIPERDOCK_TOO_SMALL
+            ? a.status <= CALIPERDOCK_TOO_SMALL
+            : alone_count != m.statements || memcmp(alone, statements, sizeof alone) != 0)
+            fail("the statements alone are others");
         if (a.status <= CALIPERDOCK_TOO_SMALL)
             walk(steps, m.sent.steps, text_len, 1);
         else if (a.status != CALIPERDOCK_NOT_UTF8)

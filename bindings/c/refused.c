@@ -41,37 +41,48 @@ static caliperdock_answer call(int door) {
                                             {0, 700, 0, 0}, {2, 3, 1, 0}, {3, 0, 4, 9}, {1, 0, 0, 0}};
     caliperdock_counts n;
     caliperdock_sql_counts m;
+    uint64_t count;
+    if (door == 2)
+        return caliperdock_statements((const uint8_t *)text, strlen(text), statements, 8, &count);
     if (door == 0)
         return caliperdock_events((const uint8_t *)"a 'abc", 6, raw, 3, log, 8, (const uint8_t *)"onetwo???", 9, steps, 256, errors, 8,
                                   texts, 512, &n);
     return caliperdock_sql((const uint8_t *)text, strlen(text), tokens, 64, statements, 8, steps, 256, errors, 8, texts, 512, &m);
 }
 
-/* Whether a call that was refused an allocation did what it should; `good` are the steps when nothing is refused. */
-static int is_right(caliperdock_answer a, const caliperdock_step *good) {
+static void clear(void) {
+    memset(steps, 0xAA, sizeof steps);
+    memset(statements, 0xAA, sizeof statements);
+}
+
+/* Whether a call that was refused an allocation did what it should; `good` is what it writes when nothing is refused. */
+static int is_right(caliperdock_answer a, const caliperdock_step *good, const caliperdock_statement *good_statements) {
     if (held != 0)
         return 0;
     if (a.status == CALIPERDOCK_NO_MEMORY)
-        return steps[0].tag == 0xAAAA;
-    return a.status == CALIPERDOCK_OK && memcmp(steps, good, sizeof steps) == 0;
+        return steps[0].tag == 0xAAAA && statements[0].kind == 0xAAAAAAAAAAAAAAAAu;
+    return a.status == CALIPERDOCK_OK && memcmp(steps, good, sizeof steps) == 0
+        && memcmp(statements, good_statements, sizeof statements) == 0;
 }
 
 int main(void) {
     static caliperdock_step good[256];
-    for (int door = 0; door < 2; door++) {
+    static caliperdock_statement good_statements[8];
+    for (int door = 0; door < 3; door++) {
         long refusals = 0;
-        memset(steps, 0xAA, sizeof steps);
+        clear();
         refused_at = asked = held = 0;
         if (call(door).status != CALIPERDOCK_OK || held != 0 || asked == 0)
             return 1;
         long all = asked;
         memcpy(good, steps, sizeof steps);
+        memcpy(good_statements, statements, sizeof statements);
         for (refused_at = 1; refused_at <= all; refused_at++) {
             asked = held = 0;
-            memset(steps, 0xAA, sizeof steps);
+            clear();
             caliperdock_answer a = call(door);
             refusals += a.status == CALIPERDOCK_NO_MEMORY;
-            if (!is_right(a, good)) {
+            if (!is_right(a, good, good_statements)) {
                 printf("refused.c: door %d, allocation %ld: status %u, %ld held\n", door, refused_at, a.status, held);
                 return 1;
             }

@@ -71,6 +71,23 @@ static void small_rooms_are_filled(void) {
     CHECK(steps[2].tag == 0xAAAA && steps[2].start == 0xAAAAAAAA);
 }
 
+static void statements_are_written(void) {
+    static const char two[] = "select (1; drop table t";
+    caliperdock_statement alone[2];
+    uint64_t n;
+    memset(alone, 0xAA, sizeof alone);
+    caliperdock_answer a = caliperdock_statements(bytes(two), strlen(two), alone, 1, &n);
+    CHECK(a.status == CALIPERDOCK_TOO_SMALL && n == 2);
+    CHECK(alone[0].kind == CALIPERDOCK_KIND_SELECT && alone[0].start == 0 && alone[0].end == 10);
+    CHECK(alone[1].kind == 0xAAAAAAAAAAAAAAAAu);
+    a = caliperdock_statements(bytes(two), strlen(two), alone, 2, &n);
+    CHECK(a.status == CALIPERDOCK_OK && n == 2);
+    CHECK(alone[1].kind == CALIPERDOCK_KIND_DROP && alone[1].start == 11 && alone[1].end == 23);
+    memset(alone, 0xAA, sizeof alone);
+    a = caliperdock_statements(bytes("a \xff"), 3, alone, 2, &n);
+    CHECK(a.status == CALIPERDOCK_NOT_UTF8 && a.place == 2 && n == 0 && alone[0].kind == 0xAAAAAAAAAAAAAAAAu);
+}
+
 /* The raw tokens of "a b", and events that make one node of it with an error behind. */
 static const caliperdock_token a_b[] = {{4, 1, 0, 0, 0}, {3, 1, 0, 0, 0}, {4, 1, 0, 0, 0}};
 static const caliperdock_event node[] = {{0, 700, 0, 0}, {2, 3, 1, 0}, {2, 3, 1, 0}, {3, 0, 1, 3}, {1, 0, 0, 0}};
@@ -138,6 +155,7 @@ static void refusals_name_the_place(void) {
 int main(void) {
     CHECK(caliperdock_abi() == CALIPERDOCK_ABI);
     sql_is_written();
+    statements_are_written();
     errors_are_written();
     small_rooms_are_filled();
     events_are_written();

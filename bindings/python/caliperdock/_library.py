@@ -1,6 +1,7 @@
 """The shared library by ctypes. Lists cross as arrays."""
 import ctypes
 import os
+import struct
 
 _U16, _U32, _U64, _SIZE = ctypes.c_uint16, ctypes.c_uint32, ctypes.c_uint64, ctypes.c_size_t
 
@@ -92,27 +93,51 @@ _sql.argtypes = [
 ]
 
 
+_statements = _library.caliperdock_statements
+_statements.restype = _Answer
+_statements.argtypes = [ctypes.c_char_p, _SIZE, ctypes.POINTER(RawStatement), _SIZE, ctypes.POINTER(_U64)]
+
+
+def rows(records, layout: str, count: int):
+    """The first records of an array, each as a tuple of its numbers."""
+    return struct.iter_unpack(layout, memoryview(records).cast("B")[: count * struct.calcsize(layout)])
+
+
+def statement_rows(data: bytes):
+    """Each statement of a text: its kind, and the bytes where it starts and ends."""
+    count = _U64()
+    room = len(data) // 40 + 4
+    while True:
+        statements = (RawStatement * room)()
+        answer = _statements(data, len(data), statements, room, ctypes.byref(count))
+        if answer.status > _TOO_SMALL:
+            raise Refused(answer.status, answer.place)
+        if count.value <= room:
+            return rows(statements, "=QQQ", count.value)
+        room = count.value
+
+
 class Written:
     """What the library wrote of a text: the lists that were wanted."""
 
-    def __init__(self, data: bytes, tokens: bool = False, statements: bool = False, steps: bool = False, errors: bool = False):
-        wanted = (tokens, statements, steps, errors, errors)
-        guess = (len(data) // 3 + 16, len(data) // 40 + 4, len(data) // 2 + 32, 4, 256)
+    def __init__(self, data: bytes, tokens: bool = False, steps: bool = False, errors: bool = False):
+        wanted = (tokens, steps, errors, errors)
+        guess = (len(data) // 3 + 16, len(data) // 2 + 32, 4, 256)
         counts = _Counts()
+        no_statements = (RawStatement * 1)()
         room = [n if want else 0 for n, want in zip(guess, wanted)]
         while True:
             self.tokens = (RawToken * max(room[0], 1))()
-            self.statements = (RawStatement * max(room[1], 1))()
-            self.steps = (RawStep * max(room[2], 1))()
-            self.errors = (RawError * max(room[3], 1))()
-            self._texts = ctypes.create_string_buffer(max(room[4], 1))
+            self.steps = (RawStep * max(room[1], 1))()
+            self.errors = (RawError * max(room[2], 1))()
+            self._texts = ctypes.create_string_buffer(max(room[3], 1))
             answer = _sql(
-                data, len(data), self.tokens, room[0], self.statements, room[1], self.steps, room[2],
-                self.errors, room[3], self._texts, room[4], ctypes.byref(counts),
+                data, len(data), self.tokens, room[0], no_statements, 0, self.steps, room[1],
+                self.errors, room[2], self._texts, room[3], ctypes.byref(counts),
             )
             if answer.status > _TOO_SMALL:
                 raise Refused(answer.status, answer.place)
-            there = (counts.tokens, counts.statements, counts.steps, counts.errors, counts.texts)
+            there = (counts.tokens, counts.steps, counts.errors, counts.texts)
             if all(n <= has for n, has, want in zip(there, room, wanted) if want):
                 break
             room = [n if want else 0 for n, want in zip(there, wanted)]

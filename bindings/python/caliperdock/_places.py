@@ -8,7 +8,8 @@ class Source:
 
     def __init__(self, text: str):
         self.data = text.encode()
-        self._ascii = len(self.data) == len(text)
+        self._text = text
+        self._ascii = text.isascii()
         self._before = None
 
     def char(self, at: int) -> int:
@@ -26,6 +27,10 @@ class Source:
         """How many characters begin in these bytes."""
         return len(self.data[start:end].translate(None, _CONTINUATION))
 
+    def len(self, start: int, end: int) -> int:
+        """How many characters these bytes are."""
+        return end - start if self._ascii else self._count(start, end)
+
     def text(self, start: int, end: int) -> str:
         """The characters of these bytes."""
-        return self.data[start:end].decode()
+        return self._text[start:end] if self._ascii else self.data[start:end].decode()

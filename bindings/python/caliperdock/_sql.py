@@ -2,7 +2,7 @@
 from typing import List, NamedTuple, Optional
 
 from ._kinds import KINDS
-from ._library import Written
+from ._library import Written, rows, statement_rows
 from ._places import Source
 
 
@@ -65,13 +65,12 @@ def split(sql: str) -> List[Statement]:
     ['do $$ begin; end $$;', "select ';'"]
     """
     source = Source(sql)
-    written = Written(source.data, statements=True)
     statements, at, char = [], 0, 0
-    for raw in written.statements[: written.counts.statements]:
-        start = char + len(source.text(at, raw.start))
-        text = source.text(raw.start, raw.end)
-        at, char = raw.end, start + len(text)
-        statements.append(Statement(kind_name(raw.kind), text, start, char, raw.start, raw.end))
+    for kind, start_byte, end_byte in statement_rows(source.data):
+        start = char + source.len(at, start_byte)
+        text = source.text(start_byte, end_byte)
+        at, char = end_byte, start + len(text)
+        statements.append(Statement(kind_name(kind), text, start, char, start_byte, end_byte))
     return statements
 
 
@@ -84,11 +83,11 @@ def tokenize(sql: str) -> List[Token]:
     source = Source(sql)
     written = Written(source.data, tokens=True)
     tokens, at, char = [], 0, 0
-    for raw in written.tokens[: written.counts.tokens]:
-        text = source.text(at, at + raw.len)
-        terminated = raw.kind not in _CLOSED or bool(raw.flags & 1)
-        tokens.append(Token(_TOKEN_KINDS[raw.kind], text, char, char + len(text), at, at + raw.len, terminated))
-        at, char = at + raw.len, char + len(text)
+    for kind, size, _, _, flags in rows(written.tokens, "=IIIII", written.counts.tokens):
+        text = source.text(at, at + size)
+        terminated = kind not in _CLOSED or bool(flags & 1)
+        tokens.append(Token(_TOKEN_KINDS[kind], text, char, char + len(text), at, at + size, terminated))
+        at, char = at + size, char + len(text)
     return tokens
 
 

@@ -121,6 +121,14 @@ unsafe extern "C" {
         text_room: usize,
         counts: *mut RawSqlCounts,
     ) -> RawAnswer;
+
+    fn caliperdock_statements(
+        text: *const u8,
+        text_len: usize,
+        statements: *mut RawStatement,
+        statement_room: usize,
+        count: *mut u64,
+    ) -> RawAnswer;
 }
 
 /// The status of a call whose buffers were too small.
@@ -235,7 +243,6 @@ pub(crate) fn events(
 #[derive(Default)]
 pub(crate) struct WrittenSql {
     pub tokens: Vec<RawToken>,
-    pub statements: Vec<RawStatement>,
     pub written: Written,
 }
 
@@ -243,18 +250,17 @@ pub(crate) struct WrittenSql {
 #[derive(Clone, Copy, PartialEq, Eq)]
 pub(crate) enum Wanted {
     Tokens,
-    Statements,
     Tree,
 }
 
 /// The lists of a text of SQL that are wanted; of the others nothing.
 pub(crate) fn sql(text: &str, wanted: Wanted) -> Result<WrittenSql, Refused> {
     let mut all = WrittenSql::default();
+    let mut no_statements: [RawStatement; 0] = [];
     let mut counts = guess(text.len() as u64);
     loop {
         match wanted {
             Wanted::Tokens => resize(&mut all.tokens, counts.tokens)?,
-            Wanted::Statements => resize(&mut all.statements, counts.statements)?,
             Wanted::Tree => {
                 all.written.counts = counts.sent;
                 all.written.resize()?;
@@ -267,8 +273,8 @@ pub(crate) fn sql(text: &str, wanted: Wanted) -> Result<WrittenSql, Refused> {
                 text.len(),
                 all.tokens.as_mut_ptr(),
                 all.tokens.len(),
-                all.statements.as_mut_ptr(),
-                all.statements.len(),
+                no_statements.as_mut_ptr(),
+                0,
                 all.written.steps.as_mut_ptr(),
                 all.written.steps.len(),
                 all.written.errors.as_mut_ptr(),
@@ -281,7 +287,6 @@ pub(crate) fn sql(text: &str, wanted: Wanted) -> Result<WrittenSql, Refused> {
         answer.is_done()?;
         let fits = match wanted {
             Wanted::Tokens => counts.tokens <= all.tokens.len() as u64,
-            Wanted::Statements => counts.statements <= all.statements.len() as u64,
             Wanted::Tree => {
                 counts.sent.steps <= all.written.steps.len() as u64
                     && counts.sent.errors <= all.written.errors.len() as u64
@@ -290,7 +295,6 @@ pub(crate) fn sql(text: &str, wanted: Wanted) -> Result<WrittenSql, Refused> {
         };
         if fits {
             all.tokens.truncate(counts.tokens as usize);
-            all.statements.truncate(counts.statements as usize);
             if wanted == Wanted::Tree {
                 all.written.counts = counts.sent;
                 all.written.resize()?;
@@ -300,11 +304,34 @@ pub(crate) fn sql(text: &str, wanted: Wanted) -> Result<WrittenSql, Refused> {
     }
 }
 
+/// The statements of a text of SQL.
+pub(crate) fn statements(text: &str) -> Result<Vec<RawStatement>, Refused> {
+    let mut all = Vec::new();
+    let mut count = text.len() as u64 / 40 + 4;
+    loop {
+        resize(&mut all, count)?;
+        // SAFETY: as above.
+        let answer = unsafe {
+            caliperdock_statements(
+                text.as_ptr(),
+                text.len(),
+                all.as_mut_ptr(),
+                all.len(),
+                &mut count,
+            )
+        };
+        if answer.is_done()? {
+            all.truncate(count as usize);
+            return Ok(all);
+        }
+    }
+}
+
 /// How much a text of so many bytes has, mostly.
 fn guess(len: u64) -> RawSqlCounts {
     RawSqlCounts {
         tokens: len / 3 + 16,
-        statements: len / 40 + 4,
+        statements: 0,
         sent: RawCounts {
             steps: len / 2 + 32,
             errors: 4,

@@ -43,8 +43,8 @@ pub fn tokens(sql: &str) -> Result<Vec<Token>, Refused> {
 /// # Ok::<(), caliperdock::Refused>(())
 /// ```
 pub fn statements(sql: &str) -> Result<Vec<Statement>, Refused> {
-    let all = ffi::sql(sql, Wanted::Statements)?;
-    let statements = all.statements.iter().map(|raw| Statement {
+    let all = ffi::statements(sql)?;
+    let statements = all.iter().map(|raw| Statement {
         kind: SyntaxKind::from(raw.kind as u16),
         range: raw.start as usize..raw.end as usize,
     });

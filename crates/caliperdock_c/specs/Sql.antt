@@ -111,3 +111,11 @@ pub record AreSqlWritten (text : List ℕ) (tokens : List CToken) (statements : 
   pub statements_are : new_statements ≡ over (map numbered_statement (statements_of (sent_list table walk))) statements
   pub statement_count : counts.statements ≡ length (statements_of (sent_list table walk))
   pub written : AreWritten table (sent_list table walk) steps errors texts new_steps new_errors new_texts counts.sent
+
+-- The statements of a parse of the text, in numbers, over what stood there before; and how many there are.
+pub record AreStatementsWritten (text : List ℕ) (statements new_statements : List CStatement) (count : ℕ) : Type 0 where
+  pub table : RawTable
+  pub walk : List Step
+  pub of_text : AreOfSql text table walk
+  pub are : new_statements ≡ over (map numbered_statement (statements_of (sent_list table walk))) statements
+  pub count_is : count ≡ length (statements_of (sent_list table walk))

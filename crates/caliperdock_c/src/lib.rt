@@ -8,7 +8,7 @@ ghost use Rattle.std.specs.Prelude.{◌≡◌, ◌≤◌, ◌↔◌, length, IfO
 ghost use Rattle.caliperdock_c.specs.Answers.{answer_of};
 ghost use Rattle.caliperdock_c.specs.Refusals.{Refuses, given};
 ghost use Rattle.caliperdock_c.specs.Sent.{AreSent, HasRoom, no_counts};
-ghost use Rattle.caliperdock_c.specs.Sql.{AreSqlWritten, HasSqlRoom, RefusesSql, no_sql_counts};
+ghost use Rattle.caliperdock_c.specs.Sql.{AreSqlWritten, AreStatementsWritten, HasSqlRoom, RefusesSql, no_sql_counts};
 ghost use Rattle.caliperdock_c.specs.declared.answer.Refusal.{Refusal};
 
 pub mod answer;
@@ -32,7 +32,7 @@ use errors::CError;
 use event::CEvent;
 use parsed::parse_events;
 use sent::{CCounts, send};
-use sql_lists::{CSqlCounts, write_sql};
+use sql_lists::{CSqlCounts, write_cut, write_sql};
 use statement::CStatement;
 use std::alloc::Global;
 use steps::CStep;
@@ -124,6 +124,36 @@ pub extern "C" fn caliperdock_sql(
         }
         Err(refusal) => {
             *counts = CSqlCounts::none();
+            CAnswer::refused(refusal)
+        }
+    }
+}
+
+/// The statements of a text of SQL alone, as `caliperdock_sql` tells them, and how many there are.
+#[unsafe(no_mangle)]
+pub extern "C" fn caliperdock_statements(
+    alloc: Global,
+    text: &[u8],
+    statements: &mut [CStatement],
+    count: &mut u64,
+) -> CAnswer
+    ensures written { result.status ≤ 1 → AreStatementsWritten text.now statements.old statements.new count.new }
+    ensures place { result.status ≤ 1 → result.place ≡ 0 }
+    ensures room { result.status ≡ 0 ↔ ((result.status ≤ 1) × (count.new ≤ length statements.old)) }
+    ensures refused { 2 ≤ result.status → (reason : Refusal) × RefusesSql text.now reason × (result ≡ answer_of reason)
+        × (count.new ≡ 0) × (statements.new ≡ statements.old) }
+{
+    match write_cut(alloc, text, statements) {
+        Ok(written) => {
+            *count = written as u64;
+            if written <= statements.len() {
+                CAnswer::done()
+            } else {
+                CAnswer::too_small()
+            }
+        }
+        Err(refusal) => {
+            *count = 0;
             CAnswer::refused(refusal)
         }
     }

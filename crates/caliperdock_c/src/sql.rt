@@ -10,7 +10,7 @@ ghost use Rattle.caliperdock_c.specs.Sql.{AreOfFile, AreOfSql, RefusesParse, Ref
 
 use crate::answer::Refusal;
 use crate::parsed::Parsed;
-use sql_grammar::{NAMES, SqlGrammar};
+use sql_grammar::{Detail, NAMES, SqlGrammar};
 use sql_lexer::tokenize_script;
 use sql_words::vocabulary;
 use squawk_keywords::Keywords;
@@ -26,7 +26,7 @@ pub struct Sql<'t> {
 
 /// The parse of a text of SQL.
 #[tactic(auto, using(crate::proofs::SqlReasons::of_lexer, crate::proofs::SqlReasons::of_parse))]
-pub fn parse_sql<'t>(alloc: Global, text: &'t str) -> Result<Sql<'t>, Refusal>
+pub fn parse_sql<'t>(alloc: Global, text: &'t str, detail: Detail) -> Result<Sql<'t>, Refusal>
     ensures tokens { IfOk result (λ sql. sql.tokens.items ≡ script_tokens text.now) }
     ensures steps { IfOk result (λ sql. AreOfSql text.now sql.parsed.table sql.parsed.output.steps) }
     ensures fits { IfOk result (λ sql. Fits sql.parsed.table sql.parsed.output.steps) }
@@ -39,7 +39,7 @@ pub fn parse_sql<'t>(alloc: Global, text: &'t str) -> Result<Sql<'t>, Refusal>
     let tokens = tokenize_script(alloc, text)?;
     let vocabulary = vocabulary(alloc)?;
     let table = LexedStr::from_accepted(alloc, text, &tokens, &vocabulary)?;
-    let output = parse_table(alloc, &table, &vocabulary)?;
+    let output = parse_table(alloc, &table, &vocabulary, detail)?;
     Ok(Sql {
         tokens,
         parsed: Parsed { table, output },
@@ -52,6 +52,7 @@ fn parse_table(
     alloc: Global,
     table: &LexedStr<'_>,
     vocabulary: &Keywords<'_>,
+    detail: Detail,
 ) -> Result<Output, Refusal>
     ensures file { IfOk result (λ output. AreOfFile (contextual_keyword_of vocabulary.now) table.now output.steps) }
     ensures fits { IfOk result (λ output. Fits table.now output.steps) }
@@ -61,7 +62,10 @@ fn parse_table(
     ensures refused { IfErr result (RefusesParse (contextual_keyword_of vocabulary.now) table.now) }
 {
     let input = table.to_input(alloc, vocabulary)?;
-    let grammar = SqlGrammar { names: &NAMES };
+    let grammar = SqlGrammar {
+        names: &NAMES,
+        detail,
+    };
     let output = EntryPoint::SourceFile.parse(alloc, &input, &grammar)?;
     let _steps = table.str_steps(&output);
     Ok(output)

@@ -1,7 +1,7 @@
 //! What is written of a text of SQL.
 ghost use Rattle.std.specs.Prelude.{◌≡◌, ◌↔◌, IfOk, IfErr, IsTrue, OnErr, map};
 ghost use Rattle.caliperdock_c.specs.Overlays.{over};
-ghost use Rattle.caliperdock_c.specs.Sql.{AreSqlWritten, HasSqlRoom, RefusesSql, no_sql_counts};
+ghost use Rattle.caliperdock_c.specs.Sql.{AreSqlWritten, AreStatementsWritten, HasSqlRoom, RefusesSql, no_sql_counts};
 ghost use Rattle.caliperdock_c.specs.Statements.{numbered_statement};
 ghost use Rattle.caliperdock_c.specs.TokenNumbers.{number_of};
 
@@ -14,6 +14,7 @@ use crate::statement::{CStatement, numbered_statement};
 use crate::steps::CStep;
 use crate::token::CToken;
 use crate::token_numbers::number_of;
+use sql_grammar::Detail;
 use sql_report::{Statement, statements};
 use squawk_parser::Token;
 use std::alloc::Global;
@@ -75,7 +76,7 @@ pub fn write_sql(
     ensures errors_stay { OnErr result (errors.new ≡ errors.old) }
     ensures texts_stay { OnErr result (texts.new ≡ texts.old) }
 {
-    let sql = parse_sql(alloc, text_of(text)?)?;
+    let sql = parse_sql(alloc, text_of(text)?, Detail::Nodes)?;
     let found = statements(alloc, &sql.parsed.table, &sql.parsed.output)?;
     let sent = send(
         alloc,
@@ -92,6 +93,19 @@ pub fn write_sql(
         statements: found.len() as u64,
         sent,
     })
+}
+
+/// Writes the statements of a text of SQL, as far as there is room. Returns how many there are.
+#[tactic(auto, using(crate::proofs::SqlReasons::of_bytes))]
+pub fn write_cut(alloc: Global, text: &[u8], room: &mut [CStatement]) -> Result<usize, Refusal>
+    ensures written { IfOk result (AreStatementsWritten text.now room.old room.new) }
+    ensures refused { IfErr result (RefusesSql text.now) }
+    ensures stay { OnErr result (room.new ≡ room.old) }
+{
+    let sql = parse_sql(alloc, text_of(text)?, Detail::Tokens)?;
+    let found = statements(alloc, &sql.parsed.table, &sql.parsed.output)?;
+    write_statements(room, &found);
+    Ok(found.len())
 }
 
 /// Writes as many raw tokens as there is room for.

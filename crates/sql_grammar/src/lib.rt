@@ -34,10 +34,21 @@ pub const NAMES: [(SyntaxKind, &str); 3] = [
     (SqlKind::END_KW, "END"),
 ];
 
-/// A source file of SQL statements and commands of psql. Errors name kinds by these names.
+/// What the node of a statement has.
+#[derive(Clone, Copy, Debug, PartialEq, Eq)]
+pub enum Detail {
+    /// Its tokens alone, and no errors.
+    Tokens,
+    /// Clauses, brackets and blocks.
+    Nodes,
+}
+
+/// A source file of SQL statements and commands of psql. Errors name kinds by these names. The detail changes no end
+/// of a statement.
 #[derive(Clone, Copy)]
 pub struct SqlGrammar<'n> {
     pub names: &'n [(SyntaxKind, &'n str)],
+    pub detail: Detail,
 }
 
 impl<'n> Grammar for SqlGrammar<'n> {
@@ -62,7 +73,7 @@ impl<'n> Grammar for SqlGrammar<'n> {
     fn entry_point(&self, p: &mut Parser<'_>) -> Result<(), AllocError> {
         let file = p.start();
         while p.current() != SyntaxKind::EOF {
-            statement(p);
+            statement(p, self.detail);
         }
         file.complete(p, SqlKind::SOURCE_FILE);
         Ok(())

@@ -2,10 +2,12 @@
 ghost use Rattle.std.specs.Prelude.{◌≢◌, ◌<◌};
 ghost use Rattle.squawk_kinds.specs.Kinds.{EOF};
 ghost use Rattle.squawk_table.specs.ParserInput.{kinds_in};
-ghost use Rattle.squawk_parser.specs.State.{ahead, kind_at};
+ghost use Rattle.squawk_parser.specs.SomeSteps.{AddsSome};
+ghost use Rattle.squawk_parser.specs.State.{IsSound, ahead, kind_at};
 ghost use Rattle.sql_grammar.specs.Files.{AddsStatement};
 ghost use Rattle.sql_grammar.specs.Statements.{first_statement};
 
+use crate::Detail;
 use crate::clauses::{Query, query_in};
 use crate::cut::{body_of, len_of};
 use crate::elements::{DEPTH, content};
@@ -14,7 +16,7 @@ use crate::statement_kinds::kind_of;
 use squawk_parser::{Parser, Part, SyntaxKind};
 
 /// A statement with what ends it, or a command of psql.
-pub(crate) fn statement(p: &mut Parser<'_>)
+pub(crate) fn statement(p: &mut Parser<'_>, detail: Detail)
     requires { kind_at p.old 0 ≢ EOF }
     ensures adds { AddsStatement (first_statement (kinds_in (ahead p.old 0))) p.old p.new }
     ensures eats { p.old.position < p.new.position }
@@ -26,15 +28,18 @@ pub(crate) fn statement(p: &mut Parser<'_>)
     let content = StatementContent {
         query: query_in(kind),
         inside: Inside::statement(body),
+        detail,
     };
     p.with_limit(len, content);
     node.complete(p, kind);
 }
 
 /// All that a parser under a statement's limit sees.
+#[derive(Clone, Copy)]
 struct StatementContent {
     query: Query,
     inside: Inside,
+    detail: Detail,
 }
 
 impl Part for StatementContent {
@@ -45,10 +50,22 @@ impl Part for StatementContent {
     ghost does = { λ _ before after _. AddsRest before after };
 
     fn run(self, p: &mut Parser<'_>) {
-        let StatementContent { query, inside } = self;
-        content(p, query, inside, DEPTH);
+        self.nodes(p);
         while p.current() != SyntaxKind::EOF {
             p.bump_any();
+        }
+    }
+}
+
+impl StatementContent {
+    /// Its nodes, if they are wanted.
+    fn nodes(&self, p: &mut Parser<'_>)
+        requires { IsSound p.old }
+        ensures adds { AddsSome p.old p.new }
+    {
+        match self.detail {
+            Detail::Tokens => {}
+            Detail::Nodes => content(p, self.query, self.inside, DEPTH),
         }
     }
 }

@@ -3,7 +3,7 @@
 mod cases;
 mod depth;
 
-use crate::{NAMES, SqlGrammar};
+use crate::{Detail, NAMES, SqlGrammar};
 use sql_lexer::tokenize;
 use sql_words::{names, vocabulary};
 use squawk_parser::{
@@ -18,11 +18,15 @@ use std::test::Fail;
 fn send<S: StepSink<Refusal = AllocError>>(
     alloc: Global,
     text: &str,
+    detail: Detail,
     sink: &mut S,
 ) -> Result<(), Fail> {
     let tokens = tokenize(alloc, text)?;
     let keywords = vocabulary(alloc)?;
-    let grammar = SqlGrammar { names: &NAMES };
+    let grammar = SqlGrammar {
+        names: &NAMES,
+        detail,
+    };
     let entry = EntryPoint::SourceFile;
     parse_whole_into(alloc, text, &tokens, &keywords, &grammar, entry, sink)?;
     Ok(())
@@ -50,9 +54,18 @@ fn line_of(alloc: Global, steps: &[OwnedStep]) -> Result<String, Fail> {
 
 /// Parses each text, and ends the test unless its file has these nodes.
 fn assert_trees(rt: &(impl Abort + AllocGlobal), cases: &[(&str, &str)]) -> Result<(), Fail> {
+    assert_nodes(rt, Detail::Nodes, cases)
+}
+
+/// The same of a tree in this detail.
+fn assert_nodes(
+    rt: &(impl Abort + AllocGlobal),
+    detail: Detail,
+    cases: &[(&str, &str)],
+) -> Result<(), Fail> {
     for (text, nodes) in cases {
         let mut list = StepList::new(rt.alloc());
-        send(rt.alloc(), text, &mut list)?;
+        send(rt.alloc(), text, detail, &mut list)?;
         let line = line_of(rt.alloc(), list.steps())?;
         let wanted = format!(in rt.alloc(); "SOURCE_FILE{{{nodes}}}")?;
         assert_eq!(rt; line.as_str(), wanted.as_str(), "{text}");

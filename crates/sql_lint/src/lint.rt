@@ -9,7 +9,7 @@ ghost use Rattle.sql_lint.specs.Linted.{AreLinted};
 ghost use Rattle.sql_lint.specs.Rules.{findings_in};
 
 use crate::rules::broken_rule;
-use sql_grammar::{NAMES, SqlGrammar};
+use sql_grammar::{Detail, NAMES, SqlGrammar};
 use sql_lexer::tokenize_script;
 use sql_report::{Finding, error_lines};
 use squawk_parser::{EntryPoint, Vocabulary};
@@ -25,7 +25,10 @@ pub fn lint<V: Vocabulary>(alloc: Global, words: &V, name: &str, text: &str) -> 
     let Ok(tokens) = tokenize_script(alloc, text) else {
         return Err(io::Error::from(ErrorKind::OutOfMemory));
     };
-    let grammar = SqlGrammar { names: &NAMES };
+    let grammar = SqlGrammar {
+        names: &NAMES,
+        detail: Detail::Nodes,
+    };
     let entry = EntryPoint::SourceFile;
     let Ok(tree) = parse_accepted_tree(alloc, text, &tokens, words, &grammar, entry) else {
         return Err(io::Error::from(ErrorKind::OutOfMemory));

@@ -11,7 +11,7 @@ ghost use Rattle.squawk_tokens.specs.AcceptedTokens.{AreAcceptedTokens};
 ghost use Rattle.sql_lexer.specs.Scripts.{script_tokens};
 
 use crate::unread::Unread;
-use sql_grammar::{NAMES, SqlGrammar};
+use sql_grammar::{Detail, NAMES, SqlGrammar};
 use sql_lexer::tokenize_script;
 use sql_words::{names, vocabulary};
 use squawk_keywords::Keywords;
@@ -65,7 +65,10 @@ impl Sql {
         ensures whole { IfOk result (λ output. texts_of (sent_list table.now output.steps) ≡ chars table.now.text) }
     {
         let input = table.to_input(alloc, &self.vocabulary)?;
-        let grammar = SqlGrammar { names: &NAMES };
+        let grammar = SqlGrammar {
+            names: &NAMES,
+            detail: Detail::Nodes,
+        };
         let output = EntryPoint::SourceFile.parse(alloc, &input, &grammar)?;
         let _steps = table.str_steps(&output);
         Ok(output)

@@ -8,7 +8,7 @@ ghost use Rattle.syntax_tree.specs.Views.{IsTreeOf};
 ghost use Rattle.sql_trim.specs.Formatted.{IsTrimmed, formatted, piece};
 
 use crate::trim::push_trimmed;
-use sql_grammar::{NAMES, SqlGrammar};
+use sql_grammar::{Detail, NAMES, SqlGrammar};
 use sql_lexer::tokenize_script;
 use squawk_parser::{EntryPoint, SyntaxKind, Vocabulary};
 use std::alloc::{AllocError, Global};
@@ -23,7 +23,10 @@ pub fn format<V: Vocabulary>(alloc: Global, words: &V, text: &str) -> io::Result
     let Ok(tokens) = tokenize_script(alloc, text) else {
         return Err(io::Error::from(ErrorKind::OutOfMemory));
     };
-    let grammar = SqlGrammar { names: &NAMES };
+    let grammar = SqlGrammar {
+        names: &NAMES,
+        detail: Detail::Nodes,
+    };
     let entry = EntryPoint::SourceFile;
     let Ok(tree) = parse_accepted_tree(alloc, text, &tokens, words, &grammar, entry) else {
         return Err(io::Error::from(ErrorKind::OutOfMemory));

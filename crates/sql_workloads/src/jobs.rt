@@ -3,7 +3,7 @@ ghost use Rattle.std.specs.Prelude.{IfOk};
 ghost use Rattle.squawk_tokens.specs.AcceptedTokens.{AreAcceptedTokens};
 
 use crate::texts::Texts;
-use sql_grammar::{NAMES, SqlGrammar};
+use sql_grammar::{Detail, NAMES, SqlGrammar};
 use sql_lexer::{TokenizeError, tokenize_script};
 use squawk_keywords::Keywords;
 use squawk_parser::{
@@ -73,7 +73,10 @@ fn send<S: StepSink<Refusal = AllocError>>(
 ) -> Result<(), AllocError>
     requires { AreAcceptedTokens text.now tokens.now }
 {
-    let grammar = SqlGrammar { names: &NAMES };
+    let grammar = SqlGrammar {
+        names: &NAMES,
+        detail: Detail::Nodes,
+    };
     let entry = EntryPoint::SourceFile;
     match parse_accepted_into(alloc, text, tokens, words, &grammar, entry, sink) {
         Ok(_sent) => Ok(()),
@@ -90,7 +93,10 @@ fn tree<'t>(
 ) -> Result<SyntaxTree<'t>, AllocError>
     requires { AreAcceptedTokens text.now tokens.now }
 {
-    let grammar = SqlGrammar { names: &NAMES };
+    let grammar = SqlGrammar {
+        names: &NAMES,
+        detail: Detail::Nodes,
+    };
     let entry = EntryPoint::SourceFile;
     match parse_accepted_tree(alloc, text, tokens, words, &grammar, entry) {
         Ok(tree) => Ok(tree),
@@ -174,7 +180,10 @@ fn done(alloc: Global, words: &Keywords<'_>, text: &str, phase: Phase) -> Result
         Phase::Parse => {
             let table = LexedStr::from_accepted(alloc, text, &tokens, words)?;
             let input = table.to_input(alloc, words)?;
-            let grammar = SqlGrammar { names: &NAMES };
+            let grammar = SqlGrammar {
+                names: &NAMES,
+                detail: Detail::Nodes,
+            };
             match EntryPoint::SourceFile.parse(alloc, &input, &grammar) {
                 Ok(output) => Ok(u64::from(output.recorded())),
                 Err(_refusal) => Err(AllocError),

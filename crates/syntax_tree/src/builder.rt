@@ -86,11 +86,21 @@ impl<'s> TreeBuilder<'s> {
         ensures after { StandsAfter result [] }
         ensures source { result.source ≡ source.now }
     {
+        TreeBuilder::with_capacity(alloc, source, 0)
+    }
+
+    /// The same with room for this many nodes and tokens. Where that memory is refused, it comes step by step.
+    pub fn with_capacity(alloc: Global, source: &'s str, elements: usize) -> TreeBuilder<'s>
+        ensures after { StandsAfter result [] }
+        ensures source { result.source ≡ source.now }
+    {
+        let mut room = Vec::new(alloc);
+        let _ = room.reserve(elements);
         TreeBuilder {
             alloc,
             source,
             sent: 0,
-            elements: Vec::new(alloc),
+            elements: room,
             innermost: NONE,
             errors: Vec::new(alloc),
             steps: 0,

@@ -52,8 +52,10 @@ pub fn parse_accepted_tree<'s, V: Vocabulary, G: Grammar>(
     ensures refused { let g = given (V.keyword vocabulary.now) (V.contextual_keyword vocabulary.now) text.now tokens.now in
         IfErr result (IsTreeRefusal g (G.leaves grammar.now entry) (G.runs grammar.now entry) (G.meaning grammar.now)) }
 {
+    // Most trees have fewer nodes than half as many as raw tokens.
+    let elements = tokens.len().saturating_add(tokens.len() / 2);
     let mut sink = SourceSink {
-        builder: TreeBuilder::new(alloc, text),
+        builder: TreeBuilder::with_capacity(alloc, text, elements),
     };
     match parse_accepted_into(alloc, text, tokens, vocabulary, grammar, entry, &mut sink) {
         Ok(_sent) => match sink.builder.finish() {

@@ -24,6 +24,70 @@ const PLUS: SyntaxKind = SyntaxKind(27);
 
 const SPACE: SyntaxKind = SyntaxKind(639);
 
+/// The steps of [`sum`].
+const SUM_STEPS: [StrStep<'static>; 21] = [
+    StrStep::Error {
+        msg: "early",
+        pos: 0,
+    },
+    StrStep::Enter { kind: ROOT },
+    StrStep::Token {
+        kind: NAME,
+        text: "a",
+    },
+    StrStep::Error {
+        msg: "before",
+        pos: 1,
+    },
+    StrStep::Enter { kind: SUM },
+    StrStep::Error {
+        msg: "begins",
+        pos: 1,
+    },
+    StrStep::Enter { kind: EMPTY },
+    StrStep::Exit,
+    StrStep::Token {
+        kind: PLUS,
+        text: "+",
+    },
+    StrStep::Token {
+        kind: NAME,
+        text: "é",
+    },
+    StrStep::Enter { kind: EMPTY },
+    StrStep::Error {
+        msg: "missing",
+        pos: 4,
+    },
+    StrStep::Exit,
+    StrStep::Error {
+        msg: "ends",
+        pos: 4,
+    },
+    StrStep::Exit,
+    StrStep::Error {
+        msg: "after",
+        pos: 4,
+    },
+    StrStep::Token {
+        kind: SPACE,
+        text: " ",
+    },
+    StrStep::Token {
+        kind: NAME,
+        text: "b",
+    },
+    StrStep::Error {
+        msg: "late",
+        pos: 6,
+    },
+    StrStep::Exit,
+    StrStep::Error {
+        msg: "behind",
+        pos: 6,
+    },
+];
+
 fn name(kind: SyntaxKind) -> &'static str {
     match kind {
         ROOT => "ROOT",
@@ -86,67 +150,5 @@ fn built<'s>(
 ///   NAME 5..6 "b"
 /// ```
 fn sum(alloc: Global) -> Result<SyntaxTree<'static>, Fail> {
-    let steps = [
-        StrStep::Error {
-            msg: "early",
-            pos: 0,
-        },
-        StrStep::Enter { kind: ROOT },
-        StrStep::Token {
-            kind: NAME,
-            text: "a",
-        },
-        StrStep::Error {
-            msg: "before",
-            pos: 1,
-        },
-        StrStep::Enter { kind: SUM },
-        StrStep::Error {
-            msg: "begins",
-            pos: 1,
-        },
-        StrStep::Enter { kind: EMPTY },
-        StrStep::Exit,
-        StrStep::Token {
-            kind: PLUS,
-            text: "+",
-        },
-        StrStep::Token {
-            kind: NAME,
-            text: "é",
-        },
-        StrStep::Enter { kind: EMPTY },
-        StrStep::Error {
-            msg: "missing",
-            pos: 4,
-        },
-        StrStep::Exit,
-        StrStep::Error {
-            msg: "ends",
-            pos: 4,
-        },
-        StrStep::Exit,
-        StrStep::Error {
-            msg: "after",
-            pos: 4,
-        },
-        StrStep::Token {
-            kind: SPACE,
-            text: " ",
-        },
-        StrStep::Token {
-            kind: NAME,
-            text: "b",
-        },
-        StrStep::Error {
-            msg: "late",
-            pos: 6,
-        },
-        StrStep::Exit,
-        StrStep::Error {
-            msg: "behind",
-            pos: 6,
-        },
-    ];
-    built(alloc, "a+é b;", &steps)
+    built(alloc, "a+é b;", &SUM_STEPS)
 }

@@ -1,6 +1,7 @@
 //! The cases: a text, and the nodes of its file. An error behind the end of a node is sent before that end.
 
-use crate::tests::assert_trees;
+use crate::Detail;
+use crate::tests::{assert_nodes, assert_trees};
 use std::test::Fail;
 
 /// Kinds of statements, and where they end.
@@ -29,6 +30,16 @@ const STATEMENTS: [(&str, &str); 12] = [
     ("show (a \\gx", "SHOW{show GROUP{( a !expected );}\\gx }"),
     ("grant select on t to u", "GRANT{grant select on t to u }"),
     ("(\\d\n)", "STATEMENT{GROUP{( \\d ) }}"),
+];
+
+/// Statements with their tokens alone.
+const CUT: [(&str, &str); 3] = [
+    ("select (a; b", "SELECT{select ( a ; }STATEMENT{b }"),
+    ("show a -> b", "SHOW{show a - > b }"),
+    (
+        "create function f() begin atomic case a end; end; c",
+        "CREATE{create function f ( ) begin atomic case a end ; end ; }STATEMENT{c }",
+    ),
 ];
 
 /// Brackets.
@@ -259,4 +270,9 @@ fn queries_have_clauses(rt: HostRuntime) -> Result<(), Fail> {
 #[test]
 fn composite_kinds_are_nodes_or_tokens(rt: HostRuntime) -> Result<(), Fail> {
     assert_trees(&rt, &COMPOSITES)
+}
+
+#[test]
+fn statements_are_cut_without_nodes(rt: HostRuntime) -> Result<(), Fail> {
+    assert_nodes(&rt, Detail::Tokens, &CUT)
 }

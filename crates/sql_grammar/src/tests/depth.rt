@@ -1,5 +1,6 @@
 //! Texts that nest deeper than the limit.
 
+use crate::Detail;
 use crate::tests::send;
 use sql_words::SqlKind;
 use squawk_parser::{StepSink, StrStep, SyntaxKind};
@@ -56,7 +57,7 @@ fn counts_of(alloc: Global, parts: &[(&str, u32)]) -> Result<Counts, Fail> {
         nested: 0,
         errors: 0,
     };
-    send(alloc, text.as_str(), &mut counts)?;
+    send(alloc, text.as_str(), Detail::Nodes, &mut counts)?;
     Ok(counts)
 }
 

@@ -6,53 +6,55 @@ use squawk_table::StrStep;
 use std::fmt::Write;
 use std::test::Fail;
 
+/// Steps of which a builder over `ab` takes five.
+const OFFERED: [StrStep<'static>; 13] = [
+    // Outside of a root.
+    StrStep::Token {
+        kind: NAME,
+        text: "a",
+    },
+    StrStep::Exit,
+    StrStep::Error {
+        msg: "early",
+        pos: 0,
+    },
+    StrStep::Enter { kind: ROOT },
+    // Not the next part of the source.
+    StrStep::Token {
+        kind: NAME,
+        text: "b",
+    },
+    StrStep::Token {
+        kind: NAME,
+        text: "",
+    },
+    StrStep::Token {
+        kind: NAME,
+        text: "abc",
+    },
+    StrStep::Token {
+        kind: NAME,
+        text: "a",
+    },
+    StrStep::Exit,
+    // Behind the root.
+    StrStep::Enter { kind: ROOT },
+    StrStep::Token {
+        kind: NAME,
+        text: "b",
+    },
+    StrStep::Exit,
+    StrStep::Error {
+        msg: "late",
+        pos: 1,
+    },
+];
+
 #[test]
 fn builder_refuses_what_is_no_tree(rt: HostRuntime) -> Result<(), Fail> {
-    let steps = [
-        // Outside of a root.
-        StrStep::Token {
-            kind: NAME,
-            text: "a",
-        },
-        StrStep::Exit,
-        StrStep::Error {
-            msg: "early",
-            pos: 0,
-        },
-        StrStep::Enter { kind: ROOT },
-        // Not the next part of the source.
-        StrStep::Token {
-            kind: NAME,
-            text: "b",
-        },
-        StrStep::Token {
-            kind: NAME,
-            text: "",
-        },
-        StrStep::Token {
-            kind: NAME,
-            text: "abc",
-        },
-        StrStep::Token {
-            kind: NAME,
-            text: "a",
-        },
-        StrStep::Exit,
-        // Behind the root.
-        StrStep::Enter { kind: ROOT },
-        StrStep::Token {
-            kind: NAME,
-            text: "b",
-        },
-        StrStep::Exit,
-        StrStep::Error {
-            msg: "late",
-            pos: 1,
-        },
-    ];
     let mut builder = TreeBuilder::new(rt.alloc(), "ab");
     let mut answers = String::new(rt.alloc());
-    for step in &steps {
+    for step in &OFFERED {
         match take(&mut builder, step) {
             Ok(()) => write!(answers, "taken\n")?,
             Err(reason) => write!(answers, "{reason:?}\n")?,

@@ -10,12 +10,12 @@ use Rattle.syntax_tree.proofs.parse.parse_accepted_tree.Goals.{In-Err-Sink}
 
 pub returns-in-Ok-finish-clause-tree : goal.returns-in-Ok-finish-clause-tree
 returns-in-Ok-finish-clause-tree g c =
-    parsed_tree _ _ (g.met.V.Vocabulary.keywords_are_tokens c.args.vocabulary.now) c.utf8.text _ _ (begins_over c.new.result c.args.text.now c.new.ensures.after c.new.ensures.source)
+    parsed_tree _ _ (g.met.V.Vocabulary.keywords_are_tokens c.args.vocabulary.now) c.utf8.text _ _ (begins_over c.with_capacity.result c.args.text.now c.with_capacity.ensures.after c.with_capacity.ensures.source)
     c.in-Ok._sent c.in-Ok.ensures.sent c.in-Ok-finish.tree c.in-Ok-finish.ensures.tree
 
 pub unreachable-requires : goal.unreachable-requires
 unreachable-requires g c =
-    finishes _ _ (g.met.V.Vocabulary.keywords_are_tokens c.args.vocabulary.now) c.utf8.text _ _ (begins_over c.new.result c.args.text.now c.new.ensures.after c.new.ensures.source)
+    finishes _ _ (g.met.V.Vocabulary.keywords_are_tokens c.args.vocabulary.now) c.utf8.text _ _ (begins_over c.with_capacity.result c.args.text.now c.with_capacity.ensures.after c.with_capacity.ensures.source)
     c.in-Ok._sent c.in-Ok.ensures.sent c.in-Err.ensures.refused.1
 
 -- ---- the builder refuses a step
@@ -24,7 +24,7 @@ refused : (g : Over) (c : In-Err-Sink g)
     → IsParsedTo (given (g.V.Vocabulary.keyword c.args.vocabulary.now) (g.V.Vocabulary.contextual_keyword c.args.vocabulary.now) c.args.text.now c.args.tokens.now)
     (g.G.Grammar.leaves c.args.grammar.now c.args.entry) (λ all. Answers all c.in-Err-Sink.answer)
 refused g c =
-    stopped _ _ (g.met.V.Vocabulary.keywords_are_tokens c.args.vocabulary.now) c.utf8.text _ _ (begins_over c.new.result c.args.text.now c.new.ensures.after c.new.ensures.source)
+    stopped _ _ (g.met.V.Vocabulary.keywords_are_tokens c.args.vocabulary.now) c.utf8.text _ _ (begins_over c.with_capacity.result c.args.text.now c.with_capacity.ensures.after c.with_capacity.ensures.source)
     c.in-Err-Sink.answer (rw c.in-Err-Sink.field-0-is at c.in-Err-Sink.ensures.refused)
 
 pub returns-in-TooLarge-clause-refused : goal.returns-in-TooLarge-clause-refused
