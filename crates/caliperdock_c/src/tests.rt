@@ -8,7 +8,7 @@ use crate::sql_lists::CSqlCounts;
 use crate::statement::CStatement;
 use crate::steps::CStep;
 use crate::token::CToken;
-use crate::{caliperdock_events, caliperdock_sql};
+use crate::{caliperdock_events, caliperdock_sql, caliperdock_statements};
 use std::alloc::Global;
 use std::test::Fail;
 
@@ -220,5 +220,24 @@ fn refuses_the_first(rt: HostRuntime) -> Result<(), Fail> {
     assert_eq!(rt; answer.place, 1);
     assert!(rt; is_step(rooms.steps[0], 9, 9, 9, 9));
     assert_eq!(rt; rooms.texts[0], 9);
+    Ok(())
+}
+
+/// A semicolon in brackets ends the statement.
+#[test]
+fn writes_statements(rt: HostRuntime) -> Result<(), Fail> {
+    let mut statements = [NO_STATEMENT; 2];
+    let mut count = 9;
+    let text = b"select (1; drop table t";
+    let answer = caliperdock_statements(rt.alloc(), text, &mut statements, &mut count);
+    assert_eq!(rt; answer.status, 0);
+    assert_eq!(rt; count, 2);
+    assert_eq!(rt; statements[0].end, 10);
+    assert_eq!(rt; statements[1].start, 11);
+    assert_eq!(rt; statements[1].end, 23);
+    let answer = caliperdock_statements(rt.alloc(), b"a \xff", &mut statements, &mut count);
+    assert_eq!(rt; answer.status, 3);
+    assert_eq!(rt; answer.place, 2);
+    assert_eq!(rt; count, 0);
     Ok(())
 }
