@@ -4,6 +4,9 @@ use crate::asserts::assert_same;
 use crate::documents::{ESCAPE, ESCAPE_LINES, NAME};
 use crate::streams::{Plan, Takes, Turn};
 use squawk_answer::{Fault, Watch, program};
+use squawk_document::DocumentError;
+use squawk_parser::{ParseError, TableError};
+use squawk_script::ScriptError;
 use std::alloc::Global;
 use std::io::{ErrorKind, Write};
 use std::process::{Abort, ExitCode};
@@ -84,17 +87,45 @@ fn ends_with_its_status_where_the_line_cannot_be_printed(rt: HostRuntime) {
 }
 
 /// The faults, each with its line and its status.
-const FAULTS: [(Fault, &str, u8); 12] = [
-    (Fault::Json, "json", 2),
-    (Fault::Shape, "shape", 2),
-    (Fault::TextTooLong, "text too long", 3),
-    (Fault::BadToken { index: 12 }, "bad token 12", 3),
-    (Fault::TextLeft { at: 0 }, "text left at 0", 3),
-    (Fault::BadCall { index: 3 }, "bad call 3", 4),
-    (Fault::Unspent { marker: 10 }, "unspent 10", 4),
-    (Fault::TooManyEvents, "too many events", 5),
-    (Fault::TooManyErrors, "too many errors", 5),
+const FAULTS: [(Fault, &str, u8); 16] = [
+    (Fault::Document(DocumentError::Json), "json", 2),
+    (Fault::Document(DocumentError::Shape), "shape", 2),
+    (Fault::Table(TableError::TextTooLong), "text too long", 3),
+    (
+        Fault::Table(TableError::BadToken { index: 12 }),
+        "bad token 12",
+        3,
+    ),
+    (
+        Fault::Table(TableError::TextLeft { at: 0 }),
+        "text left at 0",
+        3,
+    ),
+    (
+        Fault::Script(ScriptError::BadCall { index: 3 }),
+        "bad call 3",
+        4,
+    ),
+    (
+        Fault::Script(ScriptError::Unspent { marker: 10 }),
+        "unspent 10",
+        4,
+    ),
+    (
+        Fault::Parse(ParseError::TooManyEvents),
+        "too many events",
+        5,
+    ),
+    (
+        Fault::Parse(ParseError::TooManyErrors),
+        "too many errors",
+        5,
+    ),
     (Fault::DoesNotFit, "does not fit", 6),
+    (Fault::Document(DocumentError::OutOfMemory), "memory", 7),
+    (Fault::Table(TableError::OutOfMemory), "memory", 7),
+    (Fault::Script(ScriptError::OutOfMemory), "memory", 7),
+    (Fault::Parse(ParseError::OutOfMemory), "memory", 7),
     (Fault::Memory, "memory", 7),
     (Fault::Io, "io", 8),
 ];

@@ -4,6 +4,7 @@
 use crate::asserts::{assert_ends, assert_fault};
 use crate::documents::{NAME, NAME_LINES};
 use squawk_answer::Fault;
+use squawk_document::DocumentError;
 use std::alloc::{AllocError, Global};
 use std::process::Abort;
 use std::test::Fail;
@@ -37,8 +38,8 @@ fn assert_nested(rt: &(impl Abort + AllocGlobal), lists: u8, fault: Fault) -> Re
 
 #[test]
 fn nesting_of_127_is_read_and_one_of_128_is_no_json(rt: HostRuntime) -> Result<(), Fail> {
-    assert_nested(&rt, 127, Fault::Shape)?;
-    assert_nested(&rt, 128, Fault::Json)
+    assert_nested(&rt, 127, Fault::Document(DocumentError::Shape))?;
+    assert_nested(&rt, 128, Fault::Document(DocumentError::Json))
 }
 
 /// The document of a name with this in front of it and that behind it has this fault or its answer.
@@ -61,8 +62,18 @@ fn white_space_may_stand_round_a_document(rt: HostRuntime) -> Result<(), Fail> {
 #[test]
 fn other_signs_round_a_document_are_no_json(rt: HostRuntime) -> Result<(), Fail> {
     for sign in ["\0", "\u{a0}", "\u{feff}"] {
-        assert_framed(&rt, "", sign, (Err(Fault::Json), ""))?;
-        assert_framed(&rt, sign, "", (Err(Fault::Json), ""))?;
+        assert_framed(
+            &rt,
+            "",
+            sign,
+            (Err(Fault::Document(DocumentError::Json)), ""),
+        )?;
+        assert_framed(
+            &rt,
+            sign,
+            "",
+            (Err(Fault::Document(DocumentError::Json)), ""),
+        )?;
     }
     Ok(())
 }
@@ -70,7 +81,12 @@ fn other_signs_round_a_document_are_no_json(rt: HostRuntime) -> Result<(), Fail>
 #[test]
 fn white_space_alone_and_a_string_with_a_newline_are_no_json(rt: HostRuntime) {
     for document in ["", " \t\r\n", "{\"text\":\"\n\"}"] {
-        assert_fault(&rt, document.as_bytes(), &document, Fault::Json);
+        assert_fault(
+            &rt,
+            document.as_bytes(),
+            &document,
+            Fault::Document(DocumentError::Json),
+        );
     }
 }
 
@@ -106,14 +122,19 @@ fn thousands_of_tokens_and_calls_have_their_lines(rt: HostRuntime) -> Result<(),
 fn assert_no_text(rt: &(impl Abort + AllocGlobal), place: usize) -> Result<(), Fail> {
     let mut bytes = NAME.as_bytes().to_vec(rt.alloc())?;
     *bytes.get_mut(place).ok_or("no such place")? = 0xff;
-    assert_fault(rt, &bytes, &place, Fault::Json);
+    assert_fault(rt, &bytes, &place, Fault::Document(DocumentError::Json));
     Ok(())
 }
 
 #[test]
 fn each_beginning_of_a_document_is_no_json(rt: HostRuntime) {
     for place in 0..NAME.len() {
-        assert_fault(&rt, &NAME.as_bytes()[..place], &place, Fault::Json);
+        assert_fault(
+            &rt,
+            &NAME.as_bytes()[..place],
+            &place,
+            Fault::Document(DocumentError::Json),
+        );
     }
 }
 
@@ -135,6 +156,6 @@ fn bytes_that_are_no_utf_8_are_no_json(rt: HostRuntime) {
         b"\"\xf4\x90\x80\x80\"".as_slice(),
         b"{\"\xa9\":null}".as_slice(),
     ] {
-        assert_fault(&rt, input, &input, Fault::Json);
+        assert_fault(&rt, input, &input, Fault::Document(DocumentError::Json));
     }
 }

@@ -4,7 +4,6 @@
 use crate::asserts::ended;
 use crate::documents::{ESCAPE, ESCAPE_LINES, NAME, NAME_LINES};
 use crate::streams::Wants;
-use squawk_answer::Fault;
 use std::alloc::Global;
 use std::process::Abort;
 
@@ -17,11 +16,12 @@ fn assert_answer_or_memory(rt: &impl Abort, alloc: Global, document: &str, lines
     };
     let result = ended(alloc, &mut document.as_bytes(), &mut writer);
     assert!(rt; !writer.is_wrong);
-    if result == Ok(()) {
-        assert_eq!(rt; writer.rest.len(), 0);
-    } else {
-        assert_eq!(rt; result, Err(Fault::Memory));
-        assert!(rt; !writer.is_begun);
+    match result {
+        Ok(()) => assert_eq!(rt; writer.rest.len(), 0),
+        Err(fault) => {
+            assert!(rt; fault.is_out_of_memory());
+            assert!(rt; !writer.is_begun);
+        }
     }
 }
 

@@ -75,7 +75,7 @@ fn came(alloc: Global, document: &str) -> Result<String, Trouble> {
     let mut written = Vec::new(alloc);
     match ended(alloc, document, &mut written) {
         Ok(()) => Ok(answer_of(alloc, document, &written)?),
-        Err(Fault::Memory) => Err(Trouble::OutOfMemory),
+        Err(fault) if fault.is_out_of_memory() => Err(Trouble::OutOfMemory),
         Err(fault) if written.is_empty() => {
             Ok(format!(in alloc; "status {} {fault}\n", fault.status())?)
         }

@@ -2,7 +2,7 @@
 use Rattle.std.proofs.Common.{◌≡◌, ◌≢◌, ◌∙◌, ℕ, ◌≤◌, Bool, List, ◌++◌, Some, None, Ok, Err, inl, inr, ap, arith, sym, subst}
 use Rattle.std.specs.Prelude.{Result, IsErrAnd, MatchResult, ◌==◌, ◌↔◌, IsTrue, length}
 use Rattle.std.proofs.lemmas.Bool.Decides.{Decides-eqb, same_from_decides}
-use Rattle.squawk_document.specs.DocumentGrammars.{GrammarContent, by_calls}
+use Rattle.squawk_document.specs.DocumentGrammars.{by_calls}
 use Rattle.squawk_document.specs.Documents.{Content}
 use Rattle.squawk_tokens.specs.AcceptedTokens.{AreAcceptedTokens}
 use Rattle.squawk_table.specs.ParserInput.{Entry, input_of}
@@ -21,20 +21,12 @@ use Rattle.squawk_script.specs.Events.{FailsByLimits, IsRunOf, events_of, refusa
 use Rattle.squawk_script.specs.Meaning.{Meaning, run_of}
 use Rattle.squawk_script.specs.declared.call.Call.{Call}
 use Rattle.squawk_script.proofs.Laws.{unrefused}
-use Rattle.squawk_answer.specs.Answers.{HasCalls, ParseOf, ParseReturns, Returns, lines, refusal_by, steps, steps_by, table_for}
-use Rattle.squawk_answer.specs.Fault.{fault_of_parse}
+use Rattle.squawk_answer.specs.Answers.{ParseOf, ParseReturns, Returns, lines, refusal_by, steps, steps_by, table_for}
 use Rattle.squawk_answer.specs.Lines.{Texts, last_line, lex_lines, step_lines}
 use Rattle.squawk_answer.specs.declared.fault.Fault.{Fault}
-use Rattle.squawk_answer.specs.declared.fault.Fault.TheVariants.{Json, Shape, TextTooLong, BadToken, TextLeft, BadCall, Unspent, TooManyEvents, TooManyErrors, DoesNotFit, Memory, Io}
+use Rattle.squawk_answer.specs.declared.fault.Fault.TheVariants as faults
 
 -- ---- a parse
-
--- one that is refused
-pub refusal-returned : (g : GrammarContent) (words : Words) (input : List Entry) (t : Table) (reason : ParseError) → HasCalls g
-    → (reason ≢ parse.OutOfMemory → refusal_by g words input ≡ Some reason) → ParseReturns g words input t (Err (fault_of_parse reason))
-refusal-returned g words input t parse.OutOfMemory has fails = tt
-refusal-returned g words input t parse.TooManyEvents has fails = (has, fails (λ same. let p = same in cc))
-refusal-returned g words input t parse.TooManyErrors has fails = (has, fails (λ same. let p = same in cc))
 
 -- a fault that is returned
 pub fault-returned : {X : Type 0} (result : Result X Fault) (Q : X → Type 0) (P : Fault → Type 0) (fault : Fault) → IsErrAnd result (λ f. f ≡ fault) → P fault → MatchResult result Q P
@@ -88,18 +80,13 @@ parse-returned d t words answer same_table same_words known =
 
 -- a fault of its parse is the document's
 pub parse_fault-returned : (d : Content) (fault : Fault) → AreAcceptedTokens d.text d.tokens → ParseOf d (Err fault) → Returns d (Err fault)
-parse_fault-returned d Json accepted known = absurd known
-parse_fault-returned d Shape accepted known = absurd known
-parse_fault-returned d TextTooLong accepted known = absurd known
-parse_fault-returned d (BadToken index) accepted known = absurd known
-parse_fault-returned d (TextLeft at) accepted known = absurd known
-parse_fault-returned d (BadCall index) accepted known = (accepted, known)
-parse_fault-returned d (Unspent marker) accepted known = (accepted, known)
-parse_fault-returned d TooManyEvents accepted known = (accepted, known)
-parse_fault-returned d TooManyErrors accepted known = (accepted, known)
-parse_fault-returned d DoesNotFit accepted known = (accepted, known)
-parse_fault-returned d Memory accepted known = tt
-parse_fault-returned d Io accepted known = tt
+parse_fault-returned d (faults.Document reason) accepted known = absurd known
+parse_fault-returned d (faults.Table reason) accepted known = absurd known
+parse_fault-returned d (faults.Script reason) accepted known = (accepted, known)
+parse_fault-returned d (faults.Parse reason) accepted known = (accepted, known)
+parse_fault-returned d faults.DoesNotFit accepted known = (accepted, known)
+parse_fault-returned d faults.Memory accepted known = tt
+parse_fault-returned d faults.Io accepted known = tt
 
 -- two texts
 abbrev texts : List ℕ → List ℕ → Texts

@@ -5,7 +5,6 @@ use Rattle.std.proofs.lemmas.Bool.{cases_order}
 use Rattle.squawk_document.specs.DocumentGrammars.{GrammarContent, by_calls, by_tiny}
 use Rattle.squawk_document.specs.Documents.{Content}
 use Rattle.squawk_document.specs.declared.document_error.DocumentError.{DocumentError}
-use Rattle.squawk_document.specs.declared.document_error.DocumentError.TheVariants as document
 use Rattle.squawk_tokens.specs.AcceptedTokens.{AreAcceptedTokens, IsGoodTokenAt, RefusesTokens}
 use Rattle.squawk_tokens.specs.declared.token.Token.{Token}
 use Rattle.squawk_tokens.specs.declared.check.TableError.{TableError}
@@ -19,9 +18,8 @@ use Rattle.squawk_script.specs.declared.script_error.ScriptError.{ScriptError}
 use Rattle.squawk_script.specs.declared.script_error.ScriptError.TheVariants as calls
 use Rattle.squawk_answer.specs.Answers.{HasCalls, IsAnswer, IsTheAnswer, IsDetermined, ReadReturns, RefusesCalls, Returns, document_of, lines, parser_input, refusal_by, steps, table_for}
 use Rattle.squawk_answer.specs.Lines.{Texts}
-use Rattle.squawk_answer.specs.Fault.{fault_of_parse, fault_of_script, fault_of_table}
 use Rattle.squawk_answer.specs.declared.fault.Fault.{Fault}
-use Rattle.squawk_answer.specs.declared.fault.Fault.TheVariants.{Json, Shape, TextTooLong, BadToken, TextLeft, BadCall, Unspent, TooManyEvents, TooManyErrors, DoesNotFit, Memory, Io}
+use Rattle.squawk_answer.specs.declared.fault.Fault.TheVariants.{Document, Table, Script, Parse, DoesNotFit, Memory, Io}
 
 abbrev Answer : Type 0
 Answer = Result Texts Fault
@@ -36,13 +34,13 @@ first-same Good i j before bad before' bad' = elim (cases_order i j) [
 ]
 
 module _ (text : List ℕ) (ts : List Token) where
-  tokens-not : (e : TableError) → IsDetermined (Err (fault_of_table e)) → RefusesTokens text ts e → AreAcceptedTokens text ts → ⊥
+  tokens-not : (e : TableError) → IsDetermined (Err (Table e)) → RefusesTokens text ts e → AreAcceptedTokens text ts → ⊥
   tokens-not table.TextTooLong known r accepted = absurd (omega (arith, r, accepted.short))
   tokens-not (table.BadToken i) known r accepted = r.bad (accepted.good i r.within)
   tokens-not (table.TextLeft at) known r accepted = absurd (omega (arith, r.sum, r.left, accepted.whole))
-  tokens-not table.OutOfMemory known r accepted = known
+  tokens-not table.OutOfMemory known r accepted = absurd (omega (arith, known))
 
-  tokens-one : (e f : TableError) → IsDetermined (Err (fault_of_table e)) → IsDetermined (Err (fault_of_table f)) → RefusesTokens text ts e → RefusesTokens text ts f → e ≡ f
+  tokens-one : (e f : TableError) → IsDetermined (Err (Table e)) → IsDetermined (Err (Table f)) → RefusesTokens text ts e → RefusesTokens text ts f → e ≡ f
   tokens-one table.TextTooLong table.TextTooLong a b r s = refl
   tokens-one table.TextTooLong (table.BadToken j) a b r s = absurd (omega (arith, r, s.short))
   tokens-one table.TextTooLong (table.TextLeft at) a b r s = absurd (omega (arith, r, s.short))
@@ -52,8 +50,8 @@ module _ (text : List ℕ) (ts : List Token) where
   tokens-one (table.TextLeft at) table.TextTooLong a b r s = absurd (omega (arith, s, r.short))
   tokens-one (table.TextLeft at) (table.BadToken j) a b r s = absurd (s.bad (r.good j s.within))
   tokens-one (table.TextLeft at) (table.TextLeft at') a b r s = ap table.TextLeft (r.sum ∙ sym s.sum)
-  tokens-one table.OutOfMemory f a b r s = absurd a
-  tokens-one e table.OutOfMemory a b r s = absurd b
+  tokens-one table.OutOfMemory f a b r s = absurd (omega (arith, a))
+  tokens-one e table.OutOfMemory a b r s = absurd (omega (arith, b))
 
 module _ (cs : List Call) where
   -- a marker that calls don't leave open
@@ -63,24 +61,24 @@ module _ (cs : List Call) where
   open-not : (m : ℕ) → IsTrue (script.is_open cs m) → ¬ (Closed m)
   open-not m is closed = let p = sym is ∙ closed in cc
 
-  script-not : (e : ScriptError) → IsDetermined (Err (fault_of_script e)) → script.Refuses cs e → script.IsAccepted cs → ⊥
+  script-not : (e : ScriptError) → IsDetermined (Err (Script e)) → script.Refuses cs e → script.IsAccepted cs → ⊥
   script-not (calls.BadCall i) known r accepted = r.bad (accepted.good i r.within)
   script-not (calls.Unspent m) known r accepted = open-not m r.is (accepted.spent m)
-  script-not calls.OutOfMemory known r accepted = known
+  script-not calls.OutOfMemory known r accepted = absurd (omega (arith, known))
 
-  script-one : (e f : ScriptError) → IsDetermined (Err (fault_of_script e)) → IsDetermined (Err (fault_of_script f)) → script.Refuses cs e → script.Refuses cs f → e ≡ f
+  script-one : (e f : ScriptError) → IsDetermined (Err (Script e)) → IsDetermined (Err (Script f)) → script.Refuses cs e → script.Refuses cs f → e ≡ f
   script-one (calls.BadCall i) (calls.BadCall j) a b r s = ap calls.BadCall (first-same (script.IsGoodAt cs) i j r.before r.bad s.before s.bad)
   script-one (calls.BadCall i) (calls.Unspent m) a b r s = absurd (r.bad (s.good i r.within))
   script-one (calls.Unspent m) (calls.BadCall j) a b r s = absurd (s.bad (r.good j s.within))
   script-one (calls.Unspent m) (calls.Unspent n) a b r s = ap calls.Unspent (first-same Closed m n r.before (open-not m r.is) s.before (open-not n s.is))
-  script-one calls.OutOfMemory f a b r s = absurd a
-  script-one e calls.OutOfMemory a b r s = absurd b
+  script-one calls.OutOfMemory f a b r s = absurd (omega (arith, a))
+  script-one e calls.OutOfMemory a b r s = absurd (omega (arith, b))
 
-calls-not : (g : GrammarContent) (e : ScriptError) → IsDetermined (Err (fault_of_script e)) → RefusesCalls g e → HasCalls g → ⊥
+calls-not : (g : GrammarContent) (e : ScriptError) → IsDetermined (Err (Script e)) → RefusesCalls g e → HasCalls g → ⊥
 calls-not (by_calls entry cs) e known r accepted = script-not cs e known r accepted
 calls-not by_tiny e known r accepted = r
 
-calls-one : (g : GrammarContent) (e f : ScriptError) → IsDetermined (Err (fault_of_script e)) → IsDetermined (Err (fault_of_script f)) → RefusesCalls g e → RefusesCalls g f → e ≡ f
+calls-one : (g : GrammarContent) (e f : ScriptError) → IsDetermined (Err (Script e)) → IsDetermined (Err (Script f)) → RefusesCalls g e → RefusesCalls g f → e ≡ f
 calls-one (by_calls entry cs) e f a b r s = script-one cs e f a b r s
 calls-one by_tiny e f a b r s = absurd r
 
@@ -117,29 +115,26 @@ abbrev Fitting : Content → Answer → Type 0
 Fitting d a = (Fits (table_for d) (steps d) × (a ≡ Ok (lines d))) ⊎ (¬ (Fits (table_for d) (steps d)) × (a ≡ Err DoesNotFit))
 
 abbrev Parsing : Content → Answer → Type 0
-Parsing d a = Refused (λ e. parse_refusal d ≡ Some e) fault_of_parse a ⊎ ((parse_refusal d ≡ None) × Fitting d a)
+Parsing d a = Refused (λ e. parse_refusal d ≡ Some e) Parse a ⊎ ((parse_refusal d ≡ None) × Fitting d a)
 
 abbrev Calling : Content → Answer → Type 0
-Calling d a = Refused (RefusesCalls d.grammar) fault_of_script a ⊎ (HasCalls d.grammar × Parsing d a)
+Calling d a = Refused (RefusesCalls d.grammar) Script a ⊎ (HasCalls d.grammar × Parsing d a)
 
 abbrev Reading : Content → Answer → Type 0
-Reading d a = Refused (RefusesTokens d.text d.tokens) fault_of_table a ⊎ (AreAcceptedTokens d.text d.tokens × Calling d a)
+Reading d a = Refused (RefusesTokens d.text d.tokens) Table a ⊎ (AreAcceptedTokens d.text d.tokens × Calling d a)
 
 -- at which stage an answer is known
 reading : (d : Content) (a : Answer) → IsDetermined a → Returns d a → Reading d a
 reading d (Ok texts) known ((accepted, ((good, none), fits, same)), is) = inr (accepted, inr (good, inr (none, inl (fits, ap Ok is))))
-reading d (Err TextTooLong) known t = inl (table.TextTooLong, t, refl)
-reading d (Err (BadToken i)) known t = inl (table.BadToken i, t, refl)
-reading d (Err (TextLeft at)) known t = inl (table.TextLeft at, t, refl)
-reading d (Err (BadCall i)) known (accepted, t) = inr (accepted, inl (calls.BadCall i, t, refl))
-reading d (Err (Unspent m)) known (accepted, t) = inr (accepted, inl (calls.Unspent m, t, refl))
-reading d (Err TooManyEvents) known (accepted, (good, t)) = inr (accepted, inr (good, inl (parse.TooManyEvents, t, refl)))
-reading d (Err TooManyErrors) known (accepted, (good, t)) = inr (accepted, inr (good, inl (parse.TooManyErrors, t, refl)))
+reading d (Err (Document reason)) known t = elim t [ ]
+reading d (Err (Table reason)) known t = inl (reason, t, refl)
+reading d (Err (Script reason)) known (accepted, t) = inr (accepted, inl (reason, t, refl))
+reading d (Err (Parse parse.OutOfMemory)) known t = absurd (omega (arith, known))
+reading d (Err (Parse parse.TooManyEvents)) known (accepted, (good, t)) = inr (accepted, inr (good, inl (parse.TooManyEvents, t (λ same. let p = same in cc), refl)))
+reading d (Err (Parse parse.TooManyErrors)) known (accepted, (good, t)) = inr (accepted, inr (good, inl (parse.TooManyErrors, t (λ same. let p = same in cc), refl)))
 reading d (Err DoesNotFit) known (accepted, ((good, none), unfit)) = inr (accepted, inr (good, inr (none, inr (unfit, refl))))
-reading d (Err Json) known t = elim t [ ]
-reading d (Err Shape) known t = elim t [ ]
-reading d (Err Memory) known t = absurd known
-reading d (Err Io) known t = absurd known
+reading d (Err Memory) known t = absurd (omega (arith, known))
+reading d (Err Io) known t = absurd (omega (arith, known))
 
 fitting-one : (d : Content) (a b : Answer) → Fitting d a → Fitting d b → a ≡ b
 fitting-one d a b (inl (fits, is)) (inl (fits', is')) = is ∙ sym is'
@@ -150,61 +145,27 @@ fitting-one d a b (inr (unfit, is)) (inr (unfit', is')) = is ∙ sym is'
 -- a document has one answer
 pub document-one : (d : Content) (a b : Answer) → IsDetermined a → IsDetermined b → Returns d a → Returns d b → a ≡ b
 document-one d a b known known' t t' =
-    stage (RefusesTokens d.text d.tokens) fault_of_table (AreAcceptedTokens d.text d.tokens) a b known known' (tokens-not d.text d.tokens) (tokens-one d.text d.tokens)
+    stage (RefusesTokens d.text d.tokens) Table (AreAcceptedTokens d.text d.tokens) a b known known' (tokens-not d.text d.tokens) (tokens-one d.text d.tokens)
     (reading d a known t) (reading d b known' t')
-    (λ x y. stage (RefusesCalls d.grammar) fault_of_script (HasCalls d.grammar) a b known known' (calls-not d.grammar) (calls-one d.grammar) x y
-    (λ p q. stage (λ e. parse_refusal d ≡ Some e) fault_of_parse (parse_refusal d ≡ None) a b known known' (λ e known some none. parse-not d e some none) (λ e f known known'. parse-one d e f)
+    (λ x y. stage (RefusesCalls d.grammar) Script (HasCalls d.grammar) a b known known' (calls-not d.grammar) (calls-one d.grammar) x y
+    (λ p q. stage (λ e. parse_refusal d ≡ Some e) Parse (parse_refusal d ≡ None) a b known known' (λ e known some none. parse-not d e some none) (λ e f known known'. parse-one d e f)
     p q (fitting-one d a b)))
-
--- what is known of bytes is known of what is read of them
-read : (input : List ℕ) (a : Answer) → IsDetermined a → IsAnswer input a → ReadReturns (document_of input) a
-read input (Ok texts) known t = t
-read input (Err Json) known t = t
-read input (Err Shape) known t = t
-read input (Err TextTooLong) known t = t
-read input (Err (BadToken i)) known t = t
-read input (Err (TextLeft at)) known t = t
-read input (Err (BadCall i)) known t = t
-read input (Err (Unspent m)) known t = t
-read input (Err TooManyEvents) known t = t
-read input (Err TooManyErrors) known t = t
-read input (Err DoesNotFit) known t = t
-read input (Err Memory) known t = absurd known
-read input (Err Io) known t = absurd known
 
 read-one : (reading : Result Content DocumentError) (a b : Answer) → IsDetermined a → IsDetermined b → ReadReturns reading a → ReadReturns reading b → a ≡ b
 read-one (Ok d) a b known known' t t' = document-one d a b known known' t t'
-read-one (Err document.Json) a b known known' t t' = t ∙ sym t'
-read-one (Err document.Shape) a b known known' t t' = t ∙ sym t'
-read-one (Err document.OutOfMemory) a b known known' t t' = elim t [ ]
+read-one (Err reason) a b known known' t t' = t ∙ sym t'
 
 -- and so have bytes
 pub answer-one : (input : List ℕ) (a b : Answer) → IsDetermined a → IsDetermined b → IsAnswer input a → IsAnswer input b → a ≡ b
-answer-one input a b known known' t t' = read-one (document_of input) a b known known' (read input a known t) (read input b known' t')
+answer-one input a b known known' t t' = read-one (document_of input) a b known known' (t known) (t' known')
 
 -- so an answer to them is the one
 pub the_answer : (input : List ℕ) (answer : Answer) → IsAnswer input answer → IsTheAnswer input answer
 the_answer input answer is = record { is = is; only = λ known other known' is'. answer-one input other answer known' known is' is }
 
--- what is known of a document is known of its bytes
-answered : (input : List ℕ) (a : Answer) → ReadReturns (document_of input) a → IsAnswer input a
-answered input (Ok texts) t = t
-answered input (Err Json) t = t
-answered input (Err Shape) t = t
-answered input (Err TextTooLong) t = t
-answered input (Err (BadToken i)) t = t
-answered input (Err (TextLeft at)) t = t
-answered input (Err (BadCall i)) t = t
-answered input (Err (Unspent m)) t = t
-answered input (Err TooManyEvents) t = t
-answered input (Err TooManyErrors) t = t
-answered input (Err DoesNotFit) t = t
-answered input (Err Memory) t = tt
-answered input (Err Io) t = tt
-
--- and what a document's answer returns is the one answer to the bytes that it was read of
+-- what a document's answer returns is the one answer to the bytes that it was read of
 pub the_answer-read : {X : Type 0} (input : List ℕ) (d : Content) (texts : X → Texts) (result : Result X Fault) → document_of input ≡ Ok d
     → MatchResult result (λ x. Returns d (Ok (texts x))) (λ fault. Returns d (Err fault))
     → MatchResult result (λ x. IsTheAnswer input (Ok (texts x))) (λ fault. IsTheAnswer input (Err fault))
-the_answer-read input d texts (Ok x) is t = the_answer input (Ok (texts x)) (answered input (Ok (texts x)) (subst (λ r. ReadReturns r (Ok (texts x))) (sym is) t))
-the_answer-read input d texts (Err fault) is t = the_answer input (Err fault) (answered input (Err fault) (subst (λ r. ReadReturns r (Err fault)) (sym is) t))
+the_answer-read input d texts (Ok x) is t = the_answer input (Ok (texts x)) (λ known. subst (λ r. ReadReturns r (Ok (texts x))) (sym is) t)
+the_answer-read input d texts (Err fault) is t = the_answer input (Err fault) (λ known. subst (λ r. ReadReturns r (Err fault)) (sym is) t)

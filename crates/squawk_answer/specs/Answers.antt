@@ -1,12 +1,10 @@
 -- The answer to the bytes of a document.
-use Rattle.std.specs.Prelude.{◌≡◌, ℕ, ◌==◌, Bool, List, ◌++◌, length, map, Option, Some, None, Result, Ok, Err}
+use Rattle.std.specs.Prelude.{◌≡◌, ◌≢◌, ℕ, ◌<◌, ◌==◌, Bool, List, ◌++◌, length, map, Option, Some, None, Result, Ok, Err}
 use Rattle.squawk_document.specs.DocumentGrammars.{GrammarContent, by_calls, by_tiny}
 use Rattle.squawk_document.specs.Documents.{Content, document_in}
 use Rattle.squawk_document.specs.Values.{◌>>=◌, json_value}
 use Rattle.squawk_document.specs.declared.document_error.DocumentError.{DocumentError}
-use Rattle.squawk_document.specs.declared.document_error.DocumentError.TheVariants as document
 use Rattle.squawk_tokens.specs.AcceptedTokens.{AreAcceptedTokens, RefusesTokens}
-use Rattle.squawk_tokens.specs.declared.check.TableError.TheVariants as table
 use Rattle.squawk_table.specs.ParserInput.{Entry, input_of}
 use Rattle.squawk_table.specs.RawTable.{Table, table_of}
 use Rattle.squawk_table.specs.Sent.{sent_list}
@@ -20,11 +18,11 @@ use Rattle.squawk_script.specs.Accepted as script
 use Rattle.squawk_script.specs.Events.{events_of, refusal}
 use Rattle.squawk_script.specs.Meaning.{run_of}
 use Rattle.squawk_script.specs.declared.script_error.ScriptError.{ScriptError}
-use Rattle.squawk_script.specs.declared.script_error.ScriptError.TheVariants as calls
 use Rattle.tiny_grammar.specs.Expressions.{tiny_in_order, tiny_steps}
+use Rattle.squawk_answer.specs.Fault.{fault_status}
 use Rattle.squawk_answer.specs.Lines.{Texts, last_line, lex_lines, step_lines}
 use Rattle.squawk_answer.specs.declared.fault.Fault.{Fault}
-use Rattle.squawk_answer.specs.declared.fault.Fault.TheVariants.{Json, Shape, TextTooLong, BadToken, TextLeft, BadCall, Unspent, TooManyEvents, TooManyErrors, DoesNotFit, Memory, Io}
+use Rattle.squawk_answer.specs.declared.fault.Fault.TheVariants as fault
 
 -- ---- a document
 
@@ -70,17 +68,15 @@ refusal_by grammar words input = refusal 4294967295 2147483648 (events_by gramma
 abbrev pub HasSteps : GrammarContent → Words → List Entry → Type 0
 HasSteps grammar words input = HasCalls grammar × (refusal_by grammar words input ≡ None)
 
--- What a parse by a grammar over the input of a table returns: its steps, or the first fault. Nothing is said of memory, and the other
--- faults aren't those of a parse.
+-- What a parse by a grammar over the input of a table returns: its steps, or the first fault. Of a run that an allocation stopped
+-- nothing else is said, and the other faults aren't those of a parse.
 abbrev pub ParseReturns : GrammarContent → Words → List Entry → Table → Result (List Step) Fault → Type 0
 ParseReturns g words input t (Ok steps) = HasSteps g words input × Fits t steps × (steps ≡ steps_by g words input)
-ParseReturns g words input t (Err (BadCall index)) = RefusesCalls g (calls.BadCall index)
-ParseReturns g words input t (Err (Unspent marker)) = RefusesCalls g (calls.Unspent marker)
-ParseReturns g words input t (Err TooManyEvents) = HasCalls g × (refusal_by g words input ≡ Some parse.TooManyEvents)
-ParseReturns g words input t (Err TooManyErrors) = HasCalls g × (refusal_by g words input ≡ Some parse.TooManyErrors)
-ParseReturns g words input t (Err DoesNotFit) = HasSteps g words input × ¬ (Fits t (steps_by g words input))
-ParseReturns g words input t (Err Memory) = Unit {0}
-ParseReturns g words input t (Err fault) = ⊥
+ParseReturns g words input t (Err (fault.Script reason)) = RefusesCalls g reason
+ParseReturns g words input t (Err (fault.Parse reason)) = HasCalls g × (reason ≢ parse.OutOfMemory → refusal_by g words input ≡ Some reason)
+ParseReturns g words input t (Err fault.DoesNotFit) = HasSteps g words input × ¬ (Fits t (steps_by g words input))
+ParseReturns g words input t (Err fault.Memory) = Unit {0}
+ParseReturns g words input t (Err other) = ⊥
 
 -- of a document
 abbrev pub ParseOf : Content → Result (List Step) Fault → Type 0
@@ -104,40 +100,28 @@ lines d = record { errors = lex_lines (table_for d).errors; steps = step_lines (
 abbrev pub IsParsed : Content → Result (List Step) Fault → Type 0
 IsParsed d answer = AreAcceptedTokens d.text d.tokens × ParseOf d answer
 
--- What is returned for a document: its lines, or the first fault. Nothing is said of memory, reading and writing.
+-- What is returned for a document: its lines, or the first fault. Nothing is said of reading and writing.
 abbrev pub Returns : Content → Result Texts Fault → Type 0
 Returns d (Ok texts) = IsParsed d (Ok (steps d)) × (texts ≡ lines d)
-Returns d (Err Json) = ⊥
-Returns d (Err Shape) = ⊥
-Returns d (Err TextTooLong) = RefusesTokens d.text d.tokens table.TextTooLong
-Returns d (Err (BadToken index)) = RefusesTokens d.text d.tokens (table.BadToken index)
-Returns d (Err (TextLeft at)) = RefusesTokens d.text d.tokens (table.TextLeft at)
-Returns d (Err (BadCall index)) = IsParsed d (Err (BadCall index))
-Returns d (Err (Unspent marker)) = IsParsed d (Err (Unspent marker))
-Returns d (Err TooManyEvents) = IsParsed d (Err TooManyEvents)
-Returns d (Err TooManyErrors) = IsParsed d (Err TooManyErrors)
-Returns d (Err DoesNotFit) = IsParsed d (Err DoesNotFit)
-Returns d (Err Memory) = Unit {0}
-Returns d (Err Io) = Unit {0}
+Returns d (Err (fault.Document reason)) = ⊥
+Returns d (Err (fault.Table reason)) = RefusesTokens d.text d.tokens reason
+Returns d (Err fault.Memory) = Unit {0}
+Returns d (Err fault.Io) = Unit {0}
+Returns d (Err other) = IsParsed d (Err other)
 
 -- what is returned for the read of a document
 abbrev pub ReadReturns : Result Content DocumentError → Result Texts Fault → Type 0
 ReadReturns (Ok d) answer = Returns d answer
-ReadReturns (Err document.Json) answer = answer ≡ Err Json
-ReadReturns (Err document.Shape) answer = answer ≡ Err Shape
-ReadReturns (Err document.OutOfMemory) answer = ⊥
+ReadReturns (Err reason) answer = answer ≡ Err (fault.Document reason)
+
+-- an answer that the bytes alone determine: no allocation, read or write failed, for which the statuses 7 and 8 are
+abbrev pub IsDetermined : Result Texts Fault → Type 0
+IsDetermined (Ok texts) = Unit {0}
+IsDetermined (Err reason) = fault_status reason < 7
 
 -- What is returned for the bytes that were read: the lines, or the first fault.
 abbrev pub IsAnswer : List ℕ → Result Texts Fault → Type 0
-IsAnswer input (Err Memory) = Unit {0}
-IsAnswer input (Err Io) = Unit {0}
-IsAnswer input answer = ReadReturns (document_of input) answer
-
--- an answer that the bytes alone determine: no allocation, read or write failed
-abbrev pub IsDetermined : Result Texts Fault → Type 0
-IsDetermined (Err Memory) = ⊥
-IsDetermined (Err Io) = ⊥
-IsDetermined answer = Unit {0}
+IsAnswer input answer = IsDetermined answer → ReadReturns (document_of input) answer
 
 -- Bytes have one answer: another one that they determine is this one.
 pub record IsTheAnswer (input : List ℕ) (answer : Result Texts Fault) : Type 0 where

@@ -1,5 +1,5 @@
 //! The error of a run.
-ghost use Rattle.std.specs.Prelude.{◌≡◌, ◌++◌};
+ghost use Rattle.std.specs.Prelude.{◌≡◌, ◌==◌, ◌++◌};
 ghost use Rattle.squawk_answer.specs.Fault.{fault_line, fault_status, number_text};
 
 use squawk_document::DocumentError;
@@ -9,29 +9,20 @@ use std::alloc::AllocError;
 use std::error::Error;
 use std::fmt;
 
-/// Why there is no answer.
+/// Why there is no answer: the error of the stage that failed.
 ///
-/// If several apply, the first one listed is returned. `Memory` and `Io` come when they occur.
+/// If several apply, the first one listed is returned. A failed allocation is [`Fault::Memory`], or the
+/// `OutOfMemory` of the stage's own error.
 #[derive(Clone, Copy, Debug, PartialEq, Eq)]
 pub enum Fault {
-    /// The bytes aren't JSON in UTF-8.
-    Json,
-    /// The JSON doesn't have the shape of a document.
-    Shape,
-    /// The text has more than `u32::MAX` bytes.
-    TextTooLong,
-    /// The raw token at this index is the first that isn't one of the text.
-    BadToken { index: usize },
-    /// The raw tokens end at this byte, before the end of the text.
-    TextLeft { at: usize },
-    /// The call at this index is the first that can't be made.
-    BadCall { index: usize },
-    /// This marker is the least that is open after the last call.
-    Unspent { marker: u32 },
-    /// An event past the limit of events was to be recorded.
-    TooManyEvents,
-    /// An error past the limit of errors was to be recorded.
-    TooManyErrors,
+    /// The bytes aren't a document.
+    Document(DocumentError),
+    /// The raw tokens aren't those of the text.
+    Table(TableError),
+    /// A call can't be made, or a marker is left open.
+    Script(ScriptError),
+    /// The parse recorded more events or errors than it may.
+    Parse(ParseError),
     /// The output isn't one node over the text.
     DoesNotFit,
     /// An allocation failed.
@@ -47,32 +38,47 @@ impl Fault {
         ensures io { result ≡ 8 → self.now ≡ Fault.Io }
     {
         match *self {
-            Fault::Json | Fault::Shape => 2,
-            Fault::TextTooLong | Fault::BadToken { .. } | Fault::TextLeft { .. } => 3,
-            Fault::BadCall { .. } | Fault::Unspent { .. } => 4,
-            Fault::TooManyEvents | Fault::TooManyErrors => 5,
+            Fault::Document(DocumentError::OutOfMemory)
+            | Fault::Table(TableError::OutOfMemory)
+            | Fault::Script(ScriptError::OutOfMemory)
+            | Fault::Parse(ParseError::OutOfMemory)
+            | Fault::Memory => 7,
+            Fault::Document(_) => 2,
+            Fault::Table(_) => 3,
+            Fault::Script(_) => 4,
+            Fault::Parse(_) => 5,
             Fault::DoesNotFit => 6,
-            Fault::Memory => 7,
             Fault::Io => 8,
         }
     }
 
-    /// The text of its line, and the number behind it, if there is one.
+    /// Whether an allocation failed, at whatever stage.
+    pub fn is_out_of_memory(&self) -> bool
+        ensures { result ≡ (fault_status self.now == 7) }
+    {
+        self.status() == 7
+    }
+
+    /// The text of its line, and the number behind it, if there is one: what prints the line has no memory.
     pub(crate) fn parts(&self) -> (&'static str, Option<usize>)
         ensures { fault_line self.now ≡ result.0.now ++ number_text result.1 }
     {
         match *self {
-            Fault::Json => ("json", None),
-            Fault::Shape => ("shape", None),
-            Fault::TextTooLong => ("text too long", None),
-            Fault::BadToken { index } => ("bad token ", Some(index)),
-            Fault::TextLeft { at } => ("text left at ", Some(at)),
-            Fault::BadCall { index } => ("bad call ", Some(index)),
-            Fault::Unspent { marker } => ("unspent ", Some(marker as usize)),
-            Fault::TooManyEvents => ("too many events", None),
-            Fault::TooManyErrors => ("too many errors", None),
+            Fault::Document(DocumentError::Json) => ("json", None),
+            Fault::Document(DocumentError::Shape) => ("shape", None),
+            Fault::Table(TableError::TextTooLong) => ("text too long", None),
+            Fault::Table(TableError::BadToken { index }) => ("bad token ", Some(index)),
+            Fault::Table(TableError::TextLeft { at }) => ("text left at ", Some(at)),
+            Fault::Script(ScriptError::BadCall { index }) => ("bad call ", Some(index)),
+            Fault::Script(ScriptError::Unspent { marker }) => ("unspent ", Some(marker as usize)),
+            Fault::Parse(ParseError::TooManyEvents) => ("too many events", None),
+            Fault::Parse(ParseError::TooManyErrors) => ("too many errors", None),
+            Fault::Document(DocumentError::OutOfMemory)
+            | Fault::Table(TableError::OutOfMemory)
+            | Fault::Script(ScriptError::OutOfMemory)
+            | Fault::Parse(ParseError::OutOfMemory)
+            | Fault::Memory => ("memory", None),
             Fault::DoesNotFit => ("does not fit", None),
-            Fault::Memory => ("memory", None),
             Fault::Io => ("io", None),
         }
     }
@@ -85,67 +91,55 @@ impl fmt::Display for Fault {
     ghost output = { λ fault. Some (fault_line fault) };
 
     fn fmt<W: fmt::Write>(&self, f: &mut fmt::Formatter<W>) -> fmt::Result {
-        match self.parts() {
-            (text, None) => write!(f, "{text}"),
-            (text, Some(number)) => write!(f, "{text}{number}"),
+        match self {
+            Fault::Document(reason) => write!(f, "{reason}"),
+            Fault::Table(reason) => write!(f, "{reason}"),
+            Fault::Script(reason) => write!(f, "{reason}"),
+            Fault::Parse(reason) => write!(f, "{reason}"),
+            Fault::DoesNotFit => write!(f, "does not fit"),
+            Fault::Memory => write!(f, "memory"),
+            Fault::Io => write!(f, "io"),
         }
     }
 }
 
 impl From<DocumentError> for Fault {
-    ghost use Rattle.squawk_answer.specs.Fault.{fault_of_document};
+    ghost use Rattle.squawk_answer.specs.declared.fault.Fault.TheVariants.{Document};
 
-    ghost from_gives = { λ error fault. fault ≡ fault_of_document error };
+    ghost from_gives = { λ reason fault. fault ≡ Document reason };
 
-    fn from(error: DocumentError) -> Fault {
-        match error {
-            DocumentError::Json => Fault::Json,
-            DocumentError::Shape => Fault::Shape,
-            DocumentError::OutOfMemory => Fault::Memory,
-        }
+    fn from(reason: DocumentError) -> Fault {
+        Fault::Document(reason)
     }
 }
 
 impl From<TableError> for Fault {
-    ghost use Rattle.squawk_answer.specs.Fault.{fault_of_table};
+    ghost use Rattle.squawk_answer.specs.declared.fault.Fault.TheVariants.{Table};
 
-    ghost from_gives = { λ error fault. fault ≡ fault_of_table error };
+    ghost from_gives = { λ reason fault. fault ≡ Table reason };
 
-    fn from(error: TableError) -> Fault {
-        match error {
-            TableError::TextTooLong => Fault::TextTooLong,
-            TableError::BadToken { index } => Fault::BadToken { index },
-            TableError::TextLeft { at } => Fault::TextLeft { at },
-            TableError::OutOfMemory => Fault::Memory,
-        }
+    fn from(reason: TableError) -> Fault {
+        Fault::Table(reason)
     }
 }
 
 impl From<ScriptError> for Fault {
-    ghost use Rattle.squawk_answer.specs.Fault.{fault_of_script};
+    ghost use Rattle.squawk_answer.specs.declared.fault.Fault.TheVariants.{Script};
 
-    ghost from_gives = { λ error fault. fault ≡ fault_of_script error };
+    ghost from_gives = { λ reason fault. fault ≡ Script reason };
 
-    fn from(error: ScriptError) -> Fault {
-        match error {
-            ScriptError::BadCall { index } => Fault::BadCall { index },
-            ScriptError::Unspent { marker } => Fault::Unspent { marker },
-            ScriptError::OutOfMemory => Fault::Memory,
-        }
+    fn from(reason: ScriptError) -> Fault {
+        Fault::Script(reason)
     }
 }
 
 impl From<ParseError> for Fault {
-    ghost use Rattle.squawk_answer.specs.Fault.{fault_of_parse};
+    ghost use Rattle.squawk_answer.specs.declared.fault.Fault.TheVariants.{Parse};
 
-    ghost from_gives = { λ error fault. fault ≡ fault_of_parse error };
+    ghost from_gives = { λ reason fault. fault ≡ Parse reason };
 
-    fn from(error: ParseError) -> Fault {
-        match error {
-            ParseError::OutOfMemory => Fault::Memory,
-            ParseError::TooManyEvents => Fault::TooManyEvents,
-            ParseError::TooManyErrors => Fault::TooManyErrors,
-        }
+    fn from(reason: ParseError) -> Fault {
+        Fault::Parse(reason)
     }
 }
 

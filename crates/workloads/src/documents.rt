@@ -1,7 +1,7 @@
 //! Documents as JSON, answered in lines.
 
 use crate::setting::Setting;
-use squawk_answer::{Fault, run};
+use squawk_answer::run;
 use squawk_parser::{LiteralKind, Token, TokenKind};
 use std::alloc::{AllocError, Global};
 use workload_texts::{Digest, Maker, Piece};
@@ -126,7 +126,7 @@ pub fn documents(
             Ok(()) => {
                 digest.add_bytes(&lines);
             }
-            Err(Fault::Memory) => return Err(AllocError),
+            Err(fault) if fault.is_out_of_memory() => return Err(AllocError),
             Err(fault) => {
                 let line = format!(in alloc; "{fault}")?;
                 digest.add_bytes(line.as_bytes());

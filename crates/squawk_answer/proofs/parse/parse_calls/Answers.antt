@@ -5,8 +5,8 @@ use Rattle.squawk_table.specs.Shape.{Fits}
 use Rattle.squawk_document.specs.KeywordAnswers.{answers}
 use Rattle.squawk_parser.specs.Words.{words_of}
 use Rattle.squawk_answer.specs.Answers.{ParseReturns}
-use Rattle.squawk_answer.specs.Fault.{fault_of_parse}
-use Rattle.squawk_answer.proofs.Answered.{fault-returned, limit-returned, none-refused, refusal-same, refusal-returned, steps-returned}
+use Rattle.squawk_answer.specs.declared.fault.Fault.TheVariants.{Parse}
+use Rattle.squawk_answer.proofs.Answered.{fault-returned, limit-returned, none-refused, refusal-same, steps-returned}
 use Rattle.squawk_answer.proofs.parse.parse_calls.Goals as goal
 
 pub returns-in_err-output-clause-parsed : goal.returns-in_err-output-clause-parsed
@@ -15,11 +15,12 @@ returns-in_err-output-clause-parsed c =
     let cs = c.args.calls.items in
     let input = input_of (answers c.args.vocabulary.now).contextual.kind_of c.args.table.now in
     let reason = c.in_err-output.field-0.0 in
-    fault-returned c.from_residual-in_err-output.result _ (λ fault. ParseReturns (by_calls c.args.entry cs) words input c.args.table.now (Err fault)) (fault_of_parse reason)
-    c.from_residual-in_err-output.ensures.1
-    (refusal-returned (by_calls c.args.entry cs) words input c.args.table.now reason c.in_ok-script.ensures.accepted
-    (λ other. sym (refusal-same c.args.entry cs words input c.in_ok-script.script c.in_ok-input.input c.in_ok-script.ensures.script c.in_ok-input.ensures.input)
-    ∙ limit-returned c.in_ok-script.script _ reason c.in_err-output.ensures.refused other))
+    fault-returned c.from_residual-in_err-output.result _ (λ fault. ParseReturns (by_calls c.args.entry cs) words input c.args.table.now (Err fault)) (Parse reason)
+    c.from_residual-in_err-output.ensures.1 (
+      c.in_ok-script.ensures.accepted,
+      λ other. sym (refusal-same c.args.entry cs words input c.in_ok-script.script c.in_ok-input.input c.in_ok-script.ensures.script c.in_ok-input.ensures.input)
+          ∙ limit-returned c.in_ok-script.script _ reason c.in_err-output.ensures.refused other,
+    )
 
 pub returns-then-not-stands_in_one_root-clause-parsed : goal.returns-then-not-stands_in_one_root-clause-parsed
 returns-then-not-stands_in_one_root-clause-parsed c =

@@ -4,8 +4,8 @@ use Rattle.squawk_document.specs.KeywordAnswers.{answers}
 use Rattle.squawk_table.specs.ParserInput.{input_of}
 use Rattle.squawk_parser.specs.Words.{Words}
 use Rattle.squawk_answer.specs.Answers.{ParseReturns}
-use Rattle.squawk_answer.specs.Fault.{fault_of_parse}
-use Rattle.squawk_answer.proofs.Answered.{fault-returned, refusal-returned}
+use Rattle.squawk_answer.specs.declared.fault.Fault.TheVariants.{Parse}
+use Rattle.squawk_answer.proofs.Answered.{fault-returned}
 use Rattle.squawk_answer.proofs.TinyAnswered.{none-tiny, refusal-tiny, steps-tiny}
 use Rattle.squawk_answer.proofs.parse.parse_tiny.Goals as goal
 
@@ -13,9 +13,9 @@ pub returns-in_err-output-clause-parsed : goal.returns-in_err-output-clause-pars
 returns-in_err-output-clause-parsed c =
     let input = input_of (answers c.args.vocabulary.now).contextual.kind_of c.args.table.now in
     let reason = c.in_err-output.field-0.0 in
-    fault-returned c.from_residual.result _ (λ fault. (words : Words) → ParseReturns by_tiny words input c.args.table.now (Err fault)) (fault_of_parse reason)
+    fault-returned c.from_residual.result _ (λ fault. (words : Words) → ParseReturns by_tiny words input c.args.table.now (Err fault)) (Parse reason)
     c.from_residual.ensures.1
-    (λ words. refusal-returned by_tiny words input c.args.table.now reason tt (refusal-tiny words input _ reason c.in_err-output.ensures.refused))
+    (λ words. (tt, refusal-tiny words input _ reason c.in_err-output.ensures.refused))
 
 pub returns-clause-parsed : goal.returns-clause-parsed
 returns-clause-parsed c =
