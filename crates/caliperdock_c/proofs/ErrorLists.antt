@@ -1,5 +1,5 @@
 -- Lists of errors that are joined.
-use Rattle.std.proofs.Common.{◌≡◌, ◌∙◌, ℕ, ◌+◌, List, [], ◌∷◌, ◌++◌, append_assoc, ap, arith, length, length-append, refl, sym}
+use Rattle.std.proofs.Common.{◌≡◌, ◌∙◌, ℕ, ◌+◌, List, [], ◌∷◌, ◌++◌, append_assoc, append-nil, ap, arith, length, length-append, refl, sym}
 use Rattle.squawk_tokens.specs.LexicalErrors.{LexicalError}
 use Rattle.caliperdock_c.specs.Errors.{error_text, error_texts, numbered_error, numbered_errors}
 use Rattle.caliperdock_c.specs.declared.errors.CError.{CError}
@@ -15,6 +15,14 @@ numbered_errors-append at (e ∷ xs) ys =
 pub length-numbered_errors : (at : ℕ) (errors : List LexicalError) → length (numbered_errors at errors) ≡ length errors
 length-numbered_errors at [] = refl
 length-numbered_errors at (e ∷ errors) = omega (arith, length-numbered_errors (at + length (error_text e)) errors)
+
+-- ---- no errors that are put at the end
+
+pub no_numbers : (numbers : List CError) (at : ℕ) (errors : List LexicalError) → errors ≡ [] → numbers ≡ numbers ++ numbered_errors at errors
+no_numbers numbers at errors none = sym (ap (λ es. numbers ++ numbered_errors at es) none ∙ append-nil numbers)
+
+pub no_texts : (texts : List ℕ) (errors : List LexicalError) → errors ≡ [] → texts ≡ texts ++ error_texts errors
+no_texts texts errors none = sym (ap (λ es. texts ++ error_texts es) none ∙ append-nil texts)
 
 -- ---- an error that was put at the end, and others behind it
 

@@ -61,6 +61,14 @@ errors_sent t table steps fits =
     ap (λ xs. length (flat_map error_in xs)) (sym (sent_from-sent_list t table steps fits))
     ∙ (errors_from t 0 0 (errors_moved steps) ∙ (ap length (errors-moved steps) ∙ length-filter is_error steps))
 
+-- so none where it has none
+pub none_sent : (t : Table) → IsTable t → (steps : List Step) → Fits t steps → errors_in steps ≡ 0 → flat_map error_in (sent_list t steps) ≡ []
+none_sent t table steps fits none = empty (flat_map error_in (sent_list t steps)) (errors_sent t table steps fits ∙ none)
+  where
+    empty : {X : Type 0} (xs : List X) → length xs ≡ 0 → xs ≡ []
+    empty [] is = refl
+    empty (x ∷ xs) is = absurd (omega (arith, is))
+
 -- ---- how large they are
 
 abbrev step_bytes : OwnedStep → ℕ

@@ -1,22 +1,18 @@
 -- The refusals of stages as those of a call on a text of SQL.
-use Rattle.std.proofs.Common.{ℕ, List}
+use Rattle.std.proofs.Common.{ℕ, ◌≢◌, List}
 use Rattle.std.specs.Prelude.{IsUtf8}
 use Rattle.squawk_keywords.specs.KeywordAnswers.{contextual_keyword_of}
 use Rattle.squawk_keywords.specs.declared.keywords.Keywords.{Keywords}
-use Rattle.squawk_kinds.specs.Keywords.{Keywords as WordKinds}
-use Rattle.squawk_parser.specs.Parse.{IsRefused}
-use Rattle.squawk_parser.specs.State.{fresh}
-use Rattle.squawk_parser.specs.Words.{Words}
 use Rattle.squawk_parser.specs.declared.parser.parse_error.ParseError.{ParseError}
 use Rattle.squawk_parser.specs.declared.parser.parse_error.ParseError.TheVariants as parse
-use Rattle.squawk_table.specs.ParserInput.{input_of}
 use Rattle.squawk_table.specs.RawTable.{Table as RawTable}
+use Rattle.sql_grammar.specs.Parses.{IsRefusedParse}
 use Rattle.sql_lexer.specs.Tokens as lexer_rules
 use Rattle.sql_lexer.specs.declared.tokenizer.TokenizeError.{TokenizeError}
 use Rattle.sql_lexer.specs.declared.tokenizer.TokenizeError.TheVariants as lexer
 use Rattle.caliperdock_c.specs.Answers.{refusal_of_lexer, refusal_of_parse}
 use Rattle.caliperdock_c.specs.Refusals.{RefusesText}
-use Rattle.caliperdock_c.specs.Sql.{HasSqlTable, RefusesParse, RefusesSql}
+use Rattle.caliperdock_c.specs.Sql.{HasSqlTable, RefusesSql}
 use Rattle.caliperdock_c.specs.declared.answer.Refusal.{Refusal}
 use Rattle.caliperdock_c.specs.declared.answer.Refusal.TheVariants.{OutOfMemory, NotUtf8, UnknownToken, Table, TooManyEvents, UnknownEvent, BadLink, NoRoot, DoesNotFit, TooManyErrors}
 
@@ -36,21 +32,8 @@ pub of_lexer : (text : List ℕ) (reason : TokenizeError) → IsUtf8 text → le
 of_lexer text lexer.TextTooLong utf8 r = (utf8, r)
 of_lexer text lexer.OutOfMemory utf8 r = utf8
 
-pub of_run : (contextual : WordKinds) (table : RawTable) (words : Words) (reason : ParseError)
-    → IsRefused (λ _ _. Unit {0}) (fresh (input_of contextual table) words 4294967295 2147483648) reason → RefusesParse contextual table (refusal_of_parse reason)
-of_run contextual table words parse.OutOfMemory r = tt
-of_run contextual table words parse.TooManyEvents r = record { words = words; refused = r }
-of_run contextual table words parse.TooManyErrors r = record { words = words; refused = r }
-
-pub of_parse : (text : List ℕ) (keywords : Keywords) (table : RawTable) (reason : Refusal) → HasSqlTable text keywords table
-    → RefusesParse (contextual_keyword_of keywords) table reason → RefusesSql text reason
-of_parse text keywords table OutOfMemory has r = has.utf8
-of_parse text keywords table TooManyEvents has r = record { keywords = keywords; table = table; of_text = has; refused = r }
-of_parse text keywords table TooManyErrors has r = record { keywords = keywords; table = table; of_text = has; refused = r }
-of_parse text keywords table (NotUtf8 at) has r = absurd r
-of_parse text keywords table (UnknownToken i) has r = absurd r
-of_parse text keywords table (Table reason) has r = absurd r
-of_parse text keywords table (UnknownEvent i) has r = absurd r
-of_parse text keywords table (BadLink i) has r = absurd r
-of_parse text keywords table NoRoot has r = absurd r
-of_parse text keywords table DoesNotFit has r = absurd r
+pub of_parse : (text : List ℕ) (keywords : Keywords) (table : RawTable) (reason : ParseError) → HasSqlTable text keywords table
+    → (reason ≢ parse.OutOfMemory → IsRefusedParse (contextual_keyword_of keywords) table reason) → RefusesSql text (refusal_of_parse reason)
+of_parse text keywords table parse.OutOfMemory has r = has.utf8
+of_parse text keywords table parse.TooManyEvents has r = record { keywords = keywords; table = table; of_text = has; refused = r (λ same. let p = same in cc) }
+of_parse text keywords table parse.TooManyErrors has r = record { keywords = keywords; table = table; of_text = has; refused = r (λ same. let p = same in cc) }

@@ -4,21 +4,15 @@ use Rattle.std.specs.Str.{chars}
 use Rattle.std.specs.Str.Lossy.{utf8_valid_len}
 use Rattle.squawk_keywords.specs.KeywordAnswers.{contextual_keyword_of, keyword_of}
 use Rattle.squawk_keywords.specs.declared.keywords.Keywords.{Keywords}
-use Rattle.squawk_kinds.specs.Keywords.{Keywords as WordKinds}
-use Rattle.squawk_output.specs.Draft.{Draft, plain}
 use Rattle.squawk_output.specs.Steps.{Step}
-use Rattle.squawk_parser.specs.Parse.{IsRefused}
-use Rattle.squawk_parser.specs.State.{fresh}
-use Rattle.squawk_parser.specs.Words.{Words}
 use Rattle.squawk_parser.specs.declared.parser.parse_error.ParseError.{ParseError}
 use Rattle.squawk_parser.specs.declared.parser.parse_error.ParseError.TheVariants as parse
-use Rattle.squawk_table.specs.ParserInput.{input_of}
 use Rattle.squawk_table.specs.RawTable.{table_of}
 use Rattle.squawk_table.specs.RawTable.{Table as RawTable}
 use Rattle.squawk_table.specs.Sent.{sent_list, texts_of}
 use Rattle.squawk_table.specs.Shape.{Fits}
 use Rattle.squawk_tokens.specs.declared.check.TableError.TheVariants as table
-use Rattle.sql_grammar.specs.Files.{IsFile}
+use Rattle.sql_grammar.specs.Parses.{AreOfFile, IsRefusedParse}
 use Rattle.sql_lexer.specs.Scripts.{script_tokens}
 use Rattle.sql_report.specs.Statements.{statements_of}
 use Rattle.sql_words.specs.SqlVocabulary.{KnowsKeywords}
@@ -42,31 +36,13 @@ pub record HasSqlTable (text : List ℕ) (keywords : Keywords) (table : RawTable
   pub known : KnowsKeywords keywords
   pub is : table ≡ table_of (keyword_of keywords) text (script_tokens text)
 
--- the steps of a file of SQL: one node over all tokens of a table, and in it the nodes of its statements
-pub record AreOfFile (contextual : WordKinds) (table : RawTable) (steps : List Step) : Type 0 where
-  pub draft : Draft
-  pub file : IsFile (input_of contextual table) draft
-  pub is : steps ≡ plain draft.items
-
--- the same of a text
+-- the steps of a text of SQL
 pub record AreOfSql (text : List ℕ) (table : RawTable) (steps : List Step) : Type 0 where
   pub keywords : Keywords
   pub of_text : HasSqlTable text keywords table
   pub of_file : AreOfFile (contextual_keyword_of keywords) table steps
 
 -- ---- refusals
-
--- a parse of the table is refused
-pub record IsRefusedParse (contextual : WordKinds) (table : RawTable) (reason : ParseError) : Type 0 where
-  pub words : Words
-  pub refused : IsRefused (λ _ _. Unit {0}) (fresh (input_of contextual table) words 4294967295 2147483648) reason
-
--- why a table has no output; at want of memory nothing is said of it
-abbrev pub RefusesParse : WordKinds → RawTable → Refusal → Type 0
-RefusesParse contextual table OutOfMemory = Unit {0}
-RefusesParse contextual table TooManyEvents = IsRefusedParse contextual table parse.TooManyEvents
-RefusesParse contextual table TooManyErrors = IsRefusedParse contextual table parse.TooManyErrors
-RefusesParse contextual table reason = ⊥
 
 -- the parse of a text is refused
 pub record IsRefusedSql (text : List ℕ) (reason : ParseError) : Type 0 where
@@ -96,22 +72,6 @@ pub record HasSqlRoom (tokens : List CToken) (statements : List CStatement) (ste
   pub statements_fit : counts.statements ≤ length statements
   pub sent_fit : HasRoom steps errors texts counts.sent
 
--- The raw tokens of the text, its statements and what is sent for its parse, whose texts are all of the text, in numbers, over what stood
--- there before; and how many there are.
-pub record AreSqlWritten (text : List ℕ) (tokens : List CToken) (statements : List CStatement) (steps : List CStep) (errors : List CError) (texts : List ℕ)
-    (new_tokens : List CToken) (new_statements : List CStatement) (new_steps : List CStep) (new_errors : List CError) (new_texts : List ℕ)
-    (counts : CSqlCounts) : Type 0 where
-  pub table : RawTable
-  pub walk : List Step
-  pub of_text : AreOfSql text table walk
-  pub fits : Fits table walk
-  pub whole : texts_of (sent_list table walk) ≡ chars text
-  pub tokens_are : new_tokens ≡ over (map number_of (script_tokens text)) tokens
-  pub token_count : counts.tokens ≡ length (script_tokens text)
-  pub statements_are : new_statements ≡ over (map numbered_statement (statements_of (sent_list table walk))) statements
-  pub statement_count : counts.statements ≡ length (statements_of (sent_list table walk))
-  pub written : AreWritten table (sent_list table walk) steps errors texts new_steps new_errors new_texts counts.sent
-
 -- The statements of a parse of the text, in numbers, over what stood there before; and how many there are.
 pub record AreStatementsWritten (text : List ℕ) (statements new_statements : List CStatement) (count : ℕ) : Type 0 where
   pub table : RawTable
@@ -119,3 +79,14 @@ pub record AreStatementsWritten (text : List ℕ) (statements new_statements : L
   pub of_text : AreOfSql text table walk
   pub are : new_statements ≡ over (map numbered_statement (statements_of (sent_list table walk))) statements
   pub count_is : count ≡ length (statements_of (sent_list table walk))
+
+-- The same, the raw tokens of the text, and what is sent for the parse, whose texts are all of the text.
+pub record AreSqlWritten (text : List ℕ) (tokens : List CToken) (statements : List CStatement) (steps : List CStep) (errors : List CError) (texts : List ℕ)
+    (new_tokens : List CToken) (new_statements : List CStatement) (new_steps : List CStep) (new_errors : List CError) (new_texts : List ℕ)
+    (counts : CSqlCounts) : Type 0 where
+  pub cut : AreStatementsWritten text statements new_statements counts.statements
+  pub fits : Fits cut.table cut.walk
+  pub whole : texts_of (sent_list cut.table cut.walk) ≡ chars text
+  pub tokens_are : new_tokens ≡ over (map number_of (script_tokens text)) tokens
+  pub token_count : counts.tokens ≡ length (script_tokens text)
+  pub written : AreWritten cut.table (sent_list cut.table cut.walk) steps errors texts new_steps new_errors new_texts counts.sent

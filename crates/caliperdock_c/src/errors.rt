@@ -1,6 +1,7 @@
 //! Errors as numbers.
-ghost use Rattle.std.specs.Prelude.{◌≡◌, ◌≤◌, ◌++◌, ◌∷◌, [], option_map, encode_utf8_all, IfOk, OnOk, length};
+ghost use Rattle.std.specs.Prelude.{◌≡◌, ◌≤◌, ◌++◌, ◌∷◌, [], false, option_map, encode_utf8_all, IfOk, OnOk, length};
 ghost use Rattle.std.specs.Str.{chars};
+ghost use Rattle.squawk_output.specs.Steps.{errors_in};
 ghost use Rattle.squawk_table.specs.Sent.{sent_list};
 ghost use Rattle.squawk_table.specs.Shape.{Fits};
 ghost use Rattle.squawk_table.specs.declared.shortcuts.str_step.OwnedStep.{OwnedStep};
@@ -9,7 +10,7 @@ ghost use Rattle.caliperdock_c.specs.Errors.{all_errors, error_in, error_text, e
 ghost use Rattle.caliperdock_c.specs.Steps.{AreLow};
 ghost use Rattle.std.specs.List.{flat_map};
 
-use squawk_parser::{LexedStr, Output, StrStep, StrSteps};
+use squawk_parser::{LexedStr, Output, Step, StrStep, StrSteps};
 use std::alloc::{AllocError, Global};
 
 /// An error: its bytes of the source, and those of its message and of its hint among the texts. The
@@ -51,11 +52,25 @@ impl ErrorList {
             texts: Vec::new(alloc),
             of_steps: 0,
         };
-        let _raw_count = table.len();
-        list.push_steps(table.str_steps(output))?;
+        list.push_sent(table, output)?;
         list.of_steps = list.numbers.len();
         list.push_lexical(table)?;
         Ok(list)
+    }
+
+    /// Puts the errors among the steps that are sent for an output at the end.
+    fn push_sent(&mut self, table: &LexedStr<'_>, output: &Output) -> Result<(), AllocError>
+        requires fits { Fits table.now output.now.steps }
+        requires short { length table.now.text ≤ 4294967295 }
+        ensures numbers { OnOk result (self.new.numbers.items ≡ self.old.numbers.items ++ numbered_errors (length self.old.texts.items) (flat_map error_in (sent_list table.now output.now.steps))) }
+        ensures texts { OnOk result (self.new.texts.items ≡ self.old.texts.items ++ error_texts (flat_map error_in (sent_list table.now output.now.steps))) }
+    {
+        let _raw_count = table.len();
+        // Where none is recorded, nothing need be sent.
+        if !has_errors(output) {
+            return Ok(());
+        }
+        self.push_steps(table.str_steps(output))
     }
 
     /// Puts the errors among steps at the end.
@@ -117,4 +132,16 @@ impl ErrorList {
         self.numbers.push(number)?;
         Ok(())
     }
+}
+
+/// Whether an error is among the steps of an output.
+fn has_errors(output: &Output) -> bool
+    ensures { result ≡ false → errors_in output.now.steps ≡ 0 }
+{
+    for step in output.iter() {
+        if let Step::Error { .. } = step {
+            return true;
+        }
+    }
+    false
 }

@@ -44,6 +44,8 @@ pub fn log_of(alloc: Global, events: &[CEvent], messages: &[u8]) -> Result<Vec<E
 }
 
 /// The event that is written so.
+// Runs for each event.
+#[inline(always)]
 fn read_event(alloc: Global, event: &CEvent, messages: &[u8]) -> Result<Option<Event>, AllocError>
     ensures { IfOk result (λ read. read ≡ event_of messages.now event.now) }
 {

@@ -1,20 +1,18 @@
 //! From a text of SQL to a table and an output over it.
 ghost use Rattle.std.specs.Prelude.{◌≡◌, ◌≤◌, length, IfOk, IfErr};
 ghost use Rattle.std.specs.Str.{chars};
-ghost use Rattle.squawk_keywords.specs.KeywordAnswers.{contextual_keyword_of};
 ghost use Rattle.squawk_output.specs.Steps.{errors_in};
 ghost use Rattle.squawk_table.specs.Sent.{sent_list, texts_of};
 ghost use Rattle.squawk_table.specs.Shape.{Fits};
 ghost use Rattle.sql_lexer.specs.Scripts.{script_tokens};
-ghost use Rattle.caliperdock_c.specs.Sql.{AreOfFile, AreOfSql, RefusesParse, RefusesSql};
+ghost use Rattle.caliperdock_c.specs.Sql.{AreOfSql, RefusesSql};
 
 use crate::answer::Refusal;
 use crate::parsed::Parsed;
-use sql_grammar::{Detail, NAMES, SqlGrammar};
+use sql_grammar::{Detail, parse_table};
 use sql_lexer::tokenize_script;
 use sql_words::vocabulary;
-use squawk_keywords::Keywords;
-use squawk_parser::{EntryPoint, LexedStr, Output, Token};
+use squawk_parser::{LexedStr, Token};
 use std::alloc::Global;
 
 /// The raw tokens of a text of SQL, its table, and the output of its parse.
@@ -44,29 +42,4 @@ pub fn parse_sql<'t>(alloc: Global, text: &'t str, detail: Detail) -> Result<Sql
         tokens,
         parsed: Parsed { table, output },
     })
-}
-
-/// The parse of a table's input: a file of its statements, for which all of the text is sent.
-#[tactic(auto, using(crate::proofs::SqlReasons::of_run))]
-fn parse_table(
-    alloc: Global,
-    table: &LexedStr<'_>,
-    vocabulary: &Keywords<'_>,
-    detail: Detail,
-) -> Result<Output, Refusal>
-    ensures file { IfOk result (λ output. AreOfFile (contextual_keyword_of vocabulary.now) table.now output.steps) }
-    ensures fits { IfOk result (λ output. Fits table.now output.steps) }
-    ensures whole { IfOk result (λ output. texts_of (sent_list table.now output.steps) ≡ chars table.now.text) }
-    ensures few { IfOk result (λ output. length output.steps ≤ 4294967295) }
-    ensures errors { IfOk result (λ output. errors_in output.steps ≤ 2147483648) }
-    ensures refused { IfErr result (RefusesParse (contextual_keyword_of vocabulary.now) table.now) }
-{
-    let input = table.to_input(alloc, vocabulary)?;
-    let grammar = SqlGrammar {
-        names: &NAMES,
-        detail,
-    };
-    let output = EntryPoint::SourceFile.parse(alloc, &input, &grammar)?;
-    let _steps = table.str_steps(&output);
-    Ok(output)
 }

@@ -1,10 +1,10 @@
 -- The nodes of a file's statements are added, one behind another.
-use Rattle.std.proofs.Common.{◌≡◌, ◌≢◌, ◌∙◌, ℕ, zero, suc, ◌+◌, ◌-◌, ◌<◌, ◌≤◌, ◌==◌, min, Bool, true, false, Option, Some, None, List, [], ◌∷◌, ◌++◌, drop, take, length, if◌then◌else◌, arith, ap, sym, refl, subst, append_assoc, length-drop}
+use Rattle.std.proofs.Common.{◌≡◌, ◌≢◌, ◌∙◌, ℕ, zero, suc, ◌+◌, ◌-◌, ◌<◌, ◌≤◌, ◌==◌, Bool, true, false, Option, Some, None, List, [], ◌∷◌, ◌++◌, drop, take, length, if◌then◌else◌, arith, ap, sym, refl, subst, append_assoc, length-drop}
 use Rattle.std.proofs.lemmas.List.{append-nil, length-map, length-take}
 use Rattle.squawk_kinds.specs.Kinds.{EOF, PSQL_COMMAND_TEXT}
 use Rattle.squawk_output.specs.Draft.{Mark, plain}
 use Rattle.squawk_output.specs.OneRoot.{IsBalanced}
-use Rattle.squawk_output.specs.Steps.{Step, Token, eaten}
+use Rattle.squawk_output.specs.Steps.{Step, Token}
 use Rattle.squawk_table.specs.ParserInput.{kinds_in}
 use Rattle.squawk_parser.specs.Composed.{Adds}
 use Rattle.squawk_parser.specs.Eaten.{node}
@@ -17,12 +17,12 @@ use Rattle.squawk_parser.proofs.Balance.{IsBalanced-depth_after, depth_after, de
 use Rattle.squawk_parser.proofs.KindsAhead.{kinds_moved, kinds_none, kinds_some, kinds_still}
 use Rattle.squawk_parser.proofs.Progress.{eaten-node}
 use Rattle.squawk_parser.proofs.RecordedItems.{plain-append}
-use Rattle.squawk_parser.proofs.RecordedSteps.{puts-none, went}
+use Rattle.squawk_parser.proofs.RecordedSteps.{puts-none}
 use Rattle.squawk_parser.proofs.SeenSteps.{ahead-fresh}
 use Rattle.squawk_parser.proofs.SomeSteps.{adds_some, none_some, some_adds, whole_some}
 use Rattle.sql_grammar.specs.Files.{AddsRest, AddsStatement, AreNodesOf, IsFile}
 use Rattle.sql_grammar.specs.Kinds.{SOURCE_FILE}
-use Rattle.sql_grammar.specs.Statements.{Statement, body_of, ends_at, first, first_statement, kind_of, len_behind, len_of, nth, open_behind, statements_behind, statements_of}
+use Rattle.sql_grammar.specs.Statements.{Statement, body_of, ends_at, first, first_statement, kind_of, len_behind, len_of, open_behind, statements_behind, statements_of}
 use Rattle.sql_grammar.specs.declared.cut.Body.{Body}
 
 -- ---- how many tokens are seen

@@ -1,5 +1,6 @@
 pub mod AddedStatements
 pub mod Lengths
 pub mod Looks
+pub mod RefusedParses
 pub mod StatementKinds
 pub mod Tails

@@ -1,5 +1,5 @@
 -- What looks ahead tell of the kinds of the tokens that are seen.
-use Rattle.std.proofs.Common.{◌≡◌, ◌≢◌, ◌∙◌, ℕ, ◌+◌, ◌<◌, Bool, true, false, List, [], ◌∷◌, drop, take, nat_lt, if◌then◌else◌, arith, add-zero, ap, sym, refl}
+use Rattle.std.proofs.Common.{◌≡◌, ◌≢◌, ◌∙◌, ℕ, ◌+◌, List, [], ◌∷◌, drop, take, nat_lt, if◌then◌else◌, arith, add-zero, ap, sym, refl}
 use Rattle.std.proofs.lemmas.List.{drop-drop, drop-map}
 use Rattle.std.proofs.lemmas.List.Elements.{All-drop, All-head, All-take}
 use Rattle.squawk_kinds.specs.Kinds.{EOF}

@@ -1,12 +1,12 @@
 -- The kinds of statements.
-use Rattle.std.proofs.Common.{◌≡◌, ◌≢◌, ◌∙◌, ℕ, ◌+◌, ◌<◌, ◌==◌, ◌&&◌, not, Bool, true, false, List, [], ◌∷◌, drop, get_or, length, if◌then◌else◌, add-one, ap, sym, refl, arith}
+use Rattle.std.proofs.Common.{◌≡◌, ◌≢◌, ◌∙◌, ℕ, ◌+◌, ◌<◌, ◌==◌, true, false, List, [], ◌∷◌, drop, get_or, length, add-one, ap, sym, refl, arith}
 use Rattle.std.proofs.Math.Seq.{drop-cons}
 use Rattle.std.proofs.lemmas.List.{drop-drop}
 use Rattle.std.proofs.lemmas.Bool.{ne_eqb}
-use Rattle.squawk_kinds.specs.Kinds.{L_PAREN, TOMBSTONE}
+use Rattle.squawk_kinds.specs.Kinds.{L_PAREN}
 use Rattle.squawk_table.specs.ParserInput.{kinds_in}
 use Rattle.squawk_parser.specs.State.{State, ahead, kind_at}
-use Rattle.squawk_parser.proofs.SeenSteps.{and-left, and-right, if-false, if-true}
+use Rattle.squawk_parser.proofs.SeenSteps.{if-false, if-true}
 use Rattle.sql_grammar.specs.Kinds.{PSQL_COMMAND}
 use Rattle.sql_grammar.specs.Statements.{first, first_word, is_psql, kind_for, kind_of, nth}
 use Rattle.sql_grammar.specs.declared.statement_kinds.TheConstants.{STATEMENTS}

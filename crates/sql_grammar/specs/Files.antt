@@ -1,5 +1,5 @@
 -- What a file of statements leaves.
-use Rattle.std.specs.Prelude.{◌≡◌, ℕ, List, [], ◌∷◌, ◌++◌}
+use Rattle.std.specs.Prelude.{◌≡◌, List, [], ◌∷◌, ◌++◌}
 use Rattle.squawk_output.specs.Draft.{Draft, plain}
 use Rattle.squawk_output.specs.OneRoot.{IsBalanced}
 use Rattle.squawk_output.specs.Steps.{Step, eaten}

@@ -1,3 +1,4 @@
 pub mod Files
 pub mod Kinds
+pub mod Parses
 pub mod Statements

@@ -15,6 +15,7 @@ mod composites;
 mod cut;
 mod elements;
 mod inside;
+mod parse;
 mod phrases;
 mod statement_kinds;
 mod statements;
@@ -22,6 +23,7 @@ mod statements;
 mod tests;
 
 use crate::composites::OPERATORS;
+pub use crate::parse::parse_table;
 use crate::statements::statement;
 use sql_words::SqlKind;
 use squawk_parser::{EntryPoint, Grammar, Parser, SyntaxKind, WholeGrammar, Words};

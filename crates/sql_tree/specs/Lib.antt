@@ -1,4 +1,5 @@
 pub mod Options
 pub mod Listings
 pub mod Reports
+pub mod Refusals
 pub mod Printed

@@ -1,7 +1,9 @@
 //! The texts that are named, one after another.
-ghost use Rattle.std.specs.Prelude.{◌≡◌, ◌++◌, true, IfOk, IsOk, MatchResult, OnOk, string_bytes};
+ghost use Rattle.std.specs.Prelude.{◌≡◌, ◌++◌, true, codes, Err, IfErr, IfOk, IfSome, IsOk, MatchResult, OnOk, string_bytes};
 ghost use Rattle.std.specs.Io.KnownBytes.{Appends};
+ghost use Rattle.std.specs.IoError.{error_kind};
 ghost use Rattle.sql_tree.specs.Printed.{has_headings, heading};
+ghost use Rattle.sql_tree.specs.Refusals.{RefusesBytes, unread_line};
 ghost use Rattle.sql_tree.specs.Reports.{IsReport};
 
 use crate::options::Listing;
@@ -72,6 +74,7 @@ fn read_all<R: Read>(alloc: Global, reader: &mut R) -> io::Result<Vec<u8>> {
 }
 
 /// What is told of the bytes that were read.
+#[tactic(auto, using(crate::proofs::Reasons::of_text))]
 fn report(
     alloc: Global,
     sql: &Sql,
@@ -81,6 +84,8 @@ fn report(
 ) -> Result<Report, Unread>
     ensures read { OnOk result (IsOk bytes) }
     ensures told { IfOk result (λ report. IfOk bytes (λ read. IsReport sql.now listing name.now read.items report)) }
+    ensures unread { IfErr bytes (λ error. result ≡ Err (Unread.Io (error_kind error))) }
+    ensures refused { IfErr result (λ reason. IfOk bytes (λ read. RefusesBytes sql.now read.items reason)) }
 {
     let bytes = bytes?;
     match str::from_utf8(&bytes) {
@@ -102,6 +107,8 @@ fn tell<W: Write, E: Write>(
 ) -> io::Result<()>
     ensures listed { OnOk result (IfOk report (λ r. Appends (W.contents out.old) (W.contents out.new) (heading has_heading name.now ++ string_bytes r.listing))) }
     ensures errors { OnOk result (IfOk report (λ r. Appends (E.contents errors.old) (E.contents errors.new) r.errors.items)) }
+    ensures line { OnOk result (IfErr report (λ unread. IfSome (unread_line unread) (λ line.
+        Appends (E.contents errors.old) (E.contents errors.new) (name.now ++ codes ": " ++ line ++ codes "\n")))) }
     ensures unread { MatchResult report (λ _. totals.new.unread ≡ totals.old.unread) (λ _. totals.new.unread ≡ true) }
 {
     match report {

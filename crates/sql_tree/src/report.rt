@@ -1,18 +1,22 @@
 //! What is told of a text.
-ghost use Rattle.std.specs.Prelude.{◌≡◌, ◌≢◌, IfOk, length, string_bytes};
+ghost use Rattle.std.specs.Prelude.{◌≡◌, ◌≢◌, IfErr, IfOk, length, string_bytes};
 ghost use Rattle.squawk_table.specs.Sent.{sent_list};
 ghost use Rattle.squawk_table.specs.Shape.{Fits};
 ghost use Rattle.squawk_tree.specs.TreeText.{tree_text};
 ghost use Rattle.sql_lexer.specs.Scripts.{script_tokens};
+ghost use Rattle.sql_lexer.specs.Tokens as lexer_rules;
 ghost use Rattle.sql_report.specs.JsonTrees.{HasTreeLines};
 ghost use Rattle.sql_report.specs.Statements.{statements_of};
 ghost use Rattle.sql_report.specs.TokenLines.{token_lines};
 ghost use Rattle.sql_tree.specs.Listings.{listed};
+ghost use Rattle.sql_tree.specs.Refusals.{RefusesText};
 ghost use Rattle.squawk_kinds.specs.EngineNames.{names_of};
 
 use crate::options::Listing;
-use crate::sql::{Sql, tokens};
+use crate::sql::Sql;
 use crate::unread::Unread;
+use sql_grammar::{Detail, parse_table};
+use sql_lexer::{TokenizeError, tokenize_script};
 use sql_report::{error_lines, findings, json_lines, statement_lines, statements, token_lines};
 use squawk_parser::{LexedStr, Output};
 use squawk_tree::TreeText;
@@ -36,6 +40,7 @@ impl Report {
     ghost use Rattle.sql_tree.specs.Reports.{IsReport};
 
     /// What is told of a text that is called by a name.
+    #[tactic(auto, using(crate::proofs::Reasons::of_lexer, crate::proofs::Reasons::of_parse))]
     pub fn new(
         alloc: Global,
         sql: &Sql,
@@ -43,12 +48,13 @@ impl Report {
         name: &str,
         text: &str,
     ) -> Result<Report, Unread>
-        ensures { IfOk result (λ report. IsReport sql.now listing name.now text.now report) }
+        ensures told { IfOk result (λ report. IsReport sql.now listing name.now text.now report) }
+        ensures refused { IfErr result (RefusesText sql.now text.now) }
     {
-        let tokens = tokens(alloc, text)?;
-        let table = sql.table(alloc, text, &tokens)?;
+        let tokens = tokenize_script(alloc, text)?;
+        let table = LexedStr::from_accepted(alloc, text, &tokens, &sql.vocabulary)?;
         drop(tokens);
-        let output = sql.parse(alloc, &table)?;
+        let output = parse_table(alloc, &table, &sql.vocabulary, Detail::Nodes)?;
         let findings = findings(alloc, &table, &output)?;
         let errors = error_lines(alloc, name, text, &findings)?;
         let error_count = findings.len();
@@ -64,6 +70,7 @@ impl Report {
 }
 
 /// What goes to the standard output.
+#[tactic(auto, using(crate::proofs::Reasons::of_lexer))]
 fn list(
     alloc: Global,
     sql: &Sql,
@@ -76,6 +83,7 @@ fn list(
     ensures listed { IfOk result (λ list. string_bytes list ≡ listed sql.now listing text.now (sent_list table.now output.now.steps)) }
     ensures values { IfOk result (λ list. listing ≡ Listing.Json →
         HasTreeLines (names_of sql.now.names.items) (sent_list table.now output.now.steps) (string_bytes list)) }
+    ensures refused { IfErr result (RefusesText sql.now text.now) }
 {
     match listing {
         Listing::Tree => Ok(tree(alloc, sql, table, output)?),
@@ -84,16 +92,17 @@ fn list(
             Ok(statement_lines(alloc, text, &statements, sql.names())?)
         }
         Listing::Json => Ok(json_lines(alloc, table, output, sql.names())?),
-        Listing::Tokens => token_list(alloc, text),
+        Listing::Tokens => Ok(token_list(alloc, text)?),
         Listing::Quiet => Ok(String::new(alloc)),
     }
 }
 
 /// The raw tokens as lines.
-fn token_list(alloc: Global, text: &str) -> Result<String, Unread>
-    ensures { IfOk result (λ list. string_bytes list ≡ token_lines 0 (script_tokens text.now)) }
+fn token_list(alloc: Global, text: &str) -> Result<String, TokenizeError>
+    ensures list { IfOk result (λ list. string_bytes list ≡ token_lines 0 (script_tokens text.now)) }
+    ensures refused { IfErr result (lexer_rules.RefusesText text.now) }
 {
-    let tokens = tokens(alloc, text)?;
+    let tokens = tokenize_script(alloc, text)?;
     Ok(token_lines(alloc, &tokens)?)
 }
 

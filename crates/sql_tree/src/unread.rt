@@ -1,4 +1,5 @@
 //! Why a text has no tree.
+ghost use Rattle.std.specs.Prelude.{◌≡◌};
 
 use sql_lexer::TokenizeError;
 use squawk_parser::ParseError;
@@ -25,6 +26,10 @@ pub enum Unread {
 }
 
 impl fmt::Display for Unread {
+    ghost use Rattle.sql_tree.specs.Refusals.{unread_line};
+
+    ghost output = { unread_line };
+
     fn fmt<W: fmt::Write>(&self, f: &mut fmt::Formatter<W>) -> fmt::Result {
         match *self {
             Unread::Io(kind) => write!(f, "{kind}"),
@@ -38,18 +43,31 @@ impl fmt::Display for Unread {
 }
 
 impl From<io::Error> for Unread {
+    ghost use Rattle.std.specs.IoError.{error_kind};
+    ghost use Rattle.sql_tree.specs.declared.unread.Unread.TheVariants.{Io};
+
+    ghost from_gives = { λ error unread. unread ≡ Io (error_kind error) };
+
     fn from(error: io::Error) -> Unread {
         Unread::Io(error.kind())
     }
 }
 
 impl From<AllocError> for Unread {
+    ghost use Rattle.sql_tree.specs.declared.unread.Unread.TheVariants.{OutOfMemory};
+
+    ghost from_gives = { λ _ unread. unread ≡ OutOfMemory };
+
     fn from(_error: AllocError) -> Unread {
         Unread::OutOfMemory
     }
 }
 
 impl From<TokenizeError> for Unread {
+    ghost use Rattle.sql_tree.specs.Refusals.{unread_of_lexer};
+
+    ghost from_gives = { λ error unread. unread ≡ unread_of_lexer error };
+
     fn from(error: TokenizeError) -> Unread {
         match error {
             TokenizeError::TextTooLong => Unread::TextTooLong,
@@ -59,6 +77,10 @@ impl From<TokenizeError> for Unread {
 }
 
 impl From<ParseError> for Unread {
+    ghost use Rattle.sql_tree.specs.Refusals.{unread_of_parse};
+
+    ghost from_gives = { λ error unread. unread ≡ unread_of_parse error };
+
     fn from(error: ParseError) -> Unread {
         match error {
             ParseError::OutOfMemory => Unread::OutOfMemory,

@@ -1,7 +1,7 @@
 use Rattle.std.proofs.Common.{◌≡◌, ◌∙◌, ap, length, rules, subst}
 use Rattle.std.specs.Prelude.{string_bytes}
 use Rattle.std.specs.Str.{chars}
-use Rattle.squawk_keywords.specs.KeywordAnswers.{keyword_of}
+use Rattle.squawk_keywords.specs.KeywordAnswers.{contextual_keyword_of, keyword_of}
 use Rattle.squawk_table.specs.RawTable.{table_of}
 use Rattle.squawk_table.specs.Sent.{sent_list, texts_of}
 use Rattle.squawk_table.specs.Shape.{Fits}
@@ -11,11 +11,12 @@ use Rattle.sql_report.specs.JsonTrees.{HasTreeLines}
 use Rattle.sql_report.specs.Statements.{statements_of}
 use Rattle.squawk_kinds.specs.EngineNames.{names_of}
 use Rattle.sql_tree.specs.Listings.{listed}
-use Rattle.sql_tree.specs.Reports.{AreOfFile, table_in}
+use Rattle.sql_grammar.specs.Parses.{AreOfFile}
+use Rattle.sql_tree.specs.Reports.{table_in}
 use Rattle.sql_tree.proofs.report.Report.new.Goals as goal
 
-pub returns : goal.returns
-returns c =
+pub returns-clause-told : goal.returns-clause-told
+returns-clause-told c =
     let sql = c.args.sql.now in
     let text = c.args.text.now in
     let steps = c.in_ok-output.output.steps in
@@ -23,7 +24,7 @@ returns c =
     record {
       steps = steps;
       fits = subst (λ table. Fits table steps) same c.in_ok-output.ensures.fits;
-      of_file = subst (λ table. AreOfFile sql table steps) same c.in_ok-output.ensures.file;
+      of_file = subst (λ table. AreOfFile (contextual_keyword_of sql.vocabulary) table steps) same c.in_ok-output.ensures.file;
       whole = subst (λ table. texts_of (sent_list table steps) ≡ chars table.text) same c.in_ok-output.ensures.whole;
       findings = c.in_ok-findings.findings.items;
       in_order = subst (λ table. AreInOrder (all_told table.errors (sent_list table steps)) c.in_ok-findings.findings.items) same c.in_ok-findings.ensures;
