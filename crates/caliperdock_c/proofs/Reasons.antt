@@ -50,7 +50,7 @@ of_events g table (UnknownEvent i) has r = (table, has, r.0, r.1)
 of_events g table (NotUtf8 at) has r = absurd r
 of_events g table (UnknownToken i) has r = absurd r
 of_events g table (Table reason) has r = absurd r
-of_events g table (BadLink i) has r = absurd r
+of_events g table (BadLink i) has r = (table, r.0, record { of_text = has; few = r.1; log_is = r.2 }, r.3)
 of_events g table NoRoot has r = absurd r
 of_events g table DoesNotFit has r = absurd r
 of_events g table TooManyErrors has r = absurd r

@@ -1,5 +1,5 @@
 -- Events as numbers.
-use Rattle.std.specs.Prelude.{ℕ, ◌==◌, ◌&&◌, Option, Some, None, List, [], ◌∷◌, if◌then◌else◌, length, nat_le, nat_lt, option_map, slice_range}
+use Rattle.std.specs.Prelude.{ℕ, ◌==◌, ◌&&◌, Option, Some, None, List, [], ◌∷◌, if◌then◌else◌, length, map, nat_le, nat_lt, option_map, slice_range}
 use Rattle.std.specs.List.{slice_index_or}
 use Rattle.std.specs.Str.{chars, is_utf8}
 use Rattle.squawk_output.specs.declared.event.Event.{Event}
@@ -23,3 +23,16 @@ events_numbered messages e =
 -- the event, if its number is one's
 abbrev pub event_of : List ℕ → CEvent → Option Event
 event_of messages e = slice_index_or (events_numbered messages e) e.tag None
+
+-- the event, or a finish where there is none
+abbrev pub or_finish : Option Event → Event
+or_finish None = event.Finish
+or_finish (Some e) = e
+
+-- the event that is written so, or a finish
+abbrev pub event_or_finish : List ℕ → CEvent → Event
+event_or_finish messages e = or_finish (event_of messages e)
+
+-- the log of the events, where each is written as one
+abbrev pub log_of : List ℕ → List CEvent → List Event
+log_of messages events = map (event_or_finish messages) events

@@ -1,10 +1,12 @@
 //! Events as numbers.
 ghost use Rattle.std.specs.Prelude.{◌≡◌, ◌==◌, ◌≤◌, length, map, option_map, IfOk, IfErr, None, Some, if◌then◌else◌};
+ghost use Rattle.squawk_output.specs.EventLog.{LinksLead};
 ghost use Rattle.caliperdock_c.specs.Events.{event_of, message_in};
 ghost use Rattle.caliperdock_c.specs.Refusals.{RefusesEventNumbers};
 
 use crate::answer::Refusal;
-use squawk_parser::{Event, SyntaxKind, Text};
+use crate::links::first_astray;
+use squawk_parser::{Event, EventList, SyntaxKind, Text};
 use std::alloc::{AllocError, Global};
 
 /// An event as numbers: 0 a start of a kind, with how many places further on its parent's start is
@@ -23,24 +25,32 @@ pub struct CEvent {
 /// The most events of a log.
 const MOST_EVENTS: usize = 2147483648;
 
-/// The log that is written so.
-#[tactic(auto, using(crate::proofs::Unknowns::first_event))]
-pub fn log_of(alloc: Global, events: &[CEvent], messages: &[u8]) -> Result<Vec<Event>, Refusal>
-    ensures few { IfOk result (λ log. length log.items ≤ 2147483648) }
-    ensures log { IfOk result (λ log. map Some log.items ≡ map (event_of messages.now) events.now) }
+/// The log that is written so, whose links lead to later starts.
+pub fn log_of(alloc: Global, events: &[CEvent], messages: &[u8]) -> Result<EventList, Refusal>
+    ensures few { IfOk result (λ log. length log ≤ 2147483648) }
+    ensures log { IfOk result (λ log. map Some log ≡ map (event_of messages.now) events.now) }
+    ensures links { IfOk result LinksLead }
     ensures refused { IfErr result (RefusesEventNumbers messages.now events.now) }
 {
     if events.len() > MOST_EVENTS {
         return Err(Refusal::TooManyEvents);
     }
-    let mut log = Vec::with_capacity(alloc, events.len())?;
+    let astray = first_astray(events);
+    let mut log = EventList::with_capacity(alloc, events.len())?;
     for (index, event) in events.iter().enumerate() {
         match read_event(alloc, event, messages)? {
-            Some(event) => log.push_reserved(event),
+            Some(event) => {
+                if astray.is_none() {
+                    log.push(event)?;
+                }
+            }
             None => return Err(Refusal::UnknownEvent { index }),
         }
     }
-    Ok(log)
+    match astray {
+        Some(index) => Err(Refusal::BadLink { index }),
+        None => Ok(log),
+    }
 }
 
 /// The event that is written so.

@@ -1,16 +1,17 @@
-//! Where the links of a log lead.
-ghost use Rattle.std.specs.Prelude.{◌≡◌, ◌↔◌, IsTrue, MatchOption};
-ghost use Rattle.squawk_output.specs.EventLog.{Lands, LinksLead, is_start, is_start_at};
+//! Where the links of events lead.
+ghost use Rattle.std.specs.Prelude.{ℕ, ◌≡◌, ◌↔◌, IsTrue, List, MatchOption};
+ghost use Rattle.squawk_output.specs.EventLog.{Lands, LinksLead, is_start_at};
+ghost use Rattle.caliperdock_c.specs.Events.{event_or_finish, log_of};
 ghost use Rattle.caliperdock_c.specs.Links.{IsFirstAstray};
 
-use squawk_parser::Event;
+use crate::event::CEvent;
 
 /// The first place whose link leads to no later start.
-pub fn first_astray(log: &[Event]) -> Option<usize>
-    ensures { MatchOption result (LinksLead log.now) (IsFirstAstray log.now) }
+pub fn first_astray(events: &[CEvent]) -> Option<usize>
+    ensures { (messages : List ℕ) → MatchOption result (LinksLead (log_of messages events.now)) (IsFirstAstray (log_of messages events.now)) }
 {
-    for (index, event) in log.iter().enumerate() {
-        if !lands(event, &log[index + 1..]) {
+    for (index, event) in events.iter().enumerate() {
+        if !lands(event, &events[index + 1..]) {
             return Some(index);
         }
     }
@@ -19,38 +20,23 @@ pub fn first_astray(log: &[Event]) -> Option<usize>
 
 /// Whether an event has no link, or one to a start of the events behind it.
 #[inline(always)]
-fn lands(event: &Event, behind: &[Event]) -> bool
-    ensures { IsTrue result ↔ Lands event.now behind.now }
+fn lands(event: &CEvent, behind: &[CEvent]) -> bool
+    ensures { (messages : List ℕ) → IsTrue result ↔ Lands (event_or_finish messages event.now) (log_of messages behind.now) }
 {
-    match event {
-        Event::Start {
-            kind: _,
-            forward_parent: Some(distance),
-        } => *distance > 0 && is_start_at(behind, *distance as usize - 1),
-        Event::Start {
-            kind: _,
-            forward_parent: None,
-        }
-        | Event::Finish
-        | Event::Token { .. }
-        | Event::Error { .. } => true,
+    if event.tag != 0 || event.a == 0 {
+        return true;
     }
+    is_start_at(behind, event.a as usize - 1)
 }
 
 /// Whether a start stands at a place.
-#[tactic(auto, using(crate::proofs::Starts::is_start_at_get, crate::proofs::Starts::is_start_at_past))]
-fn is_start_at(events: &[Event], place: usize) -> bool
-    ensures { result ≡ is_start_at events.now place }
+#[inline(always)]
+fn is_start_at(events: &[CEvent], place: usize) -> bool
+    ensures { (messages : List ℕ) → result ≡ is_start_at (log_of messages events.now) place }
 {
     if place < events.len() {
-        is_start(&events[place])
+        events[place].tag == 0
     } else {
         false
     }
-}
-
-fn is_start(event: &Event) -> bool
-    ensures { result ≡ is_start event.now }
-{
-    matches!(event, Event::Start { .. })
 }

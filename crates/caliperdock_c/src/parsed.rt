@@ -6,9 +6,8 @@ ghost use Rattle.caliperdock_c.specs.Refusals.{HasSteps, HasTable, Refuses, Refu
 
 use crate::answer::Refusal;
 use crate::event::{CEvent, log_of};
-use crate::links::first_astray;
 use crate::token::{CToken, raw_tokens};
-use squawk_parser::{LexedStr, NoKeywords, Output, process};
+use squawk_parser::{LexedStr, NoKeywords, Output};
 use std::alloc::Global;
 
 /// A table, and an output that fits it.
@@ -44,7 +43,7 @@ fn table_of<'t>(alloc: Global, text: &'t [u8], tokens: &[CToken]) -> Result<Lexe
 }
 
 /// The table of a text with these raw tokens, and the output of these events.
-#[tactic(auto, using(crate::proofs::Reasons::of_table, crate::proofs::Reasons::of_events, crate::proofs::Logs::few_steps, crate::proofs::Logs::few_errors))]
+#[tactic(auto, using(crate::proofs::Reasons::of_table, crate::proofs::Reasons::of_events, crate::proofs::Logs::has_steps, crate::proofs::Logs::few_steps, crate::proofs::Logs::few_errors))]
 pub fn parse_events<'t>(
     alloc: Global,
     text: &'t [u8],
@@ -61,11 +60,7 @@ pub fn parse_events<'t>(
 {
     let table = table_of(alloc, text, tokens)?;
     let log = log_of(alloc, events, messages)?;
-    if let Some(index) = first_astray(&log) {
-        return Err(Refusal::BadLink { index });
-    }
-    let recorded = log.len() as u32;
-    let output = process(alloc, log, recorded)?;
+    let output = log.process(alloc, events.len() as u32)?;
     if !output.stands_in_one_root() {
         return Err(Refusal::NoRoot);
     }

@@ -3,7 +3,7 @@ ghost use Rattle.std.specs.Prelude.{◌≡◌};
 
 use row_fixtures::kinds::{CALL, NAME, NAME_REF, PAREN, ROOT};
 use row_fixtures::output::written;
-use squawk_parser::{Event, Output, SyntaxKind, Text, process};
+use squawk_parser::{Event, EventList, Output, SyntaxKind, Text, process};
 use std::process::Abort;
 use std::test::Fail;
 
@@ -117,4 +117,16 @@ fn start_without_a_kind_begins_no_node(rt: HostRuntime) -> Result<(), Fail> {
     // What was recorded is handed in. Two events, one of them a start.
     let output = process(rt.alloc(), events, 9)?;
     assert_passed(&rt, &output, "!'e'", 9, 3)
+}
+
+#[test]
+fn events_come_one_by_one(rt: HostRuntime) -> Result<(), Fail> {
+    let mut list = EventList::with_capacity(rt.alloc(), 0)?;
+    list.push(start(NAME, Some(2)))?;
+    list.push(Event::Finish)?;
+    list.push(start(ROOT, None))?;
+    list.push(Event::Finish)?;
+    // Four events, two of them a start, and a link.
+    let output = list.process(rt.alloc(), 7)?;
+    assert_passed(&rt, &output, "ROOT(NAME())", 7, 8)
 }

@@ -1,18 +1,17 @@
 -- What loops over children have seen, and what is left.
-use Rattle.std.proofs.Common.{◌≡◌, ◌∙◌, ℕ, ◌==◌, ◌&&◌, ◌||◌, not, Bool, true, false, List, [], ◌∷◌, ◌++◌, Option, Some, None, map, refl, ap, sym, subst, append_assoc, cond}
+use Rattle.std.proofs.Common.{◌≡◌, ◌∙◌, ℕ, ◌==◌, ◌&&◌, ◌||◌, not, Bool, true, false, List, [], ◌∷◌, ◌++◌, Option, Some, None, map, refl, ap, sym, subst, append_assoc}
 use Rattle.std.specs.List.{filter_map, cons_option}
 use Rattle.std.proofs.lemmas.Bool.{cond-false, cond-true, or_left}
 use Rattle.std.proofs.lemmas.List.{append-nil, map-append}
 use Rattle.squawk_kinds.specs.Kinds.{is_trivia}
 use Rattle.squawk_tree.specs.Forest.{Forest}
-use Rattle.sql_report.specs.Findings.{Told, told}
+use Rattle.sql_report.specs.Findings.{told}
 use Rattle.sql_report.specs.declared.finding_list.Finding.{Finding}
 use Rattle.syntax_tree.specs.Layout.{Laid, IsTree}
 use Rattle.syntax_tree.specs.Trees.{kind_at, start_at}
 use Rattle.syntax_tree.specs.Views.{At, place_in}
 use Rattle.syntax_tree.proofs.PlacesLeft.{BeginsAt, begins, no_places}
-use Rattle.sql_lint.specs.Rules.{broken_rule, finding_at, findings_in, message_of, stand_together, told_at, words_at, words_of}
-use Rattle.sql_lint.specs.declared.rules.Rule.{Rule}
+use Rattle.sql_lint.specs.Rules.{broken_rule, finding_at, findings_in, stand_together, told_at, words_at, words_of}
 
 -- ---- words that stand together
 
@@ -97,7 +96,7 @@ pub record FindsSome (laid : Laid) (tree : Forest) (found : List Finding) (walk 
 
 module _ {laid : Laid} {tree : Forest} {found : List Finding} {walk : List At} (s : FindsSome laid tree found walk)
     (place : At) (rest : List At) (is : walk ≡ place ∷ rest) (lies : IsTree laid tree)
-    (broken : Option Rule) (read : IsTree place.laid tree → broken ≡ broken_rule (kind_at tree place.at) (words_of tree place.at)) where
+    (broken : Option (List ℕ)) (read : IsTree place.laid tree → broken ≡ broken_rule (kind_at tree place.at) (words_of tree place.at)) where
   node : BeginsAt laid s.places place rest
   node = begins laid s.places place rest (sym s.left ∙ is)
 
@@ -117,9 +116,9 @@ module _ {laid : Laid} {tree : Forest} {found : List Finding} {walk : List At} (
     same = ap (λ l. map told found ++ l) (sym (more ∙ ap (λ o. cons_option (told_at tree place.at o) (filter_map (finding_at tree) node.behind)) none)) ∙ s.same;
   }
 
-  pub finds_one : (rule : Rule) → broken ≡ Some rule → (finding : Finding) → told finding ≡ record { at = start_at tree place.at; message = message_of rule; hint = None }
+  pub finds_one : (message : List ℕ) → broken ≡ Some message → (finding : Finding) → told finding ≡ record { at = start_at tree place.at; message = message; hint = None }
       → (more_found : List Finding) → more_found ≡ found ++ finding ∷ [] → FindsSome laid tree more_found rest
-  finds_one rule one finding tells more_found is_more =
+  finds_one message one finding tells more_found is_more =
       let others = filter_map (finding_at tree) node.behind in
       record {
         places = node.behind;

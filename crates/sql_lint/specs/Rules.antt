@@ -5,8 +5,6 @@ use Rattle.squawk_kinds.specs.Kinds.{is_trivia}
 use Rattle.squawk_tree.specs.Forest.{Forest}
 use Rattle.sql_report.specs.Findings.{Told}
 use Rattle.syntax_tree.specs.Trees.{children_of, kind_at, nodes_among, start_at}
-use Rattle.sql_lint.specs.declared.rules.Rule.{Rule}
-use Rattle.sql_lint.specs.declared.rules.Rule.TheVariants.{DropWithoutIfExists, IndexWithoutConcurrently}
 
 -- ---- kinds
 
@@ -54,34 +52,30 @@ stand_together first second (word ∷ next ∷ words) =
 -- ---- rules
 
 -- a DROP has IF directly before EXISTS
-abbrev pub without_if_exists : List ℕ → Option Rule
-without_if_exists words = if stand_together IF_KW EXISTS_KW words then None else Some DropWithoutIfExists
+abbrev pub without_if_exists : List ℕ → Option (List ℕ)
+without_if_exists words = if stand_together IF_KW EXISTS_KW words then None else Some (codes "DROP without IF EXISTS")
 
 -- where CREATE or UNIQUE stands directly before INDEX, an index is created
 abbrev pub creates_index : List ℕ → Bool
 creates_index words = stand_together CREATE_KW INDEX_KW words || stand_together UNIQUE_KW INDEX_KW words
 
 -- a CREATE that creates an index has INDEX directly before CONCURRENTLY
-abbrev pub without_concurrently : List ℕ → Option Rule
+abbrev pub without_concurrently : List ℕ → Option (List ℕ)
 without_concurrently words =
-    if creates_index words && not (stand_together INDEX_KW CONCURRENTLY_KW words) then Some IndexWithoutConcurrently else None
+    if creates_index words && not (stand_together INDEX_KW CONCURRENTLY_KW words)
+    then Some (codes "CREATE INDEX without CONCURRENTLY") else None
 
--- the rule that a node of a kind with these words breaks
-abbrev pub broken_rule : ℕ → List ℕ → Option Rule
+-- what is told of a node of a kind with these words, if it breaks a rule
+abbrev pub broken_rule : ℕ → List ℕ → Option (List ℕ)
 broken_rule kind words =
     if kind == DROP then without_if_exists words else (if kind == CREATE then without_concurrently words else None)
 
--- what is told of a rule that is broken
-abbrev pub message_of : Rule → List ℕ
-message_of DropWithoutIfExists = codes "DROP without IF EXISTS"
-message_of IndexWithoutConcurrently = codes "CREATE INDEX without CONCURRENTLY"
-
 -- ---- findings
 
--- a rule that is broken, told at the byte where the node at a place starts
-abbrev pub told_at : Forest → ℕ → Option Rule → Option Told
+-- what is told, at the byte where the node at a place starts
+abbrev pub told_at : Forest → ℕ → Option (List ℕ) → Option Told
 told_at tree at None = None
-told_at tree at (Some rule) = Some (record { at = start_at tree at; message = message_of rule; hint = None })
+told_at tree at (Some message) = Some (record { at = start_at tree at; message = message; hint = None })
 
 -- the finding at the node at a place, if it breaks a rule
 abbrev pub finding_at : Forest → ℕ → Option Told

@@ -43,10 +43,10 @@ pub fn findings(alloc: Global, tree: &SyntaxTree<'_>) -> Result<Vec<Finding<'sta
 {
     let mut findings = Vec::new(alloc);
     for statement in tree.root().children() {
-        if let Some(rule) = broken_rule(statement) {
+        if let Some(message) = broken_rule(statement) {
             findings.push(Finding {
                 at: statement.text_range().start,
-                message: rule.message(),
+                message,
                 hint: None,
             })?;
         }

@@ -9,9 +9,9 @@ mod tests;
 
 use crate::lint::lint;
 use sql_words::vocabulary;
-use std::io::{ErrorKind, Write};
+use std::io::Write;
 use std::process::ExitCode;
-use std::{env, fs, io, str};
+use std::{env, fs, io};
 
 fn main(rt: HostRuntime) -> ExitCode {
     match lint_files(&rt) {
@@ -31,11 +31,8 @@ fn lint_files(rt: &HostRuntime) -> io::Result<bool> {
     let mut out = io::writer(rt);
     let mut is_clean = true;
     for name in env::args(rt)?.skip(1) {
-        let bytes = fs::read(rt, name.as_str())?;
-        let Ok(text) = str::from_utf8(&bytes) else {
-            return Err(io::Error::from(ErrorKind::InvalidData));
-        };
-        let lines = lint(alloc, &words, name.as_str(), text)?;
+        let text = fs::read_to_string(rt, name.as_str())?;
+        let lines = lint(alloc, &words, name.as_str(), text.as_str())?;
         is_clean = is_clean && lines.is_empty();
         out.write_all(&lines)?;
     }

@@ -1,7 +1,7 @@
 -- Invariants: of the loop that stores events, and of those of the pass.
 use Rattle.std.specs.Prelude.{◌≡◌, ℕ, ◌+◌, ◌*◌, ◌≤◌, cond, false, Option, None, List, [], ◌++◌, length, drop}
 use Rattle.squawk_output.specs.Steps.{Built}
-use Rattle.squawk_output.specs.EventLog.{Log, LinksLead, errors_logged, has_link, is_start, linked_index, list_of, steps_of_event, turns_of}
+use Rattle.squawk_output.specs.EventLog.{Log, LinksLead, has_link, is_start, linked_index, list_of, steps_of_event, turns_of}
 use Rattle.squawk_output.specs.declared.event.Event.{Event}
 use Rattle.squawk_output.specs.Chain.{LandsAt, chain, entered_back, erased}
 use Rattle.squawk_output.specs.StoredEvents.{HaveEventTexts, log_in}
@@ -68,11 +68,8 @@ pub record PassesList (events : List StoredEvent) (texts : List (List ℕ)) (eve
   pub have_texts : HaveEventTexts texts events'
   pub same_texts : output.texts ≡ texts
 
--- Events are put into a log one after another: so many of them were, beside the texts of their errors, and these are
--- left.
-pub record Copies (log copied left : Log) (texts : List (List ℕ)) (stored : List StoredEvent) : Type 0 where
-  pub events : log_in texts stored ≡ copied
-  pub have_texts : HaveEventTexts texts stored
-  pub errors : length texts ≡ errors_logged copied
+-- Events are put into a log one after another: these were, and these are left.
+pub record Copies (log copied left : Log) (list : Log) : Type 0 where
+  pub are : list ≡ copied
   pub links : LinksLead left
   pub whole : length copied + length left ≡ length log

@@ -1,7 +1,7 @@
 -- The events of a log as a list keeps them.
-use Rattle.std.specs.Prelude.{ℕ, ◌+◌, ◌==◌, ◌<◌, ◌^◌, Bool, true, false, Option, Some, None, All, List, [], length, map, slice_index_or, if◌then◌else◌}
+use Rattle.std.specs.Prelude.{◌≡◌, ℕ, ◌+◌, ◌==◌, ◌<◌, ◌^◌, Bool, true, false, Option, Some, None, All, List, [], length, map, slice_index_or, if◌then◌else◌}
 use Rattle.squawk_output.specs.Chain.{tombstone}
-use Rattle.squawk_output.specs.EventLog.{Log}
+use Rattle.squawk_output.specs.EventLog.{Log, errors_logged}
 use Rattle.squawk_output.specs.declared.event.Event.{Event}
 use Rattle.squawk_output.specs.declared.event.Event.TheVariants as event
 
@@ -52,3 +52,8 @@ log_in texts events = map (event_of texts) events
 -- the text of every error is there
 abbrev pub HaveEventTexts : List (List ℕ) → List StoredEvent → Type 0
 HaveEventTexts texts events = All (HasEventText texts) events
+
+-- the texts beside a list of events are those of its errors
+pub record AreStored (texts : List (List ℕ)) (events : List StoredEvent) : Type 0 where
+  pub have_texts : HaveEventTexts texts events
+  pub errors : length texts ≡ errors_logged (log_in texts events)

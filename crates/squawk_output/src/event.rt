@@ -1,5 +1,5 @@
 //! Events, and the output of a log of them.
-ghost use Rattle.std.specs.Prelude.{◌≡◌, ◌+◌, ◌<◌, ◌≤◌, ◌^◌, ◌∷◌, ◌++◌, [], length, IfOk};
+ghost use Rattle.std.specs.Prelude.{◌≡◌, ◌+◌, ◌<◌, ◌≤◌, ◌^◌, ◌∷◌, ◌++◌, [], length, IfOk, OnErr, OnOk};
 ghost use Rattle.squawk_output.specs.EventLog.{LinksLead, errors_logged, list_of, turns_of};
 ghost use Rattle.squawk_output.specs.StoredEvents.{HaveEventTexts, LeadsOn, Start, log_in};
 
@@ -9,6 +9,7 @@ use crate::output::{Output, Text};
 use crate::pass::pass;
 use squawk_kinds::SyntaxKind;
 use std::alloc::{AllocError, Global};
+use std::marker::Model;
 
 /// An event of a parse.
 ///
@@ -70,17 +71,68 @@ pub fn process(alloc: Global, events: Vec<Event>, recorded: u32) -> Result<Outpu
     requires errors { errors_logged events.items ≤ 2147483648 }
     ensures { IfOk result (λ output. output ≡ record { steps = list_of events.items; recorded = recorded; turns = turns_of events.items }) }
 {
-    let mut stored = Vec::with_capacity(alloc, events.len())?;
-    let mut errors = Vec::new(alloc);
+    let mut list = EventList::with_capacity(alloc, events.len())?;
     for event in events {
-        store(&mut stored, &mut errors, event)?;
+        list.push(event)?;
     }
-    pass(alloc, stored, errors, recorded)
+    list.process(alloc, recorded)
 }
 
-/// Appends an event to the log, and the text of an error to the texts.
-///
-/// Its link, if it has one, leads forward, and not past the last index of a log.
+/// A log of events that come one by one, in eight bytes each.
+#[derive(Drop)]
+pub struct EventList {
+    stored: Vec<PackedEvent>,
+    /// The texts of the errors, at their numbers.
+    errors: Vec<Text>,
+}
+
+impl Model for EventList {
+    ghost use Rattle.squawk_output.specs.EventLog.{Log};
+    ghost use Rattle.squawk_output.specs.StoredEvents.{AreStored, log_in};
+
+    ghost Value = { Log };
+
+    ghost view = { λ list. log_in list.errors.items list.stored.items };
+
+    ghost invariant = { λ list. AreStored list.errors.items list.stored.items };
+}
+
+impl EventList {
+    /// A log without events, with room for `events` of them.
+    pub fn with_capacity(alloc: Global, events: usize) -> Result<EventList, AllocError>
+        ensures { IfOk result (λ list. list ≡ []) }
+    {
+        Ok(EventList {
+            stored: Vec::with_capacity(alloc, events)?,
+            errors: Vec::new(alloc),
+        })
+    }
+
+    /// Appends an event. Its link, if it has one, leads forward, and not past the last index of a log.
+    #[inline(always)]
+    pub fn push(&mut self, event: Event) -> Result<(), AllocError>
+        requires leads { LeadsOn event }
+        requires few { length self.old + 1 < 2 ^ 32 }
+        ensures ok { OnOk result (self.new ≡ self.old ++ event ∷ []) }
+        ensures err { OnErr result (self.new ≡ self.old) }
+    {
+        store(&mut self.stored, &mut self.errors, event)
+    }
+
+    /// The output of the log, as [`process`] makes it.
+    pub fn process(self, alloc: Global, recorded: u32) -> Result<Output, AllocError>
+        requires few { length self < 2 ^ 32 }
+        requires links { LinksLead self }
+        requires errors { errors_logged self ≤ 2147483648 }
+        ensures { IfOk result (λ output. output ≡ record { steps = list_of self; recorded = recorded; turns = turns_of self }) }
+    {
+        let EventList { stored, errors } = self;
+        pass(alloc, stored, errors, recorded)
+    }
+}
+
+/// Appends an event to the log, and the text of an error to the texts, or neither.
+#[inline(always)]
 fn store(
     events: &mut Vec<PackedEvent>,
     errors: &mut Vec<Text>,
@@ -92,6 +144,7 @@ fn store(
     ensures events { IfOk result (λ _. log_in errors.new.items events.new.items ≡ log_in errors.old.items events.old.items ++ event ∷ []) }
     ensures texts { IfOk result (λ _. HaveEventTexts errors.new.items events.new.items) }
     ensures errors { IfOk result (λ _. length errors.new.items ≡ length errors.old.items + errors_logged (event ∷ [])) }
+    ensures err { OnErr result ((events.new.items ≡ events.old.items) × (errors.new.items ≡ errors.old.items)) }
 {
     match event {
         Event::Start {

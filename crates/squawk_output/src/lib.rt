@@ -1,6 +1,6 @@
 //! Steps, outputs and events, and the pass that makes an output of a log of events.
 //!
-//! Only [`process`], [`EventLog::finish`] and [`Output::empty`] make outputs; the first two run that pass.
+//! Only [`EventList::process`], [`EventLog::finish`] and [`Output::empty`] make outputs; the first two run that pass.
 //! `squawk_parser` re-exports all that is public here but [`EventLog`], in which it records.
 #![tactic(auto)]
 
@@ -9,6 +9,6 @@ pub mod log;
 pub mod output;
 mod pass;
 
-pub use event::{Event, process};
+pub use event::{Event, EventList, process};
 pub use log::{EventLog, Made};
 pub use output::{Output, Step, Steps, Text};

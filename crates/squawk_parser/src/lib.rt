@@ -115,7 +115,7 @@ pub use squawk_kinds::{
     is_reserved_keyword, is_type_func_name_keyword, no_keywords, syntax_kind, token_set,
     vocabulary, with_engine_names,
 };
-pub use squawk_output::{Event, Output, Step, Steps, Text, event, output, process};
+pub use squawk_output::{Event, EventList, Output, Step, Steps, Text, event, output, process};
 pub use squawk_table::{
     Base, Input, LexError, LexErrors, LexedStr, LiteralKind, OwnedStep, StepList, StepSink,
     StrStep, StrSteps, TableError, Token, TokenKind, check_tokens, input, lexed_str, shortcuts,

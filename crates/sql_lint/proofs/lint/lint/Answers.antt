@@ -1,4 +1,4 @@
-use Rattle.std.proofs.Common.{◌≡◌, ◌∙◌, List, ap, subst}
+use Rattle.std.proofs.Common.{◌∙◌, List, ap, subst}
 use Rattle.squawk_parser.specs.Pipeline.{given}
 use Rattle.squawk_tokens.specs.declared.token.Token.{Token}
 use Rattle.sql_grammar.specs.Files.{IsFile}

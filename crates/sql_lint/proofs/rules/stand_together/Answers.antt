@@ -1,4 +1,4 @@
-use Rattle.std.proofs.Common.{rules, ◌≡◌, ◌==◌, sym}
+use Rattle.std.proofs.Common.{rules, ◌==◌, sym}
 use Rattle.std.proofs.lemmas.Bool.{and_left, and_right}
 use Rattle.syntax_tree.specs.Trees.{children_of}
 use Rattle.syntax_tree.specs.Views.{at_of}
