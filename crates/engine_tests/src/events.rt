@@ -116,6 +116,7 @@ fn start_without_a_kind_begins_no_node(rt: HostRuntime) -> Result<(), Fail> {
     let events = vec![in rt.alloc(); start(1, None), Event::Error { msg }]?;
     // What was recorded is handed in. Two events, one of them a start.
     let output = process(rt.alloc(), events, 9)?;
+    assert_eq!(&rt; output.error_count(), 1);
     assert_passed(&rt, &output, "!'e'", 9, 3)
 }
 

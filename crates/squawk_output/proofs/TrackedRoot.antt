@@ -1,12 +1,12 @@
 -- A tracker says whether the steps that it has seen stand in one root, errors aside.
-use Rattle.std.proofs.Common.{◌≡◌, ◌∙◌, ℕ, zero, suc, ◌+◌, ◌-◌, ◌<◌, List, [], ◌∷◌, cond, length, take, arith, sym, subst, refl}
+use Rattle.std.proofs.Common.{◌≡◌, ◌∙◌, ℕ, zero, suc, ◌+◌, ◌-◌, ◌<◌, ◌≤◌, List, [], ◌∷◌, ap, cond, length, take, arith, sym, subst, refl}
 use Rattle.std.specs.Prelude.{◌==◌, ◌↔◌, IsTrue}
 use Rattle.std.specs.List.{fold}
 use Rattle.std.proofs.Math.Dec.{eqb-suc-zero}
 use Rattle.std.proofs.lemmas.Bool.{and_parts, eqb-true, false≢true, ne_eqb}
 use Rattle.squawk_output.specs.OneRoot.{StandsInOneRoot}
-use Rattle.squawk_output.specs.RootTracker.{Tracked, tracked_of, tracked, is_one_root}
-use Rattle.squawk_output.specs.Steps.{Step, Token, Enter, Exit, Error, is_enter, is_exit, closings, openings, without_errors}
+use Rattle.squawk_output.specs.RootTracker.{Tracked, tracked_of, tracked, is_one_root, untracked}
+use Rattle.squawk_output.specs.Steps.{Step, Token, Enter, Exit, Error, is_enter, is_error, is_exit, closings, errors_in, openings, without_errors}
 use Rattle.squawk_output.proofs.Sums.{count_by-cons}
 use Rattle.squawk_output.specs.declared.output.root_tracker.RootTracker.{RootTracker}
 
@@ -116,3 +116,16 @@ root-told (Error text ∷ steps) = root-told steps
 
 pub tracked_in_one_root : (steps : List Step) (count : ℕ) (tracker : RootTracker) → tracked_of steps ≡ record { count = count; tracker = tracker } → IsTrue (is_one_root tracker count) ↔ StandsInOneRoot (without_errors steps)
 tracked_in_one_root steps count tracker is = subst (λ n. IsTrue (is_one_root n.tracker n.count) ↔ StandsInOneRoot (without_errors steps)) is (root-told steps)
+
+-- ---- and how many of them are errors
+
+counted : (so_far : Tracked) (steps : List Step) → (fold tracked so_far steps).count + errors_in steps ≡ so_far.count + length steps
+counted so_far [] = refl
+counted so_far (Token kind n ∷ steps) = omega (arith, counted (tracked so_far (Token kind n)) steps, count_by-cons is_error (Token kind n) steps)
+counted so_far (Enter kind ∷ steps) = omega (arith, counted (tracked so_far (Enter kind)) steps, count_by-cons is_error (Enter kind) steps)
+counted so_far (Exit ∷ steps) = omega (arith, counted (tracked so_far Exit) steps, count_by-cons is_error Exit steps)
+counted so_far (Error text ∷ steps) = omega (arith, counted so_far steps, count_by-cons is_error (Error text) steps)
+
+pub tracked_errors : (steps : List Step) (all errors : ℕ) (tracker : RootTracker) → tracked_of steps ≡ record { count = all - errors; tracker = tracker }
+    → length steps ≡ all → errors ≤ all → errors ≡ errors_in steps
+tracked_errors steps all errors tracker is whole within = omega (arith, counted (record { count = 0; tracker = untracked }) steps, ap (λ so_far. so_far.count) is, whole, within)

@@ -1,7 +1,7 @@
 //! The output of a parse.
 ghost use Rattle.std.specs.Prelude.{◌≡◌, ◌<◌, ◌^◌, ◌↔◌, [], IsTrue, length};
 ghost use Rattle.squawk_output.specs.OneRoot.{StandsInOneRoot};
-ghost use Rattle.squawk_output.specs.Steps.{without_errors};
+ghost use Rattle.squawk_output.specs.Steps.{errors_in, without_errors};
 
 pub(crate) mod builder;
 mod root_tracker;
@@ -56,6 +56,13 @@ impl Output {
         ensures few { length self.now.steps < 2 ^ 64 }
     {
         self.builder.iter()
+    }
+
+    /// The number of steps that are errors, in constant time.
+    pub fn error_count(&self) -> usize
+        ensures { result ≡ errors_in self.now.steps }
+    {
+        self.builder.error_count()
     }
 
     /// Whether the steps stand in one root: errors aside, they are one node with its contents.

@@ -2,7 +2,7 @@
 ghost use Rattle.std.specs.Prelude.{◌≡◌, [], ◌∷◌, ◌++◌, ◌+◌, ◌<◌, ◌^◌, ◌↔◌, IfOk, IsTrue, length, slice_index_or};
 ghost use Rattle.squawk_output.specs.OneRoot.{StandsInOneRoot};
 ghost use Rattle.squawk_output.specs.PackedEvents.{IsPlain};
-ghost use Rattle.squawk_output.specs.Steps.{Error, without_errors};
+ghost use Rattle.squawk_output.specs.Steps.{Error, errors_in, without_errors};
 ghost use Rattle.squawk_output.specs.StoredSteps.{enters_of, step_in, unpacked};
 
 use crate::output::root_tracker::RootTracker;
@@ -126,6 +126,13 @@ impl OutputBuilder {
         ensures few { length self.now.steps < 2 ^ 64 }
     {
         Steps::new(&self.words, &self.errors)
+    }
+
+    /// The number of steps that are errors.
+    pub(crate) fn error_count(&self) -> usize
+        ensures { result ≡ errors_in self.now.steps }
+    {
+        self.error_steps
     }
 
     /// Whether the steps stand in one root, errors aside.
