@@ -49,7 +49,7 @@ module _ (messages : List ℕ) (events : List CEvent) (k : ℕ) (d : CEvent) (lt
 
 -- ---- what a log takes
 
-leads_on : (event : Event) (messages : List ℕ) (behind : List CEvent) → Lands event (log_of messages behind) → length behind ≤ 2147483648 → LeadsOn event
+pub leads_on : (event : Event) (messages : List ℕ) (behind : List CEvent) → Lands event (log_of messages behind) → length behind ≤ 2147483648 → LeadsOn event
 leads_on (Start kind None) messages behind lands few = tt
 leads_on (Start kind (Some distance)) messages behind lands few = (
   lands.0,
@@ -59,9 +59,3 @@ leads_on (Start kind (Some distance)) messages behind lands few = (
   ],
 )
 leads_on other messages behind lands few = tt
-
-pub each_leads_on : (messages : List ℕ) (events : List CEvent) (k : ℕ) (d : CEvent) → LinksLead (log_of messages events) → k < length events
-    → length events ≤ 2147483648 → LeadsOn (event_or_finish messages (get_or events k d))
-each_leads_on messages [] k d links lt few = absurd (omega arith)
-each_leads_on messages (event ∷ events) zero d links lt few = leads_on (event_or_finish messages event) messages events links.0 (omega arith)
-each_leads_on messages (event ∷ events) (suc k) d links lt few = each_leads_on messages events k d links.1 (omega arith) (omega arith)

@@ -1,7 +1,7 @@
 -- Lists written over others, item by item.
-use Rattle.std.proofs.Common.{◌≡◌, ◌∙◌, ℕ, ◌+◌, ◌<◌, ◌≤◌, inl, inr, List, [], ◌∷◌, ◌++◌, length, length-append, map, min, take, drop, set, get_or, append_assoc, arith, ap, sym}
+use Rattle.std.proofs.Common.{◌≡◌, ◌∙◌, ℕ, ◌+◌, ◌<◌, inl, inr, List, [], ◌∷◌, ◌++◌, length, length-append, map, min, take, drop, set, get_or, append_assoc, arith, ap, sym}
 use Rattle.std.proofs.Math.Seq.{set-append_seam}
-use Rattle.std.proofs.lemmas.List.{drop_all, drop_more, take_all, take-append-le, length-take, length-drop, length-map, length-take-le, take_more, take-take}
+use Rattle.std.proofs.lemmas.List.{drop_all, drop_more, take_all, length-take, length-drop, length-map, length-take-le, take_more, take-take}
 use Rattle.std.proofs.Math.ListN.{get_or-map}
 use Rattle.std.proofs.lemmas.Bool.{cases_lt}
 use Rattle.caliperdock_c.specs.Overlays.{over}
@@ -25,21 +25,10 @@ over_next {X} old front x i e lt =
     ∙ (ap (λ xs. xs ++ rest) (sym (take_all n (front ++ x ∷ []) (omega (arith, length-append front (x ∷ [])))))
     ∙ ap (λ k. take n (front ++ x ∷ []) ++ drop k old) (sym (length-append front (x ∷ []))))))))
 
--- and where there is none, nothing is
-pub over_past : {X : Type 0} → (old front : List X) (x : X) → length old ≤ length front → over front old ≡ over (front ++ x ∷ []) old
-over_past {X} old front x le =
-    let n = length old in
-    let longer = length-append front (x ∷ []) in
-    ap (λ xs. take n front ++ xs) (drop_all (length front) old le ∙ sym (drop_all (length (front ++ x ∷ [])) old (omega (arith, longer))))
-    ∙ ap (λ xs. xs ++ drop (length (front ++ x ∷ [])) old) (sym (take-append-le n front (x ∷ []) le))
-
--- an item that is put at a place, if that is there
+-- an item that is put at a place that is there
 pub put_there : {X : Type 0} → (old front room : List X) (x : X) (i : ℕ) → i ≡ length front → room ≡ over front old → i < length room
     → set room i x ≡ over (front ++ x ∷ []) old
 put_there old front room x i e is lt = ap (λ xs. set xs i x) is ∙ over_next old front x i e (omega (arith, length-over front old, ap length is))
-
-pub put_past : {X : Type 0} → (old front room : List X) (x : X) (i : ℕ) → i ≡ length front → room ≡ over front old → length room ≤ i → room ≡ over (front ++ x ∷ []) old
-put_past old front room x i e is le = is ∙ over_past old front x (omega (arith, length-over front old, ap length is))
 
 -- item i of those that are to be written
 pub over_more : {X : Type 0} → (old items : List X) (x : X) (i : ℕ) → i < length items → i < length old

@@ -2,7 +2,7 @@
 use Rattle.std.proofs.Common.{ℕ, List}
 use Rattle.std.specs.Prelude.{IsUtf8}
 use Rattle.squawk_table.specs.RawTable.{Table as RawTable}
-use Rattle.caliperdock_c.specs.Refusals.{Given, HasTable, Refuses, RefusesEventNumbers, RefusesTable, RefusesText, RefusesTokenNumbers}
+use Rattle.caliperdock_c.specs.Refusals.{Given, HasTable, Refuses, RefusesLog, RefusesTable, RefusesText, RefusesTokenNumbers}
 use Rattle.caliperdock_c.specs.declared.answer.Refusal.{Refusal}
 use Rattle.caliperdock_c.specs.declared.answer.Refusal.TheVariants.{OutOfMemory, NotUtf8, UnknownToken, Table, TooManyEvents, UnknownEvent, BadLink, NoRoot, DoesNotFit, TooManyErrors}
 use Rattle.caliperdock_c.specs.declared.token.CToken.{CToken}
@@ -43,7 +43,7 @@ of_table g NoRoot r = absurd r
 of_table g DoesNotFit r = absurd r
 of_table g TooManyErrors r = absurd r
 
-pub of_events : (g : Given) (table : RawTable) (reason : Refusal) → HasTable g.text g.tokens table → RefusesEventNumbers g.messages g.events reason → Refuses g reason
+pub of_events : (g : Given) (table : RawTable) (reason : Refusal) → HasTable g.text g.tokens table → RefusesLog g.messages g.events reason → Refuses g reason
 of_events g table OutOfMemory has r = has.tokens_are.utf8
 of_events g table TooManyEvents has r = (table, has, r)
 of_events g table (UnknownEvent i) has r = (table, has, r.0, r.1)

@@ -39,13 +39,13 @@ RefusesTokenNumbers tokens (UnknownToken i) = IsFirstUnknown token_of tokens i
 RefusesTokenNumbers tokens reason = ⊥
 
 -- why events are no log whose links lead to later starts
-abbrev pub RefusesEventNumbers : List ℕ → List CEvent → Refusal → Type 0
-RefusesEventNumbers messages events OutOfMemory = Unit {0}
-RefusesEventNumbers messages events TooManyEvents = 2147483648 < length events
-RefusesEventNumbers messages events (UnknownEvent i) = (length events ≤ 2147483648) × IsFirstUnknown (event_of messages) events i
-RefusesEventNumbers messages events (BadLink i) =
+abbrev pub RefusesLog : List ℕ → List CEvent → Refusal → Type 0
+RefusesLog messages events OutOfMemory = Unit {0}
+RefusesLog messages events TooManyEvents = 2147483648 < length events
+RefusesLog messages events (UnknownEvent i) = (length events ≤ 2147483648) × IsFirstUnknown (event_of messages) events i
+RefusesLog messages events (BadLink i) =
     (log : Log) × (length events ≤ 2147483648) × (map Some log ≡ map (event_of messages) events) × IsFirstAstray log i
-RefusesEventNumbers messages events reason = ⊥
+RefusesLog messages events reason = ⊥
 
 -- ---- what is given
 

@@ -1,7 +1,6 @@
 //! Errors as numbers.
-ghost use Rattle.std.specs.Prelude.{◌≡◌, ◌≤◌, ◌++◌, ◌∷◌, [], false, option_map, encode_utf8_all, IfOk, OnOk, length};
+ghost use Rattle.std.specs.Prelude.{◌≡◌, ◌≤◌, ◌++◌, ◌∷◌, [], option_map, encode_utf8_all, IfOk, OnOk, length};
 ghost use Rattle.std.specs.Str.{chars};
-ghost use Rattle.squawk_output.specs.Steps.{errors_in};
 ghost use Rattle.squawk_table.specs.Sent.{sent_list};
 ghost use Rattle.squawk_table.specs.Shape.{Fits};
 ghost use Rattle.squawk_table.specs.declared.shortcuts.str_step.OwnedStep.{OwnedStep};
@@ -10,7 +9,7 @@ ghost use Rattle.caliperdock_c.specs.Errors.{all_errors, error_in, error_text, e
 ghost use Rattle.caliperdock_c.specs.Steps.{AreLow};
 ghost use Rattle.std.specs.List.{flat_map};
 
-use squawk_parser::{LexedStr, Output, Step, StrStep, StrSteps};
+use squawk_parser::{LexedStr, Output, StrStep, StrSteps};
 use std::alloc::{AllocError, Global};
 
 /// An error: its bytes of the source, and those of its message and of its hint among the texts. The
@@ -67,7 +66,7 @@ impl ErrorList {
     {
         let _raw_count = table.len();
         // Where none is recorded, nothing need be sent.
-        if !has_errors(output) {
+        if output.error_count() == 0 {
             return Ok(());
         }
         self.push_steps(table.str_steps(output))
@@ -132,16 +131,4 @@ impl ErrorList {
         self.numbers.push(number)?;
         Ok(())
     }
-}
-
-/// Whether an error is among the steps of an output.
-fn has_errors(output: &Output) -> bool
-    ensures { result ≡ false → errors_in output.now.steps ≡ 0 }
-{
-    for step in output.iter() {
-        if let Step::Error { .. } = step {
-            return true;
-        }
-    }
-    false
 }

@@ -1,11 +1,11 @@
 //! Events as numbers.
-ghost use Rattle.std.specs.Prelude.{◌≡◌, ◌==◌, ◌≤◌, length, map, option_map, IfOk, IfErr, None, Some, if◌then◌else◌};
+ghost use Rattle.std.specs.Prelude.{◌≡◌, ◌==◌, ◌≤◌, length, map, option_map, IfOk, IfErr, MatchOption, None, Some, if◌then◌else◌};
 ghost use Rattle.squawk_output.specs.EventLog.{LinksLead};
-ghost use Rattle.caliperdock_c.specs.Events.{event_of, message_in};
-ghost use Rattle.caliperdock_c.specs.Refusals.{RefusesEventNumbers};
+ghost use Rattle.caliperdock_c.specs.Events.{event_of, log_of, message_in};
+ghost use Rattle.caliperdock_c.specs.Refusals.{IsFirstUnknown, RefusesLog};
 
 use crate::answer::Refusal;
-use crate::links::first_astray;
+use crate::links::lands;
 use squawk_parser::{Event, EventList, SyntaxKind, Text};
 use std::alloc::{AllocError, Global};
 
@@ -26,31 +26,49 @@ pub struct CEvent {
 const MOST_EVENTS: usize = 2147483648;
 
 /// The log that is written so, whose links lead to later starts.
+// Not inlined, so that its locals are in registers.
+#[inline(never)]
 pub fn log_of(alloc: Global, events: &[CEvent], messages: &[u8]) -> Result<EventList, Refusal>
     ensures few { IfOk result (λ log. length log ≤ 2147483648) }
     ensures log { IfOk result (λ log. map Some log ≡ map (event_of messages.now) events.now) }
     ensures links { IfOk result LinksLead }
-    ensures refused { IfErr result (RefusesEventNumbers messages.now events.now) }
+    ensures refused { IfErr result (RefusesLog messages.now events.now) }
 {
     if events.len() > MOST_EVENTS {
         return Err(Refusal::TooManyEvents);
     }
-    let astray = first_astray(events);
     let mut log = EventList::with_capacity(alloc, events.len())?;
     for (index, event) in events.iter().enumerate() {
-        match read_event(alloc, event, messages)? {
-            Some(event) => {
-                if astray.is_none() {
-                    log.push(event)?;
-                }
+        if !lands(event, &events[index + 1..]) {
+            match first_unknown(alloc, events, messages)? {
+                Some(index) => return Err(Refusal::UnknownEvent { index }),
+                None => return Err(Refusal::BadLink { index }),
             }
+        }
+        match read_event(alloc, event, messages)? {
+            Some(event) => log.push(event)?,
             None => return Err(Refusal::UnknownEvent { index }),
         }
     }
-    match astray {
-        Some(index) => Err(Refusal::BadLink { index }),
-        None => Ok(log),
+    Ok(log)
+}
+
+/// The first place whose numbers aren't an event's.
+fn first_unknown(
+    alloc: Global,
+    events: &[CEvent],
+    messages: &[u8],
+) -> Result<Option<usize>, AllocError>
+    ensures { IfOk result (λ place. MatchOption place
+        (map Some (log_of messages.now events.now) ≡ map (event_of messages.now) events.now)
+        (IsFirstUnknown (event_of messages.now) events.now)) }
+{
+    for (index, event) in events.iter().enumerate() {
+        if read_event(alloc, event, messages)?.is_none() {
+            return Ok(Some(index));
+        }
     }
+    Ok(None)
 }
 
 /// The event that is written so.

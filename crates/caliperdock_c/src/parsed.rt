@@ -32,7 +32,9 @@ pub fn text_of(bytes: &[u8]) -> Result<&str, Refusal>
 }
 
 /// The table of a text with these raw tokens.
+// Not inlined, so that its locals are in registers.
 #[tactic(auto, using(crate::proofs::Reasons::table_text, crate::proofs::Reasons::table_tokens))]
+#[inline(never)]
 fn table_of<'t>(alloc: Global, text: &'t [u8], tokens: &[CToken]) -> Result<LexedStr<'t>, Refusal>
     ensures table { IfOk result (HasTable text.now tokens.now) }
     ensures refused { IfErr result (RefusesTable text.now tokens.now) }

@@ -32,6 +32,8 @@ pub struct Written {
 }
 
 /// Writes as many of the steps that are sent for an output as there is room for.
+// Not inlined, so that the iterator's fields are in registers.
+#[inline(never)]
 pub fn write_steps(table: &LexedStr<'_>, output: &Output, room: &mut [CStep]) -> Written
     requires fits { Fits table.now output.now.steps }
     requires short { length table.now.text ≤ 4294967295 }
@@ -42,39 +44,47 @@ pub fn write_steps(table: &LexedStr<'_>, output: &Output, room: &mut [CStep]) ->
     ensures steps { room.new ≡ over (numbered_steps 0 0 (sent_list table.now output.now.steps)) room.old }
 {
     let _raw_count = table.len();
-    write_each(table.str_steps(output), room)
-}
-
-/// Writes as many of the steps as there is room for.
-fn write_each(mut steps: StrSteps<'_>, room: &mut [CStep]) -> Written
-    requires few { length steps.steps < 2 ^ 64 }
-    requires numbers { HaveNumbers 0 0 steps.steps }
-    ensures count { result.count ≡ length steps.entry.steps }
-    ensures all { result.all ≡ steps.entry.eaten_all }
-    ensures steps { room.new ≡ over (numbered_steps 0 0 steps.entry.steps) room.old }
-{
-    let mut place = Place { at: 0, errors: 0 };
-    let mut count = 0usize;
-    while let Some(step) = steps.next() {
-        let number = place.advance(&step);
-        put(room, count, number);
-        count += 1;
-    }
+    let mut steps = table.str_steps(output);
+    let written = write_front(&mut steps, room);
+    let count = count_rest(&mut steps, written);
     Written {
         count: count as u64,
         all: steps.eaten_all(),
     }
 }
 
-/// Writes a step at a place, if that is there.
+/// Writes steps while there is room, and tells how many it wrote.
 #[inline(always)]
-#[tactic(auto, using(crate::proofs::Overlays::put_there, crate::proofs::Overlays::put_past))]
-fn put(room: &mut [CStep], place: usize, step: CStep)
-    ensures { (front old : List CStep) → place ≡ length front → room.old ≡ over front old → room.new ≡ over (front ++ step ∷ []) old }
+fn write_front(steps: &mut StrSteps<'_>, room: &mut [CStep]) -> usize
+    requires { HaveNumbers 0 0 steps.old.steps }
+    ensures count { result + length steps.new.steps ≡ length steps.old.steps }
+    ensures all { steps.new.eaten_all ≡ steps.old.eaten_all }
+    ensures steps { room.new ≡ over (numbered_steps 0 0 steps.old.steps) room.old }
 {
-    if place < room.len() {
-        room[place] = step;
+    let mut place = Place { at: 0, errors: 0 };
+    let mut count = 0;
+    while count < room.len() {
+        match steps.next() {
+            Some(step) => room[count] = place.advance(&step),
+            None => break,
+        }
+        count += 1;
     }
+    count
+}
+
+/// Sends the steps behind those written, and tells how many there are with them.
+fn count_rest(steps: &mut StrSteps<'_>, written: usize) -> usize
+    requires { written + length steps.old.steps < 2 ^ 64 }
+    ensures count { result ≡ written + length steps.old.steps }
+    ensures none { steps.new.steps ≡ [] }
+    ensures all { steps.new.eaten_all ≡ steps.old.eaten_all }
+{
+    let mut count = written;
+    while steps.next().is_some() {
+        count += 1;
+    }
+    count
 }
 
 /// How many bytes and errors there were.

@@ -56,6 +56,46 @@ fn raw_token(token: &CToken) -> Option<Token>
     }
 }
 
+/// The kinds without fields, at their numbers. The places of others aren't read.
+static PLAIN_KINDS: [TokenKind; 36] = [
+    TokenKind::Unknown,
+    TokenKind::LineComment,
+    TokenKind::Unknown,
+    TokenKind::Whitespace,
+    TokenKind::Ident,
+    TokenKind::Unknown,
+    TokenKind::Unknown,
+    TokenKind::Unknown,
+    TokenKind::Semi,
+    TokenKind::Comma,
+    TokenKind::Dot,
+    TokenKind::DotDot,
+    TokenKind::OpenParen,
+    TokenKind::CloseParen,
+    TokenKind::OpenBracket,
+    TokenKind::CloseBracket,
+    TokenKind::OpenCurly,
+    TokenKind::CloseCurly,
+    TokenKind::At,
+    TokenKind::Pound,
+    TokenKind::Tilde,
+    TokenKind::Question,
+    TokenKind::Colon,
+    TokenKind::Eq,
+    TokenKind::Bang,
+    TokenKind::Lt,
+    TokenKind::Gt,
+    TokenKind::Minus,
+    TokenKind::And,
+    TokenKind::Or,
+    TokenKind::Plus,
+    TokenKind::Star,
+    TokenKind::Slash,
+    TokenKind::Caret,
+    TokenKind::Percent,
+    TokenKind::Backtick,
+];
+
 /// The kind that is written so.
 fn raw_kind(token: &CToken) -> Option<TokenKind>
     ensures { result ≡ kind_of token.now }
@@ -63,11 +103,8 @@ fn raw_kind(token: &CToken) -> Option<TokenKind>
     let flags = token.flags;
     let terminated = flags & 1 != 0;
     match token.kind {
-        0 => Some(TokenKind::Unknown),
-        1 => Some(TokenKind::LineComment),
+        0..=1 | 3..=4 | 8..=35 => Some(PLAIN_KINDS[token.kind as usize]),
         2 => Some(TokenKind::BlockComment { terminated }),
-        3 => Some(TokenKind::Whitespace),
-        4 => Some(TokenKind::Ident),
         5 => Some(TokenKind::QuotedIdent {
             terminated,
             uescape: flags & 2 != 0,
@@ -78,34 +115,6 @@ fn raw_kind(token: &CToken) -> Option<TokenKind>
         7 => Some(TokenKind::PositionalParam {
             trailing_junk_start: token.a,
         }),
-        8 => Some(TokenKind::Semi),
-        9 => Some(TokenKind::Comma),
-        10 => Some(TokenKind::Dot),
-        11 => Some(TokenKind::DotDot),
-        12 => Some(TokenKind::OpenParen),
-        13 => Some(TokenKind::CloseParen),
-        14 => Some(TokenKind::OpenBracket),
-        15 => Some(TokenKind::CloseBracket),
-        16 => Some(TokenKind::OpenCurly),
-        17 => Some(TokenKind::CloseCurly),
-        18 => Some(TokenKind::At),
-        19 => Some(TokenKind::Pound),
-        20 => Some(TokenKind::Tilde),
-        21 => Some(TokenKind::Question),
-        22 => Some(TokenKind::Colon),
-        23 => Some(TokenKind::Eq),
-        24 => Some(TokenKind::Bang),
-        25 => Some(TokenKind::Lt),
-        26 => Some(TokenKind::Gt),
-        27 => Some(TokenKind::Minus),
-        28 => Some(TokenKind::And),
-        29 => Some(TokenKind::Or),
-        30 => Some(TokenKind::Plus),
-        31 => Some(TokenKind::Star),
-        32 => Some(TokenKind::Slash),
-        33 => Some(TokenKind::Caret),
-        34 => Some(TokenKind::Percent),
-        35 => Some(TokenKind::Backtick),
         36 => match base(token.b) {
             Some(base) => Some(TokenKind::Literal {
                 kind: LiteralKind::Int {

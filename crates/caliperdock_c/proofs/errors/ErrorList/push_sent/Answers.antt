@@ -1,4 +1,4 @@
-use Rattle.std.proofs.Common.{length, sym}
+use Rattle.std.proofs.Common.{◌∙◌, length, sym}
 use Rattle.std.specs.List.{flat_map}
 use Rattle.squawk_table.specs.Sent.{sent_list}
 use Rattle.caliperdock_c.specs.Errors.{error_in}
@@ -13,15 +13,15 @@ push_steps-requires c =
     rw c.str_steps.ensures.steps
     (sent_low table c.len-raw_count.ensures.table steps c.requires.fits c.str_steps.ensures.placed c.str_steps.ensures.beginning c.requires.short)
 
-pub returns-then-not-has_errors-clause-numbers : goal.returns-then-not-has_errors-clause-numbers
-returns-then-not-has_errors-clause-numbers c =
+pub returns-then-error_count-eq0-clause-numbers : goal.returns-then-error_count-eq0-clause-numbers
+returns-then-error_count-eq0-clause-numbers c =
     no_numbers c.args.self.now.numbers.items (length c.args.self.now.texts.items) (flat_map error_in (sent_list c.args.table.now c.args.output.now.steps))
-    (none_sent c.args.table.now c.len-raw_count.ensures.table c.args.output.now.steps c.requires.fits (c.has_errors.ensures (let p = c.if-not-has_errors.true in cc)))
+    (none_sent c.args.table.now c.len-raw_count.ensures.table c.args.output.now.steps c.requires.fits (sym c.error_count.ensures ∙ c.if-error_count-eq0.true))
 
-pub returns-then-not-has_errors-clause-texts : goal.returns-then-not-has_errors-clause-texts
-returns-then-not-has_errors-clause-texts c =
+pub returns-then-error_count-eq0-clause-texts : goal.returns-then-error_count-eq0-clause-texts
+returns-then-error_count-eq0-clause-texts c =
     no_texts c.args.self.now.texts.items (flat_map error_in (sent_list c.args.table.now c.args.output.now.steps))
-    (none_sent c.args.table.now c.len-raw_count.ensures.table c.args.output.now.steps c.requires.fits (c.has_errors.ensures (let p = c.if-not-has_errors.true in cc)))
+    (none_sent c.args.table.now c.len-raw_count.ensures.table c.args.output.now.steps c.requires.fits (sym c.error_count.ensures ∙ c.if-error_count-eq0.true))
 
 pub returns-clause-numbers : goal.returns-clause-numbers
 returns-clause-numbers c = rw (sym c.str_steps.ensures.steps) c.push_steps.ensures.numbers

@@ -2,10 +2,10 @@ use Rattle.std.proofs.Common.{◌≡◌, ◌+◌, ◌++◌, List, length}
 use Rattle.caliperdock_c.specs.Overlays.{over}
 use Rattle.caliperdock_c.specs.Steps.{HaveNumbers, numbered_steps}
 use Rattle.caliperdock_c.specs.declared.steps.CStep.{CStep}
-use Rattle.caliperdock_c.proofs.steps.write_each.Given as goal
+use Rattle.caliperdock_c.proofs.steps.write_front.Given as goal
 
-abbrev pub invariant-loop-step : goal.invariant-loop-step
-invariant-loop-step l = record {
+abbrev pub invariant-loop-count : goal.invariant-loop-count
+invariant-loop-count l = record {
   eaten_all : l.steps.eaten_all ≡ l.initial.steps.eaten_all;
   few : l.count + length l.steps.steps ≡ length l.initial.steps.steps;
   numbers : HaveNumbers l.place.at l.place.errors l.steps.steps;
