@@ -54,6 +54,8 @@ pub fn log_of(alloc: Global, events: &[CEvent], messages: &[u8]) -> Result<Event
 }
 
 /// The first place whose numbers aren't an event's.
+// Not inlined, since few logs are refused.
+#[inline(never)]
 fn first_unknown(
     alloc: Global,
     events: &[CEvent],
@@ -109,6 +111,8 @@ fn link(distance: u32) -> Option<u32>
 }
 
 /// The text of these bytes.
+// Not inlined, since few events are errors.
+#[inline(never)]
 fn message(messages: &[u8], start: usize, end: usize) -> Option<&str>
     ensures { option_map (λ text. text.now) result ≡ message_in messages.now start end }
 {
