@@ -1,47 +1,60 @@
-//! What the rules find.
-ghost use Rattle.std.specs.Prelude.{◌≡◌, IfOk, map};
-ghost use Rattle.squawk_parser.specs.Pipeline.{given};
+//! What is found in a text.
+ghost use Rattle.std.specs.Prelude.{◌≡◌, ◌++◌, IfErr, IfOk, OnOk, map};
 ghost use Rattle.squawk_tree.specs.Forest.{Forest};
-ghost use Rattle.sql_lexer.specs.Scripts.{script_tokens};
 ghost use Rattle.sql_report.specs.Findings.{told};
+ghost use Rattle.sql_syntax.specs.SqlErrors.{RefusesSql};
+ghost use Rattle.sql_syntax.specs.SqlTrees.{sql_given};
 ghost use Rattle.syntax_tree.specs.Layout.{IsTree};
-ghost use Rattle.sql_lint.specs.Linted.{AreLinted};
+ghost use Rattle.sql_lint.specs.Linted.{AreFound, AreLinted};
 ghost use Rattle.sql_lint.specs.Rules.{findings_in};
 
 use crate::rules::broken_rule;
-use sql_grammar::{Detail, NAMES, SqlGrammar};
-use sql_lexer::tokenize_script;
 use sql_report::{Finding, error_lines};
-use squawk_parser::{EntryPoint, Vocabulary};
+use sql_syntax::{SqlError, parse_sql};
+use squawk_parser::Vocabulary;
 use std::alloc::{AllocError, Global};
-use std::io::{self, ErrorKind};
-use syntax_tree::{SyntaxTree, parse_accepted_tree};
+use syntax_tree::SyntaxTree;
 
-/// What the rules find in a text that is called by a name, as lines.
-pub fn lint<V: Vocabulary>(alloc: Global, words: &V, name: &str, text: &str) -> io::Result<Vec<u8>>
-    ensures { let g = given (V.keyword words.now) (V.contextual_keyword words.now) text.now (script_tokens text.now) in
+/// What is found in a text that is called by a name, as lines.
+pub fn lint<V: Vocabulary>(
+    alloc: Global,
+    words: &V,
+    name: &str,
+    text: &str,
+) -> Result<Vec<u8>, SqlError>
+    ensures lines { let g = sql_given (V.keyword words.now) (V.contextual_keyword words.now) text.now in
         IfOk result (λ lines. AreLinted g name.now lines.items) }
+    ensures refused { let g = sql_given (V.keyword words.now) (V.contextual_keyword words.now) text.now in
+        IfErr result (RefusesSql g) }
 {
-    let Ok(tokens) = tokenize_script(alloc, text) else {
-        return Err(io::Error::from(ErrorKind::OutOfMemory));
-    };
-    let grammar = SqlGrammar {
-        names: &NAMES,
-        detail: Detail::Nodes,
-    };
-    let entry = EntryPoint::SourceFile;
-    let Ok(tree) = parse_accepted_tree(alloc, text, &tokens, words, &grammar, entry) else {
-        return Err(io::Error::from(ErrorKind::OutOfMemory));
-    };
+    let tree = parse_sql(alloc, text, words)?;
     let findings = findings(alloc, &tree)?;
     Ok(error_lines(alloc, name, text, &findings)?)
 }
 
-/// What the rules find in a tree: one finding for each statement that breaks a rule, at its first byte.
-pub fn findings(alloc: Global, tree: &SyntaxTree<'_>) -> Result<Vec<Finding<'static>>, AllocError>
-    ensures { IfOk result (λ findings. (forest : Forest) → IsTree tree.now forest → map told findings.items ≡ findings_in forest) }
+/// The errors of a tree, and what the rules find in it.
+fn findings<'t>(alloc: Global, tree: &'t SyntaxTree<'t>) -> Result<Vec<Finding<'t>>, AllocError>
+    ensures { IfOk result (λ findings. (forest : Forest) → IsTree tree.now forest → AreFound tree.now forest findings.items) }
 {
     let mut findings = Vec::new(alloc);
+    for error in &tree.errors_by_place(alloc)? {
+        findings.push(Finding {
+            at: error.pos(),
+            message: error.message(),
+            hint: error.hint(),
+        })?;
+    }
+    push_broken_rules(&mut findings, tree)?;
+    Ok(findings)
+}
+
+/// Puts a finding behind others for each statement that breaks a rule, at its first byte.
+fn push_broken_rules(
+    findings: &mut Vec<Finding<'_>>,
+    tree: &SyntaxTree<'_>,
+) -> Result<(), AllocError>
+    ensures { OnOk result ((forest : Forest) → IsTree tree.now forest → map told findings.new.items ≡ map told findings.old.items ++ findings_in forest) }
+{
     for statement in tree.root().children() {
         if let Some(message) = broken_rule(statement) {
             findings.push(Finding {
@@ -51,5 +64,5 @@ pub fn findings(alloc: Global, tree: &SyntaxTree<'_>) -> Result<Vec<Finding<'sta
             })?;
         }
     }
-    Ok(findings)
+    Ok(())
 }

@@ -1,13 +1,15 @@
-//! What the rules find in texts.
+//! What is found in texts and files.
 
+use crate::files::{Texts, lint_files, status};
 use crate::lint::lint;
+use sql_syntax::SqlError;
 use sql_words::vocabulary;
 use std::alloc::Global;
-use std::io;
+use std::io::{self, ErrorKind};
 use std::test::Fail;
 
 /// The lines of a text that is called `x`.
-fn lines(alloc: Global, text: &str) -> io::Result<Vec<u8>> {
+fn lines(alloc: Global, text: &str) -> Result<Vec<u8>, SqlError> {
     lint(alloc, &vocabulary(alloc)?, "x", text)
 }
 
@@ -33,7 +35,7 @@ fn finds_nothing(rt: HostRuntime) -> Result<(), Fail> {
 }
 
 /// Texts, and what is found.
-static BROKEN: [(&str, &str); 5] = [
+static BROKEN: [(&str, &str); 7] = [
     (
         "drop table a;",
         "x:1:1: DROP without IF EXISTS\ndrop table a;\n^\n",
@@ -51,6 +53,18 @@ static BROKEN: [(&str, &str); 5] = [
         "CREATE UNIQUE INDEX a ON t (b)",
         "x:1:1: CREATE INDEX without CONCURRENTLY\nCREATE UNIQUE INDEX a ON t (b)\n^\n",
     ),
+    // Lexical errors and those of the grammar stand in the order of their places, before what the rules find.
+    (
+        "select (1x; drop table a",
+        "x:1:10: trailing junk after numeric literal\nselect (1x; drop table a\n         ^\n\
+         x:1:11: expected )\nselect (1x; drop table a\n          ^\n\
+         x:1:13: DROP without IF EXISTS\nselect (1x; drop table a\n            ^\n",
+    ),
+    (
+        "drop table a; select (1",
+        "x:1:24: expected )\ndrop table a; select (1\n                       ^\n\
+         x:1:1: DROP without IF EXISTS\ndrop table a; select (1\n^\n",
+    ),
     // A finding stands at its statement's first byte, not at trivia before it.
     (
         "/* é */ drop table a; create index b on t (c)",
@@ -64,6 +78,57 @@ fn finds_each(rt: HostRuntime) -> Result<(), Fail> {
     for case in &BROKEN {
         let (text, wanted) = *case;
         assert_eq!(rt; lines(rt.alloc(), text)?.as_slice(), wanted.as_bytes());
+    }
+    Ok(())
+}
+
+/// Files with their texts.
+struct Fixed(&'static [(&'static str, &'static str)]);
+
+impl Texts for Fixed {
+    ghost reads = { λ _ _ _. Unit {0} };
+
+    fn read(&self, alloc: Global, name: &str) -> io::Result<String> {
+        for (file, text) in self.0 {
+            if *file == name {
+                return Ok(String::from_str(alloc, text)?);
+            }
+        }
+        Err(io::Error::from(ErrorKind::NotFound))
+    }
+}
+
+static FILES: Fixed = Fixed(&[("a", "select 1"), ("b", "drop view c"), ("c", "")]);
+
+/// Names of files, what is printed, and the status.
+static RUNS: [(&[&str], &str, u8); 3] = [
+    (&["a", "c"], "", 0),
+    (
+        &["a", "b", "c"],
+        "b:1:1: DROP without IF EXISTS\ndrop view c\n^\n",
+        1,
+    ),
+    (
+        &["b", "d", "b"],
+        "b:1:1: DROP without IF EXISTS\ndrop view c\n^\n",
+        3,
+    ),
+];
+
+#[test]
+fn goes_over_files(rt: HostRuntime) -> Result<(), Fail> {
+    let alloc = rt.alloc();
+    let words = vocabulary(alloc)?;
+    for run in &RUNS {
+        let (names, wanted, wanted_status) = *run;
+        let mut files: Vec<String> = Vec::new(alloc);
+        for name in names {
+            files.push(String::from_str(alloc, name)?)?;
+        }
+        let mut out: Vec<u8> = Vec::new(alloc);
+        let is_clean = lint_files(alloc, &FILES, &words, &files, &mut out);
+        assert_eq!(rt; status(&is_clean), wanted_status);
+        assert_eq!(rt; out.as_slice(), wanted.as_bytes());
     }
     Ok(())
 }

@@ -1,0 +1,76 @@
+-- Files that are printed.
+use Rattle.std.proofs.Common.{arith, drop, get_or, take, ◌≡◌, ◌∙◌, ℕ, ◌==◌, ◌&&◌, ◌+◌, ◌<◌, Bool, true, false, All, List, [], ◌∷◌, ◌++◌, Option, Some, None, Result, Err, IfErr, length, map, refl, ap, sym, subst, append_assoc}
+use Rattle.std.specs.List.{flat_map}
+use Rattle.std.specs.Io.KnownBytes.{Appends}
+use Rattle.std.proofs.lemmas.Bool.Decides.{nat_tests}
+use Rattle.std.proofs.lemmas.List.{append-nil, length-append, map-append, take-append-drop, take_more}
+use Rattle.std.proofs.lemmas.List.Elements.{All-append, All-cons, All-nil}
+use Rattle.std.proofs.lemmas.List.Concat.{flat_map-append}
+use Rattle.squawk_parser.specs.Pipeline.{Given}
+use Rattle.sql_lint.specs.Printed.{ArePrinted, IsLinted, IsPrinted, Linted, RefusesFile, StopsAt, lines_of}
+use Rattle.sql_syntax.specs.declared.error.SqlError.{SqlError}
+
+-- one more name
+module _ {X : Type 0} (view : X → List ℕ) (names : List X) (i : ℕ) (item : X) (below : i < length names) (is : item ≡ get_or names i item)
+    (name : List ℕ) (name_is : name ≡ view item) where
+  pub names_more : map view (take (i + 1) names) ≡ map view (take i names) ++ name ∷ []
+  names_more =
+      ap (map view) (take_more names i item below)
+      ∙ (map-append view (take i names) (get_or names i item ∷ []) ∙ ap (λ n. map view (take i names) ++ n ∷ []) (ap view (sym is) ∙ sym name_is))
+
+  pub names_split : map view names ≡ map view (take i names) ++ name ∷ map view (drop (i + 1) names)
+  names_split =
+      ap (map view) (sym (take-append-drop (i + 1) names))
+      ∙ (map-append view (take (i + 1) names) (drop (i + 1) names)
+      ∙ (ap (λ l. l ++ map view (drop (i + 1) names)) names_more ∙ append_assoc (map view (take i names)) (name ∷ []) (map view (drop (i + 1) names))))
+
+module _ (reads : List ℕ → List ℕ → Type 0) (give : List ℕ → Given) where
+  no_bytes : (old : Option (List ℕ)) → Appends old old []
+  no_bytes None = tt
+  no_bytes (Some bytes) = sym (append-nil bytes)
+
+  pub prints_none : (old : Option (List ℕ)) → ArePrinted reads give [] old old true
+  prints_none old = record { files = []; named = refl; linted = All-nil (IsLinted reads give); printed = no_bytes old; is_clean = refl }
+
+  -- bytes behind bytes
+  appends_both : (a b c : Option (List ℕ)) (front back : List ℕ) → Appends a b front → Appends b c back → Appends a c (front ++ back)
+  appends_both None b c front back first next = tt
+  appends_both (Some a) None c front back first next = elim first [ ]
+  appends_both (Some a) (Some b) None front back first next = elim next [ ]
+  appends_both (Some a) (Some b) (Some c) front back first next = next ∙ (ap (λ l. l ++ back) first ∙ append_assoc a front back)
+
+  both_clean : (front back : List ℕ) → (length back == 0 && length front == 0) ≡ (length (front ++ back) == 0)
+  both_clean front back = let long = length-append front back in grind (arith, nat_tests)
+
+  -- one more
+  pub prints_one : {names : List (List ℕ)} {a b : Option (List ℕ)} {clean : Bool} → ArePrinted reads give names a b clean
+      → (name : List ℕ) (c : Option (List ℕ)) (own : Bool) → IsPrinted reads give name b c own
+      → ArePrinted reads give (names ++ name ∷ []) a c (own && clean)
+  prints_one {names} {a} {b} {clean} s name c own one =
+      let all : lines_of (s.files ++ one.file ∷ []) ≡ lines_of s.files ++ one.file.lines =
+      flat_map-append (λ f. f.lines) s.files (one.file ∷ []) ∙ ap (λ l. lines_of s.files ++ l) (append-nil one.file.lines) in
+      record {
+        files = s.files ++ one.file ∷ [];
+        named = map-append (λ f. f.name) s.files (one.file ∷ []) ∙ (ap (λ l. l ++ one.file.name ∷ []) s.named ∙ ap (λ n. names ++ n ∷ []) one.named);
+        linted = All-append (IsLinted reads give) s.files (one.file ∷ []) s.linted (All-cons (IsLinted reads give) one.file [] one.linted (All-nil (IsLinted reads give)));
+        printed = subst (Appends a c) (sym all) (appends_both a b c (lines_of s.files) one.file.lines s.printed one.printed);
+        is_clean = ap (λ b. own && b) s.is_clean
+            ∙ (ap (λ b. b && (length (lines_of s.files) == 0)) one.is_clean
+            ∙ (both_clean (lines_of s.files) one.file.lines ∙ ap (λ l. length l == 0) (sym all)));
+      }
+
+  -- a file is refused
+  pub stops_at : {names : List (List ℕ)} {old before new : Option (List ℕ)} {clean : Bool} (front : List (List ℕ)) (name : List ℕ) (rest : List (List ℕ))
+      → names ≡ front ++ name ∷ rest → ArePrinted reads give front old before clean → (error : SqlError) → RefusesFile reads give name before new error
+      → (result : Result Bool SqlError) → result ≡ Err error → IfErr result (StopsAt reads give names old new)
+  stops_at {before = before} {clean = clean} front name rest named printed error reason result is =
+      rw is (record {
+        front = front;
+        name = name;
+        rest = rest;
+        named = named;
+        before = before;
+        clean = clean;
+        printed = printed;
+        reason = reason;
+      })
