@@ -4,8 +4,8 @@ ghost use Rattle.squawk_tokens.specs.AcceptedTokens.{AreAcceptedTokens};
 ghost use Rattle.sql_lexer.specs.Scripts.{script_tokens};
 ghost use Rattle.sql_lexer.specs.Tokens.{RefusesText};
 
+mod copy_commands;
 mod places;
-mod statements;
 mod words;
 
 use crate::script::places::{Place, push_next};
