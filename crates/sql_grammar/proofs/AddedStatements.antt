@@ -9,7 +9,7 @@ use Rattle.squawk_table.specs.ParserInput.{kinds_in}
 use Rattle.squawk_parser.specs.Composed.{Adds}
 use Rattle.squawk_parser.specs.Eaten.{node}
 use Rattle.squawk_parser.specs.Recorded.{Begins, Completes}
-use Rattle.squawk_parser.specs.SomeSteps.{AddsSome}
+use Rattle.squawk_parser.specs.SomeSteps.{AddsSome, Spends}
 use Rattle.squawk_parser.specs.State.{State, HasNotFailed, IsFresh, IsSound, Keeps, ahead, kind_at, limited, with_limit_of}
 use Rattle.squawk_parser.specs.declared.parser.parse_error.ParseError.{ParseError}
 use Rattle.squawk_parser.proofs.AddedSteps.{Adds-node, Adds-puts, Adds-then, node_around, plain-fresh}
@@ -120,10 +120,10 @@ some_balanced {a} {b} sound p = cases b.first_reason refl
           balanced = IsBalanced-depth_after (Token 0 (b.position - a.position) ∷ []) refl;
         }
 
-pub rest_added : {a b : State} → IsSound a → AddsSome a b → kind_at b 0 ≡ EOF → AddsRest a b
-rest_added {a} {b} sound some end =
+pub rest_added : {a b : State} → IsSound a → AddsSome a b → kind_at b 0 ≡ EOF → Spends 6 0 a b → AddsRest a b
+rest_added {a} {b} sound some end spends =
     let added = some_balanced sound some in
-    record { steps = added.steps; adds = added.adds; balanced = added.balanced; end = at_limit b some.some.keeps.sound end }
+    record { steps = added.steps; adds = added.adds; balanced = added.balanced; end = at_limit b some.some.keeps.sound end; spends = spends }
 
 -- what is added under a limit is added
 pub inner_added : {b c : State} (n : ℕ) → Keeps b c → (rest : AddsRest (limited b n) (with_limit_of c (limited b n))) → Adds rest.steps b c

@@ -2,9 +2,9 @@
 use Rattle.std.specs.Prelude.{ℕ, zero, suc, ◌+◌, ◌-◌, ◌==◌, ◌&&◌, ◌||◌, Bool, List, [], ◌∷◌, drop, if◌then◌else◌}
 use Rattle.squawk_kinds.specs.Kinds.{EOF, L_BRACK, L_PAREN, PSQL_COMMAND_TEXT, PSQL_TERMINATOR_TEXT, R_BRACK, R_PAREN, SEMICOLON}
 use Rattle.sql_grammar.specs.Kinds.{ATOMIC_KW, BEGIN_KW, CASE_KW, CREATE_KW, END_KW, FUNCTION_KW, OR_KW, PROCEDURE_KW, PSQL_COMMAND, REPLACE_KW, RULE_KW, STATEMENT}
+use Rattle.sql_grammar.specs.StatementKinds.{statement_kinds}
 use Rattle.sql_grammar.specs.declared.cut.Body.{Body}
 use Rattle.sql_grammar.specs.declared.cut.Body.TheVariants.{Plain, Routine, Rule}
-use Rattle.sql_grammar.specs.declared.statement_kinds.TheConstants.{STATEMENTS}
 
 -- the first of these kinds, or the end's
 abbrev pub first : List ℕ → ℕ
@@ -91,7 +91,7 @@ is_psql kind = (kind == PSQL_COMMAND_TEXT) || (kind == PSQL_TERMINATOR_TEXT)
 
 -- The kind of the first statement: that of a command of psql, or the kind for its first word.
 unfoldable pub kind_of : List ℕ → ℕ
-kind_of kinds = if is_psql (nth kinds 0) then PSQL_COMMAND else kind_for (first_word kinds) STATEMENTS
+kind_of kinds = if is_psql (nth kinds 0) then PSQL_COMMAND else kind_for (first_word kinds) statement_kinds
 
 -- ---- all statements
 

@@ -1,8 +1,9 @@
 //! What stands in a statement: clauses, groups, blocks, and tokens by themselves.
 ghost use Rattle.std.specs.Prelude.{◌≡◌, ◌≢◌, ◌<◌, true};
 ghost use Rattle.squawk_kinds.specs.Kinds.{EOF, TOMBSTONE};
-ghost use Rattle.squawk_parser.specs.SomeSteps.{AddsSome};
+ghost use Rattle.squawk_parser.specs.SomeSteps.{AddsSome, Spends};
 ghost use Rattle.squawk_parser.specs.State.{IsSound, kind_at};
+ghost use Rattle.sql_grammar.specs.Spent.{LeavesTwo};
 
 use crate::clauses::{QUERY_WORDS, Query, clause_kind, query_at, query_in};
 use crate::composites::{is_plain, token};
@@ -20,6 +21,7 @@ pub(crate) const DEPTH: u32 = 500;
 pub(crate) fn content(p: &mut Parser<'_>, query: Query, inside: Inside, depth: u32)
     requires { IsSound p.old }
     ensures adds { AddsSome p.old p.new }
+    ensures spends { Spends 6 0 p.old p.new }
 {
     let mut query = query;
     while !inside.ends_at(p.current()) {
@@ -32,6 +34,7 @@ pub(crate) fn content(p: &mut Parser<'_>, query: Query, inside: Inside, depth: u
 fn piece(p: &mut Parser<'_>, query: Query, inside: Inside, depth: u32) -> Query
     requires { kind_at p.old 0 ≢ EOF }
     ensures adds { AddsSome p.old p.new }
+    ensures spends { LeavesTwo p.old p.new }
     ensures eats { p.old.position < p.new.position }
 {
     match query {
@@ -52,6 +55,7 @@ fn piece(p: &mut Parser<'_>, query: Query, inside: Inside, depth: u32) -> Query
 fn element_or_as(p: &mut Parser<'_>, inside: Inside, depth: u32) -> Query
     requires { kind_at p.old 0 ≢ EOF }
     ensures adds { AddsSome p.old p.new }
+    ensures spends { LeavesTwo p.old p.new }
     ensures eats { p.old.position < p.new.position }
 {
     match p.current() {
@@ -71,6 +75,7 @@ fn element_or_as(p: &mut Parser<'_>, inside: Inside, depth: u32) -> Query
 fn with_clause(p: &mut Parser<'_>, inside: Inside, depth: u32)
     requires { kind_at p.old 0 ≢ EOF }
     ensures adds { AddsSome p.old p.new }
+    ensures spends { LeavesTwo p.old p.new }
     ensures eats { p.old.position < p.new.position }
 {
     let node = p.start();
@@ -85,6 +90,7 @@ fn with_clause(p: &mut Parser<'_>, inside: Inside, depth: u32)
 fn clause_or_element(p: &mut Parser<'_>, inside: Inside, depth: u32)
     requires { kind_at p.old 0 ≢ EOF }
     ensures adds { AddsSome p.old p.new }
+    ensures spends { LeavesTwo p.old p.new }
     ensures eats { p.old.position < p.new.position }
 {
     match clause_kind(p) {
@@ -99,6 +105,7 @@ fn clause(p: &mut Parser<'_>, kind: SyntaxKind, inside: Inside, depth: u32)
     requires some { kind_at p.old 0 ≢ EOF }
     requires kind { kind ≢ TOMBSTONE }
     ensures adds { AddsSome p.old p.new }
+    ensures spends { LeavesTwo p.old p.new }
     ensures eats { p.old.position < p.new.position }
 {
     let node = p.start();
@@ -122,6 +129,7 @@ fn goes_on(p: &Parser<'_>, inside: Inside) -> bool
 fn element(p: &mut Parser<'_>, inside: Inside, depth: u32)
     requires { kind_at p.old 0 ≢ EOF }
     ensures adds { AddsSome p.old p.new }
+    ensures spends { LeavesTwo p.old p.new }
     ensures eats { p.old.position < p.new.position }
 {
     match p.current() {
@@ -140,6 +148,7 @@ fn element(p: &mut Parser<'_>, inside: Inside, depth: u32)
 fn plain_tokens(p: &mut Parser<'_>)
     requires { kind_at p.old 0 ≢ EOF }
     ensures adds { AddsSome p.old p.new }
+    ensures spends { LeavesTwo p.old p.new }
     ensures eats { p.old.position < p.new.position }
 {
     p.bump_any();
@@ -153,6 +162,7 @@ fn plain_tokens(p: &mut Parser<'_>)
 fn opening(p: &mut Parser<'_>, inside: Inside, depth: u32)
     requires { kind_at p.old 0 ≢ EOF }
     ensures adds { AddsSome p.old p.new }
+    ensures spends { LeavesTwo p.old p.new }
     ensures eats { p.old.position < p.new.position }
 {
     match p.current() {
@@ -169,6 +179,7 @@ fn opening(p: &mut Parser<'_>, inside: Inside, depth: u32)
 fn enclosed(p: &mut Parser<'_>, pair: Pair, query: Query, inside: Inside, depth: u32)
     requires { kind_at p.old 0 ≢ EOF }
     ensures adds { AddsSome p.old p.new }
+    ensures spends { LeavesTwo p.old p.new }
     ensures eats { p.old.position < p.new.position }
 {
     let (kind, closing) = (pair.kind(), pair.closing());
@@ -185,6 +196,7 @@ fn enclosed(p: &mut Parser<'_>, pair: Pair, query: Query, inside: Inside, depth:
 fn block(p: &mut Parser<'_>, inside: Inside, depth: u32)
     requires { kind_at p.old 0 ≢ EOF }
     ensures adds { AddsSome p.old p.new }
+    ensures spends { LeavesTwo p.old p.new }
     ensures eats { p.old.position < p.new.position }
 {
     let node = p.start();
@@ -200,6 +212,7 @@ fn block(p: &mut Parser<'_>, inside: Inside, depth: u32)
 fn statements(p: &mut Parser<'_>, inside: Inside, depth: u32)
     requires { IsSound p.old }
     ensures adds { AddsSome p.old p.new }
+    ensures spends { Spends 6 0 p.old p.new }
 {
     while p.current() == SyntaxKind::SEMICOLON || !inside.ends_at(p.current()) {
         statement(p, inside, depth);
@@ -211,6 +224,7 @@ fn statements(p: &mut Parser<'_>, inside: Inside, depth: u32)
 fn statement(p: &mut Parser<'_>, inside: Inside, depth: u32)
     requires { kind_at p.old 0 ≢ EOF }
     ensures adds { AddsSome p.old p.new }
+    ensures spends { Spends 6 0 p.old p.new }
     ensures eats { p.old.position < p.new.position }
 {
     let kind = kind_of(p);
@@ -223,6 +237,7 @@ fn statement(p: &mut Parser<'_>, inside: Inside, depth: u32)
 fn statement_tokens(p: &mut Parser<'_>, query: Query, inside: Inside, depth: u32)
     requires { kind_at p.old 0 ≢ EOF }
     ensures adds { AddsSome p.old p.new }
+    ensures spends { LeavesTwo p.old p.new }
     ensures eats { p.old.position < p.new.position }
 {
     match p.current() {
@@ -239,6 +254,7 @@ fn statement_tokens(p: &mut Parser<'_>, query: Query, inside: Inside, depth: u32
 fn too_deep(p: &mut Parser<'_>, inside: Inside)
     requires { kind_at p.old 0 ≢ EOF }
     ensures adds { AddsSome p.old p.new }
+    ensures spends { LeavesTwo p.old p.new }
     ensures eats { p.old.position < p.new.position }
 {
     p.error("nested too deep");

@@ -27,6 +27,8 @@ pub fn parse_table(
     ensures errors { IfOk result (λ output. errors_in output.steps ≤ 2147483648) }
     ensures refused { IfErr result (λ reason. reason ≢ ParseError.OutOfMemory → IsRefusedParse (contextual_keyword_of vocabulary.now) table.now reason) }
 {
+    // The proof reads that a raw token has a byte at least.
+    let _len = table.len();
     let input = table.to_input(alloc, vocabulary)?;
     let grammar = SqlGrammar {
         names: &NAMES,

@@ -2,7 +2,7 @@
 ghost use Rattle.std.specs.Prelude.{◌≢◌, ◌<◌};
 ghost use Rattle.squawk_kinds.specs.Kinds.{EOF};
 ghost use Rattle.squawk_table.specs.ParserInput.{kinds_in};
-ghost use Rattle.squawk_parser.specs.SomeSteps.{AddsSome};
+ghost use Rattle.squawk_parser.specs.SomeSteps.{AddsSome, Spends};
 ghost use Rattle.squawk_parser.specs.State.{IsSound, ahead, kind_at};
 ghost use Rattle.sql_grammar.specs.Files.{AddsStatement};
 ghost use Rattle.sql_grammar.specs.Statements.{first_statement};
@@ -20,6 +20,7 @@ pub(crate) fn statement(p: &mut Parser<'_>, detail: Detail)
     requires { kind_at p.old 0 ≢ EOF }
     ensures adds { AddsStatement (first_statement (kinds_in (ahead p.old 0))) p.old p.new }
     ensures eats { p.old.position < p.new.position }
+    ensures spends { Spends 8 0 p.old p.new }
 {
     let kind = kind_of(p);
     let body = body_of(p);
@@ -62,6 +63,7 @@ impl StatementContent {
     fn nodes(&self, p: &mut Parser<'_>)
         requires { IsSound p.old }
         ensures adds { AddsSome p.old p.new }
+        ensures spends { Spends 6 0 p.old p.new }
     {
         match self.detail {
             Detail::Tokens => {}

@@ -1,4 +1,6 @@
+use Rattle.std.proofs.Common.{arith}
 use Rattle.squawk_table.specs.ParserInput.{kinds_in}
+use Rattle.squawk_parser.specs.SomeSteps.{Spends}
 use Rattle.squawk_parser.specs.State.{ahead}
 use Rattle.squawk_parser.proofs.AddedSteps.{open_marker-added}
 use Rattle.sql_grammar.proofs.AddedStatements.{first_added, inner_added, is_first, statement_eats, statement_with}
@@ -17,3 +19,12 @@ returns-clause-adds c =
 
 pub returns-clause-eats : goal.returns-clause-eats
 returns-clause-eats c = statement_eats c.requires (returns-clause-adds c)
+
+pub returns-clause-spends : goal.returns-clause-spends
+returns-clause-spends c =
+    let inner : Spends 6 0 c.start-node.new.self c.with_limit.new.self = c.with_limit.ensures.does.spends in
+    let begins = c.start-node.ensures.begins.position in
+    let forward = c.with_limit.ensures.keeps.forward in
+    let completes = c.complete.ensures.completes.position in
+    let eats = returns-clause-eats c in
+    omega (arith, c.start-node.ensures.spends, inner, c.complete.ensures.spends, begins, forward, completes, eats)
