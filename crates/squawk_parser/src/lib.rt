@@ -110,7 +110,7 @@ pub use parser::{
 };
 pub use pipeline::errors::{ParseIntoError, ParseWholeError};
 pub use pipeline::{
-    Sent, parse_accepted_into, parse_accepted_whole_into, parse_into, parse_whole_into,
+    Parsed, Sent, parse_accepted_into, parse_accepted_whole_into, parse_into, parse_whole_into,
 };
 pub use squawk_kinds::{
     KindNames, NoKeywords, SyntaxKind, TokenSet, Vocabulary, classes, is_col_name_keyword,

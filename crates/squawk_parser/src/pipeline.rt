@@ -126,14 +126,14 @@ pub fn parse_accepted_whole_into<V: Vocabulary, G: WholeGrammar, S: StepSink>(
 
 /// A table of raw tokens, and the output of a parse over its input.
 #[derive(Drop)]
-struct Parsed<'a> {
-    table: LexedStr<'a>,
-    output: Output,
+pub struct Parsed<'a> {
+    pub table: LexedStr<'a>,
+    pub output: Output,
 }
 
 impl<'a> Parsed<'a> {
-    /// Parses a text with these accepted raw tokens.
-    fn new<V: Vocabulary, G: Grammar, R>(
+    /// Parses a text with raw tokens that are proved to be accepted.
+    pub fn new<V: Vocabulary, G: Grammar, R>(
         alloc: Global,
         text: &'a str,
         tokens: &[Token],
@@ -157,8 +157,8 @@ impl<'a> Parsed<'a> {
         Ok(Parsed { table, output })
     }
 
-    /// Sends the steps of the output to a sink.
-    fn send<S: StepSink>(&self, sink: &mut S) -> Result<Sent, S::Refusal>
+    /// Sends the steps of the output, which fits the table, to a sink.
+    pub fn send<S: StepSink>(&self, sink: &mut S) -> Result<Sent, S::Refusal>
         requires { Fits self.now.table self.now.output.steps }
         ensures sent { IfOk result (IsSent self.now.table self.now.output (S.stands_after sink.old) (S.stands_after sink.new)) }
         ensures stopped { IfErr result (λ answer. (l : List OwnedStep) → S.stands_after sink.old l

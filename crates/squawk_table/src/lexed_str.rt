@@ -163,4 +163,17 @@ impl<'a> LexedStr<'a> {
     {
         LexErrors::new(&self.errors)
     }
+
+    /// The same, of a table that isn't needed any more.
+    pub fn into_errors(self) -> Vec<LexError>
+        ensures { result.items ≡ self.entry.errors }
+    {
+        let LexedStr {
+            text: _,
+            kinds: _,
+            starts: _,
+            errors,
+        } = self;
+        errors
+    }
 }

@@ -19,33 +19,14 @@ use Rattle.squawk_table.proofs.TableLemmas.{IsTable-table_of}
 use Rattle.squawk_parser.specs.Pipeline.{Given, IsParsed, IsParsedInto, IsStopped, table_for}
 use Rattle.squawk_parser.specs.declared.pipeline.Sent.{Sent}
 use Rattle.squawk_tree.specs.Forest.{Forest, forest_steps}
-use Rattle.syntax_tree.specs.Drafts.{Growing, StandsAfter}
+use Rattle.syntax_tree.specs.Drafts.{Growing, StandsAfter, StandsOver}
 use Rattle.syntax_tree.specs.Layout.{Laid, IsTree}
-use Rattle.syntax_tree.specs.Parsed.{IsParsedTo, IsParsedTree, RefusesOver, StandsOver}
-use Rattle.syntax_tree.specs.Refusals.{RefusesStep}
+use Rattle.syntax_tree.specs.Parsed.{IsParsedTo, IsParsedTree}
+use Rattle.syntax_tree.specs.Refusals.{RefusesOver, RefusesStep}
 use Rattle.syntax_tree.specs.Trees.{IsOneRoot}
 use Rattle.syntax_tree.specs.declared.builder.TreeRefusal.{TreeRefusal}
 use Rattle.syntax_tree.proofs.Refusals.{texts_of-forest}
 use Rattle.syntax_tree.proofs.SentRoots.{Answers, answers, begins, errors_sent, root_of, sends}
-
--- ---- a builder over a source
-
-pub begins_over : (growing : Growing) (text : List ℕ) → StandsAfter growing [] → growing.source ≡ text → StandsOver growing (step.Error text 0 ∷ [])
-begins_over growing text stands source = record { steps = []; is = ap (λ s. step.Error s 0 ∷ []) (sym source); stands = stands }
-
-pub takes_over : {X : Type 0} (old new : Growing) (next : OwnedStep) (result : Result X TreeRefusal) → new.source ≡ old.source
-    → ((steps : List OwnedStep) → StandsAfter old steps
-    → MatchResult result (λ _. StandsAfter new (steps ++ next ∷ [])) (λ answer. (new ≡ old) × RefusesStep old.source steps next answer))
-    → (list : List OwnedStep) → StandsOver old list
-    → MatchResult result (λ _. StandsOver new (list ++ next ∷ [])) (λ answer. StandsOver new list × RefusesOver list next answer)
-takes_over old new next (Ok x) source takes list over = record {
-  steps = over.steps ++ next ∷ [];
-  is = ap (λ l. l ++ next ∷ []) over.is ∙ ap (λ s. step.Error s 0 ∷ (over.steps ++ next ∷ [])) (sym source);
-  stands = takes over.steps over.stands;
-}
-takes_over old new next (Err answer) source takes list over =
-    let refused = takes over.steps over.stands in
-    (subst (λ g. StandsOver g list) (sym refused.0) over, record { source = old.source; steps = over.steps; is = over.is; refused = refused.1 })
 
 -- ---- the call
 
@@ -97,9 +78,9 @@ module _ (g : Given) (leaves : List Entry → Draft → Type 0) (law : AreKeywor
           let tree = root_of (table_for g) (table into.output into.parsed into.root) into.output.steps (fits into.output into.parsed into.root) in
           unfinished all tree.forest stands tree.one tree.walk
 
-      pub parsed_tree : (laid : Laid) → ((steps : List OwnedStep) → StandsAfter new steps → (forest : Forest) × IsTree laid forest × (forest_steps forest ≡ steps))
+      pub parsed_tree : (laid : Laid) → laid.lexical ≡ (table_for g).errors → ((steps : List OwnedStep) → StandsAfter new steps → (forest : Forest) × IsTree laid forest × (forest_steps forest ≡ steps))
           → IsParsedTree g leaves laid
-      parsed_tree laid finished =
+      parsed_tree laid lexical finished =
           let f = finished all stands in
           let sending = into.sending in
           let bytes : laid.text ≡ encode_utf8_all (texts_of all) = f.1.text ∙ ap encode_utf8_all (sym (texts_of-forest f.0) ∙ ap texts_of f.2) in
@@ -113,6 +94,7 @@ module _ (g : Given) (leaves : List Entry → Draft → Type 0) (law : AreKeywor
             tree = f.0;
             is = f.1;
             steps = f.2;
+            lexical = lexical;
             beginning = (
               encode_utf8_all rest,
               ap (λ l. l ++ encode_utf8_all rest) bytes ∙ (sym (encodes-append (texts_of all) rest) ∙ (ap encode_utf8_all sending.beginning.1 ∙ source)),

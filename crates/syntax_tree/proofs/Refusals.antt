@@ -5,6 +5,7 @@ use Rattle.std.proofs.lemmas.List.{length-append, length-take-le, nil_from_lengt
 use Rattle.std.proofs.lemmas.List.Concat.{flat_map-append}
 use Rattle.std.proofs.lemmas.List.Sums.{fold-append}
 use Rattle.std.proofs.lemmas.Str.{encodes-append, encodes-chars, chars-append, chars-nil, chars_from_encodes, IsCharBoundary-from_take}
+use Rattle.squawk_tokens.specs.LexicalErrors.{LexicalError}
 use Rattle.squawk_table.specs.Sent.{text_in, texts_of}
 use Rattle.squawk_table.specs.declared.shortcuts.str_step.OwnedStep.{OwnedStep}
 use Rattle.squawk_table.specs.declared.shortcuts.str_step.OwnedStep.TheVariants as step
@@ -12,8 +13,8 @@ use Rattle.squawk_tree.specs.TreeText.{nodes_open_behind}
 use Rattle.squawk_tree.specs.Forest.{Forest, Nothing, Token, Node, Error, forest_steps}
 use Rattle.syntax_tree.specs.Trees.{size, text_of, IsOneRoot}
 use Rattle.syntax_tree.specs.Layout.{Laid, IsTree, HoldsTree, errors_of}
-use Rattle.syntax_tree.specs.Drafts.{Growing, Draft, Outside, Within, draft_size, draft_text, draft_steps, draft_errors, draft_depth, IsDraft, IsGrowing, StandsAfter}
-use Rattle.syntax_tree.specs.Refusals.{nodes_open, elements_in, errors_in, IsNext, Refuses}
+use Rattle.syntax_tree.specs.Drafts.{Growing, Draft, Outside, Within, draft_size, draft_text, draft_steps, draft_errors, draft_depth, IsDraft, IsGrowing, StandsAfter, StandsOver}
+use Rattle.syntax_tree.specs.Refusals.{nodes_open, elements_in, errors_in, IsNext, RefusesOver, RefusesStep}
 use Rattle.syntax_tree.specs.declared.builder.TreeRefusal.{TreeRefusal}
 use Rattle.syntax_tree.specs.declared.builder.TreeRefusal.TheVariants.{OutOfMemory}
 use Rattle.syntax_tree.proofs.Layouts.{size-IsOneRoot}
@@ -218,19 +219,28 @@ wants_memory (Err answer) taken stays refuses is same why = (same, subst refuses
 
 -- ---- the sink
 
--- a step that the builder refused it didn't take
-pub handed_on : {X : Type 0} (result : Result X TreeRefusal) (old new : Growing) (steps : List OwnedStep) (sent next : OwnedStep) (refuses : TreeRefusal → Type 0) → sent ≡ next
-    → StandsAfter old steps → ((answer : TreeRefusal) → refuses answer → Refuses steps next answer)
-    → MatchResult result (λ _. StandsAfter new (steps ++ next ∷ [])) (λ answer. (new ≡ old) × refuses answer)
-    → MatchResult result (λ _. StandsAfter new (steps ++ sent ∷ [])) (λ answer. StandsAfter new steps × Refuses steps sent answer)
-handed_on (Ok done) old new steps sent next refuses is stands into told = rw is told
-handed_on (Err answer) old new steps sent next refuses is stands into told = rw is (subst (λ g. StandsAfter g steps) (sym told.0) stands, into answer told.1)
+pub begins_over : (growing : Growing) (text : List ℕ) → StandsAfter growing [] → growing.source ≡ text → StandsOver growing (step.Error text 0 ∷ [])
+begins_over growing text stands source = record { steps = []; is = ap (λ s. step.Error s 0 ∷ []) (sym source); stands = stands }
+
+pub takes_over : {X : Type 0} (old new : Growing) (next : OwnedStep) (result : Result X TreeRefusal) → new.source ≡ old.source
+    → ((steps : List OwnedStep) → StandsAfter old steps
+    → MatchResult result (λ _. StandsAfter new (steps ++ next ∷ [])) (λ answer. (new ≡ old) × RefusesStep old.source steps next answer))
+    → (list : List OwnedStep) → StandsOver old list
+    → MatchResult result (λ _. StandsOver new (list ++ next ∷ [])) (λ answer. StandsOver new list × RefusesOver list next answer)
+takes_over old new next (Ok x) source takes list over = record {
+  steps = over.steps ++ next ∷ [];
+  is = ap (λ l. l ++ next ∷ []) over.is ∙ ap (λ s. step.Error s 0 ∷ (over.steps ++ next ∷ [])) (sym source);
+  stands = takes over.steps over.stands;
+}
+takes_over old new next (Err answer) source takes list over =
+    let refused = takes over.steps over.stands in
+    (subst (λ g. StandsOver g list) (sym refused.0) over, record { source = old.source; steps = over.steps; is = over.is; refused = refused.1 })
 
 -- ---- the tree
 
-module _ (growing : Growing) (text : List ℕ) (text_is : text ≡ take growing.sent growing.source) (few : length growing.elements ≤ 4294967295) (outside : growing.innermost ≡ 4294967295) (some : 1 ≤ length growing.elements) where
+module _ (growing : Growing) (text : List ℕ) (lexical : List LexicalError) (text_is : text ≡ take growing.sent growing.source) (few : length growing.elements ≤ 4294967295) (outside : growing.innermost ≡ 4294967295) (some : 1 ≤ length growing.elements) where
   abbrev laid : Laid
-  laid = record { text = text; elements = growing.elements; errors = growing.errors }
+  laid = record { text = text; elements = growing.elements; errors = growing.errors; lexical = lexical }
 
   record Finished (steps : List OwnedStep) : Type 0 where
     pub forest : Forest

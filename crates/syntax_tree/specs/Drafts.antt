@@ -104,3 +104,10 @@ pub record StandsAfter (growing : Growing) (steps : List OwnedStep) : Type 0 whe
   pub draft : Draft
   pub is : IsDraft growing draft
   pub walk : draft_steps draft ≡ steps
+
+-- A sink tells no more than the list that it stands after. So a builder's list begins with a step that has the source: it stands
+-- after the steps behind that one.
+pub record StandsOver (growing : Growing) (list : List OwnedStep) : Type 0 where
+  pub steps : List OwnedStep
+  pub is : list ≡ step.Error growing.source 0 ∷ steps
+  pub stands : StandsAfter growing steps

@@ -1,15 +1,17 @@
 -- How a tree lies in lists.
 use Rattle.std.specs.Prelude.{◌≡◌, ℕ, ◌+◌, ◌≤◌, List, [], ◌∷◌, ◌++◌, length, true, false, encode_utf8_all, IsUtf8}
+use Rattle.squawk_tokens.specs.LexicalErrors.{LexicalError}
 use Rattle.squawk_tree.specs.Forest.{Forest, Nothing, Token, Node, Error, forest_bytes, forest_steps}
 use Rattle.syntax_tree.specs.Trees.{size, text_of, IsOneRoot}
 use Rattle.syntax_tree.specs.declared.element.Element.{Element}
 use Rattle.syntax_tree.specs.declared.tree.TreeError.{TreeError}
 
--- the bytes of a text, elements and errors
+-- the bytes of a text, elements and errors, and the lexical errors of the text that was parsed
 pub record Laid : Type 0 where
   pub text : List ℕ
   pub elements : List Element
   pub errors : List TreeError
+  pub lexical : List LexicalError
 
 -- Where trees beside each other begin at a place, the place of the last of them; where there is none, another number.
 abbrev pub last_of : Forest → ℕ → ℕ → ℕ

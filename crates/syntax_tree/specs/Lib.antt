@@ -8,3 +8,4 @@ pub mod Walks
 pub mod Parsed
 pub mod ErrorLines
 pub mod Errors
+pub mod TextErrors

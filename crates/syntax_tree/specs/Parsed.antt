@@ -1,5 +1,5 @@
 -- One call from a text to its tree.
-use Rattle.std.specs.Prelude.{◌≡◌, ◌↔◌, ◌<◌, ℕ, List, ◌∷◌, length}
+use Rattle.std.specs.Prelude.{◌≡◌, ◌↔◌, ◌<◌, ℕ, List, length}
 use Rattle.squawk_tokens.specs.AcceptedTokens.{AreAcceptedTokens, RefusesTokens}
 use Rattle.squawk_output.specs.Draft.{Draft}
 use Rattle.squawk_output.specs.OneRoot.{StandsInOneRoot}
@@ -7,21 +7,18 @@ use Rattle.squawk_output.specs.Steps.{Walk, eaten, without_errors}
 use Rattle.squawk_table.specs.ParserInput.{Entry}
 use Rattle.squawk_table.specs.Sent.{ErrorsArePlaced, InnerNodesAreTrimmed, IsBeginning, marked_list, sent_list}
 use Rattle.squawk_table.specs.declared.shortcuts.str_step.OwnedStep.{OwnedStep}
-use Rattle.squawk_table.specs.declared.shortcuts.str_step.OwnedStep.TheVariants as step
 use Rattle.squawk_parser.specs.Parse.{IsRefused}
 use Rattle.squawk_parser.specs.Pipeline.{Given, HasNoRoot, IsParsed, input_for, table_for}
 use Rattle.squawk_parser.specs.State.{State, fresh}
 use Rattle.squawk_parser.specs.Words.{Words}
 use Rattle.squawk_tree.specs.Forest.{Forest, forest_steps}
-use Rattle.syntax_tree.specs.Drafts.{Growing, StandsAfter}
 use Rattle.syntax_tree.specs.Layout.{Laid, IsTree}
-use Rattle.syntax_tree.specs.Refusals.{RefusesStep, elements_in}
-use Rattle.syntax_tree.specs.declared.builder.TreeRefusal.{TreeRefusal}
+use Rattle.syntax_tree.specs.Refusals.{elements_in}
 use Rattle.syntax_tree.specs.declared.parse.errors.ParseTreeError.{ParseTreeError}
 use Rattle.syntax_tree.specs.declared.parse.errors.ParseTreeError.TheVariants.{Table, Input, Parse, NoRoot, TooLarge, OutOfMemory}
 
 -- What a grammar leaves over the input of a text's raw tokens is parsed, and stands in one root. A tree lies there whose walk is the
--- sent list of that output. Its text is a beginning of the text, and all of it exactly where all tokens of the input are eaten. The
+-- sent list of that output, and the lexical errors are those of the table. Its text is a beginning of the text, and all of it exactly where all tokens of the input are eaten. The
 -- position of each error is the number of bytes before it, and no node but the root begins or ends with trivia.
 pub record IsParsedTree (g : Given) (leaves : List Entry → Draft → Type 0) (laid : Laid) : Type 0 where
   pub output : Walk
@@ -30,6 +27,7 @@ pub record IsParsedTree (g : Given) (leaves : List Entry → Draft → Type 0) (
   pub tree : Forest
   pub is : IsTree laid tree
   pub steps : forest_steps tree ≡ sent_list (table_for g) output.steps
+  pub lexical : laid.lexical ≡ (table_for g).errors
   pub beginning : IsBeginning laid.text g.text
   pub whole : (laid.text ≡ g.text) ↔ (eaten output.steps ≡ length (input_for g))
   pub placed : ErrorsArePlaced (sent_list (table_for g) output.steps)
@@ -54,18 +52,3 @@ IsTreeRefusal g leaves runs words (Parse reason) =
 IsTreeRefusal g leaves runs words NoRoot = HasNoRoot g leaves
 IsTreeRefusal g leaves runs words TooLarge = IsParsedTo g leaves (λ sent. 4294967295 < elements_in sent)
 IsTreeRefusal g leaves runs words OutOfMemory = IsParsedTo g leaves (λ sent. Unit {0})
-
--- ---- a builder as the sink of its own source
-
--- `parse_into` tells of a sink no more than the list that it stands after. So that list begins with a step that has the source: a
--- builder over this source stands after the steps behind it.
-pub record StandsOver (growing : Growing) (list : List OwnedStep) : Type 0 where
-  pub steps : List OwnedStep
-  pub is : list ≡ step.Error growing.source 0 ∷ steps
-  pub stands : StandsAfter growing steps
-
-pub record RefusesOver (list : List OwnedStep) (next : OwnedStep) (answer : TreeRefusal) : Type 0 where
-  pub source : List ℕ
-  pub steps : List OwnedStep
-  pub is : list ≡ step.Error source 0 ∷ steps
-  pub refused : RefusesStep source steps next answer

@@ -74,6 +74,9 @@ RefusesStep source steps (step.Enter kind) answer = RefusesNode steps answer
 RefusesStep source steps step.Exit answer = RefusesExit steps answer
 RefusesStep source steps (step.Error text pos) answer = RefusesError steps answer
 
--- why some builder does, whatever its source is
-abbrev pub Refuses : List OwnedStep → OwnedStep → TreeRefusal → Type 0
-Refuses steps next answer = (source : List ℕ) × RefusesStep source steps next answer
+-- why a builder does, by the list that it stands over
+pub record RefusesOver (list : List OwnedStep) (next : OwnedStep) (answer : TreeRefusal) : Type 0 where
+  pub source : List ℕ
+  pub steps : List OwnedStep
+  pub is : list ≡ step.Error source 0 ∷ steps
+  pub refused : RefusesStep source steps next answer

@@ -4,16 +4,17 @@ ghost use Rattle.std.specs.Str.{chars};
 ghost use Rattle.squawk_table.specs.declared.shortcuts.str_step.OwnedStep.{OwnedStep};
 ghost use Rattle.squawk_table.specs.declared.shortcuts.str_step.OwnedStep.TheVariants.{Token, Enter, Exit, Error};
 ghost use Rattle.squawk_tree.specs.Forest.{Forest, forest_steps};
-ghost use Rattle.syntax_tree.specs.Drafts.{StandsAfter};
+ghost use Rattle.syntax_tree.specs.Drafts.{StandsAfter, StandsOver};
 ghost use Rattle.syntax_tree.specs.Layout.{IsTree};
 ghost use Rattle.syntax_tree.specs.Trees.{IsOneRoot};
-ghost use Rattle.syntax_tree.specs.Refusals.{RefusesToken, RefusesNode, RefusesExit, RefusesError, Refuses};
+ghost use Rattle.syntax_tree.specs.Refusals.{RefusesToken, RefusesNode, RefusesExit, RefusesError, RefusesOver};
 
 use crate::element::{Element, NONE};
 use crate::tree::{SyntaxTree, TreeError};
 use squawk_kinds::SyntaxKind;
 use squawk_output::Text;
 use squawk_table::{StepSink, StrStep};
+use squawk_tokens::LexError;
 use std::alloc::{AllocError, Global};
 use std::marker::Model;
 
@@ -109,10 +110,26 @@ impl<'s> TreeBuilder<'s> {
 
     /// The tree, if the steps so far are those of one root with all that is in it, and of errors.
     ///
-    /// Its text is the part of the source that was sent.
+    /// Its text is the part of the source that was sent. It has no lexical errors.
     pub fn finish(self) -> Result<SyntaxTree<'s>, Unfinished<'s>>
         ensures tree { IfOk result (λ tree. (steps : List OwnedStep) → StandsAfter self.entry steps
             → (forest : Forest) × IsTree tree forest × (forest_steps forest ≡ steps)) }
+        ensures lexical { IfOk result (λ tree. tree.lexical ≡ []) }
+        ensures refused { IfErr result (λ unfinished. (unfinished.builder ≡ self.entry) × ((steps : List OwnedStep) (forest : Forest)
+            → StandsAfter self.entry steps → IsOneRoot forest → forest_steps forest ≡ steps → ⊥)) }
+    {
+        let none = Vec::new(self.alloc);
+        self.finish_with(none)
+    }
+
+    /// The same with the lexical errors of a text.
+    pub(crate) fn finish_with(
+        self,
+        lexical: Vec<LexError>,
+    ) -> Result<SyntaxTree<'s>, Unfinished<'s>>
+        ensures tree { IfOk result (λ tree. (steps : List OwnedStep) → StandsAfter self.entry steps
+            → (forest : Forest) × IsTree tree forest × (forest_steps forest ≡ steps)) }
+        ensures lexical { IfOk result (λ tree. tree.lexical ≡ lexical.items) }
         ensures refused { IfErr result (λ unfinished. (unfinished.builder ≡ self.entry) × ((steps : List OwnedStep) (forest : Forest)
             → StandsAfter self.entry steps → IsOneRoot forest → forest_steps forest ≡ steps → ⊥)) }
     {
@@ -132,6 +149,7 @@ impl<'s> TreeBuilder<'s> {
             text: &source[..sent],
             elements,
             errors,
+            lexical,
         })
     }
 
@@ -248,9 +266,9 @@ impl<'s> TreeBuilder<'s> {
 impl StepSink for TreeBuilder<'_> {
     type Refusal = TreeRefusal;
 
-    ghost stands_after = { StandsAfter };
+    ghost stands_after = { StandsOver };
 
-    ghost refuses = { Refuses };
+    ghost refuses = { RefusesOver };
 
     fn step(&mut self, step: StrStep<'_>) -> Result<(), TreeRefusal> {
         match step {

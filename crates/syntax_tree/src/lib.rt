@@ -12,6 +12,7 @@ pub mod preorder;
 pub mod steps;
 #[cfg(test)]
 mod tests;
+pub mod text_errors;
 mod tokens;
 pub mod tree;
 pub mod walks;
@@ -23,4 +24,5 @@ pub use offsets::TokenAtOffset;
 pub use parse::{ParseTreeError, parse_accepted_tree, parse_tree};
 pub use preorder::{Preorder, PreorderWithTokens, WalkEvent};
 pub use steps::Steps;
+pub use text_errors::TextError;
 pub use tree::SyntaxTree;

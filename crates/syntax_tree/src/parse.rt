@@ -1,8 +1,11 @@
 //! From a text to its tree in one call.
-ghost use Rattle.std.specs.Prelude.{IfOk, IfErr};
+ghost use Rattle.std.specs.Prelude.{◌≡◌, IfOk, IfErr};
 ghost use Rattle.squawk_tokens.specs.AcceptedTokens.{AreAcceptedTokens};
-ghost use Rattle.squawk_parser.specs.Pipeline.{given};
-ghost use Rattle.syntax_tree.specs.Parsed.{IsParsedTree, IsTreeRefusal, RefusesOver, StandsOver};
+ghost use Rattle.squawk_parser.specs.Pipeline.{IsParsedInto, IsRefusal, given, table_for};
+ghost use Rattle.squawk_parser.specs.declared.pipeline.Sent.{Sent};
+ghost use Rattle.syntax_tree.specs.Drafts.{StandsOver};
+ghost use Rattle.syntax_tree.specs.Parsed.{IsParsedTree, IsTreeRefusal};
+ghost use Rattle.syntax_tree.specs.Refusals.{RefusesOver};
 
 pub mod errors;
 
@@ -10,15 +13,14 @@ use crate::builder::{TreeBuilder, TreeRefusal};
 use crate::tree::SyntaxTree;
 pub use errors::ParseTreeError;
 use squawk_parser::{
-    EntryPoint, Grammar, ParseIntoError, Token, Vocabulary, check_tokens, parse_accepted_into,
+    EntryPoint, Grammar, LexError, ParseIntoError, Parsed, Token, Vocabulary, check_tokens,
 };
-use squawk_table::{StepSink, StrStep};
 use std::alloc::Global;
 
 /// The tree of a text with these raw tokens, by a grammar, with the trivia.
 ///
-/// A grammar may leave tokens at the end of the text: then the tree's text is what stands before them. The stages refuse
-/// in the order of [`ParseTreeError`].
+/// A grammar may leave tokens at the end of the text: then the tree's text is what stands before them, but it has the
+/// lexical errors of all of it. The stages refuse in the order of [`ParseTreeError`].
 pub fn parse_tree<'s, V: Vocabulary, G: Grammar>(
     alloc: Global,
     text: &'s str,
@@ -54,11 +56,17 @@ pub fn parse_accepted_tree<'s, V: Vocabulary, G: Grammar>(
 {
     // Most trees have fewer nodes than half as many as raw tokens.
     let elements = tokens.len().saturating_add(tokens.len() / 2);
-    let mut sink = SourceSink {
-        builder: TreeBuilder::with_capacity(alloc, text, elements),
-    };
-    match parse_accepted_into(alloc, text, tokens, vocabulary, grammar, entry, &mut sink) {
-        Ok(_sent) => match sink.builder.finish() {
+    let mut builder = TreeBuilder::with_capacity(alloc, text, elements);
+    match build(
+        alloc,
+        text,
+        tokens,
+        vocabulary,
+        grammar,
+        entry,
+        &mut builder,
+    ) {
+        Ok(lexical) => match builder.finish_with(lexical) {
             Ok(tree) => Ok(tree),
             Err(_unfinished) => unreachable!(),
         },
@@ -76,25 +84,31 @@ pub fn parse_accepted_tree<'s, V: Vocabulary, G: Grammar>(
     }
 }
 
-/// A builder whose steps are those of its source.
-#[derive(Drop)]
-struct SourceSink<'s> {
-    builder: TreeBuilder<'s>,
-}
-
-impl StepSink for SourceSink<'_> {
-    type Refusal = TreeRefusal;
-
-    ghost stands_after = { λ sink list. StandsOver sink.builder list };
-
-    ghost refuses = { RefusesOver };
-
-    fn step(&mut self, step: StrStep<'_>) -> Result<(), TreeRefusal> {
-        match step {
-            StrStep::Token { kind, text } => self.builder.token(kind, text),
-            StrStep::Enter { kind } => self.builder.start_node(kind),
-            StrStep::Exit => self.builder.finish_node(),
-            StrStep::Error { msg, pos } => self.builder.error(msg, pos),
-        }
+/// Sends the tree of a text to a builder over it, and returns the lexical errors.
+fn build<V: Vocabulary, G: Grammar>(
+    alloc: Global,
+    text: &str,
+    tokens: &[Token],
+    vocabulary: &V,
+    grammar: &G,
+    entry: EntryPoint,
+    builder: &mut TreeBuilder<'_>,
+) -> Result<Vec<LexError>, ParseIntoError<TreeRefusal>>
+    requires { AreAcceptedTokens text.now tokens.now }
+    ensures sent { let g = given (V.keyword vocabulary.now) (V.contextual_keyword vocabulary.now) text.now tokens.now in
+        IfOk result (λ _. (sent : Sent) × IsParsedInto g (G.leaves grammar.now entry) (StandsOver builder.old) (StandsOver builder.new) sent) }
+    ensures lexical { let g = given (V.keyword vocabulary.now) (V.contextual_keyword vocabulary.now) text.now tokens.now in
+        IfOk result (λ lexical. lexical.items ≡ (table_for g).errors) }
+    ensures refused { let g = given (V.keyword vocabulary.now) (V.contextual_keyword vocabulary.now) text.now tokens.now in
+        IfErr result (IsRefusal g (G.leaves grammar.now entry) (G.runs grammar.now entry) (G.meaning grammar.now)
+        (StandsOver builder.old) (StandsOver builder.new) RefusesOver (builder.new ≡ builder.old)) }
+{
+    let parsed = Parsed::new(alloc, text, tokens, vocabulary, grammar, entry)?;
+    if !parsed.output.stands_in_one_root() {
+        return Err(ParseIntoError::NoRoot);
+    }
+    match parsed.send(builder) {
+        Ok(_sent) => Ok(parsed.table.into_errors()),
+        Err(answer) => Err(ParseIntoError::Sink(answer)),
     }
 }

@@ -2,6 +2,7 @@
 
 use crate::element::Element;
 use squawk_output::Text;
+use squawk_tokens::LexError;
 use std::marker::Model;
 
 /// A syntax tree over a text that it borrows.
@@ -12,6 +13,8 @@ pub struct SyntaxTree<'s> {
     pub(crate) text: &'s str,
     pub(crate) elements: Vec<Element>,
     pub(crate) errors: Vec<TreeError>,
+    /// The lexical errors of the text that was parsed.
+    pub(crate) lexical: Vec<LexError>,
 }
 
 impl<'s> Model for SyntaxTree<'s> {
@@ -19,7 +22,7 @@ impl<'s> Model for SyntaxTree<'s> {
 
     ghost Value = { Laid };
 
-    ghost view = { λ t. record { text = t.text.now; elements = t.elements.items; errors = t.errors.items } };
+    ghost view = { λ t. record { text = t.text.now; elements = t.elements.items; errors = t.errors.items; lexical = t.lexical.items } };
 
     ghost invariant = { λ t. HoldsTree (view t) };
 }
