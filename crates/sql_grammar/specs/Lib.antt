@@ -2,3 +2,5 @@ pub mod Files
 pub mod Kinds
 pub mod Parses
 pub mod Statements
+pub mod Words
+pub mod Scripts
