@@ -4,3 +4,5 @@ pub mod Parses
 pub mod Spent
 pub mod StatementKinds
 pub mod Statements
+pub mod Words
+pub mod Scripts

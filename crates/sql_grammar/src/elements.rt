@@ -5,9 +5,8 @@ ghost use Rattle.squawk_parser.specs.SomeSteps.{AddsSome, Spends};
 ghost use Rattle.squawk_parser.specs.State.{IsSound, kind_at};
 ghost use Rattle.sql_grammar.specs.Spent.{LeavesTwo};
 
-use crate::clauses::{QUERY_WORDS, Query, clause_kind, query_at, query_in};
+use crate::clauses::{QUERY_WORDS, Query, clause_kind, is_word, query_at, query_in};
 use crate::composites::{is_plain, token};
-use crate::cut::Body;
 use crate::inside::{Inside, Pair};
 use crate::statement_kinds::kind_of;
 use sql_words::SqlKind;
@@ -59,7 +58,15 @@ fn element_or_as(p: &mut Parser<'_>, inside: Inside, depth: u32) -> Query
     ensures eats { p.old.position < p.new.position }
 {
     match p.current() {
-        SqlKind::AS_KW | SqlKind::FOR_KW => {
+        SqlKind::FOR_KW => {
+            p.bump_any();
+            query_at(p, 0)
+        }
+        SqlKind::AS_KW if query_at(p, 1) == Query::Nowhere => {
+            with_name(p);
+            Query::Nowhere
+        }
+        SqlKind::AS_KW => {
             p.bump_any();
             query_at(p, 0)
         }
@@ -135,9 +142,10 @@ fn element(p: &mut Parser<'_>, inside: Inside, depth: u32)
     match p.current() {
         kind if is_plain(kind) => plain_tokens(p),
         SyntaxKind::L_PAREN | SyntaxKind::L_BRACK | SqlKind::CASE_KW => opening(p, inside, depth),
-        SqlKind::BEGIN_KW if inside.body == Body::Routine && p.nth(1) == SqlKind::ATOMIC_KW => {
+        SqlKind::BEGIN_KW if inside.may_begin_block() && p.nth(1) == SqlKind::ATOMIC_KW => {
             opening(p, inside, depth)
         }
+        SqlKind::AS_KW => with_name(p),
         SyntaxKind::R_PAREN => p.err_and_bump("closing parenthesis without an opening one"),
         SyntaxKind::R_BRACK => p.err_and_bump("closing bracket without an opening one"),
         _ => token(p),
@@ -151,8 +159,22 @@ fn plain_tokens(p: &mut Parser<'_>)
     ensures spends { LeavesTwo p.old p.new }
     ensures eats { p.old.position < p.new.position }
 {
-    p.bump_any();
+    with_name(p);
     while is_plain(p.current()) {
+        with_name(p);
+    }
+}
+
+/// A token by itself, and after `.` and AS the word that is a name there.
+#[inline(always)]
+fn with_name(p: &mut Parser<'_>)
+    requires { kind_at p.old 0 ≢ EOF }
+    ensures adds { AddsSome p.old p.new }
+    ensures eats { p.old.position < p.new.position }
+{
+    let named = matches!(p.current(), SyntaxKind::DOT | SqlKind::AS_KW);
+    p.bump_any();
+    if named && is_word(p.current()) {
         p.bump_any();
     }
 }
@@ -266,6 +288,6 @@ fn too_deep(p: &mut Parser<'_>, inside: Inside)
             SyntaxKind::R_PAREN | SyntaxKind::R_BRACK | SqlKind::END_KW => open.saturating_sub(1),
             _ => open,
         };
-        p.bump_any();
+        with_name(p);
     }
 }

@@ -9,9 +9,9 @@ ghost use Rattle.sql_grammar.specs.Statements.{first_statement};
 
 use crate::Detail;
 use crate::clauses::{Query, query_in};
-use crate::cut::{body_of, len_of};
+use crate::cut::first_extent;
 use crate::elements::{DEPTH, content};
-use crate::inside::Inside;
+use crate::inside::{Body, Inside};
 use crate::statement_kinds::kind_of;
 use squawk_parser::{Parser, Part, SyntaxKind};
 
@@ -23,15 +23,14 @@ pub(crate) fn statement(p: &mut Parser<'_>, detail: Detail)
     ensures spends { Spends 8 0 p.old p.new }
 {
     let kind = kind_of(p);
-    let body = body_of(p);
-    let len = len_of(p, body);
+    let extent = first_extent(p);
     let node = p.start();
     let content = StatementContent {
         query: query_in(kind),
-        inside: Inside::statement(body),
+        inside: Inside::statement(Body::of(extent.statement)),
         detail,
     };
-    p.with_limit(len, content);
+    p.with_limit(extent.len, content);
     node.complete(p, kind);
 }
 

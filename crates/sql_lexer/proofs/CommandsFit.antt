@@ -25,7 +25,7 @@ ends_lead quote b e = cases (is_outside quote) e
     cases outside e high = grind (arith, nat_tests)
 
 -- arguments end within the text, before a byte with which no character goes on
-pub arguments_within : (quote : Quote) (text : List ℕ) → arguments_end quote text ≤ length text
+arguments_within : (quote : Quote) (text : List ℕ) → arguments_end quote text ≤ length text
 arguments_within quote [] = omega arith
 arguments_within quote (b ∷ rest) =
     cond_both (ends_arguments quote b) 0 (1 + arguments_end (quote_after quote b) rest) (λ n. n ≤ length (b ∷ rest))
@@ -41,15 +41,6 @@ arguments_lead quote (b ∷ rest) lt =
     let n = arguments_end (quote_after quote b) rest in
     subst IsLead (get_or-drop 1 (b ∷ rest) n 0) (arguments_lead (quote_after quote b) rest (omega arith)))
     lt
-
-pub arguments_len-within : (text : List ℕ) → arguments_len text ≤ length text
-arguments_len-within text =
-    let n = arguments_end Outside text in
-    cond_both (begins (drop n text) (codes "\\\\")) (n + 2) n (λ m. m ≤ length text)
-    (λ e.
-    let two = front_ends 92 (drop n text) (codes "\\\\") e (record { some = omega arith; within = omega arith; last = refl }) in
-    omega (arith, two.within, length-drop n text))
-    (λ e. arguments_within Outside text)
 
 -- ---- commands
 

@@ -9,13 +9,13 @@ use Rattle.sql_grammar.proofs.statements.statement.Goals as goal
 pub complete-requires-clause-open_marker : goal.complete-requires-clause-open_marker
 complete-requires-clause-open_marker c =
     let inner = c.with_limit.ensures in
-    open_marker-added c.start-node.result c.start-node.ensures.open_marker (inner_added c.len_of-len.result inner.keeps inner.does)
+    open_marker-added c.start-node.result c.start-node.ensures.open_marker (inner_added c.first_extent-extent.result.len inner.keeps inner.does)
 
 pub returns-clause-adds : goal.returns-clause-adds
 returns-clause-adds c =
     let inner = c.with_limit.ensures in
-    let is = is_first (kinds_in (ahead c.args.p.now 0)) c.kind_of-kind.ensures.is c.body_of-body.ensures c.len_of-len.ensures in
-    first_added (statement_with c.kind_of-kind.result c.len_of-len.result) is c.requires c.start-node.ensures.begins inner.keeps inner.does c.complete.ensures.completes
+    let is = is_first (kinds_in (ahead c.args.p.now 0)) c.kind_of-kind.ensures.is c.first_extent-extent.ensures in
+    first_added (statement_with c.kind_of-kind.result c.first_extent-extent.result.len) is c.requires c.start-node.ensures.begins inner.keeps inner.does c.complete.ensures.completes
 
 pub returns-clause-eats : goal.returns-clause-eats
 returns-clause-eats c = statement_eats c.requires (returns-clause-adds c)
