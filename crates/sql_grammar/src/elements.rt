@@ -130,8 +130,8 @@ fn element(p: &mut Parser<'_>, inside: Inside, depth: u32)
         SqlKind::BEGIN_KW if inside.body == Body::Routine && p.nth(1) == SqlKind::ATOMIC_KW => {
             opening(p, inside, depth)
         }
-        SyntaxKind::R_PAREN => p.err_and_bump("closing parenthesis without an opening one"),
-        SyntaxKind::R_BRACK => p.err_and_bump("closing bracket without an opening one"),
+        SyntaxKind::R_PAREN => p.err_and_bump("unmatched `)`"),
+        SyntaxKind::R_BRACK => p.err_and_bump("unmatched `]`"),
         _ => token(p),
     }
 }
