@@ -1,2 +1,3 @@
-mod Lines
+mod AskedLemmas
 mod Reasons
+mod TellsTextsLemmas
