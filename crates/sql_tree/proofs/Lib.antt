@@ -1,3 +1,3 @@
-mod AskedLemmas
+mod OptionLemmas
 mod Reasons
 mod TellsTextsLemmas

@@ -1,6 +1,8 @@
 //! The program's arguments.
+ghost use Rattle.std.specs.Prelude.{◌≡◌, false, map, IfOk};
 ghost use Rattle.clap.specs.Matches.{found_of};
-ghost use Rattle.sql_tree.specs.Options.{IsAsked, flags};
+ghost use Rattle.clap.specs.Walk.{rule_of, rules_of};
+ghost use Rattle.sql_tree.specs.Options.{IsAsked, argument_of, arguments, file_argument, flag_argument, flags, row};
 
 use clap::{Arg, ArgAction, ArgMatches, Command};
 use std::alloc::{AllocError, Global};
@@ -55,23 +57,35 @@ static FLAGS: [Flag; 4] = [
 pub const FILE: &str = "FILE";
 
 /// What the arguments may be.
-pub fn command<'a>(alloc: Global) -> Result<Command<'a>, AllocError> {
-    let files = Arg::new(alloc, FILE)
-        .action(ArgAction::Append)
-        .num_args(0..)
-        .help("SQL files (UTF-8); standard input if none is given");
+pub fn command<'a>(alloc: Global) -> Result<Command<'a>, AllocError>
+    ensures { IfOk result (λ command. map argument_of (rules_of command) ≡ arguments) }
+{
     let mut command = Command::new(alloc, "sql_tree")
         .version("0.2.0")
         .about("Prints the lossless tree of SQL, statement by statement, with its errors")
-        .arg(files)?;
+        .arg(files(alloc))?;
     for flag in &FLAGS {
         command = command.arg(argument(alloc, flag)?)?;
     }
     Ok(command)
 }
 
+/// The argument with the files.
+fn files<'a>(alloc: Global) -> Arg<'a>
+    ensures argument { argument_of (rule_of result) ≡ file_argument }
+    ensures local { result.global ≡ false }
+{
+    Arg::new(alloc, FILE)
+        .action(ArgAction::Append)
+        .num_args(0..)
+        .help("SQL files (UTF-8); standard input if none is given")
+}
+
 /// The argument of a flag, which rules out the other flags.
-fn argument<'a>(alloc: Global, flag: &Flag) -> Result<Arg<'a>, AllocError> {
+fn argument<'a>(alloc: Global, flag: &Flag) -> Result<Arg<'a>, AllocError>
+    ensures argument { IfOk result (λ arg. argument_of (rule_of arg) ≡ flag_argument (row flag.now.name.now flag.now.listing)) }
+    ensures local { IfOk result (λ arg. arg.global ≡ false) }
+{
     let mut arg = Arg::new(alloc, flag.name)
         .long(flag.name)
         .action(ArgAction::SetTrue)

@@ -1,6 +1,6 @@
 use Rattle.std.proofs.Common.{arith, refl}
 use Rattle.sql_tree.specs.declared.options.Listing.TheVariants.{Tree}
-use Rattle.sql_tree.proofs.AskedLemmas.{asked_at, asked_none}
+use Rattle.sql_tree.proofs.OptionLemmas.{asked_at, asked_none}
 use Rattle.sql_tree.proofs.options.asked_listing.Goals as goal
 
 pub loop-flag-init : goal.loop-flag-init

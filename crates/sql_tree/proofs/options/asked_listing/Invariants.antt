@@ -1,7 +1,7 @@
 use Rattle.clap.specs.Matches.{found_of}
 use Rattle.sql_tree.specs.Options.{IsAsked, flags}
 use Rattle.sql_tree.specs.declared.options.Listing.{Listing}
-use Rattle.sql_tree.proofs.AskedLemmas.{rows_behind}
+use Rattle.sql_tree.proofs.OptionLemmas.{rows_behind}
 use Rattle.sql_tree.proofs.options.asked_listing.Given as goal
 
 abbrev pub invariant-loop-flag : goal.invariant-loop-flag
