@@ -146,8 +146,8 @@ fn element(p: &mut Parser<'_>, inside: Inside, depth: u32)
             opening(p, inside, depth)
         }
         SqlKind::AS_KW => with_name(p),
-        SyntaxKind::R_PAREN => p.err_and_bump("closing parenthesis without an opening one"),
-        SyntaxKind::R_BRACK => p.err_and_bump("closing bracket without an opening one"),
+        SyntaxKind::R_PAREN => p.err_and_bump("unmatched `)`"),
+        SyntaxKind::R_BRACK => p.err_and_bump("unmatched `]`"),
         _ => token(p),
     }
 }

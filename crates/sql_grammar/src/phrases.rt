@@ -81,7 +81,6 @@ fn longest_is(p: &Parser<'_>) -> SyntaxKind
 }
 
 /// IS JSON or IS NOT JSON, with what stands behind.
-
 fn is_json(p: &mut Parser<'_>)
     requires { kind_at p.old 0 ≢ EOF }
     ensures adds { AddsSome p.old p.new }
@@ -136,7 +135,6 @@ impl Part for UniqueKeys {
 }
 
 /// OPERATOR with the name of an operator in parentheses, else the word alone.
-
 pub(crate) fn operator_call(p: &mut Parser<'_>)
     requires { kind_at p.old 0 ≢ EOF }
     ensures adds { AddsSome p.old p.new }

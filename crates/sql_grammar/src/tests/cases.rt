@@ -70,15 +70,15 @@ const BRACKETS: [(&str, &str); 9] = [
     ),
     (
         "show a) b",
-        "SHOW{show a ERROR{!closing parenthesis without an opening one;) }b }",
+        "SHOW{show a ERROR{!unmatched `)`;) }b }",
     ),
     (
         "show ]",
-        "SHOW{show ERROR{!closing bracket without an opening one;] }}",
+        "SHOW{show ERROR{!unmatched `]`;] }}",
     ),
     (
         "show (a] b)",
-        "SHOW{show GROUP{( a ERROR{!closing bracket without an opening one;] }b ) }}",
+        "SHOW{show GROUP{( a ERROR{!unmatched `]`;] }b ) }}",
     ),
     (
         "show (a[b) c",
