@@ -1,0 +1,2 @@
+pub mod SqlTrees
+pub mod SqlErrors
