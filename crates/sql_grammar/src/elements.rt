@@ -170,6 +170,7 @@ fn plain_tokens(p: &mut Parser<'_>)
 fn with_name(p: &mut Parser<'_>)
     requires { kind_at p.old 0 ≢ EOF }
     ensures adds { AddsSome p.old p.new }
+    ensures spends { Spends 1 0 p.old p.new }
     ensures eats { p.old.position < p.new.position }
 {
     let named = matches!(p.current(), SyntaxKind::DOT | SqlKind::AS_KW);
