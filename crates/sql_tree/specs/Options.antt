@@ -1,7 +1,9 @@
 -- What the arguments say.
-use Rattle.std.specs.Prelude.{◌≡◌, ℕ, Bool, true, false, Some, None, List, [], ◌∷◌, MatchBool, Option, codes, map}
+use Rattle.std.specs.Prelude.{◌≡◌, ℕ, Bool, true, false, Some, None, List, [], ◌∷◌, MatchBool, Option, codes, filter, map, not}
 use Rattle.clap.specs.Matches.{one_text}
 use Rattle.clap.specs.Walk.{Rule}
+use Rattle.std.specs.Str.{bytes_eq}
+use Rattle.clap.specs.declared.builder.arg.Arg.{Arg}
 use Rattle.clap.specs.declared.builder.action.ArgAction.{ArgAction}
 use Rattle.clap.specs.declared.builder.action.ArgAction.TheVariants.{Append, SetTrue}
 use Rattle.clap.specs.declared.parser.matches.Found.{Found}
@@ -27,6 +29,14 @@ pub record Argument : Type 0 where
 
 abbrev pub argument_of : Rule → Argument
 argument_of rule = record { name = rule.id; long = rule.long; action = rule.action }
+
+-- the names of the arguments that one rules out
+abbrev pub excluded : Arg → List (List ℕ)
+excluded arg = map (λ name. name.now) arg.conflicts.items
+
+-- the names of the other flags
+abbrev pub others : List ℕ → List (List ℕ)
+others name = filter (λ other. not (bytes_eq other name)) (map (λ flag. flag.name) flags)
 
 -- the files, and the flags
 abbrev pub file_argument : Argument

@@ -1,8 +1,9 @@
 //! The program's arguments.
-ghost use Rattle.std.specs.Prelude.{◌≡◌, false, map, IfOk};
+ghost use Rattle.std.specs.Prelude.{◌≡◌, [], ◌∷◌, false, map, IfOk};
+ghost use Rattle.clap.specs.Facts.{args_of};
 ghost use Rattle.clap.specs.Matches.{found_of};
 ghost use Rattle.clap.specs.Walk.{rule_of, rules_of};
-ghost use Rattle.sql_tree.specs.Options.{IsAsked, argument_of, arguments, file_argument, flag_argument, flags, row};
+ghost use Rattle.sql_tree.specs.Options.{IsAsked, argument_of, arguments, excluded, file_argument, flag_argument, flags, others, row};
 
 use clap::{Arg, ArgAction, ArgMatches, Command};
 use std::alloc::{AllocError, Global};
@@ -58,7 +59,9 @@ pub const FILE: &str = "FILE";
 
 /// What the arguments may be.
 pub fn command<'a>(alloc: Global) -> Result<Command<'a>, AllocError>
-    ensures { IfOk result (λ command. map argument_of (rules_of command) ≡ arguments) }
+    ensures arguments { IfOk result (λ command. map argument_of (rules_of command) ≡ arguments) }
+    // A flag rules out the others.
+    ensures excludes { IfOk result (λ command. map excluded (args_of command) ≡ [] ∷ map (λ flag. others flag.name) flags) }
 {
     let mut command = Command::new(alloc, "sql_tree")
         .version("0.2.0")
@@ -74,6 +77,7 @@ pub fn command<'a>(alloc: Global) -> Result<Command<'a>, AllocError>
 fn files<'a>(alloc: Global) -> Arg<'a>
     ensures argument { argument_of (rule_of result) ≡ file_argument }
     ensures local { result.global ≡ false }
+    ensures excludes { excluded result ≡ [] }
 {
     Arg::new(alloc, FILE)
         .action(ArgAction::Append)
@@ -85,6 +89,7 @@ fn files<'a>(alloc: Global) -> Arg<'a>
 fn argument<'a>(alloc: Global, flag: &Flag) -> Result<Arg<'a>, AllocError>
     ensures argument { IfOk result (λ arg. argument_of (rule_of arg) ≡ flag_argument (row flag.now.name.now flag.now.listing)) }
     ensures local { IfOk result (λ arg. arg.global ≡ false) }
+    ensures excludes { IfOk result (λ arg. excluded arg ≡ others flag.now.name.now) }
 {
     let mut arg = Arg::new(alloc, flag.name)
         .long(flag.name)
