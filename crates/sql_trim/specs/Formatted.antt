@@ -1,33 +1,44 @@
--- The text of a tree without white space at the ends of lines.
-use Rattle.std.specs.Prelude.{◌≡◌, ℕ, ◌==◌, Bool, List, encode_utf8_all, length, if◌then◌else◌}
-use Rattle.std.specs.List.{flat_map}
+-- The text of a tree without blanks at the ends of lines.
+use Rattle.std.specs.Prelude.{◌≡◌, ℕ, ◌==◌, ◌&&◌, ◌||◌, Bool, true, List, [], ◌∷◌, ◌++◌, encode_utf8_all, map, if◌then◌else◌}
 use Rattle.squawk_kinds.specs.Kinds.{WHITESPACE}
 use Rattle.squawk_parser.specs.Pipeline.{Given}
 use Rattle.squawk_tree.specs.Forest.{Forest}
-use Rattle.sql_grammar.specs.Files.{IsFile}
+use Rattle.sql_syntax.specs.SqlTrees.{IsSqlTree}
 use Rattle.syntax_tree.specs.Layout.{Laid}
-use Rattle.syntax_tree.specs.Parsed.{IsParsedTree}
-use Rattle.syntax_tree.specs.Trees.{descendants_of, end_at, kind_at, text_at, text_of, tokens_among}
-use Rattle.sql_trim.specs.Trimmed.{trimmed}
+use Rattle.syntax_tree.specs.Trees.{descendants_of, kind_at, text_at, tokens_among}
+use Rattle.sql_trim.specs.Trimmed.{has_line_feed, trimmed}
 
--- whether the element at a place ends where the tree's text ends
-abbrev pub ends_text : Forest → ℕ → Bool
-ends_text tree at = end_at tree at == length (encode_utf8_all (text_of tree))
+-- the text of a token, and whether it is white space
+pub record Piece : Type 0 where
+  pub is_white : Bool
+  pub bytes : List ℕ
 
--- what is left of the token at a place: white space is trimmed, and no other token changes
-abbrev pub piece : Forest → ℕ → List ℕ
-piece tree at =
-    if kind_at tree at == WHITESPACE then trimmed (ends_text tree at) (encode_utf8_all (text_at tree at))
-    else encode_utf8_all (text_at tree at)
+abbrev pub white : List ℕ → Piece
+white bytes = record { is_white = true; bytes = bytes }
 
--- the pieces of all tokens, in order
-abbrev pub formatted : Forest → List ℕ
-formatted tree = flat_map (piece tree) (tokens_among tree (descendants_of tree 0))
+abbrev pub piece_at : Forest → ℕ → Piece
+piece_at tree at = record { is_white = kind_at tree at == WHITESPACE; bytes = encode_utf8_all (text_at tree at) }
 
--- a text is what is left of a tree of what is given
+-- those of all tokens of a tree, in order
+abbrev pub pieces_of : Forest → List Piece
+pieces_of tree = map (piece_at tree) (tokens_among tree (descendants_of tree 0))
+
+-- whether a line ends in front of pieces: before a line feed, or the end, stands only white space
+abbrev pub ends_line : List Piece → Bool
+ends_line [] = true
+ends_line (piece ∷ behind) = piece.is_white && (ends_line behind || has_line_feed piece.bytes)
+
+-- what is left of a piece before others: no piece changes but white space, of which each blank goes behind which a line ends
+abbrev pub left_of : Piece → List Piece → List ℕ
+left_of piece behind = if piece.is_white then trimmed (ends_line behind) piece.bytes else piece.bytes
+
+-- what is left of pieces
+abbrev pub formatted : List Piece → List ℕ
+formatted [] = []
+formatted (piece ∷ behind) = left_of piece behind ++ formatted behind
+
+-- a text is what is left of a tree that has all of what is given
 pub record IsTrimmed (g : Given) (text : List ℕ) : Type 0 where
   pub laid : Laid
-  pub parsed : IsParsedTree g IsFile laid
-  -- which has all of its text
-  pub whole : laid.text ≡ g.text
-  pub formatted_is : text ≡ formatted parsed.tree
+  pub is_tree : IsSqlTree g laid
+  pub formatted_is : text ≡ formatted (pieces_of is_tree.parsed.tree)

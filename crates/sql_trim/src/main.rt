@@ -1,5 +1,5 @@
-//! A formatter to copy: it removes white space at the ends of lines, but inside of comments and strings. It reads SQL from
-//! the standard input, and prints it.
+//! A formatter to copy: it removes blanks at the ends of lines, but not inside of comments, strings, names and data of COPY.
+//! It reads SQL from the standard input, and prints it.
 #![tactic(auto)]
 
 mod format;
@@ -8,12 +8,15 @@ mod tests;
 mod trim;
 
 use crate::format::format;
+use sql_syntax::SqlError;
 use sql_words::vocabulary;
 use std::io::{self, Write};
 
-fn main(rt: HostRuntime) -> io::Result<()> {
+fn main(rt: HostRuntime) -> Result<(), SqlError> {
     let alloc = rt.alloc();
     let text = io::read_to_string(alloc, rt.reader())?;
     let words = vocabulary(alloc)?;
-    io::writer(&rt).write_all(&format(alloc, &words, text.as_str())?)
+    let formatted = format(alloc, &words, text.as_str())?;
+    io::writer(&rt).write_all(&formatted)?;
+    Ok(())
 }

@@ -1,33 +1,42 @@
 //! White space without what stands at the ends of lines.
-ghost use Rattle.std.specs.Prelude.{◌≡◌, ◌++◌, OnOk};
-ghost use Rattle.sql_trim.specs.Trimmed.{is_blank, trimmed};
+ghost use Rattle.std.specs.Prelude.{◌≡◌, ◌++◌, ◌≤◌, OnOk, drop, length, take};
+ghost use Rattle.sql_trim.specs.Trimmed.{is_blank, trimmed, without_blanks};
 
 use std::alloc::AllocError;
 
-/// Puts white space behind a text, without the blanks before each end of a line; where it ends the file, without those at
-/// its end either.
+/// Puts white space behind a text, without the blanks before each end of a line. Where a line ends behind it, all its blanks
+/// stand before one.
 pub fn push_trimmed(
     text: &mut Vec<u8>,
     white_space: &[u8],
-    is_at_end: bool,
+    ends_line: bool,
 ) -> Result<(), AllocError>
-    ensures { OnOk result (text.new.items ≡ text.old.items ++ trimmed is_at_end white_space.now) }
+    ensures { OnOk result (text.new.items ≡ text.old.items ++ trimmed ends_line white_space.now) }
 {
-    // Behind so many bytes of the text stand blanks alone.
-    let mut kept = text.len();
-    for byte in white_space {
-        if *byte == b'\n' {
-            text.truncate(kept);
-        }
-        text.push(*byte)?;
+    let (ended, rest) = white_space.split_at(lines_len(white_space, ends_line));
+    for byte in ended {
         if !is_blank(*byte) {
-            kept = text.len();
+            text.push(*byte)?;
         }
     }
-    if is_at_end {
-        text.truncate(kept);
+    text.extend_from_slice(rest)
+}
+
+/// How many bytes of white space stand before an end of a line, line feeds too.
+fn lines_len(white_space: &[u8], ends_line: bool) -> usize
+    ensures within { result ≤ length white_space.now }
+    ensures trimmed { trimmed ends_line white_space.now ≡ without_blanks (take result white_space.now) ++ drop result white_space.now }
+{
+    if ends_line {
+        return white_space.len();
     }
-    Ok(())
+    let mut len = 0;
+    for (index, byte) in white_space.iter().enumerate() {
+        if *byte == b'\n' {
+            len = index + 1;
+        }
+    }
+    len
 }
 
 /// Whether a byte is a blank: a space, a tab, a vertical tab or a form feed.

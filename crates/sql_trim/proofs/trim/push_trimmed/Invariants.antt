@@ -1,8 +1,6 @@
-use Rattle.std.proofs.Common.{◌++◌, drop}
-use Rattle.sql_trim.specs.Trimmed.{trimmed}
-use Rattle.sql_trim.proofs.Blanks.{PutsSome}
+use Rattle.std.proofs.Common.{◌≡◌, ◌++◌, take}
+use Rattle.sql_trim.specs.Trimmed.{without_blanks}
 use Rattle.sql_trim.proofs.trim.push_trimmed.Given as goal
 
 abbrev pub invariant-loop-byte : goal.invariant-loop-byte
-invariant-loop-byte l =
-    PutsSome l.is_at_end (l.initial.text.items ++ trimmed l.is_at_end l.white_space) l.text.items l.kept (drop l.byte-index l.white_space)
+invariant-loop-byte l = l.text.items ≡ l.initial.text.items ++ without_blanks (take l.byte-index l.ended)
