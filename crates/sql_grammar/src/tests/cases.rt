@@ -68,14 +68,8 @@ const BRACKETS: [(&str, &str); 9] = [
         "show (a[1; show b",
         "SHOW{show GROUP{( a GROUP{[ 1 !expected ];!expected );}}; }SHOW{show b }",
     ),
-    (
-        "show a) b",
-        "SHOW{show a ERROR{!unmatched `)`;) }b }",
-    ),
-    (
-        "show ]",
-        "SHOW{show ERROR{!unmatched `]`;] }}",
-    ),
+    ("show a) b", "SHOW{show a ERROR{!unmatched `)`;) }b }"),
+    ("show ]", "SHOW{show ERROR{!unmatched `]`;] }}"),
     (
         "show (a] b)",
         "SHOW{show GROUP{( a ERROR{!unmatched `]`;] }b ) }}",
