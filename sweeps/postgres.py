@@ -40,6 +40,7 @@ BYTE_ESCAPE = re.compile(r"\\([0-3]?[0-7]|x[0-9a-fA-F])")
 TRIVIA = {"Whitespace", "LineComment", "BlockComment"}
 BRACKETS = {"OpenParen": 1, "OpenBracket": 1, "CloseParen": -1, "CloseBracket": -1}
 ENDS_QUERY = re.compile(r"\\(g|gx|gexec|gset|gdesc|crosstabview|watch)(?![^\s\\])")
+COPY_COMMAND = re.compile(r"\\copy\s(?:[^()']|\([^()]*\))*\b(?i:from\s+(?:stdin|stdout))\b")
 
 
 class Raw(NamedTuple):
@@ -127,13 +128,13 @@ def lines_of_data(text, raw):
             words, depth, waiting = [], 0, 0
         if start < past or kind in TRIVIA:
             continue
+        if COPY_COMMAND.match(text, start, end) if kind == "PsqlCommand" else kind == "Semi" and copies(words):
+            if not waiting:
+                rests.append(range(end, line_behind(text, end)[0]))
+            waiting += 1
         if kind == "PsqlCommand":
             words = [] if not words or ENDS_QUERY.match(text[start:end]) else [*words, None]
         elif kind == "Semi" and not (depth and words[:1] == ["create"] and "rule" in words[:4]):
-            if copies(words):
-                if not waiting:
-                    rests.append(range(end, line_behind(text, end)[0]))
-                waiting += 1
             words = []
         else:
             depth = max(depth + BRACKETS.get(kind, 0), 0)

@@ -5,7 +5,7 @@ import zipfile
 from pathlib import Path
 
 HERE = Path(__file__).resolve().parent
-NAME, VERSION = "caliperdock", "0.1.0"
+NAME, VERSION = "caliperdock", "0.2.0"
 TAG = "py3-none-linux_x86_64"
 LIBRARY = "libcaliperdock.so.1"
 

@@ -8,7 +8,7 @@ mod tests;
 // The front page begins.
 ghost use Rattle.std.specs.Prelude.{◌<◌, ◌≢◌};
 ghost use Rattle.squawk_kinds.specs.Kinds.{EOF};
-ghost use Rattle.squawk_parser.specs.SomeSteps.{AddsSome};
+ghost use Rattle.squawk_parser.specs.SomeSteps.{AddsSome, Spends};
 ghost use Rattle.squawk_parser.specs.State.{kind_at};
 
 use squawk_parser::{
@@ -31,7 +31,8 @@ impl Grammar for Names {
     // One node over all tokens.
     ghost leaves = { λ _ _ input draft. IsWholeFile input draft };
 
-    ghost runs = { λ _ _ _ _. Unit {0} };
+    // At most four events a token, and two for that node.
+    ghost runs = { λ _ _ begun left. Spends 4 2 begun left };
 
     ghost meaning = { λ _. no_words };
 
@@ -65,6 +66,7 @@ impl WholeGrammar for Names {
 fn name(p: &mut Parser<'_>)
     requires { kind_at p.old 0 ≢ EOF }
     ensures adds { AddsSome p.old p.new }
+    ensures spends { Spends 4 0 p.old p.new }
     ensures eats { p.old.position < p.new.position }
 {
     if p.current() == SyntaxKind::IDENT {

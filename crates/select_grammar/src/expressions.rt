@@ -7,7 +7,7 @@
 //! ```
 ghost use Rattle.std.specs.Prelude.{◌≢◌, ◌<◌};
 ghost use Rattle.squawk_kinds.specs.Kinds.{EOF, TOMBSTONE};
-ghost use Rattle.squawk_parser.specs.SomeSteps.{AddsSome, AddsSomeNode};
+ghost use Rattle.squawk_parser.specs.SomeSteps.{AddsSome, AddsSomeNode, Spends};
 ghost use Rattle.squawk_parser.specs.State.{HasNode, IsSound, State, kind_at};
 
 use crate::kinds::{
@@ -39,6 +39,7 @@ const NOT: u8 = 3;
 #[cycle(expressions)]
 pub fn expression(p: &mut Parser<'_>, floor: u8, depth: u32)
     ensures adds { AddsSome p.old p.new }
+    ensures spends { Spends 12 3 p.old p.new }
 {
     if depth == 0 {
         too_deep(p);
@@ -52,7 +53,8 @@ pub fn expression(p: &mut Parser<'_>, floor: u8, depth: u32)
 
 /// What is nested too deep: one error, and all tokens up to where the list ends that they stand in.
 fn too_deep(p: &mut Parser<'_>)
-    ensures { AddsSome p.old p.new }
+    ensures adds { AddsSome p.old p.new }
+    ensures spends { Spends 12 3 p.old p.new }
 {
     let node = p.start();
     p.error("nested too deep");
@@ -89,6 +91,7 @@ fn operation(left: CompletedMarker, p: &mut Parser<'_>, depth: u32) -> Completed
     requires at_hand { HasNode p.old left }
     requires some { kind_at p.old 0 ≢ EOF }
     ensures adds { (begun : State) → AddsSomeNode left begun p.old → AddsSomeNode result begun p.new }
+    ensures spends { Spends 12 0 p.old p.new }
     ensures eats { p.old.position < p.new.position }
 {
     let node = left.precede(p);
@@ -102,6 +105,7 @@ fn operation(left: CompletedMarker, p: &mut Parser<'_>, depth: u32) -> Completed
 fn operator(p: &mut Parser<'_>)
     requires { kind_at p.old 0 ≢ EOF }
     ensures adds { AddsSome p.old p.new }
+    ensures spends { Spends 3 0 p.old p.new }
     ensures eats { p.old.position < p.new.position }
 {
     let kind = match p.current() {
@@ -119,6 +123,7 @@ fn operator(p: &mut Parser<'_>)
 #[cycle(expressions)]
 fn operand(p: &mut Parser<'_>, depth: u32) -> CompletedMarker
     ensures adds { AddsSomeNode result p.old p.new }
+    ensures spends { Spends 12 3 p.old p.new }
 {
     match p.current() {
         SyntaxKind::IDENT => leaf(p, NAME_REF),
@@ -131,7 +136,8 @@ fn operand(p: &mut Parser<'_>, depth: u32) -> CompletedMarker
 
 fn leaf(p: &mut Parser<'_>, kind: SyntaxKind) -> CompletedMarker
     requires { kind ≢ TOMBSTONE }
-    ensures { AddsSomeNode result p.old p.new }
+    ensures adds { AddsSomeNode result p.old p.new }
+    ensures spends { Spends 12 2 p.old p.new }
 {
     let node = p.start();
     p.bump_any();
@@ -140,7 +146,8 @@ fn leaf(p: &mut Parser<'_>, kind: SyntaxKind) -> CompletedMarker
 
 /// The error that an operand is missing, and the token in its place unless the grammar goes on there.
 fn no_operand(p: &mut Parser<'_>) -> CompletedMarker
-    ensures { AddsSomeNode result p.old p.new }
+    ensures adds { AddsSomeNode result p.old p.new }
+    ensures spends { Spends 12 3 p.old p.new }
 {
     let node = p.start();
     p.error("expected an expression");
@@ -152,7 +159,9 @@ fn no_operand(p: &mut Parser<'_>) -> CompletedMarker
 
 #[cycle(expressions)]
 fn negation(p: &mut Parser<'_>, depth: u32) -> CompletedMarker
+    requires { kind_at p.old 0 ≢ EOF }
     ensures adds { AddsSomeNode result p.old p.new }
+    ensures spends { Spends 12 0 p.old p.new }
 {
     let node = p.start();
     p.bump_any();
@@ -162,7 +171,9 @@ fn negation(p: &mut Parser<'_>, depth: u32) -> CompletedMarker
 
 #[cycle(expressions)]
 fn list(p: &mut Parser<'_>, depth: u32) -> CompletedMarker
+    requires { kind_at p.old 0 ≢ EOF }
     ensures adds { AddsSomeNode result p.old p.new }
+    ensures spends { Spends 12 0 p.old p.new }
 {
     let node = p.start();
     p.bump_any();
@@ -175,6 +186,7 @@ fn list(p: &mut Parser<'_>, depth: u32) -> CompletedMarker
 fn list_items(p: &mut Parser<'_>, depth: u32)
     requires { IsSound p.old }
     ensures adds { AddsSome p.old p.new }
+    ensures spends { Spends 12 3 p.old p.new }
 {
     if p.current() == SyntaxKind::R_PAREN {
         return;

@@ -6,7 +6,7 @@
 //! ```
 ghost use Rattle.std.specs.Prelude.{◌≢◌, ◌<◌};
 ghost use Rattle.squawk_kinds.specs.Kinds.{EOF};
-ghost use Rattle.squawk_parser.specs.SomeSteps.{AddsSome};
+ghost use Rattle.squawk_parser.specs.SomeSteps.{AddsSome, Spends};
 ghost use Rattle.squawk_parser.specs.State.{IsSound, kind_at};
 
 use crate::expressions::{ANY, DEPTH, expression};
@@ -26,6 +26,7 @@ const CLAUSES: TokenSet = token_set![WHERE_KW, SELECT_KW, SyntaxKind::SEMICOLON]
 pub fn statement(p: &mut Parser<'_>)
     requires { kind_at p.old 0 ≢ EOF }
     ensures adds { AddsSome p.old p.new }
+    ensures spends { Spends 12 0 p.old p.new }
     ensures eats { p.old.position < p.new.position }
 {
     if p.at_ts(STARTS) {
@@ -38,6 +39,7 @@ pub fn statement(p: &mut Parser<'_>)
 fn select(p: &mut Parser<'_>)
     requires { kind_at p.old 0 ≢ EOF }
     ensures adds { AddsSome p.old p.new }
+    ensures spends { Spends 12 0 p.old p.new }
     ensures eats { p.old.position < p.new.position }
 {
     let node = p.start();
@@ -50,7 +52,8 @@ fn select(p: &mut Parser<'_>)
 }
 
 fn items(p: &mut Parser<'_>)
-    ensures { AddsSome p.old p.new }
+    ensures adds { AddsSome p.old p.new }
+    ensures spends { Spends 12 5 p.old p.new }
 {
     p.eat(SyntaxKind::DISTINCT_KW);
     item(p);
@@ -61,7 +64,8 @@ fn items(p: &mut Parser<'_>)
 }
 
 fn item(p: &mut Parser<'_>)
-    ensures { AddsSome p.old p.new }
+    ensures adds { AddsSome p.old p.new }
+    ensures spends { Spends 12 5 p.old p.new }
 {
     let node = p.start();
     expression(p, ANY, DEPTH);
@@ -72,7 +76,8 @@ fn item(p: &mut Parser<'_>)
 }
 
 fn name(p: &mut Parser<'_>)
-    ensures { AddsSome p.old p.new }
+    ensures adds { AddsSome p.old p.new }
+    ensures spends { Spends 12 3 p.old p.new }
 {
     let node = p.start();
     p.expect(SyntaxKind::IDENT);
@@ -81,7 +86,8 @@ fn name(p: &mut Parser<'_>)
 
 /// A table. Where its word is missing, what stands before the next clause is skipped.
 fn from_clause(p: &mut Parser<'_>)
-    ensures { AddsSome p.old p.new }
+    ensures adds { AddsSome p.old p.new }
+    ensures spends { Spends 12 3 p.old p.new }
 {
     let node = p.start();
     if p.expect(SyntaxKind::FROM_KW) {
@@ -94,7 +100,8 @@ fn from_clause(p: &mut Parser<'_>)
 
 fn where_clause(p: &mut Parser<'_>)
     requires { IsSound p.old }
-    ensures { AddsSome p.old p.new }
+    ensures adds { AddsSome p.old p.new }
+    ensures spends { Spends 12 0 p.old p.new }
 {
     if p.current() == WHERE_KW {
         let node = p.start();
@@ -106,7 +113,8 @@ fn where_clause(p: &mut Parser<'_>)
 
 /// The end of a statement, behind what doesn't belong before it.
 fn end(p: &mut Parser<'_>)
-    ensures { AddsSome p.old p.new }
+    ensures adds { AddsSome p.old p.new }
+    ensures spends { Spends 12 1 p.old p.new }
 {
     p.skip_to(ENDS, "expected the end of the statement");
     p.expect(SyntaxKind::SEMICOLON);

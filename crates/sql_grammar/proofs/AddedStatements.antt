@@ -1,7 +1,10 @@
 -- The nodes of a file's statements are added, one behind another.
-use Rattle.std.proofs.Common.{◌≡◌, ◌≢◌, ◌∙◌, ℕ, zero, suc, ◌+◌, ◌-◌, ◌<◌, ◌≤◌, ◌==◌, Bool, true, false, Option, Some, None, List, [], ◌∷◌, ◌++◌, drop, take, length, if◌then◌else◌, arith, ap, sym, refl, subst, append_assoc, length-drop}
+use Rattle.std.proofs.Common.{◌≡◌, ◌≢◌, ◌∙◌, ℕ, zero, suc, ◌+◌, ◌-◌, ◌<◌, ◌≤◌, Bool, true, false, Option, Some, None, List, [], ◌∷◌, ◌++◌, drop, take, length, if◌then◌else◌, arith, ap, sym, refl, subst, append_assoc, length-drop}
 use Rattle.std.proofs.lemmas.List.{append-nil, length-map, length-take}
-use Rattle.squawk_kinds.specs.Kinds.{EOF, PSQL_COMMAND_TEXT}
+use Rattle.squawk_kinds.specs.Kinds.{EOF}
+use Rattle.sql_lexer.specs.Statements.{after, ends_with}
+use Rattle.sql_lexer.specs.declared.statements.Statement as begun
+use Rattle.sql_lexer.specs.declared.statements.Statement.TheVariants.{Start}
 use Rattle.squawk_output.specs.Draft.{Mark, plain}
 use Rattle.squawk_output.specs.OneRoot.{IsBalanced}
 use Rattle.squawk_output.specs.Steps.{Step, Token}
@@ -9,7 +12,7 @@ use Rattle.squawk_table.specs.ParserInput.{kinds_in}
 use Rattle.squawk_parser.specs.Composed.{Adds}
 use Rattle.squawk_parser.specs.Eaten.{node}
 use Rattle.squawk_parser.specs.Recorded.{Begins, Completes}
-use Rattle.squawk_parser.specs.SomeSteps.{AddsSome}
+use Rattle.squawk_parser.specs.SomeSteps.{AddsSome, Spends}
 use Rattle.squawk_parser.specs.State.{State, HasNotFailed, IsFresh, IsSound, Keeps, ahead, kind_at, limited, with_limit_of}
 use Rattle.squawk_parser.specs.declared.parser.parse_error.ParseError.{ParseError}
 use Rattle.squawk_parser.proofs.AddedSteps.{Adds-node, Adds-puts, Adds-then, node_around, plain-fresh}
@@ -22,8 +25,8 @@ use Rattle.squawk_parser.proofs.SeenSteps.{ahead-fresh}
 use Rattle.squawk_parser.proofs.SomeSteps.{adds_some, none_some, some_adds, whole_some}
 use Rattle.sql_grammar.specs.Files.{AddsRest, AddsStatement, AreNodesOf, IsFile}
 use Rattle.sql_grammar.specs.Kinds.{SOURCE_FILE}
-use Rattle.sql_grammar.specs.Statements.{Statement, body_of, ends_at, first, first_statement, kind_of, len_behind, len_of, open_behind, statements_behind, statements_of}
-use Rattle.sql_grammar.specs.declared.cut.Body.{Body}
+use Rattle.sql_grammar.specs.Statements.{Statement, first_statement, kind_of, len_from, len_of, statements_behind, statements_of}
+use Rattle.sql_grammar.specs.Words.{word_of}
 
 -- ---- how many tokens are seen
 
@@ -45,37 +48,20 @@ at_limit s sound end =
 
 -- ---- how many tokens a statement has
 
-len_behind-within : (body : Body) (unclosed : ℕ) (kinds : List ℕ) → len_behind body unclosed kinds ≤ length kinds
-len_behind-within body unclosed [] = omega arith
-len_behind-within body unclosed (kind ∷ kinds) =
-    let more = len_behind-within body (open_behind body unclosed kind (first kinds)) kinds in
-    cases (ends_at unclosed kind) more
+len_from-within : (statement : begun.Statement) (kinds : List ℕ) → len_from statement kinds ≤ length kinds
+len_from-within statement [] = omega arith
+len_from-within statement (kind ∷ kinds) = cases (ends_with statement (word_of kind)) (len_from-within (after statement (word_of kind)) kinds)
   where
     cases : (b : Bool) {n : ℕ} → n ≤ length kinds → (if b then 1 else 1 + n) ≤ length (kind ∷ kinds)
     cases true le = omega arith
     cases false le = omega arith
 
-len_behind-some : (body : Body) (unclosed kind : ℕ) (kinds : List ℕ) → 0 < len_behind body unclosed (kind ∷ kinds)
-len_behind-some body unclosed kind kinds = cases (ends_at unclosed kind) (len_behind body (open_behind body unclosed kind (first kinds)) kinds)
+len_from-some : (statement : begun.Statement) (kind : ℕ) (kinds : List ℕ) → 0 < len_from statement (kind ∷ kinds)
+len_from-some statement kind kinds = cases (ends_with statement (word_of kind)) (len_from (after statement (word_of kind)) kinds)
   where
     cases : (b : Bool) (n : ℕ) → 0 < (if b then 1 else 1 + n)
     cases true n = omega arith
     cases false n = omega arith
-
-module _ (body : Body) (kind : ℕ) (kinds : List ℕ) where
-  len_of-within : len_of body (kind ∷ kinds) ≤ length (kind ∷ kinds)
-  len_of-within = cases (kind == PSQL_COMMAND_TEXT) (len_behind-within body 0 (kind ∷ kinds))
-    where
-      cases : (b : Bool) {n : ℕ} → n ≤ length (kind ∷ kinds) → (if b then 1 else n) ≤ length (kind ∷ kinds)
-      cases true le = omega arith
-      cases false le = le
-
-  len_of-some : 0 < len_of body (kind ∷ kinds)
-  len_of-some = cases (kind == PSQL_COMMAND_TEXT) (len_behind-some body 0 kind kinds)
-    where
-      cases : (b : Bool) {n : ℕ} → 0 < n → 0 < (if b then 1 else n)
-      cases true lt = omega arith
-      cases false lt = lt
 
 -- ---- the statements behind the first
 
@@ -84,9 +70,9 @@ statements-drop zero kinds = refl
 statements-drop (suc n) [] = refl
 statements-drop (suc n) (kind ∷ kinds) = statements-drop n kinds
 
-statements-first : (kind : ℕ) (kinds : List ℕ)
+pub statements-first : (kind : ℕ) (kinds : List ℕ)
     → statements_of (kind ∷ kinds) ≡ first_statement (kind ∷ kinds) ∷ statements_of (drop (first_statement (kind ∷ kinds)).len (kind ∷ kinds))
-statements-first kind kinds = ap (λ ss. first_statement (kind ∷ kinds) ∷ ss) (others (first_statement (kind ∷ kinds)).len (len_of-some (body_of (kind ∷ kinds)) kind kinds))
+statements-first kind kinds = ap (λ ss. first_statement (kind ∷ kinds) ∷ ss) (others (first_statement (kind ∷ kinds)).len (len_from-some Start kind kinds))
   where
     others : (len : ℕ) → 0 < len → statements_behind (len - 1) kinds ≡ statements_of (drop len (kind ∷ kinds))
     others zero lt = absurd (omega arith)
@@ -120,10 +106,10 @@ some_balanced {a} {b} sound p = cases b.first_reason refl
           balanced = IsBalanced-depth_after (Token 0 (b.position - a.position) ∷ []) refl;
         }
 
-pub rest_added : {a b : State} → IsSound a → AddsSome a b → kind_at b 0 ≡ EOF → AddsRest a b
-rest_added {a} {b} sound some end =
+pub rest_added : {a b : State} → IsSound a → AddsSome a b → kind_at b 0 ≡ EOF → Spends 6 0 a b → AddsRest a b
+rest_added {a} {b} sound some end spends =
     let added = some_balanced sound some in
-    record { steps = added.steps; adds = added.adds; balanced = added.balanced; end = at_limit b some.some.keeps.sound end }
+    record { steps = added.steps; adds = added.adds; balanced = added.balanced; end = at_limit b some.some.keeps.sound end; spends = spends }
 
 -- what is added under a limit is added
 pub inner_added : {b c : State} (n : ℕ) → Keeps b c → (rest : AddsRest (limited b n) (with_limit_of c (limited b n))) → Adds rest.steps b c
@@ -137,7 +123,7 @@ pub first_within : (s : State) → kind_at s 0 ≢ EOF → (first_statement (kin
 first_within s some =
     let kind = kind_at s 0 in
     let kinds = drop 1 (kinds_in (ahead s 0)) in
-    subst (λ kinds. (first_statement kinds).len ≤ length kinds) (sym (kinds_some s some)) (len_of-within (body_of (kind ∷ kinds)) kind kinds)
+    subst (λ kinds. (first_statement kinds).len ≤ length kinds) (sym (kinds_some s some)) (len_from-within Start (kind ∷ kinds))
 
 -- Under a limit of its tokens all of them are added, in its node.
 pub first_added : {a b c d : State} {m : Mark} (statement : Statement) → statement ≡ first_statement (kinds_in (ahead a 0)) → kind_at a 0 ≢ EOF → Begins m a b → Keeps b c
@@ -156,10 +142,8 @@ first_added {a} {b} {c} {d} statement is some begins keeps rest completes =
       len = omega (arith, seen, within, position, limit, eats, end);
     })
 
-pub is_first : (kinds : List ℕ) {kind len : ℕ} {body : Body} → kind ≡ kind_of kinds → body ≡ body_of kinds → len ≡ len_of body kinds → statement_with kind len ≡ first_statement kinds
-is_first kinds {kind} {len} kind_is body_is len_is =
-    let same : len ≡ len_of (body_of kinds) kinds = len_is ∙ ap (λ body. len_of body kinds) body_is in
-    ap (λ k. statement_with k len) kind_is ∙ ap (statement_with (kind_of kinds)) same
+pub is_first : (kinds : List ℕ) {kind len : ℕ} → kind ≡ kind_of kinds → len ≡ len_of kinds → statement_with kind len ≡ first_statement kinds
+is_first kinds {kind} {len} kind_is len_is = ap (λ k. statement_with k len) kind_is ∙ ap (statement_with (kind_of kinds)) len_is
 
 -- and its node eats
 pub statement_eats : {a b : State} → kind_at a 0 ≢ EOF → AddsStatement (first_statement (kinds_in (ahead a 0))) a b → a.position < b.position
@@ -170,7 +154,7 @@ statement_eats {a} {b} some added =
     let kind = kind_at a 0 in
     let kinds = drop 1 (kinds_in (ahead a 0)) in
     let there : 0 < (first_statement (kinds_in (ahead a 0))).len =
-    subst (λ kinds. 0 < (first_statement kinds).len) (sym (kinds_some a some)) (len_of-some (body_of (kind ∷ kinds)) kind kinds) in
+    subst (λ kinds. 0 < (first_statement kinds).len) (sym (kinds_some a some)) (len_from-some Start kind kinds) in
     omega (arith, eats, inner, len, there)
 
 -- ---- the statements of a file

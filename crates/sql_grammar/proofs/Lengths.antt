@@ -1,31 +1,86 @@
 -- How long a statement is, token by token.
-use Rattle.std.proofs.Common.{◌≡◌, ◌≢◌, ◌∙◌, ℕ, ◌+◌, true, false, drop, ap, sym, arith}
-use Rattle.squawk_kinds.specs.Kinds.{EOF}
+use Rattle.std.proofs.Common.{◌≡◌, ◌≢◌, ◌∙◌, ℕ, ◌+◌, ◌==◌, ◌||◌, true, false, Bool, List, [], ◌∷◌, drop, ap, sym, refl, arith, subst}
+use Rattle.std.specs.Prelude.{not}
+use Rattle.std.specs.List.{list_all}
+use Rattle.std.proofs.lemmas.Bool.{and_parts, cond_both, eqb-true, false≢true}
+use Rattle.squawk_kinds.specs.Kinds.{EOF, PSQL_TERMINATOR_TEXT, SEMICOLON}
 use Rattle.squawk_table.specs.ParserInput.{kinds_in}
 use Rattle.squawk_parser.specs.State.{State, IsSound, ahead, kind_at}
 use Rattle.squawk_parser.proofs.SeenSteps.{if-false, if-true}
-use Rattle.sql_grammar.specs.Statements.{ends_at, first, len_behind, open_behind}
-use Rattle.sql_grammar.specs.declared.cut.Body.{Body}
-use Rattle.sql_grammar.proofs.Looks.{kind_nth, kinds_end, kinds_split}
+use Rattle.sql_lexer.specs.Statements.{after, ends_with}
+use Rattle.sql_lexer.specs.declared.statements.Statement.{Statement}
+use Rattle.sql_lexer.specs.declared.statements.Statement.TheVariants.{Plain}
+use Rattle.sql_lexer.specs.declared.statements.Word.{Word}
+use Rattle.sql_lexer.specs.declared.statements.Word.TheVariants.{QueryEnd, Semicolon}
+use Rattle.sql_grammar.specs.Statements.{len_from}
+use Rattle.sql_grammar.specs.Words.{word_in, word_of, words}
+use Rattle.sql_grammar.proofs.Looks.{kinds_end, kinds_split}
 
-module _ (s : State) (body : Body) (unclosed n : ℕ) {total : ℕ} (so_far : n + len_behind body unclosed (drop n (kinds_in (ahead s 0))) ≡ total) where
-  pub len_next : {kind next more : ℕ} → kind_at s n ≢ EOF → kind ≡ kind_at s n → next ≡ kind_at s (n + 1) → ends_at unclosed kind ≡ false
-      → more ≡ open_behind body unclosed kind next → n + 1 + len_behind body more (drop (n + 1) (kinds_in (ahead s 0))) ≡ total
-  len_next {kind} {next} {more} some is is_next going is_more =
+module _ (s : State) (statement : Statement) (n : ℕ) {total : ℕ} (so_far : n + len_from statement (drop n (kinds_in (ahead s 0))) ≡ total) where
+  pub len_next : {word : Word} {next : Statement} → kind_at s n ≢ EOF → word ≡ word_of (kind_at s n) → ends_with statement word ≡ false
+      → next ≡ after statement word → n + 1 + len_from next (drop (n + 1) (kinds_in (ahead s 0))) ≡ total
+  len_next {word} {next} some is going is_next =
       let others = drop (n + 1) (kinds_in (ahead s 0)) in
-      let going_there : ends_at unclosed (kind_at s n) ≡ false = ap (ends_at unclosed) (sym is) ∙ going in
-      let same : more ≡ open_behind body unclosed (kind_at s n) (first others) =
-      is_more ∙ (ap (λ k. open_behind body unclosed k next) is ∙ ap (open_behind body unclosed (kind_at s n)) (is_next ∙ kind_nth s (n + 1))) in
-      let step : len_behind body unclosed (drop n (kinds_in (ahead s 0))) ≡ 1 + len_behind body more others =
-      ap (len_behind body unclosed) (kinds_split s n some) ∙ (if-false _ _ _ going_there ∙ ap (λ m. 1 + len_behind body m others) (sym same)) in
+      let going_there : ends_with statement (word_of (kind_at s n)) ≡ false = ap (ends_with statement) (sym is) ∙ going in
+      let same : next ≡ after statement (word_of (kind_at s n)) = is_next ∙ ap (after statement) is in
+      let step : len_from statement (drop n (kinds_in (ahead s 0))) ≡ 1 + len_from next others =
+      ap (len_from statement) (kinds_split s n some) ∙ (if-false _ _ _ going_there ∙ ap (λ m. 1 + len_from m others) (sym same)) in
       omega (arith, step, so_far)
 
-  pub len_end : {kind : ℕ} → kind_at s n ≢ EOF → kind ≡ kind_at s n → ends_at unclosed kind ≡ true → n + 1 ≡ total
+  pub len_end : {word : Word} → kind_at s n ≢ EOF → word ≡ word_of (kind_at s n) → ends_with statement word ≡ true → n + 1 ≡ total
   len_end some is end =
-      let step : len_behind body unclosed (drop n (kinds_in (ahead s 0))) ≡ 1 = ap (len_behind body unclosed) (kinds_split s n some) ∙ if-true _ _ _ (ap (ends_at unclosed) (sym is) ∙ end) in
+      let step : len_from statement (drop n (kinds_in (ahead s 0))) ≡ 1 = ap (len_from statement) (kinds_split s n some) ∙ if-true _ _ _ (ap (ends_with statement) (sym is) ∙ end) in
       omega (arith, step, so_far)
 
   pub len_all : IsSound s → kind_at s n ≡ EOF → n ≡ total
   len_all sound end =
-      let step : len_behind body unclosed (drop n (kinds_in (ahead s 0))) ≡ 0 = ap (len_behind body unclosed) (kinds_end s n sound end) in
+      let step : len_from statement (drop n (kinds_in (ahead s 0))) ≡ 0 = ap (len_from statement) (kinds_end s n sound end) in
       omega (arith, step, so_far)
+
+  -- where it is plain from there on
+  pub len_plain : {word : Word} {next : Statement} {len : ℕ} → kind_at s n ≢ EOF → word ≡ word_of (kind_at s n) → ends_with statement word ≡ false
+      → next ≡ after statement word → next ≡ Plain → len ≡ n + 1 + len_from Plain (drop (n + 1) (kinds_in (ahead s 0))) → len ≡ total
+  len_plain some is going is_next plain len_is =
+      len_is ∙ (sym (ap (λ m. n + 1 + len_from m (drop (n + 1) (kinds_in (ahead s 0)))) plain) ∙ len_next some is going is_next)
+
+-- ---- a plain statement
+
+plain_row : ℕ × Word → Bool
+plain_row row = (row.0 == SEMICOLON) || (row.0 == PSQL_TERMINATOR_TEXT) || not (ends_with Plain row.1)
+
+-- another kind doesn't end it
+others-go : (rows : List (ℕ × Word)) (kind : ℕ) → list_all plain_row rows ≡ true → (kind == SEMICOLON) ≡ false → (kind == PSQL_TERMINATOR_TEXT) ≡ false
+    → ends_with Plain (word_in rows kind) ≡ false
+unfolding plain_row
+others-go [] kind plain first second = refl
+others-go (row ∷ rows) kind plain first second =
+    let parts = and_parts (plain_row row) (list_all plain_row rows) plain in
+    cond_both (kind == row.0) row.1 (word_in rows kind) (λ word. ends_with Plain word ≡ false)
+    (λ e.
+    let same : kind ≡ row.0 = eqb-true kind row.0 e in
+    other (row.0 == SEMICOLON) (row.0 == PSQL_TERMINATOR_TEXT) (ends_with Plain row.1) (subst (λ k. (k == SEMICOLON) ≡ false) same first) (subst (λ k. (k == PSQL_TERMINATOR_TEXT) ≡ false) same second) parts.0)
+    (λ e. others-go rows kind parts.1 first second)
+  where
+    other : (a b ends : Bool) → a ≡ false → b ≡ false → (a || b || not ends) ≡ true → ends ≡ false
+    other false false false e f g = refl
+    other false false true e f g = absurd (false≢true g)
+    other true b ends e f g = absurd (false≢true (sym e))
+    other false true ends e f g = absurd (false≢true (sym f))
+
+pub plain_ends : (kind : ℕ) → ((kind == SEMICOLON) || (kind == PSQL_TERMINATOR_TEXT)) ≡ ends_with Plain (word_of kind)
+unfolding plain_row
+plain_ends kind = semicolon (kind == SEMICOLON) refl
+  where
+    semicolon : (b : Bool) → (kind == SEMICOLON) ≡ b → (b || (kind == PSQL_TERMINATOR_TEXT)) ≡ ends_with Plain (word_of kind)
+    semicolon true e = ap (λ k. ends_with Plain (word_of k)) (sym (eqb-true kind SEMICOLON e))
+    semicolon false e = terminator (kind == PSQL_TERMINATOR_TEXT) refl
+      where
+        terminator : (c : Bool) → (kind == PSQL_TERMINATOR_TEXT) ≡ c → c ≡ ends_with Plain (word_of kind)
+        terminator true f = ap (λ k. ends_with Plain (word_of k)) (sym (eqb-true kind PSQL_TERMINATOR_TEXT f))
+        terminator false f = sym (others-go words kind refl e f)
+
+-- a word that doesn't end it changes nothing
+pub plain_stays : (word : Word) → ends_with Plain word ≡ false → Plain ≡ after Plain word
+plain_stays QueryEnd e = absurd (false≢true (sym e))
+plain_stays Semicolon e = absurd (false≢true (sym e))
+plain_stays word e = refl

@@ -1,15 +1,18 @@
 -- The kinds of statements.
-use Rattle.std.proofs.Common.{◌≡◌, ◌≢◌, ◌∙◌, ℕ, ◌+◌, ◌<◌, ◌==◌, true, false, List, [], ◌∷◌, drop, get_or, length, add-one, ap, sym, refl, arith}
+use Rattle.std.proofs.Common.{◌≡◌, ◌≢◌, ◌∙◌, ℕ, ◌+◌, ◌<◌, ◌==◌, Bool, true, false, not, List, [], ◌∷◌, drop, get_or, if◌then◌else◌, length, add-one, ap, sym, refl, arith}
 use Rattle.std.proofs.Math.Seq.{drop-cons}
 use Rattle.std.proofs.lemmas.List.{drop-drop}
 use Rattle.std.proofs.lemmas.Bool.{ne_eqb}
-use Rattle.squawk_kinds.specs.Kinds.{L_PAREN}
+use Rattle.std.specs.List.{list_all}
+use Rattle.squawk_kinds.specs.Kinds.{L_PAREN, TOMBSTONE}
 use Rattle.squawk_table.specs.ParserInput.{kinds_in}
 use Rattle.squawk_parser.specs.State.{State, ahead, kind_at}
-use Rattle.squawk_parser.proofs.SeenSteps.{if-false, if-true}
+use Rattle.squawk_parser.proofs.SeenSteps.{and-left, and-right, if-false, if-true}
+use Rattle.sql_words.specs.SqlKinds as words
+use Rattle.sql_words.specs.SqlKinds.{node_names}
 use Rattle.sql_grammar.specs.Kinds.{PSQL_COMMAND}
+use Rattle.sql_grammar.specs.StatementKinds.{statement_kinds}
 use Rattle.sql_grammar.specs.Statements.{first, first_word, is_psql, kind_for, kind_of, nth}
-use Rattle.sql_grammar.specs.declared.statement_kinds.TheConstants.{STATEMENTS}
 use Rattle.sql_grammar.proofs.Looks.{kind_nth}
 
 -- ---- the first word
@@ -43,6 +46,25 @@ module _ (word : ℕ) (rows : List (ℕ × ℕ)) (i : ℕ) (lt : i < length rows
       let same : ((get_or rows i (0, 0)).0 == word) ≡ true = grind (arith, is) in
       ap (kind_for word) (drop-cons rows i (0, 0) lt) ∙ if-true _ _ _ same
 
+-- ---- nodes
+
+is_node : ℕ → Bool
+is_node kind = not (kind == TOMBSTONE)
+
+kind_for-node : (word : ℕ) (rows : List (ℕ × ℕ)) → list_all (λ row. is_node row.1) rows ≡ true → kind_for word rows ≢ TOMBSTONE
+unfolding is_node
+kind_for-node word [] all = λ e. absurd (cc)
+kind_for-node word (row ∷ rows) all = cases (row.0 == word) (kind_for-node word rows (and-right (is_node row.1) _ all))
+  where
+    cases : (b : Bool) → kind_for word rows ≢ TOMBSTONE → (if b then row.1 else kind_for word rows) ≢ TOMBSTONE
+    cases true others e = absurd (let here = sym (and-left (is_node row.1) _ all) ∙ ap (λ kind. not (kind == TOMBSTONE)) e in cc)
+    cases false others e = others e
+
+-- each statement is a node
+pub statements_are_nodes : (word : ℕ) → kind_for word statement_kinds ≢ TOMBSTONE
+unfolding is_node statement_kinds words.table node_names
+statements_are_nodes word = kind_for-node word statement_kinds refl
+
 -- ---- the kind
 
 module _ (kinds : List ℕ) where
@@ -50,6 +72,6 @@ module _ (kinds : List ℕ) where
   unfolding kind_of
   kind_of-psql is = if-true _ _ _ is
 
-  pub kind_of-word : is_psql (nth kinds 0) ≡ false → kind_of kinds ≡ kind_for (first_word kinds) STATEMENTS
+  pub kind_of-word : is_psql (nth kinds 0) ≡ false → kind_of kinds ≡ kind_for (first_word kinds) statement_kinds
   unfolding kind_of
   kind_of-word other = if-false _ _ _ other

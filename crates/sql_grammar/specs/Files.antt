@@ -6,6 +6,7 @@ use Rattle.squawk_output.specs.Steps.{Step, eaten}
 use Rattle.squawk_table.specs.ParserInput.{Entry, kinds_in}
 use Rattle.squawk_parser.specs.Composed.{Adds}
 use Rattle.squawk_parser.specs.Eaten.{node}
+use Rattle.squawk_parser.specs.SomeSteps.{Spends}
 use Rattle.squawk_parser.specs.State.{State}
 use Rattle.squawk_parser.specs.Whole.{IsWholeFile}
 use Rattle.sql_grammar.specs.Kinds.{SOURCE_FILE}
@@ -34,12 +35,13 @@ pub record IsFile (input : List Entry) (draft : Draft) : Type 0 where
 
 -- ---- parts of it
 
--- some steps are added up to the limit
+-- some steps are added up to the limit, of at most six for each token
 pub record AddsRest (old new : State) : Type 0 where
   pub steps : List Step
   pub adds : Adds steps old new
   pub balanced : IsBalanced steps
   pub end : new.position ≡ new.limit
+  pub spends : Spends 6 0 old new
 
 -- the node of a statement is added
 pub record AddsStatement (statement : Statement) (old new : State) : Type 0 where

@@ -14,6 +14,9 @@ operator_set = words_of operator_kinds
 
 -- ---- words
 
+abbrev pub AS_KW : ℕ
+AS_KW = 216
+
 abbrev pub ATOMIC_KW : ℕ
 ATOMIC_KW = 222
 
@@ -22,6 +25,9 @@ BEGIN_KW = 228
 
 abbrev pub CASE_KW : ℕ
 CASE_KW = 242
+
+abbrev pub COPY_KW : ℕ
+COPY_KW = 273
 
 abbrev pub CREATE_KW : ℕ
 CREATE_KW = 275
@@ -43,6 +49,12 @@ REPLACE_KW = 506
 
 abbrev pub RULE_KW : ℕ
 RULE_KW = 523
+
+abbrev pub STDIN_KW : ℕ
+STDIN_KW = 554
+
+abbrev pub STDOUT_KW : ℕ
+STDOUT_KW = 555
 
 -- ---- nodes
 

@@ -1,4 +1,8 @@
 pub mod Files
 pub mod Kinds
 pub mod Parses
+pub mod Spent
+pub mod StatementKinds
 pub mod Statements
+pub mod Words
+pub mod Scripts

@@ -1,6 +1,6 @@
 //! Where queries and their clauses begin.
-ghost use Rattle.std.specs.Prelude.{◌≢◌, IfSome};
-ghost use Rattle.squawk_kinds.specs.Kinds.{TOMBSTONE};
+ghost use Rattle.std.specs.Prelude.{◌≡◌, ◌≢◌, IfSome, true};
+ghost use Rattle.squawk_kinds.specs.Kinds.{EOF, TOMBSTONE};
 
 use sql_words::SqlKind;
 use squawk_parser::{Parser, SyntaxKind, TokenSet, token_set};
@@ -16,6 +16,52 @@ pub(crate) const QUERY_WORDS: TokenSet = token_set![
     SqlKind::DELETE_KW,
     SqlKind::MERGE_KW,
 ];
+
+/// Whether a token of the kind is a word that begins or ends something, where it is no name.
+pub(crate) fn is_word(kind: SyntaxKind) -> bool
+    ensures { result ≡ true → kind ≢ EOF }
+{
+    matches!(
+        kind,
+        SqlKind::CASE_KW
+            | SqlKind::END_KW
+            | SqlKind::BEGIN_KW
+            | SqlKind::ATOMIC_KW
+            | SqlKind::AS_KW
+            | SqlKind::SELECT_KW
+            | SqlKind::INTO_KW
+            | SqlKind::FROM_KW
+            | SqlKind::WHERE_KW
+            | SqlKind::GROUP_KW
+            | SqlKind::HAVING_KW
+            | SqlKind::WINDOW_KW
+            | SqlKind::ORDER_KW
+            | SqlKind::LIMIT_KW
+            | SqlKind::OFFSET_KW
+            | SqlKind::FETCH_KW
+            | SqlKind::FOR_KW
+            | SqlKind::VALUES_KW
+            | SqlKind::SET_KW
+            | SqlKind::USING_KW
+            | SqlKind::WHEN_KW
+            | SqlKind::ON_KW
+            | SqlKind::RETURNING_KW
+            | SqlKind::UNION_KW
+            | SqlKind::INTERSECT_KW
+            | SqlKind::EXCEPT_KW
+            | SqlKind::WITH_KW
+            | SqlKind::TABLE_KW
+            | SqlKind::INSERT_KW
+            | SqlKind::UPDATE_KW
+            | SqlKind::DELETE_KW
+            | SqlKind::MERGE_KW
+            | SqlKind::IS_KW
+            | SqlKind::NOT_KW
+            | SqlKind::AT_KW
+            | SqlKind::SIMILAR_KW
+            | SqlKind::OPERATOR_KW
+    )
+}
 
 /// How many parentheses may stand before the first word of a query in brackets.
 const MOST_PARENS: usize = 8;

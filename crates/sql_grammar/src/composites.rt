@@ -3,7 +3,7 @@ ghost use Rattle.std.specs.Prelude.{◌≡◌, ◌≢◌, ◌<◌, true};
 ghost use Rattle.squawk_kinds.specs.Kinds.{EOF};
 ghost use Rattle.squawk_parser.specs.Composites.{NoTail};
 ghost use Rattle.squawk_parser.specs.Eaten.{tail_of_kind};
-ghost use Rattle.squawk_parser.specs.SomeSteps.{AddsSome};
+ghost use Rattle.squawk_parser.specs.SomeSteps.{AddsSome, Spends};
 ghost use Rattle.squawk_parser.specs.State.{kind_at};
 
 use crate::phrases::{at_phrase, is_phrase, not_phrase, operator_call};
@@ -64,6 +64,7 @@ pub(crate) fn is_plain(kind: SyntaxKind) -> bool
 pub(crate) fn token(p: &mut Parser<'_>)
     requires { kind_at p.old 0 ≢ EOF }
     ensures adds { AddsSome p.old p.new }
+    ensures spends { Spends 3 1 p.old p.new }
     ensures eats { p.old.position < p.new.position }
 {
     match p.current() {
@@ -84,6 +85,7 @@ fn eat_or_bump(p: &mut Parser<'_>, kind: SyntaxKind)
     requires end { kind ≢ EOF }
     requires tail { tail_of_kind kind ≡ NoTail }
     ensures adds { AddsSome p.old p.new }
+    ensures spends { Spends 3 1 p.old p.new }
     ensures eats { p.old.position < p.new.position }
 {
     if !p.eat(kind) {
@@ -96,6 +98,7 @@ fn eat_or_bump(p: &mut Parser<'_>, kind: SyntaxKind)
 fn operator(p: &mut Parser<'_>)
     requires { kind_at p.old 0 ≢ EOF }
     ensures adds { AddsSome p.old p.new }
+    ensures spends { Spends 3 1 p.old p.new }
     ensures eats { p.old.position < p.new.position }
 {
     if p.at_ts(PLAIN_OPERATORS) && p.next_not_joined_op() {

@@ -1,12 +1,12 @@
 //! What stands in a statement: clauses, groups, blocks, and tokens by themselves.
 ghost use Rattle.std.specs.Prelude.{◌≡◌, ◌≢◌, ◌<◌, true};
 ghost use Rattle.squawk_kinds.specs.Kinds.{EOF, TOMBSTONE};
-ghost use Rattle.squawk_parser.specs.SomeSteps.{AddsSome};
+ghost use Rattle.squawk_parser.specs.SomeSteps.{AddsSome, Spends};
 ghost use Rattle.squawk_parser.specs.State.{IsSound, kind_at};
+ghost use Rattle.sql_grammar.specs.Spent.{LeavesTwo};
 
-use crate::clauses::{QUERY_WORDS, Query, clause_kind, query_at, query_in};
+use crate::clauses::{QUERY_WORDS, Query, clause_kind, is_word, query_at, query_in};
 use crate::composites::{is_plain, token};
-use crate::cut::Body;
 use crate::inside::{Inside, Pair};
 use crate::statement_kinds::kind_of;
 use sql_words::SqlKind;
@@ -20,6 +20,7 @@ pub(crate) const DEPTH: u32 = 500;
 pub(crate) fn content(p: &mut Parser<'_>, query: Query, inside: Inside, depth: u32)
     requires { IsSound p.old }
     ensures adds { AddsSome p.old p.new }
+    ensures spends { Spends 6 0 p.old p.new }
 {
     let mut query = query;
     while !inside.ends_at(p.current()) {
@@ -32,6 +33,7 @@ pub(crate) fn content(p: &mut Parser<'_>, query: Query, inside: Inside, depth: u
 fn piece(p: &mut Parser<'_>, query: Query, inside: Inside, depth: u32) -> Query
     requires { kind_at p.old 0 ≢ EOF }
     ensures adds { AddsSome p.old p.new }
+    ensures spends { LeavesTwo p.old p.new }
     ensures eats { p.old.position < p.new.position }
 {
     match query {
@@ -52,10 +54,19 @@ fn piece(p: &mut Parser<'_>, query: Query, inside: Inside, depth: u32) -> Query
 fn element_or_as(p: &mut Parser<'_>, inside: Inside, depth: u32) -> Query
     requires { kind_at p.old 0 ≢ EOF }
     ensures adds { AddsSome p.old p.new }
+    ensures spends { LeavesTwo p.old p.new }
     ensures eats { p.old.position < p.new.position }
 {
     match p.current() {
-        SqlKind::AS_KW | SqlKind::FOR_KW => {
+        SqlKind::FOR_KW => {
+            p.bump_any();
+            query_at(p, 0)
+        }
+        SqlKind::AS_KW if query_at(p, 1) == Query::Nowhere => {
+            with_name(p);
+            Query::Nowhere
+        }
+        SqlKind::AS_KW => {
             p.bump_any();
             query_at(p, 0)
         }
@@ -71,6 +82,7 @@ fn element_or_as(p: &mut Parser<'_>, inside: Inside, depth: u32) -> Query
 fn with_clause(p: &mut Parser<'_>, inside: Inside, depth: u32)
     requires { kind_at p.old 0 ≢ EOF }
     ensures adds { AddsSome p.old p.new }
+    ensures spends { LeavesTwo p.old p.new }
     ensures eats { p.old.position < p.new.position }
 {
     let node = p.start();
@@ -85,6 +97,7 @@ fn with_clause(p: &mut Parser<'_>, inside: Inside, depth: u32)
 fn clause_or_element(p: &mut Parser<'_>, inside: Inside, depth: u32)
     requires { kind_at p.old 0 ≢ EOF }
     ensures adds { AddsSome p.old p.new }
+    ensures spends { LeavesTwo p.old p.new }
     ensures eats { p.old.position < p.new.position }
 {
     match clause_kind(p) {
@@ -99,6 +112,7 @@ fn clause(p: &mut Parser<'_>, kind: SyntaxKind, inside: Inside, depth: u32)
     requires some { kind_at p.old 0 ≢ EOF }
     requires kind { kind ≢ TOMBSTONE }
     ensures adds { AddsSome p.old p.new }
+    ensures spends { LeavesTwo p.old p.new }
     ensures eats { p.old.position < p.new.position }
 {
     let node = p.start();
@@ -122,16 +136,18 @@ fn goes_on(p: &Parser<'_>, inside: Inside) -> bool
 fn element(p: &mut Parser<'_>, inside: Inside, depth: u32)
     requires { kind_at p.old 0 ≢ EOF }
     ensures adds { AddsSome p.old p.new }
+    ensures spends { LeavesTwo p.old p.new }
     ensures eats { p.old.position < p.new.position }
 {
     match p.current() {
         kind if is_plain(kind) => plain_tokens(p),
         SyntaxKind::L_PAREN | SyntaxKind::L_BRACK | SqlKind::CASE_KW => opening(p, inside, depth),
-        SqlKind::BEGIN_KW if inside.body == Body::Routine && p.nth(1) == SqlKind::ATOMIC_KW => {
+        SqlKind::BEGIN_KW if inside.may_begin_block() && p.nth(1) == SqlKind::ATOMIC_KW => {
             opening(p, inside, depth)
         }
-        SyntaxKind::R_PAREN => p.err_and_bump("closing parenthesis without an opening one"),
-        SyntaxKind::R_BRACK => p.err_and_bump("closing bracket without an opening one"),
+        SqlKind::AS_KW => with_name(p),
+        SyntaxKind::R_PAREN => p.err_and_bump("unmatched `)`"),
+        SyntaxKind::R_BRACK => p.err_and_bump("unmatched `]`"),
         _ => token(p),
     }
 }
@@ -140,10 +156,26 @@ fn element(p: &mut Parser<'_>, inside: Inside, depth: u32)
 fn plain_tokens(p: &mut Parser<'_>)
     requires { kind_at p.old 0 ≢ EOF }
     ensures adds { AddsSome p.old p.new }
+    ensures spends { LeavesTwo p.old p.new }
     ensures eats { p.old.position < p.new.position }
 {
-    p.bump_any();
+    with_name(p);
     while is_plain(p.current()) {
+        with_name(p);
+    }
+}
+
+/// A token by itself, and after `.` and AS the word that is a name there.
+#[inline(always)]
+fn with_name(p: &mut Parser<'_>)
+    requires { kind_at p.old 0 ≢ EOF }
+    ensures adds { AddsSome p.old p.new }
+    ensures spends { Spends 1 0 p.old p.new }
+    ensures eats { p.old.position < p.new.position }
+{
+    let named = matches!(p.current(), SyntaxKind::DOT | SqlKind::AS_KW);
+    p.bump_any();
+    if named && is_word(p.current()) {
         p.bump_any();
     }
 }
@@ -153,6 +185,7 @@ fn plain_tokens(p: &mut Parser<'_>)
 fn opening(p: &mut Parser<'_>, inside: Inside, depth: u32)
     requires { kind_at p.old 0 ≢ EOF }
     ensures adds { AddsSome p.old p.new }
+    ensures spends { LeavesTwo p.old p.new }
     ensures eats { p.old.position < p.new.position }
 {
     match p.current() {
@@ -169,6 +202,7 @@ fn opening(p: &mut Parser<'_>, inside: Inside, depth: u32)
 fn enclosed(p: &mut Parser<'_>, pair: Pair, query: Query, inside: Inside, depth: u32)
     requires { kind_at p.old 0 ≢ EOF }
     ensures adds { AddsSome p.old p.new }
+    ensures spends { LeavesTwo p.old p.new }
     ensures eats { p.old.position < p.new.position }
 {
     let (kind, closing) = (pair.kind(), pair.closing());
@@ -185,6 +219,7 @@ fn enclosed(p: &mut Parser<'_>, pair: Pair, query: Query, inside: Inside, depth:
 fn block(p: &mut Parser<'_>, inside: Inside, depth: u32)
     requires { kind_at p.old 0 ≢ EOF }
     ensures adds { AddsSome p.old p.new }
+    ensures spends { LeavesTwo p.old p.new }
     ensures eats { p.old.position < p.new.position }
 {
     let node = p.start();
@@ -200,6 +235,7 @@ fn block(p: &mut Parser<'_>, inside: Inside, depth: u32)
 fn statements(p: &mut Parser<'_>, inside: Inside, depth: u32)
     requires { IsSound p.old }
     ensures adds { AddsSome p.old p.new }
+    ensures spends { Spends 6 0 p.old p.new }
 {
     while p.current() == SyntaxKind::SEMICOLON || !inside.ends_at(p.current()) {
         statement(p, inside, depth);
@@ -211,6 +247,7 @@ fn statements(p: &mut Parser<'_>, inside: Inside, depth: u32)
 fn statement(p: &mut Parser<'_>, inside: Inside, depth: u32)
     requires { kind_at p.old 0 ≢ EOF }
     ensures adds { AddsSome p.old p.new }
+    ensures spends { Spends 6 0 p.old p.new }
     ensures eats { p.old.position < p.new.position }
 {
     let kind = kind_of(p);
@@ -223,6 +260,7 @@ fn statement(p: &mut Parser<'_>, inside: Inside, depth: u32)
 fn statement_tokens(p: &mut Parser<'_>, query: Query, inside: Inside, depth: u32)
     requires { kind_at p.old 0 ≢ EOF }
     ensures adds { AddsSome p.old p.new }
+    ensures spends { LeavesTwo p.old p.new }
     ensures eats { p.old.position < p.new.position }
 {
     match p.current() {
@@ -239,6 +277,7 @@ fn statement_tokens(p: &mut Parser<'_>, query: Query, inside: Inside, depth: u32
 fn too_deep(p: &mut Parser<'_>, inside: Inside)
     requires { kind_at p.old 0 ≢ EOF }
     ensures adds { AddsSome p.old p.new }
+    ensures spends { LeavesTwo p.old p.new }
     ensures eats { p.old.position < p.new.position }
 {
     p.error("nested too deep");
@@ -250,6 +289,6 @@ fn too_deep(p: &mut Parser<'_>, inside: Inside)
             SyntaxKind::R_PAREN | SyntaxKind::R_BRACK | SqlKind::END_KW => open.saturating_sub(1),
             _ => open,
         };
-        p.bump_any();
+        with_name(p);
     }
 }

@@ -4,9 +4,31 @@ ghost use Rattle.squawk_kinds.specs.Kinds.{EOF, TOMBSTONE};
 ghost use Rattle.squawk_parser.specs.Composites.{NoTail};
 ghost use Rattle.squawk_parser.specs.Eaten.{tail_of_kind};
 
-use crate::cut::Body;
+use sql_lexer::statements::Statement;
 use sql_words::SqlKind;
 use squawk_parser::SyntaxKind;
+
+/// What may hold semicolons that end no statement.
+#[derive(Clone, Copy, PartialEq, Eq)]
+pub(crate) enum Body {
+    /// Nothing.
+    Plain,
+    /// A block: CREATE FUNCTION or CREATE PROCEDURE.
+    Routine,
+    /// Brackets: CREATE RULE.
+    Rule,
+}
+
+impl Body {
+    /// What it is in a statement that has come so far.
+    pub(crate) fn of(statement: Statement) -> Body {
+        match statement {
+            Statement::OfRoutine { .. } | Statement::OfBlock { .. } => Body::Routine,
+            Statement::OfRule { .. } => Body::Rule,
+            _ => Body::Plain,
+        }
+    }
+}
 
 /// Two tokens, of which the second closes what the first opens.
 #[derive(Clone, Copy, PartialEq, Eq)]
@@ -64,6 +86,11 @@ impl Inside {
             brack: false,
             end: false,
         }
+    }
+
+    /// Whether BEGIN ATOMIC begins a block.
+    pub(crate) fn may_begin_block(self) -> bool {
+        self.body == Body::Routine && !(self.paren || self.brack)
     }
 
     /// Whether a token of the kind closes something that is open, or ends the statement.

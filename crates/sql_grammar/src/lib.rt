@@ -57,11 +57,13 @@ impl<'n> Grammar for SqlGrammar<'n> {
     ghost use Rattle.std.specs.Prelude.{map};
     ghost use Rattle.sql_grammar.specs.Files.{IsFile};
     ghost use Rattle.sql_grammar.specs.Kinds.{operator_set};
+    ghost use Rattle.squawk_parser.specs.SomeSteps.{Spends};
 
     // One node over all tokens, and in it a node for each statement.
     ghost leaves = { λ _ _ input draft. IsFile input draft };
 
-    ghost runs = { λ _ _ _ _. Unit {0} };
+    // At most eight events a token, and two for that node.
+    ghost runs = { λ _ _ begun left. Spends 8 2 begun left };
 
     ghost meaning = { λ grammar. record { operator_first = operator_set; names = map (λ pair. (pair.0, pair.1.now)) grammar.names.now } };
 

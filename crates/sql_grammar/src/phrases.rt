@@ -3,7 +3,7 @@ ghost use Rattle.std.specs.Prelude.{◌≡◌, ◌≢◌, ◌<◌};
 ghost use Rattle.squawk_kinds.specs.Kinds.{EOF};
 ghost use Rattle.squawk_parser.specs.Composites.{NoTail};
 ghost use Rattle.squawk_parser.specs.Eaten.{tail_of_kind};
-ghost use Rattle.squawk_parser.specs.SomeSteps.{AddsSome};
+ghost use Rattle.squawk_parser.specs.SomeSteps.{AddsSome, Spends};
 ghost use Rattle.squawk_parser.specs.State.{kind_at};
 
 use sql_words::SqlKind;
@@ -54,6 +54,7 @@ pub(crate) fn at_phrase(p: &Parser<'_>) -> SyntaxKind
 pub(crate) fn is_phrase(p: &mut Parser<'_>)
     requires { kind_at p.old 0 ≢ EOF }
     ensures adds { AddsSome p.old p.new }
+    ensures spends { Spends 3 1 p.old p.new }
     ensures eats { p.old.position < p.new.position }
 {
     if p.at(SyntaxKind::IS_JSON) || p.at(SyntaxKind::IS_NOT_JSON) {
@@ -80,10 +81,10 @@ fn longest_is(p: &Parser<'_>) -> SyntaxKind
 }
 
 /// IS JSON or IS NOT JSON, with what stands behind.
-
 fn is_json(p: &mut Parser<'_>)
     requires { kind_at p.old 0 ≢ EOF }
     ensures adds { AddsSome p.old p.new }
+    ensures spends { Spends 3 1 p.old p.new }
     ensures eats { p.old.position < p.new.position }
 {
     let kind = json_kind(p);
@@ -116,11 +117,11 @@ fn json_kind(p: &Parser<'_>) -> SyntaxKind
 struct UniqueKeys;
 
 impl Part for UniqueKeys {
-    ghost use Rattle.squawk_parser.specs.SomeSteps.{AddsSome};
+    ghost use Rattle.sql_grammar.specs.Spent.{AddsTail};
 
     type Answer = ();
 
-    ghost does = { λ _ before after _. AddsSome before after };
+    ghost does = { λ _ before after _. AddsTail before after };
 
     fn run(self, p: &mut Parser<'_>) {
         let UniqueKeys = self;
@@ -134,10 +135,10 @@ impl Part for UniqueKeys {
 }
 
 /// OPERATOR with the name of an operator in parentheses, else the word alone.
-
 pub(crate) fn operator_call(p: &mut Parser<'_>)
     requires { kind_at p.old 0 ≢ EOF }
     ensures adds { AddsSome p.old p.new }
+    ensures spends { Spends 3 1 p.old p.new }
     ensures eats { p.old.position < p.new.position }
 {
     if !p.eat_with(SyntaxKind::OPERATOR_CALL, OperatorName) {
@@ -150,11 +151,11 @@ pub(crate) fn operator_call(p: &mut Parser<'_>)
 struct OperatorName;
 
 impl Part for OperatorName {
-    ghost use Rattle.squawk_parser.specs.SomeSteps.{AddsSome};
+    ghost use Rattle.sql_grammar.specs.Spent.{AddsTail};
 
     type Answer = ();
 
-    ghost does = { λ _ before after _. AddsSome before after };
+    ghost does = { λ _ before after _. AddsTail before after };
 
     fn run(self, p: &mut Parser<'_>) {
         let OperatorName = self;

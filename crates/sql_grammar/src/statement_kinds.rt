@@ -3,6 +3,7 @@ ghost use Rattle.std.specs.Prelude.{◌≡◌, ◌≢◌};
 ghost use Rattle.squawk_kinds.specs.Kinds.{TOMBSTONE};
 ghost use Rattle.squawk_table.specs.ParserInput.{kinds_in};
 ghost use Rattle.squawk_parser.specs.State.{ahead};
+ghost use Rattle.sql_grammar.specs.StatementKinds.{statement_kinds};
 ghost use Rattle.sql_grammar.specs.Statements.{first_word, is_psql, kind_for, kind_of};
 
 use sql_words::SqlKind;
@@ -13,9 +14,8 @@ macro_rules! numbers {
     ($($word:ident $kind:ident),*) => { [$((SqlKind::$word.0, SqlKind::$kind.0)),*] };
 }
 
-/// The first words of statements, each with the kind of the statement.
 #[rattlefmt::skip]
-const STATEMENTS: [(u16, u16); 53] = numbers![
+static STATEMENTS: [(u16, u16); 53] = numbers![
     SELECT_KW SELECT, WITH_KW SELECT, VALUES_KW SELECT, TABLE_KW SELECT, INSERT_KW INSERT,
     UPDATE_KW UPDATE, DELETE_KW DELETE, MERGE_KW MERGE, CREATE_KW CREATE, ALTER_KW ALTER, DROP_KW DROP,
     TRUNCATE_KW TRUNCATE, COMMENT_KW COMMENT_ON, SECURITY_KW SECURITY_LABEL,
@@ -29,6 +29,13 @@ const STATEMENTS: [(u16, u16); 53] = numbers![
     DEALLOCATE_KW DEALLOCATE, DECLARE_KW DECLARE, FETCH_KW FETCH, MOVE_KW MOVE, CLOSE_KW CLOSE
 ];
 
+/// The first words of statements, each with the kind of the statement.
+fn statements() -> &'static [(u16, u16)]
+    ensures { result.now ≡ statement_kinds }
+{
+    &STATEMENTS
+}
+
 /// The kind of the statement at the position: a command of psql is one by itself, and the others are told
 /// by their first word, which may stand in parentheses.
 pub(crate) fn kind_of(p: &Parser<'_>) -> SyntaxKind
@@ -38,7 +45,7 @@ pub(crate) fn kind_of(p: &Parser<'_>) -> SyntaxKind
     if is_psql(p.current()) {
         SqlKind::PSQL_COMMAND
     } else {
-        kind_for(first_word(p), &STATEMENTS)
+        kind_for(first_word(p), statements())
     }
 }
 

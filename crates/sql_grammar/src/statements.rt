@@ -2,16 +2,16 @@
 ghost use Rattle.std.specs.Prelude.{◌≢◌, ◌<◌};
 ghost use Rattle.squawk_kinds.specs.Kinds.{EOF};
 ghost use Rattle.squawk_table.specs.ParserInput.{kinds_in};
-ghost use Rattle.squawk_parser.specs.SomeSteps.{AddsSome};
+ghost use Rattle.squawk_parser.specs.SomeSteps.{AddsSome, Spends};
 ghost use Rattle.squawk_parser.specs.State.{IsSound, ahead, kind_at};
 ghost use Rattle.sql_grammar.specs.Files.{AddsStatement};
 ghost use Rattle.sql_grammar.specs.Statements.{first_statement};
 
 use crate::Detail;
 use crate::clauses::{Query, query_in};
-use crate::cut::{body_of, len_of};
+use crate::cut::first_extent;
 use crate::elements::{DEPTH, content};
-use crate::inside::Inside;
+use crate::inside::{Body, Inside};
 use crate::statement_kinds::kind_of;
 use squawk_parser::{Parser, Part, SyntaxKind};
 
@@ -20,17 +20,17 @@ pub(crate) fn statement(p: &mut Parser<'_>, detail: Detail)
     requires { kind_at p.old 0 ≢ EOF }
     ensures adds { AddsStatement (first_statement (kinds_in (ahead p.old 0))) p.old p.new }
     ensures eats { p.old.position < p.new.position }
+    ensures spends { Spends 8 0 p.old p.new }
 {
     let kind = kind_of(p);
-    let body = body_of(p);
-    let len = len_of(p, body);
+    let extent = first_extent(p);
     let node = p.start();
     let content = StatementContent {
         query: query_in(kind),
-        inside: Inside::statement(body),
+        inside: Inside::statement(Body::of(extent.statement)),
         detail,
     };
-    p.with_limit(len, content);
+    p.with_limit(extent.len, content);
     node.complete(p, kind);
 }
 
@@ -62,6 +62,7 @@ impl StatementContent {
     fn nodes(&self, p: &mut Parser<'_>)
         requires { IsSound p.old }
         ensures adds { AddsSome p.old p.new }
+        ensures spends { Spends 6 0 p.old p.new }
     {
         match self.detail {
             Detail::Tokens => {}

@@ -2,6 +2,7 @@
 
 mod cases;
 mod depth;
+mod kinds;
 
 use crate::{Detail, NAMES, SqlGrammar};
 use sql_lexer::tokenize;

@@ -11,7 +11,8 @@ use Rattle.sql_lexer.specs.Signs.{sign}
 use Rattle.sql_lexer.specs.Tokens.{rules, first_token}
 use Rattle.sql_lexer.proofs.Choices.{name_fits_first}
 use Rattle.sql_lexer.proofs.Fits.{Fits, RuleFits, first_fits}
-use Rattle.sql_lexer.proofs.RunsFit.{whitespace_fits, identifier_fits, line_comment_fits, psql_command_fits, dot_dot_fits, sign_fits}
+use Rattle.sql_lexer.proofs.RunsFit.{whitespace_fits, identifier_fits, line_comment_fits, dot_dot_fits, sign_fits}
+use Rattle.sql_lexer.proofs.CommandsFit.{psql_command_fits}
 use Rattle.sql_lexer.proofs.ClosedFit.{block_comment_fits, string_fits, quoted_identifier_fits, prefixed_fits, dollar_quote_fits}
 use Rattle.sql_lexer.proofs.NumbersFit.{numbers_fit, point_number_fits, parameter_fits}
 
@@ -24,7 +25,7 @@ rules_fit text utf8 =
         (
           block_comment_fits text utf8,
           (
-            psql_command_fits text,
+            psql_command_fits text utf8,
             (
               string_fits text utf8,
               (

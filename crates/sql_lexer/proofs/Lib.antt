@@ -1,6 +1,7 @@
 pub mod Places
 pub mod QuoteEnds
 pub mod CommentEnds
+pub mod ArgumentEnds
 pub mod TagEnds
 pub mod DigitRuns
 pub mod Tables
@@ -9,11 +10,15 @@ pub mod Boundaries
 pub mod Fits
 pub mod FoundEnds
 pub mod RunsFit
+pub mod CommandsFit
 pub mod ClosedFit
 pub mod NumbersFit
 pub mod FirstFits
 pub mod CutTokens
 pub mod TextTokens
 pub mod LinesFit
+pub mod Unclosed
 pub mod ScriptPlaces
+pub mod EndsLemmas
+pub mod CopyCommands
 pub mod ScriptTokens

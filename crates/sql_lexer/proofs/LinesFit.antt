@@ -6,6 +6,7 @@ use Rattle.std.proofs.lemmas.Bool.Decides.{nat_tests}
 use Rattle.std.proofs.lemmas.List.{length-take-le, take-take}
 use Rattle.std.proofs.lemmas.List.Sums.{prefix_len-le-length, prefix_len_stops}
 use Rattle.std.proofs.lemmas.Str.{IsUtf8-take, IsCharBoundary-from_take}
+use Rattle.squawk_tokens.specs.declared.token.Token.{Token}
 use Rattle.squawk_tokens.specs.declared.token.TokenKind.TheVariants.{PsqlCommand, Whitespace}
 use Rattle.squawk_tokens.specs.TokenRules.{MeetsKind}
 use Rattle.sql_lexer.specs.Rules.{begins, first, token}
@@ -52,6 +53,15 @@ front_fits text n utf8 end some =
       boundary = past_front text n found.len end fits.boundary;
       kind = subst (λ front. MeetsKind front found.kind) (take-take found.len n text le) fits.kind;
     }
+
+-- the token in front of a text, or of a front of it, is text
+pub first_is_utf8 : (text : List ℕ) (found : Token) → found ≡ first_token text → IsUtf8 text → 0 < length text → IsUtf8 (take found.len text)
+first_is_utf8 text found same utf8 some =
+    subst (λ (t : Token). IsUtf8 (take t.len text)) (sym same) (IsUtf8-take text (first_token text).len utf8 (first_token_fits text utf8 some).boundary)
+
+pub front_is_utf8 : (text : List ℕ) (n : ℕ) (found : Token) → found ≡ first_token (take n text) → IsUtf8 text → IsCharBoundary text n → 0 < n → IsUtf8 (take found.len text)
+front_is_utf8 text n found same utf8 end some =
+    subst (λ (t : Token). IsUtf8 (take t.len text)) (sym same) (IsUtf8-take text (first_token (take n text)).len utf8 (front_fits text n utf8 end some).boundary)
 
 -- behind k bytes the others of n are left
 pub boundary_behind : (text : List ℕ) (n k : ℕ) → IsCharBoundary text n → k ≤ n → IsCharBoundary (drop k text) (n - k)

@@ -1,24 +1,23 @@
 -- White space, identifiers, line comments, commands and signs fit.
-use Rattle.std.proofs.Common.{◌≡◌, ◌∙◌, ℕ, ◌<◌, ◌==◌, ◌&&◌, not, true, false, Bool, List, [], ◌∷◌, length, take, drop, arith, refl, sym}
-use Rattle.std.specs.Prelude.{IsUtf8, codes, slice_index}
+use Rattle.std.proofs.Common.{◌≡◌, ◌∙◌, ℕ, ◌<◌, ◌==◌, not, true, false, Bool, List, [], ◌∷◌, length, take, arith, refl, sym}
+use Rattle.std.specs.Prelude.{IsUtf8, codes}
 use Rattle.std.specs.List.{prefix_len, position_or_len, list_all}
 use Rattle.std.proofs.lemmas.Bool.{cond_both, eqb-true, and_parts, false≢true}
 use Rattle.std.proofs.lemmas.Bool.Decides.{nat_tests}
 use Rattle.squawk_tokens.specs.declared.token.TokenKind.{TokenKind}
-use Rattle.squawk_tokens.specs.declared.token.TokenKind.TheVariants.{Whitespace, LineComment, Ident, Literal, PositionalParam, PsqlCommand, DotDot, Eof}
+use Rattle.squawk_tokens.specs.declared.token.TokenKind.TheVariants.{Whitespace, LineComment, Ident, Literal, PositionalParam, DotDot, Eof}
 use Rattle.squawk_tokens.specs.TokenRules.{MeetsKind}
 use Rattle.sql_lexer.specs.Bytes.{is_space, is_line_end, is_name_part, is_name_start}
 use Rattle.sql_lexer.specs.Rules.{token, first, begins}
 use Rattle.sql_lexer.specs.Signs.{whitespace, dot_dot, sign, signs, kind_in}
 use Rattle.sql_lexer.specs.Identifiers.{identifier}
 use Rattle.sql_lexer.specs.Comments.{line_comment}
-use Rattle.sql_lexer.specs.Psql.{psql_command, is_command_start, ends_query}
 use Rattle.sql_lexer.proofs.Boundaries.{IsLead, before_lead, after_ascii, after_front, run_bytes}
 use Rattle.sql_lexer.proofs.FoundEnds.{front_ends}
 use Rattle.sql_lexer.proofs.Fits.{Fits, RuleFits, when_fits}
 
 -- a run takes its first byte
-run_takes : (passes : ℕ → Bool) (text : List ℕ) → 0 < length text → passes (first text) ≡ true → 0 < prefix_len passes text
+pub run_takes : (passes : ℕ → Bool) (text : List ℕ) → 0 < length text → passes (first text) ≡ true → 0 < prefix_len passes text
 run_takes passes [] some e = absurd (omega arith)
 run_takes passes (b ∷ rest) some e = rw e (omega arith)
 
@@ -59,7 +58,7 @@ identifier_fits text = when_fits text (is_name_start (first text)) (token Ident 
 
 -- ---- up to the end of the line
 
-line_ends_lead : (b : ℕ) → not (is_line_end b) ≡ false → IsLead b
+pub line_ends_lead : (b : ℕ) → not (is_line_end b) ≡ false → IsLead b
 line_ends_lead b e = λ high. grind (arith, nat_tests)
 
 line_fits : (kind : TokenKind) (text : List ℕ) → ((front : List ℕ) → MeetsKind front kind) → 0 < length text → not (is_line_end (first text)) ≡ true
@@ -82,15 +81,6 @@ pub line_comment_fits : (text : List ℕ) → RuleFits text (line_comment text)
 line_comment_fits text =
     when_fits text (begins text (codes "--")) (token LineComment (position_or_len is_line_end text))
     (dashes_fit text)
-
-pub psql_command_fits : (text : List ℕ) → RuleFits text (psql_command text)
-psql_command_fits text =
-    let slash = first text == 92 in
-    let kind = PsqlCommand (ends_query (drop 1 text)) in
-    when_fits text (slash && is_command_start (slice_index text 1)) (token kind (position_or_len is_line_end text))
-    (λ e.
-    let begun = (and_parts slash (is_command_start (slice_index text 1)) e).0 in
-    line_fits kind text (λ front. tt) (is_there (λ b. b == 92) text refl begun) (rw (eqb-true (first text) 92 begun) refl))
 
 -- ---- signs
 

@@ -11,80 +11,31 @@ use Rattle.squawk_tokens.specs.declared.token.TokenKind.{TokenKind}
 use Rattle.squawk_tokens.specs.declared.token.TokenKind.TheVariants.{Ident, PsqlCommand, Semi, Whitespace}
 use Rattle.sql_lexer.specs.declared.script.places.Place.{Place}
 use Rattle.sql_lexer.specs.declared.script.places.Place.TheVariants.{Front, Sql, Data}
-use Rattle.sql_lexer.specs.declared.script.statements.Statement.{Statement}
-use Rattle.sql_lexer.specs.declared.script.statements.Statement.TheVariants.{Start, Created, CreatedOr, Replaced, Plain, OfRule, OfRoutine, OfCopy}
-use Rattle.sql_lexer.specs.declared.script.words.Word.{Word}
-use Rattle.sql_lexer.specs.declared.script.words.Word.TheVariants.{Atomic, Case, Close, Command, Copy, Create, End, Function, Open, Or, Procedure, QueryEnd, Replace, Rule, Semicolon, Trivia}
+use Rattle.sql_lexer.specs.declared.statements.Statement.{Statement}
+use Rattle.sql_lexer.specs.declared.statements.Statement.TheVariants.{Start, Plain}
+use Rattle.sql_lexer.specs.declared.statements.Word.{Word}
+use Rattle.sql_lexer.specs.declared.statements.Word.TheVariants.{Command, CopyCommand, QueryEnd, Semicolon}
 use Rattle.sql_lexer.specs.Rules.{token}
-use Rattle.sql_lexer.specs.ScriptStatements.{begun_by, blocks_behind, block_at, brackets_behind, created_by, creating, data_follow, ends_at, goes_on, replaced_by, routine_behind, statement_behind, unclosed_in}
+use Rattle.sql_lexer.specs.Statements.{after, data_follow, unclosed_in}
 use Rattle.sql_lexer.specs.ScriptWords.{names, word_in, word_of}
 use Rattle.sql_lexer.specs.ScriptPlaces.{may_end}
-use Rattle.sql_lexer.specs.Scripts.{data_of, data_token, ends_data, has_mark, line_len, place_before, place_behind, place_in, place_in_data, place_on_line, place_with, token_at, token_before, waiting_behind}
+use Rattle.sql_lexer.specs.Scripts.{data_of, data_token, ends_data, has_mark, line_len, place_before, place_behind, place_behind_data, place_in, place_in_data, place_on_line, place_with, token_at, token_before, waiting_behind}
 use Rattle.sql_lexer.specs.Tokens.{first_token}
 use Rattle.sql_lexer.proofs.CutTokens.{Cutter}
 use Rattle.sql_lexer.proofs.FirstFits.{first_token_fits}
 use Rattle.sql_lexer.proofs.Fits.{Fits}
+use Rattle.sql_lexer.proofs.Unclosed.{most_after}
 use Rattle.sql_lexer.proofs.LinesFit.{boundary_behind, data_fits, front_fits, front_within, line_ends_well, mark_fits}
 
 -- ---- what is unclosed
 
-unclosed_begun : (word : Word) → unclosed_in (begun_by word) ≡ 0
-unclosed_begun Create = refl
-unclosed_begun Copy = refl
-unclosed_begun Command = refl
-unclosed_begun word = refl
-
-unclosed_creating : (word : Word) → unclosed_in (creating word) ≡ 0
-unclosed_creating Function = refl
-unclosed_creating Procedure = refl
-unclosed_creating Rule = refl
-unclosed_creating word = refl
-
-unclosed_created : (word : Word) → unclosed_in (created_by word) ≡ 0
-unclosed_created Or = refl
-unclosed_created word = unclosed_creating word
-
-unclosed_replaced : (word : Word) → unclosed_in (replaced_by word) ≡ 0
-unclosed_replaced Replace = refl
-unclosed_replaced word = refl
-
-most_brackets : (unclosed : ℕ) (word : Word) → brackets_behind unclosed word ≤ unclosed + 1
-most_brackets unclosed Open = omega arith
-most_brackets unclosed Close = omega arith
-most_brackets unclosed word = omega arith
-
-most_begin : (begun : Bool) (word : Word) → block_at begun word ≤ 1
-most_begin true Atomic = omega arith
-most_begin begun word = omega arith
-
-most_blocks : (unclosed : ℕ) (word : Word) → blocks_behind unclosed word ≤ unclosed + 1
-most_blocks unclosed Case = omega arith
-most_blocks unclosed End = omega arith
-most_blocks unclosed Semicolon = omega arith
-most_blocks unclosed word = omega arith
-
-most_routine : (unclosed : ℕ) (begun : Bool) (word : Word) → routine_behind unclosed begun word ≤ unclosed + 1
-most_routine unclosed begun word =
-    cond_both (unclosed == 0) (block_at begun word) (blocks_behind unclosed word) (λ n. n ≤ unclosed + 1)
-    (λ e. omega (arith, most_begin begun word))
-    (λ e. most_blocks unclosed word)
-
-most_on : (statement : Statement) (word : Word) → unclosed_in (goes_on statement word) ≤ unclosed_in statement + 1
-most_on Start word = omega (arith, unclosed_begun word)
-most_on Created word = omega (arith, unclosed_created word)
-most_on CreatedOr word = omega (arith, unclosed_replaced word)
-most_on Replaced word = omega (arith, unclosed_creating word)
-most_on Plain word = omega arith
-most_on (OfRule unclosed) word = most_brackets unclosed word
-most_on (OfRoutine unclosed begun) word = most_routine unclosed begun word
-most_on (OfCopy unclosed phrase) word = most_brackets unclosed word
-
-most_behind : (statement : Statement) (word : Word) → unclosed_in (statement_behind statement word) ≤ unclosed_in statement + 1
-most_behind statement Trivia = omega arith
-most_behind statement word =
-    cond_both (ends_at statement word) Start (goes_on statement word) (λ s. unclosed_in s ≤ unclosed_in statement + 1)
-    (λ e. omega arith)
-    (λ e. most_on statement word)
+-- a place in data is one of three
+in_data : (statement : Statement) (waiting : ℕ) (text : List ℕ) (P : Place → Type 0)
+    → ((line_len text == 0) ≡ true → P (data_of statement waiting)) → (ends_data text ≡ true → P (place_behind_data waiting))
+    → (ends_data text ≡ false → P (data_of (after statement Command) waiting)) → P (place_in_data statement waiting text)
+in_data statement waiting text P empty ends goes_on =
+    cond_both (line_len text == 0) (data_of statement waiting) (if ends_data text then place_behind_data waiting else data_of (after statement Command) waiting) P empty
+    (λ e. cond_both (ends_data text) (place_behind_data waiting) (data_of (after statement Command) waiting) P ends goes_on)
 
 abbrev pub unclosed_at : Place → ℕ
 unclosed_at Front = 0
@@ -95,14 +46,20 @@ most_in : (statement : Statement) (text : List ℕ) → unclosed_at (place_in st
 most_in statement text =
     let found = first_token text in
     let word = word_of found.kind (take found.len text) in
-    cond_both (data_follow statement word) (Data (line_len (drop found.len text)) Start 0) (Sql (statement_behind statement word)) (λ p. unclosed_at p ≤ unclosed_in statement + 1)
-    (λ e. omega arith)
-    (λ e. most_behind statement word)
+    cond_both (data_follow statement word) (Data (line_len (drop found.len text)) (after statement word) 0) (Sql (after statement word)) (λ p. unclosed_at p ≤ unclosed_in statement + 1)
+    (λ e. most_after statement word)
+    (λ e. most_after statement word)
 
-most_in_data : (waiting : ℕ) (text : List ℕ) → unclosed_at (place_in_data waiting text) ≤ 0
-most_in_data zero text = cond_both (ends_data text) (Sql Start) (data_of zero) (λ p. unclosed_at p ≤ 0) (λ e. omega arith) (λ e. omega arith)
-most_in_data (suc waiting) text =
-    cond_both (ends_data text) (data_of waiting) (data_of (suc waiting)) (λ p. unclosed_at p ≤ 0) (λ e. omega arith) (λ e. omega arith)
+most_behind_data : (waiting : ℕ) → unclosed_at (place_behind_data waiting) ≤ 0
+most_behind_data zero = omega arith
+most_behind_data (suc waiting) = omega arith
+
+most_in_data : (statement : Statement) (waiting : ℕ) (text : List ℕ) → unclosed_at (place_in_data statement waiting text) ≤ unclosed_in statement + 1
+most_in_data statement waiting text =
+    in_data statement waiting text (λ p. unclosed_at p ≤ unclosed_in statement + 1)
+    (λ e. omega arith)
+    (λ e. omega (arith, most_behind_data waiting))
+    (λ e. most_after statement Command)
 
 pub most_at : (place : Place) (text : List ℕ) → unclosed_at (place_behind place text) ≤ unclosed_at place + 1
 most_at Front text =
@@ -110,9 +67,9 @@ most_at Front text =
 most_at (Sql statement) text = most_in statement text
 most_at (Data left statement waiting) text =
     let found = first_token (take left text) in
-    cond_both (left == 0) (place_in_data waiting text) (place_on_line left statement waiting text found) (λ p. unclosed_at p ≤ unclosed_in statement + 1)
-    (λ e. omega (arith, most_in_data waiting text))
-    (λ e. most_behind statement (word_of found.kind (take found.len text)))
+    cond_both (left == 0) (place_in_data statement waiting text) (place_on_line left statement waiting text found) (λ p. unclosed_at p ≤ unclosed_in statement + 1)
+    (λ e. omega (arith, most_in_data statement waiting text))
+    (λ e. most_after statement (word_of found.kind (take found.len text)))
 
 -- ---- what waits
 
@@ -125,14 +82,17 @@ waits_in : (statement : Statement) (text : List ℕ) → waiting_at (place_in st
 waits_in statement text =
     let found = first_token text in
     let word = word_of found.kind (take found.len text) in
-    cond_both (data_follow statement word) (Data (line_len (drop found.len text)) Start 0) (Sql (statement_behind statement word)) (λ p. waiting_at p ≤ 0)
+    cond_both (data_follow statement word) (Data (line_len (drop found.len text)) (after statement word) 0) (Sql (after statement word)) (λ p. waiting_at p ≤ 0)
     (λ e. omega arith)
     (λ e. omega arith)
 
-waits_in_data : (waiting : ℕ) (text : List ℕ) → waiting_at (place_in_data waiting text) ≤ waiting
-waits_in_data zero text = cond_both (ends_data text) (Sql Start) (data_of zero) (λ p. waiting_at p ≤ 0) (λ e. omega arith) (λ e. omega arith)
-waits_in_data (suc waiting) text =
-    cond_both (ends_data text) (data_of waiting) (data_of (suc waiting)) (λ p. waiting_at p ≤ suc waiting) (λ e. omega arith) (λ e. omega arith)
+waits_behind_data : (waiting : ℕ) → waiting_at (place_behind_data waiting) ≤ waiting
+waits_behind_data zero = omega arith
+waits_behind_data (suc waiting) = omega arith
+
+waits_in_data : (statement : Statement) (waiting : ℕ) (text : List ℕ) → waiting_at (place_in_data statement waiting text) ≤ waiting
+waits_in_data statement waiting text =
+    in_data statement waiting text (λ p. waiting_at p ≤ waiting) (λ e. omega arith) (λ e. waits_behind_data waiting) (λ e. omega arith)
 
 waits_on_line : (waiting : ℕ) (statement : Statement) (word : Word) → waiting_behind waiting statement word ≤ waiting + 1
 waits_on_line waiting statement word =
@@ -144,8 +104,8 @@ waits_at Front text =
 waits_at (Sql statement) text = omega (arith, waits_in statement text)
 waits_at (Data left statement waiting) text =
     let found = first_token (take left text) in
-    cond_both (left == 0) (place_in_data waiting text) (place_on_line left statement waiting text found) (λ p. waiting_at p ≤ waiting + 1)
-    (λ e. omega (arith, waits_in_data waiting text))
+    cond_both (left == 0) (place_in_data statement waiting text) (place_on_line left statement waiting text found) (λ p. waiting_at p ≤ waiting + 1)
+    (λ e. omega (arith, waits_in_data statement waiting text))
     (λ e. waits_on_line waiting statement (word_of found.kind (take found.len text)))
 
 -- ---- what stands there
@@ -171,7 +131,7 @@ goes_in statement text utf8 some =
     let rest = drop found.len text in
     let word = word_of found.kind (take found.len text) in
     goes_to text found (place_in statement text) utf8 (first_token_fits text utf8 some) (λ utf.
-    cond_both (data_follow statement word) (Data (line_len rest) Start 0) (Sql (statement_behind statement word)) (λ p. IsCharBoundary rest (reach_of p))
+    cond_both (data_follow statement word) (Data (line_len rest) (after statement word) 0) (Sql (after statement word)) (λ p. IsCharBoundary rest (reach_of p))
     (λ e. line_ends_well rest)
     (λ e. IsCharBoundary-start rest utf))
 
@@ -181,10 +141,13 @@ goes_by true text found other next later goes_first goes_second = goes_first ref
 goes_by false text found other next later goes_first goes_second = goes_second refl
 
 -- data begin where they are
-reaches_in_data : (waiting : ℕ) (text : List ℕ) → reach_of (place_in_data waiting text) ≡ 0
-reaches_in_data zero text = cond_both (ends_data text) (Sql Start) (data_of zero) (λ p. reach_of p ≡ 0) (λ e. refl) (λ e. refl)
-reaches_in_data (suc waiting) text =
-    cond_both (ends_data text) (data_of waiting) (data_of (suc waiting)) (λ p. reach_of p ≡ 0) (λ e. refl) (λ e. refl)
+reaches_behind_data : (waiting : ℕ) → reach_of (place_behind_data waiting) ≡ 0
+reaches_behind_data zero = refl
+reaches_behind_data (suc waiting) = refl
+
+reaches_in_data : (statement : Statement) (waiting : ℕ) (text : List ℕ) → reach_of (place_in_data statement waiting text) ≡ 0
+reaches_in_data statement waiting text =
+    in_data statement waiting text (λ p. reach_of p ≡ 0) (λ e. refl) (λ e. reaches_behind_data waiting) (λ e. refl)
 
 pub goes : (place : Place) (text : List ℕ) → IsUtf8 text → IsCharBoundary text (reach_of place) → 0 < length text
     → Goes text (token_at place text) (place_behind place text)
@@ -196,10 +159,10 @@ goes (Sql statement) text utf8 reach some = goes_in statement text utf8 some
 goes (Data left statement waiting) text utf8 reach some =
     let line = data_token text in
     let found = first_token (take left text) in
-    let next = place_in_data waiting text in
+    let next = place_in_data statement waiting text in
     goes_by (left == 0) text line found next (place_on_line left statement waiting text found)
     (λ e. goes_to text line next utf8 (data_fits text utf8 some) (λ utf.
-    subst (IsCharBoundary (drop line.len text)) (sym (reaches_in_data waiting text)) (IsCharBoundary-start (drop line.len text) utf)))
+    subst (IsCharBoundary (drop line.len text)) (sym (reaches_in_data statement waiting text)) (IsCharBoundary-start (drop line.len text) utf)))
     (λ e.
     let some_left : 0 < left = grind (arith, nat_tests) in
     let fits = front_fits text left utf8 reach some_left in
@@ -224,18 +187,18 @@ token_on_line left text some = sym (cond-false (left == 0) (data_token text) (fi
 
 -- the place by the token's word
 pub on_line : (left : ℕ) (statement : Statement) (waiting : ℕ) (text : List ℕ) (found : Token) {word : Word} {next : Statement} {more : ℕ}
-    → word ≡ word_of found.kind (take found.len text) → next ≡ statement_behind statement word → more ≡ waiting_behind waiting statement word
+    → word ≡ word_of found.kind (take found.len text) → next ≡ after statement word → more ≡ waiting_behind waiting statement word
     → Data (left - found.len) next more ≡ place_on_line left statement waiting text found
 on_line left statement waiting text found {word} {next} {more} is goes waits =
     ap (λ s. Data (left - found.len) s more) goes
-    ∙ (ap (λ n. Data (left - found.len) (statement_behind statement word) n) waits
-    ∙ ap (λ w. Data (left - found.len) (statement_behind statement w) (waiting_behind waiting statement w)) is)
+    ∙ (ap (λ n. Data (left - found.len) (after statement word) n) waits
+    ∙ ap (λ w. Data (left - found.len) (after statement w) (waiting_behind waiting statement w)) is)
 
 pub next_on_line : (left : ℕ) (statement : Statement) (waiting : ℕ) (text : List ℕ) (found : Token) → 0 < left → found ≡ first_token (take left text)
     → place_on_line left statement waiting text found ≡ place_before left statement waiting text
 next_on_line left statement waiting text found some same =
     ap (place_on_line left statement waiting text) same
-    ∙ sym (cond-false (left == 0) (place_in_data waiting text) (place_on_line left statement waiting text (first_token (take left text))) (is_left left some))
+    ∙ sym (cond-false (left == 0) (place_in_data statement waiting text) (place_on_line left statement waiting text (first_token (take left text))) (is_left left some))
 
 -- ---- a plain statement
 
@@ -243,12 +206,14 @@ next_on_line left statement waiting text found some same =
 goes_by_plain : Word → Bool
 goes_by_plain Semicolon = false
 goes_by_plain QueryEnd = false
+goes_by_plain CopyCommand = false
 goes_by_plain word = true
 
 plain_behind : (word : Word) (rest : List ℕ) → goes_by_plain word ≡ true → Sql Plain ≡ place_with Plain word rest
 unfolding goes_by_plain
 plain_behind Semicolon rest e = absurd (false≢true e)
 plain_behind QueryEnd rest e = absurd (false≢true e)
+plain_behind CopyCommand rest e = absurd (false≢true e)
 plain_behind word rest e = refl
 
 name_goes_by : (rows : List (List ℕ × Word)) (name : List ℕ) → list_all (λ row. goes_by_plain row.1) rows ≡ true → goes_by_plain (word_in rows name) ≡ true

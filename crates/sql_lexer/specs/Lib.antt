@@ -10,7 +10,8 @@ pub mod Numbers
 pub mod Tokens
 pub mod Pushes
 pub mod ErrorLines
+pub mod Statements
 pub mod ScriptWords
-pub mod ScriptStatements
 pub mod Scripts
 pub mod ScriptPlaces
+pub mod ScriptEnds

@@ -4,8 +4,8 @@ use Rattle.squawk_tokens.specs.declared.token.TokenKind.{TokenKind}
 use Rattle.squawk_tokens.specs.declared.token.TokenKind.TheVariants.{PsqlCommand, Semi}
 use Rattle.sql_lexer.specs.declared.script.places.Place.{Place}
 use Rattle.sql_lexer.specs.declared.script.places.Place.TheVariants.{Front, Sql, Data}
-use Rattle.sql_lexer.specs.declared.script.statements.Statement.{Statement}
-use Rattle.sql_lexer.specs.ScriptStatements.{unclosed_in}
+use Rattle.sql_lexer.specs.declared.statements.Statement.{Statement}
+use Rattle.sql_lexer.specs.Statements.{unclosed_in}
 
 -- in a plain statement only these may end it
 abbrev pub may_end : TokenKind → Bool

@@ -5,13 +5,14 @@ use Rattle.std.specs.List.{position_or_len}
 use Rattle.std.specs.Str.{bytes_eq}
 use Rattle.squawk_tokens.specs.declared.token.Token.{Token}
 use Rattle.squawk_tokens.specs.declared.token.TokenKind.TheVariants.{PsqlCommand, Whitespace}
-use Rattle.sql_lexer.specs.declared.script.statements.Statement.{Statement}
-use Rattle.sql_lexer.specs.declared.script.statements.Statement.TheVariants.{Start}
+use Rattle.sql_lexer.specs.declared.statements.Statement.{Statement}
+use Rattle.sql_lexer.specs.declared.statements.Statement.TheVariants.{Start}
 use Rattle.sql_lexer.specs.declared.script.places.Place.{Place}
 use Rattle.sql_lexer.specs.declared.script.places.Place.TheVariants.{Front, Sql, Data}
-use Rattle.sql_lexer.specs.declared.script.words.Word.{Word}
+use Rattle.sql_lexer.specs.declared.statements.Word.{Word}
+use Rattle.sql_lexer.specs.declared.statements.Word.TheVariants.{Command}
 use Rattle.sql_lexer.specs.Rules.{token, begins}
-use Rattle.sql_lexer.specs.ScriptStatements.{statement_behind, data_follow}
+use Rattle.sql_lexer.specs.Statements.{after, data_follow}
 use Rattle.sql_lexer.specs.ScriptWords.{word_of}
 use Rattle.sql_lexer.specs.Tokens.{first_token, tokens_by}
 
@@ -57,13 +58,13 @@ token_at (Data left statement waiting) text = token_before left text
 -- ---- places
 
 -- data, for which so many other COPY statements wait
-abbrev pub data_of : ℕ → Place
-data_of waiting = Data 0 Start waiting
+abbrev pub data_of : Statement → ℕ → Place
+data_of statement waiting = Data 0 statement waiting
 
 -- behind a word of a statement: data begin at the line behind the statement's
 abbrev pub place_with : Statement → Word → List ℕ → Place
 place_with statement word rest =
-    if data_follow statement word then Data (line_len rest) Start 0 else Sql (statement_behind statement word)
+    if data_follow statement word then Data (line_len rest) (after statement word) 0 else Sql (after statement word)
 
 -- behind a token of a statement
 abbrev pub place_in : Statement → List ℕ → Place
@@ -79,21 +80,24 @@ waiting_behind waiting statement word = if data_follow statement word then waiti
 abbrev pub place_on_line : ℕ → Statement → ℕ → List ℕ → Token → Place
 place_on_line left statement waiting text found =
     let word = word_of found.kind (take found.len text) in
-    Data (left - found.len) (statement_behind statement word) (waiting_behind waiting statement word)
+    Data (left - found.len) (after statement word) (waiting_behind waiting statement word)
 
 -- behind the data of a COPY: those of the next one that waits, or SQL
 abbrev pub place_behind_data : ℕ → Place
 place_behind_data zero = Sql Start
-place_behind_data (suc waiting) = data_of waiting
+place_behind_data (suc waiting) = data_of Start waiting
 
--- behind a token of data
-abbrev pub place_in_data : ℕ → List ℕ → Place
-place_in_data waiting text = if ends_data text then place_behind_data waiting else data_of waiting
+-- behind a token of data; a line is a command of psql
+abbrev pub place_in_data : Statement → ℕ → List ℕ → Place
+place_in_data statement waiting text =
+    if line_len text == 0 then data_of statement waiting
+    else if ends_data text then place_behind_data waiting
+    else data_of (after statement Command) waiting
 
 -- behind a token of data, or of what is left of the line of COPY
 abbrev pub place_before : ℕ → Statement → ℕ → List ℕ → Place
 place_before left statement waiting text =
-    if left == 0 then place_in_data waiting text else place_on_line left statement waiting text (first_token (take left text))
+    if left == 0 then place_in_data statement waiting text else place_on_line left statement waiting text (first_token (take left text))
 
 -- behind the token in front
 abbrev pub place_behind : Place → List ℕ → Place

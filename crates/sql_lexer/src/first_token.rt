@@ -42,6 +42,29 @@ pub(crate) fn push_first(tokens: &mut Vec<Token>, text: &[u8]) -> Result<Token, 
     push(tokens, one_of_several(text))
 }
 
+/// The token that begins a text, for calls that are rare.
+pub(crate) fn token_in_front(text: &[u8]) -> Token
+    requires some { 0 < length text.now }
+    requires short { length text.now < 2 ^ 32 }
+    ensures { result ≡ spec.first_token text.now }
+{
+    let b = text[0];
+    if is_name_start(b) {
+        return match long_name(text) {
+            Some(name) => name,
+            None => short_name(text),
+        };
+    }
+    let space = is_space(b);
+    if space & is_space_second(text) {
+        return whitespace(text);
+    }
+    if space | stands_alone(b) {
+        return single(b);
+    }
+    one_of_several(text)
+}
+
 /// Adds a token, and gives it.
 #[inline(always)]
 pub(crate) fn push(tokens: &mut Vec<Token>, token: Token) -> Result<Token, AllocError>

@@ -11,6 +11,7 @@ mod numbers;
 mod psql;
 pub mod script;
 mod signs;
+pub mod statements;
 mod strings;
 pub mod tokenizer;
 

@@ -4,8 +4,8 @@ ghost use Rattle.squawk_tokens.specs.AcceptedTokens.{AreAcceptedTokens};
 ghost use Rattle.sql_lexer.specs.Scripts.{script_tokens};
 ghost use Rattle.sql_lexer.specs.Tokens.{RefusesText};
 
+mod copy_commands;
 mod places;
-mod statements;
 mod words;
 
 use crate::script::places::{Place, push_next};
@@ -16,14 +16,13 @@ use std::alloc::Global;
 /// The raw tokens of a text that `psql` reads or `pg_dump` writes: those of `tokenize`, but for data.
 ///
 /// Data follow a statement that begins with COPY, has `FROM STDIN` or `FROM STDOUT` outside of brackets and
-/// ends with a semicolon. They are the lines behind that statement's line, up to a line that is `\.`, or else
-/// the end of the text; those of a second COPY on the line stand behind those of the first. Each line is a
-/// command of psql, and the line `\.` is one that ends a query. A line ends at a newline, with the carriage
-/// return before it; each line end is white space, and an empty line is no token. What stands behind COPY on
-/// its line is cut as if the text ended there.
+/// ends with a semicolon, or `\copy` with the same words. They are the lines behind that statement's line, up to
+/// a line that is `\.`, or else the end of the text; those of a second COPY on the line stand behind those of the
+/// first. Each line is a command of psql, and the line `\.` is one that ends a query. A line ends at a newline,
+/// with the carriage return before it; each line end is white space, and an empty line is no token. What stands
+/// behind COPY on its line is cut as if the text ended there.
 ///
-/// Where statements end is told by PostgreSQL's keywords: a routine's BEGIN ATOMIC block and a rule's
-/// brackets hold semicolons that end nothing. A byte order mark that begins the text is white space.
+/// Where statements end is told by `statements`. A byte order mark that begins the text is white space.
 ///
 /// It takes time proportional to the text's length, and no memory but the list's.
 #[tactic(auto, using(crate::proofs::ScriptTokens::script_none, crate::proofs::ScriptTokens::script_all, crate::proofs::ScriptTokens::script_accepted))]

@@ -60,9 +60,8 @@ impl<T: Drop> From<AllocFailed<T>> for TokenizeError {
     }
 }
 
-/// The raw tokens of a text, whatever it is: from the left, each the longest that the rules of
-/// PostgreSQL's documentation, section 4.1 "Lexical Structure", find there. Their lengths add up to the
-/// text.
+/// The raw tokens of a text, whatever it is: from the left, each by the first that fits of the rules of
+/// PostgreSQL's documentation, section 4.1 "Lexical Structure". Their lengths add up to the text.
 ///
 /// What isn't closed runs to the end of the text, and its token says so. What is no other token is
 /// `Unknown`, one character long. A text of more than `u32::MAX` bytes is refused before memory is

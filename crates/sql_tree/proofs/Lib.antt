@@ -1,2 +1,3 @@
-mod Lines
+mod OptionLemmas
 mod Reasons
+mod TellsTextsLemmas

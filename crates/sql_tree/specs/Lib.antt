@@ -3,3 +3,4 @@ pub mod Listings
 pub mod Reports
 pub mod Refusals
 pub mod Printed
+pub mod Told

@@ -1,8 +1,12 @@
 -- What is printed.
-use Rattle.std.specs.Prelude.{ℕ, nat_lt, Bool, false, List, [], ◌++◌, codes, if◌then◌else◌}
+use Rattle.std.specs.Prelude.{ℕ, ◌+◌, ◌-◌, ◌^◌, min, nat_lt, Bool, false, true, List, [], ◌++◌, Result, Ok, Err, codes, if◌then◌else◌, string_bytes}
+use Rattle.std.specs.Fmt.{decimal}
+use Rattle.sql_tree.specs.Refusals.{unread_line}
 use Rattle.sql_tree.specs.declared.options.Listing.{Listing}
 use Rattle.sql_tree.specs.declared.options.Listing.TheVariants.{Json, Quiet}
+use Rattle.sql_tree.specs.declared.report.Report.{Report}
 use Rattle.sql_tree.specs.declared.totals.Totals.{Totals}
+use Rattle.sql_tree.specs.declared.unread.Unread.{Unread}
 
 -- Names stand over what is listed of several texts, but not where nothing is, nor over JSON, of which each line is a value.
 abbrev pub has_headings : Listing → ℕ → Bool
@@ -13,6 +17,39 @@ has_headings listing count = nat_lt 1 count
 -- the name of a text over what is listed of it
 abbrev pub heading : Bool → List ℕ → List ℕ
 heading has name = if has then name ++ codes ":\n" else []
+
+-- what goes to the standard output for a text of this name: a text that can't be read has no heading
+abbrev pub printed : Bool → List ℕ → Result Report Unread → List ℕ
+printed has name (Ok report) = heading has name ++ string_bytes report.listing
+printed has name (Err unread) = []
+
+-- what goes to the standard error output for it: its errors, or why it can't be read
+abbrev pub printed_errors : List ℕ → Result Report Unread → List ℕ
+printed_errors name (Ok report) = report.errors.items
+printed_errors name (Err unread) = name ++ codes ": " ++ unread_line unread ++ codes "\n"
+
+-- a sum, up to the greatest `usize`
+abbrev sum_within : ℕ → ℕ → ℕ
+sum_within a b = min (a + b) (2 ^ 64 - 1)
+
+-- nothing was read yet
+abbrev pub no_totals : Totals
+no_totals = record { files = 0; statements = 0; errors = 0; unread = false }
+
+-- what is counted, with one more text
+abbrev pub counted : Totals → Result Report Unread → Totals
+counted totals (Ok report) = record {
+  files = sum_within totals.files 1;
+  statements = sum_within totals.statements report.statement_count;
+  errors = sum_within totals.errors report.error_count;
+  unread = totals.unread;
+}
+counted totals (Err unread) = record totals { unread = true }
+
+-- the last line
+abbrev pub totals_line : Totals → List ℕ
+totals_line totals =
+    codes "files: " ++ decimal totals.files ++ codes ", statements: " ++ decimal totals.statements ++ codes ", errors: " ++ decimal totals.errors ++ codes "\n"
 
 -- the status that the program ends with: 3 where a file couldn't be read, else 1 where there are errors
 abbrev pub status_of : Totals → ℕ

@@ -1,14 +1,21 @@
 -- Why a text isn't told of.
-use Rattle.std.specs.Prelude.{◌≡◌, ◌<◌, ℕ, Option, None, Some, List, ◌++◌, IsUtf8, codes, length}
+use Rattle.std.specs.Prelude.{◌≡◌, ◌<◌, ℕ, List, ◌++◌, Result, Err, IfErr, IfOk, IsOk, IsUtf8, OnOk, Vec, codes, length}
 use Rattle.std.specs.Fmt.{decimal}
 use Rattle.std.specs.Str.Lossy.{utf8_valid_len}
+use Rattle.std.specs.IoError.{error_kind}
+use Rattle.std.specs.declared.alloc.Global.{Global}
+use Rattle.std.specs.declared.io.Error.{Error}
+use Rattle.std.specs.declared.io.ErrorKind.{ErrorKind}
+use Rattle.std.specs.declared.io.ErrorKind.TheVariants as io
 use Rattle.squawk_keywords.specs.KeywordAnswers.{contextual_keyword_of}
 use Rattle.squawk_parser.specs.declared.parser.parse_error.ParseError.{ParseError}
 use Rattle.squawk_parser.specs.declared.parser.parse_error.ParseError.TheVariants as parse
 use Rattle.sql_grammar.specs.Parses.{IsRefusedParse}
 use Rattle.sql_lexer.specs.declared.tokenizer.TokenizeError.{TokenizeError}
 use Rattle.sql_lexer.specs.declared.tokenizer.TokenizeError.TheVariants as lexer
-use Rattle.sql_tree.specs.Reports.{table_in}
+use Rattle.sql_tree.specs.Reports.{IsReport, table_in}
+use Rattle.sql_tree.specs.declared.options.Listing.{Listing}
+use Rattle.sql_tree.specs.declared.report.Report.{Report}
 use Rattle.sql_tree.specs.declared.sql.Sql.{Sql}
 use Rattle.sql_tree.specs.declared.unread.Unread.{Unread}
 use Rattle.sql_tree.specs.declared.unread.Unread.TheVariants.{Io, NotUtf8, TextTooLong, TooManyEvents, TooManyErrors, OutOfMemory}
@@ -37,11 +44,30 @@ abbrev pub RefusesBytes : Sql → List ℕ → Unread → Type 0
 RefusesBytes sql bytes (NotUtf8 at) = (¬ (IsUtf8 bytes)) × (at ≡ utf8_valid_len bytes)
 RefusesBytes sql bytes reason = IsUtf8 bytes × RefusesText sql bytes reason
 
--- what is printed for a text that isn't told of; how the system's errors are called stands in std
-abbrev pub unread_line : Unread → Option (List ℕ)
-unread_line (Io kind) = None
-unread_line (NotUtf8 at) = Some (codes "no UTF-8 at byte " ++ decimal at)
-unread_line TextTooLong = Some (codes "more than 4294967295 bytes")
-unread_line TooManyEvents = Some (codes "too many events")
-unread_line TooManyErrors = Some (codes "too many errors")
-unread_line OutOfMemory = Some (codes "out of memory")
+-- what the system's errors are called
+abbrev pub io_words : ErrorKind → List ℕ
+io_words io.NotFound = codes "entity not found"
+io_words io.PermissionDenied = codes "permission denied"
+io_words io.NotADirectory = codes "not a directory"
+io_words io.IsADirectory = codes "is a directory"
+io_words io.FilesystemLoop = codes "filesystem loop or indirection limit (e.g. symlink loop)"
+io_words io.InvalidInput = codes "invalid input parameter"
+io_words io.InvalidFilename = codes "invalid filename"
+io_words io.OutOfMemory = codes "out of memory"
+io_words _ = codes "can't be read"
+
+-- what is printed for a text that isn't told of
+abbrev pub unread_line : Unread → List ℕ
+unread_line (Io kind) = io_words kind
+unread_line (NotUtf8 at) = codes "invalid UTF-8 at byte " ++ decimal at
+unread_line TextTooLong = codes "more than 4294967295 bytes"
+unread_line TooManyEvents = codes "too many events"
+unread_line TooManyErrors = codes "too many errors"
+unread_line OutOfMemory = codes "out of memory"
+
+-- What is told of the bytes that reading a text gives, or why nothing is.
+pub record IsToldOf (sql : Sql) (listing : Listing) (name : List ℕ) (bytes : Result (Vec ℕ Global) Error) (result : Result Report Unread) : Type 0 where
+  pub read : OnOk result (IsOk bytes)
+  pub told : IfOk result (λ report. IfOk bytes (λ read. IsReport sql listing name read.items report))
+  pub unread : IfErr bytes (λ error. result ≡ Err (Io (error_kind error)))
+  pub refused : IfErr result (λ reason. IfOk bytes (λ read. RefusesBytes sql read.items reason))

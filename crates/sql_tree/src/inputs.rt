@@ -1,59 +1,100 @@
 //! The texts that are named, one after another.
-ghost use Rattle.std.specs.Prelude.{◌≡◌, ◌++◌, true, codes, Err, IfErr, IfOk, IfSome, IsOk, MatchResult, OnOk, string_bytes};
+ghost use Rattle.std.specs.Prelude.{◌≡◌, IfOk, OnErr, OnOk, length, map, true};
 ghost use Rattle.std.specs.Io.KnownBytes.{Appends};
-ghost use Rattle.std.specs.IoError.{error_kind};
-ghost use Rattle.sql_tree.specs.Printed.{has_headings, heading};
-ghost use Rattle.sql_tree.specs.Refusals.{RefusesBytes, unread_line};
-ghost use Rattle.sql_tree.specs.Reports.{IsReport};
+ghost use Rattle.sql_tree.specs.Printed.{has_headings, heading, printed, printed_errors};
+ghost use Rattle.sql_tree.specs.Refusals.{IsToldOf};
+ghost use Rattle.sql_tree.specs.Told.{TellsAll, TellsTexts, last_line};
 
 use crate::options::Listing;
+use crate::printer::Printer;
 use crate::report::Report;
 use crate::sql::Sql;
+use crate::texts::{Files, StandardInput, Texts};
 use crate::totals::Totals;
 use crate::unread::Unread;
 use std::alloc::Global;
-use std::io::{Read, Write};
-use std::{fs, io, str};
+use std::io::Write;
+use std::{io, str};
 
 /// What a text from the standard input is called.
 const STANDARD_INPUT: &str = "<stdin>";
 
-/// Tells what the options ask of each text, and the status to end with.
-pub fn tell_all(rt: &HostRuntime, listing: Listing, files: &[&str]) -> io::Result<u8> {
+/// Tells what the options ask of each file, or of the standard input if none is named. Returns the status to end with.
+pub fn tell_files(rt: &HostRuntime, listing: Listing, files: &[&str]) -> io::Result<u8> {
     let alloc = rt.alloc();
     let sql = Sql::new(alloc)?;
-    let mut out = io::writer(rt);
-    let mut errors = rt.stderr();
-    let mut totals = Totals::new();
-    let has_headings = has_headings(listing, files.len());
+    let mut printer = Printer::new(io::writer(rt), rt.stderr());
     if files.is_empty() {
-        let bytes = read_all(alloc, &mut rt.reader());
-        let report = report(alloc, &sql, listing, STANDARD_INPUT, bytes);
-        tell(
-            &mut out,
-            &mut errors,
-            &mut totals,
-            false,
-            STANDARD_INPUT,
-            report,
-        )?;
+        let input = StandardInput(rt);
+        tell_all(
+            alloc,
+            &sql,
+            listing,
+            &input,
+            &[STANDARD_INPUT],
+            &mut printer,
+        )
+    } else {
+        tell_all(alloc, &sql, listing, &Files(rt), files, &mut printer)
     }
-    for name in files {
-        let bytes = fs::read(rt, *name);
-        let report = report(alloc, &sql, listing, name, bytes);
-        tell(
-            &mut out,
-            &mut errors,
-            &mut totals,
-            has_headings,
-            name,
-            report,
-        )?;
-    }
-    if listing != Listing::Quiet {
-        tell_totals(&mut errors, totals)?;
-    }
+}
+
+/// Tells of each text in turn, and prints the last line. Returns the status to end with.
+pub fn tell_all<T: Texts, W: Write + Drop, E: Write + Drop>(
+    alloc: Global,
+    sql: &Sql,
+    listing: Listing,
+    texts: &T,
+    names: &[&str],
+    printer: &mut Printer<W, E>,
+) -> io::Result<u8>
+    ensures told { IfOk result (TellsAll (T.gives texts.now) sql.now listing (map (λ name. name.now) names.now)
+        (W.contents printer.old.out) (W.contents printer.new.out) (E.contents printer.old.errors) (E.contents printer.new.errors)) }
+    ensures failed { OnErr result (printer.new.has_failed ≡ true) }
+{
+    let totals = tell_texts(alloc, sql, listing, texts, names, printer)?;
+    print_last(printer, listing, totals)?;
     Ok(totals.status())
+}
+
+/// Tells of each text in turn. Returns what is counted.
+fn tell_texts<T: Texts, W: Write + Drop, E: Write + Drop>(
+    alloc: Global,
+    sql: &Sql,
+    listing: Listing,
+    texts: &T,
+    names: &[&str],
+    printer: &mut Printer<W, E>,
+) -> io::Result<Totals>
+    ensures told { IfOk result (λ totals. TellsTexts (T.gives texts.now) sql.now listing (has_headings listing (length names.now)) (map (λ name. name.now) names.now)
+        totals (W.contents printer.old.out) (W.contents printer.new.out) (E.contents printer.old.errors) (E.contents printer.new.errors)) }
+    ensures failed { OnErr result (printer.new.has_failed ≡ true) }
+{
+    let has_heading = has_headings(listing, names.len());
+    let mut totals = Totals::new();
+    for name in names {
+        let bytes = texts.read(name);
+        let report = report(alloc, sql, listing, name, bytes);
+        totals.count(&report);
+        tell(printer, has_heading, name, &report)?;
+    }
+    Ok(totals)
+}
+
+/// Prints the last line, but not where only errors are told.
+fn print_last<W: Write + Drop, E: Write + Drop>(
+    printer: &mut Printer<W, E>,
+    listing: Listing,
+    totals: Totals,
+) -> io::Result<()>
+    ensures ok { OnOk result (Appends (E.contents printer.old.errors) (E.contents printer.new.errors) (last_line listing totals)) }
+    ensures failed { OnErr result (printer.new.has_failed ≡ true) }
+    ensures out { printer.new.out ≡ printer.old.out }
+{
+    match listing {
+        Listing::Quiet => Ok(()),
+        _ => printer.print_totals(totals),
+    }
 }
 
 /// Whether the name of each of so many texts stands over what is listed of it.
@@ -66,13 +107,6 @@ pub fn has_headings(listing: Listing, count: usize) -> bool
     }
 }
 
-/// All that a reader has.
-fn read_all<R: Read>(alloc: Global, reader: &mut R) -> io::Result<Vec<u8>> {
-    let mut bytes = Vec::new(alloc);
-    reader.read_to_end(&mut bytes)?;
-    Ok(bytes)
-}
-
 /// What is told of the bytes that were read.
 #[tactic(auto, using(crate::proofs::Reasons::of_text))]
 fn report(
@@ -82,10 +116,7 @@ fn report(
     name: &str,
     bytes: io::Result<Vec<u8>>,
 ) -> Result<Report, Unread>
-    ensures read { OnOk result (IsOk bytes) }
-    ensures told { IfOk result (λ report. IfOk bytes (λ read. IsReport sql.now listing name.now read.items report)) }
-    ensures unread { IfErr bytes (λ error. result ≡ Err (Unread.Io (error_kind error))) }
-    ensures refused { IfErr result (λ reason. IfOk bytes (λ read. RefusesBytes sql.now read.items reason)) }
+    ensures { IsToldOf sql.now listing name.now bytes result }
 {
     let bytes = bytes?;
     match str::from_utf8(&bytes) {
@@ -96,55 +127,41 @@ fn report(
     }
 }
 
-/// Prints what is told of a text, and counts it.
-fn tell<W: Write, E: Write>(
-    out: &mut W,
-    errors: &mut E,
-    totals: &mut Totals,
+/// Prints what is told of a text.
+fn tell<W: Write + Drop, E: Write + Drop>(
+    printer: &mut Printer<W, E>,
     has_heading: bool,
     name: &str,
-    report: Result<Report, Unread>,
+    report: &Result<Report, Unread>,
 ) -> io::Result<()>
-    ensures listed { OnOk result (IfOk report (λ r. Appends (W.contents out.old) (W.contents out.new) (heading has_heading name.now ++ string_bytes r.listing))) }
-    ensures errors { OnOk result (IfOk report (λ r. Appends (E.contents errors.old) (E.contents errors.new) r.errors.items)) }
-    ensures line { OnOk result (IfErr report (λ unread. IfSome (unread_line unread) (λ line.
-        Appends (E.contents errors.old) (E.contents errors.new) (name.now ++ codes ": " ++ line ++ codes "\n")))) }
-    ensures unread { MatchResult report (λ _. totals.new.unread ≡ totals.old.unread) (λ _. totals.new.unread ≡ true) }
+    ensures listed { OnOk result (Appends (W.contents printer.old.out) (W.contents printer.new.out) (printed has_heading name.now report.now)) }
+    ensures errors { OnOk result (Appends (E.contents printer.old.errors) (E.contents printer.new.errors) (printed_errors name.now report.now)) }
+    ensures unlisted { OnErr report.now (printer.new.out ≡ printer.old.out) }
+    ensures failed { OnErr result (printer.new.has_failed ≡ true) }
 {
     match report {
         Ok(report) => {
-            totals.files = totals.files.saturating_add(1);
-            totals.statements = totals.statements.saturating_add(report.statement_count);
-            totals.errors = totals.errors.saturating_add(report.error_count);
-            print_heading(out, has_heading, name)?;
-            out.write_all(report.listing.as_bytes())?;
-            errors.write_all(&report.errors)
+            print_heading(printer, has_heading, name)?;
+            printer.print(report.listing.as_bytes())?;
+            printer.print_errors(&report.errors)
         }
-        Err(unread) => {
-            totals.unread = true;
-            writeln!(errors, "{name}: {unread}")
-        }
+        Err(unread) => printer.print_unread(name, *unread),
     }
 }
 
 /// Prints a text's name, where it has a heading.
-fn print_heading<W: Write>(out: &mut W, has_heading: bool, name: &str) -> io::Result<()>
-    ensures { OnOk result (Appends (W.contents out.old) (W.contents out.new) (heading has_heading name.now)) }
+fn print_heading<W: Write + Drop, E: Write + Drop>(
+    printer: &mut Printer<W, E>,
+    has_heading: bool,
+    name: &str,
+) -> io::Result<()>
+    ensures ok { OnOk result (Appends (W.contents printer.old.out) (W.contents printer.new.out) (heading has_heading name.now)) }
+    ensures failed { OnErr result (printer.new.has_failed ≡ true) }
+    ensures errors { printer.new.errors ≡ printer.old.errors }
 {
     if !has_heading {
         return Ok(());
     }
-    out.write_all(name.as_bytes())?;
-    out.write_all(b":\n")
-}
-
-/// Prints the last line.
-fn tell_totals<E: Write>(errors: &mut E, totals: Totals) -> io::Result<()> {
-    let files = totals.files;
-    let statements = totals.statements;
-    let found = totals.errors;
-    writeln!(
-        errors,
-        "files: {files}, statements: {statements}, errors: {found}"
-    )
+    printer.print(name.as_bytes())?;
+    printer.print(b":\n")
 }

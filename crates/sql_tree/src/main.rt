@@ -3,22 +3,22 @@
 
 mod inputs;
 mod options;
+mod printer;
 mod report;
 mod sql;
 #[cfg(test)]
 mod tests;
+mod texts;
 mod totals;
 mod unread;
 
-use crate::inputs::tell_all;
+use crate::inputs::tell_files;
 use crate::options::{FILE, asked_listing, command};
+use crate::totals::{UNREAD, WRONG_ARGUMENTS};
 use clap::error::{Error, ErrorKind as ArgumentsError};
 use std::io::ErrorKind;
 use std::process::ExitCode;
 use std::{env, io};
-
-/// The status where what it is told to read can't be read.
-const UNREAD: u8 = 3;
 
 fn main(rt: HostRuntime) -> ExitCode {
     match run(&rt) {
@@ -41,7 +41,7 @@ fn run(rt: &HostRuntime) -> io::Result<u8> {
 /// Does what these words say.
 fn run_words(rt: &HostRuntime, words: &[String]) -> io::Result<u8> {
     match command(rt.alloc())?.try_get_matches_from(words) {
-        Ok(matches) => tell_all(
+        Ok(matches) => tell_files(
             rt,
             asked_listing(&matches),
             matches.get_strs(FILE).unwrap_or(&[]),
@@ -56,5 +56,9 @@ fn refuse(rt: &HostRuntime, error: &Error) -> io::Result<u8> {
         return Err(io::Error::from(ErrorKind::OutOfMemory));
     }
     error.print(rt)?;
-    Ok(if error.use_stderr() { 2 } else { 0 })
+    Ok(if error.use_stderr() {
+        WRONG_ARGUMENTS
+    } else {
+        0
+    })
 }

@@ -1,7 +1,9 @@
 //! The program's arguments.
-ghost use Rattle.std.specs.Prelude.{◌≡◌};
+ghost use Rattle.std.specs.Prelude.{◌≡◌, [], ◌∷◌, false, map, IfOk};
+ghost use Rattle.clap.specs.Facts.{args_of};
 ghost use Rattle.clap.specs.Matches.{found_of};
-ghost use Rattle.sql_tree.specs.Options as spec;
+ghost use Rattle.clap.specs.Walk.{rule_of, rules_of};
+ghost use Rattle.sql_tree.specs.Options.{IsAsked, argument_of, arguments, excluded, file_argument, flag_argument, flags, others, row};
 
 use clap::{Arg, ArgAction, ArgMatches, Command};
 use std::alloc::{AllocError, Global};
@@ -21,41 +23,81 @@ pub enum Listing {
     Quiet,
 }
 
+/// A flag, and what goes to the standard output with it.
+struct Flag {
+    name: &'static str,
+    help: &'static str,
+    listing: Listing,
+}
+
+/// The flags, of which one may be used.
+static FLAGS: [Flag; 4] = [
+    Flag {
+        name: "statements",
+        help: "Print a line for each statement",
+        listing: Listing::Statements,
+    },
+    Flag {
+        name: "json",
+        help: "Print a line of JSON for each statement, with its tree",
+        listing: Listing::Json,
+    },
+    Flag {
+        name: "tokens",
+        help: "Print a line for each raw token",
+        listing: Listing::Tokens,
+    },
+    Flag {
+        name: "quiet",
+        help: "Print errors alone",
+        listing: Listing::Quiet,
+    },
+];
+
 /// What the argument with the files is called.
 pub const FILE: &str = "FILE";
 
 /// What the arguments may be.
-pub fn command<'a>(alloc: Global) -> Result<Command<'a>, AllocError> {
-    let files = Arg::new(alloc, FILE)
-        .action(ArgAction::Append)
-        .num_args(0..)
-        .help("SQL files in UTF-8; the standard input where none is named");
-    Command::new(alloc, "sql_tree")
+pub fn command<'a>(alloc: Global) -> Result<Command<'a>, AllocError>
+    ensures arguments { IfOk result (λ command. map argument_of (rules_of command) ≡ arguments) }
+    // A flag rules out the others.
+    ensures excludes { IfOk result (λ command. map excluded (args_of command) ≡ [] ∷ map (λ flag. others flag.name) flags) }
+{
+    let mut command = Command::new(alloc, "sql_tree")
         .version("0.2.0")
         .about("Prints the lossless tree of SQL, statement by statement, with its errors")
-        .arg(files)?
-        .arg(flag(alloc, "statements", "Print a line for each statement")?)?
-        .arg(flag(
-            alloc,
-            "json",
-            "Print a line of JSON for each statement, with its tree",
-        )?)?
-        .arg(flag(alloc, "tokens", "Print a line for each raw token")?)?
-        .arg(flag(alloc, "quiet", "Print errors alone")?)
+        .arg(files(alloc))?;
+    for flag in &FLAGS {
+        command = command.arg(argument(alloc, flag)?)?;
+    }
+    Ok(command)
 }
 
-/// The names of the flags, of which one may be used.
-static FLAGS: [&str; 4] = ["statements", "json", "tokens", "quiet"];
+/// The argument with the files.
+fn files<'a>(alloc: Global) -> Arg<'a>
+    ensures argument { argument_of (rule_of result) ≡ file_argument }
+    ensures local { result.global ≡ false }
+    ensures excludes { excluded result ≡ [] }
+{
+    Arg::new(alloc, FILE)
+        .action(ArgAction::Append)
+        .num_args(0..)
+        .help("SQL files (UTF-8); standard input if none is given")
+}
 
-/// A flag that rules out the others.
-fn flag<'a>(alloc: Global, name: &'a str, help: &'a str) -> Result<Arg<'a>, AllocError> {
-    let mut arg = Arg::new(alloc, name)
-        .long(name)
+/// The argument of a flag, which rules out the other flags.
+fn argument<'a>(alloc: Global, flag: &Flag) -> Result<Arg<'a>, AllocError>
+    ensures argument { IfOk result (λ arg. argument_of (rule_of arg) ≡ flag_argument (row flag.now.name.now flag.now.listing)) }
+    ensures local { IfOk result (λ arg. arg.global ≡ false) }
+    ensures excludes { IfOk result (λ arg. excluded arg ≡ others flag.now.name.now) }
+{
+    let mut arg = Arg::new(alloc, flag.name)
+        .long(flag.name)
         .action(ArgAction::SetTrue)
-        .help(help);
+        .help(flag.help);
     for other in &FLAGS {
-        if *other != name {
-            arg = arg.conflicts_with(*other)?;
+        if other.name != flag.name {
+            arg = arg.conflicts_with(other.name)?;
         }
     }
     Ok(arg)
@@ -63,24 +105,12 @@ fn flag<'a>(alloc: Global, name: &'a str, help: &'a str) -> Result<Arg<'a>, Allo
 
 /// What the arguments say is to be printed.
 pub fn asked_listing(matches: &ArgMatches<'_>) -> Listing
-    ensures { spec.IsAsked (found_of matches.now) result }
+    ensures { IsAsked (found_of matches.now) flags result }
 {
-    let statements = matches.get_flag("statements");
-    let json = matches.get_flag("json");
-    let tokens = matches.get_flag("tokens");
-    let quiet = matches.get_flag("quiet");
-    listing_by(statements, json, tokens, quiet)
-}
-
-/// What is printed by the flags, of which one is set at the most.
-fn listing_by(statements: bool, json: bool, tokens: bool, quiet: bool) -> Listing
-    ensures { result ≡ spec.listing_by statements json tokens quiet }
-{
-    match (statements, json, tokens, quiet) {
-        (true, ..) => Listing::Statements,
-        (_, true, ..) => Listing::Json,
-        (_, _, true, _) => Listing::Tokens,
-        (.., true) => Listing::Quiet,
-        _ => Listing::Tree,
+    for flag in &FLAGS {
+        if matches.get_flag(flag.name) {
+            return flag.listing;
+        }
     }
+    Listing::Tree
 }

@@ -1,14 +1,13 @@
 //! What is told of a text.
-ghost use Rattle.std.specs.Prelude.{◌≡◌, ◌≢◌, IfErr, IfOk, length, string_bytes};
+ghost use Rattle.std.specs.Prelude.{◌≡◌, ◌<◌, ◌^◌, IfErr, IfOk, length, string_bytes};
 ghost use Rattle.squawk_table.specs.Sent.{sent_list};
 ghost use Rattle.squawk_table.specs.Shape.{Fits};
+ghost use Rattle.squawk_tokens.specs.AcceptedTokens.{start_of};
 ghost use Rattle.squawk_tree.specs.TreeText.{tree_text};
 ghost use Rattle.sql_lexer.specs.Scripts.{script_tokens};
-ghost use Rattle.sql_lexer.specs.Tokens as lexer_rules;
 ghost use Rattle.sql_report.specs.JsonTrees.{HasTreeLines};
-ghost use Rattle.sql_report.specs.Statements.{statements_of};
 ghost use Rattle.sql_report.specs.TokenLines.{token_lines};
-ghost use Rattle.sql_tree.specs.Listings.{listed};
+ghost use Rattle.sql_tree.specs.Listings.{AreCounted, listed};
 ghost use Rattle.sql_tree.specs.Refusals.{RefusesText};
 ghost use Rattle.squawk_kinds.specs.EngineNames.{names_of};
 
@@ -16,9 +15,11 @@ use crate::options::Listing;
 use crate::sql::Sql;
 use crate::unread::Unread;
 use sql_grammar::{Detail, parse_table};
-use sql_lexer::{TokenizeError, tokenize_script};
-use sql_report::{error_lines, findings, json_lines, statement_lines, statements, token_lines};
-use squawk_parser::{LexedStr, Output};
+use sql_lexer::tokenize_script;
+use sql_report::{
+    Statement, error_lines, findings, json_lines, statement_lines, statements, token_lines,
+};
+use squawk_parser::{LexedStr, Output, Token};
 use squawk_tree::TreeText;
 use std::alloc::{AllocError, Global};
 
@@ -53,57 +54,72 @@ impl Report {
     {
         let tokens = tokenize_script(alloc, text)?;
         let table = LexedStr::from_accepted(alloc, text, &tokens, &sql.vocabulary)?;
+        let raw_lines = raw_lines(alloc, listing, &tokens)?;
         drop(tokens);
         let output = parse_table(alloc, &table, &sql.vocabulary, Detail::Nodes)?;
         let findings = findings(alloc, &table, &output)?;
         let errors = error_lines(alloc, name, text, &findings)?;
         let error_count = findings.len();
-        let statement_count = count(alloc, listing, &table, &output)?;
-        let listing = list(alloc, sql, listing, text, &table, &output)?;
+        let statements = counted(alloc, listing, &table, &output)?;
+        let parsed = Parsed {
+            text,
+            table: &table,
+            output: &output,
+            statements: &statements,
+        };
+        let listing = list(alloc, sql, listing, &parsed, raw_lines)?;
         Ok(Report {
             listing,
             errors,
             error_count,
-            statement_count,
+            statement_count: statements.len(),
         })
     }
 }
 
-/// What goes to the standard output.
-#[tactic(auto, using(crate::proofs::Reasons::of_lexer))]
+/// A text, its parse and its statements.
+#[derive(Drop)]
+struct Parsed<'t> {
+    text: &'t str,
+    table: &'t LexedStr<'t>,
+    output: &'t Output,
+    statements: &'t [Statement],
+}
+
+/// What goes to the standard output. The lines of the raw tokens are made before.
 fn list(
     alloc: Global,
     sql: &Sql,
     listing: Listing,
-    text: &str,
-    table: &LexedStr<'_>,
-    output: &Output,
-) -> Result<String, Unread>
-    requires { Fits table.now output.now.steps }
-    ensures listed { IfOk result (λ list. string_bytes list ≡ listed sql.now listing text.now (sent_list table.now output.now.steps)) }
+    parsed: &Parsed<'_>,
+    raw_lines: String,
+) -> Result<String, AllocError>
+    requires fits { Fits parsed.now.table.now parsed.now.output.now.steps }
+    requires statements { AreCounted listing (sent_list parsed.now.table.now parsed.now.output.now.steps) parsed.now.statements.now }
+    requires raw { listing ≡ Listing.Tokens → string_bytes raw_lines ≡ token_lines 0 (script_tokens parsed.now.text.now) }
+    ensures listed { IfOk result (λ list. string_bytes list ≡
+        listed sql.now listing parsed.now.text.now (sent_list parsed.now.table.now parsed.now.output.now.steps)) }
     ensures values { IfOk result (λ list. listing ≡ Listing.Json →
-        HasTreeLines (names_of sql.now.names.items) (sent_list table.now output.now.steps) (string_bytes list)) }
-    ensures refused { IfErr result (RefusesText sql.now text.now) }
+        HasTreeLines (names_of sql.now.names.items) (sent_list parsed.now.table.now parsed.now.output.now.steps) (string_bytes list)) }
 {
     match listing {
-        Listing::Tree => Ok(tree(alloc, sql, table, output)?),
-        Listing::Statements => {
-            let statements = statements(alloc, table, output)?;
-            Ok(statement_lines(alloc, text, &statements, sql.names())?)
-        }
-        Listing::Json => Ok(json_lines(alloc, table, output, sql.names())?),
-        Listing::Tokens => Ok(token_list(alloc, text)?),
+        Listing::Tree => tree(alloc, sql, parsed.table, parsed.output),
+        Listing::Statements => statement_lines(alloc, parsed.text, parsed.statements, sql.names()),
+        Listing::Json => json_lines(alloc, parsed.table, parsed.output, sql.names()),
+        Listing::Tokens => Ok(raw_lines),
         Listing::Quiet => Ok(String::new(alloc)),
     }
 }
 
-/// The raw tokens as lines.
-fn token_list(alloc: Global, text: &str) -> Result<String, TokenizeError>
-    ensures list { IfOk result (λ list. string_bytes list ≡ token_lines 0 (script_tokens text.now)) }
-    ensures refused { IfErr result (lexer_rules.RefusesText text.now) }
+/// The raw tokens as lines, where they are asked for.
+fn raw_lines(alloc: Global, listing: Listing, tokens: &[Token]) -> Result<String, AllocError>
+    requires { start_of tokens.now (length tokens.now) < 2 ^ 64 }
+    ensures { IfOk result (λ lines. listing ≡ Listing.Tokens → string_bytes lines ≡ token_lines 0 tokens.now) }
 {
-    let tokens = tokenize_script(alloc, text)?;
-    Ok(token_lines(alloc, &tokens)?)
+    match listing {
+        Listing::Tokens => token_lines(alloc, tokens),
+        _ => Ok(String::new(alloc)),
+    }
 }
 
 /// The tree as indented text.
@@ -121,18 +137,18 @@ fn tree(
     sink.finish(alloc, sql.names())
 }
 
-/// How many statements there are; they aren't counted where only errors are told.
-fn count(
+/// The statements; none where only errors are told.
+fn counted(
     alloc: Global,
     listing: Listing,
     table: &LexedStr<'_>,
     output: &Output,
-) -> Result<usize, AllocError>
+) -> Result<Vec<Statement>, AllocError>
     requires { Fits table.now output.now.steps }
-    ensures { IfOk result (λ count. listing ≢ Listing.Quiet → count ≡ length (statements_of (sent_list table.now output.now.steps))) }
+    ensures { IfOk result (λ all. AreCounted listing (sent_list table.now output.now.steps) all.items) }
 {
     match listing {
-        Listing::Quiet => Ok(0),
-        _ => Ok(statements(alloc, table, output)?.len()),
+        Listing::Quiet => Ok(Vec::new(alloc)),
+        _ => statements(alloc, table, output),
     }
 }

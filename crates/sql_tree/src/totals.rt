@@ -1,5 +1,17 @@
 //! What the last line counts.
 
+use crate::report::Report;
+use crate::unread::Unread;
+
+/// The status where a text has errors.
+const ERRORS: u8 = 1;
+
+/// The status where arguments are wrong.
+pub const WRONG_ARGUMENTS: u8 = 2;
+
+/// The status where a text can't be read, or output fails.
+pub const UNREAD: u8 = 3;
+
 /// How many files were read, and what stands in them.
 #[derive(Clone, Copy, Debug, PartialEq, Eq)]
 pub struct Totals {
@@ -11,12 +23,12 @@ pub struct Totals {
 }
 
 impl Totals {
-    ghost use Rattle.std.specs.Prelude.{◌≡◌, false};
-    ghost use Rattle.sql_tree.specs.Printed.{status_of};
+    ghost use Rattle.std.specs.Prelude.{◌≡◌};
+    ghost use Rattle.sql_tree.specs.Printed.{counted, no_totals, status_of};
 
     /// Nothing was read yet.
     pub fn new() -> Totals
-        ensures { result ≡ record { files = 0; statements = 0; errors = 0; unread = false } }
+        ensures { result ≡ no_totals }
     {
         Totals {
             files: 0,
@@ -26,14 +38,28 @@ impl Totals {
         }
     }
 
+    /// Counts what is told of a text.
+    pub fn count(&mut self, report: &Result<Report, Unread>)
+        ensures { self.new ≡ counted self.old report.now }
+    {
+        match report {
+            Ok(report) => {
+                self.files = self.files.saturating_add(1);
+                self.statements = self.statements.saturating_add(report.statement_count);
+                self.errors = self.errors.saturating_add(report.error_count);
+            }
+            Err(_) => self.unread = true,
+        }
+    }
+
     /// The status that the program ends with.
     pub fn status(&self) -> u8
         ensures { result ≡ status_of self.now }
     {
         if self.unread {
-            3
+            UNREAD
         } else if self.errors > 0 {
-            1
+            ERRORS
         } else {
             0
         }

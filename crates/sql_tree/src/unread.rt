@@ -1,5 +1,6 @@
 //! Why a text has no tree.
 ghost use Rattle.std.specs.Prelude.{◌≡◌};
+ghost use Rattle.sql_tree.specs.Refusals.{io_words};
 
 use sql_lexer::TokenizeError;
 use squawk_parser::ParseError;
@@ -13,7 +14,7 @@ use std::{fmt, io};
 pub enum Unread {
     /// The file can't be opened or read.
     Io(ErrorKind),
-    /// The byte at this place is no UTF-8.
+    /// The byte at this place isn't UTF-8.
     NotUtf8 { at: usize },
     /// The text has more than `u32::MAX` bytes.
     TextTooLong,
@@ -26,19 +27,40 @@ pub enum Unread {
 }
 
 impl fmt::Display for Unread {
+    ghost use Rattle.std.specs.Prelude.{Some};
     ghost use Rattle.sql_tree.specs.Refusals.{unread_line};
 
-    ghost output = { unread_line };
+    ghost output = { λ unread. Some (unread_line unread) };
 
     fn fmt<W: fmt::Write>(&self, f: &mut fmt::Formatter<W>) -> fmt::Result {
         match *self {
-            Unread::Io(kind) => write!(f, "{kind}"),
-            Unread::NotUtf8 { at } => write!(f, "no UTF-8 at byte {at}"),
+            Unread::Io(kind) => {
+                let words = io_words(kind);
+                write!(f, "{words}")
+            }
+            Unread::NotUtf8 { at } => write!(f, "invalid UTF-8 at byte {at}"),
             Unread::TextTooLong => write!(f, "more than 4294967295 bytes"),
             Unread::TooManyEvents => write!(f, "too many events"),
             Unread::TooManyErrors => write!(f, "too many errors"),
             Unread::OutOfMemory => write!(f, "out of memory"),
         }
+    }
+}
+
+/// What the system's errors are called.
+fn io_words(kind: ErrorKind) -> &'static str
+    ensures { result.now ≡ io_words kind }
+{
+    match kind {
+        ErrorKind::NotFound => "entity not found",
+        ErrorKind::PermissionDenied => "permission denied",
+        ErrorKind::NotADirectory => "not a directory",
+        ErrorKind::IsADirectory => "is a directory",
+        ErrorKind::FilesystemLoop => "filesystem loop or indirection limit (e.g. symlink loop)",
+        ErrorKind::InvalidInput => "invalid input parameter",
+        ErrorKind::InvalidFilename => "invalid filename",
+        ErrorKind::OutOfMemory => "out of memory",
+        _ => "can't be read",
     }
 }
 

@@ -12,7 +12,7 @@ entered_back-push (k ∷ ks) kind = ap (λ ys. ys ++ entering k) (entered_back-p
 
 -- one kind more
 pub Enters-next : (kinds before after : List ℕ) (output made entered : Built) (kind : ℕ) → before ≡ after ++ kind ∷ []
-    → entered ≡ record made { steps = made.steps ++ entering kind; turns = made.turns + 2 } → Enters kinds output before made → Enters kinds output after entered
+    → entered ≡ record made { steps = made.steps ++ entering kind; turns = made.turns + 1 } → Enters kinds output before made → Enters kinds output after entered
 Enters-next kinds before after output made entered kind popped is enters = record {
   turns = omega (arith, ap length popped, length-append after (kind ∷ []), enters.turns, ap (λ w. w.turns) is);
   steps =

@@ -1,5 +1,5 @@
 -- Events of a list visited.
-use Rattle.std.proofs.Common.{◌≡◌, ◌∙◌, ℕ, ◌+◌, ◌*◌, ◌^◌, ◌<◌, ◌≤◌, ◌++◌, ◌∷◌, [], true, List, length, length-append, get_or, drop, refl, sym, ap, subst, arith}
+use Rattle.std.proofs.Common.{◌≡◌, ◌∙◌, ℕ, ◌+◌, ◌^◌, ◌<◌, ◌≤◌, ◌++◌, ◌∷◌, [], true, List, length, length-append, get_or, drop, refl, sym, ap, subst, arith}
 use Rattle.std.proofs.Math.ListN.{drop_of_length-le}
 use Rattle.std.proofs.lemmas.List.{append-nil}
 use Rattle.squawk_output.specs.Steps.{Built, Walk}
@@ -36,22 +36,25 @@ module _ (texts : List (List ℕ)) (events : List StoredEvent) (index : ℕ) (wi
     follows_here = Follows-begins (log_in texts events) pushed index kind (link_of link) event.Finish start_here log_within links
 
     module _ (left : List StoredEvent) (kinds : List ℕ) (at last : ℕ) (ends : last ≤ 0)
-        (follows : Follows (log_in texts events) pushed (hop index (link_of link)) (log_in texts left) kinds (hop at (link_of last))) (output : Built) where
+        (follows : Follows (log_in texts events) pushed (hop index (link_of link)) (log_in texts left) kinds (hop at (link_of last))) (output counted : Built)
+        (counts : counted ≡ record output { turns = output.turns + length kinds }) where
       all_kinds : kinds ≡ kind ∷ chain (hop index (link_of link)) (log_in texts events)
       all_kinds = ends-kinds _ _ _ _ _ at _ (link_of-none last ends) follows ∙ rw (push, empty) refl
 
-      pub linked_fits : length events < 2 ^ 32 → output.turns < 2 ^ 35 → output.turns + 2 * length kinds + 2 < 2 ^ 64
+      pub linked_fits : length events < 2 ^ 32 → output.turns < 2 ^ 35 → counted.turns + length kinds < 2 ^ 64
       linked_fits few turns =
-          kinds_fit (log_in texts events) output index kind (link_of link) event.Finish log_within links start_here kinds all_kinds (omega (arith, few, length-log_in texts events)) turns
+          rw counts
+          (kinds_fit (log_in texts events) output index kind (link_of link) event.Finish log_within links start_here kinds all_kinds (omega (arith, few, length-log_in texts events)) turns)
 
-      pub linked_has_room : HasRoom (log_in texts events) output index → length output.steps + length (entered_back kinds) ≤ output.room
-      linked_has_room = kinds_have_room (log_in texts events) output index kind (link_of link) event.Finish log_within links start_here kinds all_kinds
+      pub linked_has_room : HasRoom (log_in texts events) output index → length counted.steps + length (entered_back kinds) ≤ counted.room
+      linked_has_room room =
+          rw counts (kinds_have_room (log_in texts events) output index kind (link_of link) event.Finish log_within links start_here kinds all_kinds room)
 
-      pub linked_visits : (made : Built) → made ≡ record output { steps = output.steps ++ entered_back kinds; turns = output.turns + 2 * length kinds }
+      pub linked_visits : (made : Built) → made ≡ record counted { steps = counted.steps ++ entered_back kinds; turns = counted.turns + length kinds }
           → Visits (log_in texts events) output (log_in texts left) made index
       linked_visits made enter =
           Visits-linked (log_in texts events) output index kind (link_of link) event.Finish log_within links start_here kinds all_kinds (log_in texts left) made
-          (ends-events _ _ _ _ _ at _ (link_of-none last ends) follows) enter
+          (ends-events _ _ _ _ _ at _ (link_of-none last ends) follows) (rw counts at enter)
 
 -- ---- the loop over a list
 

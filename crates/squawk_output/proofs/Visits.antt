@@ -134,13 +134,19 @@ steps-first log index event begins =
       length-append (entered (linked_index event) behind) (steps_of_event event),
     )
 
+-- one kind more is found, and one turn more is counted
+pub counted-next : (output made turned : Built) (kinds more : List ℕ) (kind : ℕ) → made ≡ record output { turns = output.turns + length kinds }
+    → turned ≡ record made { turns = made.turns + 1 } → more ≡ kinds ++ kind ∷ [] → turned ≡ record output { turns = output.turns + length more }
+counted-next output made turned kinds more kind counted turn pushed =
+    rw (turn, counted, pushed) (ap (λ n. record output { turns = n }) (omega (arith, length-append kinds (kind ∷ []))))
+
 -- a Start with a link: its kind and those of the chain behind it are entered
 module _ (log : Log) (output : Built) (index kind : ℕ) (link : Option ℕ) (d : Event) (within : index < length log) (links : LinksLead log) (whole : get_or log index d ≡ Start kind link)
     (kinds : List ℕ) (found : kinds ≡ kind ∷ chain (hop index link) log) where
   chained : kinds ≡ chain (Some index) log
   chained = found ∙ sym (chain-hop log index kind link d whole within links)
 
-  pub kinds_fit : length log < 2 ^ 32 → output.turns < 2 ^ 35 → output.turns + 2 * length kinds + 2 < 2 ^ 64
+  pub kinds_fit : length log < 2 ^ 32 → output.turns < 2 ^ 35 → output.turns + length kinds + length kinds < 2 ^ 64
   kinds_fit few turns = omega (arith, ap length found, length-chain (hop index link) log)
 
   pub kinds_have_room : HasRoom log output index → length output.steps + length (entered_back kinds) ≤ output.room
@@ -155,7 +161,7 @@ module _ (log : Log) (output : Built) (index kind : ℕ) (link : Option ℕ) (d 
       )
 
   pub Visits-linked : (after : Log) (made : Built) → after ≡ erased (hop index link) log
-      → made ≡ record output { steps = output.steps ++ entered_back kinds; turns = output.turns + 2 * length kinds } → Visits log output after made index
+      → made ≡ record output { steps = output.steps ++ entered_back kinds; turns = output.turns + length kinds + length kinds } → Visits log output after made index
   Visits-linked after made left enter =
       let rest : drop (index + 1) after ≡ drop (suc index) (erased (Some index) log) = rw (add-one, left) (drop-hop log index kind link d whole within links) in
       record {

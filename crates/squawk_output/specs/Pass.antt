@@ -1,5 +1,5 @@
 -- Invariants: of the loop that stores events, and of those of the pass.
-use Rattle.std.specs.Prelude.{◌≡◌, ℕ, ◌+◌, ◌*◌, ◌≤◌, cond, false, Option, None, List, [], ◌++◌, length, drop}
+use Rattle.std.specs.Prelude.{◌≡◌, ℕ, ◌+◌, ◌≤◌, cond, false, Option, None, List, [], ◌++◌, length, drop}
 use Rattle.squawk_output.specs.Steps.{Built}
 use Rattle.squawk_output.specs.EventLog.{Log, LinksLead, has_link, is_start, linked_index, list_of, steps_of_event, turns_of}
 use Rattle.squawk_output.specs.declared.event.Event.{Event}
@@ -19,9 +19,9 @@ pub record Follows (log : Log) (kinds : List ℕ) (from : Option ℕ) (log' : Lo
   pub leaves : erased next log' ≡ erased from log
   pub finds : kinds' ++ chain next log' ≡ kinds ++ chain from log
 
--- Kinds are entered from the last to the first, two turns each: those that are left are still to be entered.
+-- Kinds are entered from the last to the first, a turn each: those that are left are still to be entered.
 pub record Enters (kinds : List ℕ) (output : Built) (kinds' : List ℕ) (output' : Built) : Type 0 where
-  pub turns : output'.turns + 2 * length kinds' ≡ output.turns + 2 * length kinds
+  pub turns : output'.turns + length kinds' ≡ output.turns + length kinds
   pub steps : output'.steps ++ entered_back kinds' ≡ output.steps ++ entered_back kinds
   pub room : output'.room ≡ output.room
   pub texts : output'.texts ≡ output.texts

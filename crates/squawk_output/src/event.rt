@@ -62,7 +62,7 @@ pub enum Event {
 /// from two events lead to one `Start`, its node begins at the first of them. Every link leads to a later
 /// `Start`, and the log has at most `u32::MAX` events, of which at most 2^31 are errors.
 ///
-/// A turn is an event visited, a link followed, or a kind entered of those that a visit has found. An event
+/// A turn is an event visited, a link followed, or a kind taken of those that a visit has found. An event
 /// that a link has reached is visited, too. The turns are one for each event, one for each `Start`, and two
 /// for each link.
 pub fn process(alloc: Global, events: Vec<Event>, recorded: u32) -> Result<Output, AllocError>

@@ -1,7 +1,7 @@
 //! Steps, outputs and events, and the pass that makes an output of a log of events.
 //!
 //! Only [`EventList::process`], [`EventLog::finish`] and [`Output::empty`] make outputs; the first two run that pass.
-//! `squawk_parser` re-exports all that is public here but [`EventLog`], in which it records.
+//! `squawk_parser` re-exports all that is public here but [`EventLog`] and [`Made`], by which it records.
 #![tactic(auto)]
 
 pub mod event;

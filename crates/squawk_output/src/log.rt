@@ -28,8 +28,9 @@ pub enum Made {
 
 /// What a parser has recorded, as a log of events, of eight bytes each.
 ///
-/// Contracts see it as a draft, in which every node begins where it begins in the output. An open marker is what an
-/// open marker has recorded. An id is the index of an event; an event that was removed frees its index.
+/// Contracts see it as a draft, in which every node begins where it begins in the output. An open marker is an item of
+/// the draft, until it is completed or abandoned. An id is the index of an event; an event that was removed frees its
+/// index.
 ///
 /// The events of open and of abandoned markers differ. No code reads the difference, but contracts do.
 #[derive(Drop)]

@@ -90,7 +90,7 @@ fn gives_plain(event: &PackedEvent, builder: &mut OutputBuilder) -> bool
 /// Visits the event at an index, which has a link, and follows the links from there.
 ///
 /// The events to which they lead become tombstones. The event itself stays, since the pass doesn't come back
-/// to it. Each event of the chain makes two turns: it is found, and its node is entered.
+/// to it.
 #[inline(never)]
 fn visit_linked(
     events: &mut Vec<PackedEvent>,
@@ -110,11 +110,13 @@ fn visit_linked(
     ensures texts { IfOk result (λ _. HaveEventTexts builder.old.texts events.new.items) }
     ensures none { IfOk result (λ _. kinds.new.items ≡ []) }
 {
+    builder.turn();
     let mut at = index;
     let event = &events[at];
     let mut next = event.distance();
     kinds.push(event.kind())?;
     while next > 0 {
+        builder.turn();
         at += next as usize;
         let event = &events[at];
         let kind = event.kind();
@@ -126,27 +128,25 @@ fn visit_linked(
     Ok(())
 }
 
-/// Enters a node of each kind, from the last to the first, until none is left.
+/// Takes the kinds, from the last to the first, and enters a node of each.
 fn enter_all(builder: &mut OutputBuilder, kinds: &mut Vec<SyntaxKind>)
-    requires turns { builder.old.turns + 2 * length kinds.old.items + 2 < 2 ^ 64 }
+    requires turns { builder.old.turns + length kinds.old.items < 2 ^ 64 }
     requires room { length builder.old.steps + length (entered_back kinds.old.items) ≤ builder.old.room }
     ensures kinds { kinds.new.items ≡ [] }
-    ensures builder { builder.new ≡ record builder.old { steps = builder.old.steps ++ entered_back kinds.old.items; turns = builder.old.turns + 2 * length kinds.old.items } }
+    ensures builder { builder.new ≡ record builder.old { steps = builder.old.steps ++ entered_back kinds.old.items; turns = builder.old.turns + length kinds.old.items } }
 {
     while let Some(kind) = kinds.pop() {
+        builder.turn();
         enter(builder, kind);
     }
 }
 
 /// Enters a node of the kind, unless that is TOMBSTONE.
 fn enter(builder: &mut OutputBuilder, kind: SyntaxKind)
-    requires turns { builder.old.turns + 2 < 2 ^ 64 }
     requires room { length builder.old.steps + length (entering kind) ≤ builder.old.room }
-    ensures { builder.new ≡ record builder.old { steps = builder.old.steps ++ entering kind; turns = builder.old.turns + 2 } }
+    ensures { builder.new ≡ record builder.old { steps = builder.old.steps ++ entering kind } }
 {
-    if kind == SyntaxKind::TOMBSTONE {
-        builder.pass_by();
-    } else {
-        builder.put_plain(StoredStep::Enter { kind }.pack());
+    if kind != SyntaxKind::TOMBSTONE {
+        builder.put(StoredStep::Enter { kind }.pack());
     }
 }

@@ -39,7 +39,7 @@ unfolding no_end kind_of is_closed_well is_good
 all_good = refl
 
 -- what is found passes each test that all pass
-found : {X : Type 0} (p q : X → Bool) (xs : List X) (x : X) → find p xs ≡ Some x → list_all q xs ≡ true → q x ≡ true
+pub found : {X : Type 0} (p q : X → Bool) (xs : List X) (x : X) → find p xs ≡ Some x → list_all q xs ≡ true → q x ≡ true
 found p q [] x is all = absurd (cc)
 found p q (y ∷ xs) x is all = found_cases (p y) refl (found p q xs x)
   where

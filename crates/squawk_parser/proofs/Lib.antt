@@ -34,6 +34,8 @@ pub mod JointRun
 pub mod EatenExamples
 pub mod AddedSteps
 pub mod SomeSteps
+pub mod SpentEvents
+pub mod LimitsReached
 pub mod StepsInOrder
 pub mod WholeSteps
 pub mod MovedNodes

@@ -8,7 +8,7 @@ use Rattle.squawk_parser.specs.State.{State, HasNotFailed, IsSound, Keeps, Chang
 use Rattle.squawk_parser.proofs.Soundness.{not_failed}
 
 abbrev pub seen : Inside → State
-seen p = record { input = p.tokens.input.now; words = record { operator_first = p.operator_first; names = p.names }; position = p.position; limit = p.limit; draft = p.log; max_events = p.limits.events; max_errors = p.limits.errors; first_reason = p.first_reason }
+seen p = record { input = p.tokens.input.now; words = record { operator_first = p.operator_first; names = p.names }; position = p.position; limit = p.limit; draft = p.log; max_events = p.log_limits.events; max_errors = p.log_limits.errors; first_reason = p.first_reason }
 
 -- a parser that goes on and has room, seen as it was before
 pub record HasRoom (s : State) : Type 0 where

@@ -11,7 +11,7 @@ use Rattle.squawk_parser.proofs.RecordedItems.{eaten-append}
 
 -- ---- steps
 
-eaten-cons : (step : Step) (steps : List Step) → eaten (step ∷ steps) ≡ count_of step + eaten steps
+pub eaten-cons : (step : Step) (steps : List Step) → eaten (step ∷ steps) ≡ count_of step + eaten steps
 eaten-cons step steps = sum_by-cons count_of step steps
 
 -- a node around steps eats what they eat

@@ -1,5 +1,5 @@
 -- What grammars may rely on: steps that are recorded one after another, and a node of them.
-use Rattle.std.proofs.Common.{◌≡◌, ◌∙◌, ℕ, ◌+◌, false, Option, Some, None, List, [], ◌∷◌, ◌++◌, length, arith, add-zero, ap, sym, refl, append_assoc, length-append}
+use Rattle.std.proofs.Common.{◌≡◌, ◌∙◌, ℕ, ◌+◌, ◌≤◌, false, Option, Some, None, List, [], ◌∷◌, ◌++◌, length, arith, add-zero, ap, sym, refl, append_assoc, length-append}
 use Rattle.std.specs.Prelude.{IsSome}
 use Rattle.squawk_output.specs.Steps.{Step, Enter, Exit, Token, is_error, errors_in}
 use Rattle.squawk_output.specs.Draft.{Draft, OpenMarker, Mark, errors_of}
@@ -106,6 +106,16 @@ refuses-one {a} {b} {edited} step plain_step r goes reason fails = record { fron
         → IsReason a.max_events a.max_errors (a.draft.recorded + 0) (errors_of a.draft.items + 0) wrong reason
     same is why = rw is (simp add-zero why)
 
+-- ---- how many are recorded
+
+-- an event is one more at most
+pub records-most : {a b : State} {edited : Draft} → Records a b edited → edited.recorded ≡ a.draft.recorded + 1 → b.draft.recorded ≤ a.draft.recorded + 1
+records-most {a} {b} {edited} r one = cases b.first_reason refl
+  where
+    cases : (f : Option ParseError) → b.first_reason ≡ f → b.draft.recorded ≤ a.draft.recorded + 1
+    cases None e = let is = ap (λ d. d.recorded) (r.draft e) in omega (arith, is, one)
+    cases (Some reason) e = let is = ap (λ d. d.recorded) (r.stays (rw e refl)) in omega (arith, is)
+
 -- ---- steps
 
 -- no steps
@@ -115,6 +125,7 @@ puts-none a sound = record {
   position = omega arith;
   draft = λ goes. sym (with_steps-none a.draft);
   stays = λ failed. refl;
+  few = omega arith;
   refused = λ goes reason fails. absurd (let p = sym goes ∙ fails in cc);
 }
 
@@ -125,6 +136,7 @@ puts-then {xs} {ys} {a} {b} {c} p q = record {
   position = omega (arith, p.position, q.position, eaten-append xs ys);
   draft = λ goes. q.draft goes ∙ (ap (λ d. with_steps d ys) (p.draft (went q.keeps goes)) ∙ with_steps-append a.draft xs ys);
   stays = λ failed. q.stays (still p.keeps failed) ∙ p.stays failed;
+  few = omega (arith, p.few, q.few, length-append xs ys);
   refused = refuses-then p.keeps q.keeps (λ goes. counted (p.draft goes)) p.refused q.refused;
 }
 
@@ -135,6 +147,7 @@ token_puts {a} {b} kind n k r position = record {
   position = position ∙ (omega arith);
   draft = r.draft;
   stays = λ failed. r.stays (still k failed);
+  few = records-most r refl;
   refused = refuses-one (Token kind n) refl r;
 }
 
@@ -162,6 +175,7 @@ node_puts {a} {b} {c} {d} {m} {xs} {kind} begins p completes = record {
       let second = still begins.keeps failed in
       let third = still p.keeps second in
       completes.records.stays (still completes.keeps third) ∙ (p.stays second ∙ begins.records.stays second);
+  few = omega (arith, records-most begins.records refl, p.few, records-most completes.records refl, length-append xs (Exit ∷ []));
   refused = refuses-then begins.keeps (Keeps-then p.keeps completes.keeps)
       (λ goes. begun_counts kind (begins.records.draft goes))
       (refuses-one (Enter kind) refl begins.records)

@@ -1,5 +1,5 @@
 -- Errors that are recorded, and errors that are refused.
-use Rattle.std.proofs.Common.{◌≡◌, ◌∙◌, ℕ, true, Option, Some, List, [], ◌∷◌, arith, add-zero, refl, subst}
+use Rattle.std.proofs.Common.{◌≡◌, ◌∙◌, ℕ, true, Option, Some, List, [], ◌∷◌, arith, add-zero, ap, refl, subst}
 use Rattle.std.specs.Prelude.{IsSome}
 use Rattle.squawk_output.specs.Steps.{Error}
 use Rattle.squawk_output.specs.Draft.{errors_of}
@@ -26,6 +26,7 @@ not_put old new msg keeps failed same_position same why = record {
   position = same_position ∙ omega arith;
   draft = λ after. absurd (not_failed new after failed);
   stays = λ _. same;
+  few = let is = ap (λ d. d.recorded) same in omega (arith, is);
   refused = λ goes reason refused. record { front = []; next = Error msg; rest = []; is = refl; why = simp add-zero (why goes reason refused) };
 }
 
@@ -55,6 +56,7 @@ Puts-error s old msg e goes sound = rw (← e) record {
   position = omega arith;
   draft = λ after. refl;
   stays = λ failed. absurd (not_failed old goes (subst (λ t. IsSome t.first_reason) e failed));
+  few = omega arith;
   refused = λ before reason refused. absurd (let r = refused in cc);
 }
 

@@ -1,5 +1,5 @@
 -- What calls record at the end of a draft, and at its markers.
-use Rattle.std.specs.Prelude.{◌≡◌, ℕ, ◌+◌, true, Some, List, [], ◌∷◌, ◌++◌, length, sum_by, IsSome, if◌then◌else◌}
+use Rattle.std.specs.Prelude.{◌≡◌, ℕ, ◌+◌, ◌≤◌, true, Some, List, [], ◌∷◌, ◌++◌, length, sum_by, IsSome, if◌then◌else◌}
 use Rattle.squawk_output.specs.Steps as steps
 use Rattle.squawk_output.specs.Steps.{Step, is_enter, is_error, errors_in, eaten}
 use Rattle.squawk_output.specs.Draft.{Draft, Item, Close, Error, Mark, Node, Open, Token, errors_of}
@@ -54,6 +54,8 @@ pub record Puts (steps : List Step) (old new : State) : Type 0 where
   pub draft : HasNotFailed new → new.draft ≡ with_steps old.draft steps
   -- a parser that had failed records nothing
   pub stays : IsSome old.first_reason → new.draft ≡ old.draft
+  -- failed or not, no more than the steps are recorded
+  pub few : new.draft.recorded ≤ old.draft.recorded + length steps
   -- one that fails is refused one of the steps
   pub refused : HasNotFailed old → (reason : ParseError) → new.first_reason ≡ Some reason → IsRefusedStep old steps reason
 

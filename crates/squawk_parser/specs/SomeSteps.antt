@@ -1,5 +1,5 @@
 -- What holds of parts of a grammar whose steps aren't named.
-use Rattle.std.specs.Prelude.{◌≡◌, true, List, [], ◌∷◌, ◌++◌}
+use Rattle.std.specs.Prelude.{◌≡◌, ℕ, ◌+◌, ◌*◌, ◌≤◌, true, List, [], ◌∷◌, ◌++◌}
 use Rattle.squawk_kinds.specs.Kinds.{EOF}
 use Rattle.squawk_output.specs.Draft.{Draft, HasNoOpenMarker, OpenMarker, Item, Mark, Node, Open, open_markers_of}
 use Rattle.squawk_parser.specs.Recorded.{Begins}
@@ -79,3 +79,7 @@ pub record EndsFile (m : Mark) (old new : State) : Type 0 where
   pub closed : (begun inside : State) → Begins m begun inside → IsFresh begun → AddsSome inside old → HasNotFailed new → HasNoOpenMarker new.draft.items
   pub whole : (begun inside : State) → Begins m begun inside → IsFresh begun → AddsSome inside old → kind_at old 0 ≡ EOF → HasNotFailed new
       → IsWholeFile begun.input new.draft
+
+-- At most `each` events are recorded for each token that is eaten, and `more` besides.
+abbrev pub Spends : ℕ → ℕ → State → State → Type 0
+Spends each more old new = new.draft.recorded + each * old.position ≤ old.draft.recorded + each * new.position + more

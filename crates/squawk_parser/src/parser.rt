@@ -55,10 +55,10 @@ pub struct Parser<'t> {
     position: usize,
     limit: usize,
     log: EventLog,
-    limits: Limits,
+    log_limits: Limits,
     first_reason: Option<ParseError>,
     // The bounds of two numbers' types.
-    ghost fits: { (limits.events < 2 ^ 32) × (length tokens.input.now < 2 ^ 64) },
+    ghost fits: { (log_limits.events < 2 ^ 32) × (length tokens.input.now < 2 ^ 64) },
 }
 
 impl<'t> Model for Parser<'t> {
@@ -66,9 +66,9 @@ impl<'t> Model for Parser<'t> {
 
     ghost Value = { State };
 
-    ghost view = { λ p. record { input = p.tokens.input.now; words = record { operator_first = p.operator_first; names = p.names }; position = p.position; limit = p.limit; draft = p.log; max_events = p.limits.events; max_errors = p.limits.errors; first_reason = p.first_reason } };
+    ghost view = { λ p. record { input = p.tokens.input.now; words = record { operator_first = p.operator_first; names = p.names }; position = p.position; limit = p.limit; draft = p.log; max_events = p.log_limits.events; max_errors = p.log_limits.errors; first_reason = p.first_reason } };
 
-    ghost invariant = { λ p. IsSound (record { input = p.tokens.input.now; words = record { operator_first = p.operator_first; names = p.names }; position = p.position; limit = p.limit; draft = p.log; max_events = p.limits.events; max_errors = p.limits.errors; first_reason = p.first_reason }) };
+    ghost invariant = { λ p. IsSound (record { input = p.tokens.input.now; words = record { operator_first = p.operator_first; names = p.names }; position = p.position; limit = p.limit; draft = p.log; max_events = p.log_limits.events; max_errors = p.log_limits.errors; first_reason = p.first_reason }) };
 }
 
 impl<'t> Parser<'t> {
@@ -92,7 +92,7 @@ impl<'t> Parser<'t> {
             position: 0,
             limit,
             log: EventLog::with_room(alloc, room.min(limits.events as usize)),
-            limits,
+            log_limits: limits,
             first_reason: None,
         }
     }
@@ -145,7 +145,7 @@ impl<'t> Parser<'t> {
             position: _,
             limit: _,
             log,
-            limits: _,
+            log_limits: _,
             first_reason,
         } = self;
         if let Some(reason) = first_reason {

@@ -5,7 +5,7 @@ use crate::tests::{assert_nodes, assert_trees};
 use std::test::Fail;
 
 /// Kinds of statements, and where they end.
-const STATEMENTS: [(&str, &str); 12] = [
+const STATEMENTS: [(&str, &str); 14] = [
     ("", ""),
     (";;", "STATEMENT{; }STATEMENT{; }"),
     ("Vacuum t; foo", "VACUUM{Vacuum t ; }STATEMENT{foo }"),
@@ -30,15 +30,31 @@ const STATEMENTS: [(&str, &str); 12] = [
     ("show (a \\gx", "SHOW{show GROUP{( a !expected );}\\gx }"),
     ("grant select on t to u", "GRANT{grant select on t to u }"),
     ("(\\d\n)", "STATEMENT{GROUP{( \\d ) }}"),
+    (
+        "\\echo a \\\\ show a; show b;",
+        "PSQL_COMMAND{\\echo a \\\\ }SHOW{show a ; }SHOW{show b ; }",
+    ),
+    (
+        "show a \\p\\g\nshow b",
+        "SHOW{show a \\p \\g }SHOW{show b }",
+    ),
 ];
 
 /// Statements with their tokens alone.
-const CUT: [(&str, &str); 3] = [
+const CUT: [(&str, &str); 5] = [
     ("select (a; b", "SELECT{select ( a ; }STATEMENT{b }"),
     ("show a -> b", "SHOW{show a - > b }"),
     (
         "create function f() begin atomic case a end; end; c",
         "CREATE{create function f ( ) begin atomic case a end ; end ; }STATEMENT{c }",
+    ),
+    (
+        "create function f begin atomic select x.end, 1 as end from x; a; end; b",
+        "CREATE{create function f begin atomic select x . end , 1 as end from x ; a ; end ; }STATEMENT{b }",
+    ),
+    (
+        "create procedure p(begin atomic) as 'x'; a",
+        "CREATE{create procedure p ( begin atomic ) as 'x' ; }STATEMENT{a }",
     ),
 ];
 
@@ -52,17 +68,11 @@ const BRACKETS: [(&str, &str); 9] = [
         "show (a[1; show b",
         "SHOW{show GROUP{( a GROUP{[ 1 !expected ];!expected );}}; }SHOW{show b }",
     ),
-    (
-        "show a) b",
-        "SHOW{show a ERROR{!closing parenthesis without an opening one;) }b }",
-    ),
-    (
-        "show ]",
-        "SHOW{show ERROR{!closing bracket without an opening one;] }}",
-    ),
+    ("show a) b", "SHOW{show a ERROR{!unmatched `)`;) }b }"),
+    ("show ]", "SHOW{show ERROR{!unmatched `]`;] }}"),
     (
         "show (a] b)",
-        "SHOW{show GROUP{( a ERROR{!closing bracket without an opening one;] }b ) }}",
+        "SHOW{show GROUP{( a ERROR{!unmatched `]`;] }b ) }}",
     ),
     (
         "show (a[b) c",
@@ -83,7 +93,7 @@ const BRACKETS: [(&str, &str); 9] = [
 ];
 
 /// Blocks and CASE expressions.
-const BLOCKS: [(&str, &str); 11] = [
+const BLOCKS: [(&str, &str); 14] = [
     (
         "show case when a then b end c",
         "SHOW{show CASE_EXPR{case when a then b end }c }",
@@ -125,6 +135,19 @@ const BLOCKS: [(&str, &str); 11] = [
     (
         "create view f begin atomic a; end",
         "CREATE{create view f begin atomic a ; }COMMIT{end }",
+    ),
+    (
+        "create function f begin atomic select x.end from x; show a.case as atomic; end; show b",
+        "CREATE{create function f BLOCK{begin atomic SELECT{SELECT_CLAUSE{select x . end }FROM_CLAUSE{from x }; }\
+        SHOW{show a . case as atomic ; }end }; }SHOW{show b }",
+    ),
+    (
+        "create procedure p(begin atomic) as 'x' language sql; show a",
+        "CREATE{create procedure p GROUP{( begin atomic ) }as 'x' language sql ; }SHOW{show a }",
+    ),
+    (
+        "create function s.begin atomic; create function f as begin atomic; show a",
+        "CREATE{create function s . begin atomic ; }CREATE{create function f as begin atomic ; }SHOW{show a }",
     ),
     (
         "create function f begin atomic \\d\nselect a; end",
@@ -191,6 +214,27 @@ const QUERIES: [(&str, &str); 12] = [
         "select a is distinct from b from c; select array[select 1]",
         "SELECT{SELECT_CLAUSE{select a IS_DISTINCT_FROM{is distinct from }b }FROM_CLAUSE{from c }; }\
         SELECT{SELECT_CLAUSE{select array GROUP{[ select 1 ] }}}",
+    ),
+];
+
+/// Words that are names.
+const NAMED: [(&str, &str); 4] = [
+    (
+        "select 1 as case; select t.case, t.end from t;",
+        "SELECT{SELECT_CLAUSE{select 1 as case }; }SELECT{SELECT_CLAUSE{select t . case , t . end }FROM_CLAUSE{from t }; }",
+    ),
+    (
+        "select case when exists (select t.end as x) then 1 end;",
+        "SELECT{SELECT_CLAUSE{select CASE_EXPR{case when exists GROUP{( SELECT_CLAUSE{select t . end as x }) }\
+        then 1 end }}; }",
+    ),
+    (
+        "select t.from, 1 as where from t where t.as is null",
+        "SELECT{SELECT_CLAUSE{select t . from , 1 as where }FROM_CLAUSE{from t }WHERE_CLAUSE{where t . as is null }}",
+    ),
+    (
+        "show a as end, (b as case) c.case",
+        "SHOW{show a as end , GROUP{( b as case ) }c . case }",
     ),
 ];
 
@@ -265,6 +309,11 @@ fn blocks_and_cases_end_with_end(rt: HostRuntime) -> Result<(), Fail> {
 #[test]
 fn queries_have_clauses(rt: HostRuntime) -> Result<(), Fail> {
     assert_trees(&rt, &QUERIES)
+}
+
+#[test]
+fn words_are_names_after_a_point_and_as(rt: HostRuntime) -> Result<(), Fail> {
+    assert_trees(&rt, &NAMED)
 }
 
 #[test]

@@ -1,17 +1,17 @@
 //! What stands at a place of a script.
-ghost use Rattle.std.specs.Prelude.{◌≡◌, ◌+◌, ◌<◌, ◌≤◌, ◌^◌, length, OnOk};
+ghost use Rattle.std.specs.Prelude.{◌≡◌, ◌+◌, ◌<◌, ◌≤◌, ◌^◌, length, IsUtf8, OnOk};
 ghost use Rattle.sql_lexer.specs.Pushes.{Pushes};
 ghost use Rattle.sql_lexer.specs.Scripts as spec;
 ghost use Rattle.sql_lexer.specs.ScriptPlaces.{HasLine, HasRoom, IsRest, may_end};
-ghost use Rattle.sql_lexer.specs.ScriptStatements.{unclosed_in};
+ghost use Rattle.sql_lexer.specs.Statements.{unclosed_in};
 ghost use Rattle.sql_lexer.specs.ScriptWords.{word_of};
 ghost use Rattle.sql_lexer.specs.Tokens.{first_token};
 ghost use Rattle.sql_lexer.specs.declared.script.places.Place.TheVariants.{Front};
 
 use crate::first_token::{push, push_first};
-use crate::script::statements::{Statement, data_follow, statement_behind};
-use crate::script::words::{Word, word_of};
+use crate::script::words::word_of;
 use crate::signs::token;
+use crate::statements::{Statement, Word};
 use squawk_tokens::{Token, TokenKind};
 use std::alloc::AllocError;
 
@@ -135,18 +135,20 @@ fn may_end(kind: TokenKind) -> bool
 
 /// The place behind a token with this kind and text in a statement.
 fn place_with(statement: Statement, kind: TokenKind, front: &[u8], rest: &[u8]) -> Place
-    requires { unclosed_in statement + 1 < 2 ^ 64 }
+    requires utf8 { IsUtf8 front.now }
+    requires short { length front.now < 2 ^ 32 }
+    requires room { unclosed_in statement + 1 < 2 ^ 64 }
     ensures { result ≡ spec.place_with statement (word_of kind front.now) rest.now }
 {
     let word = word_of(kind, front);
-    if data_follow(statement, word) {
+    if statement.data_follow(word) {
         Place::Data {
             left: line_len(rest),
-            statement: Statement::Start,
+            statement: statement.after(word),
             waiting: 0,
         }
     } else {
-        Place::Sql(statement_behind(statement, word))
+        Place::Sql(statement.after(word))
     }
 }
 
@@ -166,13 +168,13 @@ fn push_before(
     ensures place { OnOk result (place.new ≡ spec.place_before left statement waiting text.now) }
 {
     if left == 0 {
-        return push_data(tokens, place, waiting, text);
+        return push_data(tokens, place, statement, waiting, text);
     }
     let found = push_first(tokens, &text[..left])?;
     let word = word_of(found.kind, &text[..found.len as usize]);
     *place = Place::Data {
         left: left - found.len as usize,
-        statement: statement_behind(statement, word),
+        statement: statement.after(word),
         waiting: waiting_behind(waiting, statement, word),
     };
     Ok(found)
@@ -183,7 +185,7 @@ fn waiting_behind(waiting: usize, statement: Statement, word: Word) -> usize
     requires { waiting + 1 < 2 ^ 64 }
     ensures { result ≡ spec.waiting_behind waiting statement word }
 {
-    if data_follow(statement, word) {
+    if statement.data_follow(word) {
         waiting + 1
     } else {
         waiting
@@ -194,17 +196,19 @@ fn waiting_behind(waiting: usize, statement: Statement, word: Word) -> usize
 fn push_data(
     tokens: &mut Vec<Token>,
     place: &mut Place,
+    statement: Statement,
     waiting: usize,
     text: &[u8],
 ) -> Result<Token, AllocError>
     requires rest { IsRest text.now }
+    requires room { unclosed_in statement + 1 < 2 ^ 64 }
     ensures token { Pushes tokens.old.items (spec.data_token text.now) tokens.new.items result }
-    ensures place { OnOk result (place.new ≡ spec.place_in_data waiting text.now) }
+    ensures place { OnOk result (place.new ≡ spec.place_in_data statement waiting text.now) }
 {
     let len = line_len(text);
     if len == 0 {
         let end = push(tokens, token(TokenKind::Whitespace, line_end_len(text)))?;
-        *place = data_of(waiting);
+        *place = data_of(statement, waiting);
         return Ok(end);
     }
     let ends_query = &text[..len] == b"\\.".as_slice();
@@ -212,18 +216,18 @@ fn push_data(
     *place = if ends_query {
         place_behind_data(waiting)
     } else {
-        data_of(waiting)
+        data_of(statement.after(Word::Command), waiting)
     };
     Ok(line)
 }
 
 /// Data, for which so many other COPY statements wait.
-fn data_of(waiting: usize) -> Place
-    ensures { result ≡ spec.data_of waiting }
+fn data_of(statement: Statement, waiting: usize) -> Place
+    ensures { result ≡ spec.data_of statement waiting }
 {
     Place::Data {
         left: 0,
-        statement: Statement::Start,
+        statement,
         waiting,
     }
 }
@@ -235,7 +239,7 @@ fn place_behind_data(waiting: usize) -> Place
     if waiting == 0 {
         Place::Sql(Statement::Start)
     } else {
-        data_of(waiting - 1)
+        data_of(Statement::Start, waiting - 1)
     }
 }
 

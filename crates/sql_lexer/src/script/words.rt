@@ -1,43 +1,26 @@
 //! The words that tell where a statement ends and whether data follow it.
-ghost use Rattle.std.specs.Prelude.{◌≡◌};
+ghost use Rattle.std.specs.Prelude.{◌≡◌, ◌<◌, ◌^◌, length, IsUtf8};
 ghost use Rattle.sql_lexer.specs.ScriptWords as spec;
 
+use crate::script::copy_commands::is_copy_command;
+use crate::statements::Word;
 use squawk_tokens::TokenKind;
-
-/// What a token is to a statement.
-#[derive(Clone, Copy)]
-pub(crate) enum Word {
-    /// White space or a comment.
-    Trivia,
-    Semicolon,
-    /// A command of psql that ends a query.
-    QueryEnd,
-    /// Another one.
-    Command,
-    /// A parenthesis or a bracket.
-    Open,
-    /// One that closes.
-    Close,
-    Copy,
-    From,
-    /// STDIN or STDOUT, which are the same behind COPY FROM.
-    Stdin,
-    Create,
-    Or,
-    Replace,
-    Function,
-    Procedure,
-    Rule,
-    Begin,
-    Atomic,
-    Case,
-    End,
-    Other,
-}
 
 /// What a token with this text is.
 pub(crate) fn word_of(kind: TokenKind, text: &[u8]) -> Word
+    requires utf8 { IsUtf8 text.now }
+    requires short { length text.now < 2 ^ 32 }
     ensures { result ≡ spec.word_of kind text.now }
+{
+    match kind {
+        TokenKind::PsqlCommand { ends_query: false } if is_copy_command(text) => Word::CopyCommand,
+        _ => plain_word(kind, text),
+    }
+}
+
+/// The same, but any command that ends no query is like another.
+pub(crate) fn plain_word(kind: TokenKind, text: &[u8]) -> Word
+    ensures { result ≡ spec.plain_word kind text.now }
 {
     match kind {
         TokenKind::Whitespace | TokenKind::LineComment | TokenKind::BlockComment { .. } => {
@@ -49,6 +32,7 @@ pub(crate) fn word_of(kind: TokenKind, text: &[u8]) -> Word
         TokenKind::Semi => Word::Semicolon,
         TokenKind::OpenParen | TokenKind::OpenBracket => Word::Open,
         TokenKind::CloseParen | TokenKind::CloseBracket => Word::Close,
+        TokenKind::Dot => Word::Dot,
         _ => Word::Other,
     }
 }
@@ -57,7 +41,9 @@ pub(crate) fn word_of(kind: TokenKind, text: &[u8]) -> Word
 fn name_of(text: &[u8]) -> Word
     ensures { result ≡ spec.word_in spec.names text.now }
 {
-    if text.eq_ignore_ascii_case(b"or") {
+    if text.eq_ignore_ascii_case(b"as") {
+        Word::As
+    } else if text.eq_ignore_ascii_case(b"or") {
         Word::Or
     } else if text.eq_ignore_ascii_case(b"end") {
         Word::End

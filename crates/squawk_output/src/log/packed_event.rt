@@ -14,7 +14,7 @@ use std::marker::Model;
 const ASIDE: u32 = u32::MAX;
 
 /// The word of an open marker: with the kind TOMBSTONE, which no node has, and a tag that isn't an opening's.
-const HOLE: u32 = 0x0001_0001;
+const OPEN_MARKER: u32 = 0x0001_0001;
 
 /// An event in eight bytes, ready for the pass.
 ///
@@ -23,7 +23,7 @@ const HOLE: u32 = 0x0001_0001;
 /// | a token, the end of a node, a `Start` of a node without a link | that of its step | 0 |
 /// | a `Start` with a link | that of its opening | by how many events the link leads forward |
 /// | a `Start` of TOMBSTONE, without a link | that of its opening | `ASIDE` |
-/// | an open marker | `HOLE` | `ASIDE` |
+/// | an open marker | `OPEN_MARKER` | `ASIDE` |
 /// | an error | 0 | one more than its number |
 ///
 /// So an event with operand 0 gives exactly the step of its word, where it stands.
@@ -52,7 +52,7 @@ impl PackedEvent {
         ensures { result ≡ OpenMarker }
     {
         PackedEvent {
-            word: HOLE,
+            word: OPEN_MARKER,
             operand: ASIDE,
         }
     }

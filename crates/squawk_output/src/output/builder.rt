@@ -79,7 +79,8 @@ impl OutputBuilder {
         })
     }
 
-    /// Appends the step of a word, and counts a turn for its event and one more if that is a `Start`.
+    /// Appends the step of a word, and counts the turn that visits its event, and for a `Start` the one that
+    /// takes its kind.
     ///
     /// No branch depends on what the step is.
     #[inline(always)]
@@ -89,14 +90,24 @@ impl OutputBuilder {
         requires turns { self.old.turns + 2 < 2 ^ 64 }
         ensures { self.new ≡ record self.old { steps = self.old.steps ++ step_in self.old.texts word ∷ []; turns = self.old.turns + 1 + enters_of (unpacked word) } }
     {
+        self.put(word);
+        self.turns += u64::from(1 + enters(word));
+    }
+
+    /// Appends the step of a word, and counts no turn.
+    #[inline(always)]
+    pub(crate) fn put(&mut self, word: u32)
+        requires plain { IsPlain word }
+        requires room { length self.old.steps < self.old.room }
+        ensures { self.new ≡ record self.old { steps = self.old.steps ++ step_in self.old.texts word ∷ [] } }
+    {
         let enters = enters(word);
         let leaves = leaves(word);
         self.words.push_reserved(word);
         self.tracker.step(enters as usize, leaves as usize);
-        self.turns += u64::from(1 + enters);
     }
 
-    /// Appends the error with this number, of 31 bits, and counts its turn.
+    /// Appends the error with this number, of 31 bits, and counts the turn that visits it.
     #[inline(always)]
     pub(crate) fn put_error(&mut self, number: u32)
         requires text { number < length self.old.texts }
@@ -108,10 +119,19 @@ impl OutputBuilder {
         self.words
             .push_reserved(StoredStep::Error { number }.pack());
         self.error_steps += 1;
+        self.turn();
+    }
+
+    /// Counts one turn: an event is visited, a link is followed, or a kind is taken.
+    #[inline(always)]
+    pub(crate) fn turn(&mut self)
+        requires { self.old.turns + 1 < 2 ^ 64 }
+        ensures { self.new ≡ record self.old { turns = self.old.turns + 1 } }
+    {
         self.turns += 1;
     }
 
-    /// Counts the two turns of a `Start` that gives no step.
+    /// Counts the two turns of a `Start` that gives no step: it is visited, and its kind is taken.
     #[inline(always)]
     pub(crate) fn pass_by(&mut self)
         requires { self.old.turns + 2 < 2 ^ 64 }

@@ -7,7 +7,7 @@ ghost use Rattle.squawk_table.specs.ParserInput.{kind_in};
 ghost use Rattle.squawk_output.specs.Steps.{Error};
 ghost use Rattle.squawk_parser.specs.Eaten.{current_as, recovery_steps, no_recovery};
 ghost use Rattle.squawk_parser.specs.Recorded.{Begins, Puts};
-ghost use Rattle.squawk_parser.specs.SomeSteps.{AddsSome, OpensNode};
+ghost use Rattle.squawk_parser.specs.SomeSteps.{AddsSome, OpensNode, Spends};
 ghost use Rattle.squawk_parser.specs.State.{HasOpenMarker, ahead, kind_at};
 
 use crate::parser::Parser;
@@ -26,6 +26,7 @@ impl Parser<'_> {
         ensures begins { Begins result self.old self.new }
         ensures opens { OpensNode result self.old self.new }
         ensures open_marker { HasOpenMarker self.new result }
+        ensures spends { Spends 0 1 self.old self.new }
     {
         let id = self.next_id();
         if self.has_room() {
@@ -41,6 +42,7 @@ impl Parser<'_> {
     pub fn bump_any(&mut self)
         ensures puts { Puts (current_as (kind_in (ahead self.old 0) 0) (ahead self.old 0)) self.old self.new }
         ensures some { AddsSome self.old self.new }
+        ensures spends { Spends 1 0 self.old self.new }
         ensures end { kind_at self.old 0 ≡ EOF → self.new ≡ self.old }
         ensures position { kind_at self.old 0 ≢ EOF → self.new.position ≡ self.old.position + 1 }
     {
@@ -56,6 +58,7 @@ impl Parser<'_> {
     pub fn bump_remap(&mut self, kind: SyntaxKind)
         ensures puts { Puts (current_as kind (ahead self.old 0)) self.old self.new }
         ensures some { AddsSome self.old self.new }
+        ensures spends { Spends 1 0 self.old self.new }
         ensures end { kind_at self.old 0 ≡ EOF → self.new ≡ self.old }
         ensures position { kind_at self.old 0 ≢ EOF → self.new.position ≡ self.old.position + 1 }
     {
@@ -71,6 +74,7 @@ impl Parser<'_> {
     pub fn error(&mut self, msg: &str)
         ensures puts { Puts (Error (chars msg.now) ∷ []) self.old self.new }
         ensures some { AddsSome self.old self.new }
+        ensures spends { Spends 0 1 self.old self.new }
     {
         if self.has_room_for_error() {
             let text = String::from_str(self.alloc, msg);
@@ -86,6 +90,7 @@ impl Parser<'_> {
     pub fn err_recover(&mut self, msg: &str, recovery: TokenSet)
         ensures puts { Puts (recovery_steps (chars msg.now) (has recovery) (ahead self.old 0)) self.old self.new }
         ensures some { AddsSome self.old self.new }
+        ensures spends { Spends 1 3 self.old self.new }
         ensures eats { has recovery (kind_at self.old 0) ≡ false → kind_at self.old 0 ≢ EOF → self.old.position < self.new.position }
     {
         if self.at_ts(recovery) {
@@ -104,6 +109,7 @@ impl Parser<'_> {
     pub fn err_and_bump(&mut self, msg: &str)
         ensures puts { Puts (recovery_steps (chars msg.now) no_recovery (ahead self.old 0)) self.old self.new }
         ensures some { AddsSome self.old self.new }
+        ensures spends { Spends 1 3 self.old self.new }
         ensures eats { kind_at self.old 0 ≢ EOF → self.old.position < self.new.position }
     {
         self.err_recover(msg, TokenSet::EMPTY);

@@ -11,7 +11,7 @@ ghost use Rattle.squawk_parser.specs.CompositeForms.{element_of, tail_of};
 ghost use Rattle.squawk_parser.specs.Composites.{ClosedBy, HasNoEndKind, NoTail, Operator, are_joint, normal_form, sequence_length, stands_at};
 ghost use Rattle.squawk_parser.specs.Eaten.{EatsWith, closing_steps, eat_steps, element_steps, expect_steps, expected_text, form_steps, node, one, tail_of_kind};
 ghost use Rattle.squawk_parser.specs.Recorded.{Puts};
-ghost use Rattle.squawk_parser.specs.SomeSteps.{AddsSome};
+ghost use Rattle.squawk_parser.specs.SomeSteps.{AddsSome, Spends};
 ghost use Rattle.squawk_parser.specs.State.{IsSound, Keeps, ahead};
 
 use crate::parser::Parser;
@@ -33,6 +33,7 @@ impl Parser<'_> {
         ensures keeps { Keeps self.old self.new }
         ensures puts { IsTrue result → Puts (eat_steps self.old.words kind (ahead self.old 0)) self.old self.new }
         ensures some { AddsSome self.old self.new }
+        ensures spends { Spends 3 0 self.old self.new }
         ensures eats { IsTrue result → self.old.position < self.new.position }
         ensures none { IsTrue (not result) → self.new ≡ self.old }
     {
@@ -87,6 +88,7 @@ impl Parser<'_> {
         requires at { IsTrue (stands_at (has self.old.words.operator_first) kind (ahead self.old 0)) }
         ensures puts { Puts (eat_steps self.old.words kind (ahead self.old 0)) self.old self.new }
         ensures some { AddsSome self.old self.new }
+        ensures spends { Spends 3 0 self.old self.new }
         ensures eats { self.old.position < self.new.position }
     {
         self.witness_sound();
@@ -113,6 +115,7 @@ impl Parser<'_> {
         ensures at { result ≡ stands_at (has self.old.words.operator_first) kind (ahead self.old 0) }
         ensures puts { Puts (expect_steps self.old.words kind (ahead self.old 0)) self.old self.new }
         ensures some { AddsSome self.old self.new }
+        ensures spends { Spends 3 1 self.old self.new }
         ensures eats { IsTrue result → self.old.position < self.new.position }
     {
         if self.eat(kind) {

@@ -3,7 +3,7 @@ ghost use Rattle.std.specs.Prelude.{◌≡◌, ◌≢◌, ◌<◌, ◌↔◌, Is
 ghost use Rattle.squawk_kinds.specs.Kinds.{TOMBSTONE};
 ghost use Rattle.squawk_output.specs.Edits.{abandoned, extended};
 ghost use Rattle.squawk_parser.specs.Recorded.{Completes, Precedes};
-ghost use Rattle.squawk_parser.specs.SomeSteps.{ClosesNode, EndsFile, OpensBefore};
+ghost use Rattle.squawk_parser.specs.SomeSteps.{ClosesNode, EndsFile, OpensBefore, Spends};
 ghost use Rattle.squawk_parser.specs.State.{Changes, HasOpenMarker, HasNode, HasNotFailed};
 
 use crate::parser::Parser;
@@ -58,6 +58,7 @@ impl Marker {
         ensures closes { ClosesNode self result p.old p.new }
         ensures file { EndsFile self p.old p.new }
         ensures at_hand { HasNode p.new result }
+        ensures spends { Spends 0 1 p.old p.new }
     {
         let Marker { id, made: _ } = self;
         if p.has_room() {
@@ -102,6 +103,7 @@ impl CompletedMarker {
         ensures precedes { Precedes self result p.old p.new }
         ensures opens { OpensBefore self result p.old p.new }
         ensures open_marker { HasOpenMarker p.new result }
+        ensures spends { Spends 0 1 p.old p.new }
     {
         let CompletedMarker { id: node, kind } = self;
         let id = p.next_id();

@@ -78,7 +78,7 @@ impl Parser<'_> {
         if self.first_reason.is_some() {
             return false;
         }
-        if self.log.recorded() == self.limits.events {
+        if self.log.recorded() == self.log_limits.events {
             self.first_reason = Some(ParseError::TooManyEvents);
             return false;
         }
@@ -94,7 +94,7 @@ impl Parser<'_> {
         if !self.has_room() {
             return false;
         }
-        if self.log.errors() == self.limits.errors {
+        if self.log.errors() == self.log_limits.errors {
             self.first_reason = Some(ParseError::TooManyErrors);
             self.witness_sound();
             return false;

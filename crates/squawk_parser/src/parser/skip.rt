@@ -5,7 +5,7 @@ ghost use Rattle.squawk_kinds.specs.Kinds.{EOF};
 ghost use Rattle.squawk_kinds.specs.TokenSets.{has};
 ghost use Rattle.squawk_parser.specs.Recorded.{Puts};
 ghost use Rattle.squawk_parser.specs.Skipped.{before_stop, skip_steps};
-ghost use Rattle.squawk_parser.specs.SomeSteps.{AddsSome};
+ghost use Rattle.squawk_parser.specs.SomeSteps.{AddsSome, Spends};
 ghost use Rattle.squawk_parser.specs.State.{ahead, kind_at};
 
 use crate::parser::Parser;
@@ -22,6 +22,7 @@ impl Parser<'_> {
     pub fn skip_to(&mut self, set: TokenSet, message: &str)
         ensures puts { Puts (skip_steps (chars message.now) (before_stop (has set) (ahead self.old 0))) self.old self.new }
         ensures some { AddsSome self.old self.new }
+        ensures spends { Spends 4 0 self.old self.new }
         ensures stops { has set (kind_at self.new 0) ≡ false → kind_at self.new 0 ≡ EOF }
         ensures eats { has set (kind_at self.old 0) ≡ false → kind_at self.old 0 ≢ EOF → self.old.position < self.new.position }
     {

@@ -1,5 +1,5 @@
 use Rattle.std.proofs.Common.{◌+◌, ◌-◌, ◌*◌}
-use Rattle.squawk_parser.specs.SomeSteps.{AddsSome}
+use Rattle.squawk_parser.specs.SomeSteps.{AddsSome, Spends}
 use Rattle.sql_grammar.proofs.elements.+elements.Given as goal
 
 -- Each call of another has less depth, or as much and a lower rank.
@@ -42,27 +42,27 @@ decreases-statements l = 10 * l.depth + 8
 abbrev pub decreases-block : goal.decreases-block
 decreases-block l = 10 * l.depth + 9
 
--- some steps were added since the loop began, and each turn eats
+-- some steps were added since the loop began, of at most six for each token, and each turn eats
 abbrev pub invariant-content-loop-inside : goal.invariant-content-loop-inside
-invariant-content-loop-inside l = AddsSome l.initial.p l.p
+invariant-content-loop-inside l = record { adds : AddsSome l.initial.p l.p; spends : Spends 6 0 l.initial.p l.p }
 
 abbrev pub decreases-content-loop-inside : goal.decreases-content-loop-inside
 decreases-content-loop-inside l = l.p.limit - l.p.position
 
 abbrev pub invariant-with_clause-loop-p : goal.invariant-with_clause-loop-p
-invariant-with_clause-loop-p l = AddsSome l.initial.p l.p
+invariant-with_clause-loop-p l = record { adds : AddsSome l.initial.p l.p; spends : Spends 6 0 l.initial.p l.p }
 
 abbrev pub decreases-with_clause-loop-p : goal.decreases-with_clause-loop-p
 decreases-with_clause-loop-p l = l.p.limit - l.p.position
 
 abbrev pub invariant-clause-loop-inside : goal.invariant-clause-loop-inside
-invariant-clause-loop-inside l = AddsSome l.initial.p l.p
+invariant-clause-loop-inside l = record { adds : AddsSome l.initial.p l.p; spends : Spends 6 0 l.initial.p l.p }
 
 abbrev pub decreases-clause-loop-inside : goal.decreases-clause-loop-inside
 decreases-clause-loop-inside l = l.p.limit - l.p.position
 
 abbrev pub invariant-statements-loop-p : goal.invariant-statements-loop-p
-invariant-statements-loop-p l = AddsSome l.initial.p l.p
+invariant-statements-loop-p l = record { adds : AddsSome l.initial.p l.p; spends : Spends 6 0 l.initial.p l.p }
 
 abbrev pub decreases-statements-loop-p : goal.decreases-statements-loop-p
 decreases-statements-loop-p l = l.p.limit - l.p.position

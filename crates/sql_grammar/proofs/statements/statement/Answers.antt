@@ -1,4 +1,6 @@
+use Rattle.std.proofs.Common.{arith}
 use Rattle.squawk_table.specs.ParserInput.{kinds_in}
+use Rattle.squawk_parser.specs.SomeSteps.{Spends}
 use Rattle.squawk_parser.specs.State.{ahead}
 use Rattle.squawk_parser.proofs.AddedSteps.{open_marker-added}
 use Rattle.sql_grammar.proofs.AddedStatements.{first_added, inner_added, is_first, statement_eats, statement_with}
@@ -7,13 +9,22 @@ use Rattle.sql_grammar.proofs.statements.statement.Goals as goal
 pub complete-requires-clause-open_marker : goal.complete-requires-clause-open_marker
 complete-requires-clause-open_marker c =
     let inner = c.with_limit.ensures in
-    open_marker-added c.start-node.result c.start-node.ensures.open_marker (inner_added c.len_of-len.result inner.keeps inner.does)
+    open_marker-added c.start-node.result c.start-node.ensures.open_marker (inner_added c.first_extent-extent.result.len inner.keeps inner.does)
 
 pub returns-clause-adds : goal.returns-clause-adds
 returns-clause-adds c =
     let inner = c.with_limit.ensures in
-    let is = is_first (kinds_in (ahead c.args.p.now 0)) c.kind_of-kind.ensures.is c.body_of-body.ensures c.len_of-len.ensures in
-    first_added (statement_with c.kind_of-kind.result c.len_of-len.result) is c.requires c.start-node.ensures.begins inner.keeps inner.does c.complete.ensures.completes
+    let is = is_first (kinds_in (ahead c.args.p.now 0)) c.kind_of-kind.ensures.is c.first_extent-extent.ensures in
+    first_added (statement_with c.kind_of-kind.result c.first_extent-extent.result.len) is c.requires c.start-node.ensures.begins inner.keeps inner.does c.complete.ensures.completes
 
 pub returns-clause-eats : goal.returns-clause-eats
 returns-clause-eats c = statement_eats c.requires (returns-clause-adds c)
+
+pub returns-clause-spends : goal.returns-clause-spends
+returns-clause-spends c =
+    let inner : Spends 6 0 c.start-node.new.self c.with_limit.new.self = c.with_limit.ensures.does.spends in
+    let begins = c.start-node.ensures.begins.position in
+    let forward = c.with_limit.ensures.keeps.forward in
+    let completes = c.complete.ensures.completes.position in
+    let eats = returns-clause-eats c in
+    omega (arith, c.start-node.ensures.spends, inner, c.complete.ensures.spends, begins, forward, completes, eats)

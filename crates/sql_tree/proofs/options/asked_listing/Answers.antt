@@ -1,14 +1,18 @@
+use Rattle.std.proofs.Common.{arith, refl}
+use Rattle.sql_tree.specs.declared.options.Listing.TheVariants.{Tree}
+use Rattle.sql_tree.proofs.OptionLemmas.{asked_at, asked_none}
 use Rattle.sql_tree.proofs.options.asked_listing.Goals as goal
 
+pub loop-flag-init : goal.loop-flag-init
+loop-flag-init c = λ listing asked. asked
+
+pub loop-flag-preserved : goal.loop-flag-preserved
+loop-flag-preserved c = λ listing asked.
+    c.loop-flag.invariant listing (asked_at _ _ c.loop-flag.flag-index _ c.get_flag.result listing (omega arith) (record { none = c.get_flag.ensures.none; on = c.get_flag.ensures.value; off = c.get_flag.ensures.other }) (rw c.if-get_flag.false asked))
+
+pub returns-then-get_flag : goal.returns-then-get_flag
+returns-then-get_flag c =
+    c.loop-flag.invariant _ (asked_at _ _ c.loop-flag.flag-index _ c.get_flag.result _ (omega arith) (record { none = c.get_flag.ensures.none; on = c.get_flag.ensures.value; off = c.get_flag.ensures.other }) (rw c.if-get_flag.true refl))
+
 pub returns : goal.returns
-returns c = record {
-  statements = c.get_flag-statements.result;
-  json = c.get_flag-json.result;
-  tokens = c.get_flag-tokens.result;
-  quiet = c.get_flag-quiet.result;
-  of_statements = record { none = c.get_flag-statements.ensures.none; on = c.get_flag-statements.ensures.value; off = c.get_flag-statements.ensures.other };
-  of_json = record { none = c.get_flag-json.ensures.none; on = c.get_flag-json.ensures.value; off = c.get_flag-json.ensures.other };
-  of_tokens = record { none = c.get_flag-tokens.ensures.none; on = c.get_flag-tokens.ensures.value; off = c.get_flag-tokens.ensures.other };
-  of_quiet = record { none = c.get_flag-quiet.ensures.none; on = c.get_flag-quiet.ensures.value; off = c.get_flag-quiet.ensures.other };
-  is = c.listing_by.ensures;
-}
+returns c = c.loop-flag.invariant Tree (asked_none _ _ c.loop-flag.flag-index c.loop-flag-test.false)

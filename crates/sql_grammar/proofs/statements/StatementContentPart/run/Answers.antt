@@ -7,4 +7,4 @@ use Rattle.sql_grammar.proofs.statements.StatementContentPart.run.Goals as goal
 pub returns-clause-does : goal.returns-clause-does
 returns-clause-does c =
     let end : kind_at c.loop-p.p 0 ≡ EOF = grind arith in
-    rest_added c.requires c.loop-p.invariant end
+    rest_added c.requires c.loop-p.invariant.adds end c.loop-p.invariant.spends

@@ -1,7 +1,7 @@
 use Rattle.std.proofs.Common.{◌<◌, ◌≤◌, ◌∙◌, ◌++◌, [], ◌∷◌, ap, arith, length, sym}
 use Rattle.std.proofs.lemmas.List.{length-take-le}
 use Rattle.squawk_tokens.specs.declared.token.Token.{Token}
-use Rattle.sql_lexer.proofs.LinesFit.{front_within}
+use Rattle.sql_lexer.proofs.LinesFit.{front_is_utf8, front_within}
 use Rattle.sql_lexer.proofs.ScriptPlaces.{next_on_line, on_line, token_on_line}
 use Rattle.sql_lexer.proofs.script.places.push_before.Goals as goal
 
@@ -30,5 +30,10 @@ returns-clause-token c =
 pub returns-clause-place : goal.returns-clause-place
 returns-clause-place c =
     let some : 0 < c.args.left = omega arith in
-    on_line c.args.left c.args.statement c.args.waiting c.args.text.now c.in_ok-found.found c.word_of-word.ensures c.statement_behind.ensures c.waiting_behind.ensures
+    on_line c.args.left c.args.statement c.args.waiting c.args.text.now c.in_ok-found.found c.word_of-word.ensures c.after.ensures c.waiting_behind.ensures
     ∙ next_on_line c.args.left c.args.statement c.args.waiting c.args.text.now c.in_ok-found.found some c.in_ok-found.ensures.1
+
+pub word_of-word-requires-clause-utf8 : goal.word_of-word-requires-clause-utf8
+word_of-word-requires-clause-utf8 c =
+    let some : 0 < c.args.left = omega arith in
+    front_is_utf8 c.args.text.now c.args.left c.in_ok-found.found c.in_ok-found.ensures.1 c.requires.rest.utf8 c.requires.room.boundary some

@@ -21,6 +21,7 @@ returns-clause-told c =
     let text = c.args.text.now in
     let steps = c.in_ok-output.output.steps in
     let same : c.in_ok-table.table ≡ table_in sql text = c.in_ok-table.ensures ∙ ap (table_of (keyword_of sql.vocabulary) text) (c.deref.ensures.value ∙ c.in_ok-tokens.ensures.tokens) in
+    let counted : c.len.result ≡ length c.in_ok-statements.statements.items = search rules in
     record {
       steps = steps;
       fits = subst (λ table. Fits table steps) same c.in_ok-output.ensures.fits;
@@ -28,9 +29,9 @@ returns-clause-told c =
       whole = subst (λ table. texts_of (sent_list table steps) ≡ chars table.text) same c.in_ok-output.ensures.whole;
       findings = c.in_ok-findings.findings.items;
       in_order = subst (λ table. AreInOrder (all_told table.errors (sent_list table steps)) c.in_ok-findings.findings.items) same c.in_ok-findings.ensures;
-      errors = c.in_ok-errors.ensures ∙ ap (error_texts c.args.name.now text) c.deref-2.ensures.value;
+      errors = c.in_ok-errors.ensures ∙ ap (error_texts c.args.name.now text) c.deref-3.ensures.value;
       error_count = search rules;
       list = subst (λ table. string_bytes c.in_ok-listing.listing ≡ listed sql c.args.listing text (sent_list table steps)) same c.in_ok-listing.ensures.listed;
       values = λ json. subst (λ table. HasTreeLines (names_of sql.names.items) (sent_list table steps) (string_bytes c.in_ok-listing.listing)) same (c.in_ok-listing.ensures.values json);
-      statement_count = λ told. subst (λ table. c.in_ok-statement_count.statement_count ≡ length (statements_of (sent_list table steps))) same (c.in_ok-statement_count.ensures told);
+      statement_count = λ told. counted ∙ ap length (c.in_ok-statements.ensures told ∙ ap (λ table. statements_of (sent_list table steps)) same);
     }

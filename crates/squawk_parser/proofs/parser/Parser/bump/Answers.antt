@@ -16,6 +16,7 @@ use Rattle.squawk_parser.proofs.Markers.{open_marker-put}
 use Rattle.squawk_parser.proofs.RecordedSteps.{node_puts, token_puts}
 use Rattle.squawk_parser.proofs.SeenSteps.{ahead-still, and-left, seen_one, joint_all}
 use Rattle.squawk_parser.proofs.SomeSteps.{puts_some}
+use Rattle.squawk_parser.proofs.SpentEvents.{eat_steps_spend as spent}
 use Rattle.squawk_parser.proofs.parser.Parser.bump.Goals as goal
 
 -- glued tokens that stand are one
@@ -113,3 +114,18 @@ returns-in-Some-Operator-clause-some c = puts_some (returns-in-Some-Operator-cla
 
 pub returns-in-Some-Sequence-clause-some : goal.returns-in-Some-Sequence-clause-some
 returns-in-Some-Sequence-clause-some c = puts_some (returns-in-Some-Sequence-clause-puts c)
+
+pub returns-in-None-clause-spends : goal.returns-in-None-clause-spends
+returns-in-None-clause-spends c = spent c.args.self.now.words c.args.kind c.requires.at c.witness_sound.ensures.words (returns-in-None-clause-puts c)
+
+pub returns-in-Some-Glued-clause-spends : goal.returns-in-Some-Glued-clause-spends
+returns-in-Some-Glued-clause-spends c = spent c.args.self.now.words c.args.kind c.requires.at c.witness_sound.ensures.words (returns-in-Some-Glued-clause-puts c)
+
+pub returns-in-Some-Joint-clause-spends : goal.returns-in-Some-Joint-clause-spends
+returns-in-Some-Joint-clause-spends c = spent c.args.self.now.words c.args.kind c.requires.at c.witness_sound.ensures.words (returns-in-Some-Joint-clause-puts c)
+
+pub returns-in-Some-Operator-clause-spends : goal.returns-in-Some-Operator-clause-spends
+returns-in-Some-Operator-clause-spends c = spent c.args.self.now.words c.args.kind c.requires.at c.witness_sound.ensures.words (returns-in-Some-Operator-clause-puts c)
+
+pub returns-in-Some-Sequence-clause-spends : goal.returns-in-Some-Sequence-clause-spends
+returns-in-Some-Sequence-clause-spends c = spent c.args.self.now.words c.args.kind c.requires.at c.witness_sound.ensures.words (returns-in-Some-Sequence-clause-puts c)

@@ -1,9 +1,9 @@
-use Rattle.std.proofs.Common.{◌≡◌, ◌≢◌, ◌∙◌, arith, subst}
+use Rattle.std.proofs.Common.{◌≡◌, ◌≢◌, ◌∙◌, arith, refl, subst}
 use Rattle.squawk_kinds.specs.Kinds.{EOF}
 use Rattle.squawk_parser.specs.Eaten.{current_as}
 use Rattle.squawk_parser.specs.Recorded.{Puts}
 use Rattle.squawk_parser.specs.State.{ahead, kind_at}
-use Rattle.squawk_parser.proofs.RecordedSteps.{token_puts}
+use Rattle.squawk_parser.proofs.RecordedSteps.{records-most, token_puts}
 use Rattle.squawk_parser.proofs.Recovery.{current-none, current-some}
 use Rattle.squawk_parser.proofs.SeenSteps.{kind_at-first}
 use Rattle.squawk_parser.proofs.SomeSteps.{puts_some}
@@ -26,3 +26,6 @@ returns-then-eq-clause-some c = puts_some (returns-then-eq-clause-puts c)
 
 pub returns-clause-some : goal.returns-clause-some
 returns-clause-some c = puts_some (returns-clause-puts c)
+
+pub returns-clause-spends : goal.returns-clause-spends
+returns-clause-spends c = let most = records-most c.do_bump.ensures.records refl in let eats = c.do_bump.ensures.position in omega (arith, most, eats)

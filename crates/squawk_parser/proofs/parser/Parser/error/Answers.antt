@@ -1,4 +1,4 @@
-use Rattle.std.proofs.Common.{◌≡◌, string_bytes, ap, refl, subst, ◌∷◌, []}
+use Rattle.std.proofs.Common.{arith, ◌≡◌, string_bytes, ap, refl, subst, ◌∷◌, []}
 use Rattle.std.specs.Str.{chars}
 use Rattle.std.proofs.lemmas.Result.{IfOk-weaker}
 use Rattle.squawk_output.specs.Steps.{Error}
@@ -22,3 +22,9 @@ returns-then-has_room_for_error-clause-some c = puts_some (returns-then-has_room
 
 pub returns-else-has_room_for_error-clause-some : goal.returns-else-has_room_for_error-clause-some
 returns-else-has_room_for_error-clause-some c = puts_some (returns-else-has_room_for_error-clause-puts c)
+
+pub returns-then-has_room_for_error-clause-spends : goal.returns-then-has_room_for_error-clause-spends
+returns-then-has_room_for_error-clause-spends c = let puts = returns-then-has_room_for_error-clause-puts c in omega (arith, puts.few, puts.position)
+
+pub returns-else-has_room_for_error-clause-spends : goal.returns-else-has_room_for_error-clause-spends
+returns-else-has_room_for_error-clause-spends c = let puts = returns-else-has_room_for_error-clause-puts c in omega (arith, puts.few, puts.position)

@@ -1,8 +1,11 @@
-use Rattle.std.proofs.Common.{◌∙◌, sym}
+use Rattle.std.proofs.Common.{◌∙◌, arith, sym}
 use Rattle.std.specs.Str.{chars}
 use Rattle.squawk_kinds.specs.TokenSets.{has}
+use Rattle.squawk_parser.specs.Skipped.{before_stop}
+use Rattle.squawk_parser.specs.State.{ahead}
 use Rattle.squawk_parser.proofs.SkippedTokens.{skip_none, skip_puts, skips-next, skips-none}
 use Rattle.squawk_parser.proofs.SomeSteps.{puts_some}
+use Rattle.squawk_parser.proofs.SpentEvents.{skip_steps-few}
 use Rattle.squawk_parser.proofs.parser.Parser.skip_to.Goals as goal
 
 pub returns-then-stops_at-clause-puts : goal.returns-then-stops_at-clause-puts
@@ -22,3 +25,8 @@ returns-clause-puts c =
 
 pub returns-clause-some : goal.returns-clause-some
 returns-clause-some c = puts_some (returns-clause-puts c)
+
+pub returns-clause-spends : goal.returns-clause-spends
+returns-clause-spends c =
+    let puts = returns-clause-puts c in
+    omega (arith, puts.few, puts.position, skip_steps-few (chars c.args.message.now) (before_stop (has c.args.set) (ahead c.args.self.now 0)))

@@ -8,6 +8,7 @@ use Rattle.squawk_parser.proofs.Soundness.{IsSound-failed, IsSound-preceded}
 use Rattle.squawk_parser.proofs.ParserViews.{seen, has_room}
 use Rattle.squawk_parser.proofs.Markers.{open_marker-preceded}
 use Rattle.squawk_parser.proofs.SomeSteps.{precedes_opens}
+use Rattle.squawk_parser.proofs.SpentEvents.{precedes_spends}
 use Rattle.squawk_parser.proofs.parser.marker.CompletedMarker.precede.Goals as goal
 
 pub invariant_of-p : goal.invariant_of-p
@@ -36,3 +37,6 @@ returns-clause-open_marker c =
 
 pub returns-clause-opens : goal.returns-clause-opens
 returns-clause-opens c = precedes_opens (returns-clause-precedes c)
+
+pub returns-clause-spends : goal.returns-clause-spends
+returns-clause-spends c = precedes_spends (returns-clause-precedes c)

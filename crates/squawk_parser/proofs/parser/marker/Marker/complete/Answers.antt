@@ -9,6 +9,7 @@ use Rattle.squawk_parser.proofs.Soundness.{IsSound-completed, IsSound-failed}
 use Rattle.squawk_parser.proofs.ParserViews.{seen, has_room}
 use Rattle.squawk_parser.proofs.Markers.{node-completed}
 use Rattle.squawk_parser.proofs.SomeSteps.{completes_closes, completes_ends}
+use Rattle.squawk_parser.proofs.SpentEvents.{completes_spends}
 use Rattle.squawk_parser.proofs.parser.marker.Marker.complete.Goals as goal
 
 pub invariant_of-p : goal.invariant_of-p
@@ -44,3 +45,8 @@ pub returns-clause-file : goal.returns-clause-file
 returns-clause-file c =
     let completes : Completes c.args.self.id c.args.kind c.args.p.now c.if-has_room.p = search rules in
     completes_ends completes
+
+pub returns-clause-spends : goal.returns-clause-spends
+returns-clause-spends c =
+    let completes : Completes c.args.self.id c.args.kind c.args.p.now c.if-has_room.p = search rules in
+    completes_spends completes
