@@ -3,6 +3,7 @@ use Rattle.std.proofs.Common.{arith, ◌≡◌, Result, Err, IfErr, ap}
 use Rattle.squawk_output.specs.Steps.{eaten}
 use Rattle.squawk_table.proofs.Over.{eaten-le}
 use Rattle.squawk_parser.specs.Pipeline.{Given, input_for}
+use Rattle.squawk_parser.specs.SomeSteps.{Spends}
 use Rattle.squawk_parser.specs.Words.{Words}
 use Rattle.sql_grammar.specs.Files.{IsFile}
 use Rattle.syntax_tree.specs.Layout.{Laid}
@@ -24,7 +25,7 @@ is_whole {g} {laid} parsed =
     }
 
 -- the refusal of a tree
-pub of_tree : {X : Type 0} (g : Given) (words : Words) (result : Result X SqlError) (reason : ParseTreeError) → IsTreeRefusal g IsFile (λ _ _. Unit {0}) words reason
+pub of_tree : {X : Type 0} (g : Given) (words : Words) (result : Result X SqlError) (reason : ParseTreeError) → IsTreeRefusal g IsFile (Spends 8 2) words reason
     → result ≡ Err (Tree reason) → IfErr result (RefusesSql g)
 of_tree {X} g words result reason refused is =
     let why : RefusesTree g reason = record { words = words; refused = refused } in

@@ -1,6 +1,7 @@
 -- Why a program has nothing to tell of a text of SQL.
 use Rattle.std.specs.Prelude.{ℕ, Option, Some, None, List, codes}
 use Rattle.squawk_parser.specs.Pipeline.{Given}
+use Rattle.squawk_parser.specs.SomeSteps.{Spends}
 use Rattle.squawk_parser.specs.Words.{Words}
 use Rattle.sql_grammar.specs.Files.{IsFile}
 use Rattle.sql_lexer.specs.ErrorLines.{tokenize_error_line}
@@ -16,7 +17,7 @@ use Rattle.sql_syntax.specs.declared.error.SqlError.TheVariants.{Io, Tokens, Tre
 -- a tree of what is given is refused
 pub record RefusesTree (g : Given) (reason : ParseTreeError) : Type 0 where
   pub words : Words
-  pub refused : IsTreeRefusal g IsFile (λ _ _. Unit {0}) words reason
+  pub refused : IsTreeRefusal g IsFile (Spends 8 2) words reason
 
 -- Why nothing is told of what is given: what the contract of the stage says that refused. Where memory alone is wanting behind them, it
 -- has a tree.

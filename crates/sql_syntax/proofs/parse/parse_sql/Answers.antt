@@ -1,5 +1,6 @@
 use Rattle.std.proofs.Common.{rules, ◌∙◌, List, subst}
 use Rattle.squawk_parser.specs.Pipeline.{given}
+use Rattle.squawk_parser.specs.SomeSteps.{Spends}
 use Rattle.squawk_tokens.specs.declared.token.Token.{Token}
 use Rattle.sql_grammar.specs.Files.{IsFile}
 use Rattle.syntax_tree.specs.Parsed.{IsParsedTree, IsTreeRefusal}
@@ -15,7 +16,7 @@ returns-in_err-tree-clause-refused g c =
     (subst
     (λ (tokens : List Token). IsTreeRefusal
     (given (g.V.Vocabulary.keyword c.args.words.now) (g.V.Vocabulary.contextual_keyword c.args.words.now) c.args.text.now tokens)
-    IsFile (λ _ _. Unit {0}) _ reason)
+    IsFile (Spends 8 2) _ reason)
     (c.deref.ensures.value ∙ c.in_ok-tokens.ensures.tokens) c.in_err-tree.ensures.refused)
     (search rules)
 
