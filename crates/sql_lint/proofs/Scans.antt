@@ -5,7 +5,7 @@ use Rattle.std.proofs.lemmas.Bool.{cond-false, cond-true, or_left}
 use Rattle.std.proofs.lemmas.List.{append-nil, map-append}
 use Rattle.squawk_kinds.specs.Kinds.{is_trivia}
 use Rattle.squawk_tree.specs.Forest.{Forest}
-use Rattle.sql_report.specs.Findings.{told}
+use Rattle.sql_report.specs.Findings.{Told, told}
 use Rattle.sql_report.specs.declared.finding_list.Finding.{Finding}
 use Rattle.syntax_tree.specs.Layout.{Laid, IsTree}
 use Rattle.syntax_tree.specs.Trees.{kind_at, start_at}
@@ -88,13 +88,13 @@ finds_no {laid} {tree} {at} {first} {second} {is_first} s e =
 
 -- ---- findings
 
--- what is found so far, and what is left of a walk over the root's nodes
-pub record FindsSome (laid : Laid) (tree : Forest) (found : List Finding) (walk : List At) : Type 0 where
+-- what is found so far, behind what was found before, and what is left of a walk over the root's nodes
+pub record FindsSome (laid : Laid) (tree : Forest) (before : List Told) (found : List Finding) (walk : List At) : Type 0 where
   pub places : List ℕ
   pub left : walk ≡ map (place_in laid) places
-  pub same : map told found ++ filter_map (finding_at tree) places ≡ findings_in tree
+  pub same : map told found ++ filter_map (finding_at tree) places ≡ before ++ findings_in tree
 
-module _ {laid : Laid} {tree : Forest} {found : List Finding} {walk : List At} (s : FindsSome laid tree found walk)
+module _ {laid : Laid} {tree : Forest} {before : List Told} {found : List Finding} {walk : List At} (s : FindsSome laid tree before found walk)
     (place : At) (rest : List At) (is : walk ≡ place ∷ rest) (lies : IsTree laid tree)
     (broken : Option (List ℕ)) (read : IsTree place.laid tree → broken ≡ broken_rule (kind_at tree place.at) (words_of tree place.at)) where
   node : BeginsAt laid s.places place rest
@@ -109,7 +109,7 @@ module _ {laid : Laid} {tree : Forest} {found : List Finding} {walk : List At} (
       ∙ (ap (λ p. cons_option (finding_at tree p.at) (filter_map (finding_at tree) node.behind)) (sym node.place_is)
       ∙ ap (λ o. cons_option (told_at tree place.at o) (filter_map (finding_at tree) node.behind)) (sym (read own_tree)))
 
-  pub finds_none : broken ≡ None → FindsSome laid tree found rest
+  pub finds_none : broken ≡ None → FindsSome laid tree before found rest
   finds_none none = record {
     places = node.behind;
     left = node.rest_is;
@@ -117,7 +117,7 @@ module _ {laid : Laid} {tree : Forest} {found : List Finding} {walk : List At} (
   }
 
   pub finds_one : (message : List ℕ) → broken ≡ Some message → (finding : Finding) → told finding ≡ record { at = start_at tree place.at; message = message; hint = None }
-      → (more_found : List Finding) → more_found ≡ found ++ finding ∷ [] → FindsSome laid tree more_found rest
+      → (more_found : List Finding) → more_found ≡ found ++ finding ∷ [] → FindsSome laid tree before more_found rest
   finds_one message one finding tells more_found is_more =
       let others = filter_map (finding_at tree) node.behind in
       record {
@@ -130,8 +130,8 @@ module _ {laid : Laid} {tree : Forest} {found : List Finding} {walk : List At} (
             ∙ (ap (λ l. map told found ++ l) (sym (more ∙ ap (λ o. cons_option (told_at tree place.at o) others) one)) ∙ s.same))));
       }
 
-pub finds_all : {laid : Laid} {tree : Forest} {found : List Finding} {walk : List At} → FindsSome laid tree found walk → walk ≡ []
-    → map told found ≡ findings_in tree
-finds_all {laid} {tree} {found} s e =
+pub finds_all : {laid : Laid} {tree : Forest} {before : List Told} {found : List Finding} {walk : List At} → FindsSome laid tree before found walk → walk ≡ []
+    → map told found ≡ before ++ findings_in tree
+finds_all {laid} {tree} {before} {found} s e =
     sym (append-nil (map told found))
     ∙ (ap (λ places. map told found ++ filter_map (finding_at tree) places) (sym (no_places laid s.places (sym s.left ∙ e))) ∙ s.same)

@@ -5,7 +5,7 @@ ghost use Rattle.sql_report.specs.Findings.{told};
 ghost use Rattle.sql_syntax.specs.SqlErrors.{RefusesSql};
 ghost use Rattle.sql_syntax.specs.SqlTrees.{sql_given};
 ghost use Rattle.syntax_tree.specs.Layout.{IsTree};
-ghost use Rattle.sql_lint.specs.Linted.{AreFound, AreLinted};
+ghost use Rattle.sql_lint.specs.Linted.{AreFound, AreLinted, told_error};
 ghost use Rattle.sql_lint.specs.Rules.{findings_in};
 
 use crate::rules::broken_rule;
@@ -13,7 +13,7 @@ use sql_report::{Finding, error_lines};
 use sql_syntax::{SqlError, parse_sql};
 use squawk_parser::Vocabulary;
 use std::alloc::{AllocError, Global};
-use syntax_tree::SyntaxTree;
+use syntax_tree::{SyntaxTree, TextError};
 
 /// What is found in a text that is called by a name, as lines.
 pub fn lint<V: Vocabulary>(
@@ -36,19 +36,31 @@ pub fn lint<V: Vocabulary>(
 fn findings<'t>(alloc: Global, tree: &'t SyntaxTree<'t>) -> Result<Vec<Finding<'t>>, AllocError>
     ensures { IfOk result (λ findings. (forest : Forest) → IsTree tree.now forest → AreFound tree.now forest findings.items) }
 {
+    let errors = tree.errors_by_place(alloc)?;
+    let mut findings = findings_of(alloc, &errors)?;
+    push_broken_rules(&mut findings, tree)?;
+    Ok(findings)
+}
+
+/// A finding for each error.
+fn findings_of<'t>(
+    alloc: Global,
+    errors: &[TextError<'t>],
+) -> Result<Vec<Finding<'t>>, AllocError>
+    ensures { IfOk result (λ findings. map told findings.items ≡ map told_error errors.now) }
+{
     let mut findings = Vec::new(alloc);
-    for error in &tree.errors_by_place(alloc)? {
+    for error in errors {
         findings.push(Finding {
             at: error.pos(),
             message: error.message(),
             hint: error.hint(),
         })?;
     }
-    push_broken_rules(&mut findings, tree)?;
     Ok(findings)
 }
 
-/// Puts a finding behind others for each statement that breaks a rule, at its first byte.
+/// Puts a finding after others for each statement that breaks a rule, at its first byte.
 fn push_broken_rules(
     findings: &mut Vec<Finding<'_>>,
     tree: &SyntaxTree<'_>,

@@ -1,8 +1,11 @@
 use Rattle.std.proofs.Common.{rules, ◌≡◌, ◌+◌, ◌&&◌, cond, arith, drop, get_or, map, string_bytes, subst, sym, take}
 use Rattle.sql_lint.specs.Printed.{ArePrinted}
-use Rattle.sql_lint.proofs.PrintedFiles.{names_more, names_split, prints_one, stops_at}
+use Rattle.sql_lint.proofs.PrintedFiles.{names_more, names_split, prints_none, prints_one, stops_at}
 use Rattle.sql_lint.proofs.files.lint_files.Goals as goal
 use Rattle.sql_lint.proofs.files.lint_files.Goals.{then-branch, else-branch}
+
+pub loop-name-init : goal.loop-name-init
+loop-name-init g c = prints_none _ _ (g.W.Write.contents c.args.out.now)
 
 pub returns-in_err-is_clean-clause-refused : goal.returns-in_err-is_clean-clause-refused
 returns-in_err-is_clean-clause-refused g c =

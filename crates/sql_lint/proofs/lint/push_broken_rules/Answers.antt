@@ -1,7 +1,7 @@
 use Rattle.std.proofs.Common.{rules, None, ap, option_map}
 use Rattle.syntax_tree.specs.Views.{at_of}
 use Rattle.sql_lint.proofs.Scans.{finds_all, finds_none, finds_one, own_tree}
-use Rattle.sql_lint.proofs.lint.findings.Goals as goal
+use Rattle.sql_lint.proofs.lint.push_broken_rules.Goals as goal
 
 pub loop-statement-preserved-in-Continue-1 : goal.loop-statement-preserved-in-Continue-1
 loop-statement-preserved-in-Continue-1 c = λ forest is.
