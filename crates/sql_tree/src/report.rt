@@ -41,7 +41,7 @@ impl Report {
     ghost use Rattle.sql_tree.specs.Reports.{IsReport};
 
     /// What is told of a text that is called by a name.
-    #[tactic(auto, using(crate::proofs::Reasons::of_lexer, crate::proofs::Reasons::of_parse))]
+    #[tactic(auto, using(crate::proofs::Reasons::of_lexer))]
     pub fn new(
         alloc: Global,
         sql: &Sql,

@@ -1,4 +1,4 @@
-use Rattle.std.proofs.Common.{◌≡◌, ◌∙◌, ap, length, rules, subst}
+use Rattle.std.proofs.Common.{◌≡◌, ◌∙◌, Err, ap, length, rules, subst}
 use Rattle.std.specs.Prelude.{string_bytes}
 use Rattle.std.specs.Str.{chars}
 use Rattle.squawk_keywords.specs.KeywordAnswers.{contextual_keyword_of, keyword_of}
@@ -12,8 +12,19 @@ use Rattle.sql_report.specs.Statements.{statements_of}
 use Rattle.squawk_kinds.specs.EngineNames.{names_of}
 use Rattle.sql_tree.specs.Listings.{listed}
 use Rattle.sql_grammar.specs.Parses.{AreOfFile}
+use Rattle.sql_tree.specs.Refusals.{unread_of_parse}
 use Rattle.sql_tree.specs.Reports.{table_in}
+use Rattle.sql_tree.proofs.Reasons.{of_parse}
 use Rattle.sql_tree.proofs.report.Report.new.Goals as goal
+
+pub returns-in_err-output-clause-refused : goal.returns-in_err-output-clause-refused
+returns-in_err-output-clause-refused c =
+    let sql = c.args.sql.now in
+    let text = c.args.text.now in
+    let reason = c.in_err-output.field-0.0 in
+    let same : c.in_ok-table.table ≡ table_in sql text = c.in_ok-table.ensures ∙ ap (table_of (keyword_of sql.vocabulary) text) (c.deref.ensures.value ∙ c.in_ok-tokens.ensures.tokens) in
+    let is : c.from_residual-in_err-output.result ≡ Err (unread_of_parse reason) = search rules in
+    rw is (of_parse sql text _ reason same c.in_err-output.ensures.refused)
 
 pub returns-clause-told : goal.returns-clause-told
 returns-clause-told c =
