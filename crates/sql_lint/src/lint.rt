@@ -43,10 +43,7 @@ fn findings<'t>(alloc: Global, tree: &'t SyntaxTree<'t>) -> Result<Vec<Finding<'
 }
 
 /// A finding for each error.
-fn findings_of<'t>(
-    alloc: Global,
-    errors: &[TextError<'t>],
-) -> Result<Vec<Finding<'t>>, AllocError>
+fn findings_of<'t>(alloc: Global, errors: &[TextError<'t>]) -> Result<Vec<Finding<'t>>, AllocError>
     ensures { IfOk result (λ findings. map told findings.items ≡ map told_error errors.now) }
 {
     let mut findings = Vec::new(alloc);
