@@ -6,7 +6,7 @@ use Rattle.sql_lexer.specs.declared.statements.Before.TheVariants.{Any, Block}
 use Rattle.sql_lexer.specs.declared.statements.Statement.{Statement}
 use Rattle.sql_lexer.specs.declared.statements.Statement.TheVariants.{Start, Created, CreatedOr, Replaced, Plain, OfRule, OfRoutine, OfBlock, OfCopy}
 use Rattle.sql_lexer.specs.declared.statements.Word.{Word}
-use Rattle.sql_lexer.specs.declared.statements.Word.TheVariants.{Atomic, Case, Close, Copy, Create, End, Function, Open, Or, Procedure, Replace, Rule, Semicolon, Trivia}
+use Rattle.sql_lexer.specs.declared.statements.Word.TheVariants.{Atomic, Case, Close, Command, Copy, CopyCommand, Create, End, Function, Open, Or, Procedure, Replace, Rule, Semicolon, Trivia}
 use Rattle.sql_lexer.specs.Statements.{after, begun_by, block_after, brackets_after, created_by, creating, ends_with, goes_on, read_as, replaced_by, routine_after, routine_on, unclosed_in}
 
 none_begun : (word : Word) → unclosed_in (begun_by word) ≡ 0
@@ -59,6 +59,8 @@ most_on (OfCopy unclosed phrase) word = most_brackets unclosed word
 -- a word adds at most one
 pub most_after : (statement : Statement) (word : Word) → unclosed_in (after statement word) ≤ unclosed_in statement + 1
 most_after statement Trivia = omega arith
+most_after statement Command = omega arith
+most_after statement CopyCommand = omega arith
 most_after statement word =
     cond_both (ends_with statement word) Start (goes_on statement word) (λ s. unclosed_in s ≤ unclosed_in statement + 1)
     (λ e. omega arith)

@@ -2,7 +2,7 @@
 use Rattle.std.specs.Prelude.{ℕ, ◌+◌, ◌==◌, ◌&&◌, ◌||◌, not, Bool, true, false, Option, List, [], ◌∷◌, take, drop, codes, slice_index, if◌then◌else◌}
 use Rattle.std.specs.Char.{is_ascii_alphabetic}
 use Rattle.std.specs.List.{prefix_len, position_or_len, list_any}
-use Rattle.std.specs.Str.{bytes_eq}
+use Rattle.std.specs.Str.{bytes_eq, str_eq_ignore_ascii_case}
 use Rattle.squawk_tokens.specs.declared.token.Token.{Token}
 use Rattle.squawk_tokens.specs.declared.token.TokenKind.TheVariants.{PsqlCommand}
 use Rattle.sql_lexer.specs.declared.psql.Quote.{Quote}
@@ -34,11 +34,33 @@ ends_query text = list_any (bytes_eq (word text)) query_ends
 
 -- the words of commands of which "the entire remainder of the line" is the argument
 abbrev pub line_takers : List (List ℕ)
-line_takers =
-    codes "!" ∷ codes "copy" ∷ codes "ef" ∷ codes "ev" ∷ codes "h" ∷ codes "help" ∷ codes "sf" ∷ codes "sf+" ∷ codes "sv" ∷ codes "sv+" ∷ []
+line_takers = codes "!" ∷ codes "ef" ∷ codes "ev" ∷ codes "h" ∷ codes "help" ∷ codes "sf" ∷ codes "sf+" ∷ codes "sv" ∷ codes "sv+" ∷ []
 
+abbrev pub takes_any_line : List ℕ → Bool
+takes_any_line name = list_any (bytes_eq name) line_takers
+
+-- and `\copy`, small or capital
+abbrev pub is_copy : List ℕ → Bool
+is_copy name = str_eq_ignore_ascii_case name (codes "copy")
+
+-- the words of commands that write to a file or a pipe
+abbrev pub writers : List (List ℕ)
+writers = codes "g" ∷ codes "gx" ∷ codes "o" ∷ codes "out" ∷ codes "w" ∷ codes "write" ∷ []
+
+abbrev pub writes : List ℕ → Bool
+writes name = list_any (bytes_eq name) writers
+
+abbrev pub is_blank : ℕ → Bool
+is_blank b = is_space b && not (is_line_end b)
+
+-- arguments are a pipe: they begin with `|` (124)
+abbrev pub is_pipe : List ℕ → Bool
+is_pipe arguments = begins (drop (prefix_len is_blank arguments) arguments) (124 ∷ [])
+
+-- whether the command in front takes the line: always, or for a pipe
 abbrev pub takes_line : List ℕ → Bool
-takes_line text = list_any (bytes_eq (word text)) line_takers
+takes_line text =
+    takes_any_line (word text) || (writes (word text) && is_pipe (drop (prefix_len is_word_part text) text)) || is_copy (word text)
 
 -- ---- the arguments
 

@@ -1,13 +1,13 @@
 -- The words that tell where a statement ends and whether data follow it.
 use Rattle.std.specs.Prelude.{ℕ, zero, suc, ◌-◌, ◌==◌, ◌&&◌, ◌||◌, Bool, false, List, [], ◌∷◌, take, drop, codes, if◌then◌else◌}
-use Rattle.std.specs.Str.{bytes_eq, str_eq_ignore_ascii_case}
+use Rattle.std.specs.Str.{str_eq_ignore_ascii_case}
 use Rattle.squawk_tokens.specs.declared.token.TokenKind.{TokenKind}
 use Rattle.squawk_tokens.specs.declared.token.TokenKind.TheVariants.{Whitespace, LineComment, BlockComment, Ident, PsqlCommand, Semi, OpenParen, CloseParen, OpenBracket, CloseBracket, Dot as DotKind}
 use Rattle.sql_lexer.specs.declared.statements.Word.{Word}
 use Rattle.sql_lexer.specs.declared.statements.Word.TheVariants.{Trivia, Semicolon, QueryEnd, CopyCommand, Command, Open, Close, Dot, As, Copy, From, Stdin, Create, Or, Replace, Function, Procedure, Rule, Begin, Atomic, Case, End, Other}
 use Rattle.sql_lexer.specs.declared.statements.Statement.{Statement}
 use Rattle.sql_lexer.specs.declared.statements.Statement.TheVariants.{Start}
-use Rattle.sql_lexer.specs.Psql.{word}
+use Rattle.sql_lexer.specs.Psql.{is_copy, word}
 use Rattle.sql_lexer.specs.Rules.{first}
 use Rattle.sql_lexer.specs.Statements.{after, data_follow}
 use Rattle.sql_lexer.specs.Tokens.{first_token}
@@ -39,7 +39,8 @@ plain_word CloseBracket text = Close
 plain_word DotKind text = Dot
 plain_word kind text = Other
 
--- what is left of a text behind n bytes has, as SQL, COPY that data follow; at the end its semicolon may be left out
+-- Whether a text without its first n bytes, read as the rest of a statement, has COPY that data follow. The end of the
+-- text stands for its semicolon.
 abbrev pub has_copy : Statement → ℕ → List ℕ → Bool
 has_copy statement n [] = data_follow statement Semicolon
 has_copy statement (suc n) (b ∷ rest) = has_copy statement n rest
@@ -50,7 +51,7 @@ has_copy statement zero (b ∷ rest) =
 
 -- `\copy` with FROM STDIN: what stands behind the backslash (92) is such a COPY
 abbrev pub is_copy_command : List ℕ → Bool
-is_copy_command text = (first text == 92) && bytes_eq (word (drop 1 text)) (codes "copy") && has_copy Start 0 (drop 1 text)
+is_copy_command text = (first text == 92) && is_copy (word (drop 1 text)) && has_copy Start 0 (drop 1 text)
 
 -- the word of a token
 abbrev pub word_of : TokenKind → List ℕ → Word

@@ -115,9 +115,11 @@ ends_with statement CopyCommand = is_start statement
 ends_with statement Semicolon = held_by statement == 0
 ends_with statement word = false
 
--- the statement after a word, or the next one; trivia are passed over
+-- the statement after a word, or the next one; trivia and commands of psql are passed over
 abbrev pub after : Statement → Word → Statement
 after statement Trivia = statement
+after statement Command = statement
+after statement CopyCommand = statement
 after statement word = if ends_with statement word then Start else goes_on statement word
 
 -- data follow COPY that has FROM STDIN or FROM STDOUT and ends with a semicolon, and `\copy`

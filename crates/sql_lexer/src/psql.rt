@@ -50,14 +50,55 @@ fn ends_query(text: &[u8]) -> bool
     )
 }
 
-/// Whether the word in front is one whose argument is the rest of the line.
+/// Whether the argument of the command in front is the rest of the line.
 fn takes_line(text: &[u8]) -> bool
     ensures { result ≡ spec.takes_line text.now }
 {
+    let end = word_len(text);
+    let word = &text[..end];
+    takes_any_line(word) || (writes(word) && is_pipe(&text[end..])) || is_copy(word)
+}
+
+fn takes_any_line(word: &[u8]) -> bool
+    ensures { result ≡ spec.takes_any_line word.now }
+{
     matches!(
-        &text[..word_len(text)],
-        b"!" | b"copy" | b"ef" | b"ev" | b"h" | b"help" | b"sf" | b"sf+" | b"sv" | b"sv+"
+        word,
+        b"!" | b"ef" | b"ev" | b"h" | b"help" | b"sf" | b"sf+" | b"sv" | b"sv+"
     )
+}
+
+/// Whether a command with the word writes to a file or a pipe.
+fn writes(word: &[u8]) -> bool
+    ensures { result ≡ spec.writes word.now }
+{
+    matches!(word, b"g" | b"gx" | b"o" | b"out" | b"w" | b"write")
+}
+
+pub(crate) fn is_copy(word: &[u8]) -> bool
+    ensures { result ≡ spec.is_copy word.now }
+{
+    word.eq_ignore_ascii_case(b"copy")
+}
+
+/// Whether arguments begin with `|`.
+fn is_pipe(arguments: &[u8]) -> bool
+    ensures { result ≡ spec.is_pipe arguments.now }
+{
+    arguments[blanks_len(arguments)..].starts_with(b"|")
+}
+
+fn blanks_len(text: &[u8]) -> usize
+    ensures len { result ≡ prefix_len spec.is_blank text.now }
+    ensures within { result ≤ length text.now }
+{
+    text.iter().take_while(|b| is_blank(**b)).count()
+}
+
+fn is_blank(b: u8) -> bool
+    ensures { result ≡ spec.is_blank b }
+{
+    is_space(b) && !is_line_end(b)
 }
 
 pub(crate) fn word_len(text: &[u8]) -> usize

@@ -81,21 +81,21 @@ pub enum Statement {
 }
 
 impl Statement {
-    /// The statement after a word, or the next one.
+    /// The statement after a word, or the next one. Commands of psql are no words of a statement.
+    #[inline(always)]
     pub fn after(self, word: Word) -> Statement
         requires { spec.unclosed_in self + 1 < 2 ^ 64 }
         ensures { result ≡ spec.after self word }
     {
-        if matches!(word, Word::Trivia) {
-            self
-        } else if self.ends_with(word) {
-            Statement::Start
-        } else {
-            goes_on(self, word)
+        match word {
+            Word::Trivia | Word::Command | Word::CopyCommand => self,
+            _ if self.ends_with(word) => Statement::Start,
+            _ => goes_on(self, word),
         }
     }
 
     /// Whether the word ends it. A command of psql is a statement by itself where none is begun.
+    #[inline(always)]
     pub fn ends_with(self, word: Word) -> bool
         ensures { result ≡ spec.ends_with self word }
     {
@@ -108,6 +108,7 @@ impl Statement {
     }
 
     /// Whether data follow it at the word, which ends COPY or is `\copy`.
+    #[inline(always)]
     pub fn data_follow(self, word: Word) -> bool
         ensures { result ≡ spec.data_follow self word }
     {
@@ -126,6 +127,7 @@ impl Statement {
 }
 
 /// How many of what holds semicolons are unclosed.
+#[inline(always)]
 fn held_by(statement: Statement) -> usize
     ensures { result ≡ spec.held_by statement }
 {
@@ -136,6 +138,7 @@ fn held_by(statement: Statement) -> usize
 }
 
 /// A statement with a word more, which doesn't end it.
+#[inline(never)]
 fn goes_on(statement: Statement, word: Word) -> Statement
     requires { spec.unclosed_in statement + 1 < 2 ^ 64 }
     ensures { result ≡ spec.goes_on statement word }

@@ -1,2 +1,1 @@
-pub mod PrintedFiles
 pub mod Scans

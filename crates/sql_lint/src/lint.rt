@@ -1,60 +1,40 @@
 //! What is found in a text.
-ghost use Rattle.std.specs.Prelude.{◌≡◌, ◌++◌, IfErr, IfOk, OnOk, map};
+ghost use Rattle.std.specs.Prelude.{◌≡◌, ◌++◌, OnOk, map};
 ghost use Rattle.squawk_tree.specs.Forest.{Forest};
 ghost use Rattle.sql_report.specs.Findings.{told};
-ghost use Rattle.sql_syntax.specs.SqlErrors.{RefusesSql};
-ghost use Rattle.sql_syntax.specs.SqlTrees.{sql_given};
 ghost use Rattle.syntax_tree.specs.Layout.{IsTree};
-ghost use Rattle.sql_lint.specs.Linted.{AreFound, AreLinted, told_error};
 ghost use Rattle.sql_lint.specs.Rules.{findings_in};
 
 use crate::rules::broken_rule;
 use sql_report::{Finding, error_lines};
-use sql_syntax::{SqlError, parse_sql};
+use sql_syntax::{Reporter, SqlError, findings, parse_sql};
 use squawk_parser::Vocabulary;
 use std::alloc::{AllocError, Global};
-use syntax_tree::{SyntaxTree, TextError};
+use syntax_tree::SyntaxTree;
 
-/// What is found in a text that is called by a name, as lines.
-pub fn lint<V: Vocabulary>(
-    alloc: Global,
-    words: &V,
-    name: &str,
-    text: &str,
-) -> Result<Vec<u8>, SqlError>
-    ensures lines { let g = sql_given (V.keyword words.now) (V.contextual_keyword words.now) text.now in
-        IfOk result (λ lines. AreLinted g name.now lines.items) }
-    ensures refused { let g = sql_given (V.keyword words.now) (V.contextual_keyword words.now) text.now in
-        IfErr result (RefusesSql g) }
-{
-    let tree = parse_sql(alloc, text, words)?;
-    let findings = findings(alloc, &tree)?;
-    Ok(error_lines(alloc, name, text, &findings)?)
+/// Tells the errors of a text and what the rules find in it, as lines.
+#[derive(Drop)]
+pub struct Linter<'w, V> {
+    pub words: &'w V,
 }
 
-/// The errors of a tree, and what the rules find in it.
-fn findings<'t>(alloc: Global, tree: &'t SyntaxTree<'t>) -> Result<Vec<Finding<'t>>, AllocError>
-    ensures { IfOk result (λ findings. (forest : Forest) → IsTree tree.now forest → AreFound tree.now forest findings.items) }
-{
-    let errors = tree.errors_by_place(alloc)?;
-    let mut findings = findings_of(alloc, &errors)?;
-    push_broken_rules(&mut findings, tree)?;
-    Ok(findings)
-}
+impl<V: Vocabulary> Reporter for Linter<'_, V> {
+    ghost use Rattle.sql_syntax.specs.SqlErrors.{RefusesSql};
+    ghost use Rattle.sql_syntax.specs.SqlTrees.{sql_given};
+    ghost use Rattle.sql_lint.specs.Linted.{AreLinted};
 
-/// A finding for each error.
-fn findings_of<'t>(alloc: Global, errors: &[TextError<'t>]) -> Result<Vec<Finding<'t>>, AllocError>
-    ensures { IfOk result (λ findings. map told findings.items ≡ map told_error errors.now) }
-{
-    let mut findings = Vec::new(alloc);
-    for error in errors {
-        findings.push(Finding {
-            at: error.pos(),
-            message: error.message(),
-            hint: error.hint(),
-        })?;
+    ghost reports = { λ linter name text lines.
+        AreLinted (sql_given (V.keyword linter.words.now) (V.contextual_keyword linter.words.now) text) name lines };
+
+    ghost refuses = { λ linter text error.
+        RefusesSql (sql_given (V.keyword linter.words.now) (V.contextual_keyword linter.words.now) text) error };
+
+    fn report(&self, alloc: Global, name: &str, text: &str) -> Result<Vec<u8>, SqlError> {
+        let tree = parse_sql(alloc, text, self.words)?;
+        let mut findings = findings(alloc, &tree)?;
+        push_broken_rules(&mut findings, &tree)?;
+        Ok(error_lines(alloc, name, text, &findings)?)
     }
-    Ok(findings)
 }
 
 /// Puts a finding after others for each statement that breaks a rule, at its first byte.

@@ -2,14 +2,13 @@
 //! `FILE:LINE:COLUMN: message`, with the line and a mark under it.
 #![tactic(auto)]
 
-mod files;
 mod lint;
 mod rules;
 #[cfg(test)]
 mod tests;
 
-use crate::files::{lint_files, status};
-use sql_syntax::SqlError;
+use crate::lint::Linter;
+use sql_syntax::{SqlError, print_files, status};
 use sql_words::vocabulary;
 use std::process::ExitCode;
 use std::{env, io};
@@ -22,10 +21,11 @@ fn main(rt: HostRuntime) -> ExitCode {
     ExitCode::from(status(&is_clean))
 }
 
-/// Prints what is found in each file that the arguments name. Whether that is nothing.
+/// Prints what is found in each file that the arguments name. Returns whether that is nothing.
 fn run(rt: &HostRuntime) -> Result<bool, SqlError> {
     let alloc = rt.alloc();
     let words = vocabulary(alloc)?;
     let names: Vec<String> = env::args(rt)?.skip(1).collect(alloc)?;
-    lint_files(alloc, rt, &words, &names, &mut io::writer(rt))
+    let linter = Linter { words: &words };
+    print_files(alloc, rt, &linter, &names, &mut io::writer(rt))
 }

@@ -1,8 +1,7 @@
 //! What is found in texts and files.
 
-use crate::files::{Texts, lint_files, status};
-use crate::lint::lint;
-use sql_syntax::SqlError;
+use crate::lint::Linter;
+use sql_syntax::{Reporter, SqlError, Texts, print_files, status};
 use sql_words::vocabulary;
 use std::alloc::Global;
 use std::io::{self, ErrorKind};
@@ -10,7 +9,8 @@ use std::test::Fail;
 
 /// The lines of a text that is called `x`.
 fn lines(alloc: Global, text: &str) -> Result<Vec<u8>, SqlError> {
-    lint(alloc, &vocabulary(alloc)?, "x", text)
+    let words = vocabulary(alloc)?;
+    Linter { words: &words }.report(alloc, "x", text)
 }
 
 /// Texts that break no rule.
@@ -126,7 +126,7 @@ fn goes_over_files(rt: HostRuntime) -> Result<(), Fail> {
             files.push(String::from_str(alloc, name)?)?;
         }
         let mut out: Vec<u8> = Vec::new(alloc);
-        let is_clean = lint_files(alloc, &FILES, &words, &files, &mut out);
+        let is_clean = print_files(alloc, &FILES, &Linter { words: &words }, &files, &mut out);
         assert_eq!(rt; status(&is_clean), wanted_status);
         assert_eq!(rt; out.as_slice(), wanted.as_bytes());
     }

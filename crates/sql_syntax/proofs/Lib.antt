@@ -1,1 +1,2 @@
+pub mod PrintedFiles
 pub mod WholeTrees

@@ -1,2 +1,4 @@
 pub mod SqlTrees
 pub mod SqlErrors
+pub mod TreeFindings
+pub mod Printed

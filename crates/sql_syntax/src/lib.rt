@@ -1,8 +1,13 @@
-//! The tree of a text of SQL in one call, for programs.
+//! What programs on SQL share: the tree of a text in one call, its errors as findings, and printing of files one after
+//! another.
 #![tactic(auto)]
 
 mod error;
+mod files;
+mod findings;
 mod parse;
 
 pub use error::SqlError;
+pub use files::{Reporter, Texts, print_files, status};
+pub use findings::findings;
 pub use parse::parse_sql;

@@ -41,7 +41,7 @@ const STATEMENTS: [(&str, &str); 14] = [
 ];
 
 /// Statements with their tokens alone.
-const CUT: [(&str, &str); 5] = [
+const CUT: [(&str, &str); 6] = [
     ("select (a; b", "SELECT{select ( a ; }STATEMENT{b }"),
     ("show a -> b", "SHOW{show a - > b }"),
     (
@@ -55,6 +55,10 @@ const CUT: [(&str, &str); 5] = [
     (
         "create procedure p(begin atomic) as 'x'; a",
         "CREATE{create procedure p ( begin atomic ) as 'x' ; }STATEMENT{a }",
+    ),
+    (
+        "create \\p\nfunction f() begin atomic a; end; b",
+        "CREATE{create \\p function f ( ) begin atomic a ; end ; }STATEMENT{b }",
     ),
 ];
 

@@ -4,7 +4,7 @@ ghost use Rattle.sql_lexer.specs.ScriptWords as spec;
 ghost use Rattle.sql_lexer.specs.declared.statements.Statement.TheVariants.{Start};
 
 use crate::first_token::token_in_front;
-use crate::psql::word_len;
+use crate::psql::{is_copy, word_len};
 use crate::script::words::plain_word;
 use crate::statements::{Statement, Word};
 
@@ -19,7 +19,7 @@ pub(crate) fn is_copy_command(text: &[u8]) -> bool
         return false;
     }
     let rest = &text[1..];
-    &rest[..word_len(rest)] == b"copy".as_slice() && has_copy(rest)
+    is_copy(&rest[..word_len(rest)]) && has_copy(rest)
 }
 
 /// Whether a text has COPY that data follow. A semicolon may be left out at the end.

@@ -134,6 +134,7 @@ fn may_end(kind: TokenKind) -> bool
 }
 
 /// The place behind a token with this kind and text in a statement.
+#[inline(always)]
 fn place_with(statement: Statement, kind: TokenKind, front: &[u8], rest: &[u8]) -> Place
     requires utf8 { IsUtf8 front.now }
     requires short { length front.now < 2 ^ 32 }

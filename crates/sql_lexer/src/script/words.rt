@@ -7,6 +7,7 @@ use crate::statements::Word;
 use squawk_tokens::TokenKind;
 
 /// What a token with this text is.
+#[inline(always)]
 pub(crate) fn word_of(kind: TokenKind, text: &[u8]) -> Word
     requires utf8 { IsUtf8 text.now }
     requires short { length text.now < 2 ^ 32 }
@@ -19,6 +20,7 @@ pub(crate) fn word_of(kind: TokenKind, text: &[u8]) -> Word
 }
 
 /// The same, but any command that ends no query is like another.
+#[inline(always)]
 pub(crate) fn plain_word(kind: TokenKind, text: &[u8]) -> Word
     ensures { result ≡ spec.plain_word kind text.now }
 {
@@ -38,6 +40,7 @@ pub(crate) fn plain_word(kind: TokenKind, text: &[u8]) -> Word
 }
 
 /// What a name is.
+#[inline(never)]
 fn name_of(text: &[u8]) -> Word
     ensures { result ≡ spec.word_in spec.names text.now }
 {

@@ -6,8 +6,7 @@ use Rattle.std.proofs.lemmas.Bool.Decides.{nat_tests}
 use Rattle.std.proofs.lemmas.List.{append-nil, length-append, map-append, take-append-drop, take_more}
 use Rattle.std.proofs.lemmas.List.Elements.{All-append, All-cons, All-nil}
 use Rattle.std.proofs.lemmas.List.Concat.{flat_map-append}
-use Rattle.squawk_parser.specs.Pipeline.{Given}
-use Rattle.sql_lint.specs.Printed.{ArePrinted, IsLinted, IsPrinted, Linted, RefusesFile, StopsAt, lines_of}
+use Rattle.sql_syntax.specs.Printed.{ArePrinted, IsPrinted, IsReported, RefusesFile, StopsAt, lines_of}
 use Rattle.sql_syntax.specs.declared.error.SqlError.{SqlError}
 
 -- one more name
@@ -24,13 +23,13 @@ module _ {X : Type 0} (view : X → List ℕ) (names : List X) (i : ℕ) (item :
       ∙ (map-append view (take (i + 1) names) (drop (i + 1) names)
       ∙ (ap (λ l. l ++ map view (drop (i + 1) names)) names_more ∙ append_assoc (map view (take i names)) (name ∷ []) (map view (drop (i + 1) names))))
 
-module _ (reads : List ℕ → List ℕ → Type 0) (give : List ℕ → Given) where
+module _ (reads : List ℕ → List ℕ → Type 0) (reports : List ℕ → List ℕ → List ℕ → Type 0) where
   no_bytes : (old : Option (List ℕ)) → Appends old old []
   no_bytes None = tt
   no_bytes (Some bytes) = sym (append-nil bytes)
 
-  pub prints_none : (old : Option (List ℕ)) → ArePrinted reads give [] old old true
-  prints_none old = record { files = []; named = refl; linted = All-nil (IsLinted reads give); printed = no_bytes old; is_clean = refl }
+  pub prints_none : (old : Option (List ℕ)) → ArePrinted reads reports [] old old true
+  prints_none old = record { files = []; named = refl; reported = All-nil (IsReported reads reports); printed = no_bytes old; is_clean = refl }
 
   -- bytes behind bytes
   appends_both : (a b c : Option (List ℕ)) (front back : List ℕ) → Appends a b front → Appends b c back → Appends a c (front ++ back)
@@ -43,16 +42,16 @@ module _ (reads : List ℕ → List ℕ → Type 0) (give : List ℕ → Given) 
   both_clean front back = let long = length-append front back in grind (arith, nat_tests)
 
   -- one more
-  pub prints_one : {names : List (List ℕ)} {a b : Option (List ℕ)} {clean : Bool} → ArePrinted reads give names a b clean
-      → (name : List ℕ) (c : Option (List ℕ)) (own : Bool) → IsPrinted reads give name b c own
-      → ArePrinted reads give (names ++ name ∷ []) a c (own && clean)
+  pub prints_one : {names : List (List ℕ)} {a b : Option (List ℕ)} {clean : Bool} → ArePrinted reads reports names a b clean
+      → (name : List ℕ) (c : Option (List ℕ)) (own : Bool) → IsPrinted reads reports name b c own
+      → ArePrinted reads reports (names ++ name ∷ []) a c (own && clean)
   prints_one {names} {a} {b} {clean} s name c own one =
       let all : lines_of (s.files ++ one.file ∷ []) ≡ lines_of s.files ++ one.file.lines =
       flat_map-append (λ f. f.lines) s.files (one.file ∷ []) ∙ ap (λ l. lines_of s.files ++ l) (append-nil one.file.lines) in
       record {
         files = s.files ++ one.file ∷ [];
         named = map-append (λ f. f.name) s.files (one.file ∷ []) ∙ (ap (λ l. l ++ one.file.name ∷ []) s.named ∙ ap (λ n. names ++ n ∷ []) one.named);
-        linted = All-append (IsLinted reads give) s.files (one.file ∷ []) s.linted (All-cons (IsLinted reads give) one.file [] one.linted (All-nil (IsLinted reads give)));
+        reported = All-append (IsReported reads reports) s.files (one.file ∷ []) s.reported (All-cons (IsReported reads reports) one.file [] one.reported (All-nil (IsReported reads reports)));
         printed = subst (Appends a c) (sym all) (appends_both a b c (lines_of s.files) one.file.lines s.printed one.printed);
         is_clean = ap (λ b. own && b) s.is_clean
             ∙ (ap (λ b. b && (length (lines_of s.files) == 0)) one.is_clean
@@ -61,9 +60,10 @@ module _ (reads : List ℕ → List ℕ → Type 0) (give : List ℕ → Given) 
 
   -- a file is refused
   pub stops_at : {names : List (List ℕ)} {old before new : Option (List ℕ)} {clean : Bool} (front : List (List ℕ)) (name : List ℕ) (rest : List (List ℕ))
-      → names ≡ front ++ name ∷ rest → ArePrinted reads give front old before clean → (error : SqlError) → RefusesFile reads give name before new error
-      → (result : Result Bool SqlError) → result ≡ Err error → IfErr result (StopsAt reads give names old new)
-  stops_at {before = before} {clean = clean} front name rest named printed error reason result is =
+      → names ≡ front ++ name ∷ rest → ArePrinted reads reports front old before clean
+      → (refuses : List ℕ → SqlError → Type 0) (error : SqlError) → RefusesFile reads refuses name before new error
+      → (result : Result Bool SqlError) → result ≡ Err error → IfErr result (StopsAt reads reports refuses names old new)
+  stops_at {before = before} {clean = clean} front name rest named printed refuses error reason result is =
       rw is (record {
         front = front;
         name = name;

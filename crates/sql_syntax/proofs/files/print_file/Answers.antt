@@ -1,9 +1,7 @@
 use Rattle.std.proofs.Common.{rules, ◌≡◌, ◌∙◌, ◌==◌, refl, ap, length, string_bytes, subst}
 use Rattle.std.specs.Io.KnownBytes.{Appends}
 use Rattle.std.specs.Vec.{vec_len}
-use Rattle.sql_syntax.specs.SqlTrees.{sql_given}
-use Rattle.sql_lint.specs.Linted.{AreLinted}
-use Rattle.sql_lint.proofs.files.lint_file.Goals as goal
+use Rattle.sql_syntax.proofs.files.print_file.Goals as goal
 
 pub returns-clause-printed : goal.returns-clause-printed
 returns-clause-printed g c =
@@ -12,9 +10,9 @@ returns-clause-printed g c =
     record {
       file = record { name = c.args.name.now; text = string_bytes c.in_ok-text.text; lines = lines.items };
       named = refl;
-      linted = record {
+      reported = record {
         read = c.in_ok-text.ensures;
-        are_linted = subst (λ text. AreLinted (sql_given (g.V.Vocabulary.keyword c.args.words.now) (g.V.Vocabulary.contextual_keyword c.args.words.now) text) c.args.name.now lines.items) c.as_str.ensures.value c.in_ok-lines.ensures.lines;
+        reported = subst (λ text. g.R.Reporter.reports c.args.reporter.now c.args.name.now text lines.items) c.as_str.ensures.value c.in_ok-lines.ensures.lines;
       };
       printed = subst (Appends (g.W.Write.contents c.args.out.now) (g.W.Write.contents c.write_all.new.self)) c.deref.ensures.value c.in_ok-write_all.ensures.bytes;
       is_clean = c.is_empty.ensures ∙ ap (λ n. n == 0) long;
