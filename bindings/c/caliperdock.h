@@ -225,10 +225,10 @@ typedef struct {
 
 /* All of a text of SQL, in one call: its raw tokens by PostgreSQL's rules, its statements, the steps of
  * its tree, and all errors. A UTF-8 text of fewer than 268435456 bytes is refused for want of memory
- * alone; a longer one may also have too many events or errors. As in psql, the lines behind COPY .. FROM
- * STDIN are data, each a psql command. caliperdock_kinds.h has the kinds of its nodes and tokens. A list
- * that isn't wanted has length 0; the answer is CALIPERDOCK_TOO_SMALL then, and the counts say whether the
- * wanted ones had room. */
+ * alone; a longer one may also have too many events or errors, and one of more than 4294967295 bytes is too
+ * long. As in psql, the lines after COPY .. FROM STDIN are data, each a psql command. caliperdock_kinds.h has
+ * the kinds of its nodes and tokens. A list that isn't wanted has length 0; the answer is
+ * CALIPERDOCK_TOO_SMALL then, and the counts say whether the wanted ones had room. */
 caliperdock_answer caliperdock_sql(
     const uint8_t *text, size_t text_len,
     caliperdock_token *tokens, size_t token_room,

@@ -17,50 +17,25 @@ pub(crate) const QUERY_WORDS: TokenSet = token_set![
     SqlKind::MERGE_KW,
 ];
 
-/// Whether a token of the kind is a word that begins or ends something, where it is no name.
+/// The first kind of a keyword that the engine has no kind for.
+const FIRST_KEYWORD: u16 = 200;
+
+/// Whether a token of the kind is a keyword that begins or ends something in some place: any that the engine has no
+/// kind for may do so, and these of the others do.
+#[inline(always)]
 pub(crate) fn is_word(kind: SyntaxKind) -> bool
     ensures { result ≡ true → kind ≢ EOF }
 {
-    matches!(
-        kind,
-        SqlKind::CASE_KW
-            | SqlKind::END_KW
-            | SqlKind::BEGIN_KW
-            | SqlKind::ATOMIC_KW
-            | SqlKind::AS_KW
-            | SqlKind::SELECT_KW
-            | SqlKind::INTO_KW
-            | SqlKind::FROM_KW
-            | SqlKind::WHERE_KW
-            | SqlKind::GROUP_KW
-            | SqlKind::HAVING_KW
-            | SqlKind::WINDOW_KW
-            | SqlKind::ORDER_KW
-            | SqlKind::LIMIT_KW
-            | SqlKind::OFFSET_KW
-            | SqlKind::FETCH_KW
-            | SqlKind::FOR_KW
-            | SqlKind::VALUES_KW
-            | SqlKind::SET_KW
-            | SqlKind::USING_KW
-            | SqlKind::WHEN_KW
-            | SqlKind::ON_KW
-            | SqlKind::RETURNING_KW
-            | SqlKind::UNION_KW
-            | SqlKind::INTERSECT_KW
-            | SqlKind::EXCEPT_KW
-            | SqlKind::WITH_KW
-            | SqlKind::TABLE_KW
-            | SqlKind::INSERT_KW
-            | SqlKind::UPDATE_KW
-            | SqlKind::DELETE_KW
-            | SqlKind::MERGE_KW
-            | SqlKind::IS_KW
-            | SqlKind::NOT_KW
-            | SqlKind::AT_KW
-            | SqlKind::SIMILAR_KW
-            | SqlKind::OPERATOR_KW
-    )
+    kind.0 >= FIRST_KEYWORD
+        || matches!(
+            kind,
+            SqlKind::FROM_KW
+                | SqlKind::IS_KW
+                | SqlKind::NOT_KW
+                | SqlKind::AT_KW
+                | SqlKind::SIMILAR_KW
+                | SqlKind::OPERATOR_KW
+        )
 }
 
 /// How many parentheses may stand before the first word of a query in brackets.

@@ -15,7 +15,7 @@ use squawk_parser::{Parser, SyntaxKind};
 pub(crate) struct Extent {
     /// How many tokens it has.
     pub(crate) len: usize,
-    /// What it is by its words, at least by the first four.
+    /// What it is by its words; by the first ones alone, where these make it a plain statement.
     pub(crate) statement: Statement,
 }
 
@@ -43,7 +43,7 @@ pub(crate) fn first_extent(p: &Parser<'_>) -> Extent
     Extent { len, statement }
 }
 
-/// How many tokens ahead a plain statement ends, as most are.
+/// How many tokens a plain statement has, of which `begun` stand before. Most statements are plain.
 fn plain_end(p: &Parser<'_>, begun: usize) -> usize
     ensures { result ≡ begun + len_from Statement.Plain (drop begun (kinds_in (ahead p.now 0))) }
 {
@@ -59,7 +59,7 @@ fn plain_end(p: &Parser<'_>, begun: usize) -> usize
     len
 }
 
-/// Whether a token of the kind ends it.
+/// Whether a token of the kind ends a plain statement.
 #[inline(always)]
 #[tactic(auto, using(crate::proofs::Lengths::plain_ends))]
 fn ends_plain(kind: SyntaxKind) -> bool

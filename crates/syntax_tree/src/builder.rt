@@ -266,6 +266,7 @@ impl<'s> TreeBuilder<'s> {
 impl StepSink for TreeBuilder<'_> {
     type Refusal = TreeRefusal;
 
+    // A list begins with an error that was never sent: its text is the source, which refusals speak of.
     ghost stands_after = { StandsOver };
 
     ghost refuses = { RefusesOver };
