@@ -18,9 +18,9 @@ use Rattle.squawk_tokens.specs.declared.token.Token.{Token}
 use Rattle.sql_lexer.specs.declared.statements.Statement.{Statement}
 use Rattle.sql_lexer.specs.declared.statements.Statement.TheVariants.{Start}
 use Rattle.sql_lexer.specs.declared.statements.Word.{Word}
-use Rattle.sql_lexer.specs.declared.statements.Word.TheVariants.{Trivia}
+use Rattle.sql_lexer.specs.declared.statements.Word.TheVariants.{Command, CopyCommand, Trivia}
 use Rattle.sql_lexer.specs.ScriptWords.{plain_word}
-use Rattle.sql_lexer.specs.Statements.{after, ends_with, goes_on}
+use Rattle.sql_lexer.specs.Statements.{after, ends_with, goes_on, is_start}
 use Rattle.sql_words.specs.SqlKinds.{keyword_kinds}
 use Rattle.sql_grammar.specs.Scripts.{EndAsCut, IsScript, lens_of}
 use Rattle.sql_grammar.specs.Statements.{len_from, statements_of}
@@ -38,8 +38,14 @@ ends_of statement (kind ∷ kinds) = ends_with statement (word_of kind) ∷ ends
 abbrev lens : List ℕ → List ℕ
 lens kinds = map (λ statement. statement.len) (statements_of kinds)
 
+starts : (statement : Statement) → is_start statement ≡ true → statement ≡ Start
+starts Start e = refl
+starts statement e = absurd (false≢true e)
+
 after-end : (statement : Statement) (word : Word) → ends_with statement word ≡ true → after statement word ≡ Start
 after-end statement Trivia e = absurd (false≢true e)
+after-end statement Command e = starts statement e
+after-end statement CopyCommand e = starts statement e
 after-end statement word e = cond-true (ends_with statement word) Start (goes_on statement word) e
 
 drop-next : (kind : ℕ) (kinds : List ℕ) (n : ℕ) → drop (1 + n) (kind ∷ kinds) ≡ drop n kinds
