@@ -22,3 +22,6 @@ pub mod ScriptPlaces
 pub mod EndsLemmas
 pub mod CopyCommands
 pub mod ScriptTokens
+pub mod CopyLines
+pub mod CopyTokens
+pub mod CopyData

@@ -15,3 +15,4 @@ pub mod ScriptWords
 pub mod Scripts
 pub mod ScriptPlaces
 pub mod ScriptEnds
+pub mod CopyData
