@@ -10,7 +10,7 @@ use Rattle.sql_lexer.specs.declared.statements.Statement.{Statement}
 use Rattle.sql_lexer.specs.declared.statements.Word.{Word}
 use Rattle.sql_lexer.specs.declared.script.places.Place.{Place}
 use Rattle.sql_lexer.specs.declared.script.places.Place.TheVariants.{Data, Sql}
-use Rattle.sql_lexer.specs.CopyData.{DataAreLines, content_of, copies_in, words_of, end_of, tokens_from, tokens_of_lines}
+use Rattle.sql_lexer.specs.CopyData.{DataAreLines, content_of, copies_among, copies_in, words_of, end_of, tokens_from, tokens_of_lines}
 use Rattle.sql_lexer.specs.Scripts.{data_of, line_len, place_before, place_on_line, place_with, token_before, waiting_behind}
 use Rattle.sql_lexer.specs.ScriptWords.{word_of}
 use Rattle.sql_lexer.specs.Statements.{after, data_follow}
@@ -26,14 +26,11 @@ use Rattle.sql_lexer.proofs.CopyTokens.{end_of_data, ending, last_line, some_lin
 -- ---- the line of COPY
 
 -- what is left of it is cut as a text
-abbrev copies_on : Statement → List ℕ → ℕ
-copies_on statement line = copies_in statement (words_of (tokens_of line) line)
-
 abbrev OnLine : ℕ → Statement → ℕ → List ℕ → Type 0
 OnLine left statement waiting text =
     (next : Statement)
     × (tokens_from (Data left statement waiting) text
-    ≡ tokens_of (take left text) ++ tokens_from (data_of next (waiting + copies_on statement (take left text))) (drop left text))
+    ≡ tokens_of (take left text) ++ tokens_from (data_of next (waiting + copies_in statement (take left text))) (drop left text))
 
 waits_by : (waiting : ℕ) (follow : Bool) (others : ℕ) → (if follow then waiting + 1 else waiting) + others ≡ waiting + ((if follow then 1 else 0) + others)
 waits_by waiting true others = omega arith
@@ -86,26 +83,26 @@ module _ (left : ℕ) (statement : Statement) (waiting : ℕ) (text : List ℕ) 
       ap (λ tokens. words_of tokens front) first
       ∙ ap (λ bytes. word_of found.kind bytes ∷ words_of (tokens_of (drop found.len front)) (drop found.len front)) (take-take found.len left text within)
 
-  waits_there : waiting_behind waiting statement word + copies_on (after statement word) (drop found.len front) ≡ waiting + copies_on statement front
+  waits_there : waiting_behind waiting statement word + copies_in (after statement word) (drop found.len front) ≡ waiting + copies_in statement front
   waits_there =
-      waits waiting statement word (copies_on (after statement word) (drop found.len front)) ∙ ap (λ words. waiting + copies_in statement words) (sym words_there)
+      waits waiting statement word (copies_in (after statement word) (drop found.len front)) ∙ ap (λ words. waiting + copies_among statement words) (sym words_there)
 
   joined : OnLine (left - found.len) (after statement word) (waiting_behind waiting statement word) (drop found.len text) → OnLine left statement waiting text
   joined others =
       let n = found.len in
       let rest = drop n text in
       let past : drop (left - n) rest ≡ drop left text = drop-drop (left - n) n text ∙ ap (λ m. drop m text) (omega (arith, within)) in
-      let more : waiting_behind waiting statement word + copies_on (after statement word) (take (left - n) rest) ≡ waiting + copies_on statement front =
-      ap (λ line. waiting_behind waiting statement word + copies_on (after statement word) line) others_on ∙ waits_there in
-      let behind : tokens_from (data_of others.0 (waiting_behind waiting statement word + copies_on (after statement word) (take (left - n) rest))) (drop (left - n) rest)
-      ≡ tokens_from (data_of others.0 (waiting + copies_on statement front)) (drop left text) =
-      ap (λ m. tokens_from (data_of others.0 m) (drop (left - n) rest)) more ∙ ap (tokens_from (data_of others.0 (waiting + copies_on statement front))) past in
+      let more : waiting_behind waiting statement word + copies_in (after statement word) (take (left - n) rest) ≡ waiting + copies_in statement front =
+      ap (λ line. waiting_behind waiting statement word + copies_in (after statement word) line) others_on ∙ waits_there in
+      let behind : tokens_from (data_of others.0 (waiting_behind waiting statement word + copies_in (after statement word) (take (left - n) rest))) (drop (left - n) rest)
+      ≡ tokens_from (data_of others.0 (waiting + copies_in statement front)) (drop left text) =
+      ap (λ m. tokens_from (data_of others.0 m) (drop (left - n) rest)) more ∙ ap (tokens_from (data_of others.0 (waiting + copies_in statement front))) past in
       let tokens : found ∷ tokens_of (take (left - n) rest) ≡ tokens_of front = ap (λ line. found ∷ tokens_of line) others_on ∙ sym first in (
         others.0,
         there
             ∙ (ap (λ tokens. found ∷ tokens) others.1
             ∙ (ap (λ others. (found ∷ tokens_of (take (left - n) rest)) ++ others) behind
-            ∙ ap (λ tokens. tokens ++ tokens_from (data_of others.0 (waiting + copies_on statement front)) (drop left text)) tokens)),
+            ∙ ap (λ tokens. tokens ++ tokens_from (data_of others.0 (waiting + copies_in statement front)) (drop left text)) tokens)),
       )
 
 on_line : (most left : ℕ) (statement : Statement) (waiting : ℕ) (text : List ℕ) → left ≤ most → IsUtf8 text → IsCharBoundary text left
@@ -127,7 +124,7 @@ after_copy : (statement : Statement) (word : Word) (line text : List ℕ) → da
     → IsUtf8 (line ++ 10 ∷ text)
     → (next : Statement)
     × (tokens_from (place_with statement word (line ++ 10 ∷ text)) (line ++ 10 ∷ text)
-    ≡ (tokens_of (content_of line) ++ end_of line (10 ∷ [])) ++ tokens_from (data_of next (copies_on (after statement word) (content_of line))) text)
+    ≡ (tokens_of (content_of line) ++ end_of line (10 ∷ [])) ++ tokens_from (data_of next (copies_in (after statement word) (content_of line))) text)
 after_copy statement word line text follow one utf8 =
     let rest = line ++ 10 ∷ text in
     let left = line_len rest in
@@ -135,17 +132,17 @@ after_copy statement word line text follow one utf8 =
     let begun = after statement word in
     let place : place_with statement word rest ≡ Data left begun 0 = cond-true (data_follow statement word) (Data left begun 0) (Sql begun) follow in
     let here = on_line left left begun 0 rest (omega arith) utf8 (line_ends_well rest) in
-    let more : 0 + copies_on begun (take left rest) ≡ copies_on begun content =
-    ap (λ front. 0 + copies_on begun front) (content_in_front line (10 ∷ text) one refl) ∙ zero-add (copies_on begun content) in
+    let more : 0 + copies_in begun (take left rest) ≡ copies_in begun content =
+    ap (λ front. 0 + copies_in begun front) (content_in_front line (10 ∷ text) one refl) ∙ zero-add (copies_in begun content) in
     let behind : drop left rest ≡ left_of line ++ 10 ∷ text =
     ap (λ n. drop n rest) (len_in_front line (10 ∷ text) one refl) ∙ drop-append-le (length content) line (10 ∷ text) (content_within line) in
     let len : length line + 1 - length content ≡ length (left_of line) + 1 = omega (arith, content_within line, length-drop (length content) line) in
-    let waiting = copies_on begun content in
+    let waiting = copies_in begun content in
     let white = white_space here.0 waiting (left_of line) text (length line + 1 - length content) (left_is line) len in (
       here.0,
       ap (λ p. tokens_from p rest) place
           ∙ (here.1
-          ∙ (ap (λ front. tokens_of front ++ tokens_from (data_of here.0 (0 + copies_on begun (take left rest))) (drop left rest)) (content_in_front line (10 ∷ text) one refl)
+          ∙ (ap (λ front. tokens_of front ++ tokens_from (data_of here.0 (0 + copies_in begun (take left rest))) (drop left rest)) (content_in_front line (10 ∷ text) one refl)
           ∙ (ap (λ n. tokens_of content ++ tokens_from (data_of here.0 n) (drop left rest)) more
           ∙ (ap (λ left. tokens_of content ++ tokens_from (data_of here.0 waiting) left) behind
           ∙ (ap (λ tokens. tokens_of content ++ tokens) white

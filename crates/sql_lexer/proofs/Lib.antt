@@ -25,3 +25,4 @@ pub mod ScriptTokens
 pub mod CopyLines
 pub mod CopyTokens
 pub mod CopyData
+pub mod StatementEnds

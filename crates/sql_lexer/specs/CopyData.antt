@@ -75,10 +75,14 @@ words_of [] text = []
 words_of (found ∷ tokens) text = word_of found.kind (take found.len text) ∷ words_of tokens (drop found.len text)
 
 -- how many COPY statements end among these words
-abbrev pub copies_in : Statement → List Word → ℕ
-copies_in statement [] = 0
-copies_in statement (word ∷ words) =
-    (if data_follow statement word then 1 else 0) + copies_in (after statement word) words
+abbrev pub copies_among : Statement → List Word → ℕ
+copies_among statement [] = 0
+copies_among statement (word ∷ words) =
+    (if data_follow statement word then 1 else 0) + copies_among (after statement word) words
+
+-- how many end in a text
+abbrev pub copies_in : Statement → List ℕ → ℕ
+copies_in statement text = copies_among statement (words_of (tokens_of text) text)
 
 -- ---- the law
 
@@ -91,11 +95,10 @@ pub record DataAreLines : Type 0 where
   -- and data begin with the next line. Further COPY statements that end on the line wait for theirs.
   pub begun : (statement : Statement) (word : Word) (line text : List ℕ)
       → data_follow statement word ≡ true → All (λ b. b ≢ 10) line → IsUtf8 (line ++ 10 ∷ text)
-      → let rest = content_of line in
-      let waiting = copies_in (after statement word) (words_of (tokens_of rest) rest) in
-      (next : Statement)
+      → (next : Statement)
       × (tokens_from (place_with statement word (line ++ 10 ∷ text)) (line ++ 10 ∷ text)
-      ≡ (tokens_of rest ++ end_of line (10 ∷ [])) ++ tokens_from (data_of next waiting) text)
+      ≡ (tokens_of (content_of line) ++ end_of line (10 ∷ []))
+      ++ tokens_from (data_of next (copies_in (after statement word) (content_of line))) text)
   -- Data are lines up to the line `\.`. That one is a command of psql that ends a query. After it the data of the next
   -- waiting COPY begin, or SQL.
   pub ended : (statement : Statement) (waiting : ℕ) (text : List ℕ) (has : HasEnd text)

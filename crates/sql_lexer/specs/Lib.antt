@@ -16,3 +16,4 @@ pub mod Scripts
 pub mod ScriptPlaces
 pub mod ScriptEnds
 pub mod CopyData
+pub mod StatementEnds
