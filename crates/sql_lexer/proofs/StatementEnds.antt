@@ -1,8 +1,8 @@
 -- The law of the ends of statements, state by state.
-use Rattle.std.proofs.Common.{◌≡◌, ◌∙◌, ℕ, ◌+◌, ◌-◌, true, false, Bool, List, [], ◌∷◌, ◌++◌, ◌==◌, arith, ap, refl, subst, sym}
+use Rattle.std.proofs.Common.{◌≡◌, ◌∙◌, ℕ, ◌+◌, ◌-◌, ◌<◌, length, zero-add, not, true, false, Bool, List, [], ◌∷◌, ◌++◌, ◌==◌, arith, ap, refl, subst, sym}
 use Rattle.std.specs.Prelude.{nat_le, if◌then◌else◌}
 use Rattle.std.specs.List.{position_or_len}
-use Rattle.std.proofs.lemmas.Bool.{cond-false, false≢true}
+use Rattle.std.proofs.lemmas.Bool.{cond-false, cond-true, false≢true}
 use Rattle.std.proofs.lemmas.Bool.Decides.{nat_tests}
 use Rattle.sql_lexer.specs.declared.statements.Before.{Before}
 use Rattle.sql_lexer.specs.declared.statements.Before.TheVariants.{Any, Name, Block}
@@ -12,16 +12,16 @@ use Rattle.sql_lexer.specs.declared.statements.Statement.{Statement}
 use Rattle.sql_lexer.specs.declared.statements.Statement.TheVariants.{Start, Created, CreatedOr, Replaced, Plain, OfRule, OfRoutine, OfBlock, OfCopy}
 use Rattle.sql_lexer.specs.declared.statements.Word.{Word}
 use Rattle.sql_lexer.specs.declared.statements.Word.TheVariants.{Trivia, Semicolon, QueryEnd, CopyCommand, Command, Open, Close, Dot, As, Copy, Create, Or, Replace, Function, Procedure, Rule, Begin, Atomic, Case, End}
-use Rattle.sql_lexer.specs.StatementEnds.{InBlock, InBrackets, LeadTo, StatementsEnd, begins_command, begins_holder, begins_name, creates_holder, ends_in, first_end, is_command, is_end, is_holder, is_in_block, is_in_brackets, is_named, replaces_holder, without_trivia}
+use Rattle.sql_lexer.specs.StatementEnds.{InBlock, InRule, LeadTo, StatementsEnd, begins_command, begins_holder, begins_name, creates_holder, first_end, is_command, is_end, is_holder, is_in_block, is_in_rule, is_named, replaces_holder, without_trivia}
 use Rattle.sql_lexer.specs.StatementEnds.InBlock.{name, cases, nothing as empty, one as one_word}
-use Rattle.sql_lexer.specs.StatementEnds.InBrackets.{nothing, one, brackets}
-use Rattle.sql_lexer.specs.Statements.{after, brackets_after, phrase_after}
+use Rattle.sql_lexer.specs.StatementEnds.InRule.{nothing, one, brackets}
+use Rattle.sql_lexer.specs.Statements.{after, brackets_after, ends_with, phrase_after}
 
 -- ---- no block
 
 -- a statement ends with its first semicolon or query end
 abbrev EndsFirst : Statement → List Word → Type 0
-EndsFirst statement words = position_or_len (λ b. b) (ends_in statement words) ≡ position_or_len is_end words
+EndsFirst statement words = first_end statement words ≡ position_or_len is_end words
 
 plain_ends : (words : List Word) → EndsFirst Plain words
 plain_ends [] = refl
@@ -77,7 +77,7 @@ start_ends (Create ∷ words) c h = ap (λ n. 1 + n) (created_ends words h)
 start_ends (Copy ∷ words) c h = ap (λ n. 1 + n) (copy_ends 0 Nothing words)
 start_ends (word ∷ words) c h = ap (λ n. 1 + n) (plain_ends words)
 
-command_ends : (words : List Word) → begins_command (without_trivia words) ≡ true → first_end words ≡ position_or_len is_command words
+command_ends : (words : List Word) → begins_command (without_trivia words) ≡ true → first_end Start words ≡ position_or_len is_command words
 command_ends [] c = absurd (false≢true c)
 command_ends (Trivia ∷ words) c = ap (λ n. 1 + n) (command_ends words c)
 command_ends (CopyCommand ∷ words) c = refl
@@ -90,33 +90,41 @@ lead_on : (a b c : Statement) (words others : List Word) → LeadTo a words b �
 lead_on a b c [] others first second = subst (λ s. LeadTo s others c) (sym first) second
 lead_on a b c (word ∷ words) others first second = (first.0, lead_on (after a word) b c words others first.1 second)
 
-some_unclosed : (n : ℕ) → (n + 1 == 0) ≡ false
-some_unclosed n = grind (arith, nat_tests)
+not_none : (n : ℕ) → 0 < n → (n == 0) ≡ false
+not_none n some = grind (arith, nat_tests)
 
-in_rule : (n : ℕ) (word : Word) → is_in_brackets word ≡ true → LeadTo (OfRule (n + 1)) (word ∷ []) (OfRule (n + 1))
-in_rule n Open e = absurd (false≢true e)
-in_rule n Close e = absurd (false≢true e)
-in_rule n QueryEnd e = absurd (false≢true e)
-in_rule n Semicolon e = (some_unclosed n, cond-false (n + 1 == 0) Start (OfRule (n + 1)) (some_unclosed n))
-in_rule n word e = (refl, refl)
+in_rule : (inside : Bool) (n : ℕ) (word : Word) → is_in_rule inside word ≡ true → (inside ≡ true → 0 < n) → LeadTo (OfRule n) (word ∷ []) (OfRule n)
+in_rule inside n Open e held = absurd (false≢true e)
+in_rule inside n Close e held = absurd (false≢true e)
+in_rule inside n QueryEnd e held = absurd (false≢true e)
+in_rule inside n Semicolon e held =
+    let some = not_none n (held e) in (some, cond-false (n == 0) Start (OfRule n) some)
+in_rule inside n word e held = (refl, refl)
 
 closes : (n : ℕ) → LeadTo (OfRule (n + 1)) (Close ∷ []) (OfRule n)
 closes n = (refl, ap OfRule (omega arith))
 
-in_brackets : (n : ℕ) (words : List Word) → InBrackets words → LeadTo (OfRule (n + 1)) words (OfRule (n + 1))
-in_brackets n words nothing = refl
-in_brackets n words (one word others is are) =
-    lead_on (OfRule (n + 1)) (OfRule (n + 1)) (OfRule (n + 1)) (word ∷ []) others (in_rule n word is) (in_brackets n others are)
-in_brackets n words (brackets inner others ins are) =
-    let m = n + 1 in (
-      refl,
-      lead_on (OfRule (m + 1)) (OfRule (m + 1)) (OfRule m) inner (Close ∷ others) (in_brackets m inner ins)
-          (lead_on (OfRule (m + 1)) (OfRule m) (OfRule m) (Close ∷ []) others (closes m) (in_brackets n others are)),
-    )
+in_brackets : (inside : Bool) (words : List Word) → InRule inside words → (n : ℕ) → (inside ≡ true → 0 < n) → LeadTo (OfRule n) words (OfRule n)
+in_brackets inside words (nothing same) n held = refl
+in_brackets inside words (one same word others is are) n held =
+    lead_on (OfRule n) (OfRule n) (OfRule n) (word ∷ []) others (in_rule inside n word is held) (in_brackets inside others are n held)
+in_brackets inside words (brackets same inner others ins are) n held = (
+  refl,
+  lead_on (OfRule (n + 1)) (OfRule (n + 1)) (OfRule n) inner (Close ∷ others) (in_brackets true inner ins (n + 1) (λ e. omega arith))
+      (lead_on (OfRule (n + 1)) (OfRule n) (OfRule n) (Close ∷ []) others (closes n) (in_brackets inside others are n held)),
+)
 
-rule_holds : (n : ℕ) (words : List Word) → InBrackets words → LeadTo (OfRule n) (Open ∷ (words ++ Close ∷ [])) (OfRule n)
-rule_holds n words are =
-    (refl, lead_on (OfRule (n + 1)) (OfRule (n + 1)) (OfRule n) words (Close ∷ []) (in_brackets n words are) (closes n))
+-- no word ends the statement before those that follow
+end_after : (a b : Statement) (words others : List Word) → LeadTo a words b → first_end a (words ++ others) ≡ length words + first_end b others
+end_after a b [] others leads = ap (λ s. first_end s others) leads ∙ sym (zero-add (first_end b others))
+end_after a b (word ∷ words) others leads =
+    let more = end_after (after a word) b words others leads.1 in
+    cond-true (not (ends_with a word)) (1 + first_end (after a word) (words ++ others)) 0 (ap not leads.0) ∙ omega (arith, more)
+
+rule_ends : (words others : List Word) → InRule false words → first_end (OfRule 0) (words ++ Semicolon ∷ others) ≡ length words
+rule_ends words others are =
+    let leads = in_brackets false words are 0 (λ e. absurd (false≢true e)) in
+    omega (arith, end_after (OfRule 0) (OfRule 0) words (Semicolon ∷ others) leads)
 
 -- ---- blocks
 
@@ -239,6 +247,6 @@ pub statements_end : StatementsEnd
 statements_end = record {
   command = command_ends;
   plain = start_ends;
-  rule = rule_holds;
+  rule = rule_ends;
   block = block_holds;
 }

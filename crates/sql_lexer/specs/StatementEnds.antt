@@ -1,5 +1,5 @@
 -- The law of the ends of statements: which semicolons end one. It can be checked without the machine of `Statements`.
-use Rattle.std.specs.Prelude.{ℕ, ◌≡◌, Bool, true, false, not, List, [], ◌∷◌, ◌++◌}
+use Rattle.std.specs.Prelude.{ℕ, ◌≡◌, Bool, true, false, not, List, [], ◌∷◌, ◌++◌, length}
 use Rattle.std.specs.List.{filter, position_or_len}
 use Rattle.sql_lexer.specs.declared.statements.Before.TheVariants.{Any}
 use Rattle.sql_lexer.specs.declared.statements.Statement.{Statement}
@@ -58,17 +58,21 @@ without_trivia words = filter (λ word. not (is_passed_over word)) words
 
 -- ---- brackets and blocks
 
-abbrev pub is_in_brackets : Word → Bool
-is_in_brackets Open = false
-is_in_brackets Close = false
-is_in_brackets QueryEnd = false
-is_in_brackets word = true
+-- semicolons stand in brackets
+abbrev pub is_in_rule : Bool → Word → Bool
+is_in_rule inside Semicolon = inside
+is_in_rule inside QueryEnd = false
+is_in_rule inside Open = false
+is_in_rule inside Close = false
+is_in_rule inside word = true
 
--- words among which brackets match, and no command of psql ends a query
-pub data InBrackets : List Word → Type 0 where
-  nothing : InBrackets []
-  one : (word : Word) (words : List Word) → is_in_brackets word ≡ true → InBrackets words → InBrackets (word ∷ words)
-  brackets : (inner words : List Word) → InBrackets inner → InBrackets words → InBrackets (Open ∷ (inner ++ Close ∷ words))
+-- the words of a rule, or those in brackets of one: each bracket is closed
+pub data InRule : Bool → List Word → Type 0 where
+  nothing : (inside : Bool) → InRule inside []
+  one : (inside : Bool) (word : Word) (words : List Word)
+      → is_in_rule inside word ≡ true → InRule inside words → InRule inside (word ∷ words)
+  brackets : (inside : Bool) (inner words : List Word)
+      → InRule true inner → InRule inside words → InRule inside (Open ∷ (inner ++ Close ∷ words))
 
 -- semicolons stand in a block, and not in its CASE expressions
 abbrev pub is_in_block : Bool → Word → Bool
@@ -110,9 +114,9 @@ abbrev pub ends_in : Statement → List Word → List Bool
 ends_in statement [] = []
 ends_in statement (word ∷ words) = ends_with statement word ∷ ends_in (after statement word) words
 
--- how many words the first statement has before the one that ends it
-abbrev pub first_end : List Word → ℕ
-first_end words = position_or_len (λ b. b) (ends_in Start words)
+-- how many words stand before the first that ends the statement
+abbrev pub first_end : Statement → List Word → ℕ
+first_end statement words = position_or_len (λ b. b) (ends_in statement words)
 
 -- none of these words ends the statement; they lead from one state of it to another
 abbrev pub LeadTo : Statement → List Word → Statement → Type 0
@@ -122,15 +126,15 @@ LeadTo statement (word ∷ words) other = (ends_with statement word ≡ false) �
 pub record StatementsEnd : Type 0 where
   -- A command of psql is a statement by itself, where none is begun.
   pub command : (words : List Word)
-      → begins_command (without_trivia words) ≡ true → first_end words ≡ position_or_len is_command words
-  -- Any other statement ends with its first semicolon, or the first command of psql that ends a query, unless it creates
-  -- a function, a procedure or a rule.
+      → begins_command (without_trivia words) ≡ true → first_end Start words ≡ position_or_len is_command words
+  -- Any other statement ends with its first semicolon, or with the first command of psql that ends a query, unless it
+  -- creates a function, a procedure or a rule.
   pub plain : (words : List Word)
       → begins_command (without_trivia words) ≡ false → is_holder (without_trivia words) ≡ false
-      → first_end words ≡ position_or_len is_end words
-  -- A semicolon in the brackets of a rule ends nothing.
-  pub rule : (unclosed : ℕ) (words : List Word)
-      → InBrackets words → LeadTo (OfRule unclosed) (Open ∷ (words ++ Close ∷ [])) (OfRule unclosed)
+      → first_end Start words ≡ position_or_len is_end words
+  -- A rule ends with its first semicolon outside of brackets; one in brackets ends nothing.
+  pub rule : (words others : List Word)
+      → InRule false words → first_end (OfRule 0) (words ++ Semicolon ∷ others) ≡ length words
   -- A semicolon in BEGIN ATOMIC .. END, outside of the brackets of a routine, ends nothing.
   pub block : (words inner : List Word)
       → without_trivia words ≡ Begin ∷ Atomic ∷ (inner ++ End ∷ []) → InBlock true inner
