@@ -13,7 +13,7 @@ use Rattle.sql_lexer.specs.declared.statements.Statement.TheVariants.{Start, Cre
 use Rattle.sql_lexer.specs.declared.statements.Word.{Word}
 use Rattle.sql_lexer.specs.declared.statements.Word.TheVariants.{Trivia, Semicolon, QueryEnd, CopyCommand, Command, Open, Close, Dot, As, Copy, Create, Or, Replace, Function, Procedure, Rule, Begin, Atomic, Case, End}
 use Rattle.sql_lexer.specs.StatementEnds.{InBlock, InRule, LeadTo, StatementsEnd, begins_command, begins_holder, begins_name, creates_holder, first_end, is_command, is_end, is_holder, is_in_block, is_in_rule, is_named, replaces_holder, without_trivia}
-use Rattle.sql_lexer.specs.StatementEnds.InBlock.{name, cases, nothing as empty, one as one_word}
+use Rattle.sql_lexer.specs.StatementEnds.InBlock.{name, expression, nothing as empty, one as one_word}
 use Rattle.sql_lexer.specs.StatementEnds.InRule.{nothing, one, brackets}
 use Rattle.sql_lexer.specs.Statements.{after, brackets_after, ends_with, phrase_after}
 
@@ -221,7 +221,7 @@ in_block block words (one_word same word others is are) n before outer free =
     stays_on n before (word ∷ []) others (one_of block n before word is outer free) (λ next later. in_block block others are n next outer later)
 in_block block words (name same sign word others begins is are) n before outer free =
     stays_on n before (sign ∷ word ∷ []) others (name_in_block n before sign word begins is free) (λ next later. in_block block others are n next outer later)
-in_block block words (cases same inner others ins are) n before outer free =
+in_block block words (expression same inner others ins are) n before outer free =
     let within = in_block false inner ins (n + 1) Any (λ e. absurd (false≢true e)) any_free in
     let later = in_block block others are n Any outer any_free in (
       later.0,

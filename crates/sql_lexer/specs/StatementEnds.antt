@@ -104,7 +104,7 @@ pub data InBlock : Bool → List Word → Type 0 where
       → is_in_block block word ≡ true → InBlock block words → InBlock block (word ∷ words)
   name : (block : Bool) (sign word : Word) (words : List Word)
       → begins_name sign ≡ true → is_named word ≡ true → InBlock block words → InBlock block (sign ∷ word ∷ words)
-  cases : (block : Bool) (inner words : List Word)
+  expression : (block : Bool) (inner words : List Word)
       → InBlock false inner → InBlock block words → InBlock block (Case ∷ (inner ++ End ∷ words))
 
 -- ---- the law
