@@ -35,7 +35,7 @@ behind cutter place zero text = refl
 behind cutter place (suc n) [] = refl
 behind cutter place (suc n) (b ∷ rest) = behind cutter place n rest
 
-cut_first : {P : Type 0} (cutter : Cutter P) (place : P) (text : List ℕ) → 0 < length text → 0 < (cutter.token place text).len
+pub cut_first : {P : Type 0} (cutter : Cutter P) (place : P) (text : List ℕ) → 0 < length text → 0 < (cutter.token place text).len
     → cut_from cutter place text ≡ cutter.token place text ∷ cut_from cutter (cutter.next place text) (drop (cutter.token place text).len text)
 cut_first cutter place [] some nonempty = absurd (omega arith)
 cut_first cutter place (b ∷ rest) some nonempty =

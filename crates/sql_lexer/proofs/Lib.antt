@@ -22,3 +22,7 @@ pub mod ScriptPlaces
 pub mod EndsLemmas
 pub mod CopyCommands
 pub mod ScriptTokens
+pub mod CopyLines
+pub mod CopyTokens
+pub mod CopyData
+pub mod StatementEnds

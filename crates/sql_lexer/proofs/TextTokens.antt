@@ -1,12 +1,12 @@
 -- The tokens of a text: each is the first token of what is left.
-use Rattle.std.proofs.Common.{◌≡◌, ◌∙◌, ℕ, zero, suc, ◌-◌, ◌<◌, ◌≤◌, List, [], ◌∷◌, length, drop, ap, refl, subst}
+use Rattle.std.proofs.Common.{◌≡◌, ◌∙◌, ℕ, zero, suc, ◌-◌, ◌<◌, ◌≤◌, List, [], ◌∷◌, length, drop, ap, refl, sym, subst}
 use Rattle.std.specs.Prelude.{IsUtf8, Ok}
 use Rattle.std.proofs.lemmas.Str.{IsUtf8-drop, IsCharBoundary-start}
 use Rattle.squawk_tokens.specs.declared.token.Token.{Token}
 use Rattle.squawk_tokens.specs.AcceptedTokens.{AreAcceptedTokens}
 use Rattle.sql_lexer.specs.Pushes.{Pushes}
 use Rattle.sql_lexer.specs.Tokens.{first_token, tokens_behind, tokens_by, tokens_of}
-use Rattle.sql_lexer.proofs.CutTokens.{Cutter, HasCut, HasStepped, IsAt, accepted_from, cut_all, cut_none, left_at, stepped}
+use Rattle.sql_lexer.proofs.CutTokens.{Cutter, HasCut, HasStepped, IsAt, accepted_from, cut_all, cut_first, cut_none, left_at, stepped}
 use Rattle.sql_lexer.proofs.FirstFits.{first_token_fits}
 
 -- every place is the same
@@ -25,6 +25,14 @@ same_tokens : (n : ℕ) (text : List ℕ) → tokens_by plain.token plain.next t
 same_tokens n [] = refl
 same_tokens (suc n) (b ∷ rest) = same_tokens n rest
 same_tokens zero (b ∷ rest) = ap (λ others. first_token (b ∷ rest) ∷ others) (same_tokens ((first_token (b ∷ rest)).len - 1) rest)
+
+-- the first token, and the others
+pub text_first : (text : List ℕ) → IsUtf8 text → 0 < length text
+    → tokens_of text ≡ first_token text ∷ tokens_of (drop (first_token text).len text)
+text_first text utf8 some =
+    let found = first_token text in
+    sym (same_tokens 0 text)
+    ∙ (cut_first plain tt text some (first_token_fits text utf8 some).nonempty ∙ ap (λ others. found ∷ others) (same_tokens 0 (drop found.len text)))
 
 front : (text : List ℕ) → IsUtf8 text → IsAt plain tt text 0
 front text utf8 = record { utf8 = utf8; boundary = IsCharBoundary-start text utf8; reach = IsCharBoundary-start text utf8 }

@@ -15,3 +15,5 @@ pub mod ScriptWords
 pub mod Scripts
 pub mod ScriptPlaces
 pub mod ScriptEnds
+pub mod CopyData
+pub mod StatementEnds

@@ -1,7 +1,9 @@
 //! The raw tokens of a script: SQL, and the data of COPY between it.
 ghost use Rattle.std.specs.Prelude.{◌≡◌, IfOk, IfErr};
 ghost use Rattle.squawk_tokens.specs.AcceptedTokens.{AreAcceptedTokens};
+ghost use Rattle.sql_lexer.specs.CopyData.{DataAreLines};
 ghost use Rattle.sql_lexer.specs.Scripts.{script_tokens};
+ghost use Rattle.sql_lexer.specs.StatementEnds.{StatementsEnd};
 ghost use Rattle.sql_lexer.specs.Tokens.{RefusesText};
 
 mod copy_commands;
@@ -25,9 +27,13 @@ use std::alloc::Global;
 /// Where statements end is told by `statements`. A byte order mark that begins the text is white space.
 ///
 /// It takes time proportional to the text's length, and no memory but the list's.
-#[tactic(auto, using(crate::proofs::ScriptTokens::script_none, crate::proofs::ScriptTokens::script_all, crate::proofs::ScriptTokens::script_accepted))]
+#[tactic(auto, using(crate::proofs::ScriptTokens::script_none, crate::proofs::ScriptTokens::script_all, crate::proofs::ScriptTokens::script_accepted, crate::proofs::CopyData::data_are_lines, crate::proofs::StatementEnds::statements_end))]
 pub fn tokenize_script(alloc: Global, text: &str) -> Result<Vec<Token>, TokenizeError>
     ensures tokens { IfOk result (λ tokens. tokens.items ≡ script_tokens text.now) }
+    // Between COPY's line and the line `\.` each token is a whole line or a line's end.
+    ensures data { DataAreLines }
+    // A semicolon ends a statement, but not in the brackets of a rule or in BEGIN ATOMIC .. END.
+    ensures ends { StatementsEnd }
     // So `check_tokens` accepts them, and a table can be made of them.
     ensures accepted { IfOk result (λ tokens. AreAcceptedTokens text.now tokens.items) }
     ensures refused { IfErr result (RefusesText text.now) }
