@@ -12,7 +12,7 @@ use Rattle.sql_lexer.specs.declared.statements.Statement.{Statement}
 use Rattle.sql_lexer.specs.declared.statements.Statement.TheVariants.{Start, Created, CreatedOr, Replaced, Plain, OfRule, OfRoutine, OfBlock, OfCopy}
 use Rattle.sql_lexer.specs.declared.statements.Word.{Word}
 use Rattle.sql_lexer.specs.declared.statements.Word.TheVariants.{Trivia, Semicolon, QueryEnd, CopyCommand, Command, Open, Close, Dot, As, Copy, Create, Or, Replace, Function, Procedure, Rule, Begin, Atomic, Case, End}
-use Rattle.sql_lexer.specs.StatementEnds.{InBlock, InRule, LeadTo, StatementsEnd, begins_command, begins_holder, begins_name, creates_holder, first_end, is_command, is_end, is_holder, is_in_block, is_in_rule, is_named, replaces_holder, without_trivia}
+use Rattle.sql_lexer.specs.StatementEnds.{InBlock, InRule, LeadTo, StatementsEnd, begins_command, begins_holder, begins_name, creates_holder, first_end, is_command, is_end, is_holder, is_in_block, is_in_rule, is_named, replaces_holder, without_commands, without_trivia}
 use Rattle.sql_lexer.specs.StatementEnds.InBlock.{name, expression, nothing as empty, one as one_word}
 use Rattle.sql_lexer.specs.StatementEnds.InRule.{nothing, one, brackets}
 use Rattle.sql_lexer.specs.Statements.{after, brackets_after, ends_with, phrase_after}
@@ -34,12 +34,16 @@ copy_ends unclosed phrase [] = refl
 copy_ends unclosed phrase (Semicolon ∷ words) = refl
 copy_ends unclosed phrase (QueryEnd ∷ words) = refl
 copy_ends unclosed phrase (Trivia ∷ words) = ap (λ n. 1 + n) (copy_ends unclosed phrase words)
+copy_ends unclosed phrase (Command ∷ words) = ap (λ n. 1 + n) (copy_ends unclosed phrase words)
+copy_ends unclosed phrase (CopyCommand ∷ words) = ap (λ n. 1 + n) (copy_ends unclosed phrase words)
 copy_ends unclosed phrase (word ∷ words) =
     ap (λ n. 1 + n) (copy_ends (brackets_after unclosed word) (phrase_after unclosed phrase word) words)
 
-replaced_ends : (words : List Word) → begins_holder (without_trivia words) ≡ false → EndsFirst Replaced words
+replaced_ends : (words : List Word) → begins_holder (without_commands words) ≡ false → EndsFirst Replaced words
 replaced_ends [] e = refl
 replaced_ends (Trivia ∷ words) e = ap (λ n. 1 + n) (replaced_ends words e)
+replaced_ends (Command ∷ words) e = ap (λ n. 1 + n) (replaced_ends words e)
+replaced_ends (CopyCommand ∷ words) e = ap (λ n. 1 + n) (replaced_ends words e)
 replaced_ends (Semicolon ∷ words) e = refl
 replaced_ends (QueryEnd ∷ words) e = refl
 replaced_ends (Function ∷ words) e = absurd (false≢true (sym e))
@@ -47,17 +51,21 @@ replaced_ends (Procedure ∷ words) e = absurd (false≢true (sym e))
 replaced_ends (Rule ∷ words) e = absurd (false≢true (sym e))
 replaced_ends (word ∷ words) e = ap (λ n. 1 + n) (plain_ends words)
 
-created_or_ends : (words : List Word) → replaces_holder (without_trivia words) ≡ false → EndsFirst CreatedOr words
+created_or_ends : (words : List Word) → replaces_holder (without_commands words) ≡ false → EndsFirst CreatedOr words
 created_or_ends [] e = refl
 created_or_ends (Trivia ∷ words) e = ap (λ n. 1 + n) (created_or_ends words e)
+created_or_ends (Command ∷ words) e = ap (λ n. 1 + n) (created_or_ends words e)
+created_or_ends (CopyCommand ∷ words) e = ap (λ n. 1 + n) (created_or_ends words e)
 created_or_ends (Semicolon ∷ words) e = refl
 created_or_ends (QueryEnd ∷ words) e = refl
 created_or_ends (Replace ∷ words) e = ap (λ n. 1 + n) (replaced_ends words e)
 created_or_ends (word ∷ words) e = ap (λ n. 1 + n) (plain_ends words)
 
-created_ends : (words : List Word) → creates_holder (without_trivia words) ≡ false → EndsFirst Created words
+created_ends : (words : List Word) → creates_holder (without_commands words) ≡ false → EndsFirst Created words
 created_ends [] e = refl
 created_ends (Trivia ∷ words) e = ap (λ n. 1 + n) (created_ends words e)
+created_ends (Command ∷ words) e = ap (λ n. 1 + n) (created_ends words e)
+created_ends (CopyCommand ∷ words) e = ap (λ n. 1 + n) (created_ends words e)
 created_ends (Semicolon ∷ words) e = refl
 created_ends (QueryEnd ∷ words) e = refl
 created_ends (Or ∷ words) e = ap (λ n. 1 + n) (created_or_ends words e)
@@ -66,7 +74,7 @@ created_ends (Procedure ∷ words) e = absurd (false≢true (sym e))
 created_ends (Rule ∷ words) e = absurd (false≢true (sym e))
 created_ends (word ∷ words) e = ap (λ n. 1 + n) (plain_ends words)
 
-start_ends : (words : List Word) → begins_command (without_trivia words) ≡ false → is_holder (without_trivia words) ≡ false → EndsFirst Start words
+start_ends : (words : List Word) → begins_command (without_trivia words) ≡ false → is_holder (without_commands words) ≡ false → EndsFirst Start words
 start_ends [] c h = refl
 start_ends (Trivia ∷ words) c h = ap (λ n. 1 + n) (start_ends words c h)
 start_ends (Semicolon ∷ words) c h = refl
@@ -152,6 +160,8 @@ one_in_block n before End e free = absurd (false≢true e)
 one_in_block n before Dot e free = absurd (false≢true e)
 one_in_block n before As e free = absurd (false≢true e)
 one_in_block n before Trivia e free = (before, free, (refl, refl))
+one_in_block n before Command e free = (before, free, (refl, refl))
+one_in_block n before CopyCommand e free = (before, free, (refl, refl))
 one_in_block n Any Begin e free = (Block, refl, (refl, refl))
 one_in_block n Block Begin e free = (Block, refl, (refl, refl))
 one_in_block n Any word e free = (Any, refl, (refl, refl))
@@ -167,6 +177,8 @@ named : (n : ℕ) (word : Word) → is_named word ≡ true → LeadTo (OfBlock (
 named n Trivia e = absurd (false≢true e)
 named n Semicolon e = absurd (false≢true e)
 named n QueryEnd e = absurd (false≢true e)
+named n CopyCommand e = absurd (false≢true e)
+named n Command e = absurd (false≢true e)
 named n Dot e = absurd (false≢true e)
 named n word e = (refl, refl)
 

@@ -1,5 +1,5 @@
 -- The law of the ends of statements: which semicolons end one. It can be checked without the machine of `Statements`.
-use Rattle.std.specs.Prelude.{ℕ, ◌≡◌, Bool, true, false, not, List, [], ◌∷◌, ◌++◌, length}
+use Rattle.std.specs.Prelude.{ℕ, ◌≡◌, ◌&&◌, Bool, true, false, not, List, [], ◌∷◌, ◌++◌, length}
 use Rattle.std.specs.List.{filter, position_or_len}
 use Rattle.sql_lexer.specs.declared.statements.Before.TheVariants.{Any}
 use Rattle.sql_lexer.specs.declared.statements.Statement.{Statement}
@@ -56,6 +56,10 @@ begins_command [] = false
 abbrev pub without_trivia : List Word → List Word
 without_trivia words = filter (λ word. not (is_passed_over word)) words
 
+-- the same without commands of psql
+abbrev pub without_commands : List Word → List Word
+without_commands words = filter (λ word. not (is_passed_over word) && not (is_command word)) words
+
 -- ---- brackets and blocks
 
 -- semicolons stand in brackets
@@ -94,6 +98,8 @@ abbrev pub is_named : Word → Bool
 is_named Trivia = false
 is_named Semicolon = false
 is_named QueryEnd = false
+is_named CopyCommand = false
+is_named Command = false
 is_named Dot = false
 is_named word = true
 
@@ -130,7 +136,7 @@ pub record StatementsEnd : Type 0 where
   -- Any other statement ends with its first semicolon, or with the first command of psql that ends a query, unless it
   -- creates a function, a procedure or a rule.
   pub plain : (words : List Word)
-      → begins_command (without_trivia words) ≡ false → is_holder (without_trivia words) ≡ false
+      → begins_command (without_trivia words) ≡ false → is_holder (without_commands words) ≡ false
       → first_end Start words ≡ position_or_len is_end words
   -- A rule ends with its first semicolon outside of brackets; one in brackets ends nothing.
   pub rule : (words others : List Word)
