@@ -10,7 +10,6 @@ use Rattle.sql_lexer.specs.declared.statements.Statement.TheVariants.{Start}
 use Rattle.sql_lexer.specs.declared.script.places.Place.{Place}
 use Rattle.sql_lexer.specs.declared.script.places.Place.TheVariants.{Front, Sql, Data}
 use Rattle.sql_lexer.specs.declared.statements.Word.{Word}
-use Rattle.sql_lexer.specs.declared.statements.Word.TheVariants.{Command}
 use Rattle.sql_lexer.specs.Rules.{token, begins}
 use Rattle.sql_lexer.specs.Statements.{after, data_follow}
 use Rattle.sql_lexer.specs.ScriptWords.{word_of}
@@ -87,12 +86,12 @@ abbrev pub place_behind_data : ℕ → Place
 place_behind_data zero = Sql Start
 place_behind_data (suc waiting) = data_of Start waiting
 
--- behind a token of data; a line is a command of psql
+-- behind a token of data
 abbrev pub place_in_data : Statement → ℕ → List ℕ → Place
 place_in_data statement waiting text =
     if line_len text == 0 then data_of statement waiting
     else if ends_data text then place_behind_data waiting
-    else data_of (after statement Command) waiting
+    else data_of statement waiting
 
 -- behind a token of data, or of what is left of the line of COPY
 abbrev pub place_before : ℕ → Statement → ℕ → List ℕ → Place

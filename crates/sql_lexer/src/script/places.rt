@@ -217,7 +217,7 @@ fn push_data(
     *place = if ends_query {
         place_behind_data(waiting)
     } else {
-        data_of(statement.after(Word::Command), waiting)
+        data_of(statement, waiting)
     };
     Ok(line)
 }
