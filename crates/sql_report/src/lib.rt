@@ -10,10 +10,11 @@
 //! ```
 #![tactic(auto)]
 
+mod drawing;
 mod errors;
 mod finding_list;
-mod json_list;
 mod json_writer;
+mod one_walk;
 mod place;
 mod statement_list;
 #[cfg(test)]
@@ -22,7 +23,7 @@ mod token_names;
 mod tokens;
 
 pub use errors::error_lines;
-pub use finding_list::{Finding, findings};
-pub use json_list::json_lines;
+pub use finding_list::Finding;
+pub use one_walk::{Asked, Walked, walk};
 pub use statement_list::{Statement, statement_lines, statements};
 pub use tokens::token_lines;
