@@ -89,15 +89,14 @@ struct Progress<'s> {
 }
 
 impl<'s> Progress<'s> {
-    ghost use Rattle.std.specs.Prelude.{◌≡◌, ◌≢◌, ◌+◌, ◌<◌, ◌^◌, List, ◌∷◌, ◌++◌, IfOk, OnOk};
+    ghost use Rattle.std.specs.Prelude.{◌≡◌, ◌+◌, ◌<◌, ◌≤◌, ◌^◌, List, ◌∷◌, ◌++◌, IfOk, OnOk};
     ghost use Rattle.squawk_kinds.specs.KindNames.{Names};
     ghost use Rattle.squawk_table.specs.SinkViews.{owned_step_of};
     ghost use Rattle.squawk_table.specs.declared.shortcuts.str_step.OwnedStep.{OwnedStep};
     ghost use Rattle.squawk_tokens.specs.LexicalErrors.{LexicalError};
     ghost use Rattle.squawk_tree.specs.TreeText.{bytes_in};
-    ghost use Rattle.sql_report.specs.OnTheWay.{StandsBefore, asked_of};
+    ghost use Rattle.sql_report.specs.OnTheWay.{DrawsBefore, StandsBefore, asked_of};
     ghost use Rattle.sql_report.specs.OpenNodes.{statements_left};
-    ghost use Rattle.sql_report.specs.declared.one_walk.Asked.TheVariants.{Errors};
 
     /// The lexical errors, before the first step.
     fn new(alloc: Global, table: &'s LexedStr<'s>, asked: Asked) -> Result<Progress<'s>, AllocError>
@@ -115,32 +114,40 @@ impl<'s> Progress<'s> {
     }
 
     /// Takes a step.
+    #[inline(always)]
     fn step(&mut self, names: &mut KindNames<'_, '_>, step: &StrStep<'s>) -> Result<(), AllocError>
         requires { self.old.at + bytes_in (owned_step_of step.now) < 2 ^ 64 }
         ensures asked { OnOk result (asked_of self.new.drawing ≡ asked_of self.old.drawing) }
-        ensures at { OnOk result (self.new.at ≡ self.old.at + bytes_in (owned_step_of step.now)) }
+        ensures at { OnOk result (self.new.at ≤ self.old.at + bytes_in (owned_step_of step.now)) }
         ensures stands { OnOk result ((errors : List LexicalError) (all rest : List OwnedStep)
             → StandsBefore names.old errors all self.old (owned_step_of step.now ∷ rest)
             → StandsBefore names.old errors all self.new rest) }
         ensures same { OnOk result (names.new ≡ names.old) }
     {
-        let at = self.at;
         push_finding(&mut self.findings, step)?;
-        self.take_statement(step)?;
-        self.at = at + bytes_in(step);
-        self.drawing.step(names, at, step)
-    }
-
-    /// Takes a step for the statements, if they are asked for.
-    fn take_statement(&mut self, step: &StrStep<'_>) -> Result<(), AllocError>
-        ensures left { OnOk result (asked_of self.old.drawing ≢ Errors → (steps : List OwnedStep)
-            → self.new.statements.items ++ statements_left self.new.nodes.items (self.old.at + bytes_in (owned_step_of step.now)) steps
-            ≡ self.old.statements.items ++ statements_left self.old.nodes.items self.old.at (owned_step_of step.now ∷ steps)) }
-        ensures others { self.new ≡ record self.old { statements = self.new.statements; nodes = self.new.nodes } }
-    {
         match self.drawing {
             Drawing::Errors => Ok(()),
-            _ => take_step(&mut self.statements, &mut self.nodes, self.at, step),
+            _ => self.draw(names, step),
         }
+    }
+
+    /// Takes a step for the statements and for what is drawn.
+    fn draw(&mut self, names: &mut KindNames<'_, '_>, step: &StrStep<'_>) -> Result<(), AllocError>
+        requires { self.old.at + bytes_in (owned_step_of step.now) < 2 ^ 64 }
+        ensures asked { asked_of self.new.drawing ≡ asked_of self.old.drawing }
+        ensures findings { self.new.findings ≡ self.old.findings }
+        ensures at { OnOk result (self.new.at ≡ self.old.at + bytes_in (owned_step_of step.now)) }
+        ensures left { OnOk result ((rest : List OwnedStep)
+            → self.new.statements.items ++ statements_left self.new.nodes.items self.new.at rest
+            ≡ self.old.statements.items ++ statements_left self.old.nodes.items self.old.at (owned_step_of step.now ∷ rest)) }
+        ensures draws { OnOk result ((all rest : List OwnedStep)
+            → DrawsBefore names.old all self.old.drawing self.old.at (owned_step_of step.now ∷ rest)
+            → DrawsBefore names.old all self.new.drawing self.new.at rest) }
+        ensures same { names.new ≡ names.old }
+    {
+        let at = self.at;
+        take_step(&mut self.statements, &mut self.nodes, at, step)?;
+        self.at = at + bytes_in(step);
+        self.drawing.step(names, at, step)
     }
 }
