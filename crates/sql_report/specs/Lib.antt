@@ -7,3 +7,5 @@ pub mod TokenLines
 pub mod JsonLines
 pub mod OpenJson
 pub mod JsonTrees
+pub mod Drawn
+pub mod OnTheWay

@@ -9,6 +9,6 @@ use Rattle.sql_report.specs.declared.json_writer.JsonWriter.{JsonWriter}
 abbrev pub nodes_of : List (String Global) → List (List ℕ)
 nodes_of errors = reverse (map string_bytes errors)
 
--- where it stands
-abbrev pub standing : JsonWriter → Standing
-standing writer = record { nodes = nodes_of writer.errors.items; has_child = writer.has_child; at = writer.at }
+-- where it stands, at a byte
+abbrev pub standing : JsonWriter → ℕ → Standing
+standing writer at = record { nodes = nodes_of writer.errors.items; has_child = writer.has_child; at = at }

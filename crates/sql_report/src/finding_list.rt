@@ -1,13 +1,10 @@
 //! What is wrong with a text.
 ghost use Rattle.std.specs.Prelude.{◌≡◌, ◌++◌, IfOk, OnOk, encode_utf8_all, map};
 ghost use Rattle.std.specs.Str.{chars};
-ghost use Rattle.std.specs.List.{flat_map};
-ghost use Rattle.squawk_table.specs.Sent.{sent_list};
-ghost use Rattle.squawk_table.specs.Shape.{Fits};
-ghost use Rattle.sql_report.specs.Findings.{AreInOrder, all_told, told, told_in, told_lexical};
+ghost use Rattle.squawk_table.specs.SinkViews.{owned_step_of};
+ghost use Rattle.sql_report.specs.Findings.{AreInOrder, told, told_in, told_lexical};
 
-use squawk_output::Output;
-use squawk_table::{LexError, LexedStr, StrStep, StrSteps};
+use squawk_table::{LexError, LexedStr, StrStep};
 use std::alloc::{AllocError, Global};
 
 /// An error at a byte of a text.
@@ -19,22 +16,17 @@ pub struct Finding<'s> {
     pub hint: Option<&'s str>,
 }
 
-/// The errors of a text: lexical ones, which stand where they start, and those of the parse, in the order
-/// of their places. At one byte the lexical errors come first.
-pub fn findings<'s>(
+/// The lexical errors of a table, each where it starts.
+pub(crate) fn lexical_findings<'s>(
     alloc: Global,
     table: &'s LexedStr<'s>,
-    output: &'s Output,
 ) -> Result<Vec<Finding<'s>>, AllocError>
-    requires { Fits table.now output.now.steps }
-    ensures { IfOk result (λ all. AreInOrder (all_told table.now.errors (sent_list table.now output.now.steps)) all.items) }
+    ensures { IfOk result (λ all. map told all.items ≡ map told_lexical table.now.errors) }
 {
     let mut all = Vec::new(alloc);
     for error in table.errors() {
         all.push(lexical(error))?;
     }
-    push_errors(&mut all, table.str_steps(output))?;
-    all.sort_by_key(|finding| finding.at)?;
     Ok(all)
 }
 
@@ -60,14 +52,23 @@ fn of_grammar(message: &str, at: usize) -> Finding<'_>
     }
 }
 
-/// Puts the errors among steps behind others.
-fn push_errors<'s>(all: &mut Vec<Finding<'s>>, steps: StrSteps<'s>) -> Result<(), AllocError>
-    ensures { OnOk result (map told all.new.items ≡ map told all.old.items ++ flat_map told_in steps.entry.steps) }
+/// Puts the error that a step is behind others, if it is one.
+pub(crate) fn push_finding<'s>(
+    all: &mut Vec<Finding<'s>>,
+    step: &StrStep<'s>,
+) -> Result<(), AllocError>
+    ensures { OnOk result (map told all.new.items ≡ map told all.old.items ++ told_in (owned_step_of step.now)) }
 {
-    for step in steps {
-        if let StrStep::Error { msg, pos } = step {
-            all.push(of_grammar(msg, pos))?;
-        }
+    if let StrStep::Error { msg, pos } = *step {
+        all.push(of_grammar(msg, pos))?;
     }
     Ok(())
+}
+
+/// Errors in the order of their places. Those at one byte stay in their order.
+pub(crate) fn in_order(mut all: Vec<Finding<'_>>) -> Result<Vec<Finding<'_>>, AllocError>
+    ensures { IfOk result (λ sorted. AreInOrder (map told all.entry.items) sorted.items) }
+{
+    all.sort_by_key(|finding| finding.at)?;
+    Ok(all)
 }

@@ -16,7 +16,7 @@ use squawk_table::StrStep;
 use std::alloc::{AllocError, Global};
 use std::fmt::Write;
 
-/// The lines so far, and where the next step stands.
+/// The lines so far, and the nodes that are open.
 #[derive(Drop)]
 pub(crate) struct JsonWriter {
     alloc: Global,
@@ -25,40 +25,40 @@ pub(crate) struct JsonWriter {
     errors: Vec<String>,
     /// Whether a child stands before in the innermost node.
     has_child: bool,
-    at: usize,
 }
 
 impl JsonWriter {
     /// Nothing, before the first step.
     pub(crate) fn new(alloc: Global) -> JsonWriter
         ensures lines { string_bytes result.lines ≡ [] }
-        ensures first { standing result ≡ record { nodes = []; has_child = false; at = 0 } }
+        ensures first { standing result 0 ≡ record { nodes = []; has_child = false; at = 0 } }
     {
         JsonWriter {
             alloc,
             lines: String::new(alloc),
             errors: Vec::new(alloc),
             has_child: false,
-            at: 0,
         }
     }
 
-    /// Takes a step.
+    /// Takes a step that stands at a byte.
     pub(crate) fn step(
         &mut self,
         names: &mut KindNames<'_, '_>,
-        step: StrStep<'_>,
+        at: usize,
+        step: &StrStep<'_>,
     ) -> Result<(), AllocError>
-        requires { self.old.at + bytes_in (owned_step_of step) < 2 ^ 64 }
+        requires { at + bytes_in (owned_step_of step.now) < 2 ^ 64 }
         ensures written { OnOk result (string_bytes self.new.lines
-            ≡ string_bytes self.old.lines ++ written names.old (standing self.old) (owned_step_of step.entry)) }
-        ensures behind { OnOk result (standing self.new ≡ behind (standing self.old) (owned_step_of step.entry)) }
+            ≡ string_bytes self.old.lines ++ written names.old (standing self.old at) (owned_step_of step.now)) }
+        ensures behind { OnOk result (standing self.new (at + bytes_in (owned_step_of step.now))
+            ≡ behind (standing self.old at) (owned_step_of step.now)) }
         ensures same { names.new ≡ names.old }
     {
-        match step {
-            StrStep::Token { kind, text } => self.token(names, kind, text),
-            StrStep::Enter { kind } => self.enter(names, kind),
-            StrStep::Exit => self.exit(),
+        match *step {
+            StrStep::Token { kind, text } => self.token(names, at, kind, text),
+            StrStep::Enter { kind } => self.enter(names, at, kind),
+            StrStep::Exit => self.exit(at),
             StrStep::Error { msg, pos } => self.error(msg, pos),
         }
     }
@@ -67,52 +67,58 @@ impl JsonWriter {
     fn token(
         &mut self,
         names: &mut KindNames<'_, '_>,
+        at: usize,
         kind: SyntaxKind,
         text: &str,
     ) -> Result<(), AllocError>
-        requires { self.old.at + length (encode_utf8_all (chars text.now)) < 2 ^ 64 }
+        requires { at + length (encode_utf8_all (chars text.now)) < 2 ^ 64 }
         ensures written { OnOk result (string_bytes self.new.lines
-            ≡ string_bytes self.old.lines ++ written names.old (standing self.old) (Token kind (chars text.now))) }
-        ensures behind { OnOk result (standing self.new ≡ behind (standing self.old) (Token kind (chars text.now))) }
+            ≡ string_bytes self.old.lines ++ written names.old (standing self.old at) (Token kind (chars text.now))) }
+        ensures behind { OnOk result (standing self.new (at + length (encode_utf8_all (chars text.now)))
+            ≡ behind (standing self.old at) (Token kind (chars text.now))) }
         ensures same { names.new ≡ names.old }
     {
-        let end = self.at + byte_len(text);
-        self.push_token(names, kind, end)?;
+        self.push_token(names, kind, at, at + byte_len(text))?;
         self.has_child = true;
-        self.at = end;
         Ok(())
     }
 
     /// Takes the beginning of a node.
-    fn enter(&mut self, names: &mut KindNames<'_, '_>, kind: SyntaxKind) -> Result<(), AllocError>
+    fn enter(
+        &mut self,
+        names: &mut KindNames<'_, '_>,
+        at: usize,
+        kind: SyntaxKind,
+    ) -> Result<(), AllocError>
         ensures written { OnOk result (string_bytes self.new.lines
-            ≡ string_bytes self.old.lines ++ written names.old (standing self.old) (Enter kind)) }
-        ensures behind { OnOk result (standing self.new ≡ behind (standing self.old) (Enter kind)) }
+            ≡ string_bytes self.old.lines ++ written names.old (standing self.old at) (Enter kind)) }
+        ensures behind { OnOk result (standing self.new at ≡ behind (standing self.old at) (Enter kind)) }
         ensures same { names.new ≡ names.old }
     {
-        self.push_opening(names, kind)?;
+        self.push_opening(names, at, kind)?;
         self.errors.push(String::new(self.alloc))?;
         self.has_child = false;
         Ok(())
     }
 
     /// Takes the end of a node.
-    fn exit(&mut self) -> Result<(), AllocError>
+    fn exit(&mut self, at: usize) -> Result<(), AllocError>
         ensures written { OnOk result (string_bytes self.new.lines
-            ≡ string_bytes self.old.lines ++ closing (nodes_of self.old.errors.items) self.old.at) }
-        ensures behind { OnOk result (standing self.new ≡ behind (standing self.old) Exit) }
+            ≡ string_bytes self.old.lines ++ closing (nodes_of self.old.errors.items) at) }
+        ensures behind { OnOk result (standing self.new at ≡ behind (standing self.old at) Exit) }
     {
         self.has_child = true;
         match self.errors.pop() {
-            Some(errors) => push_closed(&mut self.lines, self.errors.len(), self.at, &errors),
+            Some(errors) => push_closed(&mut self.lines, self.errors.len(), at, &errors),
             None => Ok(()),
         }
     }
 
     /// Takes an error.
     fn error(&mut self, msg: &str, pos: usize) -> Result<(), AllocError>
-        ensures written { self.new.lines ≡ self.old.lines }
-        ensures behind { OnOk result (standing self.new ≡ behind (standing self.old) (Error (chars msg.now) pos)) }
+        ensures nodes { OnOk result (nodes_of self.new.errors.items
+            ≡ with_error (nodes_of self.old.errors.items) (error_object (chars msg.now) pos)) }
+        ensures others { self.new ≡ record self.old { errors = self.new.errors } }
     {
         match self.errors.pop() {
             Some(mut errors) => {
@@ -124,23 +130,24 @@ impl JsonWriter {
         }
     }
 
-    /// Puts a token from here to its end behind the lines, if it stands in a statement.
+    /// Puts a token from a byte to another behind the lines, if it stands in a statement.
     fn push_token(
         &mut self,
         names: &mut KindNames<'_, '_>,
         kind: SyntaxKind,
+        start: usize,
         end: usize,
     ) -> Result<(), AllocError>
         ensures written { OnOk result (string_bytes self.new.lines ≡ string_bytes self.old.lines
-            ++ in_statement (nodes_of self.old.errors.items) (comma self.old.has_child ++ token_object names.old kind self.old.at end)) }
-        ensures unmoved { standing self.new ≡ standing self.old }
+            ++ in_statement (nodes_of self.old.errors.items) (comma self.old.has_child ++ token_object names.old kind start end)) }
+        ensures others { self.new ≡ record self.old { lines = self.new.lines } }
         ensures same { names.new ≡ names.old }
     {
         if self.errors.len() < 2 {
             return Ok(());
         }
         self.push_comma()?;
-        push_begun(self.alloc, &mut self.lines, names, kind, self.at)?;
+        push_begun(self.alloc, &mut self.lines, names, kind, start)?;
         write!(self.lines, ",\"end\":{end}}}")
     }
 
@@ -148,18 +155,19 @@ impl JsonWriter {
     fn push_opening(
         &mut self,
         names: &mut KindNames<'_, '_>,
+        start: usize,
         kind: SyntaxKind,
     ) -> Result<(), AllocError>
         ensures written { OnOk result (string_bytes self.new.lines ≡ string_bytes self.old.lines
-            ++ opening (nodes_of self.old.errors.items) self.old.has_child (node_opened names.old kind self.old.at)) }
-        ensures unmoved { standing self.new ≡ standing self.old }
+            ++ opening (nodes_of self.old.errors.items) self.old.has_child (node_opened names.old kind start)) }
+        ensures others { self.new ≡ record self.old { lines = self.new.lines } }
         ensures same { names.new ≡ names.old }
     {
         if self.errors.is_empty() {
             return Ok(());
         }
         self.push_comma()?;
-        push_begun(self.alloc, &mut self.lines, names, kind, self.at)?;
+        push_begun(self.alloc, &mut self.lines, names, kind, start)?;
         self.lines.push_str(",\"children\":[")
     }
 
@@ -167,7 +175,7 @@ impl JsonWriter {
     fn push_comma(&mut self) -> Result<(), AllocError>
         ensures written { OnOk result (string_bytes self.new.lines ≡ string_bytes self.old.lines
             ++ in_statement (nodes_of self.old.errors.items) (comma self.old.has_child)) }
-        ensures unmoved { standing self.new ≡ standing self.old }
+        ensures others { self.new ≡ record self.old { lines = self.new.lines } }
     {
         if self.has_child && self.errors.len() > 1 {
             self.lines.push(',')

@@ -27,7 +27,7 @@ pub struct Statement {
 
 /// A node that isn't left yet, with its first byte.
 #[derive(Clone, Copy)]
-struct OpenNode {
+pub(crate) struct OpenNode {
     kind: SyntaxKind,
     start: usize,
 }
@@ -63,35 +63,44 @@ fn statements_in(alloc: Global, steps: StrSteps<'_>) -> Result<Vec<Statement>, A
     let mut nodes = Vec::new(alloc);
     let mut at = 0;
     for step in steps {
-        at = take_step(&mut statements, &mut nodes, at, step)?;
+        take_step(&mut statements, &mut nodes, at, &step)?;
+        at += bytes_in(&step);
     }
     Ok(statements)
 }
 
-/// Takes a step that stands at a byte, and tells the byte behind it.
+/// Takes a step that stands at a byte.
 #[tactic(auto, using(crate::proofs::OpenNodeLemmas::left_token, crate::proofs::OpenNodeLemmas::left_enter, crate::proofs::OpenNodeLemmas::left_exit, crate::proofs::OpenNodeLemmas::left_error))]
-fn take_step(
+pub(crate) fn take_step(
     statements: &mut Vec<Statement>,
     nodes: &mut Vec<OpenNode>,
     at: usize,
-    step: StrStep<'_>,
-) -> Result<usize, AllocError>
-    requires { at + bytes_in (owned_step_of step) < 2 ^ 64 }
-    ensures at { IfOk result (λ next. next ≡ at + bytes_in (owned_step_of step.entry)) }
-    ensures left { IfOk result (λ next. (steps : List OwnedStep) → statements.new.items ++ statements_left nodes.new.items next steps
-        ≡ statements.old.items ++ statements_left nodes.old.items at (owned_step_of step.entry ∷ steps)) }
+    step: &StrStep<'_>,
+) -> Result<(), AllocError>
+    ensures { OnOk result ((steps : List OwnedStep)
+        → statements.new.items ++ statements_left nodes.new.items (at + bytes_in (owned_step_of step.now)) steps
+        ≡ statements.old.items ++ statements_left nodes.old.items at (owned_step_of step.now ∷ steps)) }
 {
-    match step {
-        StrStep::Token { text, .. } => Ok(at + byte_len(text)),
+    match *step {
         StrStep::Enter { kind } => {
             nodes.push(OpenNode { kind, start: at })?;
-            Ok(at)
+            Ok(())
         }
         StrStep::Exit => {
             push_closed(statements, nodes, at)?;
-            Ok(at)
+            Ok(())
         }
-        StrStep::Error { .. } => Ok(at),
+        StrStep::Token { .. } | StrStep::Error { .. } => Ok(()),
+    }
+}
+
+/// How many bytes of the text a step takes.
+pub(crate) fn bytes_in(step: &StrStep<'_>) -> usize
+    ensures { result ≡ bytes_in (owned_step_of step.now) }
+{
+    match *step {
+        StrStep::Token { text, .. } => byte_len(text),
+        StrStep::Enter { .. } | StrStep::Exit | StrStep::Error { .. } => 0,
     }
 }
 

@@ -1,7 +1,7 @@
 //! Lines of JSON, of an output that is made of events.
 ghost use Rattle.std.specs.Prelude.{◌≡◌, None};
 
-use crate::json_lines;
+use crate::{Asked, walk};
 use squawk_kinds::{NoKeywords, SyntaxKind};
 use squawk_output::{Event, Output, Text, process};
 use squawk_table::{LexedStr, Token, TokenKind};
@@ -54,7 +54,7 @@ fn lines(
         (SyntaxKind(STATEMENT), "STATEMENT"),
         (SyntaxKind(INNER), "in \"quotes\""),
     ];
-    Ok(Some(json_lines(alloc, table, output, &names)?))
+    Ok(Some(walk(alloc, table, output, &names, Asked::Json)?.drawn))
 }
 
 #[test]

@@ -1,5 +1,5 @@
 -- What is listed of a text.
-use Rattle.std.specs.Prelude.{◌≡◌, ◌≢◌, ℕ, List, []}
+use Rattle.std.specs.Prelude.{ℕ, List, []}
 use Rattle.squawk_table.specs.declared.shortcuts.str_step.OwnedStep.{OwnedStep}
 use Rattle.squawk_tree.specs.TreeText.{tree_text}
 use Rattle.sql_lexer.specs.Scripts.{script_tokens}
@@ -7,7 +7,8 @@ use Rattle.squawk_kinds.specs.EngineNames.{names_of}
 use Rattle.sql_report.specs.JsonLines.{json_lines}
 use Rattle.sql_report.specs.Statements.{statement_lines, statements_of}
 use Rattle.sql_report.specs.TokenLines.{token_lines}
-use Rattle.sql_report.specs.declared.statement_list.Statement.{Statement}
+use Rattle.sql_report.specs.declared.one_walk.Asked.{Asked}
+use Rattle.sql_report.specs.declared.one_walk.Asked.TheVariants as asked
 use Rattle.sql_tree.specs.declared.options.Listing.{Listing}
 use Rattle.sql_tree.specs.declared.options.Listing.TheVariants.{Tree, Statements, Json, Tokens, Quiet}
 use Rattle.sql_tree.specs.declared.sql.Sql.{Sql}
@@ -20,6 +21,10 @@ listed sql Json text sent = json_lines (names_of sql.names.items) sent
 listed sql Tokens text sent = token_lines 0 (script_tokens text)
 listed sql Quiet text sent = []
 
--- these are the statements that are sent, which aren't counted where only errors are told
-abbrev pub AreCounted : Listing → List OwnedStep → List Statement → Type 0
-AreCounted listing sent statements = listing ≢ Quiet → statements ≡ statements_of sent
+-- what is asked of a parse for a listing
+abbrev pub asked_for : Listing → Asked
+asked_for Tree = asked.Tree
+asked_for Statements = asked.Statements
+asked_for Json = asked.Json
+asked_for Tokens = asked.Statements
+asked_for Quiet = asked.Errors

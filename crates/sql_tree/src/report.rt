@@ -1,26 +1,23 @@
 //! What is told of a text.
-ghost use Rattle.std.specs.Prelude.{◌≡◌, ◌<◌, ◌^◌, IfErr, IfOk, length, string_bytes};
-ghost use Rattle.squawk_table.specs.Sent.{sent_list};
-ghost use Rattle.squawk_table.specs.Shape.{Fits};
-ghost use Rattle.squawk_tokens.specs.AcceptedTokens.{start_of};
-ghost use Rattle.squawk_tree.specs.TreeText.{tree_text};
-ghost use Rattle.sql_lexer.specs.Scripts.{script_tokens};
-ghost use Rattle.sql_report.specs.JsonTrees.{HasTreeLines};
-ghost use Rattle.sql_report.specs.TokenLines.{token_lines};
-ghost use Rattle.sql_tree.specs.Listings.{AreCounted, listed};
-ghost use Rattle.sql_tree.specs.Refusals.{RefusesText};
+ghost use Rattle.std.specs.Prelude.{◌≡◌, ◌≢◌, ◌<◌, ◌^◌, IfErr, IfOk, List, length, string_bytes};
 ghost use Rattle.squawk_kinds.specs.EngineNames.{names_of};
+ghost use Rattle.squawk_table.specs.declared.shortcuts.str_step.OwnedStep.{OwnedStep};
+ghost use Rattle.squawk_tokens.specs.AcceptedTokens.{AreAcceptedTokens, start_of};
+ghost use Rattle.sql_lexer.specs.Scripts.{script_tokens};
+ghost use Rattle.sql_report.specs.Drawn.{drawn};
+ghost use Rattle.sql_report.specs.Statements.{statements_of};
+ghost use Rattle.sql_report.specs.TokenLines.{token_lines};
+ghost use Rattle.sql_tree.specs.Listings.{asked_for, listed};
+ghost use Rattle.sql_tree.specs.Refusals.{RefusesText};
+ghost use Rattle.sql_tree.specs.Reports.{table_in};
 
 use crate::options::Listing;
 use crate::sql::Sql;
 use crate::unread::Unread;
 use sql_grammar::{Detail, parse_table};
 use sql_lexer::tokenize_script;
-use sql_report::{
-    Statement, error_lines, findings, json_lines, statement_lines, statements, token_lines,
-};
-use squawk_parser::{LexedStr, Output, Token};
-use squawk_tree::TreeText;
+use sql_report::{Asked, Walked, error_lines, statement_lines, token_lines, walk};
+use squawk_parser::{LexedStr, Token};
 use std::alloc::{AllocError, Global};
 
 /// What is told of a text.
@@ -53,37 +50,49 @@ impl Report {
         ensures refused { IfErr result (RefusesText sql.now text.now) }
     {
         let tokens = tokenize_script(alloc, text)?;
-        let table = LexedStr::from_accepted(alloc, text, &tokens, &sql.vocabulary)?;
+        let table = table_of(alloc, sql, text, &tokens)?;
         let raw_lines = raw_lines(alloc, listing, &tokens)?;
         drop(tokens);
         let output = parse_table(alloc, &table, &sql.vocabulary, Detail::Nodes)?;
-        let findings = findings(alloc, &table, &output)?;
-        let errors = error_lines(alloc, name, text, &findings)?;
-        let error_count = findings.len();
-        let statements = counted(alloc, listing, &table, &output)?;
-        let parsed = Parsed {
-            text,
-            table: &table,
-            output: &output,
-            statements: &statements,
-        };
-        let listing = list(alloc, sql, listing, &parsed, raw_lines)?;
+        let walked = walk(alloc, &table, &output, sql.names(), asked(listing))?;
+        let errors = error_lines(alloc, name, text, &walked.findings)?;
+        let error_count = walked.findings.len();
+        let statement_count = walked.statements.len();
+        let listing = list(alloc, sql, listing, text, walked, raw_lines)?;
         Ok(Report {
             listing,
             errors,
             error_count,
-            statement_count: statements.len(),
+            statement_count,
         })
     }
 }
 
-/// A text, its parse and its statements.
-#[derive(Drop)]
-struct Parsed<'t> {
+/// The table of a text's raw tokens.
+fn table_of<'t>(
+    alloc: Global,
+    sql: &Sql,
     text: &'t str,
-    table: &'t LexedStr<'t>,
-    output: &'t Output,
-    statements: &'t [Statement],
+    tokens: &[Token],
+) -> Result<LexedStr<'t>, AllocError>
+    requires accepted { AreAcceptedTokens text.now tokens.now }
+    requires tokens { tokens.now ≡ script_tokens text.now }
+    ensures { IfOk result (λ table. table ≡ table_in sql.now text.now) }
+{
+    LexedStr::from_accepted(alloc, text, tokens, &sql.vocabulary)
+}
+
+/// What is asked of a parse for a listing.
+fn asked(listing: Listing) -> Asked
+    ensures asked { result ≡ asked_for listing }
+    ensures counts { listing ≢ Listing.Quiet → result ≢ Asked.Errors }
+{
+    match listing {
+        Listing::Tree => Asked::Tree,
+        Listing::Statements | Listing::Tokens => Asked::Statements,
+        Listing::Json => Asked::Json,
+        Listing::Quiet => Asked::Errors,
+    }
 }
 
 /// What goes to the standard output. The lines of the raw tokens are made before.
@@ -91,23 +100,21 @@ fn list(
     alloc: Global,
     sql: &Sql,
     listing: Listing,
-    parsed: &Parsed<'_>,
+    text: &str,
+    walked: Walked<'_>,
     raw_lines: String,
 ) -> Result<String, AllocError>
-    requires fits { Fits parsed.now.table.now parsed.now.output.now.steps }
-    requires statements { AreCounted listing (sent_list parsed.now.table.now parsed.now.output.now.steps) parsed.now.statements.now }
-    requires raw { listing ≡ Listing.Tokens → string_bytes raw_lines ≡ token_lines 0 (script_tokens parsed.now.text.now) }
-    ensures listed { IfOk result (λ list. string_bytes list ≡
-        listed sql.now listing parsed.now.text.now (sent_list parsed.now.table.now parsed.now.output.now.steps)) }
-    ensures values { IfOk result (λ list. listing ≡ Listing.Json →
-        HasTreeLines (names_of sql.now.names.items) (sent_list parsed.now.table.now parsed.now.output.now.steps) (string_bytes list)) }
+    ensures listed { (sent : List OwnedStep)
+        → string_bytes walked.entry.drawn ≡ drawn (asked_for listing) (names_of sql.now.names.items) sent
+        → (listing ≢ Listing.Quiet → walked.entry.statements.items ≡ statements_of sent)
+        → (listing ≡ Listing.Tokens → string_bytes raw_lines ≡ token_lines 0 (script_tokens text.now))
+        → IfOk result (λ list. string_bytes list ≡ listed sql.now listing text.now sent) }
+    ensures drawn { IfOk result (λ list. listing ≡ Listing.Json → list ≡ walked.entry.drawn) }
 {
     match listing {
-        Listing::Tree => tree(alloc, sql, parsed.table, parsed.output),
-        Listing::Statements => statement_lines(alloc, parsed.text, parsed.statements, sql.names()),
-        Listing::Json => json_lines(alloc, parsed.table, parsed.output, sql.names()),
+        Listing::Tree | Listing::Json | Listing::Quiet => Ok(walked.drawn),
+        Listing::Statements => statement_lines(alloc, text, &walked.statements, sql.names()),
         Listing::Tokens => Ok(raw_lines),
-        Listing::Quiet => Ok(String::new(alloc)),
     }
 }
 
@@ -119,36 +126,5 @@ fn raw_lines(alloc: Global, listing: Listing, tokens: &[Token]) -> Result<String
     match listing {
         Listing::Tokens => token_lines(alloc, tokens),
         _ => Ok(String::new(alloc)),
-    }
-}
-
-/// The tree as indented text.
-fn tree(
-    alloc: Global,
-    sql: &Sql,
-    table: &LexedStr<'_>,
-    output: &Output,
-) -> Result<String, AllocError>
-    requires { Fits table.now output.now.steps }
-    ensures { IfOk result (λ text. string_bytes text ≡ tree_text (names_of sql.now.names.items) (sent_list table.now output.now.steps)) }
-{
-    let mut sink = TreeText::new(alloc);
-    let _ = table.intersperse_trivia(output, &mut sink)?;
-    sink.finish(alloc, sql.names())
-}
-
-/// The statements; none where only errors are told.
-fn counted(
-    alloc: Global,
-    listing: Listing,
-    table: &LexedStr<'_>,
-    output: &Output,
-) -> Result<Vec<Statement>, AllocError>
-    requires { Fits table.now output.now.steps }
-    ensures { IfOk result (λ all. AreCounted listing (sent_list table.now output.now.steps) all.items) }
-{
-    match listing {
-        Listing::Quiet => Ok(Vec::new(alloc)),
-        _ => statements(alloc, table, output),
     }
 }
