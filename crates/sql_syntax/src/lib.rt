@@ -7,7 +7,7 @@ mod files;
 mod parse;
 mod tree_findings;
 
-pub use error::SqlError;
+pub use error::{FileError, SqlError};
 pub use files::{Reporter, Texts, print_files, status};
 pub use parse::parse_sql;
 pub use tree_findings::findings;
