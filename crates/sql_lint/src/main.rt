@@ -13,19 +13,28 @@ use sql_words::vocabulary;
 use std::process::ExitCode;
 use std::{env, io};
 
+/// The status at an error.
+const FAILED: u8 = 3;
+
 fn main(rt: HostRuntime) -> ExitCode {
-    let is_clean = run(&rt);
-    if let Err(error) = &is_clean {
-        let _ = eprintln!(&rt; "sql_lint: {error}");
+    match run(&rt) {
+        Ok(status) => ExitCode::from(status),
+        Err(error) => {
+            let _ = eprintln!(&rt; "sql_lint: {error}");
+            ExitCode::from(FAILED)
+        }
     }
-    ExitCode::from(status(&is_clean))
 }
 
-/// Prints what is found in each file that the arguments name. Returns whether that is nothing.
-fn run(rt: &HostRuntime) -> Result<bool, SqlError> {
+/// Prints what is found in each file that the arguments name. Returns the status to end with.
+fn run(rt: &HostRuntime) -> Result<u8, SqlError> {
     let alloc = rt.alloc();
     let words = vocabulary(alloc)?;
     let names: Vec<String> = env::args(rt)?.skip(1).collect(alloc)?;
     let linter = Linter { words: &words };
-    print_files(alloc, rt, &linter, &names, &mut io::writer(rt))
+    let is_clean = print_files(alloc, rt, &linter, &names, &mut io::writer(rt));
+    if let Err(error) = &is_clean {
+        let _ = eprintln!(rt; "sql_lint: {error}");
+    }
+    Ok(status(&is_clean))
 }

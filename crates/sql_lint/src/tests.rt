@@ -1,9 +1,9 @@
 //! What is found in texts and files.
 
 use crate::lint::Linter;
-use sql_syntax::{Reporter, SqlError, Texts, print_files, status};
+use sql_syntax::{FileError, Reporter, SqlError, Texts, print_files, status};
 use sql_words::vocabulary;
-use std::alloc::Global;
+use std::alloc::{AllocError, Global};
 use std::io::{self, ErrorKind};
 use std::test::Fail;
 
@@ -83,51 +83,70 @@ fn finds_each(rt: HostRuntime) -> Result<(), Fail> {
 }
 
 /// Files with their texts.
-struct Fixed(&'static [(&'static str, &'static str)]);
+#[derive(Drop)]
+struct Fixed {
+    alloc: Global,
+    files: &'static [(&'static str, &'static str)],
+}
 
 impl Texts for Fixed {
-    ghost reads = { λ _ _ _. Unit {0} };
+    ghost gives = { λ _ _ _. Unit {0} };
 
-    fn read(&self, alloc: Global, name: &str) -> io::Result<String> {
-        for (file, text) in self.0 {
+    fn read(&self, name: &str) -> io::Result<String> {
+        for (file, text) in self.files {
             if *file == name {
-                return Ok(String::from_str(alloc, text)?);
+                return Ok(String::from_str(self.alloc, text)?);
             }
         }
         Err(io::Error::from(ErrorKind::NotFound))
     }
 }
 
-static FILES: Fixed = Fixed(&[("a", "select 1"), ("b", "drop view c"), ("c", "")]);
+static FILES: [(&str, &str); 3] = [("a", "select 1"), ("b", "drop view c"), ("c", "")];
 
-/// Names of files, what is printed, and the status.
-static RUNS: [(&[&str], &str, u8); 3] = [
-    (&["a", "c"], "", 0),
+/// Names of files, what is printed, the text of the error if there is one, and the status.
+static RUNS: [(&[&str], &str, &str, u8); 3] = [
+    (&["a", "c"], "", "", 0),
     (
         &["a", "b", "c"],
         "b:1:1: DROP without IF EXISTS\ndrop view c\n^\n",
+        "",
         1,
     ),
     (
         &["b", "d", "b"],
         "b:1:1: DROP without IF EXISTS\ndrop view c\n^\n",
+        "d: entity not found",
         3,
     ),
 ];
+
+/// The text of an error; none where there is none.
+fn message(alloc: Global, is_clean: &Result<bool, FileError<'_>>) -> Result<String, AllocError> {
+    match is_clean {
+        Ok(_) => Ok(String::new(alloc)),
+        Err(error) => format!(in alloc; "{error}"),
+    }
+}
 
 #[test]
 fn goes_over_files(rt: HostRuntime) -> Result<(), Fail> {
     let alloc = rt.alloc();
     let words = vocabulary(alloc)?;
+    let texts = Fixed {
+        alloc,
+        files: &FILES,
+    };
     for run in &RUNS {
-        let (names, wanted, wanted_status) = *run;
+        let (names, wanted, wanted_error, wanted_status) = *run;
         let mut files: Vec<String> = Vec::new(alloc);
         for name in names {
             files.push(String::from_str(alloc, name)?)?;
         }
         let mut out: Vec<u8> = Vec::new(alloc);
-        let is_clean = print_files(alloc, &FILES, &Linter { words: &words }, &files, &mut out);
+        let is_clean = print_files(alloc, &texts, &Linter { words: &words }, &files, &mut out);
         assert_eq!(rt; status(&is_clean), wanted_status);
+        assert_eq!(rt; message(alloc, &is_clean)?.as_str(), wanted_error);
         assert_eq!(rt; out.as_slice(), wanted.as_bytes());
     }
     Ok(())

@@ -1,5 +1,5 @@
--- Why a program has nothing to tell of a text of SQL.
-use Rattle.std.specs.Prelude.{ℕ, Option, Some, None, List, codes}
+-- Errors of programs on SQL.
+use Rattle.std.specs.Prelude.{ℕ, Option, Some, None, List, ◌++◌, codes, option_map}
 use Rattle.squawk_parser.specs.Pipeline.{Given}
 use Rattle.squawk_parser.specs.SomeSteps.{Spends}
 use Rattle.squawk_parser.specs.Words.{Words}
@@ -11,6 +11,7 @@ use Rattle.syntax_tree.specs.Layout.{Laid}
 use Rattle.syntax_tree.specs.Parsed.{IsTreeRefusal}
 use Rattle.sql_syntax.specs.SqlTrees.{IsSqlTree}
 use Rattle.syntax_tree.specs.declared.parse.errors.ParseTreeError.{ParseTreeError}
+use Rattle.sql_syntax.specs.declared.error.FileError.{FileError}
 use Rattle.sql_syntax.specs.declared.error.SqlError.{SqlError}
 use Rattle.sql_syntax.specs.declared.error.SqlError.TheVariants.{Io, Tokens, Tree, Memory}
 
@@ -19,17 +20,20 @@ pub record RefusesTree (g : Given) (reason : ParseTreeError) : Type 0 where
   pub words : Words
   pub refused : IsTreeRefusal g IsFile (Spends 8 2) words reason
 
--- Why nothing is told of what is given: what the contract of the stage says that refused. Where memory alone is wanting behind them, it
--- has a tree.
+-- The stage that failed and its reason, which that stage's contract states. If memory runs out after the parse, there is a tree.
 abbrev pub RefusesSql : Given → SqlError → Type 0
 RefusesSql g (Io reason) = ⊥
 RefusesSql g (Tokens reason) = RefusesText g.text reason
 RefusesSql g (Tree reason) = RefusesTree g reason
 RefusesSql g (Memory reason) = (laid : Laid) × IsSqlTree g laid
 
--- what is printed: the line of the stage; how the system's errors are called stands in std
+-- the text of an error is that of its stage; no clause says the text of a system's error
 abbrev pub sql_error_line : SqlError → Option (List ℕ)
 sql_error_line (Io reason) = None
 sql_error_line (Tokens reason) = Some (tokenize_error_line reason)
 sql_error_line (Tree reason) = Some (parse_tree_error_line reason)
-sql_error_line (Memory reason) = Some (codes "memory")
+sql_error_line (Memory reason) = Some (codes "out of memory")
+
+-- before it stands the name of the file
+abbrev pub file_error_line : FileError → Option (List ℕ)
+file_error_line failed = option_map (λ line. failed.name.now ++ codes ": " ++ line) (sql_error_line failed.error)

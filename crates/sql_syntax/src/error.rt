@@ -1,4 +1,4 @@
-//! Why a program has nothing to tell of a text of SQL.
+//! Errors of programs on SQL.
 ghost use Rattle.std.specs.Prelude.{◌≡◌};
 
 use sql_lexer::TokenizeError;
@@ -7,16 +7,16 @@ use std::error::Error;
 use std::{fmt, io};
 use syntax_tree::ParseTreeError;
 
-/// Which stage refused, with the error of its own.
+/// The stage that failed, with its error.
 #[derive(Debug, Drop)]
 pub enum SqlError {
-    /// The text can't be read, or what is told of it can't be written.
+    /// The text can't be read, or the output can't be written.
     Io(io::Error),
-    /// It has no raw tokens.
+    /// The text has no raw tokens.
     Tokens(TokenizeError),
-    /// It has no tree.
+    /// The text has no tree.
     Tree(ParseTreeError),
-    /// Memory was refused to what is told of it.
+    /// Memory ran out in any other stage.
     Memory(AllocError),
 }
 
@@ -30,7 +30,7 @@ impl fmt::Display for SqlError {
             SqlError::Io(reason) => write!(f, "{reason}"),
             SqlError::Tokens(reason) => write!(f, "{reason}"),
             SqlError::Tree(reason) => write!(f, "{reason}"),
-            SqlError::Memory(_reason) => write!(f, "memory"),
+            SqlError::Memory(_reason) => write!(f, "out of memory"),
         }
     }
 }
@@ -76,3 +76,25 @@ impl From<AllocError> for SqlError {
         SqlError::Memory(reason)
     }
 }
+
+/// The error of a file.
+#[derive(Debug, Drop)]
+pub struct FileError<'n> {
+    /// The name of the file.
+    pub name: &'n str,
+    /// Why nothing is told of the file, or not all of it is printed.
+    pub error: SqlError,
+}
+
+impl fmt::Display for FileError<'_> {
+    ghost use Rattle.sql_syntax.specs.SqlErrors.{file_error_line};
+
+    ghost output = { file_error_line };
+
+    fn fmt<W: fmt::Write>(&self, f: &mut fmt::Formatter<W>) -> fmt::Result {
+        let FileError { name, error } = self;
+        write!(f, "{name}: {error}")
+    }
+}
+
+impl Error for FileError<'_> {}

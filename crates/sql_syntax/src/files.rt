@@ -2,25 +2,31 @@
 ghost use Rattle.std.specs.Prelude.{◌≡◌, IfErr, IfOk, List, ℕ, map, string_bytes};
 ghost use Rattle.sql_syntax.specs.Printed.{ArePrinted, IsPrinted, RefusesFile, StopsAt, status_of};
 
-use crate::error::SqlError;
+use crate::error::{FileError, SqlError};
 use std::alloc::Global;
 use std::fs;
 use std::io::{self, Write};
 
-/// Where the texts of files are.
+/// What gives the texts of files by their names.
 pub trait Texts {
-    /// Whether the text of the file with a name may be this one.
-    ghost reads: { Self → List ℕ → List ℕ → Type 0 };
+    ghost use Rattle.std.specs.Prelude.{Result};
+    ghost use Rattle.std.specs.declared.alloc.Global.{Global};
+    ghost use Rattle.std.specs.declared.io.Error.{Error};
+    ghost use Rattle.std.specs.declared.string.String.{String};
 
-    /// Returns the text of the file with a name.
-    fn read(&self, alloc: Global, name: &str) -> io::Result<String>
-        ensures { IfOk result (λ text. reads self.now name.now (string_bytes text)) };
+    /// Whether reading the text of the file with a name may give this.
+    ghost gives: { Self → List ℕ → Result (String Global) Error → Type 0 };
+
+    /// Reads the text of the file with a name.
+    fn read(&self, name: &str) -> io::Result<String>
+        ensures { gives self.now name.now result };
 }
 
+/// The files of the system by their paths. No clause can say what stands in them, so that reading may give anything.
 impl Texts for HostRuntime {
-    ghost reads = { λ _ _ _. Unit {0} };
+    ghost gives = { λ _ _ _. Unit {0} };
 
-    fn read(&self, _alloc: Global, name: &str) -> io::Result<String> {
+    fn read(&self, name: &str) -> io::Result<String> {
         fs::read_to_string(self, name)
     }
 }
@@ -42,7 +48,7 @@ pub trait Reporter {
 }
 
 /// The status to end with: 0 where nothing was told, 1 where something was, and 3 at an error.
-pub fn status(is_clean: &Result<bool, SqlError>) -> u8
+pub fn status(is_clean: &Result<bool, FileError<'_>>) -> u8
     ensures { result ≡ status_of is_clean.now }
 {
     match is_clean {
@@ -52,26 +58,31 @@ pub fn status(is_clean: &Result<bool, SqlError>) -> u8
     }
 }
 
-/// Prints what is told of each file, in order, up to the first that is refused. Returns whether that is nothing.
-pub fn print_files<T: Texts, R: Reporter, W: Write>(
+/// Prints what is told of each file, in order, up to the first that is refused. Returns whether nothing was told.
+pub fn print_files<'n, T: Texts, R: Reporter, W: Write>(
     alloc: Global,
     texts: &T,
     reporter: &R,
-    names: &[String],
+    names: &'n [String],
     out: &mut W,
-) -> Result<bool, SqlError>
-    ensures printed { IfOk result (ArePrinted (T.reads texts.now) (R.reports reporter.now) (map string_bytes names.now) (W.contents out.old) (W.contents out.new)) }
+) -> Result<bool, FileError<'n>>
+    ensures printed { IfOk result
+        (ArePrinted (T.gives texts.now) (R.reports reporter.now) (map string_bytes names.now) (W.contents out.old) (W.contents out.new)) }
     ensures refused { IfErr result
-        (StopsAt (T.reads texts.now) (R.reports reporter.now) (R.refuses reporter.now) (map string_bytes names.now) (W.contents out.old) (W.contents out.new)) }
+        (StopsAt (T.gives texts.now) (R.reports reporter.now) (R.refuses reporter.now) (map string_bytes names.now) (W.contents out.old) (W.contents out.new)) }
 {
     let mut is_clean = true;
     for name in names {
-        is_clean = print_file(alloc, texts, reporter, name.as_str(), out)? && is_clean;
+        let name = name.as_str();
+        match print_file(alloc, texts, reporter, name, out) {
+            Ok(is_file_clean) => is_clean &= is_file_clean,
+            Err(error) => return Err(FileError { name, error }),
+        }
     }
     Ok(is_clean)
 }
 
-/// Prints what is told of a file. Returns whether that is nothing.
+/// Prints what is told of a file. Returns whether nothing was told.
 fn print_file<T: Texts, R: Reporter, W: Write>(
     alloc: Global,
     texts: &T,
@@ -79,10 +90,11 @@ fn print_file<T: Texts, R: Reporter, W: Write>(
     name: &str,
     out: &mut W,
 ) -> Result<bool, SqlError>
-    ensures printed { IfOk result (IsPrinted (T.reads texts.now) (R.reports reporter.now) name.now (W.contents out.old) (W.contents out.new)) }
-    ensures refused { IfErr result (RefusesFile (T.reads texts.now) (R.refuses reporter.now) name.now (W.contents out.old) (W.contents out.new)) }
+    ensures printed { IfOk result (IsPrinted (T.gives texts.now) (R.reports reporter.now) name.now (W.contents out.old) (W.contents out.new)) }
+    ensures refused { IfErr result
+        (RefusesFile (T.gives texts.now) (R.reports reporter.now) (R.refuses reporter.now) name.now (W.contents out.old) (W.contents out.new)) }
 {
-    let text = texts.read(alloc, name)?;
+    let text = texts.read(name)?;
     let lines = reporter.report(alloc, name, text.as_str())?;
     out.write_all(&lines)?;
     Ok(lines.is_empty())

@@ -4,10 +4,10 @@
 
 mod error;
 mod files;
-mod findings;
 mod parse;
+mod tree_findings;
 
-pub use error::SqlError;
+pub use error::{FileError, SqlError};
 pub use files::{Reporter, Texts, print_files, status};
-pub use findings::findings;
 pub use parse::parse_sql;
+pub use tree_findings::findings;

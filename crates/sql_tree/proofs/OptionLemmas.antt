@@ -6,16 +6,13 @@ use Rattle.std.specs.Str.{bytes_eq}
 use Rattle.std.proofs.lemmas.List.Elements.{filter-append}
 use Rattle.std.proofs.Math.ListN.{drop_of_length-le}
 use Rattle.std.proofs.Math.Seq.{drop-cons, take-suc}
-use Rattle.std.proofs.lemmas.List.{append-nil, map-append}
+use Rattle.std.proofs.lemmas.List.{append-nil, map-append, take_all}
+use Rattle.std.proofs.lemmas.Simd.{map-map}
 use Rattle.clap.specs.declared.parser.matches.Found.{Found}
-use Rattle.sql_tree.specs.Options.{FlagRow, IsAsked, IsSet}
+use Rattle.sql_tree.specs.Options.{FlagRow, IsAsked, IsSet, row_of}
 use Rattle.sql_tree.specs.declared.options.Flag.{Flag}
 use Rattle.sql_tree.specs.declared.options.Listing.{Listing}
 use Rattle.sql_tree.specs.declared.options.Listing.TheVariants.{Tree}
-
--- a flag as its row
-abbrev pub row_of : Flag → FlagRow
-row_of flag = record { name = flag.name.now; listing = flag.listing }
 
 abbrev pub rows_behind : List Flag → ℕ → List FlagRow
 rows_behind items i = map row_of (drop i items)
@@ -69,3 +66,20 @@ module _ (items : List Flag) (i : ℕ) (d : Flag) (within : i < length items) wh
       → (old : List (Bor (List ℕ))) → map (λ id. id.now) old ≡ others_before name items i → map (λ id. id.now) old ≡ others_before name items (i + 1)
   others_left name differs is so old so_far =
       so_far ∙ (sym (append-nil (others_before name items i)) ∙ sym (others_more name false (sym so ∙ is)))
+
+-- all flags of a list whose rows are these
+module _ (items : List Flag) (rows : List FlagRow) (are : map row_of items ≡ rows) where
+  pub asked_first : (found : Found) (listing : Listing) → IsAsked found (rows_behind items 0) listing → IsAsked found rows listing
+  asked_first found listing asked = subst (λ l. IsAsked found l listing) are asked
+
+  module _ (i : ℕ) (end : length items ≤ i) where
+    all_mapped : {B : Type 0} (f : FlagRow → B) → map (λ flag. f (row_of flag)) (take i items) ≡ map f rows
+    all_mapped f = ap (map (λ flag. f (row_of flag))) (take_all i items end) ∙ (sym (map-map f row_of items) ∙ ap (map f) are)
+
+    pub before_all : {B : Type 0} (first : B) (f : FlagRow → B) (all : List B) → all ≡ before first (λ flag. f (row_of flag)) items i
+        → all ≡ first ∷ map f rows
+    before_all first f all so_far = so_far ∙ ap (λ l. first ∷ l) (all_mapped f)
+
+    pub others_all : (name : List ℕ) (all : List (List ℕ)) → all ≡ others_before name items i
+        → all ≡ filter (λ other. not (bytes_eq other name)) (map (λ row. row.name) rows)
+    others_all name all so_far = so_far ∙ ap (filter (λ other. not (bytes_eq other name))) (all_mapped (λ row. row.name))

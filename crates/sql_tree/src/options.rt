@@ -1,9 +1,9 @@
 //! The program's arguments.
-ghost use Rattle.std.specs.Prelude.{◌≡◌, [], ◌∷◌, false, map, IfOk};
+ghost use Rattle.std.specs.Prelude.{◌≡◌, [], ◌∷◌, Some, false, map, IfOk};
 ghost use Rattle.clap.specs.Facts.{args_of};
 ghost use Rattle.clap.specs.Matches.{found_of};
 ghost use Rattle.clap.specs.Walk.{rule_of, rules_of};
-ghost use Rattle.sql_tree.specs.Options.{IsAsked, argument_of, arguments, excluded, file_argument, flag_argument, flags, others, row};
+ghost use Rattle.sql_tree.specs.Options.{IsAsked, argument_of, arguments, excluded, file_argument, file_help, flag_argument, flags, help_of, others, row_of};
 
 use clap::{Arg, ArgAction, ArgMatches, Command};
 use std::alloc::{AllocError, Global};
@@ -54,6 +54,13 @@ static FLAGS: [Flag; 4] = [
     },
 ];
 
+/// The flags in order.
+fn flags() -> &'static [Flag]
+    ensures { map row_of result.now ≡ flags }
+{
+    &FLAGS
+}
+
 /// What the argument with the files is called.
 pub const FILE: &str = "FILE";
 
@@ -67,7 +74,7 @@ pub fn command<'a>(alloc: Global) -> Result<Command<'a>, AllocError>
         .version("0.2.0")
         .about("Prints the lossless tree of SQL, statement by statement, with its errors")
         .arg(files(alloc))?;
-    for flag in &FLAGS {
+    for flag in flags() {
         command = command.arg(argument(alloc, flag)?)?;
     }
     Ok(command)
@@ -76,6 +83,7 @@ pub fn command<'a>(alloc: Global) -> Result<Command<'a>, AllocError>
 /// The argument with the files.
 fn files<'a>(alloc: Global) -> Arg<'a>
     ensures argument { argument_of (rule_of result) ≡ file_argument }
+    ensures help { help_of result ≡ Some file_help }
     ensures local { result.global ≡ false }
     ensures excludes { excluded result ≡ [] }
 {
@@ -87,7 +95,8 @@ fn files<'a>(alloc: Global) -> Arg<'a>
 
 /// The argument of a flag, which rules out the other flags.
 fn argument<'a>(alloc: Global, flag: &Flag) -> Result<Arg<'a>, AllocError>
-    ensures argument { IfOk result (λ arg. argument_of (rule_of arg) ≡ flag_argument (row flag.now.name.now flag.now.listing)) }
+    ensures argument { IfOk result (λ arg. argument_of (rule_of arg) ≡ flag_argument (row_of flag.now)) }
+    ensures help { IfOk result (λ arg. help_of arg ≡ Some flag.now.help.now) }
     ensures local { IfOk result (λ arg. arg.global ≡ false) }
     ensures excludes { IfOk result (λ arg. excluded arg ≡ others flag.now.name.now) }
 {
@@ -95,7 +104,7 @@ fn argument<'a>(alloc: Global, flag: &Flag) -> Result<Arg<'a>, AllocError>
         .long(flag.name)
         .action(ArgAction::SetTrue)
         .help(flag.help);
-    for other in &FLAGS {
+    for other in flags() {
         if other.name != flag.name {
             arg = arg.conflicts_with(other.name)?;
         }
@@ -107,7 +116,7 @@ fn argument<'a>(alloc: Global, flag: &Flag) -> Result<Arg<'a>, AllocError>
 pub fn asked_listing(matches: &ArgMatches<'_>) -> Listing
     ensures { IsAsked (found_of matches.now) flags result }
 {
-    for flag in &FLAGS {
+    for flag in flags() {
         if matches.get_flag(flag.name) {
             return flag.listing;
         }

@@ -1,5 +1,5 @@
 //! What is printed, and whether printing failed.
-ghost use Rattle.std.specs.Prelude.{◌≡◌, ◌++◌, ◌||◌, codes, is_err, Bool, true};
+ghost use Rattle.std.specs.Prelude.{◌≡◌, ◌++◌, ◌||◌, codes, is_err, Bool, false, true};
 ghost use Rattle.std.specs.Io.KnownBytes.{Appends};
 ghost use Rattle.sql_tree.specs.Printed.{heading, totals_line};
 ghost use Rattle.sql_tree.specs.Refusals.{unread_line};
@@ -21,7 +21,10 @@ impl<W: Write + Drop, E: Write + Drop> Printer<W, E> {
     ghost use Rattle.std.specs.Prelude.{OnErr, OnOk};
 
     /// Nothing was printed yet.
-    pub fn new(out: W, errors: E) -> Printer<W, E> {
+    pub fn new(out: W, errors: E) -> Printer<W, E>
+        ensures outputs { (result.out ≡ out) × (result.errors ≡ errors) }
+        ensures failed { result.has_failed ≡ false }
+    {
         Printer {
             out,
             errors,

@@ -1,5 +1,7 @@
 //! What is told of texts.
 
+mod printing;
+
 use crate::inputs::has_headings;
 use crate::options::Listing;
 use crate::report::Report;

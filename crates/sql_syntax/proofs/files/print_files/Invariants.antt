@@ -5,5 +5,5 @@ use Rattle.sql_syntax.proofs.files.print_files.Given as goal
 
 abbrev pub invariant-loop-name : goal.invariant-loop-name
 invariant-loop-name g l =
-    ArePrinted (g.T.Texts.reads l.texts) (g.R.Reporter.reports l.reporter) (map string_bytes (take l.name-index l.names))
+    ArePrinted (g.T.Texts.gives l.texts) (g.R.Reporter.reports l.reporter) (map string_bytes (take l.name-index l.names))
     (g.W.Write.contents l.initial.out) (g.W.Write.contents l.out) l.is_clean

@@ -1,10 +1,12 @@
 use Rattle.std.proofs.Common.{arith, refl}
+use Rattle.clap.specs.Matches.{found_of}
+use Rattle.sql_tree.specs.Options.{flags}
 use Rattle.sql_tree.specs.declared.options.Listing.TheVariants.{Tree}
-use Rattle.sql_tree.proofs.OptionLemmas.{asked_at, asked_none}
+use Rattle.sql_tree.proofs.OptionLemmas.{asked_at, asked_first, asked_none}
 use Rattle.sql_tree.proofs.options.asked_listing.Goals as goal
 
 pub loop-flag-init : goal.loop-flag-init
-loop-flag-init c = λ listing asked. asked
+loop-flag-init c = asked_first c.flags-flag-items.result.now flags c.flags-flag-items.ensures (found_of c.args.matches.now)
 
 pub loop-flag-preserved : goal.loop-flag-preserved
 loop-flag-preserved c = λ listing asked.

@@ -1,8 +1,8 @@
 use Rattle.std.proofs.Common.{◌≡◌, [], map}
 use Rattle.clap.specs.Facts.{args_of}
 use Rattle.clap.specs.Walk.{rules_of}
-use Rattle.sql_tree.specs.Options.{argument_of, excluded, file_argument, flag_argument, others}
-use Rattle.sql_tree.proofs.OptionLemmas.{before, row_of}
+use Rattle.sql_tree.specs.Options.{argument_of, excluded, file_argument, flag_argument, others, row_of}
+use Rattle.sql_tree.proofs.OptionLemmas.{before}
 use Rattle.sql_tree.proofs.options.command.Given as goal
 
 abbrev pub invariant-loop-flag : goal.invariant-loop-flag
