@@ -30,7 +30,7 @@ pub fn broken_rule(statement: SyntaxElement<'_>) -> Option<&'static str>
     }
 }
 
-/// Whether two tokens of these kinds stand in a node, the second directly behind the first but for trivia.
+/// Whether two tokens of these kinds stand in a node, the second directly after the first but for trivia.
 pub fn stand_together(node: SyntaxElement<'_>, first: SyntaxKind, second: SyntaxKind) -> bool
     ensures { (tree : Forest) → IsTreeOf node.entry tree → result ≡ stand_together first second (words_of tree node.entry.at) }
 {

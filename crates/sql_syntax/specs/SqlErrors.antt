@@ -1,8 +1,9 @@
 -- Errors of programs on SQL.
-use Rattle.std.specs.Prelude.{ℕ, Option, Some, None, List, ◌++◌, codes, option_map}
+use Rattle.std.specs.Prelude.{◌≡◌, ◌^◌, ◌≤◌, ℕ, Option, Some, None, List, ◌++◌, codes, length, option_map}
 use Rattle.squawk_parser.specs.Pipeline.{Given}
 use Rattle.squawk_parser.specs.SomeSteps.{Spends}
 use Rattle.squawk_parser.specs.Words.{Words}
+use Rattle.squawk_parser.specs.declared.parser.parse_error.ParseError.TheVariants.{TooManyErrors, TooManyEvents}
 use Rattle.sql_grammar.specs.Files.{IsFile}
 use Rattle.sql_lexer.specs.ErrorLines.{tokenize_error_line}
 use Rattle.sql_lexer.specs.Tokens.{RefusesText}
@@ -11,14 +12,18 @@ use Rattle.syntax_tree.specs.Layout.{Laid}
 use Rattle.syntax_tree.specs.Parsed.{IsTreeRefusal}
 use Rattle.sql_syntax.specs.SqlTrees.{IsSqlTree}
 use Rattle.syntax_tree.specs.declared.parse.errors.ParseTreeError.{ParseTreeError}
+use Rattle.syntax_tree.specs.declared.parse.errors.ParseTreeError.TheVariants.{Parse}
 use Rattle.sql_syntax.specs.declared.error.FileError.{FileError}
 use Rattle.sql_syntax.specs.declared.error.SqlError.{SqlError}
 use Rattle.sql_syntax.specs.declared.error.SqlError.TheVariants.{Io, Tokens, Tree, Memory}
 
--- a tree of what is given is refused
+-- A tree of what is given is refused. The parser has recorded at most eight events for each token, and two for the file, so
+-- that only a long text reaches a limit.
 pub record RefusesTree (g : Given) (reason : ParseTreeError) : Type 0 where
   pub words : Words
   pub refused : IsTreeRefusal g IsFile (Spends 8 2) words reason
+  pub events : reason ≡ Parse TooManyEvents → 2 ^ 29 ≤ length g.text
+  pub errors : reason ≡ Parse TooManyErrors → 2 ^ 28 ≤ length g.text
 
 -- The stage that failed and its reason, which that stage's contract states. If memory runs out after the parse, there is a tree.
 abbrev pub RefusesSql : Given → SqlError → Type 0

@@ -29,7 +29,7 @@ pub fn formatted(alloc: Global, tree: &SyntaxTree<'_>) -> Result<Vec<u8>, AllocE
     ensures { IfOk result (λ out. (forest : Forest) → IsTree tree.now forest → out.items ≡ formatted (pieces_of forest)) }
 {
     let mut out = Vec::new(alloc);
-    // White space that isn't put yet: what stands behind it says what is left of it.
+    // White space that isn't put yet: what stands after it says what is left of it.
     let mut white_space = Vec::new(alloc);
     for element in tree.root().descendants_with_tokens() {
         if element.is_token() {
@@ -40,7 +40,7 @@ pub fn formatted(alloc: Global, tree: &SyntaxTree<'_>) -> Result<Vec<u8>, AllocE
     Ok(out)
 }
 
-/// Puts a token behind a text and white space: white space is kept back, and any other token stands behind what is left of
+/// Puts a token after a text and white space: white space is kept back, and any other token stands after what is left of
 /// that.
 fn push_token(
     out: &mut Vec<u8>,

@@ -12,6 +12,7 @@ pub returns-in_err-tree-clause-refused : goal.returns-in_err-tree-clause-refused
 returns-in_err-tree-clause-refused g c =
     let reason = c.in_err-tree.field-0.0 in
     of_tree (sql_given (g.V.Vocabulary.keyword c.args.words.now) (g.V.Vocabulary.contextual_keyword c.args.words.now) c.args.text.now) _
+    (g.met.V.Vocabulary.keywords_are_tokens c.args.words.now) c.utf8.text
     c.from_residual-in_err-tree.result reason
     (subst
     (λ (tokens : List Token). IsTreeRefusal
