@@ -17,15 +17,16 @@ use Rattle.sql_syntax.specs.declared.error.FileError.{FileError}
 use Rattle.sql_syntax.specs.declared.error.SqlError.{SqlError}
 use Rattle.sql_syntax.specs.declared.error.SqlError.TheVariants.{Io, Tokens, Tree, Memory}
 
--- A tree of what is given is refused. The parser has recorded at most eight events for each token, and two for the file, so
--- that only a long text reaches a limit.
+-- A tree of what is given is refused. The parser has recorded at most eight events for each token, and two for the
+-- file, so that only a long text reaches a limit.
 pub record RefusesTree (g : Given) (reason : ParseTreeError) : Type 0 where
   pub words : Words
   pub refused : IsTreeRefusal g IsFile (Spends 8 2) words reason
   pub events : reason ≡ Parse TooManyEvents → 2 ^ 29 ≤ length g.text
   pub errors : reason ≡ Parse TooManyErrors → 2 ^ 28 ≤ length g.text
 
--- The stage that failed and its reason, which that stage's contract states. If memory runs out after the parse, there is a tree.
+-- The stage that failed and its reason, which that stage's contract states. If memory runs out after the parse, there
+-- is a tree.
 abbrev pub RefusesSql : Given → SqlError → Type 0
 RefusesSql g (Io reason) = ⊥
 RefusesSql g (Tokens reason) = RefusesText g.text reason

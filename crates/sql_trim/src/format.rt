@@ -40,8 +40,8 @@ pub fn formatted(alloc: Global, tree: &SyntaxTree<'_>) -> Result<Vec<u8>, AllocE
     Ok(out)
 }
 
-/// Puts a token after a text and white space: white space is kept back, and any other token stands after what is left of
-/// that.
+/// Puts a token after a text and white space: white space is kept back, and any other token stands after what is left
+/// of that.
 fn push_token(
     out: &mut Vec<u8>,
     white_space: &mut Vec<u8>,

@@ -1,5 +1,5 @@
-//! A formatter to copy: it removes blanks at the ends of lines, but not inside of comments, strings, names and data of COPY.
-//! It reads SQL from the standard input, and prints it.
+//! A formatter to copy: it removes blanks at the ends of lines, but not inside of comments, strings, names and data of
+//! COPY. It reads SQL from the standard input, and prints it.
 #![tactic(auto)]
 
 mod format;

@@ -4,8 +4,8 @@ ghost use Rattle.sql_trim.specs.Trimmed.{is_blank, trimmed, without_blanks};
 
 use std::alloc::AllocError;
 
-/// Puts white space after a text, without the blanks before each end of a line. Where a line ends after it, all its blanks
-/// stand before one.
+/// Puts white space after a text, without the blanks before each end of a line. Where a line ends after it, all its
+/// blanks stand before one.
 pub fn push_trimmed(
     text: &mut Vec<u8>,
     white_space: &[u8],
