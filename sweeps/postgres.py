@@ -40,7 +40,7 @@ BYTE_ESCAPE = re.compile(r"\\([0-3]?[0-7]|x[0-9a-fA-F])")
 TRIVIA = {"Whitespace", "LineComment", "BlockComment"}
 BRACKETS = {"OpenParen": 1, "OpenBracket": 1, "CloseParen": -1, "CloseBracket": -1}
 ENDS_QUERY = re.compile(r"\\(g|gx|gexec|gset|gdesc|crosstabview|watch)(?![^\s\\])")
-COPY_COMMAND = re.compile(r"\\(?i:copy)\s(?:[^()']|\([^()]*\))*\b(?i:from\s+(?:stdin|stdout))\b")
+COPY_COMMAND = re.compile(r"\\(?i:copy)\s(?:[^()']|\([^()]*\))*\b(?i:from(?:\s|/\*.*?\*/)+(?:stdin|stdout))\b")
 
 
 class Raw(NamedTuple):
