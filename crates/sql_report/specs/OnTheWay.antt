@@ -18,14 +18,12 @@ use Rattle.sql_report.specs.declared.one_walk.Progress.{Progress}
 
 -- what is asked for where this is drawn
 abbrev pub asked_of : Drawing → Asked
-asked_of drawing.Errors = asked.Errors
 asked_of drawing.Statements = asked.Statements
 asked_of (drawing.Tree tree) = asked.Tree
 asked_of (drawing.Json writer) = asked.Json
 
 -- At this byte, a drawing stands before the rest of these steps: with the rest it has the text of all.
 abbrev pub DrawsBefore : Names → List OwnedStep → Drawing → ℕ → List OwnedStep → Type 0
-DrawsBefore names all drawing.Errors at rest = Unit {0}
 DrawsBefore names all drawing.Statements at rest = Unit {0}
 DrawsBefore names all (drawing.Tree tree) at rest = (done : List OwnedStep) × (done ++ rest ≡ all) × StandsAfter tree done
 DrawsBefore names all (drawing.Json writer) at rest = string_bytes writer.lines ++ written_from names (standing writer at) rest ≡ json_lines names all

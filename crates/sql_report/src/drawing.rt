@@ -1,5 +1,5 @@
 //! What is drawn of steps on the way over them.
-ghost use Rattle.std.specs.Prelude.{◌≡◌, ◌+◌, ◌<◌, ◌^◌, ℕ, List, [], ◌∷◌, IfOk, OnOk, map, string_bytes};
+ghost use Rattle.std.specs.Prelude.{◌≡◌, ◌≢◌, ◌+◌, ◌<◌, ◌^◌, ℕ, List, [], ◌∷◌, IfOk, OnOk, map, string_bytes};
 ghost use Rattle.squawk_kinds.specs.KindNames.{Names};
 ghost use Rattle.squawk_table.specs.SinkViews.{owned_step_of};
 ghost use Rattle.squawk_table.specs.declared.shortcuts.str_step.OwnedStep.{OwnedStep};
@@ -17,7 +17,6 @@ use std::alloc::{AllocError, Global};
 /// What is asked for, with what is drawn so far.
 #[derive(Drop)]
 pub(crate) enum Drawing {
-    Errors,
     Statements,
     Tree(TreeText),
     Json(JsonWriter),
@@ -26,12 +25,11 @@ pub(crate) enum Drawing {
 impl Drawing {
     /// Nothing, before the first step.
     pub(crate) fn new(alloc: Global, asked: Asked) -> Drawing
-        ensures asked { asked_of result ≡ asked }
+        ensures asked { asked ≢ Asked.Errors → asked_of result ≡ asked }
         ensures draws { (names : Names) (steps : List OwnedStep) → DrawsBefore names steps result 0 steps }
     {
         match asked {
-            Asked::Errors => Drawing::Errors,
-            Asked::Statements => Drawing::Statements,
+            Asked::Errors | Asked::Statements => Drawing::Statements,
             Asked::Tree => Drawing::Tree(TreeText::new(alloc)),
             Asked::Json => Drawing::Json(JsonWriter::new(alloc)),
         }
@@ -51,7 +49,7 @@ impl Drawing {
         ensures same { names.new ≡ names.old }
     {
         match self {
-            Drawing::Errors | Drawing::Statements => Ok(()),
+            Drawing::Statements => Ok(()),
             Drawing::Tree(tree) => {
                 tree.step(same(step))?;
                 Ok(())
@@ -70,7 +68,7 @@ impl Drawing {
             → DrawsBefore names all self at [] → string_bytes text ≡ drawn (asked_of self) names all) }
     {
         match self {
-            Drawing::Errors | Drawing::Statements => Ok(String::new(alloc)),
+            Drawing::Statements => Ok(String::new(alloc)),
             Drawing::Tree(tree) => tree.finish(alloc, names),
             Drawing::Json(writer) => Ok(writer.lines),
         }

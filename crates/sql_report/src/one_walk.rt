@@ -66,6 +66,13 @@ pub fn walk<'s>(
     ensures values { IfOk result (λ told. asked ≡ Json → HasTreeLines (map (λ pair. (pair.0, pair.1.now)) names.now)
         (sent_list table.now output.now.steps) (string_bytes told.drawn)) }
 {
+    if let Asked::Errors = asked {
+        return Ok(Walked {
+            findings: errors_alone(alloc, table, output)?,
+            statements: Vec::new(alloc),
+            drawn: String::new(alloc),
+        });
+    }
     let mut kind_names = KindNames::new(alloc, names);
     let mut progress = Progress::new(alloc, table, asked)?;
     for step in steps_of(table, output) {
@@ -76,6 +83,22 @@ pub fn walk<'s>(
         statements: progress.statements,
         drawn: progress.drawing.finish(alloc, names)?,
     })
+}
+
+/// The errors of a parse, in a walk that looks at nothing else.
+fn errors_alone<'s>(
+    alloc: Global,
+    table: &'s LexedStr<'s>,
+    output: &'s Output,
+) -> Result<Vec<Finding<'s>>, AllocError>
+    requires { Fits table.now output.now.steps }
+    ensures { IfOk result (λ all. AreInOrder (all_told table.now.errors (sent_list table.now output.now.steps)) all.items) }
+{
+    let mut all = lexical_findings(alloc, table)?;
+    for step in table.str_steps(output) {
+        push_finding(&mut all, &step)?;
+    }
+    in_order(all)
 }
 
 /// What is told so far, and where the next step stands.
@@ -89,7 +112,7 @@ struct Progress<'s> {
 }
 
 impl<'s> Progress<'s> {
-    ghost use Rattle.std.specs.Prelude.{◌≡◌, ◌+◌, ◌<◌, ◌≤◌, ◌^◌, List, ◌∷◌, ◌++◌, IfOk, OnOk};
+    ghost use Rattle.std.specs.Prelude.{◌≡◌, ◌≢◌, ◌+◌, ◌<◌, ◌≤◌, ◌^◌, List, ◌∷◌, ◌++◌, IfOk, OnOk};
     ghost use Rattle.squawk_kinds.specs.KindNames.{Names};
     ghost use Rattle.squawk_table.specs.SinkViews.{owned_step_of};
     ghost use Rattle.squawk_table.specs.declared.shortcuts.str_step.OwnedStep.{OwnedStep};
@@ -100,7 +123,7 @@ impl<'s> Progress<'s> {
 
     /// The lexical errors, before the first step.
     fn new(alloc: Global, table: &'s LexedStr<'s>, asked: Asked) -> Result<Progress<'s>, AllocError>
-        ensures asked { IfOk result (λ progress. asked_of progress.drawing ≡ asked) }
+        ensures asked { IfOk result (λ progress. asked ≢ Asked.Errors → asked_of progress.drawing ≡ asked) }
         ensures at { IfOk result (λ progress. progress.at ≡ 0) }
         ensures stands { IfOk result (λ progress. (names : Names) (all : List OwnedStep) → StandsBefore names table.now.errors all progress all) }
     {
@@ -125,10 +148,7 @@ impl<'s> Progress<'s> {
         ensures same { OnOk result (names.new ≡ names.old) }
     {
         push_finding(&mut self.findings, step)?;
-        match self.drawing {
-            Drawing::Errors => Ok(()),
-            _ => self.draw(names, step),
-        }
+        self.draw(names, step)
     }
 
     /// Takes a step for the statements and for what is drawn.

@@ -23,7 +23,7 @@ loop-step-preserved c =
     let stood = subst (StandsBefore c.loop-step.kind_names errors all c.loop-step.progress) c.in-Some.ensures.steps.0 invariant.stands in
     record {
       room = grind (arith, common_steps);
-      asked = took.asked ∙ invariant.asked;
+      asked = λ some. took.asked ∙ invariant.asked some;
       same = took.same ∙ invariant.same;
       stands = subst (λ names. StandsBefore names errors all c.step.new.self c.next.new.self.steps) (sym took.same) (took.stands errors all c.next.new.self.steps stood);
     }
