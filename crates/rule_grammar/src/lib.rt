@@ -1,0 +1,19 @@
+//! Grammars as data: rules are tables of numbers, and one interpreter runs any of them.
+//!
+//! ```text
+//! Table   the rules: rows of parts, sets of kinds, looks at further tokens, messages
+//! Rules   a table with the rule that a file begins with, as a grammar
+//! ```
+#![tactic(auto)]
+
+mod chain;
+mod part;
+mod recovery;
+mod rules;
+mod run;
+mod table;
+mod told;
+mod tokens;
+
+pub use rules::{DEPTH, Rules};
+pub use table::Table;

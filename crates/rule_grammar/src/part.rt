@@ -1,0 +1,88 @@
+//! The parts of rules.
+
+use squawk_kinds::SyntaxKind;
+
+/// A part of a rule. What is in it stands in the rows after its own, up to row `end`.
+#[derive(Clone, Copy, Debug, PartialEq, Eq)]
+pub(crate) enum Part {
+    /// Nothing: the row is none of the others.
+    Nothing,
+    /// A token of the kind.
+    Token { kind: SyntaxKind },
+    /// The tokens of a composite kind.
+    Composite { kind: SyntaxKind },
+    /// A token whose kind is in the set.
+    Class { set: u16 },
+    /// The same, as an identifier.
+    Name { set: u16 },
+    /// A node. It has this kind, unless a part in it says another.
+    Node { end: u16, kind: SyntaxKind },
+    /// The node around it has this kind.
+    Becomes { kind: SyntaxKind },
+    /// One of the arms in it.
+    Choice { end: u16 },
+    /// An arm of a choice, or an operand: a node.
+    Arm { end: u16 },
+    /// What is in it, or nothing.
+    Optional { end: u16 },
+    /// What is in it, any number of times.
+    Repeat { end: u16 },
+    /// What is in it, once or more, with separators.
+    List { end: u16, separator: SyntaxKind },
+    /// The rule in these rows.
+    Call { start: u16, end: u16 },
+    /// An operand, which is one of its arms, and operators after it, which are its tails.
+    Operators { end: u16, tails: u16 },
+    /// By a table of operators: an operand, and operators after it whose level is `floor` at least.
+    Operand { operators: u16, floor: u16 },
+    /// An operator with what stands on its right. The level of the operator after it is `ceiling` at most.
+    Tail {
+        end: u16,
+        level: u16,
+        ceiling: u16,
+    },
+}
+
+/// The part that a row is.
+#[inline(always)]
+pub(crate) fn part_of(row: &[u16; 8]) -> Part {
+    let end = row[1];
+    let number = row[2];
+    let kind = SyntaxKind(number);
+    match row[0] & 255 {
+        1 => Part::Token { kind },
+        2 => Part::Composite { kind },
+        3 => Part::Class { set: number },
+        4 => Part::Name { set: number },
+        5 => Part::Node { end, kind },
+        6 => Part::Becomes { kind },
+        7 => Part::Choice { end },
+        8 => Part::Arm { end },
+        9 => Part::Optional { end },
+        10 => Part::Repeat { end },
+        11 => Part::List {
+            end,
+            separator: kind,
+        },
+        12 => Part::Call { start: number, end },
+        13 => Part::Operators { end, tails: number },
+        14 => Part::Operand {
+            operators: end,
+            floor: number,
+        },
+        // An operator that associates, one that doesn't, and one that nothing stands on the right of.
+        15 => tail(end, number, number),
+        16 => tail(end, number, number.saturating_sub(1)),
+        17 => tail(end, number, u16::MAX),
+        _ => Part::Nothing,
+    }
+}
+
+#[inline(always)]
+fn tail(end: u16, level: u16, ceiling: u16) -> Part {
+    Part::Tail {
+        end,
+        level,
+        ceiling,
+    }
+}

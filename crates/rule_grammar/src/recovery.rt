@@ -1,0 +1,257 @@
+//! Errors, and where parsing goes on after one.
+ghost use Rattle.std.specs.Prelude.{◌≡◌, ◌≢◌, true};
+ghost use Rattle.squawk_kinds.specs.Kinds.{EOF};
+ghost use Rattle.squawk_parser.specs.SomeSteps.{AddsSome, AddsSomeNode};
+ghost use Rattle.squawk_parser.specs.State.{IsSound, kind_at};
+
+use crate::chain::Chain;
+use crate::table::Table;
+use crate::told::Told;
+use squawk_parser::{CompletedMarker, Parser, SyntaxKind};
+
+/// Tells that what is in a row is missing, unless an error was told at this place. Tokens at which no open rule goes on
+/// are skipped, into a node of kind ERROR.
+#[cold]
+#[inline(never)]
+pub(crate) fn missing(
+    table: &Table<'_>,
+    row: u16,
+    chain: &Chain<'_>,
+    told: &mut Told,
+    p: &mut Parser<'_>,
+)
+    requires { IsSound p.old }
+    ensures { AddsSome p.old p.new }
+{
+    if told.is_new(p.position()) {
+        tell(table, row, chain, told, p);
+    }
+}
+
+/// Tells that what is in a row is missing, if the token at the position can't begin it.
+#[inline(always)]
+pub(crate) fn expect_one(
+    table: &Table<'_>,
+    row: u16,
+    chain: &Chain<'_>,
+    told: &mut Told,
+    p: &mut Parser<'_>,
+)
+    requires { IsSound p.old }
+    ensures { AddsSome p.old p.new }
+{
+    if !table.begins_with(row, p.current()) {
+        missing(table, row, chain, told, p);
+    }
+}
+
+fn tell(
+    table: &Table<'_>,
+    row: u16,
+    chain: &Chain<'_>,
+    told: &mut Told,
+    p: &mut Parser<'_>,
+)
+    requires { IsSound p.old }
+    ensures { AddsSome p.old p.new }
+{
+    if goes_on(table, row, chain, p) {
+        p.error(table.message(row));
+    } else {
+        skip(table, row, chain, told, p);
+    }
+}
+
+/// Whether no token is to be skipped after an error in a row.
+fn goes_on(table: &Table<'_>, row: u16, chain: &Chain<'_>, p: &Parser<'_>) -> bool {
+    p.current() == SyntaxKind::EOF || chain.goes_on_at(table, row, p.current())
+}
+
+/// An error, and the tokens at which no open rule goes on.
+fn skip(table: &Table<'_>, row: u16, chain: &Chain<'_>, told: &mut Told, p: &mut Parser<'_>)
+    ensures { AddsSome p.old p.new }
+{
+    let node = p.start();
+    p.error(table.message(row));
+    bump_to(table, row, chain, p);
+    // A second error at the place after it is dropped.
+    let _ = told.is_new(p.position());
+    node.complete(p, SyntaxKind::ERROR);
+}
+
+/// Eats tokens up to one at which an open rule goes on. Parentheses are eaten with what is in them.
+fn bump_to(table: &Table<'_>, row: u16, chain: &Chain<'_>, p: &mut Parser<'_>)
+    requires { IsSound p.old }
+    ensures { AddsSome p.old p.new }
+{
+    let mut unclosed = 0usize;
+    while p.current() != SyntaxKind::EOF && (unclosed > 0 || !goes_on(table, row, chain, p)) {
+        unclosed = unclosed_after(unclosed, p.current());
+        p.bump_any();
+    }
+}
+
+fn unclosed_after(unclosed: usize, kind: SyntaxKind) -> usize {
+    match kind {
+        SyntaxKind::L_PAREN => unclosed.saturating_add(1),
+        SyntaxKind::R_PAREN => unclosed.saturating_sub(1),
+        _ => unclosed,
+    }
+}
+
+/// Whether what is in a row stands at the position. Where it doesn't and the token can't stand after it either, that is
+/// an error, and tokens are skipped.
+#[inline(always)]
+pub(crate) fn is_next(
+    table: &Table<'_>,
+    row: u16,
+    chain: &Chain<'_>,
+    told: &mut Told,
+    p: &mut Parser<'_>,
+) -> bool
+    requires { IsSound p.old }
+    ensures { AddsSome p.old p.new }
+{
+    if table.stands(row, p) {
+        true
+    } else {
+        is_after_others(table, row, chain, told, p)
+    }
+}
+
+/// Whether it stands after tokens that are skipped.
+fn is_after_others(
+    table: &Table<'_>,
+    row: u16,
+    chain: &Chain<'_>,
+    told: &mut Told,
+    p: &mut Parser<'_>,
+) -> bool
+    requires { IsSound p.old }
+    ensures { AddsSome p.old p.new }
+{
+    if is_unexpected(table, row, chain, told, p) {
+        missing(table, row, chain, told, p);
+        table.stands(row, p)
+    } else {
+        false
+    }
+}
+
+/// Whether the token at the position stands at a place where no open rule goes on.
+fn is_unexpected(
+    table: &Table<'_>,
+    row: u16,
+    chain: &Chain<'_>,
+    told: &mut Told,
+    p: &Parser<'_>,
+) -> bool {
+    let place = p.position();
+    if told.is_settled(place) {
+        return false;
+    }
+    told.settle(place);
+    !chain.may_follow(table, row, p.current()) && !goes_on(table, row, chain, p)
+}
+
+/// Whether a separator stands at the position, also after tokens that are skipped.
+#[inline(always)]
+pub(crate) fn is_separated(
+    table: &Table<'_>,
+    row: u16,
+    separator: SyntaxKind,
+    chain: &Chain<'_>,
+    told: &mut Told,
+    p: &mut Parser<'_>,
+) -> bool
+    requires { IsSound p.old }
+    ensures adds { AddsSome p.old p.new }
+    ensures some { result ≡ true → kind_at p.new 0 ≢ EOF }
+{
+    if is_at(separator, p) {
+        true
+    } else {
+        is_separated_after_others(table, row, separator, chain, told, p)
+    }
+}
+
+fn is_separated_after_others(
+    table: &Table<'_>,
+    row: u16,
+    separator: SyntaxKind,
+    chain: &Chain<'_>,
+    told: &mut Told,
+    p: &mut Parser<'_>,
+) -> bool
+    requires { IsSound p.old }
+    ensures adds { AddsSome p.old p.new }
+    ensures some { result ≡ true → kind_at p.new 0 ≢ EOF }
+{
+    if is_unexpected(table, row, chain, told, p) {
+        missing(table, row, chain, told, p);
+        is_at(separator, p)
+    } else {
+        false
+    }
+}
+
+/// Whether the token at the position has this kind.
+#[inline(always)]
+pub(crate) fn is_at(kind: SyntaxKind, p: &Parser<'_>) -> bool
+    ensures { result ≡ true → kind_at p.now 0 ≢ EOF }
+{
+    p.current() == kind && kind != SyntaxKind::EOF
+}
+
+/// The error that an operator stands after one that it doesn't associate with.
+#[inline(always)]
+pub(crate) fn associate(fits: bool, told: &mut Told, p: &mut Parser<'_>)
+    requires { IsSound p.old }
+    ensures { AddsSome p.old p.new }
+{
+    if !fits && told.is_new(p.position()) {
+        p.error("this operator doesn't associate: use parentheses");
+    }
+}
+
+/// A node in place of an operand that is missing.
+#[cold]
+pub(crate) fn no_operand(p: &mut Parser<'_>) -> CompletedMarker
+    ensures { AddsSomeNode result p.old p.new }
+{
+    let node = p.start();
+    node.complete(p, SyntaxKind::ERROR)
+}
+
+/// What is nested too deep: an error, and the tokens at which no open rule goes on.
+#[cold]
+#[inline(never)]
+pub(crate) fn too_deep(
+    table: &Table<'_>,
+    row: u16,
+    chain: &Chain<'_>,
+    told: &mut Told,
+    p: &mut Parser<'_>,
+)
+    ensures { AddsSome p.old p.new }
+{
+    let node = p.start();
+    p.error("nested too deep");
+    bump_out(table, row, chain, p);
+    let _ = told.is_new(p.position());
+    node.complete(p, SyntaxKind::ERROR);
+}
+
+/// Eats the token at the position and those after it up to one at which an open rule goes on.
+fn bump_out(table: &Table<'_>, row: u16, chain: &Chain<'_>, p: &mut Parser<'_>)
+    requires { IsSound p.old }
+    ensures { AddsSome p.old p.new }
+{
+    let mut unclosed = 0usize;
+    while p.current() != SyntaxKind::EOF
+        && (unclosed > 0 || !chain.may_follow(table, row, p.current()))
+    {
+        unclosed = unclosed_after(unclosed, p.current());
+        p.bump_any();
+    }
+}

@@ -1,0 +1,236 @@
+//! Rules as numbers.
+ghost use Rattle.std.specs.Prelude.{◌<◌, IfSome};
+
+use crate::part::{Part, part_of};
+use squawk_parser::{Parser, SyntaxKind};
+
+/// No set of kinds.
+const NO_SET: u16 = u16::MAX;
+
+/// Rules as numbers. Any numbers can be run.
+///
+/// Each part of a rule is a row, and what is in it stands in the rows after it:
+///
+/// | number of a row | meaning |
+/// |---|---|
+/// | 0 | which part it is, and 256 more if its rule may end after it |
+/// | 1 | the row after the last one in it |
+/// | 2 | its kind, set or level, or the row of the rule that it calls |
+/// | 3 | the set of kinds that it can begin with |
+/// | 4 | the set of kinds that may come after it in its rule |
+/// | 5 | the set of further kinds at which its rule goes on after an error |
+/// | 6 | its look, or 0; of operators the set of kinds that one begins with |
+/// | 7 | its message: what is expected |
+#[derive(Clone, Copy)]
+pub struct Table<'r> {
+    pub rows: &'r [[u16; 8]],
+    /// Sets of token kinds: a set has kind `k` if bit `k % 16` of its number `k / 16` is 1.
+    pub sets: &'r [[u16; 40]],
+    /// Looks, counted from 1: the sets that the second, third and fourth token are in, where 65535 is any kind, and the
+    /// look that is tried next, or 0.
+    pub looks: &'r [[u16; 4]],
+    pub messages: &'r [&'r str],
+}
+
+/// Rows, from one up to another.
+#[derive(Clone, Copy)]
+pub(crate) struct Block {
+    pub(crate) start: u16,
+    pub(crate) end: u16,
+}
+
+/// An operator: what stands in it, its level, and the greatest level of an operator after it.
+#[derive(Clone, Copy)]
+pub(crate) struct Operator {
+    pub(crate) block: Block,
+    pub(crate) level: u16,
+    pub(crate) ceiling: u16,
+}
+
+impl<'r> Table<'r> {
+    #[inline(always)]
+    fn number(&self, row: u16, column: usize) -> u16 {
+        match self.rows.get(usize::from(row)) {
+            Some(numbers) => match numbers.get(column) {
+                Some(number) => *number,
+                None => 0,
+            },
+            None => 0,
+        }
+    }
+
+    /// The part in a row.
+    #[inline(always)]
+    pub(crate) fn part(&self, row: u16) -> Part {
+        match self.rows.get(usize::from(row)) {
+            Some(numbers) => part_of(numbers),
+            None => Part::Nothing,
+        }
+    }
+
+    /// Whether the rule of a row may end after it.
+    pub(crate) fn may_end_after(&self, row: u16) -> bool {
+        self.number(row, 0) >= 256
+    }
+
+    /// Whether a token of the kind may come after a row in its rule.
+    pub(crate) fn may_follow(&self, row: u16, kind: SyntaxKind) -> bool {
+        self.has(self.number(row, 4), kind)
+    }
+
+    /// Whether the rule of a row goes on at a token of the kind, after an error.
+    pub(crate) fn goes_on_at(&self, row: u16, kind: SyntaxKind) -> bool {
+        self.may_follow(row, kind) || self.has(self.number(row, 5), kind)
+    }
+
+    /// Whether a row can begin with a token of the kind.
+    #[inline(always)]
+    pub(crate) fn begins_with(&self, row: u16, kind: SyntaxKind) -> bool {
+        self.has(self.number(row, 3), kind)
+    }
+
+    /// What is expected where a row stands.
+    pub(crate) fn message(&self, row: u16) -> &'r str {
+        match self.messages.get(usize::from(self.number(row, 7))) {
+            Some(message) => *message,
+            None => "unexpected token",
+        }
+    }
+
+    /// Whether a set has a kind.
+    #[inline(always)]
+    pub(crate) fn has(&self, set: u16, kind: SyntaxKind) -> bool {
+        match self.sets.get(usize::from(set)) {
+            Some(words) => match words.get(usize::from(kind.0 / 16)) {
+                Some(word) => (word >> (kind.0 % 16)) & 1 == 1,
+                None => false,
+            },
+            None => false,
+        }
+    }
+
+    /// Whether what is in a row stands at the position, as far as its set and its look tell.
+    #[inline(always)]
+    pub(crate) fn stands(&self, row: u16, p: &Parser<'_>) -> bool {
+        self.begins_with(row, p.current()) && self.sees(self.number(row, 6), p)
+    }
+
+    /// Whether the tokens after the current one are those of a look, or of the looks after it.
+    #[inline(always)]
+    fn sees(&self, look: u16, p: &Parser<'_>) -> bool {
+        look == 0 || self.sees_some(look, p)
+    }
+
+    fn sees_some(&self, look: u16, p: &Parser<'_>) -> bool {
+        let mut at = look;
+        while let Some(row) = self.look(at) {
+            if self.sees_row(row, p) {
+                return true;
+            }
+            if row[3] <= at {
+                return false;
+            }
+            at = row[3];
+        }
+        false
+    }
+
+    fn look(&self, look: u16) -> Option<[u16; 4]> {
+        match self.looks.get(usize::from(look.saturating_sub(1))) {
+            Some(row) => Some(*row),
+            None => None,
+        }
+    }
+
+    fn sees_row(&self, row: [u16; 4], p: &Parser<'_>) -> bool {
+        self.sees_set(row[0], 1, p) && self.sees_set(row[1], 2, p) && self.sees_set(row[2], 3, p)
+    }
+
+    fn sees_set(&self, set: u16, n: usize, p: &Parser<'_>) -> bool {
+        set == NO_SET || self.has(set, p.nth(n))
+    }
+
+    /// The first arm that stands at the position, of those in these rows.
+    pub(crate) fn arm(&self, rows: Block, p: &Parser<'_>) -> Option<Block>
+        ensures { IfSome result (λ block. rows.start < block.start) }
+    {
+        let mut at = rows.start;
+        while at < rows.end {
+            let Part::Arm { end } = self.part(at) else {
+                return None;
+            };
+            if self.stands(at, p) {
+                return Some(Block { start: at + 1, end });
+            }
+            at = after(at, end);
+        }
+        None
+    }
+
+    /// The operand that stands at the position, of the arms in these rows: the kind of its node, and what is in it.
+    pub(crate) fn operand(&self, rows: Block, p: &Parser<'_>) -> Option<(SyntaxKind, Block)>
+        ensures { IfSome result (λ operand. rows.start < operand.1.start) }
+    {
+        let arm = self.arm(rows, p)?;
+        match self.part(arm.start) {
+            Part::Node { end, kind } if arm.start < end => {
+                let start = arm.start + 1;
+                Some((kind, Block { start, end }))
+            }
+            _ => None,
+        }
+    }
+
+    /// The operator that stands at the position and whose level is `floor` at least, of those in these rows of a table
+    /// of operators.
+    #[inline(always)]
+    pub(crate) fn operator(
+        &self,
+        row: u16,
+        rows: Block,
+        floor: u16,
+        p: &Parser<'_>,
+    ) -> Option<Operator>
+        ensures { IfSome result (λ operator. rows.start < operator.block.start) }
+    {
+        if self.has(self.number(row, 6), p.current()) {
+            self.operator_in(rows, floor, p)
+        } else {
+            None
+        }
+    }
+
+    fn operator_in(&self, rows: Block, floor: u16, p: &Parser<'_>) -> Option<Operator>
+        ensures { IfSome result (λ operator. rows.start < operator.block.start) }
+    {
+        let mut at = rows.start;
+        while at < rows.end {
+            let Part::Tail {
+                end,
+                level,
+                ceiling,
+            } = self.part(at)
+            else {
+                return None;
+            };
+            if floor <= level && self.stands(at, p) {
+                let block = Block { start: at + 1, end };
+                return Some(Operator {
+                    block,
+                    level,
+                    ceiling,
+                });
+            }
+            at = after(at, end);
+        }
+        None
+    }
+}
+
+/// The row after one that ends there.
+pub(crate) fn after(row: u16, end: u16) -> u16
+    requires { row < 65535 }
+    ensures { row < result }
+{
+    if row < end { end } else { row + 1 }
+}

@@ -1,0 +1,71 @@
+//! What a run keeps.
+ghost use Rattle.std.specs.Prelude.{◌≡◌, ◌≢◌};
+ghost use Rattle.squawk_kinds.specs.Kinds.{TOMBSTONE};
+
+use squawk_kinds::SyntaxKind;
+
+/// What a run keeps: the place of its last error, a place at which the token may stand, and the kind of the innermost
+/// node so far.
+#[derive(Drop)]
+pub(crate) struct Told {
+    place: Option<usize>,
+    seen: Option<usize>,
+    kind: SyntaxKind,
+}
+
+impl Told {
+    pub(crate) fn new() -> Told {
+        Told {
+            place: None,
+            seen: None,
+            kind: SyntaxKind::ERROR,
+        }
+    }
+
+    /// Whether a place has no error yet. From now on it has one.
+    pub(crate) fn is_new(&mut self, place: usize) -> bool {
+        if self.place == Some(place) {
+            return false;
+        }
+        self.place = Some(place);
+        true
+    }
+
+    /// Whether it was seen that the token at a place may stand there, or an error was told at it.
+    #[inline(always)]
+    pub(crate) fn is_settled(&self, place: usize) -> bool {
+        self.seen == Some(place) || self.place == Some(place)
+    }
+
+    /// Notes that the token at a place may stand there.
+    pub(crate) fn settle(&mut self, place: usize) {
+        self.seen = Some(place);
+    }
+
+    /// Enters a node that is to have this kind. Returns the kind of the node around it.
+    #[inline(always)]
+    pub(crate) fn enter(&mut self, kind: SyntaxKind) -> SyntaxKind {
+        let outer = self.kind;
+        self.kind = kind;
+        outer
+    }
+
+    /// Leaves a node for the one around it. Returns the kind of the node.
+    #[inline(always)]
+    pub(crate) fn leave(&mut self, outer: SyntaxKind) -> SyntaxKind
+        ensures { result ≢ TOMBSTONE }
+    {
+        let kind = self.kind;
+        self.kind = outer;
+        if kind == SyntaxKind::TOMBSTONE {
+            SyntaxKind::ERROR
+        } else {
+            kind
+        }
+    }
+
+    /// The innermost node gets this kind.
+    pub(crate) fn becomes(&mut self, kind: SyntaxKind) {
+        self.kind = kind;
+    }
+}
