@@ -1,4 +1,6 @@
 //! The parts of rules.
+ghost use Rattle.std.specs.Prelude.{◌≡◌};
+ghost use Rattle.rule_grammar.specs.Parts.{part_of};
 
 use squawk_kinds::SyntaxKind;
 
@@ -45,11 +47,13 @@ pub(crate) enum Part {
 
 /// The part that a row is.
 #[inline(always)]
-pub(crate) fn part_of(row: &[u16; 8]) -> Part {
+pub(crate) fn part_of(row: &[u16; 8]) -> Part
+    ensures { result ≡ part_of row.now }
+{
     let end = row[1];
     let number = row[2];
     let kind = SyntaxKind(number);
-    match row[0] & 255 {
+    match row[0] % 256 {
         1 => Part::Token { kind },
         2 => Part::Composite { kind },
         3 => Part::Class { set: number },
@@ -79,7 +83,9 @@ pub(crate) fn part_of(row: &[u16; 8]) -> Part {
 }
 
 #[inline(always)]
-fn tail(end: u16, level: u16, ceiling: u16) -> Part {
+fn tail(end: u16, level: u16, ceiling: u16) -> Part
+    ensures { result ≡ Part.Tail end level ceiling }
+{
     Part::Tail {
         end,
         level,

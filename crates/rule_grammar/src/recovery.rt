@@ -1,5 +1,6 @@
 //! Errors, and where parsing goes on after one.
-ghost use Rattle.std.specs.Prelude.{◌≡◌, ◌≢◌, true};
+ghost use Rattle.std.specs.Prelude.{◌≡◌, ◌≢◌, IsSome, None, Some, ℕ, true};
+ghost use Rattle.rule_grammar.specs.Derivations.{Counts, IfClean};
 ghost use Rattle.squawk_kinds.specs.Kinds.{EOF};
 ghost use Rattle.squawk_parser.specs.SomeSteps.{AddsSome, AddsSomeNode};
 ghost use Rattle.squawk_parser.specs.State.{IsSound, kind_at};
@@ -21,10 +22,14 @@ pub(crate) fn missing(
     p: &mut Parser<'_>,
 )
     requires { IsSound p.old }
-    ensures { AddsSome p.old p.new }
+    ensures adds { AddsSome p.old p.new }
+    ensures tells { IsSome told.new.place }
+    ensures counts { Counts told.old.place told.new.place p.old p.new }
 {
     if told.is_new(p.position()) {
-        tell(table, row, chain, told, p);
+        tell(table, row, chain, p);
+        // A second error at the place after it is dropped.
+        told.move_to(p.position());
     }
 }
 
@@ -38,27 +43,24 @@ pub(crate) fn expect_one(
     p: &mut Parser<'_>,
 )
     requires { IsSound p.old }
-    ensures { AddsSome p.old p.new }
+    ensures adds { AddsSome p.old p.new }
+    ensures told { IfClean told.old.place told.new.place (p.new.position ≡ p.old.position) }
+    ensures counts { Counts told.old.place told.new.place p.old p.new }
 {
     if !table.begins_with(row, p.current()) {
         missing(table, row, chain, told, p);
     }
 }
 
-fn tell(
-    table: &Table<'_>,
-    row: u16,
-    chain: &Chain<'_>,
-    told: &mut Told,
-    p: &mut Parser<'_>,
-)
+fn tell(table: &Table<'_>, row: u16, chain: &Chain<'_>, p: &mut Parser<'_>)
     requires { IsSound p.old }
-    ensures { AddsSome p.old p.new }
+    ensures adds { AddsSome p.old p.new }
+    ensures counts { (place : ℕ) → Counts None (Some place) p.old p.new }
 {
     if goes_on(table, row, chain, p) {
         p.error(table.message(row));
     } else {
-        skip(table, row, chain, told, p);
+        skip(table, row, chain, p);
     }
 }
 
@@ -68,14 +70,13 @@ fn goes_on(table: &Table<'_>, row: u16, chain: &Chain<'_>, p: &Parser<'_>) -> bo
 }
 
 /// An error, and the tokens at which no open rule goes on.
-fn skip(table: &Table<'_>, row: u16, chain: &Chain<'_>, told: &mut Told, p: &mut Parser<'_>)
-    ensures { AddsSome p.old p.new }
+fn skip(table: &Table<'_>, row: u16, chain: &Chain<'_>, p: &mut Parser<'_>)
+    ensures adds { AddsSome p.old p.new }
+    ensures counts { (place : ℕ) → Counts None (Some place) p.old p.new }
 {
     let node = p.start();
     p.error(table.message(row));
     bump_to(table, row, chain, p);
-    // A second error at the place after it is dropped.
-    let _ = told.is_new(p.position());
     node.complete(p, SyntaxKind::ERROR);
 }
 
@@ -110,7 +111,9 @@ pub(crate) fn is_next(
     p: &mut Parser<'_>,
 ) -> bool
     requires { IsSound p.old }
-    ensures { AddsSome p.old p.new }
+    ensures adds { AddsSome p.old p.new }
+    ensures told { IfClean told.old.place told.new.place (p.new.position ≡ p.old.position) }
+    ensures counts { Counts told.old.place told.new.place p.old p.new }
 {
     if table.stands(row, p) {
         true
@@ -128,7 +131,9 @@ fn is_after_others(
     p: &mut Parser<'_>,
 ) -> bool
     requires { IsSound p.old }
-    ensures { AddsSome p.old p.new }
+    ensures adds { AddsSome p.old p.new }
+    ensures told { IfClean told.old.place told.new.place (p.new.position ≡ p.old.position) }
+    ensures counts { Counts told.old.place told.new.place p.old p.new }
 {
     if is_unexpected(table, row, chain, told, p) {
         missing(table, row, chain, told, p);
@@ -145,7 +150,9 @@ fn is_unexpected(
     chain: &Chain<'_>,
     told: &mut Told,
     p: &Parser<'_>,
-) -> bool {
+) -> bool
+    ensures { told.new.place ≡ told.old.place }
+{
     let place = p.position();
     if told.is_settled(place) {
         return false;
@@ -166,6 +173,9 @@ pub(crate) fn is_separated(
 ) -> bool
     requires { IsSound p.old }
     ensures adds { AddsSome p.old p.new }
+    ensures at { result ≡ true → kind_at p.new 0 ≡ separator }
+    ensures told { IfClean told.old.place told.new.place (p.new.position ≡ p.old.position) }
+    ensures counts { Counts told.old.place told.new.place p.old p.new }
     ensures some { result ≡ true → kind_at p.new 0 ≢ EOF }
 {
     if is_at(separator, p) {
@@ -185,6 +195,9 @@ fn is_separated_after_others(
 ) -> bool
     requires { IsSound p.old }
     ensures adds { AddsSome p.old p.new }
+    ensures at { result ≡ true → kind_at p.new 0 ≡ separator }
+    ensures told { IfClean told.old.place told.new.place (p.new.position ≡ p.old.position) }
+    ensures counts { Counts told.old.place told.new.place p.old p.new }
     ensures some { result ≡ true → kind_at p.new 0 ≢ EOF }
 {
     if is_unexpected(table, row, chain, told, p) {
@@ -198,7 +211,8 @@ fn is_separated_after_others(
 /// Whether the token at the position has this kind.
 #[inline(always)]
 pub(crate) fn is_at(kind: SyntaxKind, p: &Parser<'_>) -> bool
-    ensures { result ≡ true → kind_at p.now 0 ≢ EOF }
+    ensures is { result ≡ true → kind_at p.now 0 ≡ kind }
+    ensures some { result ≡ true → kind_at p.now 0 ≢ EOF }
 {
     p.current() == kind && kind != SyntaxKind::EOF
 }
@@ -207,7 +221,9 @@ pub(crate) fn is_at(kind: SyntaxKind, p: &Parser<'_>) -> bool
 #[inline(always)]
 pub(crate) fn associate(fits: bool, told: &mut Told, p: &mut Parser<'_>)
     requires { IsSound p.old }
-    ensures { AddsSome p.old p.new }
+    ensures adds { AddsSome p.old p.new }
+    ensures told { IfClean told.old.place told.new.place ((fits ≡ true) × (p.new.position ≡ p.old.position)) }
+    ensures counts { Counts told.old.place told.new.place p.old p.new }
 {
     if !fits && told.is_new(p.position()) {
         p.error("this operator doesn't associate: use parentheses");
@@ -216,10 +232,20 @@ pub(crate) fn associate(fits: bool, told: &mut Told, p: &mut Parser<'_>)
 
 /// A node in place of an operand that is missing.
 #[cold]
-pub(crate) fn no_operand(p: &mut Parser<'_>) -> CompletedMarker
-    ensures { AddsSomeNode result p.old p.new }
+#[inline(never)]
+pub(crate) fn no_operand(
+    table: &Table<'_>,
+    row: u16,
+    chain: &Chain<'_>,
+    told: &mut Told,
+    p: &mut Parser<'_>,
+) -> CompletedMarker
+    ensures adds { AddsSomeNode result p.old p.new }
+    ensures tells { IsSome told.new.place }
+    ensures counts { Counts told.old.place told.new.place p.old p.new }
 {
     let node = p.start();
+    missing(table, row, chain, told, p);
     node.complete(p, SyntaxKind::ERROR)
 }
 
@@ -233,12 +259,14 @@ pub(crate) fn too_deep(
     told: &mut Told,
     p: &mut Parser<'_>,
 )
-    ensures { AddsSome p.old p.new }
+    ensures adds { AddsSome p.old p.new }
+    ensures tells { IsSome told.new.place }
+    ensures counts { Counts told.old.place told.new.place p.old p.new }
 {
     let node = p.start();
     p.error("nested too deep");
     bump_out(table, row, chain, p);
-    let _ = told.is_new(p.position());
+    told.move_to(p.position());
     node.complete(p, SyntaxKind::ERROR);
 }
 

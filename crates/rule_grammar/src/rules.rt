@@ -1,8 +1,11 @@
 //! Rules as a grammar.
-ghost use Rattle.std.specs.Prelude.{◌≡◌, ◌≢◌};
+ghost use Rattle.std.specs.Prelude.{◌≡◌, ◌≢◌, IsSome};
 ghost use Rattle.squawk_kinds.specs.Kinds.{EOF, TOMBSTONE};
+ghost use Rattle.squawk_output.specs.Draft.{errors_of};
 ghost use Rattle.squawk_parser.specs.SomeSteps.{AddsSome};
-ghost use Rattle.squawk_parser.specs.State.{IsSound, kind_at};
+ghost use Rattle.squawk_parser.specs.State.{HasNotFailed, IsSound, kind_at};
+ghost use Rattle.rule_grammar.specs.Derivations.{Counts, Derives, IfClean, text_of};
+ghost use Rattle.rule_grammar.specs.Derivations.Span.{block};
 
 use crate::chain::Chain;
 use crate::run::block;
@@ -33,10 +36,12 @@ pub struct Rules<'r> {
 impl<'r> Grammar for Rules<'r> {
     ghost use Rattle.std.specs.Prelude.{map};
     ghost use Rattle.squawk_kinds.specs.TokenSets.{no_kinds};
-    ghost use Rattle.squawk_parser.specs.Whole.{IsWholeFile};
+    ghost use Rattle.rule_grammar.specs.Derivations.{IsFile};
 
-    // One node over all tokens, whatever the numbers of the table are.
-    ghost leaves = { λ _ _ input draft. IsWholeFile input draft };
+    // One node over all tokens, whatever the numbers of the table are. If there is no error in it, the rule of a file
+    // derives the tokens.
+    ghost leaves = { λ rules _ input draft. IsFile rules.table.rows.now rules.table.sets.now
+      (record { operator_first = no_kinds; names = map (λ pair. (pair.0, pair.1.now)) rules.names.now }) rules.start rules.end input draft };
 
     ghost runs = { λ _ _ _ _. Unit {0} };
 
@@ -63,7 +68,7 @@ impl<'r> Grammar for Rules<'r> {
 }
 
 impl<'r> WholeGrammar for Rules<'r> {
-    ghost leaves_whole = { λ _ _ _ _ _ left. left };
+    ghost leaves_whole = { λ _ _ _ _ _ left. left.whole };
 }
 
 /// The kind of the root. An open marker's is none.
@@ -82,48 +87,53 @@ fn content(rules: &Rules<'_>, p: &mut Parser<'_>)
     requires { IsSound p.old }
     ensures adds { AddsSome p.old p.new }
     ensures all { kind_at p.new 0 ≡ EOF }
-{
-    rule_of_file(rules, p);
-    left_over(p);
-}
-
-fn rule_of_file(rules: &Rules<'_>, p: &mut Parser<'_>)
-    requires { IsSound p.old }
-    ensures { AddsSome p.old p.new }
+    // If no error is recorded, the rule derives the tokens.
+    ensures derives { HasNotFailed p.new → errors_of p.new.draft.items ≡ errors_of p.old.draft.items
+        → Derives (text_of rules.now.table p.old) (block rules.now.start rules.now.end) p.old.position p.new.position }
 {
     let rows = Block {
         start: rules.start,
         end: rules.end,
     };
-    block(
-        &rules.table,
-        rows,
-        &Chain::START,
-        rules.depth,
-        &mut Told::new(),
-        p,
-    );
+    let mut told = Told::new();
+    block(&rules.table, rows, &Chain::START, rules.depth, &mut told, p);
+    left_over(&mut told, p);
 }
 
 /// The tokens after the rule of a file: an error with all of them.
-fn left_over(p: &mut Parser<'_>)
+fn left_over(told: &mut Told, p: &mut Parser<'_>)
     requires { IsSound p.old }
     ensures adds { AddsSome p.old p.new }
     ensures all { kind_at p.new 0 ≡ EOF }
+    ensures told { IfClean told.old.place told.new.place (p.new.position ≡ p.old.position) }
+    ensures counts { Counts told.old.place told.new.place p.old p.new }
 {
     if p.current() != SyntaxKind::EOF {
-        error_to_end(p);
+        error_to_end(told, p);
     }
 }
 
-fn error_to_end(p: &mut Parser<'_>)
+fn error_to_end(told: &mut Told, p: &mut Parser<'_>)
     ensures adds { AddsSome p.old p.new }
     ensures all { kind_at p.new 0 ≡ EOF }
+    ensures tells { IsSome told.new.place }
+    ensures counts { Counts told.old.place told.new.place p.old p.new }
 {
     let node = p.start();
-    p.error("unexpected token");
+    unexpected(told, p);
     bump_all(p);
     node.complete(p, SyntaxKind::ERROR);
+}
+
+fn unexpected(told: &mut Told, p: &mut Parser<'_>)
+    requires { IsSound p.old }
+    ensures adds { AddsSome p.old p.new }
+    ensures tells { IsSome told.new.place }
+    ensures counts { Counts told.old.place told.new.place p.old p.new }
+{
+    if told.is_new(p.position()) {
+        p.error("unexpected token");
+    }
 }
 
 fn bump_all(p: &mut Parser<'_>)

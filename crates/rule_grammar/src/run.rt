@@ -1,5 +1,8 @@
 //! The interpreter: one for all rules.
-ghost use Rattle.std.specs.Prelude.{◌≤◌, ◌<◌};
+ghost use Rattle.std.specs.Prelude.{◌≡◌, ◌+◌, ◌≤◌, ◌<◌, ℕ, None, true};
+ghost use Rattle.rule_grammar.specs.Derivations.{Counts, Derived, next_of, text_of};
+ghost use Rattle.rule_grammar.specs.Derivations.Span.{block, choice, items, operation, single, turns};
+ghost use Rattle.rule_grammar.specs.Parts.{part_at};
 ghost use Rattle.squawk_parser.specs.SomeSteps.{AddsSome, AddsSomeNode};
 ghost use Rattle.squawk_parser.specs.State.{HasNode, IsSound, State};
 
@@ -24,7 +27,9 @@ pub(crate) fn block(
     p: &mut Parser<'_>,
 )
     requires { IsSound p.old }
-    ensures { AddsSome p.old p.new }
+    ensures adds { AddsSome p.old p.new }
+    ensures derives { Derived (text_of table.now p.old) (block rows.start rows.end) told.old.place told.new.place p.old.position p.new.position }
+    ensures counts { Counts told.old.place told.new.place p.old p.new }
 {
     let mut row = rows.start;
     while row < rows.end {
@@ -46,6 +51,9 @@ fn step(
     requires sound { IsSound p.old }
     ensures adds { AddsSome p.old p.new }
     ensures goes_on { row < result }
+    ensures next { result ≡ next_of row (part_at table.now.rows.now row) }
+    ensures derives { Derived (text_of table.now p.old) (single row) told.old.place told.new.place p.old.position p.new.position }
+    ensures counts { Counts told.old.place told.new.place p.old p.new }
 {
     match table.part(row) {
         Part::Token { kind } => {
@@ -117,7 +125,9 @@ fn node(
     told: &mut Told,
     p: &mut Parser<'_>,
 ) -> CompletedMarker
-    ensures { AddsSomeNode result p.old p.new }
+    ensures adds { AddsSomeNode result p.old p.new }
+    ensures derives { Derived (text_of table.now p.old) (block rows.start rows.end) told.old.place told.new.place p.old.position p.new.position }
+    ensures counts { Counts told.old.place told.new.place p.old p.new }
 {
     let outer = told.enter(kind);
     let node = p.start();
@@ -138,12 +148,15 @@ fn choice(
 )
     requires room { row < 65535 }
     requires sound { IsSound p.old }
-    ensures { AddsSome p.old p.new }
+    ensures adds { AddsSome p.old p.new }
+    ensures derives { Derived (text_of table.now p.old) (choice (row + 1) end) told.old.place told.new.place p.old.position p.new.position }
+    ensures counts { Counts told.old.place told.new.place p.old p.new }
 {
     let arms = Block { start: row + 1, end };
     expect_one(table, row, chain, told, p);
-    if let Some(arm) = table.arm(arms, p) {
-        block(table, arm, chain, depth, told, p);
+    match table.arm(arms, p) {
+        Some(arm) => block(table, arm, chain, depth, told, p),
+        None => missing(table, row, chain, told, p),
     }
 }
 
@@ -161,7 +174,10 @@ fn optional(
 )
     requires room { row < 65535 }
     requires sound { IsSound p.old }
-    ensures { AddsSome p.old p.new }
+    ensures adds { AddsSome p.old p.new }
+    ensures derives { part_at table.now.rows.now row ≡ Part.Optional end
+        → Derived (text_of table.now p.old) (single row) told.old.place told.new.place p.old.position p.new.position }
+    ensures counts { Counts told.old.place told.new.place p.old p.new }
 {
     if is_next(table, row, chain, told, p) {
         block(table, Block { start: row + 1, end }, chain, depth, told, p);
@@ -181,7 +197,9 @@ fn repeat(
 )
     requires room { row < 65535 }
     requires sound { IsSound p.old }
-    ensures { AddsSome p.old p.new }
+    ensures adds { AddsSome p.old p.new }
+    ensures derives { Derived (text_of table.now p.old) (turns (row + 1) end) told.old.place told.new.place p.old.position p.new.position }
+    ensures counts { Counts told.old.place told.new.place p.old p.new }
 {
     let rows = Block { start: row + 1, end };
     while is_next(table, row, chain, told, p) {
@@ -207,7 +225,9 @@ fn list(
 )
     requires room { row < 65535 }
     requires sound { IsSound p.old }
-    ensures { AddsSome p.old p.new }
+    ensures adds { AddsSome p.old p.new }
+    ensures derives { Derived (text_of table.now p.old) (items (row + 1) end separator) told.old.place told.new.place p.old.position p.new.position }
+    ensures counts { Counts told.old.place told.new.place p.old p.new }
 {
     let rows = Block { start: row + 1, end };
     block(table, rows, chain, depth, told, p);
@@ -229,7 +249,9 @@ fn call(
     p: &mut Parser<'_>,
 )
     requires { IsSound p.old }
-    ensures { AddsSome p.old p.new }
+    ensures adds { AddsSome p.old p.new }
+    ensures derives { Derived (text_of table.now p.old) (block rows.start rows.end) told.old.place told.new.place p.old.position p.new.position }
+    ensures counts { Counts told.old.place told.new.place p.old p.new }
 {
     if depth == 0 {
         too_deep(table, row, chain, told, p);
@@ -251,7 +273,9 @@ fn inner_operand(
     p: &mut Parser<'_>,
 )
     requires { IsSound p.old }
-    ensures { AddsSome p.old p.new }
+    ensures adds { AddsSome p.old p.new }
+    ensures derives { (ceiling : ℕ) × Derived (text_of table.now p.old) (operation operators_row floor ceiling) told.old.place told.new.place p.old.position p.new.position }
+    ensures counts { Counts told.old.place told.new.place p.old p.new }
 {
     if depth == 0 {
         too_deep(table, row, chain, told, p);
@@ -272,7 +296,9 @@ fn operators(
     p: &mut Parser<'_>,
 )
     requires { IsSound p.old }
-    ensures { AddsSome p.old p.new }
+    ensures adds { AddsSome p.old p.new }
+    ensures derives { (ceiling : ℕ) × Derived (text_of table.now p.old) (operation row floor ceiling) told.old.place told.new.place p.old.position p.new.position }
+    ensures counts { Counts told.old.place told.new.place p.old p.new }
 {
     match table.part(row) {
         Part::Operators { end, tails } if row < tails => {
@@ -298,7 +324,10 @@ fn climb(
 )
     requires room { row < tails.start }
     requires sound { IsSound p.old }
-    ensures { AddsSome p.old p.new }
+    ensures adds { AddsSome p.old p.new }
+    ensures derives { part_at table.now.rows.now row ≡ Part.Operators tails.end tails.start
+        → (ceiling : ℕ) × Derived (text_of table.now p.old) (operation row floor ceiling) told.old.place told.new.place p.old.position p.new.position }
+    ensures counts { Counts told.old.place told.new.place p.old p.new }
 {
     let mut left = operand(table, row, tails.start, chain, depth, told, p);
     let mut ceiling = u16::MAX;
@@ -325,11 +354,14 @@ fn operand(
     p: &mut Parser<'_>,
 ) -> CompletedMarker
     requires room { row < 65535 }
-    ensures { AddsSomeNode result p.old p.new }
+    ensures adds { AddsSomeNode result p.old p.new }
+    ensures derives { (tails floor : ℕ) → part_at table.now.rows.now row ≡ Part.Operators tails end
+        → Derived (text_of table.now p.old) (operation row floor 65535) told.old.place told.new.place p.old.position p.new.position }
+    ensures counts { Counts told.old.place told.new.place p.old p.new }
 {
     match table.operand(Block { start: row + 1, end }, p) {
         Some((kind, rows)) => node(table, rows, kind, chain, depth, told, p),
-        None => no_operand(p),
+        None => no_operand(table, row, chain, told, p),
     }
 }
 
@@ -348,6 +380,9 @@ fn operation(
     requires at_hand { HasNode p.old left }
     ensures adds { (begun : State) → AddsSomeNode left begun p.old → AddsSomeNode result begun p.new }
     ensures forward { p.old.position ≤ p.new.position }
+    ensures derives { Derived (text_of table.now p.old) (block rows.start rows.end) told.old.place told.new.place p.old.position p.new.position }
+    ensures fits { told.new.place ≡ None → fits ≡ true }
+    ensures counts { Counts told.old.place told.new.place p.old p.new }
 {
     let outer = told.enter(SyntaxKind::ERROR);
     let node = left.precede(p);

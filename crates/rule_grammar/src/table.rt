@@ -1,5 +1,7 @@
 //! Rules as numbers.
-ghost use Rattle.std.specs.Prelude.{◌<◌, IfSome};
+ghost use Rattle.std.specs.Prelude.{◌≡◌, ◌<◌, ◌≤◌, IfSome};
+ghost use Rattle.rule_grammar.specs.Derivations.{IsArm, IsOperand, IsTail, row_after};
+ghost use Rattle.rule_grammar.specs.Parts.{part_at, set_has};
 
 use crate::part::{Part, part_of};
 use squawk_parser::{Parser, SyntaxKind};
@@ -61,7 +63,9 @@ impl<'r> Table<'r> {
 
     /// The part in a row.
     #[inline(always)]
-    pub(crate) fn part(&self, row: u16) -> Part {
+    pub(crate) fn part(&self, row: u16) -> Part
+        ensures { result ≡ part_at self.now.rows.now row }
+    {
         match self.rows.get(usize::from(row)) {
             Some(numbers) => part_of(numbers),
             None => Part::Nothing,
@@ -99,10 +103,12 @@ impl<'r> Table<'r> {
 
     /// Whether a set has a kind.
     #[inline(always)]
-    pub(crate) fn has(&self, set: u16, kind: SyntaxKind) -> bool {
+    pub(crate) fn has(&self, set: u16, kind: SyntaxKind) -> bool
+        ensures { result ≡ set_has self.now.sets.now set kind }
+    {
         match self.sets.get(usize::from(set)) {
             Some(words) => match words.get(usize::from(kind.0 / 16)) {
-                Some(word) => (word >> (kind.0 % 16)) & 1 == 1,
+                Some(word) => (word >> (kind.0 % 16)) % 2 == 1,
                 None => false,
             },
             None => false,
@@ -152,7 +158,8 @@ impl<'r> Table<'r> {
 
     /// The first arm that stands at the position, of those in these rows.
     pub(crate) fn arm(&self, rows: Block, p: &Parser<'_>) -> Option<Block>
-        ensures { IfSome result (λ block. rows.start < block.start) }
+        ensures later { IfSome result (λ block. rows.start < block.start) }
+        ensures is { IfSome result (λ block. IsArm self.now.rows.now rows.start rows.end block.start block.end) }
     {
         let mut at = rows.start;
         while at < rows.end {
@@ -169,7 +176,8 @@ impl<'r> Table<'r> {
 
     /// The operand that stands at the position, of the arms in these rows: the kind of its node, and what is in it.
     pub(crate) fn operand(&self, rows: Block, p: &Parser<'_>) -> Option<(SyntaxKind, Block)>
-        ensures { IfSome result (λ operand. rows.start < operand.1.start) }
+        ensures later { IfSome result (λ operand. rows.start < operand.1.start) }
+        ensures is { IfSome result (λ operand. IsOperand self.now.rows.now rows.start rows.end operand.1.start operand.1.end) }
     {
         let arm = self.arm(rows, p)?;
         match self.part(arm.start) {
@@ -191,7 +199,9 @@ impl<'r> Table<'r> {
         floor: u16,
         p: &Parser<'_>,
     ) -> Option<Operator>
-        ensures { IfSome result (λ operator. rows.start < operator.block.start) }
+        ensures later { IfSome result (λ operator. rows.start < operator.block.start) }
+        ensures is { IfSome result (λ operator. IsTail self.now.rows.now rows.start rows.end operator.block.start operator.block.end operator.level operator.ceiling) }
+        ensures floor { IfSome result (λ operator. floor ≤ operator.level) }
     {
         if self.has(self.number(row, 6), p.current()) {
             self.operator_in(rows, floor, p)
@@ -201,7 +211,9 @@ impl<'r> Table<'r> {
     }
 
     fn operator_in(&self, rows: Block, floor: u16, p: &Parser<'_>) -> Option<Operator>
-        ensures { IfSome result (λ operator. rows.start < operator.block.start) }
+        ensures later { IfSome result (λ operator. rows.start < operator.block.start) }
+        ensures is { IfSome result (λ operator. IsTail self.now.rows.now rows.start rows.end operator.block.start operator.block.end operator.level operator.ceiling) }
+        ensures floor { IfSome result (λ operator. floor ≤ operator.level) }
     {
         let mut at = rows.start;
         while at < rows.end {
@@ -230,7 +242,8 @@ impl<'r> Table<'r> {
 /// The row after one that ends there.
 pub(crate) fn after(row: u16, end: u16) -> u16
     requires { row < 65535 }
-    ensures { row < result }
+    ensures later { row < result }
+    ensures is { result ≡ row_after row end }
 {
     if row < end { end } else { row + 1 }
 }

@@ -1,5 +1,5 @@
 //! What a run keeps.
-ghost use Rattle.std.specs.Prelude.{◌≡◌, ◌≢◌};
+ghost use Rattle.std.specs.Prelude.{◌≡◌, ◌≢◌, IsTrue, None, Some};
 ghost use Rattle.squawk_kinds.specs.Kinds.{TOMBSTONE};
 
 use squawk_kinds::SyntaxKind;
@@ -14,7 +14,9 @@ pub(crate) struct Told {
 }
 
 impl Told {
-    pub(crate) fn new() -> Told {
+    pub(crate) fn new() -> Told
+        ensures { result.place ≡ None }
+    {
         Told {
             place: None,
             seen: None,
@@ -23,12 +25,22 @@ impl Told {
     }
 
     /// Whether a place has no error yet. From now on it has one.
-    pub(crate) fn is_new(&mut self, place: usize) -> bool {
+    pub(crate) fn is_new(&mut self, place: usize) -> bool
+        ensures place { self.new.place ≡ Some place }
+        ensures first { self.old.place ≡ None → IsTrue result }
+    {
         if self.place == Some(place) {
             return false;
         }
         self.place = Some(place);
         true
+    }
+
+    /// Notes that a place has an error.
+    pub(crate) fn move_to(&mut self, place: usize)
+        ensures { self.new.place ≡ Some place }
+    {
+        self.place = Some(place);
     }
 
     /// Whether it was seen that the token at a place may stand there, or an error was told at it.
@@ -38,13 +50,17 @@ impl Told {
     }
 
     /// Notes that the token at a place may stand there.
-    pub(crate) fn settle(&mut self, place: usize) {
+    pub(crate) fn settle(&mut self, place: usize)
+        ensures { self.new.place ≡ self.old.place }
+    {
         self.seen = Some(place);
     }
 
     /// Enters a node that is to have this kind. Returns the kind of the node around it.
     #[inline(always)]
-    pub(crate) fn enter(&mut self, kind: SyntaxKind) -> SyntaxKind {
+    pub(crate) fn enter(&mut self, kind: SyntaxKind) -> SyntaxKind
+        ensures { self.new.place ≡ self.old.place }
+    {
         let outer = self.kind;
         self.kind = kind;
         outer
@@ -53,7 +69,8 @@ impl Told {
     /// Leaves a node for the one around it. Returns the kind of the node.
     #[inline(always)]
     pub(crate) fn leave(&mut self, outer: SyntaxKind) -> SyntaxKind
-        ensures { result ≢ TOMBSTONE }
+        ensures kind { result ≢ TOMBSTONE }
+        ensures place { self.new.place ≡ self.old.place }
     {
         let kind = self.kind;
         self.kind = outer;
@@ -65,7 +82,9 @@ impl Told {
     }
 
     /// The innermost node gets this kind.
-    pub(crate) fn becomes(&mut self, kind: SyntaxKind) {
+    pub(crate) fn becomes(&mut self, kind: SyntaxKind)
+        ensures { self.new.place ≡ self.old.place }
+    {
         self.kind = kind;
     }
 }

@@ -1,5 +1,9 @@
-use Rattle.std.proofs.Common.{◌+◌, ◌-◌, ◌*◌, ◌≤◌}
+use Rattle.std.proofs.Common.{◌≡◌, ◌+◌, ◌-◌, ◌*◌, ◌≤◌}
 use Rattle.squawk_parser.specs.SomeSteps.{AddsSome, AddsSomeNode}
+use Rattle.rule_grammar.specs.Derivations.{Counts, Derived, text_of}
+use Rattle.rule_grammar.specs.Derivations.Span.{items, operation, rows, turns}
+use Rattle.rule_grammar.specs.Parts.{part_at}
+use Rattle.rule_grammar.specs.declared.part.Part.TheVariants.{Operators}
 use Rattle.rule_grammar.proofs.run.+run.Given as goal
 
 -- A call of another function has less depth; or as much, and rows further on; or the same rows, and a lower rank.
@@ -42,27 +46,45 @@ decreases-operand l = 16 * (65536 * l.depth + (65536 - l.row)) + 5
 abbrev pub decreases-operation : goal.decreases-operation
 decreases-operation l = 16 * (65536 * l.depth + (65536 - l.rows.start)) + 10
 
--- some steps were added
+-- some steps were added, and if no error was told, what was run derives what was eaten
 abbrev pub invariant-block-loop-row : goal.invariant-block-loop-row
-invariant-block-loop-row l = AddsSome l.fn.p l.p × (l.fn.rows.start ≤ l.row)
+invariant-block-loop-row l = record {
+  adds : AddsSome l.fn.p l.p;
+  further : l.fn.rows.start ≤ l.row;
+  derives : Derived (text_of l.table l.fn.p) (rows l.fn.rows.start l.row) l.fn.told.place l.told.place l.fn.p.position l.p.position;
+  counts : Counts l.fn.told.place l.told.place l.fn.p l.p;
+}
 
 abbrev pub decreases-block-loop-row : goal.decreases-block-loop-row
 decreases-block-loop-row l = l.rows.end - l.row
 
 abbrev pub invariant-repeat-loop-rows : goal.invariant-repeat-loop-rows
-invariant-repeat-loop-rows l = AddsSome l.fn.p l.p
+invariant-repeat-loop-rows l = record {
+  adds : AddsSome l.fn.p l.p;
+  derives : Derived (text_of l.table l.fn.p) (turns (l.fn.row + 1) l.fn.end) l.fn.told.place l.told.place l.fn.p.position l.p.position;
+  counts : Counts l.fn.told.place l.told.place l.fn.p l.p;
+}
 
 abbrev pub decreases-repeat-loop-rows : goal.decreases-repeat-loop-rows
 decreases-repeat-loop-rows l = l.p.limit - l.p.position
 
 abbrev pub invariant-list-loop-separator : goal.invariant-list-loop-separator
-invariant-list-loop-separator l = AddsSome l.fn.p l.p
+invariant-list-loop-separator l = record {
+  adds : AddsSome l.fn.p l.p;
+  derives : Derived (text_of l.table l.fn.p) (items (l.fn.row + 1) l.fn.end l.fn.separator) l.fn.told.place l.told.place l.fn.p.position l.p.position;
+  counts : Counts l.fn.told.place l.told.place l.fn.p l.p;
+}
 
 abbrev pub decreases-list-loop-separator : goal.decreases-list-loop-separator
 decreases-list-loop-separator l = l.p.limit - l.p.position
 
 abbrev pub invariant-climb-loop-operator : goal.invariant-climb-loop-operator
-invariant-climb-loop-operator l = AddsSomeNode l.left l.fn.p l.p
+invariant-climb-loop-operator l = record {
+  adds : AddsSomeNode l.left l.fn.p l.p;
+  derives : part_at l.table.rows.now l.fn.row ≡ Operators l.fn.tails.end l.fn.tails.start
+      → Derived (text_of l.table l.fn.p) (operation l.fn.row l.fn.floor l.ceiling) l.fn.told.place l.told.place l.fn.p.position l.p.position;
+  counts : Counts l.fn.told.place l.told.place l.fn.p l.p;
+}
 
 abbrev pub decreases-climb-loop-operator : goal.decreases-climb-loop-operator
 decreases-climb-loop-operator l = l.p.limit - l.p.position

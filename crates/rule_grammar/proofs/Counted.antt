@@ -1,0 +1,78 @@
+-- That an error that is told is recorded.
+use Rattle.std.specs.Prelude.{◌≡◌, ℕ, ◌+◌, ◌≤◌, false, Option, Some, None, List, [], ◌∷◌, ◌++◌}
+use Rattle.std.proofs.Common.{arith, ap, sym, ◌∙◌, refl}
+use Rattle.squawk_output.specs.Draft.{Close, Item, Mark, Node, OpenMarker, errors_of}
+use Rattle.squawk_output.specs.Edits.{filled}
+use Rattle.squawk_output.specs.Steps.{Step, errors_in}
+use Rattle.squawk_output.specs.declared.log.Made.TheVariants.{ByPrecede}
+use Rattle.squawk_output.proofs.EditedErrors.{errors-append, errors-filled, errors-preceded}
+use Rattle.squawk_parser.specs.Recorded.{Begins, Completes, Precedes, Puts}
+use Rattle.squawk_parser.specs.SomeSteps.{AddsSome, HasAdded, open_markers_for}
+use Rattle.squawk_parser.specs.State.{State, HasNotFailed, Keeps}
+use Rattle.squawk_parser.proofs.RecordedSteps.{Keeps-then, went}
+use Rattle.squawk_parser.proofs.StepsInOrder.{RecordsSteps-puts}
+use Rattle.rule_grammar.specs.Derivations.{Counts, weight}
+
+pub counts_then : {a b c : State} {t u v : Option ℕ} → Counts t u a b → Counts u v b c → Counts t v a c
+counts_then {a} {b} {c} {t} {u} {v} p q = record {
+  keeps = Keeps-then p.keeps q.keeps;
+  errors = λ goes.
+      let first : errors_of a.draft.items + weight u ≤ errors_of b.draft.items + weight t = p.errors (went q.keeps goes) in
+      let then : errors_of b.draft.items + weight v ≤ errors_of c.draft.items + weight u = q.errors goes in
+      omega arith;
+}
+
+-- steps that are added only add errors
+pub counts_added : {a b : State} {first opened : List Mark} {t : Option ℕ} → HasAdded first opened a b → Counts t t a b
+counts_added {a} {b} {first} {opened} {t} p = record {
+  keeps = p.keeps;
+  errors = λ goes.
+      let put = p.draft goes in
+      let more = open_markers_for first ++ put.made in
+      let e : errors_of b.draft.items ≡ errors_of a.draft.items + errors_of more = ap errors_of put.items ∙ errors-append a.draft.items more in
+      omega (arith, e);
+}
+
+pub counts_some : {a b : State} {t : Option ℕ} → AddsSome a b → Counts t t a b
+counts_some p = counts_added p.some
+
+-- a node that ends has the errors that were there
+pub counts_completed : {a b : State} {id kind : ℕ} {t : Option ℕ} → Completes id kind a b → Counts t t a b
+counts_completed {a} {b} {id} {kind} {t} p = record {
+  keeps = p.keeps;
+  errors = λ goes.
+      let e : errors_of b.draft.items ≡ errors_of (filled a.draft.items id kind) + errors_of (Close ∷ []) =
+      ap (λ d. errors_of d.items) (p.records.draft goes) ∙ errors-append (filled a.draft.items id kind) (Close ∷ []) in
+      omega (arith, e, errors-filled id kind a.draft.items);
+}
+
+pub counts_preceded : {a b : State} {node : Node} {m : Mark} {t : Option ℕ} → Precedes node m a b → Counts t t a b
+counts_preceded {a} {b} {node} {m} {t} p = record {
+  keeps = p.keeps;
+  errors = λ goes.
+      let e = ap (λ d. errors_of d.items) (p.records.draft goes) ∙ errors-preceded node.id a.draft.entries ByPrecede a.draft.items in
+      omega (arith, e);
+}
+
+-- an error is recorded
+pub counts_told : {a b : State} {xs : List Step} {t u : Option ℕ} → Puts xs a b → 1 ≤ errors_in xs → Counts t u a b
+counts_told {a} {b} {xs} {t} {u} p one = record {
+  keeps = p.keeps;
+  errors = λ goes.
+      let e : errors_of b.draft.items ≡ errors_of a.draft.items + errors_in xs = (RecordsSteps-puts p).errors goes in
+      let w : weight u ≤ 1 = light u in
+      omega arith;
+}
+  where
+    light : (u : Option ℕ) → weight u ≤ 1
+    light None = omega arith
+    light (Some place) = omega arith
+
+-- an error that is recorded counts whatever was told before
+pub counts_any : {a b : State} {t u : Option ℕ} → Counts None u a b → Counts t u a b
+counts_any {a} {b} {t} {u} p = record {
+  keeps = p.keeps;
+  errors = λ goes.
+      let first : errors_of a.draft.items + weight u ≤ errors_of b.draft.items + weight None = p.errors goes in
+      omega arith;
+}

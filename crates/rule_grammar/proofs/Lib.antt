@@ -1,0 +1,3 @@
+pub mod Counted
+pub mod Derived
+pub mod Files

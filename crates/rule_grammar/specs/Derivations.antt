@@ -1,0 +1,168 @@
+-- What rules derive: from which token of an input to which.
+use Rattle.std.specs.Prelude.{◌≡◌, ℕ, ◌+◌, ◌<◌, ◌≤◌, nat_lt, Bool, true, false, Option, Some, None, List, length, if◌then◌else◌}
+use Rattle.squawk_kinds.specs.Kinds.{EOF}
+use Rattle.squawk_kinds.specs.TokenSets.{has}
+use Rattle.squawk_table.specs.ParserInput.{Entry, kind_in}
+use Rattle.squawk_output.specs.Steps.{eaten}
+use Rattle.squawk_output.specs.Draft.{Draft, errors_of}
+use Rattle.squawk_parser.specs.Composites.{stands_at}
+use Rattle.squawk_parser.specs.Eaten.{eat_steps}
+use Rattle.squawk_parser.specs.LookAhead.{seen_from}
+use Rattle.squawk_parser.specs.State.{State, HasNotFailed, Keeps}
+use Rattle.squawk_parser.specs.Whole.{IsWholeFile}
+use Rattle.squawk_parser.specs.Words.{Words}
+use Rattle.rule_grammar.specs.Parts.{part_at, set_has}
+use Rattle.rule_grammar.specs.declared.part.Part as part
+use Rattle.rule_grammar.specs.declared.part.Part.TheVariants.{Nothing, Token, Composite, Class, Name, Node, Becomes, Choice, Arm, Optional, Repeat, List as Items, Call, Operators, Operand, Tail}
+use Rattle.rule_grammar.specs.declared.table.Table.{Table}
+
+-- rules, and the tokens that are parsed by them
+pub record Text : Type 0 where
+  pub rows : List (List ℕ)
+  pub sets : List (List ℕ)
+  pub words : Words
+  pub input : List Entry
+  pub limit : ℕ
+
+-- those of a parser
+abbrev pub text_of : Table → State → Text
+text_of table s = record { rows = table.rows.now; sets = table.sets.now; words = s.words; input = s.input; limit = s.limit }
+
+-- the kind of token i, and the tokens from it on
+abbrev pub kind_of : Text → ℕ → ℕ
+kind_of t i = if nat_lt (i + 0) t.limit then kind_in t.input (i + 0) else EOF
+
+abbrev pub seen_at : Text → ℕ → List Entry
+seen_at t i = seen_from t.input t.limit (i + 0)
+
+-- ---- rows
+
+-- the row after one that ends there
+abbrev pub row_after : ℕ → ℕ → ℕ
+row_after k end = if nat_lt k end then end else k + 1
+
+-- the row after a part with all that is in it
+abbrev pub next_of : ℕ → part.Part → ℕ
+next_of k (Node end kind) = row_after k end
+next_of k (Choice end) = row_after k end
+next_of k (Optional end) = row_after k end
+next_of k (Repeat end) = row_after k end
+next_of k (Items end separator) = row_after k end
+next_of k (Operators end tails) = row_after k end
+next_of k part = k + 1
+
+-- parts that eat nothing
+abbrev pub is_silent : part.Part → Bool
+is_silent Nothing = true
+is_silent (Becomes kind) = true
+is_silent (Arm end) = true
+is_silent (Tail end level ceiling) = true
+is_silent part = false
+
+-- from an arm over others to another
+pub data ToArm (list : List (List ℕ)) (start : ℕ) : ℕ → Type 0 where
+  at_arm : ToArm list start start
+  over_arm : {k end : ℕ} → ToArm list start k → part_at list k ≡ Arm end → ToArm list start (row_after k end)
+
+-- from an operator over others to another
+pub data ToTail (list : List (List ℕ)) (start : ℕ) : ℕ → Type 0 where
+  at_tail : ToTail list start start
+  over_tail : {k end level ceiling : ℕ} → ToTail list start k → part_at list k ≡ Tail end level ceiling → ToTail list start (row_after k end)
+
+-- an arm, of those from start up to end: the rows in it
+pub record IsArm (list : List (List ℕ)) (start end first last : ℕ) : Type 0 where
+  pub at : ℕ
+  pub to : ToArm list start at
+  pub within : at < end
+  pub is : part_at list at ≡ Arm last
+  pub first_is : first ≡ at + 1
+
+-- an operand, of the arms from start up to end: the rows of the node that the arm is
+pub record IsOperand (list : List (List ℕ)) (start end first last : ℕ) : Type 0 where
+  pub at : ℕ
+  pub arm_end : ℕ
+  pub kind : ℕ
+  pub arm : IsArm list start end at arm_end
+  pub is : part_at list at ≡ Node last kind
+  pub first_is : first ≡ at + 1
+
+-- an operator, of those from start up to end: the rows in it
+pub record IsTail (list : List (List ℕ)) (start end first last level ceiling : ℕ) : Type 0 where
+  pub at : ℕ
+  pub to : ToTail list start at
+  pub within : at < end
+  pub is : part_at list at ≡ Tail last level ceiling
+  pub first_is : first ≡ at + 1
+
+-- ---- derivations
+
+-- what derives tokens: rows one after another up to one; a part; a block of rows; an arm of those in a block; a block any
+-- number of times; a block once or more, with separators; by a table of operators an operand and operators after it, of
+-- levels from a floor on, after which one of a level up to a ceiling may come
+pub data Span : Type 0 where
+  rows : ℕ → ℕ → Span
+  single : ℕ → Span
+  block : ℕ → ℕ → Span
+  choice : ℕ → ℕ → Span
+  turns : ℕ → ℕ → Span
+  items : ℕ → ℕ → ℕ → Span
+  operation : ℕ → ℕ → ℕ → Span
+
+-- it derives the tokens from one up to another
+pub data Derives (t : Text) : Span → ℕ → ℕ → Type 0 where
+  none : {k i : ℕ} → Derives t (rows k k) i i
+  more : {start k i j m : ℕ} → Derives t (rows start k) i j → Derives t (single k) j m → Derives t (rows start (next_of k (part_at t.rows k))) i m
+  all : {start k end i j : ℕ} → end ≤ k → Derives t (rows start k) i j → Derives t (block start end) i j
+  silent : {k i : ℕ} → is_silent (part_at t.rows k) ≡ true → Derives t (single k) i i
+  token : {k i kind : ℕ} → part_at t.rows k ≡ Token kind → kind_of t i ≡ kind → Derives t (single k) i (i + 1)
+  composite : {k i kind : ℕ} → part_at t.rows k ≡ Composite kind → stands_at (has t.words.operator_first) kind (seen_at t i) ≡ true
+      → Derives t (single k) i (i + eaten (eat_steps t.words kind (seen_at t i)))
+  class : {k i set : ℕ} → part_at t.rows k ≡ Class set → set_has t.sets set (kind_of t i) ≡ true → Derives t (single k) i (i + 1)
+  name : {k i set : ℕ} → part_at t.rows k ≡ Name set → set_has t.sets set (kind_of t i) ≡ true → Derives t (single k) i (i + 1)
+  node : {k i j end kind : ℕ} → part_at t.rows k ≡ Node end kind → Derives t (block (k + 1) end) i j → Derives t (single k) i j
+  call : {k i j start end : ℕ} → part_at t.rows k ≡ Call start end → Derives t (block start end) i j → Derives t (single k) i j
+  one : {k i j end : ℕ} → part_at t.rows k ≡ Choice end → Derives t (choice (k + 1) end) i j → Derives t (single k) i j
+  taken : {k i j end : ℕ} → part_at t.rows k ≡ Optional end → Derives t (block (k + 1) end) i j → Derives t (single k) i j
+  left_out : {k i end : ℕ} → part_at t.rows k ≡ Optional end → Derives t (single k) i i
+  repeated : {k i j end : ℕ} → part_at t.rows k ≡ Repeat end → Derives t (turns (k + 1) end) i j → Derives t (single k) i j
+  listed : {k i j end separator : ℕ} → part_at t.rows k ≡ Items end separator → Derives t (items (k + 1) end separator) i j → Derives t (single k) i j
+  operators : {k i j end tails ceiling : ℕ} → part_at t.rows k ≡ Operators end tails → Derives t (operation k 0 ceiling) i j → Derives t (single k) i j
+  operand : {k i j table floor ceiling : ℕ} → part_at t.rows k ≡ Operand table floor → Derives t (operation table floor ceiling) i j → Derives t (single k) i j
+  arm : {start end first last i j : ℕ} → IsArm t.rows start end first last → Derives t (block first last) i j → Derives t (choice start end) i j
+  no_turn : {start end i : ℕ} → Derives t (turns start end) i i
+  turn : {start end i j m : ℕ} → Derives t (turns start end) i j → Derives t (block start end) j m → Derives t (turns start end) i m
+  first : {start end separator i j : ℕ} → Derives t (block start end) i j → Derives t (items start end separator) i j
+  next : {start end separator i j m : ℕ} → Derives t (items start end separator) i j → kind_of t j ≡ separator → Derives t (block start end) (j + 1) m
+      → Derives t (items start end separator) i m
+  stands : {k i j floor end tails first last : ℕ} → part_at t.rows k ≡ Operators end tails → IsOperand t.rows (k + 1) tails first last
+      → Derives t (block first last) i j → Derives t (operation k floor 65535) i j
+  operates : {k i j m floor ceiling end tails first last level next_ceiling : ℕ} → Derives t (operation k floor ceiling) i j
+      → part_at t.rows k ≡ Operators end tails → IsTail t.rows tails end first last level next_ceiling → floor ≤ level → level ≤ ceiling
+      → Derives t (block first last) j m → Derives t (operation k floor next_ceiling) i m
+
+-- ---- runs
+
+-- If a run told no error, it had told none before, and the span derives what it ate.
+pub record Derived (t : Text) (span : Span) (before after : Option ℕ) (i j : ℕ) : Type 0 where
+  pub clean : after ≡ None → before ≡ None
+  pub derives : after ≡ None → Derives t span i j
+
+-- If a run told no error, it had told none before, and this holds.
+pub record IfClean (before after : Option ℕ) (fact : Type 0) : Type 0 where
+  pub clean : after ≡ None → before ≡ None
+  pub holds : after ≡ None → fact
+
+abbrev pub weight : Option ℕ → ℕ
+weight None = 0
+weight (Some place) = 1
+
+-- Where an error is told for the first time, one more is recorded than before.
+pub record Counts (before after : Option ℕ) (old new : State) : Type 0 where
+  pub keeps : Keeps old new
+  pub errors : HasNotFailed new → errors_of old.draft.items + weight after ≤ errors_of new.draft.items + weight before
+
+-- One node over all tokens. If there is no error in it, the rule of a file derives them.
+pub record IsFile (rows sets : List (List ℕ)) (words : Words) (start end : ℕ) (input : List Entry) (draft : Draft) : Type 0 where
+  pub whole : IsWholeFile input draft
+  pub derived : errors_of draft.items ≡ 0
+      → Derives (record { rows = rows; sets = sets; words = words; input = input; limit = length input }) (block start end) 0 (length input)
