@@ -76,3 +76,8 @@ counts_any {a} {b} {t} {u} p = record {
       let first : errors_of a.draft.items + weight u ≤ errors_of b.draft.items + weight None = p.errors goes in
       omega arith;
 }
+
+-- no error was told
+pub untold : (t : Option ℕ) → weight t ≤ 0 → t ≡ None
+untold None le = refl
+untold (Some place) le = absurd (omega arith)

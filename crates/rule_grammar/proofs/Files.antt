@@ -26,9 +26,9 @@ grows {a} {b} some goes =
     let more : errors_of a.draft.items + weight None ≤ errors_of b.draft.items + weight None = (counts_some {t = None} some).errors goes in
     omega arith
 
-pub file-all : {table : Table} {words : Words} {start end : ℕ} {a b c d : State} {m : Mark} {kind : ℕ} → IsFresh a → a.words ≡ words
+pub file-all : (table : Table) {words : Words} {start end : ℕ} {a b c d : State} {m : Mark} {kind : ℕ} → IsFresh a → a.words ≡ words
     → Begins m a b → Content table start end b c → Completes m.id kind c d → kind_at c 0 ≡ EOF → HasNotFailed d → IsFile table.rows.now table.sets.now words start end a.input d.draft
-file-all {table} {words} {start} {end} {a} {b} {c} {d} {m} {kind} fresh words_are begins file completes at goes = record {
+file-all table {words} {start} {end} {a} {b} {c} {d} {m} {kind} fresh words_are begins file completes at goes = record {
   whole = whole_some fresh begins file.some completes at goes;
   derived = λ none.
       let goes_c = went completes.keeps goes in

@@ -1,0 +1,15 @@
+use Rattle.std.proofs.Common.{◌≡◌, ◌+◌, ◌≤◌, ap, arith}
+use Rattle.squawk_output.specs.Draft.{errors_of}
+use Rattle.rule_grammar.specs.Derivations.{weight}
+use Rattle.rule_grammar.proofs.Counted.{counts_then, untold}
+use Rattle.rule_grammar.proofs.Derived.{still}
+use Rattle.rule_grammar.proofs.rules.content.Goals as goal
+
+pub returns-clause-derives : goal.returns-clause-derives
+returns-clause-derives c = λ goes same.
+    let ran = c.block.ensures in
+    let rest = c.left_over.ensures in
+    let begun = ap weight c.new-told.ensures in
+    let counted = (counts_then ran.counts rest.counts).errors goes in
+    let clean = untold c.left_over.new.told.place (omega (arith, begun, counted, same)) in
+    (still ran.derives rest.told).derives clean
