@@ -12,8 +12,10 @@ mod recovery;
 mod rules;
 mod run;
 mod table;
-mod told;
+#[cfg(test)]
+mod tests;
 mod tokens;
+mod told;
 
 pub use rules::{DEPTH, Rules};
 pub use table::Table;

@@ -38,11 +38,7 @@ pub(crate) enum Part {
     /// By a table of operators: an operand, and operators after it whose level is `floor` at least.
     Operand { operators: u16, floor: u16 },
     /// An operator with what stands on its right. The level of the operator after it is `ceiling` at most.
-    Tail {
-        end: u16,
-        level: u16,
-        ceiling: u16,
-    },
+    Tail { end: u16, level: u16, ceiling: u16 },
 }
 
 /// The part that a row is.

@@ -12,8 +12,8 @@ use crate::recovery::{
     associate, expect_one, is_next, is_separated, missing, no_operand, too_deep,
 };
 use crate::table::{Block, Table, after};
-use crate::told::Told;
 use crate::tokens::{class, composite, name, token};
+use crate::told::Told;
 use squawk_parser::{CompletedMarker, Parser, SyntaxKind};
 
 /// The parts in some rows, one after another. So many more rules may be called in one another.
@@ -85,7 +85,18 @@ fn step(
             row + 1
         }
         Part::Node { end, kind } => {
-            node(table, Block { start: row + 1, end }, kind, chain, depth, told, p);
+            node(
+                table,
+                Block {
+                    start: row + 1,
+                    end,
+                },
+                kind,
+                chain,
+                depth,
+                told,
+                p,
+            );
             after(row, end)
         }
         Part::Choice { end } => {
@@ -152,7 +163,10 @@ fn choice(
     ensures derives { Derived (text_of table.now p.old) (choice (row + 1) end) told.old.place told.new.place p.old.position p.new.position }
     ensures counts { Counts told.old.place told.new.place p.old p.new }
 {
-    let arms = Block { start: row + 1, end };
+    let arms = Block {
+        start: row + 1,
+        end,
+    };
     expect_one(table, row, chain, told, p);
     match table.arm(arms, p) {
         Some(arm) => block(table, arm, chain, depth, told, p),
@@ -180,7 +194,17 @@ fn optional(
     ensures counts { Counts told.old.place told.new.place p.old p.new }
 {
     if is_next(table, row, chain, told, p) {
-        block(table, Block { start: row + 1, end }, chain, depth, told, p);
+        block(
+            table,
+            Block {
+                start: row + 1,
+                end,
+            },
+            chain,
+            depth,
+            told,
+            p,
+        );
     }
 }
 
@@ -201,7 +225,10 @@ fn repeat(
     ensures derives { Derived (text_of table.now p.old) (turns (row + 1) end) told.old.place told.new.place p.old.position p.new.position }
     ensures counts { Counts told.old.place told.new.place p.old p.new }
 {
-    let rows = Block { start: row + 1, end };
+    let rows = Block {
+        start: row + 1,
+        end,
+    };
     while is_next(table, row, chain, told, p) {
         let place = p.position();
         block(table, rows, chain, depth, told, p);
@@ -229,7 +256,10 @@ fn list(
     ensures derives { Derived (text_of table.now p.old) (items (row + 1) end separator) told.old.place told.new.place p.old.position p.new.position }
     ensures counts { Counts told.old.place told.new.place p.old p.new }
 {
-    let rows = Block { start: row + 1, end };
+    let rows = Block {
+        start: row + 1,
+        end,
+    };
     block(table, rows, chain, depth, told, p);
     while is_separated(table, row, separator, chain, told, p) {
         p.bump_any();
@@ -280,7 +310,15 @@ fn inner_operand(
     if depth == 0 {
         too_deep(table, row, chain, told, p);
     } else {
-        operators(table, operators_row, floor, &chain.with(row), depth - 1, told, p);
+        operators(
+            table,
+            operators_row,
+            floor,
+            &chain.with(row),
+            depth - 1,
+            told,
+            p,
+        );
     }
 }
 
@@ -359,7 +397,13 @@ fn operand(
         → Derived (text_of table.now p.old) (operation row floor 65535) told.old.place told.new.place p.old.position p.new.position }
     ensures counts { Counts told.old.place told.new.place p.old p.new }
 {
-    match table.operand(Block { start: row + 1, end }, p) {
+    match table.operand(
+        Block {
+            start: row + 1,
+            end,
+        },
+        p,
+    ) {
         Some((kind, rows)) => node(table, rows, kind, chain, depth, told, p),
         None => no_operand(table, row, chain, told, p),
     }

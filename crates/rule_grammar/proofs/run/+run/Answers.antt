@@ -201,7 +201,7 @@ pub operation-returns-clause-counts : goal.operation-returns-clause-counts
 operation-returns-clause-counts t c =
     let judged = subst (λ v. Counts v c.associate.new.told.place c.precede-node.new.p c.associate.new.p) c.enter-outer.ensures c.associate.ensures.counts in
     let whole = counts_then (counts_preceded c.precede-node.ensures.precedes)
-        (counts_then judged (counts_then c.block.ensures.counts (counts_completed c.complete.ensures.completes))) in
+    (counts_then judged (counts_then c.block.ensures.counts (counts_completed c.complete.ensures.completes))) in
     subst (λ v. Counts c.args.told.now.place v c.args.p.now c.complete.new.p) (sym c.leave.ensures.place) whole
 
 pub climb-loop-operator-init : goal.climb-loop-operator-init

@@ -1,0 +1,240 @@
+//! Texts by a table of rules, with the trees that they have:
+//!
+//! ```text
+//! file = (statement ';')*
+//! statement = expression                                        => STATEMENT
+//! expression = operand: IDENT => NAME | '(' expression ')' => PAREN
+//!     level 1, left: '+' => SUM;  level 2, none: '=' => EQUALITY;  level 3, left: '*' => PRODUCT
+//! ```
+
+use crate::{Rules, Table};
+use squawk_parser::{
+    EntryPoint, NoKeywords, OwnedStep, StepList, SyntaxKind, Token, TokenKind, parse_whole_into,
+};
+use std::alloc::{AllocError, Global};
+use std::fmt::Write;
+use std::test::Fail;
+
+/// No set.
+const NONE: u16 = 65535;
+
+const IDENT: u16 = SyntaxKind::IDENT.0;
+
+const SEMICOLON: u16 = SyntaxKind::SEMICOLON.0;
+
+const L_PAREN: u16 = SyntaxKind::L_PAREN.0;
+
+const R_PAREN: u16 = SyntaxKind::R_PAREN.0;
+
+const PLUS: u16 = SyntaxKind::PLUS.0;
+
+const STAR: u16 = SyntaxKind::STAR.0;
+
+const EQ: u16 = SyntaxKind::EQ.0;
+
+const STATEMENT: u16 = 700;
+
+const NAME: u16 = 701;
+
+const PAREN: u16 = 702;
+
+const SUM: u16 = 703;
+
+const EQUALITY: u16 = 704;
+
+const PRODUCT: u16 = 705;
+
+const ROOT: SyntaxKind = SyntaxKind(706);
+
+#[rattlefmt::skip]
+static ROWS: [[u16; 8]; 27] = [
+    // The file: statements, each with a semicolon.
+    [256 + 10, 3, 0, 0, NONE, NONE, 0, 3],
+    [12, 5, 3, 0, 1, NONE, 0, 0],
+    [256 + 1, 0, SEMICOLON, 1, 0, NONE, 0, 1],
+    // A statement.
+    [256 + 5, 5, STATEMENT, 0, NONE, NONE, 0, 0],
+    [256 + 12, 27, 5, 0, NONE, NONE, 0, 0],
+    // An expression: its operands,
+    [256 + 13, 27, 14, 0, NONE, NONE, 3, 0],
+    [8, 9, 0, 4, NONE, NONE, 0, 0],
+    [5, 9, NAME, 4, NONE, NONE, 0, 0],
+    [256 + 1, 0, IDENT, 4, 3, NONE, 0, 0],
+    [8, 14, 0, 5, NONE, NONE, 0, 0],
+    [5, 14, PAREN, 5, NONE, NONE, 0, 0],
+    [1, 0, L_PAREN, 5, 0, NONE, 0, 0],
+    [12, 27, 5, 0, 2, NONE, 0, 0],
+    [256 + 1, 0, R_PAREN, 2, 3, NONE, 0, 2],
+    // and its operators.
+    [15, 18, 1, 6, NONE, NONE, 0, 0],
+    [6, 0, SUM, NONE, NONE, NONE, 0, 0],
+    [1, 0, PLUS, 6, 0, NONE, 0, 0],
+    [256 + 14, 5, 2, 0, 3, NONE, 0, 0],
+    [16, 22, 2, 7, NONE, NONE, 0, 0],
+    [6, 0, EQUALITY, NONE, NONE, NONE, 0, 0],
+    [1, 0, EQ, 7, 0, NONE, 0, 0],
+    [256 + 14, 5, 3, 0, 3, NONE, 0, 0],
+    [15, 26, 3, 8, NONE, NONE, 0, 0],
+    [6, 0, PRODUCT, NONE, NONE, NONE, 0, 0],
+    [1, 0, STAR, 8, 0, NONE, 0, 0],
+    [256 + 14, 5, 4, 0, 3, NONE, 0, 0],
+    [0, 0, 0, NONE, NONE, NONE, 0, 0],
+];
+
+/// The set of these kinds.
+macro_rules! set {
+    (@word $word:expr; $($kind:expr),*) => { 0u16 $(| ((($kind / 16 == $word) as u16) << ($kind % 16)))* };
+    ($($kind:expr),*) => { [
+        set!(@word 0; $($kind),*), set!(@word 1; $($kind),*), set!(@word 2; $($kind),*), 0, 0, 0, 0, 0, 0, 0,
+        0, 0, 0, 0, 0, 0, 0, 0, 0, 0, 0, 0, 0, 0, 0, 0, 0, 0, 0, 0, 0, 0, 0, 0, 0, 0, 0, 0, 0, 0,
+    ] };
+}
+
+#[rattlefmt::skip]
+static SETS: [[u16; 40]; 9] = [
+    set![IDENT, L_PAREN], set![SEMICOLON], set![R_PAREN], set![PLUS, EQ, STAR],
+    set![IDENT], set![L_PAREN], set![PLUS], set![EQ], set![STAR],
+];
+
+static MESSAGES: [&str; 4] = [
+    "expected an expression",
+    "expected ;",
+    "expected )",
+    "expected a statement",
+];
+
+/// The raw tokens of a text whose characters are tokens by themselves.
+fn tokens_of(alloc: Global, text: &str) -> Result<Vec<Token>, AllocError> {
+    let mut tokens = Vec::new(alloc);
+    for byte in text.bytes() {
+        let kind = match byte {
+            b' ' => TokenKind::Whitespace,
+            b'(' => TokenKind::OpenParen,
+            b')' => TokenKind::CloseParen,
+            b';' => TokenKind::Semi,
+            b',' => TokenKind::Comma,
+            b'+' => TokenKind::Plus,
+            b'*' => TokenKind::Star,
+            b'=' => TokenKind::Eq,
+            _ => TokenKind::Ident,
+        };
+        tokens.push(Token { kind, len: 1 })?;
+    }
+    Ok(tokens)
+}
+
+/// What a node of the kind is called.
+fn called(kind: SyntaxKind) -> &'static str {
+    match kind.0 {
+        STATEMENT => "STATEMENT",
+        NAME => "NAME",
+        PAREN => "PAREN",
+        SUM => "SUM",
+        EQUALITY => "EQUALITY",
+        PRODUCT => "PRODUCT",
+        2 => "ERROR",
+        706 => "FILE",
+        _ => "?",
+    }
+}
+
+/// The line of steps: `NAME{a}` is a node with a token in it, and `!expected ;` an error.
+fn line_of(alloc: Global, steps: &[OwnedStep]) -> Result<String, AllocError> {
+    let mut line = String::new(alloc);
+    for step in steps {
+        match step {
+            OwnedStep::Enter { kind } => write!(line, "{}{{", called(*kind))?,
+            OwnedStep::Token { kind: _, text } => line.push_str(text.as_str())?,
+            OwnedStep::Error { msg, pos: _ } => write!(line, "!{}!", msg.as_str())?,
+            OwnedStep::Exit => line.push('}')?,
+        }
+    }
+    Ok(line)
+}
+
+/// The line of a text's tree, where rules may be called in one another so often.
+fn parsed(alloc: Global, text: &str, depth: u32) -> Result<String, Fail> {
+    let rules = Rules {
+        table: Table {
+            rows: &ROWS,
+            sets: &SETS,
+            looks: &[],
+            messages: &MESSAGES,
+        },
+        start: 0,
+        end: 3,
+        root: ROOT,
+        depth,
+        names: &[],
+    };
+    let tokens = tokens_of(alloc, text)?;
+    let mut list = StepList::new(alloc);
+    let entry = EntryPoint::SourceFile;
+    parse_whole_into(alloc, text, &tokens, &NoKeywords, &rules, entry, &mut list)?;
+    Ok(line_of(alloc, list.steps())?)
+}
+
+/// Texts, and what is in their files.
+static CASES: [(&str, &str); 14] = [
+    ("", ""),
+    ("a;", "STATEMENT{NAME{a}};"),
+    (
+        "a+b*c;",
+        "STATEMENT{SUM{NAME{a}+PRODUCT{NAME{b}*NAME{c}}}};",
+    ),
+    (
+        "a*b+c;",
+        "STATEMENT{SUM{PRODUCT{NAME{a}*NAME{b}}+NAME{c}}};",
+    ),
+    ("a+b+c;", "STATEMENT{SUM{SUM{NAME{a}+NAME{b}}+NAME{c}}};"),
+    (
+        "(a+b)*c;",
+        "STATEMENT{PRODUCT{PAREN{(SUM{NAME{a}+NAME{b}})}*NAME{c}}};",
+    ),
+    (
+        "a=b;c;",
+        "STATEMENT{EQUALITY{NAME{a}=NAME{b}}};STATEMENT{NAME{c}};",
+    ),
+    // What is missing is one error, and eats nothing. An error after the end of a node is sent before that end.
+    (
+        "a+;b;",
+        "STATEMENT{SUM{NAME{a}+!expected an expression!ERROR{}}};STATEMENT{NAME{b}};",
+    ),
+    ("a b;", "STATEMENT{NAME{a}!expected ;!} STATEMENT{NAME{b}};"),
+    ("(a;", "STATEMENT{PAREN{(NAME{a!expected )!}}};"),
+    ("a", "STATEMENT{NAME{a}!expected ;!}"),
+    // What nobody expects is skipped.
+    ("a));", "STATEMENT{NAME{a}}ERROR{!expected ;!))};"),
+    (",a;", "ERROR{!expected a statement!,}STATEMENT{NAME{a}};"),
+    // An operator that doesn't associate.
+    (
+        "a=b=c;",
+        "STATEMENT{EQUALITY{EQUALITY{NAME{a}=NAME{b}!this operator doesn't associate: use parentheses!}=NAME{c}}};",
+    ),
+];
+
+#[test]
+fn parses_cases(rt: HostRuntime) -> Result<(), Fail> {
+    for (text, wanted) in &CASES {
+        let line = parsed(rt.alloc(), text, crate::DEPTH)?;
+        let wanted = format!(in rt.alloc(); "FILE{{{wanted}}}")?;
+        assert_eq!(rt; line.as_str(), wanted.as_str(), "{text}");
+    }
+    Ok(())
+}
+
+/// A statement and an expression are two rules, and an expression in parentheses is one more.
+#[test]
+fn stops_at_the_depth(rt: HostRuntime) -> Result<(), Fail> {
+    let whole = parsed(rt.alloc(), "((a));", 4)?;
+    assert_eq!(rt;
+        whole.as_str(),
+        "FILE{STATEMENT{PAREN{(PAREN{(NAME{a})})}};}"
+    );
+    let cut = parsed(rt.alloc(), "(((a)));", 3)?;
+    assert_eq!(rt;
+        cut.as_str(),
+        "FILE{STATEMENT{PAREN{(PAREN{(ERROR{!nested too deep!(a)})})}};}"
+    );
+    Ok(())
+}
