@@ -27,7 +27,7 @@ pub struct Rules<'r> {
     pub end: u16,
     /// The kind of the root.
     pub root: SyntaxKind,
-    /// How many rules may be called in one another.
+    /// How many rules may be called in one another. A call takes stack, and so does each part inside of another.
     pub depth: u32,
     /// What errors call kinds.
     pub names: &'r [(SyntaxKind, &'r str)],

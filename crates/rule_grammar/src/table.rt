@@ -15,7 +15,7 @@ const NO_SET: u16 = u16::MAX;
 ///
 /// | number of a row | meaning |
 /// |---|---|
-/// | 0 | which part it is, and 256 more if its rule may end after it |
+/// | 0 | which part it is, as below, and 256 more if its rule may end after it |
 /// | 1 | the row after the last one in it |
 /// | 2 | its kind, set or level, or the row of the rule that it calls |
 /// | 3 | the set of kinds that it can begin with |
@@ -23,6 +23,21 @@ const NO_SET: u16 = u16::MAX;
 /// | 5 | the set of further kinds at which its rule goes on after an error |
 /// | 6 | its look, or 0; of operators the set of kinds that one begins with |
 /// | 7 | its message: what is expected |
+///
+/// | part | what it is |
+/// |---|---|
+/// | 1, 2 | a token of a kind; the tokens of a composite kind |
+/// | 3, 4 | a token whose kind is in a set; the same, as an identifier |
+/// | 5, 6 | a node of a kind; the kind that the node around it gets |
+/// | 7, 8 | a choice of the arms in it; an arm |
+/// | 9, 10 | what is in it, or nothing; any number of times |
+/// | 11 | what is in it, once or more, with a separator |
+/// | 12 | a call of the rule from the row of number 2 up to that of number 1 |
+/// | 13 | an operand, one of its arms, each a node, and the operators after it, which begin at the row of number 2 |
+/// | 14 | an operand of an operator: the row of the operators in number 1, their least level in number 2 |
+/// | 15, 16, 17 | an operator of a level: one that associates, one that doesn't, one without a right operand |
+///
+/// Any other part is nothing.
 #[derive(Clone, Copy)]
 pub struct Table<'r> {
     pub rows: &'r [[u16; 8]],

@@ -4,7 +4,7 @@ ghost use Rattle.squawk_kinds.specs.Kinds.{TOMBSTONE};
 
 use squawk_kinds::SyntaxKind;
 
-/// What a run keeps: the place of its last error, a place at which the token may stand, and the kind of the innermost
+/// What a run keeps: the place of its last error, the last place whose token was judged, and the kind of the innermost
 /// node so far.
 #[derive(Drop)]
 pub(crate) struct Told {
@@ -43,13 +43,13 @@ impl Told {
         self.place = Some(place);
     }
 
-    /// Whether it was seen that the token at a place may stand there, or an error was told at it.
+    /// Whether the token at a place was judged already, or an error was told at it.
     #[inline(always)]
     pub(crate) fn is_settled(&self, place: usize) -> bool {
         self.seen == Some(place) || self.place == Some(place)
     }
 
-    /// Notes that the token at a place may stand there.
+    /// Notes that the token at a place is judged.
     pub(crate) fn settle(&mut self, place: usize)
         ensures { self.new.place ≡ self.old.place }
     {
