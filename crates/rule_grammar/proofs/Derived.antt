@@ -58,9 +58,3 @@ module _ {x : Text} where
     clean = λ n. e.clean (d.clean n);
     derives = λ n. subst (λ (k : ℕ). Derives x p k m) (e.holds (d.clean n)) (d.derives n);
   }
-
-pub if_told : {t u : Option ℕ} {fact : Type 0} → IsSome u → IfClean t u fact
-if_told {t} {u} {fact} is = record { clean = λ n. absurd (none is n); holds = λ n. absurd (none is n) }
-  where
-    none : IsSome u → u ≡ None → ⊥
-    none is n = let bad : false ≡ true = subst IsSome n is in cc
