@@ -19,7 +19,7 @@ pub(crate) struct Extent {
     pub(crate) statement: Statement,
 }
 
-/// Where the statement at the position ends.
+/// Where the statement at the position ends. What its `statement` says chooses nodes inside of it: no clause speaks of it, cases do.
 pub(crate) fn first_extent(p: &Parser<'_>) -> Extent
     ensures { result.len ≡ len_of (kinds_in (ahead p.now 0)) }
 {

@@ -220,7 +220,7 @@ fn brackets_after(unclosed: usize, word: Word) -> usize
     }
 }
 
-/// What a word of a routine is: after `.` and AS a name.
+/// What a word of a routine is: after `.` and AS, those that open or close a block are names.
 fn read_as(before: Before, word: Word) -> Word
     ensures { result ≡ spec.read_as before word }
 {
