@@ -1,10 +1,13 @@
 -- From part to part: what is derived by calls one after another.
-use Rattle.std.specs.Prelude.{◌≡◌, ℕ, ◌+◌, Bool, true, false, Option, Some, None, List, [], IsSome}
+use Rattle.std.specs.Prelude.{◌≡◌, ℕ, ◌+◌, ◌≤◌, Bool, true, false, Option, Some, None, List, [], IsSome}
 use Rattle.squawk_parser.specs.SomeSteps.{AddsSome}
 use Rattle.std.proofs.Common.{sym, subst, ap, ◌∙◌, refl}
 use Rattle.squawk_parser.specs.State.{State, Keeps}
 use Rattle.rule_grammar.specs.declared.table.Table.{Table}
-use Rattle.rule_grammar.specs.Derivations.{Text, text_of, Span, Derives, Derived, IfClean}
+use Rattle.rule_grammar.specs.Derivations.{Text, text_of, Span, Derives, Derived, IfClean, next_of}
+use Rattle.rule_grammar.specs.Derivations.Derives.{none, more, all}
+use Rattle.rule_grammar.specs.Derivations.Span.{block, single}
+use Rattle.rule_grammar.specs.Parts.{part_at}
 
 pub some_then : {a b c : State} → AddsSome a b → AddsSome b c → AddsSome a c
 some_then {a} p q = record {
@@ -58,3 +61,7 @@ module _ {x : Text} where
     clean = λ n. e.clean (d.clean n);
     derives = λ n. subst (λ (k : ℕ). Derives x p k m) (e.holds (d.clean n)) (d.derives n);
   }
+
+  -- one part is all that is in some rows
+  pub alone : {k end : ℕ} {t u : Option ℕ} {i j : ℕ} → Derived x (single k) t u i j → end ≤ next_of k (part_at x.rows k) → Derived x (block k end) t u i j
+  alone d to = as_part d (λ one. all to (more none one))

@@ -13,7 +13,7 @@ use Rattle.squawk_parser.specs.Whole.{IsWholeFile}
 use Rattle.squawk_parser.specs.Words.{Words}
 use Rattle.rule_grammar.specs.Parts.{part_at, set_has}
 use Rattle.rule_grammar.specs.declared.part.Part as part
-use Rattle.rule_grammar.specs.declared.part.Part.TheVariants.{Nothing, Token, Composite, Class, Name, Node, Becomes, Choice, Arm, Optional, Repeat, List as Items, Call, Operators, Operand, Tail}
+use Rattle.rule_grammar.specs.declared.part.Part.TheVariants.{Nothing, Token, Composite, Class, Name, Node, Becomes, Choice, Arm, Optional, Repeat, List as Items, Call, Operators, Operand, Tail, Some as Once}
 use Rattle.rule_grammar.specs.declared.table.Table.{Table}
 
 -- rules, and the tokens that are parsed by them
@@ -48,7 +48,10 @@ next_of k (Choice end) = row_after k end
 next_of k (Optional end) = row_after k end
 next_of k (Repeat end) = row_after k end
 next_of k (Items end separator) = row_after k end
-next_of k (Operators end tails) = row_after k end
+next_of k (Operators end) = row_after k end
+next_of k (Once end) = row_after k end
+next_of k (Arm end) = row_after k end
+next_of k (Tail end level ceiling) = row_after k end
 next_of k part = k + 1
 
 -- parts that eat nothing
@@ -59,37 +62,23 @@ is_silent (Arm end) = true
 is_silent (Tail end level ceiling) = true
 is_silent part = false
 
--- from an arm over others to another
-pub data ToArm (list : List (List ℕ)) (start : ℕ) : ℕ → Type 0 where
-  at_arm : ToArm list start start
-  over_arm : {k end : ℕ} → ToArm list start k → part_at list k ≡ Arm end → ToArm list start (row_after k end)
-
--- from an operator over others to another
-pub data ToTail (list : List (List ℕ)) (start : ℕ) : ℕ → Type 0 where
-  at_tail : ToTail list start start
-  over_tail : {k end level ceiling : ℕ} → ToTail list start k → part_at list k ≡ Tail end level ceiling → ToTail list start (row_after k end)
+-- from one of the rows that stand beside one another to another
+pub data Beside (list : List (List ℕ)) (start : ℕ) : ℕ → Type 0 where
+  at_first : Beside list start start
+  over_one : {k : ℕ} → Beside list start k → Beside list start (next_of k (part_at list k))
 
 -- an arm, of those from start up to end: the rows in it
 pub record IsArm (list : List (List ℕ)) (start end first last : ℕ) : Type 0 where
   pub at : ℕ
-  pub to : ToArm list start at
+  pub to : Beside list start at
   pub within : at < end
   pub is : part_at list at ≡ Arm last
-  pub first_is : first ≡ at + 1
-
--- an operand, of the arms from start up to end: the rows of the node that the arm is
-pub record IsOperand (list : List (List ℕ)) (start end first last : ℕ) : Type 0 where
-  pub at : ℕ
-  pub arm_end : ℕ
-  pub kind : ℕ
-  pub arm : IsArm list start end at arm_end
-  pub is : part_at list at ≡ Node last kind
   pub first_is : first ≡ at + 1
 
 -- an operator, of those from start up to end: the rows in it
 pub record IsTail (list : List (List ℕ)) (start end first last level ceiling : ℕ) : Type 0 where
   pub at : ℕ
-  pub to : ToTail list start at
+  pub to : Beside list start at
   pub within : at < end
   pub is : part_at list at ≡ Tail last level ceiling
   pub first_is : first ≡ at + 1
@@ -124,9 +113,10 @@ pub data Derives (t : Text) : Span → ℕ → ℕ → Type 0 where
   one : {k i j end : ℕ} → part_at t.rows k ≡ Choice end → Derives t (choice (k + 1) end) i j → Derives t (single k) i j
   taken : {k i j end : ℕ} → part_at t.rows k ≡ Optional end → Derives t (block (k + 1) end) i j → Derives t (single k) i j
   left_out : {k i end : ℕ} → part_at t.rows k ≡ Optional end → Derives t (single k) i i
+  some : {k i j m end : ℕ} → part_at t.rows k ≡ Once end → Derives t (block (k + 1) end) i j → Derives t (turns (k + 1) end) j m → Derives t (single k) i m
   repeated : {k i j end : ℕ} → part_at t.rows k ≡ Repeat end → Derives t (turns (k + 1) end) i j → Derives t (single k) i j
   listed : {k i j end separator : ℕ} → part_at t.rows k ≡ Items end separator → Derives t (items (k + 1) end separator) i j → Derives t (single k) i j
-  operators : {k i j end tails ceiling : ℕ} → part_at t.rows k ≡ Operators end tails → Derives t (operation k 0 ceiling) i j → Derives t (single k) i j
+  operators : {k i j end ceiling : ℕ} → part_at t.rows k ≡ Operators end → Derives t (operation k 0 ceiling) i j → Derives t (single k) i j
   operand : {k i j table floor ceiling : ℕ} → part_at t.rows k ≡ Operand table floor → Derives t (operation table floor ceiling) i j → Derives t (single k) i j
   arm : {start end first last i j : ℕ} → IsArm t.rows start end first last → Derives t (block first last) i j → Derives t (choice start end) i j
   no_turn : {start end i : ℕ} → Derives t (turns start end) i i
@@ -134,10 +124,9 @@ pub data Derives (t : Text) : Span → ℕ → ℕ → Type 0 where
   first : {start end separator i j : ℕ} → Derives t (block start end) i j → Derives t (items start end separator) i j
   next : {start end separator i j m : ℕ} → Derives t (items start end separator) i j → kind_of t j ≡ separator → Derives t (block start end) (j + 1) m
       → Derives t (items start end separator) i m
-  stands : {k i j floor end tails first last : ℕ} → part_at t.rows k ≡ Operators end tails → IsOperand t.rows (k + 1) tails first last
-      → Derives t (block first last) i j → Derives t (operation k floor 65535) i j
-  operates : {k i j m floor ceiling end tails first last level next_ceiling : ℕ} → Derives t (operation k floor ceiling) i j
-      → part_at t.rows k ≡ Operators end tails → IsTail t.rows tails end first last level next_ceiling → floor ≤ level → level ≤ ceiling
+  stands : {k i j floor end : ℕ} → part_at t.rows k ≡ Operators end → Derives t (choice (k + 1) end) i j → Derives t (operation k floor 65535) i j
+  operates : {k i j m floor ceiling end first last level next_ceiling : ℕ} → Derives t (operation k floor ceiling) i j
+      → part_at t.rows k ≡ Operators end → IsTail t.rows (k + 1) end first last level next_ceiling → floor ≤ level → level ≤ ceiling
       → Derives t (block first last) j m → Derives t (operation k floor next_ceiling) i m
 
 -- ---- runs

@@ -1,7 +1,7 @@
 -- Rows as parts of rules, and sets of kinds.
 use Rattle.std.specs.Prelude.{ℕ, ◌-◌, ◌/◌, ◌%◌, ◌^◌, ◌==◌, Bool, false, Option, Some, None, List, slice_get, slice_index, if◌then◌else◌}
 use Rattle.rule_grammar.specs.declared.part.Part.{Part}
-use Rattle.rule_grammar.specs.declared.part.Part.TheVariants.{Nothing, Token, Composite, Class, Name, Node, Becomes, Choice, Arm, Optional, Repeat, List as Items, Call, Operators, Operand, Tail}
+use Rattle.rule_grammar.specs.declared.part.Part.TheVariants.{Nothing, Token, Composite, Class, Name, Node, Becomes, Choice, Arm, Optional, Repeat, List as Items, Call, Operators, Operand, Tail, Some as Once}
 
 -- the part by the numbers 0, 1 and 2 of a row
 abbrev pub part_by : ℕ → ℕ → ℕ → Part
@@ -18,11 +18,12 @@ part_by tag end number =
     else if tag == 10 then Repeat end
     else if tag == 11 then Items end number
     else if tag == 12 then Call number end
-    else if tag == 13 then Operators end number
+    else if tag == 13 then Operators end
     else if tag == 14 then Operand end number
     else if tag == 15 then Tail end number number
     else if tag == 16 then Tail end number (number - 1)
     else if tag == 17 then Tail end number 65535
+    else if tag == 18 then Once end
     else Nothing
 
 abbrev pub part_of : List ℕ → Part

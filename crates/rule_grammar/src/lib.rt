@@ -1,12 +1,12 @@
 //! Grammars as data: rules are tables of numbers, and one interpreter runs any of them.
 //!
 //! ```text
-//! Table   the rules: rows of parts, sets of kinds, looks at further tokens, messages
-//! Rules   a table with the rule that a file begins with, as a grammar
+//! Table         the rules: rows of parts, sets of kinds, looks at further tokens, messages
+//! RuleGrammar   a table with the rule that a file begins with, as a grammar
 //! ```
 #![tactic(auto)]
 
-mod chain;
+mod open;
 mod part;
 mod recovery;
 mod rules;
@@ -17,5 +17,6 @@ mod tests;
 mod tokens;
 mod told;
 
-pub use rules::{DEPTH, Rules};
+pub use part::Part;
+pub use rules::{DEPTH, RuleGrammar};
 pub use table::Table;

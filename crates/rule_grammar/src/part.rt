@@ -6,7 +6,7 @@ use squawk_kinds::SyntaxKind;
 
 /// A part of a rule. What is in it stands in the rows after its own, up to row `end`.
 #[derive(Clone, Copy, Debug, PartialEq, Eq)]
-pub(crate) enum Part {
+pub enum Part {
     /// Nothing: the row is none of the others.
     Nothing,
     /// A token of the kind.
@@ -33,8 +33,10 @@ pub(crate) enum Part {
     List { end: u16, separator: SyntaxKind },
     /// The rule in these rows.
     Call { start: u16, end: u16 },
+    /// What is in it, once or more.
+    Some { end: u16 },
     /// An operand, which is one of its arms, and operators after it, which are its tails.
-    Operators { end: u16, tails: u16 },
+    Operators { end: u16 },
     /// By a table of operators: an operand, and operators after it whose level is `floor` at least.
     Operand { operators: u16, floor: u16 },
     /// An operator with what stands on its right. The level of the operator after it is `ceiling` at most.
@@ -65,7 +67,7 @@ pub(crate) fn part_of(row: &[u16; 8]) -> Part
             separator: kind,
         },
         12 => Part::Call { start: number, end },
-        13 => Part::Operators { end, tails: number },
+        13 => Part::Operators { end },
         14 => Part::Operand {
             operators: end,
             floor: number,
@@ -74,6 +76,7 @@ pub(crate) fn part_of(row: &[u16; 8]) -> Part
         15 => tail(end, number, number),
         16 => tail(end, number, number.saturating_sub(1)),
         17 => tail(end, number, u16::MAX),
+        18 => Part::Some { end },
         _ => Part::Nothing,
     }
 }

@@ -5,8 +5,7 @@ ghost use Rattle.squawk_kinds.specs.Kinds.{EOF};
 ghost use Rattle.squawk_parser.specs.SomeSteps.{AddsSome, AddsSomeNode};
 ghost use Rattle.squawk_parser.specs.State.{IsSound, kind_at};
 
-use crate::chain::Chain;
-use crate::table::Table;
+use crate::open::Open;
 use crate::told::Told;
 use squawk_parser::{CompletedMarker, Parser, SyntaxKind};
 
@@ -15,9 +14,8 @@ use squawk_parser::{CompletedMarker, Parser, SyntaxKind};
 #[cold]
 #[inline(never)]
 pub(crate) fn missing(
-    table: &Table<'_>,
+    rule: &Open<'_>,
     row: u16,
-    chain: &Chain<'_>,
     told: &mut Told,
     p: &mut Parser<'_>,
 )
@@ -27,7 +25,7 @@ pub(crate) fn missing(
     ensures counts { Counts told.old.place told.new.place p.old p.new }
 {
     if told.is_new(p.position()) {
-        tell(table, row, chain, p);
+        tell(rule, row, p);
         // A second error at the place after it is dropped.
         told.move_to(p.position());
     }
@@ -36,9 +34,8 @@ pub(crate) fn missing(
 /// Tells that what is in a row is missing, if the token at the position can't begin it.
 #[inline(always)]
 pub(crate) fn expect_one(
-    table: &Table<'_>,
+    rule: &Open<'_>,
     row: u16,
-    chain: &Chain<'_>,
     told: &mut Told,
     p: &mut Parser<'_>,
 )
@@ -47,46 +44,46 @@ pub(crate) fn expect_one(
     ensures told { IfClean told.old.place told.new.place (p.new.position ≡ p.old.position) }
     ensures counts { Counts told.old.place told.new.place p.old p.new }
 {
-    if !table.begins_with(row, p.current()) {
-        missing(table, row, chain, told, p);
+    if !rule.table.begins_with(row, p.current()) {
+        missing(rule, row, told, p);
     }
 }
 
-fn tell(table: &Table<'_>, row: u16, chain: &Chain<'_>, p: &mut Parser<'_>)
+fn tell(rule: &Open<'_>, row: u16, p: &mut Parser<'_>)
     requires { IsSound p.old }
     ensures adds { AddsSome p.old p.new }
     ensures counts { (place : ℕ) → Counts None (Some place) p.old p.new }
 {
-    if goes_on(table, row, chain, p) {
-        p.error(table.message(row));
+    if goes_on(rule, row, p) {
+        p.error(rule.table.message(row));
     } else {
-        skip(table, row, chain, p);
+        skip(rule, row, p);
     }
 }
 
 /// Whether no token is to be skipped after an error in a row.
-fn goes_on(table: &Table<'_>, row: u16, chain: &Chain<'_>, p: &Parser<'_>) -> bool {
-    p.current() == SyntaxKind::EOF || chain.goes_on_at(table, row, p.current())
+fn goes_on(rule: &Open<'_>, row: u16, p: &Parser<'_>) -> bool {
+    p.current() == SyntaxKind::EOF || rule.goes_on_at(row, p.current())
 }
 
 /// An error, and the tokens at which no open rule goes on.
-fn skip(table: &Table<'_>, row: u16, chain: &Chain<'_>, p: &mut Parser<'_>)
+fn skip(rule: &Open<'_>, row: u16, p: &mut Parser<'_>)
     ensures adds { AddsSome p.old p.new }
     ensures counts { (place : ℕ) → Counts None (Some place) p.old p.new }
 {
     let node = p.start();
-    p.error(table.message(row));
-    bump_to(table, row, chain, p);
+    p.error(rule.table.message(row));
+    bump_to(rule, row, p);
     node.complete(p, SyntaxKind::ERROR);
 }
 
 /// Eats tokens up to one at which an open rule goes on. Parentheses are eaten with what is in them.
-fn bump_to(table: &Table<'_>, row: u16, chain: &Chain<'_>, p: &mut Parser<'_>)
+fn bump_to(rule: &Open<'_>, row: u16, p: &mut Parser<'_>)
     requires { IsSound p.old }
     ensures { AddsSome p.old p.new }
 {
     let mut unclosed = 0usize;
-    while p.current() != SyntaxKind::EOF && (unclosed > 0 || !goes_on(table, row, chain, p)) {
+    while p.current() != SyntaxKind::EOF && (unclosed > 0 || !goes_on(rule, row, p)) {
         unclosed = unclosed_after(unclosed, p.current());
         p.bump_any();
     }
@@ -104,9 +101,8 @@ fn unclosed_after(unclosed: usize, kind: SyntaxKind) -> usize {
 /// an error, and tokens are skipped.
 #[inline(always)]
 pub(crate) fn is_next(
-    table: &Table<'_>,
+    rule: &Open<'_>,
     row: u16,
-    chain: &Chain<'_>,
     told: &mut Told,
     p: &mut Parser<'_>,
 ) -> bool
@@ -115,18 +111,17 @@ pub(crate) fn is_next(
     ensures told { IfClean told.old.place told.new.place (p.new.position ≡ p.old.position) }
     ensures counts { Counts told.old.place told.new.place p.old p.new }
 {
-    if table.stands(row, p) {
+    if rule.table.stands(row, p) {
         true
     } else {
-        is_after_others(table, row, chain, told, p)
+        is_after_others(rule, row, told, p)
     }
 }
 
 /// Whether it stands after tokens that are skipped.
 fn is_after_others(
-    table: &Table<'_>,
+    rule: &Open<'_>,
     row: u16,
-    chain: &Chain<'_>,
     told: &mut Told,
     p: &mut Parser<'_>,
 ) -> bool
@@ -135,9 +130,9 @@ fn is_after_others(
     ensures told { IfClean told.old.place told.new.place (p.new.position ≡ p.old.position) }
     ensures counts { Counts told.old.place told.new.place p.old p.new }
 {
-    if is_unexpected(table, row, chain, told, p) {
-        missing(table, row, chain, told, p);
-        table.stands(row, p)
+    if is_unexpected(rule, row, told, p) {
+        missing(rule, row, told, p);
+        rule.table.stands(row, p)
     } else {
         false
     }
@@ -145,9 +140,8 @@ fn is_after_others(
 
 /// Whether the token at the position stands at a place where no open rule goes on.
 fn is_unexpected(
-    table: &Table<'_>,
+    rule: &Open<'_>,
     row: u16,
-    chain: &Chain<'_>,
     told: &mut Told,
     p: &Parser<'_>,
 ) -> bool
@@ -158,16 +152,15 @@ fn is_unexpected(
         return false;
     }
     told.settle(place);
-    !chain.may_follow(table, row, p.current()) && !goes_on(table, row, chain, p)
+    !rule.may_follow(row, p.current()) && !goes_on(rule, row, p)
 }
 
 /// Whether a separator stands at the position, also after tokens that are skipped.
 #[inline(always)]
 pub(crate) fn is_separated(
-    table: &Table<'_>,
+    rule: &Open<'_>,
     row: u16,
     separator: SyntaxKind,
-    chain: &Chain<'_>,
     told: &mut Told,
     p: &mut Parser<'_>,
 ) -> bool
@@ -181,15 +174,14 @@ pub(crate) fn is_separated(
     if is_at(separator, p) {
         true
     } else {
-        is_separated_after_others(table, row, separator, chain, told, p)
+        is_separated_after_others(rule, row, separator, told, p)
     }
 }
 
 fn is_separated_after_others(
-    table: &Table<'_>,
+    rule: &Open<'_>,
     row: u16,
     separator: SyntaxKind,
-    chain: &Chain<'_>,
     told: &mut Told,
     p: &mut Parser<'_>,
 ) -> bool
@@ -200,8 +192,8 @@ fn is_separated_after_others(
     ensures counts { Counts told.old.place told.new.place p.old p.new }
     ensures some { result ≡ true → kind_at p.new 0 ≢ EOF }
 {
-    if is_unexpected(table, row, chain, told, p) {
-        missing(table, row, chain, told, p);
+    if is_unexpected(rule, row, told, p) {
+        missing(rule, row, told, p);
         is_at(separator, p)
     } else {
         false
@@ -234,9 +226,8 @@ pub(crate) fn associate(fits: bool, told: &mut Told, p: &mut Parser<'_>)
 #[cold]
 #[inline(never)]
 pub(crate) fn no_operand(
-    table: &Table<'_>,
+    rule: &Open<'_>,
     row: u16,
-    chain: &Chain<'_>,
     told: &mut Told,
     p: &mut Parser<'_>,
 ) -> CompletedMarker
@@ -245,7 +236,7 @@ pub(crate) fn no_operand(
     ensures counts { Counts told.old.place told.new.place p.old p.new }
 {
     let node = p.start();
-    missing(table, row, chain, told, p);
+    missing(rule, row, told, p);
     node.complete(p, SyntaxKind::ERROR)
 }
 
@@ -253,31 +244,30 @@ pub(crate) fn no_operand(
 #[cold]
 #[inline(never)]
 pub(crate) fn too_deep(
-    table: &Table<'_>,
+    rule: &Open<'_>,
     row: u16,
-    chain: &Chain<'_>,
     told: &mut Told,
     p: &mut Parser<'_>,
-)
-    ensures adds { AddsSome p.old p.new }
+) -> CompletedMarker
+    ensures adds { AddsSomeNode result p.old p.new }
     ensures tells { IsSome told.new.place }
     ensures counts { Counts told.old.place told.new.place p.old p.new }
 {
     let node = p.start();
     p.error("nested too deep");
-    bump_out(table, row, chain, p);
+    bump_out(rule, row, p);
     told.move_to(p.position());
-    node.complete(p, SyntaxKind::ERROR);
+    node.complete(p, SyntaxKind::ERROR)
 }
 
 /// Eats the token at the position and those after it up to one at which an open rule goes on.
-fn bump_out(table: &Table<'_>, row: u16, chain: &Chain<'_>, p: &mut Parser<'_>)
+fn bump_out(rule: &Open<'_>, row: u16, p: &mut Parser<'_>)
     requires { IsSound p.old }
     ensures { AddsSome p.old p.new }
 {
     let mut unclosed = 0usize;
     while p.current() != SyntaxKind::EOF
-        && (unclosed > 0 || !chain.may_follow(table, row, p.current()))
+        && (unclosed > 0 || !rule.may_follow(row, p.current()))
     {
         unclosed = unclosed_after(unclosed, p.current());
         p.bump_any();

@@ -7,7 +7,7 @@ ghost use Rattle.squawk_parser.specs.State.{HasNotFailed, IsSound, kind_at};
 ghost use Rattle.rule_grammar.specs.Derivations.{Counts, Derives, IfClean, text_of};
 ghost use Rattle.rule_grammar.specs.Derivations.Span.{block};
 
-use crate::chain::Chain;
+use crate::open::Open;
 use crate::run::block;
 use crate::table::{Block, Table};
 use crate::told::Told;
@@ -19,7 +19,7 @@ pub const DEPTH: u32 = 500;
 
 /// A table of rules as a grammar: a file is the rule in some of its rows.
 #[derive(Clone, Copy)]
-pub struct Rules<'r> {
+pub struct RuleGrammar<'r> {
     pub table: Table<'r>,
     /// The first row of the rule of a file.
     pub start: u16,
@@ -33,7 +33,7 @@ pub struct Rules<'r> {
     pub names: &'r [(SyntaxKind, &'r str)],
 }
 
-impl<'r> Grammar for Rules<'r> {
+impl<'r> Grammar for RuleGrammar<'r> {
     ghost use Rattle.std.specs.Prelude.{map};
     ghost use Rattle.squawk_kinds.specs.TokenSets.{no_kinds};
     ghost use Rattle.rule_grammar.specs.Derivations.{IsFile};
@@ -67,7 +67,7 @@ impl<'r> Grammar for Rules<'r> {
     }
 }
 
-impl<'r> WholeGrammar for Rules<'r> {
+impl<'r> WholeGrammar for RuleGrammar<'r> {
     ghost leaves_whole = { λ _ _ _ _ _ left. left.whole };
 }
 
@@ -83,7 +83,7 @@ fn root_of(kind: SyntaxKind) -> SyntaxKind
 }
 
 /// The rule of a file, and the tokens after it.
-fn content(rules: &Rules<'_>, p: &mut Parser<'_>)
+fn content(rules: &RuleGrammar<'_>, p: &mut Parser<'_>)
     requires { IsSound p.old }
     ensures adds { AddsSome p.old p.new }
     ensures all { kind_at p.new 0 ≡ EOF }
@@ -96,7 +96,7 @@ fn content(rules: &Rules<'_>, p: &mut Parser<'_>)
         end: rules.end,
     };
     let mut told = Told::new();
-    block(&rules.table, rows, &Chain::START, rules.depth, &mut told, p);
+    block(&Open::file(&rules.table, rules.depth), rows, &mut told, p);
     left_over(&mut told, p);
 }
 

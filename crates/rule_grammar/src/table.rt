@@ -1,6 +1,6 @@
 //! Rules as numbers.
-ghost use Rattle.std.specs.Prelude.{◌≡◌, ◌<◌, ◌≤◌, IfSome};
-ghost use Rattle.rule_grammar.specs.Derivations.{IsArm, IsOperand, IsTail, row_after};
+ghost use Rattle.std.specs.Prelude.{◌≡◌, ◌<◌, ◌≤◌, ◌+◌, IfSome, true};
+ghost use Rattle.rule_grammar.specs.Derivations.{IsArm, IsTail, next_of, row_after};
 ghost use Rattle.rule_grammar.specs.Parts.{part_at, set_has};
 
 use crate::part::{Part, part_of};
@@ -33,9 +33,10 @@ const NO_SET: u16 = u16::MAX;
 /// | 9, 10 | what is in it, or nothing; any number of times |
 /// | 11 | what is in it, once or more, with a separator |
 /// | 12 | a call of the rule from the row of number 2 up to that of number 1 |
-/// | 13 | an operand, one of its arms, each a node, and the operators after it, which begin at the row of number 2 |
+/// | 13 | an operand, one of its arms, each a node, and the operators after it, which stand in it, too |
 /// | 14 | an operand of an operator: the row of the operators in number 1, their least level in number 2 |
 /// | 15, 16, 17 | an operator of a level: one that associates, one that doesn't, one without a right operand |
+/// | 18 | what is in it, once or more |
 ///
 /// Any other part is nothing.
 #[derive(Clone, Copy)]
@@ -43,10 +44,13 @@ pub struct Table<'r> {
     pub rows: &'r [[u16; 8]],
     /// Sets of token kinds: a set has kind `k` if bit `k % 16` of its number `k / 16` is 1.
     pub sets: &'r [[u16; 40]],
-    /// Looks, counted from 1: the sets that the second, third and fourth token are in, where 65535 is any kind, and the
-    /// look that is tried next, or 0.
-    pub looks: &'r [[u16; 4]],
-    pub messages: &'r [&'r str],
+    /// Looks, counted from 1: the sets that the next four tokens are in, where 65535 is any kind, and the look that is
+    /// tried next, or 0.
+    pub looks: &'r [[u16; 5]],
+    /// The messages, one after another.
+    pub messages: &'r str,
+    /// Where each message ends, in bytes.
+    pub message_ends: &'r [usize],
 }
 
 /// Rows, from one up to another.
@@ -87,6 +91,27 @@ impl<'r> Table<'r> {
         }
     }
 
+    /// The row after a part with all that is in it.
+    #[inline(always)]
+    pub(crate) fn beyond(&self, row: u16) -> u16
+        requires { row < 65535 }
+        ensures later { row < result }
+        ensures is { result ≡ next_of row (part_at self.now.rows.now row) }
+    {
+        match self.part(row) {
+            Part::Node { end, .. }
+            | Part::Choice { end }
+            | Part::Arm { end }
+            | Part::Optional { end }
+            | Part::Repeat { end }
+            | Part::Some { end }
+            | Part::List { end, .. }
+            | Part::Operators { end }
+            | Part::Tail { end, .. } => after(row, end),
+            _ => row + 1,
+        }
+    }
+
     /// Whether the rule of a row may end after it.
     pub(crate) fn may_end_after(&self, row: u16) -> bool {
         self.number(row, 0) >= 256
@@ -110,9 +135,21 @@ impl<'r> Table<'r> {
 
     /// What is expected where a row stands.
     pub(crate) fn message(&self, row: u16) -> &'r str {
-        match self.messages.get(usize::from(self.number(row, 7))) {
-            Some(message) => *message,
+        let number = usize::from(self.number(row, 7));
+        let start = match number.checked_sub(1) {
+            Some(before) => self.message_end(before),
+            None => 0,
+        };
+        match self.messages.get(start..self.message_end(number)) {
+            Some(message) => message,
             None => "unexpected token",
+        }
+    }
+
+    fn message_end(&self, number: usize) -> usize {
+        match self.message_ends.get(number) {
+            Some(end) => *end,
+            None => 0,
         }
     }
 
@@ -133,12 +170,13 @@ impl<'r> Table<'r> {
     /// Whether what is in a row stands at the position, as far as its set and its look tell.
     #[inline(always)]
     pub(crate) fn stands(&self, row: u16, p: &Parser<'_>) -> bool {
-        self.begins_with(row, p.current()) && self.sees(self.number(row, 6), p)
+        self.begins_with(row, p.current()) && self.sees(row, p)
     }
 
-    /// Whether the tokens after the current one are those of a look, or of the looks after it.
+    /// Whether the tokens at the position are those of a row's look, or of the looks after it.
     #[inline(always)]
-    fn sees(&self, look: u16, p: &Parser<'_>) -> bool {
+    pub(crate) fn sees(&self, row: u16, p: &Parser<'_>) -> bool {
+        let look = self.number(row, 6);
         look == 0 || self.sees_some(look, p)
     }
 
@@ -148,23 +186,26 @@ impl<'r> Table<'r> {
             if self.sees_row(row, p) {
                 return true;
             }
-            if row[3] <= at {
+            if row[4] <= at {
                 return false;
             }
-            at = row[3];
+            at = row[4];
         }
         false
     }
 
-    fn look(&self, look: u16) -> Option<[u16; 4]> {
+    fn look(&self, look: u16) -> Option<[u16; 5]> {
         match self.looks.get(usize::from(look.saturating_sub(1))) {
             Some(row) => Some(*row),
             None => None,
         }
     }
 
-    fn sees_row(&self, row: [u16; 4], p: &Parser<'_>) -> bool {
-        self.sees_set(row[0], 1, p) && self.sees_set(row[1], 2, p) && self.sees_set(row[2], 3, p)
+    fn sees_row(&self, row: [u16; 5], p: &Parser<'_>) -> bool {
+        self.sees_set(row[0], 0, p)
+            && self.sees_set(row[1], 1, p)
+            && self.sees_set(row[2], 2, p)
+            && self.sees_set(row[3], 3, p)
     }
 
     fn sees_set(&self, set: u16, n: usize, p: &Parser<'_>) -> bool {
@@ -178,47 +219,39 @@ impl<'r> Table<'r> {
     {
         let mut at = rows.start;
         while at < rows.end {
-            let Part::Arm { end } = self.part(at) else {
-                return None;
-            };
-            if self.stands(at, p) {
-                return Some(Block { start: at + 1, end });
+            let beyond = self.beyond(at);
+            if let Part::Arm { end } = self.part(at) {
+                if self.stands(at, p) {
+                    return Some(Block { start: at + 1, end });
+                }
             }
-            at = after(at, end);
+            at = beyond;
         }
         None
     }
 
-    /// The operand that stands at the position, of the arms in these rows: the kind of its node, and what is in it.
-    pub(crate) fn operand(&self, rows: Block, p: &Parser<'_>) -> Option<(SyntaxKind, Block)>
-        ensures later { IfSome result (λ operand. rows.start < operand.1.start) }
-        ensures is { IfSome result (λ operand. IsOperand self.now.rows.now rows.start rows.end operand.1.start operand.1.end) }
+    /// Whether there is one part in some rows.
+    pub(crate) fn is_one(&self, rows: Block) -> bool
+        ensures room { result ≡ true → rows.start < 65535 }
+        ensures only { result ≡ true → rows.end ≤ next_of rows.start (part_at self.now.rows.now rows.start) }
     {
-        let arm = self.arm(rows, p)?;
-        match self.part(arm.start) {
-            Part::Node { end, kind } if arm.start < end => {
-                let start = arm.start + 1;
-                Some((kind, Block { start, end }))
-            }
-            _ => None,
-        }
+        rows.start < rows.end && rows.end <= self.beyond(rows.start)
     }
 
-    /// The operator that stands at the position and whose level is `floor` at least, of those in these rows of a table
-    /// of operators.
+    /// The operator that stands at the position and whose level is `floor` at least, of those in a row of operators
+    /// that ends there.
     #[inline(always)]
-    pub(crate) fn operator(
-        &self,
-        row: u16,
-        rows: Block,
-        floor: u16,
-        p: &Parser<'_>,
-    ) -> Option<Operator>
-        ensures later { IfSome result (λ operator. rows.start < operator.block.start) }
-        ensures is { IfSome result (λ operator. IsTail self.now.rows.now rows.start rows.end operator.block.start operator.block.end operator.level operator.ceiling) }
+    pub(crate) fn operator(&self, row: u16, end: u16, floor: u16, p: &Parser<'_>) -> Option<Operator>
+        requires { row < 65535 }
+        ensures later { IfSome result (λ operator. row + 1 < operator.block.start) }
+        ensures is { IfSome result (λ operator. IsTail self.now.rows.now (row + 1) end operator.block.start operator.block.end operator.level operator.ceiling) }
         ensures floor { IfSome result (λ operator. floor ≤ operator.level) }
     {
         if self.has(self.number(row, 6), p.current()) {
+            let rows = Block {
+                start: row + 1,
+                end,
+            };
             self.operator_in(rows, floor, p)
         } else {
             None
@@ -232,30 +265,30 @@ impl<'r> Table<'r> {
     {
         let mut at = rows.start;
         while at < rows.end {
-            let Part::Tail {
+            let beyond = self.beyond(at);
+            if let Part::Tail {
                 end,
                 level,
                 ceiling,
             } = self.part(at)
-            else {
-                return None;
-            };
-            if floor <= level && self.stands(at, p) {
-                let block = Block { start: at + 1, end };
-                return Some(Operator {
-                    block,
-                    level,
-                    ceiling,
-                });
+            {
+                if floor <= level && self.stands(at, p) {
+                    let block = Block { start: at + 1, end };
+                    return Some(Operator {
+                        block,
+                        level,
+                        ceiling,
+                    });
+                }
             }
-            at = after(at, end);
+            at = beyond;
         }
         None
     }
 }
 
 /// The row after one that ends there.
-pub(crate) fn after(row: u16, end: u16) -> u16
+fn after(row: u16, end: u16) -> u16
     requires { row < 65535 }
     ensures later { row < result }
     ensures is { result ≡ row_after row end }

@@ -7,7 +7,7 @@
 //!     level 1, left: '+' => SUM;  level 2, none: '=' => EQUALITY;  level 3, left: '*' => PRODUCT
 //! ```
 
-use crate::{Rules, Table};
+use crate::{RuleGrammar, Table};
 use squawk_parser::{
     EntryPoint, NoKeywords, OwnedStep, StepList, SyntaxKind, Token, TokenKind, parse_whole_into,
 };
@@ -56,7 +56,7 @@ static ROWS: [[u16; 8]; 27] = [
     [256 + 5, 5, STATEMENT, 0, NONE, NONE, 0, 0],
     [256 + 12, 27, 5, 0, NONE, NONE, 0, 0],
     // An expression: its operands,
-    [256 + 13, 27, 14, 0, NONE, NONE, 3, 0],
+    [256 + 13, 27, 0, 0, NONE, NONE, 3, 0],
     [8, 9, 0, 4, NONE, NONE, 0, 0],
     [5, 9, NAME, 4, NONE, NONE, 0, 0],
     [256 + 1, 0, IDENT, 4, 3, NONE, 0, 0],
@@ -96,12 +96,10 @@ static SETS: [[u16; 40]; 9] = [
     set![IDENT], set![L_PAREN], set![PLUS], set![EQ], set![STAR],
 ];
 
-static MESSAGES: [&str; 4] = [
-    "expected an expression",
-    "expected ;",
-    "expected )",
-    "expected a statement",
-];
+/// `expected an expression`, `expected ;`, `expected )` and `expected a statement`.
+const MESSAGES: &str = "expected an expressionexpected ;expected )expected a statement";
+
+static MESSAGE_ENDS: [usize; 4] = [22, 32, 42, 62];
 
 /// The raw tokens of a text whose characters are tokens by themselves.
 fn tokens_of(alloc: Global, text: &str) -> Result<Vec<Token>, AllocError> {
@@ -154,12 +152,13 @@ fn line_of(alloc: Global, steps: &[OwnedStep]) -> Result<String, AllocError> {
 
 /// The line of a text's tree, where rules may be called in one another so often.
 fn parsed(alloc: Global, text: &str, depth: u32) -> Result<String, Fail> {
-    let rules = Rules {
+    let rules = RuleGrammar {
         table: Table {
             rows: &ROWS,
             sets: &SETS,
             looks: &[],
-            messages: &MESSAGES,
+            messages: MESSAGES,
+            message_ends: &MESSAGE_ENDS,
         },
         start: 0,
         end: 3,

@@ -1,6 +1,8 @@
-use Rattle.std.proofs.Common.{◌≡◌, ◌+◌, ◌≤◌, ap, arith}
+use Rattle.std.proofs.Common.{◌≡◌, ◌+◌, ◌≤◌, ap, arith, subst}
 use Rattle.squawk_output.specs.Draft.{errors_of}
-use Rattle.rule_grammar.specs.Derivations.{weight}
+use Rattle.rule_grammar.specs.Derivations.{Derives, text_of, weight}
+use Rattle.rule_grammar.specs.Derivations.Span.{block}
+use Rattle.rule_grammar.specs.declared.table.Table.{Table}
 use Rattle.rule_grammar.proofs.Counted.{counts_then, untold}
 use Rattle.rule_grammar.proofs.Derived.{still}
 use Rattle.rule_grammar.proofs.rules.content.Goals as goal
@@ -12,4 +14,5 @@ returns-clause-derives c = λ goes same.
     let begun = ap weight c.new-told.ensures in
     let counted = (counts_then ran.counts rest.counts).errors goes in
     let clean = untold c.left_over.new.told.place (omega (arith, begun, counted, same)) in
-    (still ran.derives rest.told).derives clean
+    subst (λ (x : Table). Derives (text_of x c.args.p.now) (block c.args.rules.now.start c.args.rules.now.end) c.args.p.now.position c.left_over.new.p.position)
+    c.file.ensures ((still ran.derives rest.told).derives clean)

@@ -4,12 +4,12 @@ use Rattle.squawk_parser.specs.State.{kind_at}
 use Rattle.std.proofs.lemmas.Bool.Decides.{nat_tests}
 use Rattle.squawk_parser.proofs.SomeSteps.{none_some}
 use Rattle.rule_grammar.specs.Derivations.{Counts, Derived, Derives, Text, is_silent, kind_of, next_of, text_of}
-use Rattle.rule_grammar.specs.Derivations.Derives.{none, more, all, silent, token, composite, class, name, node, call, one, taken, left_out, repeated, listed, operators, operand, arm, no_turn, turn, first, next, stands, operates}
+use Rattle.rule_grammar.specs.Derivations.Derives.{none, more, all, silent, token, composite, class, name, node, call, one, taken, left_out, repeated, some, listed, operators, operand, arm, no_turn, turn, first, next, stands, operates}
 use Rattle.rule_grammar.specs.Derivations.Span.{block, choice, items, operation, rows, single, turns}
 use Rattle.rule_grammar.specs.Parts.{part_at}
 use Rattle.rule_grammar.specs.declared.part.Part.TheVariants as parts
 use Rattle.rule_grammar.proofs.Counted.{counts_added, counts_completed, counts_preceded, counts_some, counts_then}
-use Rattle.rule_grammar.proofs.Derived.{as_part, both_parts, known, moved, quiet, same_text, some_then, still, still_before, told}
+use Rattle.rule_grammar.proofs.Derived.{alone, as_part, both_parts, known, moved, quiet, same_text, some_then, still, still_before, told}
 use Rattle.rule_grammar.proofs.run.+run.Goals as goal
 
 -- ---- rows
@@ -22,14 +22,14 @@ block-loop-row-init t c =
 pub block-loop-row-preserved : goal.block-loop-row-preserved
 block-loop-row-preserved t c =
     let before = c.loop-row.invariant in
-    let took = c.step-row.ensures in
-    let both = both_parts before.derives (moved c.args.table.now before.adds.some.keeps took.derives) (λ a b. more a b) in
+    let took = c.step.ensures in
+    let both = both_parts before.derives (moved c.args.rule.now.table.now before.adds.some.keeps took.derives) (λ a b. more a b) in
     record {
       adds = some_then before.adds took.adds;
-      further = omega (arith, took.goes_on);
+      further = omega (arith, c.beyond-row.ensures.later);
       derives = subst
-          (λ (k : ℕ). Derived (text_of c.args.table.now c.args.p.now) (rows c.args.rows.start k) c.args.told.now.place c.step-row.new.told.place c.args.p.now.position c.step-row.new.p.position)
-          (sym took.next) both;
+          (λ (k : ℕ). Derived (text_of c.args.rule.now.table.now c.args.p.now) (rows c.args.rows.start k) c.args.told.now.place c.step.new.told.place c.args.p.now.position c.step.new.p.position)
+          (sym c.beyond-row.ensures.is) both;
       counts = counts_then before.counts took.counts;
     }
 
@@ -43,87 +43,87 @@ block-returns-clause-counts t c = c.loop-row.invariant.counts
 
 pub step-returns-in-Token-clause-derives : goal.step-returns-in-Token-clause-derives
 step-returns-in-Token-clause-derives t c =
-    let is : part_at c.args.table.now.rows.now c.args.row ≡ parts.Token c.in-Token.kind = cc in
+    let is : part_at c.args.rule.now.table.now.rows.now c.args.row ≡ parts.Token c.in-Token.kind = sym c.requires.is ∙ c.in-Token.is in
     known c.token.ensures.told
-    (λ f. subst (λ (m : ℕ). Derives (text_of c.args.table.now c.args.p.now) (single c.args.row) c.args.p.now.position m) (sym f.1) (token is f.0))
+    (λ f. subst (λ (m : ℕ). Derives (text_of c.args.rule.now.table.now c.args.p.now) (single c.args.row) c.args.p.now.position m) (sym f.1) (token is f.0))
 
 pub step-returns-in-Composite-clause-derives : goal.step-returns-in-Composite-clause-derives
 step-returns-in-Composite-clause-derives t c =
-    let is : part_at c.args.table.now.rows.now c.args.row ≡ parts.Composite c.in-Composite.kind = cc in
+    let is : part_at c.args.rule.now.table.now.rows.now c.args.row ≡ parts.Composite c.in-Composite.kind = sym c.requires.is ∙ c.in-Composite.is in
     known c.composite.ensures.told
-    (λ f. subst (λ (m : ℕ). Derives (text_of c.args.table.now c.args.p.now) (single c.args.row) c.args.p.now.position m) (sym f.1) (composite is f.0))
+    (λ f. subst (λ (m : ℕ). Derives (text_of c.args.rule.now.table.now c.args.p.now) (single c.args.row) c.args.p.now.position m) (sym f.1) (composite is f.0))
 
 pub step-returns-in-Class-clause-derives : goal.step-returns-in-Class-clause-derives
 step-returns-in-Class-clause-derives t c =
-    let is : part_at c.args.table.now.rows.now c.args.row ≡ parts.Class c.in-Class.set = cc in
+    let is : part_at c.args.rule.now.table.now.rows.now c.args.row ≡ parts.Class c.in-Class.set = sym c.requires.is ∙ c.in-Class.is in
     known c.class.ensures.told
-    (λ f. subst (λ (m : ℕ). Derives (text_of c.args.table.now c.args.p.now) (single c.args.row) c.args.p.now.position m) (sym f.1) (class is f.0))
+    (λ f. subst (λ (m : ℕ). Derives (text_of c.args.rule.now.table.now c.args.p.now) (single c.args.row) c.args.p.now.position m) (sym f.1) (class is f.0))
 
 pub step-returns-in-Name-clause-derives : goal.step-returns-in-Name-clause-derives
 step-returns-in-Name-clause-derives t c =
-    let is : part_at c.args.table.now.rows.now c.args.row ≡ parts.Name c.in-Name.set = cc in
+    let is : part_at c.args.rule.now.table.now.rows.now c.args.row ≡ parts.Name c.in-Name.set = sym c.requires.is ∙ c.in-Name.is in
     known c.name.ensures.told
-    (λ f. subst (λ (m : ℕ). Derives (text_of c.args.table.now c.args.p.now) (single c.args.row) c.args.p.now.position m) (sym f.1) (name is f.0))
+    (λ f. subst (λ (m : ℕ). Derives (text_of c.args.rule.now.table.now c.args.p.now) (single c.args.row) c.args.p.now.position m) (sym f.1) (name is f.0))
 
 pub step-returns-in-Becomes-clause-derives : goal.step-returns-in-Becomes-clause-derives
 step-returns-in-Becomes-clause-derives t c =
-    let is : part_at c.args.table.now.rows.now c.args.row ≡ parts.Becomes c.in-Becomes.kind = cc in
-    subst (λ v. Derived (text_of c.args.table.now c.args.p.now) (single c.args.row) c.args.told.now.place v c.args.p.now.position c.args.p.now.position)
+    let is : part_at c.args.rule.now.table.now.rows.now c.args.row ≡ parts.Becomes c.in-Becomes.kind = sym c.requires.is ∙ c.in-Becomes.is in
+    subst (λ v. Derived (text_of c.args.rule.now.table.now c.args.p.now) (single c.args.row) c.args.told.now.place v c.args.p.now.position c.args.p.now.position)
     (sym c.becomes.ensures) (quiet (silent (ap is_silent is)))
 
 pub step-returns-in-Call-clause-derives : goal.step-returns-in-Call-clause-derives
 step-returns-in-Call-clause-derives t c =
-    let is : part_at c.args.table.now.rows.now c.args.row ≡ parts.Call c.in-Call.start c.in-Call.end = cc in
+    let is : part_at c.args.rule.now.table.now.rows.now c.args.row ≡ parts.Call c.in-Call.start c.in-Call.end = sym c.requires.is ∙ c.in-Call.is in
     as_part c.call.ensures.derives (λ d. call is d)
 
 pub step-returns-in-Operand-clause-derives : goal.step-returns-in-Operand-clause-derives
 step-returns-in-Operand-clause-derives t c =
-    let is : part_at c.args.table.now.rows.now c.args.row ≡ parts.Operand c.in-Operand.operators c.in-Operand.floor = cc in
+    let is : part_at c.args.rule.now.table.now.rows.now c.args.row ≡ parts.Operand c.in-Operand.operators c.in-Operand.floor = sym c.requires.is ∙ c.in-Operand.is in
     as_part c.inner_operand.ensures.derives.1 (λ d. operand is d)
 
 pub step-returns-in-Node-clause-derives : goal.step-returns-in-Node-clause-derives
 step-returns-in-Node-clause-derives t c =
-    let is : part_at c.args.table.now.rows.now c.args.row ≡ parts.Node c.in-Node.end c.in-Node.kind = cc in
-    as_part c.node.ensures.derives (λ d. node is d)
+    let is : part_at c.args.rule.now.table.now.rows.now c.args.row ≡ parts.Node c.in-Node.end c.in-Node.kind = sym c.requires.is ∙ c.in-Node.is in
+    as_part c.inner_node.ensures.derives (λ d. node is d)
 
 pub step-returns-in-Choice-clause-derives : goal.step-returns-in-Choice-clause-derives
 step-returns-in-Choice-clause-derives t c =
-    let is : part_at c.args.table.now.rows.now c.args.row ≡ parts.Choice c.in-Choice.end = cc in
+    let is : part_at c.args.rule.now.table.now.rows.now c.args.row ≡ parts.Choice c.in-Choice.end = sym c.requires.is ∙ c.in-Choice.is in
     as_part c.choice.ensures.derives (λ d. one is d)
 
 pub step-returns-in-Optional-clause-derives : goal.step-returns-in-Optional-clause-derives
 step-returns-in-Optional-clause-derives t c =
-    let is : part_at c.args.table.now.rows.now c.args.row ≡ parts.Optional c.in-Optional.end = cc in
+    let is : part_at c.args.rule.now.table.now.rows.now c.args.row ≡ parts.Optional c.in-Optional.end = sym c.requires.is ∙ c.in-Optional.is in
     c.optional.ensures.derives is
 
 pub step-returns-in-Repeat-clause-derives : goal.step-returns-in-Repeat-clause-derives
 step-returns-in-Repeat-clause-derives t c =
-    let is : part_at c.args.table.now.rows.now c.args.row ≡ parts.Repeat c.in-Repeat.end = cc in
+    let is : part_at c.args.rule.now.table.now.rows.now c.args.row ≡ parts.Repeat c.in-Repeat.end = sym c.requires.is ∙ c.in-Repeat.is in
     as_part c.repeat.ensures.derives (λ d. repeated is d)
 
 pub step-returns-in-List-clause-derives : goal.step-returns-in-List-clause-derives
 step-returns-in-List-clause-derives t c =
-    let is : part_at c.args.table.now.rows.now c.args.row ≡ parts.List c.in-List.end c.in-List.separator = cc in
+    let is : part_at c.args.rule.now.table.now.rows.now c.args.row ≡ parts.List c.in-List.end c.in-List.separator = sym c.requires.is ∙ c.in-List.is in
     as_part c.list.ensures.derives (λ d. listed is d)
 
 pub step-returns-in-Operators-clause-derives : goal.step-returns-in-Operators-clause-derives
 step-returns-in-Operators-clause-derives t c =
-    let is : part_at c.args.table.now.rows.now c.args.row ≡ parts.Operators c.in-Operators.end c.in-Operators.tails = cc in
+    let is : part_at c.args.rule.now.table.now.rows.now c.args.row ≡ parts.Operators c.in-Operators.end = sym c.requires.is ∙ c.in-Operators.is in
     as_part c.operators.ensures.derives.1 (λ d. operators is d)
 
 pub step-returns-in-Nothing-clause-derives : goal.step-returns-in-Nothing-clause-derives
 step-returns-in-Nothing-clause-derives t c =
-    let is : part_at c.args.table.now.rows.now c.args.row ≡ parts.Nothing = cc in
+    let is : part_at c.args.rule.now.table.now.rows.now c.args.row ≡ parts.Nothing = sym c.requires.is ∙ c.in-Nothing.is in
     quiet (silent (ap is_silent is))
 
 pub step-returns-in-Arm-clause-derives : goal.step-returns-in-Arm-clause-derives
 step-returns-in-Arm-clause-derives t c =
-    let is : part_at c.args.table.now.rows.now c.args.row ≡ parts.Arm c.in-Arm.end = cc in
+    let is : part_at c.args.rule.now.table.now.rows.now c.args.row ≡ parts.Arm c.in-Arm.end = sym c.requires.is ∙ c.in-Arm.is in
     quiet (silent (ap is_silent is))
 
 pub step-returns-in-Tail-clause-derives : goal.step-returns-in-Tail-clause-derives
 step-returns-in-Tail-clause-derives t c =
-    let is : part_at c.args.table.now.rows.now c.args.row ≡ parts.Tail c.in-Tail.end c.in-Tail.level c.in-Tail.ceiling = cc in
+    let is : part_at c.args.rule.now.table.now.rows.now c.args.row ≡ parts.Tail c.in-Tail.end c.in-Tail.level c.in-Tail.ceiling = sym c.requires.is ∙ c.in-Tail.is in
     quiet (silent (ap is_silent is))
 
 -- ---- nodes, choices and loops
@@ -137,44 +137,44 @@ node-returns-clause-counts t c =
 pub choice-returns-in-Some-clause-derives : goal.choice-returns-in-Some-clause-derives
 choice-returns-in-Some-clause-derives t c =
     let before = c.expect_one.ensures in
-    still_before before.told (as_part (moved c.args.table.now before.adds.some.keeps c.block.ensures.derives) (λ d. arm c.in-Some.ensures.is d))
+    still_before before.told (as_part (moved c.args.rule.now.table.now before.adds.some.keeps c.block.ensures.derives) (λ d. arm c.in-Some.ensures.is d))
 
-pub repeat-loop-rows-init : goal.repeat-loop-rows-init
-repeat-loop-rows-init t c =
+pub repeat-loop-p-init : goal.repeat-loop-p-init
+repeat-loop-p-init t c =
     let nothing = none_some c.args.p.now c.requires.sound in
     record { adds = nothing; derives = quiet no_turn; counts = counts_some nothing }
 
 pub list-loop-separator-init : goal.list-loop-separator-init
 list-loop-separator-init t c = record {
-  adds = c.block.ensures.adds;
-  derives = as_part c.block.ensures.derives (λ d. first d);
-  counts = c.block.ensures.counts;
+  adds = c.inner.ensures.adds;
+  derives = as_part c.inner.ensures.derives (λ d. first d);
+  counts = c.inner.ensures.counts;
 }
 
 pub optional-returns-then-is_next-clause-derives : goal.optional-returns-then-is_next-clause-derives
 optional-returns-then-is_next-clause-derives t c = λ is.
     let before = c.is_next.ensures in
-    still_before before.told (as_part (moved c.args.table.now before.adds.some.keeps c.block.ensures.derives) (λ d. taken is d))
+    still_before before.told (as_part (moved c.args.rule.now.table.now before.adds.some.keeps c.inner.ensures.derives) (λ d. taken is d))
 
 pub optional-returns-else-is_next-clause-derives : goal.optional-returns-else-is_next-clause-derives
 optional-returns-else-is_next-clause-derives t c = λ is.
     known c.is_next.ensures.told
-    (λ f. subst (λ (m : ℕ). Derives (text_of c.args.table.now c.args.p.now) (single c.args.row) c.args.p.now.position m) (sym f) (left_out is))
+    (λ f. subst (λ (m : ℕ). Derives (text_of c.args.rule.now.table.now c.args.p.now) (single c.args.row) c.args.p.now.position m) (sym f) (left_out is))
 
-pub repeat-loop-rows-preserved : goal.repeat-loop-rows-preserved
-repeat-loop-rows-preserved t c =
-    let so_far = c.loop-rows.invariant in
+pub repeat-loop-p-preserved : goal.repeat-loop-p-preserved
+repeat-loop-p-preserved t c =
+    let so_far = c.loop-p.invariant in
     let seen = c.is_next.ensures in
     let before = some_then so_far.adds seen.adds in
     record {
-      adds = some_then before c.block.ensures.adds;
-      derives = both_parts (still so_far.derives seen.told) (moved c.args.table.now before.some.keeps c.block.ensures.derives) (λ a b. turn a b);
-      counts = counts_then so_far.counts (counts_then seen.counts c.block.ensures.counts);
+      adds = some_then before c.inner.ensures.adds;
+      derives = both_parts (still so_far.derives seen.told) (moved c.args.rule.now.table.now before.some.keeps c.inner.ensures.derives) (λ a b. turn a b);
+      counts = counts_then so_far.counts (counts_then seen.counts c.inner.ensures.counts);
     }
 
 pub list-loop-separator-preserved : goal.list-loop-separator-preserved
 list-loop-separator-preserved t c =
-    let table = c.args.table.now in
+    let table = c.args.rule.now.table.now in
     let so_far = c.loop-separator.invariant in
     let seen = c.is_separated.ensures in
     let yes = c.loop-separator-test.true in
@@ -183,19 +183,19 @@ list-loop-separator-preserved t c =
     let here : kind_of (text_of table c.args.p.now) c.is_separated.new.p.position ≡ c.args.separator =
     subst (λ (x : Text). kind_of x c.is_separated.new.p.position ≡ c.args.separator) (same_text table reached.some.keeps) (seen.at yes) in
     record {
-      adds = some_then before c.block-in-loop-separator.ensures.adds;
-      derives = both_parts (still so_far.derives seen.told) (moved table before.some.keeps c.block-in-loop-separator.ensures.derives)
+      adds = some_then before c.inner-in-loop-separator.ensures.adds;
+      derives = both_parts (still so_far.derives seen.told) (moved table before.some.keeps c.inner-in-loop-separator.ensures.derives)
           (λ a b. next a here
-          (subst (λ (k : ℕ). Derives (text_of table c.args.p.now) (block (c.args.row + 1) c.args.end) k c.block-in-loop-separator.new.p.position)
+          (subst (λ (k : ℕ). Derives (text_of table c.args.p.now) (block (c.args.row + 1) c.args.end) k c.inner-in-loop-separator.new.p.position)
           (c.bump_any.ensures.position (seen.some yes)) b));
       counts = counts_then so_far.counts
-          (counts_then seen.counts (counts_then (counts_some c.bump_any.ensures.some) c.block-in-loop-separator.ensures.counts));
+          (counts_then seen.counts (counts_then (counts_some c.bump_any.ensures.some) c.inner-in-loop-separator.ensures.counts));
     }
 
 -- ---- operators
 
 pub operand-returns-in-Some-clause-derives : goal.operand-returns-in-Some-clause-derives
-operand-returns-in-Some-clause-derives t c = λ tails floor is. as_part c.node.ensures.derives (λ d. stands is c.in-Some.ensures.is d)
+operand-returns-in-Some-clause-derives t c = as_part c.one_node.ensures.derives (λ d. arm c.in-Some.ensures.is d)
 
 pub operation-returns-clause-counts : goal.operation-returns-clause-counts
 operation-returns-clause-counts t c =
@@ -207,11 +207,11 @@ operation-returns-clause-counts t c =
 pub climb-loop-operator-init : goal.climb-loop-operator-init
 climb-loop-operator-init t c =
     let first = c.operand-left.ensures in
-    record { adds = first.adds; derives = λ is. first.derives c.args.tails.end c.args.floor is; counts = first.counts }
+    record { adds = first.adds; derives = λ is. as_part first.derives (λ d. stands is d); counts = first.counts }
 
 pub climb-loop-operator-preserved : goal.climb-loop-operator-preserved
 climb-loop-operator-preserved t c =
-    let table = c.args.table.now in
+    let table = c.args.rule.now.table.now in
     let so_far = c.loop-operator.invariant in
     let took = c.operation-left.ensures in
     let on = moved table so_far.adds.adds.some.keeps took.derives in
@@ -225,3 +225,30 @@ climb-loop-operator-preserved t c =
       };
       counts = counts_then so_far.counts took.counts;
     }
+
+pub some-returns-clause-derives : goal.some-returns-clause-derives
+some-returns-clause-derives t c = λ is.
+    let before = c.inner.ensures in
+    both_parts before.derives (moved c.args.rule.now.table.now before.adds.some.keeps c.repeat.ensures.derives) (λ a b. some is a b)
+
+-- ---- one node
+
+pub one_node-returns-in-Node-clause-derives : goal.one_node-returns-in-Node-clause-derives
+one_node-returns-in-Node-clause-derives t c =
+    let is : part_at c.args.rule.now.table.now.rows.now c.args.rows.start ≡ parts.Node c.in-Node.end c.in-Node.kind = cc in
+    alone (as_part c.node.ensures.derives (λ d. node is d)) (c.is_one.ensures.only cc)
+
+pub one_node-returns-in-Call-clause-derives : goal.one_node-returns-in-Call-clause-derives
+one_node-returns-in-Call-clause-derives t c =
+    let is : part_at c.args.rule.now.table.now.rows.now c.args.rows.start ≡ parts.Call c.in-Call.start c.in-Call.end = cc in
+    alone (as_part c.called_node.ensures.derives (λ d. call is d)) (c.is_one.ensures.only cc)
+
+pub one_node-returns-in-Choice-clause-derives : goal.one_node-returns-in-Choice-clause-derives
+one_node-returns-in-Choice-clause-derives t c =
+    let is : part_at c.args.rule.now.table.now.rows.now c.args.rows.start ≡ parts.Choice c.in-Choice.end = cc in
+    alone (as_part c.operand.ensures.derives (λ d. one is d)) (c.is_one.ensures.only cc)
+
+pub one_node-returns-in-Operators-clause-derives : goal.one_node-returns-in-Operators-clause-derives
+one_node-returns-in-Operators-clause-derives t c =
+    let is : part_at c.args.rule.now.table.now.rows.now c.args.rows.start ≡ parts.Operators c.in-Operators.end = cc in
+    alone (as_part (c.climb.ensures.derives is).1 (λ d. operators is d)) (c.is_one.ensures.only cc)

@@ -8,70 +8,79 @@ use Rattle.rule_grammar.proofs.run.+run.Given as goal
 
 -- A call of another function has less depth; or as much, and rows further on; or the same rows, and a lower rank.
 abbrev pub decreases-block : goal.decreases-block
-decreases-block l = 16 * (65536 * l.depth + (65536 - l.rows.start)) + 9
+decreases-block l = 16 * (65536 * l.rule.now.depth + (65536 - l.rows.start)) + 10
 
 abbrev pub decreases-step : goal.decreases-step
-decreases-step l = 16 * (65536 * l.depth + (65536 - l.row)) + 8
+decreases-step l = 16 * (65536 * l.rule.now.depth + (65536 - l.row)) + 9
 
 abbrev pub decreases-node : goal.decreases-node
-decreases-node l = 16 * (65536 * l.depth + (65536 - l.rows.start)) + 10
+decreases-node l = 16 * (65536 * l.rule.now.depth + (65536 - l.rows.start)) + 11
 
 abbrev pub decreases-choice : goal.decreases-choice
-decreases-choice l = 16 * (65536 * l.depth + (65536 - l.row)) + 7
+decreases-choice l = 16 * (65536 * l.rule.now.depth + (65536 - l.row)) + 7
 
 abbrev pub decreases-optional : goal.decreases-optional
-decreases-optional l = 16 * (65536 * l.depth + (65536 - l.row)) + 7
+decreases-optional l = 16 * (65536 * l.rule.now.depth + (65536 - l.row)) + 7
 
 abbrev pub decreases-repeat : goal.decreases-repeat
-decreases-repeat l = 16 * (65536 * l.depth + (65536 - l.row)) + 7
+decreases-repeat l = 16 * (65536 * l.rule.now.depth + (65536 - l.row)) + 6
 
 abbrev pub decreases-list : goal.decreases-list
-decreases-list l = 16 * (65536 * l.depth + (65536 - l.row)) + 7
+decreases-list l = 16 * (65536 * l.rule.now.depth + (65536 - l.row)) + 7
 
 abbrev pub decreases-call : goal.decreases-call
-decreases-call l = 16 * (65536 * l.depth) + 10
+decreases-call l = 16 * (65536 * l.rule.now.depth) + 11
 
 abbrev pub decreases-inner_operand : goal.decreases-inner_operand
-decreases-inner_operand l = 16 * (65536 * l.depth) + 12
+decreases-inner_operand l = 16 * (65536 * l.rule.now.depth) + 12
 
 abbrev pub decreases-operators : goal.decreases-operators
-decreases-operators l = 16 * (65536 * l.depth + (65536 - l.row)) + 7
+decreases-operators l = 16 * (65536 * l.rule.now.depth + (65536 - l.row)) + 7
 
 abbrev pub decreases-climb : goal.decreases-climb
-decreases-climb l = 16 * (65536 * l.depth + (65536 - l.row)) + 6
+decreases-climb l = 16 * (65536 * l.rule.now.depth + (65536 - l.row)) + 6
 
 abbrev pub decreases-operand : goal.decreases-operand
-decreases-operand l = 16 * (65536 * l.depth + (65536 - l.row)) + 5
+decreases-operand l = 16 * (65536 * l.rule.now.depth + (65536 - l.row)) + 5
+
+abbrev pub decreases-one_node : goal.decreases-one_node
+decreases-one_node l = 16 * (65536 * l.rule.now.depth + (65536 - l.rows.start)) + 9
+
+abbrev pub decreases-called_node : goal.decreases-called_node
+decreases-called_node l = 16 * (65536 * l.rule.now.depth) + 10
+
+abbrev pub decreases-some : goal.decreases-some
+decreases-some l = 16 * (65536 * l.rule.now.depth + (65536 - l.row)) + 7
 
 abbrev pub decreases-operation : goal.decreases-operation
-decreases-operation l = 16 * (65536 * l.depth + (65536 - l.rows.start)) + 10
+decreases-operation l = 16 * (65536 * l.rule.now.depth + (65536 - l.rows.start)) + 11
 
 -- some steps were added, and if no error was told, what was run derives what was eaten
 abbrev pub invariant-block-loop-row : goal.invariant-block-loop-row
 invariant-block-loop-row l = record {
   adds : AddsSome l.fn.p l.p;
   further : l.fn.rows.start ≤ l.row;
-  derives : Derived (text_of l.table l.fn.p) (rows l.fn.rows.start l.row) l.fn.told.place l.told.place l.fn.p.position l.p.position;
+  derives : Derived (text_of l.rule.table.now l.fn.p) (rows l.fn.rows.start l.row) l.fn.told.place l.told.place l.fn.p.position l.p.position;
   counts : Counts l.fn.told.place l.told.place l.fn.p l.p;
 }
 
 abbrev pub decreases-block-loop-row : goal.decreases-block-loop-row
 decreases-block-loop-row l = l.rows.end - l.row
 
-abbrev pub invariant-repeat-loop-rows : goal.invariant-repeat-loop-rows
-invariant-repeat-loop-rows l = record {
+abbrev pub invariant-repeat-loop-p : goal.invariant-repeat-loop-p
+invariant-repeat-loop-p l = record {
   adds : AddsSome l.fn.p l.p;
-  derives : Derived (text_of l.table l.fn.p) (turns (l.fn.row + 1) l.fn.end) l.fn.told.place l.told.place l.fn.p.position l.p.position;
+  derives : Derived (text_of l.rule.table.now l.fn.p) (turns (l.fn.row + 1) l.fn.end) l.fn.told.place l.told.place l.fn.p.position l.p.position;
   counts : Counts l.fn.told.place l.told.place l.fn.p l.p;
 }
 
-abbrev pub decreases-repeat-loop-rows : goal.decreases-repeat-loop-rows
-decreases-repeat-loop-rows l = l.p.limit - l.p.position
+abbrev pub decreases-repeat-loop-p : goal.decreases-repeat-loop-p
+decreases-repeat-loop-p l = l.p.limit - l.p.position
 
 abbrev pub invariant-list-loop-separator : goal.invariant-list-loop-separator
 invariant-list-loop-separator l = record {
   adds : AddsSome l.fn.p l.p;
-  derives : Derived (text_of l.table l.fn.p) (items (l.fn.row + 1) l.fn.end l.fn.separator) l.fn.told.place l.told.place l.fn.p.position l.p.position;
+  derives : Derived (text_of l.rule.table.now l.fn.p) (items (l.fn.row + 1) l.fn.end l.fn.separator) l.fn.told.place l.told.place l.fn.p.position l.p.position;
   counts : Counts l.fn.told.place l.told.place l.fn.p l.p;
 }
 
@@ -81,10 +90,16 @@ decreases-list-loop-separator l = l.p.limit - l.p.position
 abbrev pub invariant-climb-loop-operator : goal.invariant-climb-loop-operator
 invariant-climb-loop-operator l = record {
   adds : AddsSomeNode l.left l.fn.p l.p;
-  derives : part_at l.table.rows.now l.fn.row ≡ Operators l.fn.tails.end l.fn.tails.start
-      → Derived (text_of l.table l.fn.p) (operation l.fn.row l.fn.floor l.ceiling) l.fn.told.place l.told.place l.fn.p.position l.p.position;
+  derives : part_at l.rule.table.now.rows.now l.fn.row ≡ Operators l.fn.end
+      → Derived (text_of l.rule.table.now l.fn.p) (operation l.fn.row l.fn.floor l.ceiling) l.fn.told.place l.told.place l.fn.p.position l.p.position;
   counts : Counts l.fn.told.place l.told.place l.fn.p l.p;
 }
 
 abbrev pub decreases-climb-loop-operator : goal.decreases-climb-loop-operator
 decreases-climb-loop-operator l = l.p.limit - l.p.position
+
+abbrev pub decreases-inner : goal.decreases-inner
+decreases-inner l = 16 * (65536 * l.rule.now.depth + (65536 - l.row)) + 5
+
+abbrev pub decreases-inner_node : goal.decreases-inner_node
+decreases-inner_node l = 16 * (65536 * l.rule.now.depth + (65536 - l.row)) + 8

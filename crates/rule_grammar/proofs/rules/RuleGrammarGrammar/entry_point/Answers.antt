@@ -1,5 +1,5 @@
 use Rattle.rule_grammar.proofs.Files.{file-all}
-use Rattle.rule_grammar.proofs.rules.RulesGrammar.entry_point.Goals as goal
+use Rattle.rule_grammar.proofs.rules.RuleGrammarGrammar.entry_point.Goals as goal
 
 pub returns-clause-leaves : goal.returns-clause-leaves
 returns-clause-leaves c goes =

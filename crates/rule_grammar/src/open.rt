@@ -1,0 +1,115 @@
+//! Rules that are open.
+ghost use Rattle.std.specs.Prelude.{◌≡◌, ◌<◌, IfSome};
+
+use crate::table::Table;
+use squawk_kinds::SyntaxKind;
+
+/// A call of a rule that is open: its row, and the call that its own rule was called by.
+#[derive(Clone, Copy)]
+struct Chain<'c> {
+    row: u16,
+    outer: Option<&'c Chain<'c>>,
+}
+
+/// A rule that is parsed: the rules, the calls that are open, and how many more may be.
+#[derive(Clone, Copy)]
+pub(crate) struct Open<'c> {
+    pub(crate) table: &'c Table<'c>,
+    chain: Chain<'c>,
+    depth: u32,
+}
+
+impl<'c> Open<'c> {
+    /// The rule of a file.
+    pub(crate) fn file(table: &'c Table<'c>, depth: u32) -> Open<'c>
+        ensures { result.table.now ≡ table.now }
+    {
+        Open {
+            table,
+            chain: Chain::START,
+            depth,
+        }
+    }
+
+    /// The rule that a row calls, unless too many are open.
+    #[inline(always)]
+    pub(crate) fn called(&self, row: u16) -> Option<Open<'_>>
+        ensures table { IfSome result (λ inner. inner.table.now ≡ self.now.table.now) }
+        ensures deeper { IfSome result (λ inner. inner.depth < self.now.depth) }
+    {
+        if self.depth == 0 {
+            return None;
+        }
+        Some(Open {
+            table: self.table,
+            chain: self.chain.with(row),
+            depth: self.depth - 1,
+        })
+    }
+
+    /// Whether a token of the kind may come after a row.
+    pub(crate) fn may_follow(&self, row: u16, kind: SyntaxKind) -> bool {
+        self.chain.may_follow(self.table, row, kind)
+    }
+
+    /// Whether a rule that is open goes on at a token of the kind, after an error in a row.
+    pub(crate) fn goes_on_at(&self, row: u16, kind: SyntaxKind) -> bool {
+        self.chain.goes_on_at(self.table, row, kind)
+    }
+}
+
+impl Chain<'_> {
+    /// The call of the rule of a file: there is no row after it.
+    const START: Chain<'static> = Chain {
+        row: u16::MAX,
+        outer: None,
+    };
+
+    /// The same, and a row of the rule that was called last calls another.
+    #[inline(always)]
+    fn with(&self, row: u16) -> Chain<'_> {
+        Chain {
+            row,
+            outer: Some(self),
+        }
+    }
+
+    /// Whether a token of the kind may come after a row of the rule that was called last: in its rule, or after a rule
+    /// that may end there.
+    fn may_follow(&self, table: &Table<'_>, row: u16, kind: SyntaxKind) -> bool {
+        if table.may_follow(row, kind) {
+            return true;
+        }
+        table.may_end_after(row) && self.may_follow_call(table, kind)
+    }
+
+    /// The same after the call.
+    fn may_follow_call(&self, table: &Table<'_>, kind: SyntaxKind) -> bool {
+        let mut open = Some(self);
+        while let Some(call) = open {
+            if table.may_follow(call.row, kind) {
+                return true;
+            }
+            if !table.may_end_after(call.row) {
+                return call.outer.is_none() && kind == SyntaxKind::EOF;
+            }
+            open = call.outer;
+        }
+        kind == SyntaxKind::EOF
+    }
+
+    /// Whether a rule that is open goes on at a token of the kind, after an error in a row of the one called last.
+    fn goes_on_at(&self, table: &Table<'_>, row: u16, kind: SyntaxKind) -> bool {
+        if table.begins_with(row, kind) || table.goes_on_at(row, kind) {
+            return true;
+        }
+        let mut open = Some(self);
+        while let Some(call) = open {
+            if table.goes_on_at(call.row, kind) {
+                return true;
+            }
+            open = call.outer;
+        }
+        false
+    }
+}
