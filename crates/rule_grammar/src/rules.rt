@@ -25,7 +25,7 @@ pub struct RuleGrammar<'r> {
     pub start: u16,
     /// The row after its last one.
     pub end: u16,
-    /// The kind of the root.
+    /// The kind of the root, unless the rule names another outside of its nodes.
     pub root: SyntaxKind,
     /// How many rules may be called in one another. A call takes stack, and so does each part inside of another.
     pub depth: u32,
@@ -57,8 +57,8 @@ impl<'r> Grammar for RuleGrammar<'r> {
 
     fn entry_point(&self, p: &mut Parser<'_>) -> Result<(), AllocError> {
         let file = p.start();
-        content(self, p);
-        file.complete(p, root_of(self.root));
+        let kind = content(self, p);
+        file.complete(p, kind);
         Ok(())
     }
 
@@ -71,20 +71,10 @@ impl<'r> WholeGrammar for RuleGrammar<'r> {
     ghost leaves_whole = { λ _ _ _ _ _ left. left.whole };
 }
 
-/// The kind of the root. An open marker's is none.
-fn root_of(kind: SyntaxKind) -> SyntaxKind
-    ensures { result ≢ TOMBSTONE }
-{
-    if kind == SyntaxKind::TOMBSTONE {
-        SyntaxKind::ERROR
-    } else {
-        kind
-    }
-}
-
-/// The rule of a file, and the tokens after it.
-fn content(rules: &RuleGrammar<'_>, p: &mut Parser<'_>)
+/// The rule of a file, and the tokens after it. Returns the kind of the root.
+fn content(rules: &RuleGrammar<'_>, p: &mut Parser<'_>) -> SyntaxKind
     requires { IsSound p.old }
+    ensures kind { result ≢ TOMBSTONE }
     ensures adds { AddsSome p.old p.new }
     ensures all { kind_at p.new 0 ≡ EOF }
     // If no error is recorded, the rule derives the tokens.
@@ -95,9 +85,10 @@ fn content(rules: &RuleGrammar<'_>, p: &mut Parser<'_>)
         start: rules.start,
         end: rules.end,
     };
-    let mut told = Told::new();
+    let mut told = Told::new(rules.root);
     block(&Open::file(&rules.table, rules.depth), rows, &mut told, p);
     left_over(&mut told, p);
+    told.leave(SyntaxKind::ERROR)
 }
 
 /// The tokens after the rule of a file: an error with all of them.

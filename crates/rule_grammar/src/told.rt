@@ -14,13 +14,14 @@ pub(crate) struct Told {
 }
 
 impl Told {
-    pub(crate) fn new() -> Told
+    /// Nothing is told yet, and the root is to have this kind.
+    pub(crate) fn new(root: SyntaxKind) -> Told
         ensures { result.place ≡ None }
     {
         Told {
             place: None,
             seen: None,
-            kind: SyntaxKind::ERROR,
+            kind: root,
         }
     }
 

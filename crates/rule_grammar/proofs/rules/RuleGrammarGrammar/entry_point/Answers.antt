@@ -3,6 +3,6 @@ use Rattle.rule_grammar.proofs.rules.RuleGrammarGrammar.entry_point.Goals as goa
 
 pub returns-clause-leaves : goal.returns-clause-leaves
 returns-clause-leaves c goes =
-    let done = c.content.ensures in
+    let done = c.content-kind.ensures in
     file-all c.args.self.now.table c.requires.fresh c.requires.words c.start-file.ensures.begins (record { some = done.adds; derived = done.derives })
     c.complete.ensures.completes done.all goes
