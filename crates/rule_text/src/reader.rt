@@ -1,7 +1,11 @@
 //! Words that are read, and the parts that they have given so far.
+ghost use Rattle.std.specs.Prelude.{◌≡◌, ◌≤◌, ◌-◌, ◌+◌, false, true, [], length, IfOk, OnOk};
+ghost use Rattle.rule_text.specs.Reading.{Bumps, Takes, Adds, Wraps};
+ghost use Rattle.rule_text.specs.Written.{IsWord, is_end, sort_at};
+
 use crate::error::{Place, ReadError};
-use rule_parts::{Name, Part};
 use crate::word::{Sort, Word};
+use rule_parts::{Name, Part};
 use std::alloc::{AllocError, Global};
 
 /// The words of a text, from the first one that isn't read yet.
@@ -14,7 +18,11 @@ pub(crate) struct Reader<'w, 't> {
 }
 
 impl<'w, 't> Reader<'w, 't> {
-    pub(crate) fn new(alloc: Global, text: &'t str, words: &'w [Word<'t>]) -> Reader<'w, 't> {
+    pub(crate) fn new(alloc: Global, text: &'t str, words: &'w [Word<'t>]) -> Reader<'w, 't>
+        ensures words { result.words.now ≡ words.now }
+        ensures first { result.at ≡ 0 }
+        ensures none { result.parts.items ≡ [] }
+    {
         Reader {
             text,
             words,
@@ -24,29 +32,50 @@ impl<'w, 't> Reader<'w, 't> {
     }
 
     /// What the next word is.
-    pub(crate) fn sort(&self) -> Sort {
+    pub(crate) fn sort(&self) -> Sort
+        ensures { result ≡ sort_at self.now.words.now self.now.at }
+    {
         match self.words.get(self.at) {
             Some(word) => word.sort,
             None => Sort::End,
         }
     }
 
+    /// Whether the next word is of this sort.
+    pub(crate) fn is_at(&self, sort: Sort) -> bool
+        ensures is { result ≡ true → sort_at self.now.words.now self.now.at ≡ sort }
+    {
+        self.sort() == sort
+    }
+
     /// The next word, as a name.
-    pub(crate) fn name(&self) -> Name<'t> {
+    pub(crate) fn name(&self) -> Name<'t>
+        ensures { (sort : Sort) → sort_at self.now.words.now self.now.at ≡ sort → is_end sort ≡ false
+            → IsWord self.now.words.now self.now.at sort result }
+    {
         match self.words.get(self.at) {
             Some(word) => word.name,
-            None => Name { text: "", at: self.text.len() },
+            None => Name {
+                text: "",
+                at: self.text.len(),
+            },
         }
     }
 
-    /// Goes over the next word. There is one.
-    pub(crate) fn bump(&mut self) {
-        self.at += 1;
+    /// Goes over the next word, if there is one.
+    pub(crate) fn bump(&mut self)
+        ensures { is_end (sort_at self.old.words.now self.old.at) ≡ false → Bumps self.old self.new }
+    {
+        if self.at < self.words.len() {
+            self.at += 1;
+        }
     }
 
     /// Goes over the next word, which is to be of this sort.
-    pub(crate) fn expect(&mut self, sort: Sort, what: &'static str) -> Result<Name<'t>, ReadError> {
-        if self.sort() != sort {
+    pub(crate) fn expect(&mut self, sort: Sort, what: &'static str) -> Result<Name<'t>, ReadError>
+        ensures { is_end sort ≡ false → IfOk result (λ name. Takes sort name self.old self.new) }
+    {
+        if !self.is_at(sort) {
             return Err(self.expected(what));
         }
         let name = self.name();
@@ -55,18 +84,32 @@ impl<'w, 't> Reader<'w, 't> {
     }
 
     /// How many parts there are.
-    pub(crate) fn len(&self) -> usize {
+    pub(crate) fn len(&self) -> usize
+        ensures { result ≡ length self.now.parts.items }
+    {
         self.parts.len()
     }
 
+    /// How many parts there are from `start` on.
+    pub(crate) fn size_from(&self, start: usize) -> usize
+        ensures { result ≡ length self.now.parts.items - start }
+    {
+        self.parts.len().saturating_sub(start)
+    }
+
     /// Adds a part.
-    pub(crate) fn push(&mut self, part: Part<'t>) -> Result<(), AllocError> {
+    pub(crate) fn push(&mut self, part: Part<'t>) -> Result<(), AllocError>
+        ensures { OnOk result (Adds part.entry self.old self.new) }
+    {
         self.parts.push(part)?;
         Ok(())
     }
 
     /// Puts a part in front of those from `start` on.
-    pub(crate) fn wrap(&mut self, start: usize, part: Part<'t>) -> Result<(), AllocError> {
+    pub(crate) fn wrap(&mut self, start: usize, part: Part<'t>) -> Result<(), AllocError>
+        requires { start ≤ length self.old.parts.items }
+        ensures { OnOk result (Wraps start part.entry self.old self.new) }
+    {
         self.parts.insert(start, part)?;
         Ok(())
     }
@@ -80,7 +123,9 @@ impl<'w, 't> Reader<'w, 't> {
     }
 
     /// The parts.
-    pub(crate) fn into_parts(self) -> Vec<Part<'t>> {
+    pub(crate) fn into_parts(self) -> Vec<Part<'t>>
+        ensures { result.items ≡ self.parts.items }
+    {
         self.parts
     }
 
