@@ -8,13 +8,13 @@ use Rattle.rule_text.specs.declared.reader.Reader.{Reader}
 use Rattle.rule_text.specs.declared.word.Word.{Word}
 use Rattle.rule_text.specs.declared.word.Sort.{Sort}
 use Rattle.rule_text.specs.declared.word.Sort.TheVariants as sorts
-use Rattle.rule_text.specs.Reading.{Adds, Bumps, Marks, One, Reads, Separates, Takes, Wraps, behind_one, only, written_as}
+use Rattle.rule_text.specs.Reading.{Adds, Bumps, Marks, Names, One, Reads, Takes, Wraps, behind_one, only, written_as}
 use Rattle.rule_text.specs.Reading.One.{one as one_word}
 use Rattle.rule_text.specs.Written.{Form, IsWord, Separated, Written, is_end, sort_at, sort_of_word}
 use Rattle.rule_text.specs.Written.Form.{alternatives, arm, atom, item, more_arms, next_arm, sequence}
 use Rattle.rule_text.specs.Written.Separated.{by_comma, by_token}
 use Rattle.rule_text.specs.Written.Written.{alone, becomes, call, choice, class, group, list, more, next, none, once, one, operand, optional, or, repeated, second, some, token}
-use Rattle.rule_text.proofs.Reading.{reads_around, reads_as, reads_before, reads_behind, reads_both, reads_none, reads_one, longer_by}
+use Rattle.rule_text.proofs.Reading.{reads_around, reads_as, reads_before, reads_behind, reads_both, reads_none, reads_one, longer_by, still_within}
 
 -- ---- results
 
@@ -41,11 +41,12 @@ still_there {ws} {vs} {i} {j} e f h = subst (λ (k : ℕ). is_end (sort_at vs k)
 
 -- ---- separators
 
-pub separated_by : {a b c : Reader} {name : Name} → sort_at a.words.now a.at ≡ sorts.Percent → Bumps a b → Takes sorts.Kind name b c → Separates name a c
+pub separated_by : {a b c : Reader} {name : Name} → sort_at a.words.now a.at ≡ sorts.Percent → Bumps a b → Takes sorts.Kind name b c → Names Separated name a c
 separated_by {a} {b} {c} {name} is bumps takes = record {
   words = takes.bumps.words ∙ bumps.words;
   parts = takes.bumps.parts ∙ bumps.parts;
-  separated =
+  ends = λ _. takes.bumps.ends;
+  named =
       let at : a.at + 2 ≡ c.at = omega (arith, bumps.at, takes.bumps.at) in
       subst (λ (k : ℕ). Separated a.words.now a.at k name) at (by_token is (word_back bumps.words bumps.at takes.word));
 }
@@ -66,6 +67,7 @@ becomes_read {a} {b} {c} {d} {e} {arrow} {kind} floor is bumps greater named add
       parts = parts.Becomes kind ∷ [];
       added = is_added;
       longer = longer_by a.parts.items (parts.Becomes kind ∷ []) e.parts.items is_added;
+      ends = λ _. still_within adds.words adds.at named.bumps.ends;
       written = subst (λ (k : ℕ). Written a.words.now floor atom a.at k (parts.Becomes kind ∷ [])) three
           (becomes is (sort_back bumps.words bumps.at greater.sort_is) (word_back second two named.word));
     }
@@ -83,7 +85,7 @@ pub group_read : {a b c : Reader} {name : Name} {floor : ℕ} → sort_at a.word
 group_read is r takes = reads_before r takes.bumps (λ ps v. group is v (sort_back r.words refl takes.sort_is))
 
 pub list_read : {a b c d e : Reader} {close separator : Name} {start size floor : ℕ} → sort_at a.words.now a.at ≡ sorts.OpenBrace
-    → Reads (behind_one (written_as alternatives floor)) a b → Separates separator b c → Takes sorts.CloseBrace close c d
+    → Reads (behind_one (written_as alternatives floor)) a b → Names Separated separator b c → Takes sorts.CloseBrace close c d
     → start ≡ length a.parts.items → size ≡ length d.parts.items - start → Wraps start (parts.List size separator) d e
     → Reads (written_as atom floor) a e
 list_read {a} {b} {c} {d} {e} {close} {separator} {start} {size} {floor} is r separates takes from sized wraps =
@@ -94,9 +96,10 @@ list_read {a} {b} {c} {d} {e} {close} {separator} {start} {size} {floor} is r se
       parts = r.parts;
       added = is_added;
       longer = longer_by a.parts.items r.parts d.parts.items is_added;
+      ends = λ _. takes.bumps.ends;
       written = r.written;
     } in
-    let named : Separated a.words.now b.at c.at separator = subst (λ (x : List Word). Separated x b.at c.at separator) r.words separates.separated in
+    let named : Separated a.words.now b.at c.at separator = subst (λ (x : List Word). Separated x b.at c.at separator) r.words separates.named in
     reads_around (λ n. parts.List n separator) inner from sized wraps
     (λ ps v. subst (λ (m : ℕ). Written a.words.now floor atom a.at m (parts.List (length ps) separator ∷ ps)) (sym takes.bumps.at)
         (list is v named (sort_back words refl takes.sort_is)))

@@ -8,7 +8,7 @@ use Rattle.rule_text.specs.declared.reader.Reader.{Reader}
 use Rattle.rule_text.specs.declared.word.Word.{Word}
 use Rattle.rule_text.specs.declared.word.Sort.{Sort}
 use Rattle.rule_text.specs.declared.word.Sort.TheVariants as sorts
-use Rattle.rule_text.specs.Reading.{Adds, Bumps, One, Reads, Separates, Takes, Wraps, behind_one, only}
+use Rattle.rule_text.specs.Reading.{Adds, Bumps, One, Reads, Takes, Wraps, behind_one, only}
 use Rattle.rule_text.specs.Reading.One.{one}
 use Rattle.rule_text.specs.Written.{IsWord, is_end, sort_at, sort_of_word}
 
@@ -42,10 +42,13 @@ added_size xs ys zs e = omega (arith, ap length e, length-append xs ys)
 pub longer_by : (xs ys zs : List Part) → zs ≡ xs ++ ys → length xs ≤ length zs
 longer_by xs ys zs e = omega (arith, ap length e, length-append xs ys)
 
+pub still_within : {ws vs : List Word} {i j : ℕ} → vs ≡ ws → j ≡ i → i ≤ length ws → j ≤ length vs
+still_within e f h = omega (arith, ap length e)
+
 module _ {V : List Word → ℕ → ℕ → List Part → Type 0} where
   -- nothing is read
   pub reads_none : (a : Reader) → V a.words.now a.at a.at [] → Reads V a a
-  reads_none a v = record { words = refl; parts = []; added = sym (append_none a.parts.items); longer = omega arith; written = v }
+  reads_none a v = record { words = refl; parts = []; added = sym (append_none a.parts.items); longer = omega arith; ends = λ h. h; written = v }
 
   -- one word more
   pub reads_one : {a b : Reader} {part : Part} → Adds part a b → {c : Reader} → Bumps b c → V a.words.now a.at (a.at + 1) (part ∷ []) → Reads V a c
@@ -54,13 +57,14 @@ module _ {V : List Word → ℕ → ℕ → List Part → Type 0} where
     parts = part ∷ [];
     added = bumps.parts ∙ adds.parts;
     longer = longer_by a.parts.items (part ∷ []) c.parts.items (bumps.parts ∙ adds.parts);
+    ends = λ _. bumps.ends;
     written = subst (λ (m : ℕ). V a.words.now a.at m (part ∷ [])) (sym (bumps.at ∙ ap (λ (m : ℕ). m + 1) adds.at)) v;
   }
 
 module _ {V W : List Word → ℕ → ℕ → List Part → Type 0} where
   -- what is read as one form is read as another
   pub reads_as : {a b : Reader} → Reads V a b → ((ps : List Part) → V a.words.now a.at b.at ps → W a.words.now a.at b.at ps) → Reads W a b
-  reads_as r f = record { words = r.words; parts = r.parts; added = r.added; longer = r.longer; written = f r.parts r.written }
+  reads_as r f = record { words = r.words; parts = r.parts; added = r.added; longer = r.longer; ends = r.ends; written = f r.parts r.written }
 
   -- a word in front of it
   pub reads_behind : {a b c : Reader} → Bumps a b → Reads V b c
@@ -70,6 +74,7 @@ module _ {V W : List Word → ℕ → ℕ → List Part → Type 0} where
     parts = r.parts;
     added = r.added ∙ ap (λ (l : List Part). l ++ r.parts) bumps.parts;
     longer = subst (λ (l : List Part). length l ≤ length c.parts.items) bumps.parts r.longer;
+    ends = λ _. r.ends bumps.ends;
     written = f r.parts (subst (λ (m : ℕ). V a.words.now m c.at r.parts) bumps.at
         (subst (λ (x : List Word). V x b.at c.at r.parts) bumps.words r.written));
   }
@@ -82,6 +87,7 @@ module _ {V W : List Word → ℕ → ℕ → List Part → Type 0} where
     parts = r.parts;
     added = bumps.parts ∙ r.added;
     longer = longer_by a.parts.items r.parts c.parts.items (bumps.parts ∙ r.added);
+    ends = λ _. bumps.ends;
     written = subst (λ (m : ℕ). W a.words.now a.at m r.parts) (sym bumps.at) (f r.parts r.written);
   }
 
@@ -101,6 +107,7 @@ module _ {V W : List Word → ℕ → ℕ → List Part → Type 0} where
         parts = part (length r.parts) ∷ r.parts;
         added = is;
         longer = longer_by a.parts.items (part (length r.parts) ∷ r.parts) c.parts.items is;
+        ends = λ h. still_within wraps.words wraps.at (r.ends h);
         written = subst (λ (m : ℕ). W a.words.now a.at m (part (length r.parts) ∷ r.parts)) (sym wraps.at) (f r.parts r.written);
       }
 
@@ -115,5 +122,6 @@ reads_both {U} {V} {W} {a} {b} {c} p q f =
       parts = p.parts ++ q.parts;
       added = is;
       longer = longer_by a.parts.items (p.parts ++ q.parts) c.parts.items is;
+      ends = λ h. q.ends (p.ends h);
       written = f p.parts q.parts p.written (subst (λ (x : List Word). V x b.at c.at q.parts) p.words q.written);
     }

@@ -1,18 +1,20 @@
 -- What reading does to a reader.
-use Rattle.std.specs.Prelude.{◌≡◌, ℕ, ◌+◌, ◌≤◌, List, [], ◌∷◌, ◌++◌, length}
+use Rattle.std.specs.Prelude.{◌≡◌, ℕ, ◌+◌, ◌^◌, ◌<◌, ◌≤◌, List, [], ◌∷◌, ◌++◌, length}
 use Rattle.std.specs.List.{insert}
 use Rattle.rule_parts.specs.declared.Part.{Part}
 use Rattle.rule_parts.specs.declared.Name.{Name}
 use Rattle.rule_text.specs.declared.reader.Reader.{Reader}
 use Rattle.rule_text.specs.declared.word.Word.{Word}
 use Rattle.rule_text.specs.declared.word.Sort.{Sort}
-use Rattle.rule_text.specs.Written.{IsWord, sort_at, Separated, Written, Form}
+use Rattle.rule_text.specs.Written.{IsWord, sort_at, Written, Form}
 
 -- It goes over one word.
 pub record Bumps (old new : Reader) : Type 0 where
   pub words : new.words.now ≡ old.words.now
   pub parts : new.parts.items ≡ old.parts.items
   pub at : new.at ≡ old.at + 1
+  pub fits : new.at < 2 ^ 64
+  pub ends : new.at ≤ length new.words.now
 
 -- It goes over a word of this sort and name.
 pub record Takes (sort : Sort) (name : Name) (old new : Reader) : Type 0 where
@@ -43,6 +45,7 @@ pub record Reads (W : List Word → ℕ → ℕ → List Part → Type 0) (old n
   pub parts : List Part
   pub added : new.parts.items ≡ old.parts.items ++ parts
   pub longer : length old.parts.items ≤ length new.parts.items
+  pub ends : old.at ≤ length old.words.now → new.at ≤ length new.words.now
   pub written : W old.words.now old.at new.at parts
 
 -- the words of a form, for the operands of one floor
@@ -60,8 +63,9 @@ pub data One (part : Part) (i : ℕ) : ℕ → List Part → Type 0 where
 abbrev pub only : Part → List Word → ℕ → ℕ → List Part → Type 0
 only part ws i j ps = One part i j ps
 
--- The words that say which separator a list has are read.
-pub record Separates (name : Name) (old new : Reader) : Type 0 where
+-- Words are read that give a name, as N says.
+pub record Names (N : List Word → ℕ → ℕ → Name → Type 0) (name : Name) (old new : Reader) : Type 0 where
   pub words : new.words.now ≡ old.words.now
   pub parts : new.parts.items ≡ old.parts.items
-  pub separated : Separated old.words.now old.at new.at name
+  pub ends : old.at ≤ length old.words.now → new.at ≤ length new.words.now
+  pub named : N old.words.now old.at new.at name

@@ -1,7 +1,7 @@
 //! Errors of texts of rules.
 
 use sql_lexer::TokenizeError;
-use std::alloc::AllocError;
+use std::alloc::{AllocError, AllocFailed};
 use std::error::Error;
 use std::fmt;
 
@@ -19,7 +19,7 @@ pub enum ReadError {
     Tokens(TokenizeError),
     /// Another word stands at the place than those that may.
     Expected { what: &'static str, at: Place },
-    /// Parentheses and braces are nested more than [`DEPTH`](crate::DEPTH) deep.
+    /// Parentheses and braces are nested more than [`NESTED`](crate::NESTED) deep.
     TooDeep { at: Place },
     /// Memory ran out.
     Memory(AllocError),
@@ -51,6 +51,12 @@ impl From<TokenizeError> for ReadError {
 impl From<AllocError> for ReadError {
     fn from(reason: AllocError) -> ReadError {
         ReadError::Memory(reason)
+    }
+}
+
+impl<T: Drop> From<AllocFailed<T>> for ReadError {
+    fn from(reason: AllocFailed<T>) -> ReadError {
+        ReadError::Memory(AllocError::from(reason))
     }
 }
 

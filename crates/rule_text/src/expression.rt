@@ -1,7 +1,7 @@
 //! What stands on the right of `=`.
 ghost use Rattle.std.specs.Prelude.{◌≡◌, ◌≤◌, ℕ, IfOk, OnOk, false, length, true};
-ghost use Rattle.rule_text.specs.Reading.{Marks, Reads, Separates, behind_one, only, written_as};
-ghost use Rattle.rule_text.specs.Written.{is_end, sort_at};
+ghost use Rattle.rule_text.specs.Reading.{Marks, Names, Reads, behind_one, only, written_as};
+ghost use Rattle.rule_text.specs.Written.{Separated, is_end, sort_at};
 ghost use Rattle.rule_text.specs.Written.Form.{alternatives, atom, item, more_arms, next_arm, sequence};
 
 use crate::error::ReadError;
@@ -180,7 +180,7 @@ fn list(reader: &mut Reader<'_, '_>, floor: usize, depth: u32) -> Result<(), Rea
 const COMMA: Name<'static> = Name { text: ",", at: 0 };
 
 fn separator<'t>(reader: &mut Reader<'_, 't>) -> Result<Name<'t>, ReadError>
-    ensures { IfOk result (λ name. Separates name reader.old reader.new) }
+    ensures { IfOk result (λ name. Names Separated name reader.old reader.new) }
 {
     if !reader.is_at(Sort::Percent) {
         return Ok(COMMA);

@@ -1,6 +1,7 @@
 //! Words that are read, and the parts that they have given so far.
-ghost use Rattle.std.specs.Prelude.{◌≡◌, ◌≤◌, ◌-◌, ◌+◌, false, true, [], length, IfOk, OnOk};
+ghost use Rattle.std.specs.Prelude.{◌≡◌, ◌≢◌, ◌≤◌, ◌-◌, ◌+◌, ◌↔◌, false, true, [], drop, length, IfOk, IsTrue, OnOk};
 ghost use Rattle.rule_text.specs.Reading.{Bumps, Takes, Adds, Wraps};
+ghost use Rattle.rule_text.specs.Rules.{names_kind};
 ghost use Rattle.rule_text.specs.Written.{IsWord, is_end, sort_at};
 
 use crate::error::{Place, ReadError};
@@ -44,8 +45,16 @@ impl<'w, 't> Reader<'w, 't> {
     /// Whether the next word is of this sort.
     pub(crate) fn is_at(&self, sort: Sort) -> bool
         ensures is { result ≡ true → sort_at self.now.words.now self.now.at ≡ sort }
+        ensures is_not { result ≡ false → sort_at self.now.words.now self.now.at ≢ sort }
     {
         self.sort() == sort
+    }
+
+    /// Whether there is no further word.
+    pub(crate) fn is_done(&self) -> bool
+        ensures { IsTrue result ↔ length self.now.words.now ≤ self.now.at }
+    {
+        self.at >= self.words.len()
     }
 
     /// The next word, as a name.
@@ -98,7 +107,7 @@ impl<'w, 't> Reader<'w, 't> {
     }
 
     /// Adds a part.
-    pub(crate) fn push(&mut self, part: Part<'t>) -> Result<(), AllocError>
+    pub(crate) fn push(&mut self, part: Part<'t>) -> Result<(), ReadError>
         ensures { OnOk result (Adds part.entry self.old self.new) }
     {
         self.parts.push(part)?;
@@ -106,7 +115,7 @@ impl<'w, 't> Reader<'w, 't> {
     }
 
     /// Puts a part in front of those from `start` on.
-    pub(crate) fn wrap(&mut self, start: usize, part: Part<'t>) -> Result<(), AllocError>
+    pub(crate) fn wrap(&mut self, start: usize, part: Part<'t>) -> Result<(), ReadError>
         requires { start ≤ length self.old.parts.items }
         ensures { OnOk result (Wraps start part.entry self.old self.new) }
     {
@@ -115,7 +124,9 @@ impl<'w, 't> Reader<'w, 't> {
     }
 
     /// Whether the kind of a node is named in the parts from `start` on.
-    pub(crate) fn names_a_kind(&self, start: usize) -> bool {
+    pub(crate) fn names_a_kind(&self, start: usize) -> bool
+        ensures { result ≡ names_kind (drop start self.now.parts.items) }
+    {
         self.parts
             .iter()
             .skip(start)

@@ -5,7 +5,7 @@ use Rattle.rule_text.proofs.Expressions.{if_ok, separated_by}
 use Rattle.rule_text.proofs.expression.separator.Goals as goal
 
 pub returns-then-not-is_at : goal.returns-then-not-is_at
-returns-then-not-is_at c = record { words = refl; parts = refl; separated = by_comma (record { text = refl; at = refl }) }
+returns-then-not-is_at c = record { words = refl; parts = refl; ends = λ h. h; named = by_comma (record { text = refl; at = refl }) }
 
 pub returns : goal.returns
 returns c =
