@@ -29,7 +29,7 @@ take_all : (xs ys : List Part) → take (length xs) (xs ++ ys) ≡ xs
 take_all [] ys = refl
 take_all (x ∷ xs) ys = ap (λ (l : List Part). x ∷ l) (take_all xs ys)
 
-drop_all : (xs ys : List Part) → drop (length xs) (xs ++ ys) ≡ ys
+pub drop_all : (xs ys : List Part) → drop (length xs) (xs ++ ys) ≡ ys
 drop_all [] ys = refl
 drop_all (x ∷ xs) ys = drop_all xs ys
 
@@ -110,6 +110,11 @@ module _ {V W : List Word → ℕ → ℕ → List Part → Type 0} where
         ends = λ h. still_within wraps.words wraps.at (r.ends h);
         written = subst (λ (m : ℕ). W a.words.now a.at m (part (length r.parts) ∷ r.parts)) (sym wraps.at) (f r.parts r.written);
       }
+
+-- what is known of the parts that were added
+pub reads_with : {V : List Word → ℕ → ℕ → List Part → Type 0} {a b : Reader} (P : List Part → Type 0) → (r : Reads V a b) → P r.parts
+    → Reads (λ ws i j ps. V ws i j ps × P ps) a b
+reads_with P r p = record { words = r.words; parts = r.parts; added = r.added; longer = r.longer; ends = r.ends; written = (r.written, p) }
 
 -- one and then another
 pub reads_both : {U V W : List Word → ℕ → ℕ → List Part → Type 0} {a b c : Reader} → Reads U a b → Reads V b c

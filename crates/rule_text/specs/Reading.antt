@@ -1,11 +1,13 @@
 -- What reading does to a reader.
-use Rattle.std.specs.Prelude.{◌≡◌, ℕ, ◌+◌, ◌^◌, ◌<◌, ◌≤◌, List, [], ◌∷◌, ◌++◌, length}
+use Rattle.std.specs.Prelude.{◌≡◌, ℕ, ◌+◌, ◌-◌, ◌^◌, ◌<◌, ◌≤◌, List, [], ◌∷◌, ◌++◌, length}
 use Rattle.std.specs.List.{insert}
 use Rattle.rule_parts.specs.declared.Part.{Part}
+use Rattle.rule_parts.specs.declared.Part.TheVariants.{Operators}
 use Rattle.rule_parts.specs.declared.Name.{Name}
 use Rattle.rule_text.specs.declared.reader.Reader.{Reader}
 use Rattle.rule_text.specs.declared.word.Word.{Word}
 use Rattle.rule_text.specs.declared.word.Sort.{Sort}
+use Rattle.rule_text.specs.Rules.{SomeLevels}
 use Rattle.rule_text.specs.Written.{IsWord, sort_at, Written, Form}
 
 -- It goes over one word.
@@ -69,3 +71,9 @@ pub record Names (N : List Word → ℕ → ℕ → Name → Type 0) (name : Nam
   pub parts : new.parts.items ≡ old.parts.items
   pub ends : old.at ≤ length old.words.now → new.at ≤ length new.words.now
   pub named : N old.words.now old.at new.at name
+
+-- Levels of operators are read, and operators put in front of all from one part on.
+pub record Operates (start : ℕ) (old new : Reader) : Type 0 where
+  pub between : Reader
+  pub reads : Reads (λ ws i j ps. SomeLevels ws i j ps) old between
+  pub wraps : Wraps start (Operators (length between.parts.items - start)) between new

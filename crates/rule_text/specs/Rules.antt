@@ -68,16 +68,25 @@ pub data Levels (ws : List Word) (i : ℕ) : ℕ → ℕ → List Part → Type 
 pub data SomeLevels (ws : List Word) (i j : ℕ) (ps : List Part) : Type 0 where
   levels : {n : ℕ} → 0 < n → Levels ws i n j ps → SomeLevels ws i j ps
 
+-- the operands that aren't made by operators: one arm, or more
+pub data Operands (ws : List Word) (i : ℕ) : ℕ → List Part → Type 0 where
+  one_operand : {j : ℕ} {ps : List Part} → OneArm ws 0 i j ps → Operands ws i j ps
+  more_operands : {j k : ℕ} {ps qs : List Part} → OneArm ws 0 i j ps → MoreArms ws j k qs → Operands ws i k (ps ++ qs)
+
 -- what stands on the right of =
 pub data Body (ws : List Word) (i : ℕ) : ℕ → List Part → Type 0 where
   only_one : {j : ℕ} {ps : List Part} → Alternative ws 0 i j ps → Body ws i j ps
   one_of : {j k : ℕ} {ps qs : List Part} → OneArm ws 0 i j ps → MoreArms ws j k qs → Body ws i k (Choice (length (ps ++ qs)) ∷ ps ++ qs)
-  -- with one operand, or more
-  operators : {j k : ℕ} {ps qs : List Part} → OneArm ws 0 i j ps → SomeLevels ws j k qs → Body ws i k (Operators (length (ps ++ qs)) ∷ ps ++ qs)
-  operators_of : {j k l : ℕ} {ps qs rs : List Part} → OneArm ws 0 i j ps → MoreArms ws j k qs → SomeLevels ws k l rs
-      → Body ws i l (Operators (length (ps ++ qs ++ rs)) ∷ ps ++ qs ++ rs)
+  operators : {j k : ℕ} {ps qs : List Part} → Operands ws i j ps → SomeLevels ws j k qs → Body ws i k (Operators (length (ps ++ qs)) ∷ ps ++ qs)
 
 -- the members of a class
+abbrev pub is_member : Sort → Bool
+is_member sorts.Kind = true
+is_member sorts.Class = true
+is_member sorts.Call = true
+is_member sorts.Minus = true
+is_member sort = false
+
 pub data Member (ws : List Word) (i : ℕ) : Part → Type 0 where
   kind : {name : Name} → IsWord ws i sorts.Kind name → Member ws i (Token name)
   other : {name : Name} → IsWord ws i sorts.Class name → Member ws i (Class name)

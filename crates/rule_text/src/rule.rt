@@ -1,9 +1,14 @@
 //! Classes and rules.
+ghost use Rattle.std.specs.Prelude.{◌≡◌, ◌≤◌, IfOk, IfErr, OnOk, false, length, true};
+ghost use Rattle.rule_text.specs.Reading.{Names, Reads};
+ghost use Rattle.rule_text.specs.Rules.{Called, Definition, Members, Member, Rules, is_member};
+ghost use Rattle.rule_text.specs.Written.{IsWord, is_end, sort_at};
+
+use crate::body::body;
 use crate::error::ReadError;
-use rule_parts::{Name, Part};
 use crate::reader::Reader;
 use crate::word::{Sort, words_of};
-use crate::body::body;
+use rule_parts::{Name, Part};
 use sql_lexer::tokenize;
 use std::alloc::Global;
 
@@ -12,14 +17,25 @@ pub fn read(alloc: Global, text: &str) -> Result<Vec<Part<'_>>, ReadError> {
     let tokens = tokenize(alloc, text)?;
     let words = words_of(alloc, text, &tokens)?;
     let mut reader = Reader::new(alloc, text, &words);
-    while reader.sort() != Sort::End {
-        definition(&mut reader)?;
-    }
+    definitions(&mut reader)?;
     Ok(reader.into_parts())
 }
 
+/// Classes and rules, one after another.
+fn definitions(reader: &mut Reader<'_, '_>) -> Result<(), ReadError>
+    ensures reads { OnOk result (Reads (λ ws i j ps. Rules ws i j ps) reader.old reader.new) }
+    ensures all { OnOk result (length reader.new.words.now ≤ reader.new.at) }
+{
+    while !reader.is_done() {
+        definition(reader)?;
+    }
+    Ok(())
+}
+
 /// A class or a rule.
-fn definition(reader: &mut Reader<'_, '_>) -> Result<(), ReadError> {
+fn definition(reader: &mut Reader<'_, '_>) -> Result<(), ReadError>
+    ensures { OnOk result (Reads (λ ws i j ps. Definition ws i j ps) reader.old reader.new) }
+{
     match reader.sort() {
         Sort::ClassOf => class(reader),
         Sort::Rule => rule(reader),
@@ -28,56 +44,76 @@ fn definition(reader: &mut Reader<'_, '_>) -> Result<(), ReadError> {
 }
 
 /// `class Name = KIND Other -KIND`
-fn class(reader: &mut Reader<'_, '_>) -> Result<(), ReadError> {
+fn class(reader: &mut Reader<'_, '_>) -> Result<(), ReadError>
+    requires { sort_at reader.old.words.now reader.old.at ≡ Sort.ClassOf }
+    ensures { OnOk result (Reads (λ ws i j ps. Definition ws i j ps) reader.old reader.new) }
+{
     reader.bump();
     let name = reader.expect(Sort::Class, "the name of a class")?;
     reader.expect(Sort::Equals, "=")?;
     let start = reader.len();
+    members(reader)?;
+    let size = reader.size_from(start);
+    reader.wrap(start, Part::Set { name, size })
+}
+
+/// The members of a class.
+fn members(reader: &mut Reader<'_, '_>) -> Result<(), ReadError>
+    ensures { OnOk result (Reads (λ ws i j ps. Members ws i j ps) reader.old reader.new) }
+{
     while is_member(reader.sort()) {
-        member(reader)?;
+        let part = member(reader);
+        reader.push(part)?;
+        reader.bump();
     }
-    let size = reader.len() - start;
-    reader.wrap(start, Part::Set { name, size })?;
     Ok(())
 }
 
-fn is_member(sort: Sort) -> bool {
+fn is_member(sort: Sort) -> bool
+    ensures member { result ≡ true → is_member sort ≡ true }
+    ensures some { result ≡ true → is_end sort ≡ false }
+{
     matches!(sort, Sort::Kind | Sort::Class | Sort::Call | Sort::Minus)
 }
 
-fn member(reader: &mut Reader<'_, '_>) -> Result<(), ReadError> {
+/// The member that the next word is.
+fn member<'t>(reader: &Reader<'_, 't>) -> Part<'t>
+    ensures { is_member (sort_at reader.now.words.now reader.now.at) ≡ true → Member reader.now.words.now reader.now.at result }
+{
     let name = reader.name();
     match reader.sort() {
-        Sort::Kind => reader.push(Part::Token { name })?,
-        Sort::Class => reader.push(Part::Class { name })?,
-        Sort::Call => reader.push(Part::Call { name })?,
-        _ => reader.push(Part::Without)?,
+        Sort::Kind => Part::Token { name },
+        Sort::Class => Part::Class { name },
+        Sort::Call => Part::Call { name },
+        _ => Part::Without,
     }
-    reader.bump();
-    Ok(())
 }
 
 /// `rule "message" = ..`
-fn rule(reader: &mut Reader<'_, '_>) -> Result<(), ReadError> {
+fn rule(reader: &mut Reader<'_, '_>) -> Result<(), ReadError>
+    requires { sort_at reader.old.words.now reader.old.at ≡ Sort.Rule }
+    ensures { OnOk result (Reads (λ ws i j ps. Definition ws i j ps) reader.old reader.new) }
+{
     let name = reader.name();
     reader.bump();
     let message = message(reader, name);
     reader.expect(Sort::Equals, "=")?;
     let start = reader.len();
     body(reader)?;
-    let size = reader.len() - start;
+    let size = reader.size_from(start);
     let rule = Part::Rule {
         name,
         message,
         size,
     };
-    reader.wrap(start, rule)?;
-    Ok(())
+    reader.wrap(start, rule)
 }
 
 /// What errors call the rule.
-fn message<'t>(reader: &mut Reader<'_, 't>, name: Name<'t>) -> Name<'t> {
-    if reader.sort() != Sort::Message {
+fn message<'t>(reader: &mut Reader<'_, 't>, name: Name<'t>) -> Name<'t>
+    ensures { Names (λ ws i j message. Called name.entry ws i j message) result reader.old reader.new }
+{
+    if !reader.is_at(Sort::Message) {
         return name;
     }
     let message = reader.name();
