@@ -80,13 +80,6 @@ pub data Body (ws : List Word) (i : ℕ) : ℕ → List Part → Type 0 where
   operators : {j k : ℕ} {ps qs : List Part} → Operands ws i j ps → SomeLevels ws j k qs → Body ws i k (Operators (length (ps ++ qs)) ∷ ps ++ qs)
 
 -- the members of a class
-abbrev pub is_member : Sort → Bool
-is_member sorts.Kind = true
-is_member sorts.Class = true
-is_member sorts.Call = true
-is_member sorts.Minus = true
-is_member sort = false
-
 pub data Member (ws : List Word) (i : ℕ) : Part → Type 0 where
   kind : {name : Name} → IsWord ws i sorts.Kind name → Member ws i (Token name)
   other : {name : Name} → IsWord ws i sorts.Class name → Member ws i (Class name)

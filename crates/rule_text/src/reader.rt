@@ -1,5 +1,5 @@
 //! Words that are read, and the parts that they have given so far.
-ghost use Rattle.std.specs.Prelude.{◌≡◌, ◌≢◌, ◌≤◌, ◌-◌, ◌+◌, ◌↔◌, false, true, [], drop, length, IfOk, IsTrue, OnOk};
+ghost use Rattle.std.specs.Prelude.{◌≡◌, ◌≢◌, ◌<◌, ◌≤◌, ◌-◌, ◌+◌, false, true, [], drop, length, IfOk, OnOk};
 ghost use Rattle.rule_text.specs.Reading.{Bumps, Takes, Adds, Wraps};
 ghost use Rattle.rule_text.specs.Rules.{names_kind};
 ghost use Rattle.rule_text.specs.Written.{IsWord, is_end, sort_at};
@@ -52,7 +52,8 @@ impl<'w, 't> Reader<'w, 't> {
 
     /// Whether there is no further word.
     pub(crate) fn is_done(&self) -> bool
-        ensures { IsTrue result ↔ length self.now.words.now ≤ self.now.at }
+        ensures done { result ≡ true → length self.now.words.now ≤ self.now.at }
+        ensures more { result ≡ false → self.now.at < length self.now.words.now }
     {
         self.at >= self.words.len()
     }

@@ -1,7 +1,7 @@
 //! Classes and rules.
-ghost use Rattle.std.specs.Prelude.{◌≡◌, ◌≤◌, IfOk, IfErr, OnOk, false, length, true};
+ghost use Rattle.std.specs.Prelude.{◌≡◌, ◌≤◌, IfOk, IfErr, IfSome, OnOk, false, length, true};
 ghost use Rattle.rule_text.specs.Reading.{Names, Reads};
-ghost use Rattle.rule_text.specs.Rules.{Called, Definition, Members, Member, Rules, is_member};
+ghost use Rattle.rule_text.specs.Rules.{Called, Definition, Members, Member, Rules};
 ghost use Rattle.rule_text.specs.Written.{IsWord, is_end, sort_at};
 
 use crate::body::body;
@@ -61,31 +61,24 @@ fn class(reader: &mut Reader<'_, '_>) -> Result<(), ReadError>
 fn members(reader: &mut Reader<'_, '_>) -> Result<(), ReadError>
     ensures { OnOk result (Reads (λ ws i j ps. Members ws i j ps) reader.old reader.new) }
 {
-    while is_member(reader.sort()) {
-        let part = member(reader);
+    while let Some(part) = member(reader) {
         reader.push(part)?;
         reader.bump();
     }
     Ok(())
 }
 
-fn is_member(sort: Sort) -> bool
-    ensures member { result ≡ true → is_member sort ≡ true }
-    ensures some { result ≡ true → is_end sort ≡ false }
-{
-    matches!(sort, Sort::Kind | Sort::Class | Sort::Call | Sort::Minus)
-}
-
 /// The member that the next word is.
-fn member<'t>(reader: &Reader<'_, 't>) -> Part<'t>
-    ensures { is_member (sort_at reader.now.words.now reader.now.at) ≡ true → Member reader.now.words.now reader.now.at result }
+fn member<'t>(reader: &Reader<'_, 't>) -> Option<Part<'t>>
+    ensures { IfSome result (λ part. Member reader.now.words.now reader.now.at part) }
 {
     let name = reader.name();
     match reader.sort() {
-        Sort::Kind => Part::Token { name },
-        Sort::Class => Part::Class { name },
-        Sort::Call => Part::Call { name },
-        _ => Part::Without,
+        Sort::Kind => Some(Part::Token { name }),
+        Sort::Class => Some(Part::Class { name }),
+        Sort::Call => Some(Part::Call { name }),
+        Sort::Minus => Some(Part::Without),
+        _ => None,
     }
 }
 

@@ -3,8 +3,8 @@ use Rattle.rule_text.specs.Reading.{Reads}
 use Rattle.rule_text.specs.Rules.{Members}
 use Rattle.rule_text.proofs.rule.members.Given as goal
 
-abbrev pub invariant-loop-reader : goal.invariant-loop-reader
-invariant-loop-reader l = Reads (λ ws i j ps. Members ws i j ps) l.fn.reader l.reader
+abbrev pub invariant-loop-part : goal.invariant-loop-part
+invariant-loop-part l = Reads (λ ws i j ps. Members ws i j ps) l.fn.reader l.reader
 
-abbrev pub decreases-loop-reader : goal.decreases-loop-reader
-decreases-loop-reader l = length l.reader.words.now - l.reader.at
+abbrev pub decreases-loop-part : goal.decreases-loop-part
+decreases-loop-part l = length l.reader.words.now - l.reader.at
