@@ -1,0 +1,23 @@
+//! Tables of rules: what a table of `rule_grammar` is made of.
+//!
+//! ```text
+//! parts --names--> rows --places--> sets and looks: Rules
+//! ```
+#![tactic(auto)]
+
+mod error;
+mod follow;
+mod looks;
+mod map;
+mod messages;
+mod names;
+mod resolve;
+mod rules;
+mod sets;
+#[cfg(test)]
+mod tests;
+mod walk;
+
+pub use error::RulesError;
+pub use names::Names;
+pub use rules::Rules;

@@ -1,0 +1,4 @@
+pub mod Bodies
+pub mod Definitions
+pub mod Expressions
+pub mod Reading

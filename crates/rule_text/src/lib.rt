@@ -1,0 +1,19 @@
+//! Rules as text: reads grammars as a person writes them.
+//!
+//! ```text
+//! text --tokenize--> raw tokens --words--> words --read--> parts, each in front of what is in it
+//! ```
+#![tactic(auto)]
+
+mod body;
+mod error;
+mod expression;
+mod reader;
+mod rule;
+#[cfg(test)]
+mod tests;
+mod word;
+
+pub use body::NESTED;
+pub use error::{Place, ReadError};
+pub use rule::read;
