@@ -1,4 +1,6 @@
 //! Classes of tokens.
+ghost use Rattle.std.specs.Prelude.{◌≡◌, ◌<◌, ◌≤◌, ◌+◌, drop, length, take};
+
 use crate::definitions::class_number;
 use crate::error::RulesError;
 use crate::names::Names;
@@ -17,33 +19,43 @@ pub(crate) fn sets_of<N: Names>(
     let mut sets = Vec::new(alloc);
     for (index, part) in parts.iter().enumerate() {
         if let Part::Set { size, .. } = part {
-            let set = union_of(parts, index, *size, &sets, names)?;
+            let members = members_of(parts, index, *size);
+            let set = union_of(parts, members, index + 1, &sets, names)?;
             push(&mut sets, set)?;
         }
     }
     Ok(sets)
 }
 
-/// The union of the members of a class. After `-` the kinds of one are taken away.
+/// The members of the class that is this part.
+fn members_of<'p, 't>(parts: &'p [Part<'t>], class: usize, size: usize) -> &'p [Part<'t>]
+    requires { class < length parts.now }
+    ensures { result.now ≡ take size (drop (class + 1) parts.now) }
+{
+    let rest = &parts[class + 1..];
+    if size < rest.len() { &rest[..size] } else { rest }
+}
+
+/// The union of members, of which the first is part `first`. After `-` the kinds of one are taken away.
 fn union_of<N: Names>(
     parts: &[Part<'_>],
-    class: usize,
-    size: usize,
+    members: &[Part<'_>],
+    first: usize,
     sets: &[TokenSet],
     names: &N,
-) -> Result<TokenSet, RulesError> {
+) -> Result<TokenSet, RulesError>
+    requires { first + length members.now ≤ length parts.now }
+{
     let mut set = TokenSet::EMPTY;
     let mut is_without = false;
-    let end = parts.len().min(class.saturating_add(1).saturating_add(size));
-    for index in class + 1..end {
-        let part = &parts[index];
-        let kinds = kinds_of(parts, part, index, sets, names)?;
+    for (index, member) in members.iter().enumerate() {
+        let kinds = kinds_of(parts, member, first + index, sets, names)?;
         set = if is_without {
             without(set, kinds)
         } else {
             set.union(kinds)
         };
-        is_without = matches!(part, Part::Without);
+        is_without = matches!(member, Part::Without);
     }
     Ok(set)
 }

@@ -1,18 +1,20 @@
 //! The rules and classes that names stand for.
+ghost use Rattle.std.specs.Prelude.{◌≡◌};
+ghost use Rattle.rule_tables.specs.Definitions.{class_number, classes_in, defines, definition_of};
+
 use crate::error::RulesError;
 use rule_parts::Part;
 
 /// The index of the first rule or class with this name.
-pub(crate) fn find(parts: &[Part<'_>], name: &str) -> Option<usize> {
-    for (index, part) in parts.iter().enumerate() {
-        if defines(part, name) {
-            return Some(index);
-        }
-    }
-    None
+pub(crate) fn find(parts: &[Part<'_>], name: &str) -> Option<usize>
+    ensures { result ≡ definition_of parts.now name.now }
+{
+    parts.iter().position(|part| defines(part, name))
 }
 
-fn defines(part: &Part<'_>, name: &str) -> bool {
+fn defines(part: &Part<'_>, name: &str) -> bool
+    ensures { result ≡ defines name.now part.now }
+{
     match part {
         Part::Set { name: own, .. } => own.text == name,
         Part::Rule { name: own, .. } => own.text == name,
@@ -40,7 +42,9 @@ fn is_doubled(before: &[Part<'_>], part: &Part<'_>) -> bool {
 }
 
 /// The number of the class with this name: how many classes stand before it.
-pub(crate) fn class_number(parts: &[Part<'_>], name: &str) -> Option<usize> {
+pub(crate) fn class_number(parts: &[Part<'_>], name: &str) -> Option<usize>
+    ensures { result ≡ class_number parts.now name.now }
+{
     let index = find(parts, name)?;
     match parts.get(index) {
         Some(Part::Set { .. }) => Some(classes_in(&parts[..index])),
@@ -49,15 +53,8 @@ pub(crate) fn class_number(parts: &[Part<'_>], name: &str) -> Option<usize> {
 }
 
 /// How many classes there are in some parts.
-fn classes_in(parts: &[Part<'_>]) -> usize {
+fn classes_in(parts: &[Part<'_>]) -> usize
+    ensures { result ≡ classes_in parts.now }
+{
     parts.iter().filter(|part| matches!(part, Part::Set { .. })).count()
-}
-
-/// The rows of the rule with this name: the first, and the one after the last.
-pub(crate) fn rule_rows(parts: &[Part<'_>], name: &str) -> Option<(usize, usize)> {
-    let index = find(parts, name)?;
-    match parts.get(index) {
-        Some(Part::Rule { size, .. }) => Some((index + 1, (*size).saturating_add(index + 1))),
-        _ => None,
-    }
 }

@@ -1,4 +1,8 @@
 //! The numbers of a row.
+ghost use Rattle.std.specs.Prelude.{◌≡◌, ◌<◌, ◌%◌, IfOk, IsTrue, Some, slice_get, slice_index};
+ghost use Rattle.rule_grammar.specs.Parts.{part_by, part_of};
+ghost use Rattle.rule_tables.specs.Rows.{is_exact, tail_tag};
+
 use crate::error::RulesError;
 use crate::follow::{Ahead, tails};
 use crate::looks::Looks;
@@ -15,7 +19,10 @@ pub(crate) fn numbers_of(
     index: usize,
     row: &Row,
     message: u16,
-) -> Result<[u16; 8], RulesError> {
+) -> Result<[u16; 8], RulesError>
+    requires { IsTrue (is_exact row.now) }
+    ensures { IfOk result (λ numbers. part_of numbers ≡ row.now) }
+{
     let known = match ahead.get(index) {
         Some(known) => *known,
         None => Ahead::NOTHING,
@@ -26,8 +33,16 @@ pub(crate) fn numbers_of(
     let follows = looks.sets.number(known.follows)?;
     let later = looks.sets.number(known.later)?;
     let look = look(looks, ahead, index, row)?;
-    let ends = if known.ends { 256 } else { 0 };
-    Ok([part + ends, end, number, begins, follows, later, look, message])
+    let part = with_end(part, known.ends);
+    Ok([part, end, number, begins, follows, later, look, message])
+}
+
+/// The number 0 of a row: 256 more if the rule may end after it.
+fn with_end(part: u16, ends: bool) -> u16
+    requires { part < 19 }
+    ensures { result % 256 ≡ part }
+{
+    if ends { part + 256 } else { part }
 }
 
 /// The kinds at which a part is gone into.
@@ -75,7 +90,10 @@ fn look(
 }
 
 /// The numbers 0, 1 and 2 of a row.
-fn part_numbers(row: &Row) -> [u16; 3] {
+fn part_numbers(row: &Row) -> [u16; 3]
+    ensures small { slice_index result 0 < 19 }
+    ensures is { IsTrue (is_exact row.now) → part_by (slice_index result 0) (slice_index result 1) (slice_index result 2) ≡ row.now }
+{
     match row {
         Row::Nothing => [0, 0, 0],
         Row::Token { kind } => [1, 0, kind.0],
@@ -97,7 +115,9 @@ fn part_numbers(row: &Row) -> [u16; 3] {
     }
 }
 
-fn tail_number(level: u16, ceiling: u16) -> u16 {
+fn tail_number(level: u16, ceiling: u16) -> u16
+    ensures { result ≡ tail_tag level ceiling }
+{
     if ceiling == level {
         15
     } else if ceiling < level {

@@ -1,5 +1,11 @@
 //! Rows: parts, with what the names in them stand for.
-use crate::definitions::{class_number, rule_rows};
+ghost use Rattle.std.specs.Prelude.{◌≡◌, ◌≤◌, ◌+◌, IfOk, Some, length, slice_get};
+ghost use Rattle.rule_grammar.specs.declared.part.Part.TheVariants.{Tail};
+ghost use Rattle.rule_tables.specs.Definitions.{class_number, definition_of};
+ghost use Rattle.rule_tables.specs.Rows.{AreRows, call_of, ceiling, end_of, members_end, members_end_after, operators_after, operators_before, row_in, row_of};
+ghost use Rattle.rule_tables.specs.Vocabulary.{vocabulary};
+
+use crate::definitions::{class_number, find};
 use crate::error::RulesError;
 use crate::names::Names;
 use crate::sets::push;
@@ -16,16 +22,22 @@ pub(crate) fn rows_of<N: Names>(
     alloc: Global,
     parts: &[Part<'_>],
     names: &N,
-) -> Result<Vec<Row>, RulesError> {
+) -> Result<Vec<Row>, RulesError>
+    ensures len { IfOk result (λ rows. length rows.items ≡ length parts.now) }
+    ensures are { IfOk result (λ rows. AreRows (vocabulary (N.token_named names.now) (N.node_named names.now) (N.class_named names.now)) parts.now rows.items) }
+{
     let mut rows = Vec::new(alloc);
     let mut outer = Outer {
         members_end: 0,
         operators: 0,
     };
     for (index, part) in parts.iter().enumerate() {
-        let row = row_of(parts, part, index, &outer, names)?;
-        push(&mut rows, row)?;
-        outer = outer_after(&outer, index, part);
+        if index < outer.members_end {
+            push(&mut rows, Row::Nothing)?;
+        } else {
+            push(&mut rows, row_of(parts, part, index, &outer, names)?)?;
+        }
+        outer = outer_after(&outer, index, part)?;
     }
     Ok(rows)
 }
@@ -39,17 +51,20 @@ struct Outer {
     operators: usize,
 }
 
-fn outer_after(outer: &Outer, index: usize, part: &Part<'_>) -> Outer {
+fn outer_after(outer: &Outer, index: usize, part: &Part<'_>) -> Result<Outer, RulesError>
+    ensures members { IfOk result (λ after. after.members_end ≡ members_end_after outer.now.members_end index (Some part.now)) }
+    ensures operators { IfOk result (λ after. after.operators ≡ operators_after outer.now.operators index (Some part.now)) }
+{
     match part {
-        Part::Set { size, .. } => Outer {
-            members_end: (*size).saturating_add(index).saturating_add(1),
+        Part::Set { size, .. } => Ok(Outer {
+            members_end: usize::from(end_of(index, *size)?),
             operators: outer.operators,
-        },
-        Part::Operators { .. } => Outer {
+        }),
+        Part::Operators { .. } => Ok(Outer {
             members_end: outer.members_end,
             operators: index,
-        },
-        _ => *outer,
+        }),
+        _ => Ok(*outer),
     }
 }
 
@@ -59,10 +74,9 @@ fn row_of<N: Names>(
     index: usize,
     outer: &Outer,
     names: &N,
-) -> Result<Row, RulesError> {
-    if index < outer.members_end {
-        return Ok(Row::Nothing);
-    }
+) -> Result<Row, RulesError>
+    ensures { IfOk result (λ row. row_of (vocabulary (N.token_named names.now) (N.node_named names.now) (N.class_named names.now)) parts.now outer.now.operators index part.now ≡ Some row) }
+{
     let row = match part {
         Part::Set { .. } | Part::Without => Row::Nothing,
         Part::Token { name } => Row::Token {
@@ -100,18 +114,26 @@ fn row_of<N: Names>(
 }
 
 /// The row after the last one in a part of this size.
-fn end_of(index: usize, size: usize) -> Result<u16, RulesError> {
+fn end_of(index: usize, size: usize) -> Result<u16, RulesError>
+    ensures { IfOk result (λ end. end ≡ end_of index size) }
+{
     number(size.saturating_add(index).saturating_add(1))
 }
 
-fn number(number: usize) -> Result<u16, RulesError> {
-    match u16::try_from(number) {
-        Ok(number) if number as usize <= MOST => Ok(number),
-        _ => Err(RulesError::TooMany),
+fn number(number: usize) -> Result<u16, RulesError>
+    ensures is { IfOk result (λ same. same ≡ number) }
+    ensures small { IfOk result (λ same. same ≤ 65000) }
+{
+    if number <= MOST {
+        Ok(number as u16)
+    } else {
+        Err(RulesError::TooMany)
     }
 }
 
-fn tail(end: u16, level: usize, association: &Association) -> Result<Row, RulesError> {
+fn tail(end: u16, level: usize, association: &Association) -> Result<Row, RulesError>
+    ensures { IfOk result (λ row. row ≡ Tail end level (ceiling association.now level)) }
+{
     let level = number(level)?;
     let ceiling = match association {
         Association::Neither => level.saturating_sub(1),
@@ -120,20 +142,27 @@ fn tail(end: u16, level: usize, association: &Association) -> Result<Row, RulesE
     Ok(Row::Tail { end, level, ceiling })
 }
 
-fn class(parts: &[Part<'_>], name: &Name<'_>, part: usize) -> Result<u16, RulesError> {
+fn class(parts: &[Part<'_>], name: &Name<'_>, part: usize) -> Result<u16, RulesError>
+    ensures { IfOk result (λ set. class_number parts.now name.now.text.now ≡ Some set) }
+{
     match class_number(parts, name.text) {
         Some(set) => number(set),
         None => Err(RulesError::Undefined { part }),
     }
 }
 
-fn call(parts: &[Part<'_>], name: &Name<'_>, part: usize) -> Result<Row, RulesError> {
-    match rule_rows(parts, name.text) {
-        Some((start, end)) => Ok(Row::Call {
-            start: number(start)?,
-            end: number(end)?,
+fn call(parts: &[Part<'_>], name: &Name<'_>, part: usize) -> Result<Row, RulesError>
+    ensures { IfOk result (λ row. call_of parts.now (definition_of parts.now name.now.text.now) ≡ Some row) }
+{
+    let Some(rule) = find(parts, name.text) else {
+        return Err(RulesError::Undefined { part });
+    };
+    match parts.get(rule) {
+        Some(Part::Rule { size, .. }) => Ok(Row::Call {
+            start: number(rule + 1)?,
+            end: end_of(rule, *size)?,
         }),
-        None => Err(RulesError::Undefined { part }),
+        _ => Err(RulesError::Undefined { part }),
     }
 }
 
@@ -142,14 +171,18 @@ pub(crate) fn token<N: Names>(
     names: &N,
     name: &Name<'_>,
     part: usize,
-) -> Result<SyntaxKind, RulesError> {
+) -> Result<SyntaxKind, RulesError>
+    ensures { IfOk result (λ kind. N.token_named names.now name.now.text.now ≡ Some kind) }
+{
     match names.token(name.text) {
         Some(kind) => Ok(kind),
         None => Err(RulesError::UnknownKind { part }),
     }
 }
 
-fn node<N: Names>(names: &N, name: &Name<'_>, part: usize) -> Result<SyntaxKind, RulesError> {
+fn node<N: Names>(names: &N, name: &Name<'_>, part: usize) -> Result<SyntaxKind, RulesError>
+    ensures { IfOk result (λ kind. N.node_named names.now name.now.text.now ≡ Some kind) }
+{
     match names.node(name.text) {
         Some(kind) => Ok(kind),
         None => Err(RulesError::UnknownKind { part }),

@@ -1,4 +1,7 @@
 //! Rules that are ready to be run.
+ghost use Rattle.std.specs.Prelude.{◌≡◌, ◌<◌, All, IfOk, IsTrue, Some, length, slice_get};
+ghost use Rattle.rule_tables.specs.Rows.{SayRows, is_exact};
+
 use crate::classes::sets_of;
 use crate::definitions::refuse_doubled;
 use crate::error::RulesError;
@@ -89,7 +92,10 @@ fn rules_of(
     sets: &[TokenSet],
     messages: Messages,
     start: usize,
-) -> Result<Rules, RulesError> {
+) -> Result<Rules, RulesError>
+    requires { All (λ row. IsTrue (is_exact row)) rows.now }
+    ensures { IfOk result (λ rules. SayRows rows.now rules.rows.items) }
+{
     let map = Map::new(alloc, rows, sets)?;
     let ahead = ahead_of(alloc, &map)?;
     let mut looks = Looks {
@@ -116,7 +122,10 @@ fn all_numbers(
     looks: &mut Looks<'_>,
     ahead: &[Ahead],
     rows: &[Row],
-) -> Result<Vec<[u16; 8]>, RulesError> {
+) -> Result<Vec<[u16; 8]>, RulesError>
+    requires { All (λ row. IsTrue (is_exact row)) rows.now }
+    ensures { IfOk result (λ numbers. SayRows rows.now numbers.items) }
+{
     let mut numbers = Vec::new(looks.alloc);
     let mut rule = 0usize;
     for (index, row) in rows.iter().enumerate() {
