@@ -8,7 +8,7 @@ use Rattle.rule_parts.specs.declared.Part.TheVariants as part
 use Rattle.rule_parts.specs.declared.Association.{Association}
 use Rattle.rule_parts.specs.declared.Association.TheVariants.{Left, Right, Neither}
 use Rattle.rule_grammar.specs.declared.part.Part as row
-use Rattle.rule_tables.specs.Rows.{AreRows, call_of, call_of_rule, ceiling, end_of, is_exact, row_at, row_in, row_of, members_end, operators_before}
+use Rattle.rule_tables.specs.Rows.{AreRows, HasRows, SayRows, call_of, call_of_rule, ceiling, end_of, is_exact, row_at, row_by, row_in, row_of, members_end, operators_before}
 use Rattle.rule_tables.specs.Definitions.{definition_of}
 use Rattle.rule_tables.specs.Vocabulary.{Vocabulary}
 
@@ -67,19 +67,23 @@ exact_of v parts operators i (part.Operators size) = refl
 exact_of v parts operators i (part.Tail level association size) = exact_ceiling association level
 exact_of v parts operators i (part.Operand floor) = refl
 
+exact_by : (v : Vocabulary) (parts : List Part) (members operators i : ℕ) (p : Part) → IfSome (row_by v parts members operators i p) IsExact
+exact_by v parts members operators i p =
+    elim (cases_Bool (nat_lt i members)) [
+      | inl within ↦ rw within refl
+      | inr outside ↦ rw outside (exact_of v parts operators i p)
+    ]
+
 exact_at : (v : Vocabulary) (parts : List Part) (i : ℕ) (p : Option Part) → IfSome (row_at v parts i p) IsExact
 exact_at v parts i None = tt
-exact_at v parts i (Some p) = exact_of v parts (operators_before parts i) i p
-
-exact_in : (v : Vocabulary) (parts : List Part) (i : ℕ) → IfSome (row_in v parts i) IsExact
-exact_in v parts i =
-    elim (cases_Bool (nat_lt i (members_end parts i))) [
-      | inl within ↦ rw within refl
-      | inr outside ↦ rw outside (exact_at v parts i (slice_get parts i))
-    ]
+exact_at v parts i (Some p) = exact_by v parts (members_end parts i) (operators_before parts i) i p
 
 -- the rows of parts say all of them
 pub rows_exact : (v : Vocabulary) (parts : List Part) (rows : List row.Part) → length rows ≡ length parts → AreRows v parts rows → All IsExact rows
 rows_exact v parts rows len are i d lt =
     let is : row_in v parts i ≡ Some (get_or rows i d) = sym (are i (omega (arith, lt, len))) ∙ slice_get-get_or rows i d lt in
-    subst (λ (found : Option row.Part). IfSome found IsExact) is (exact_in v parts i)
+    subst (λ (found : Option row.Part). IfSome found IsExact) is (exact_at v parts i (slice_get parts i))
+
+-- the rows of a table, by those that its rows say
+pub has_rows : (v : Vocabulary) (parts : List Part) (rows : List row.Part) (numbers : List (List ℕ)) → length rows ≡ length parts → AreRows v parts rows → SayRows rows numbers → HasRows v parts numbers
+has_rows v parts rows numbers len are say i lt = sym (are i lt) ∙ say i (omega (arith, lt, len))

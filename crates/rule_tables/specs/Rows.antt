@@ -75,13 +75,18 @@ operators_before parts (suc i) = operators_after (operators_before parts i) i (s
 
 -- ---- the row of a part
 
+-- The row of part i. The class before it ends before `members`, and the operators before it stand at `operators`. A
+-- member of a class is nothing.
+abbrev pub row_by : Vocabulary → List Part → ℕ → ℕ → ℕ → Part → Option row.Part
+row_by v parts members operators i p = if nat_lt i members then Some Nothing else row_of v parts operators i p
+
 abbrev pub row_at : Vocabulary → List Part → ℕ → Option Part → Option row.Part
 row_at v parts i None = None
-row_at v parts i (Some p) = row_of v parts (operators_before parts i) i p
+row_at v parts i (Some p) = row_by v parts (members_end parts i) (operators_before parts i) i p
 
--- The row of part i, if the names in it stand for something. A member of a class is nothing.
+-- the row of part i, if the names in it stand for something
 abbrev pub row_in : Vocabulary → List Part → ℕ → Option row.Part
-row_in v parts i = if nat_lt i (members_end parts i) then Some Nothing else row_at v parts i (slice_get parts i)
+row_in v parts i = row_at v parts i (slice_get parts i)
 
 -- the items of a list, as far as n, are those that a function gives for their indices
 abbrev pub ListsSome : {X : Type 0} → (ℕ → Option X) → ℕ → List X → Type 0
@@ -105,3 +110,7 @@ is_exact part = true
 -- what the rows of a table say: these parts
 abbrev pub SayRows : List row.Part → List (List ℕ) → Type 0
 SayRows rows numbers = ListsSome (λ i. Some (part_at numbers i)) (length rows) rows
+
+-- The rows of a table are those of the parts.
+abbrev pub HasRows : Vocabulary → List Part → List (List ℕ) → Type 0
+HasRows v parts numbers = (i : ℕ) → i < length parts → row_in v parts i ≡ Some (part_at numbers i)

@@ -2,7 +2,7 @@
 ghost use Rattle.std.specs.Prelude.{◌≡◌, ◌≤◌, ◌+◌, IfOk, Some, length, slice_get};
 ghost use Rattle.rule_grammar.specs.declared.part.Part.TheVariants.{Tail};
 ghost use Rattle.rule_tables.specs.Definitions.{class_number, definition_of};
-ghost use Rattle.rule_tables.specs.Rows.{AreRows, call_of, ceiling, end_of, members_end, members_end_after, operators_after, operators_before, row_in, row_of};
+ghost use Rattle.rule_tables.specs.Rows.{AreRows, call_of, ceiling, end_of, members_end, members_end_after, operators_after, operators_before, row_by, row_of};
 ghost use Rattle.rule_tables.specs.Vocabulary.{vocabulary};
 
 use crate::definitions::{class_number, find};
@@ -32,11 +32,8 @@ pub(crate) fn rows_of<N: Names>(
         operators: 0,
     };
     for (index, part) in parts.iter().enumerate() {
-        if index < outer.members_end {
-            push(&mut rows, Row::Nothing)?;
-        } else {
-            push(&mut rows, row_of(parts, part, index, &outer, names)?)?;
-        }
+        let row = row_by(parts, part, index, &outer, names)?;
+        push(&mut rows, row)?;
         outer = outer_after(&outer, index, part)?;
     }
     Ok(rows)
@@ -68,6 +65,24 @@ fn outer_after(outer: &Outer, index: usize, part: &Part<'_>) -> Result<Outer, Ru
     }
 }
 
+/// The row of a part.
+fn row_by<N: Names>(
+    parts: &[Part<'_>],
+    part: &Part<'_>,
+    index: usize,
+    outer: &Outer,
+    names: &N,
+) -> Result<Row, RulesError>
+    ensures { IfOk result (λ row. row_by (vocabulary (N.token_named names.now) (N.node_named names.now) (N.class_named names.now)) parts.now outer.now.members_end outer.now.operators index part.now ≡ Some row) }
+{
+    if index < outer.members_end {
+        Ok(Row::Nothing)
+    } else {
+        row_of(parts, part, index, outer, names)
+    }
+}
+
+/// The row of a part that is in no class.
 fn row_of<N: Names>(
     parts: &[Part<'_>],
     part: &Part<'_>,

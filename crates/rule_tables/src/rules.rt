@@ -1,6 +1,7 @@
 //! Rules that are ready to be run.
-ghost use Rattle.std.specs.Prelude.{◌≡◌, ◌<◌, All, IfOk, IsTrue, Some, length, slice_get};
-ghost use Rattle.rule_tables.specs.Rows.{SayRows, is_exact};
+ghost use Rattle.std.specs.Prelude.{◌≡◌, ◌≤◌, All, IfOk, IsTrue, Some, length, slice_get};
+ghost use Rattle.rule_tables.specs.Rows.{HasRows, SayRows, is_exact};
+ghost use Rattle.rule_tables.specs.Vocabulary.{vocabulary};
 
 use crate::classes::sets_of;
 use crate::definitions::refuse_doubled;
@@ -18,6 +19,7 @@ use rule_grammar::{Part as Row, RuleGrammar, Table};
 use rule_parts::Part;
 use squawk_kinds::{SyntaxKind, TokenSet};
 use std::alloc::{AllocError, Global};
+use std::marker::Model;
 
 /// The greatest number of parts.
 const MOST: usize = 65000;
@@ -34,13 +36,23 @@ pub struct Rules {
     end: u16,
 }
 
+impl Model for Rules {
+    ghost use Rattle.rule_tables.specs.Made.{Made};
+
+    ghost Value = { Made };
+
+    ghost view = { λ rules. record { rows = rules.rows.items; sets = rules.sets.items; start = rules.start; end = rules.end } };
+}
+
 impl Rules {
     /// The rules of these parts. A file is what the first one says.
     pub fn new<N: Names>(
         alloc: Global,
         parts: &[Part<'_>],
         names: &N,
-    ) -> Result<Rules, RulesError> {
+    ) -> Result<Rules, RulesError>
+        ensures { IfOk result (λ rules. HasRows (vocabulary (N.token_named names.now) (N.node_named names.now) (N.class_named names.now)) parts.now rules.rows) }
+    {
         if parts.len() > MOST {
             return Err(RulesError::TooMany);
         }
@@ -52,7 +64,10 @@ impl Rules {
     }
 
     /// The rules as a table.
-    pub fn table(&self) -> Table<'_> {
+    pub fn table(&self) -> Table<'_>
+        ensures rows { result.rows.now ≡ self.now.rows }
+        ensures sets { result.sets.now ≡ self.now.sets }
+    {
         Table {
             rows: &self.rows,
             sets: &self.sets,
@@ -63,7 +78,12 @@ impl Rules {
     }
 
     /// The rules as a grammar.
-    pub fn grammar<'r>(&'r self, names: &'r [(SyntaxKind, &'r str)]) -> RuleGrammar<'r> {
+    pub fn grammar<'r>(&'r self, names: &'r [(SyntaxKind, &'r str)]) -> RuleGrammar<'r>
+        ensures rows { result.table.rows.now ≡ self.entry.now.rows }
+        ensures sets { result.table.sets.now ≡ self.entry.now.sets }
+        ensures start { result.start ≡ self.entry.now.start }
+        ensures end { result.end ≡ self.entry.now.end }
+    {
         RuleGrammar {
             table: self.table(),
             start: self.start,
@@ -76,7 +96,9 @@ impl Rules {
 }
 
 /// The index of the first rule, or 0.
-fn first_rule(parts: &[Part<'_>]) -> usize {
+fn first_rule(parts: &[Part<'_>]) -> usize
+    ensures { result ≤ length parts.now }
+{
     for (index, part) in parts.iter().enumerate() {
         if let Part::Rule { .. } = part {
             return index;
@@ -93,8 +115,9 @@ fn rules_of(
     messages: Messages,
     start: usize,
 ) -> Result<Rules, RulesError>
-    requires { All (λ row. IsTrue (is_exact row)) rows.now }
-    ensures { IfOk result (λ rules. SayRows rows.now rules.rows.items) }
+    requires exact { All (λ row. IsTrue (is_exact row)) rows.now }
+    requires small { start ≤ 65000 }
+    ensures { IfOk result (λ rules. SayRows rows.now rules.rows) }
 {
     let map = Map::new(alloc, rows, sets)?;
     let ahead = ahead_of(alloc, &map)?;

@@ -1,4 +1,6 @@
 //! Sets of kinds, each once.
+ghost use Rattle.std.specs.Prelude.{◌≡◌, ◌++◌, ◌∷◌, [], OnOk};
+
 use crate::error::RulesError;
 use squawk_kinds::{SyntaxKind, TokenSet};
 use std::alloc::{AllocError, Global};
@@ -95,7 +97,9 @@ pub(crate) fn first_of(set: TokenSet) -> Option<SyntaxKind> {
 }
 
 /// Adds an item to a list.
-pub(crate) fn push<T: Drop>(list: &mut Vec<T>, item: T) -> Result<(), AllocError> {
+pub(crate) fn push<T: Drop>(list: &mut Vec<T>, item: T) -> Result<(), AllocError>
+    ensures { OnOk result (list.new.items ≡ list.old.items ++ item ∷ []) }
+{
     list.push(item)?;
     Ok(())
 }
