@@ -1,45 +1,42 @@
-//! Errors of rules.
+//! Why rules can't be run.
 
 use std::alloc::AllocError;
+use std::error::Error;
+use std::fmt;
 
-/// A name that stands for nothing, or for more than one thing, and the index of its part.
+/// Why rules can't be run. `part` is the index of the part that is at fault.
 #[derive(Debug, Drop, Clone, Copy, PartialEq, Eq)]
-pub enum NameError {
-    /// No rule or class has this name.
+pub enum RulesError {
+    /// No rule or class has the name of the part.
     Undefined { part: usize },
-    /// Another rule or class has this name.
+    /// An earlier rule or class has the name of the part, too.
     Doubled { part: usize },
-    /// No token or node has this name.
+    /// No token or node has the name of the part.
     UnknownKind { part: usize },
+    /// Some tokens fit two ways at the part, also after four tokens.
+    Undecided { part: usize },
+    /// There are more than 65,000 parts, a level above 65,000, or more than 65,535 sets or looks.
+    TooMany,
     /// Memory ran out.
     Memory(AllocError),
 }
 
-impl From<AllocError> for NameError {
-    fn from(reason: AllocError) -> NameError {
-        NameError::Memory(reason)
+impl fmt::Display for RulesError {
+    fn fmt<W: fmt::Write>(&self, f: &mut fmt::Formatter<W>) -> fmt::Result {
+        match self {
+            RulesError::Undefined { part } => write!(f, "part {part}: no rule has this name"),
+            RulesError::Doubled { part } => write!(f, "part {part}: two rules have this name"),
+            RulesError::UnknownKind { part } => write!(f, "part {part}: no kind has this name"),
+            RulesError::Undecided { part } => {
+                write!(f, "part {part}: four tokens don't decide between two ways")
+            }
+            RulesError::TooMany => write!(f, "too many rules"),
+            RulesError::Memory(reason) => write!(f, "{reason}"),
+        }
     }
 }
 
-/// Why rules can't be run.
-#[derive(Debug, Drop, Clone, Copy, PartialEq, Eq)]
-pub enum RulesError {
-    Read(ReadError),
-    Name(NameError),
-    Memory(AllocError),
-}
-
-impl From<ReadError> for RulesError {
-    fn from(reason: ReadError) -> RulesError {
-        RulesError::Read(reason)
-    }
-}
-
-impl From<NameError> for RulesError {
-    fn from(reason: NameError) -> RulesError {
-        RulesError::Name(reason)
-    }
-}
+impl Error for RulesError {}
 
 impl From<AllocError> for RulesError {
     fn from(reason: AllocError) -> RulesError {

@@ -29,162 +29,204 @@ impl Ahead {
     };
 }
 
+/// What some rows may begin with, and whether they may eat nothing.
+#[derive(Clone, Copy)]
+struct Begins {
+    kinds: TokenSet,
+    is_empty: bool,
+}
+
 /// What comes from each part on, in its rule.
 pub(crate) fn ahead_of(alloc: Global, map: &Map<'_>) -> Result<Vec<Ahead>, AllocError> {
     let mut ahead = Vec::new(alloc);
     ahead.resize(map.rows.len(), Ahead::NOTHING)?;
-    for _round in 0..map.rows.len() {
-        if !begin_again(&mut ahead, map) {
-            break;
-        }
-    }
+    begin_all(&mut ahead, map);
     for row in 0..map.rows.len() {
         follow_in(&mut ahead, map, row);
     }
     Ok(ahead)
 }
 
+/// Works out what each part begins with: once more, until nothing is new.
+fn begin_all(ahead: &mut [Ahead], map: &Map<'_>) {
+    for _round in 0..map.rows.len() {
+        if !begin_again(ahead, map) {
+            break;
+        }
+    }
+}
+
 /// Works out once more what each part begins with. Returns whether anything is new.
 fn begin_again(ahead: &mut [Ahead], map: &Map<'_>) -> bool {
     let mut is_new = false;
     for row in (0..map.rows.len()).rev() {
-        let (begins, is_empty) = begin(ahead, map, row);
-        if let Some(known) = ahead.get_mut(row) {
-            is_new = is_new || known.begins != begins || known.is_empty != is_empty;
-            known.begins = begins;
-            known.is_empty = is_empty;
+        let begins = begin(ahead, map, row);
+        if note(ahead, row, &begins) {
+            is_new = true;
         }
     }
     is_new
 }
 
-/// What a part begins with, and whether it may eat nothing, by what is known of others.
-fn begin(ahead: &[Ahead], map: &Map<'_>, row: usize) -> (TokenSet, bool) {
-    match map.row(row) {
-        Row::Token { .. } | Row::Class { .. } | Row::Name { .. } | Row::Composite { .. } => {
-            (map.kinds(Place::Before(row)), false)
+/// Notes what a part begins with. Returns whether it is new.
+fn note(ahead: &mut [Ahead], row: usize, begins: &Begins) -> bool {
+    match ahead.get_mut(row) {
+        Some(known) => {
+            let is_new = known.begins != begins.kinds || known.is_empty != begins.is_empty;
+            known.begins = begins.kinds;
+            known.is_empty = begins.is_empty;
+            is_new
         }
-        Row::Choice { .. } => one_of(ahead, map, row),
-        Row::Operators { .. } => one_of(ahead, map, row),
-        Row::Optional { .. } | Row::Repeat { .. } => (block(ahead, map, row).0, true),
+        None => false,
+    }
+}
+
+/// What a part begins with, by what is known of others.
+fn begin(ahead: &[Ahead], map: &Map<'_>, row: usize) -> Begins {
+    match map.row(row) {
+        Row::Token { .. } | Row::Class { .. } => Begins {
+            kinds: map.kinds(Place::Before(row)),
+            is_empty: false,
+        },
+        Row::Choice { .. } | Row::Operators { .. } => one_of(ahead, map, row),
+        Row::Optional { .. } | Row::Repeat { .. } => Begins {
+            kinds: block(ahead, map, row).kinds,
+            is_empty: true,
+        },
         Row::Call { start, .. } => known(ahead, usize::from(start).saturating_sub(1)),
         Row::Operand { operators, .. } => known(ahead, usize::from(operators)),
-        Row::Becomes { .. } | Row::Nothing => (TokenSet::EMPTY, true),
+        Row::Becomes { .. } | Row::Nothing => Begins {
+            kinds: TokenSet::EMPTY,
+            is_empty: true,
+        },
         _ => block(ahead, map, row),
     }
 }
 
-fn known(ahead: &[Ahead], row: usize) -> (TokenSet, bool) {
+fn known(ahead: &[Ahead], row: usize) -> Begins {
     match ahead.get(row) {
-        Some(found) => (found.begins, found.is_empty),
-        None => (TokenSet::EMPTY, false),
+        Some(found) => Begins {
+            kinds: found.begins,
+            is_empty: found.is_empty,
+        },
+        None => Begins {
+            kinds: TokenSet::EMPTY,
+            is_empty: false,
+        },
     }
 }
 
 /// Of the arms in a row.
-fn one_of(ahead: &[Ahead], map: &Map<'_>, row: usize) -> (TokenSet, bool) {
-    let mut begins = TokenSet::EMPTY;
+fn one_of(ahead: &[Ahead], map: &Map<'_>, row: usize) -> Begins {
+    let mut kinds = TokenSet::EMPTY;
     let mut is_empty = false;
     let mut at = map.first_in(row);
-    while at != NONE {
+    while at < NONE {
         if let Row::Arm { .. } = map.row(at) {
-            let (more, may_be) = known(ahead, at);
-            begins = begins.union(more);
-            is_empty = is_empty || may_be;
+            let begins = known(ahead, at);
+            kinds = kinds.union(begins.kinds);
+            is_empty = is_empty || begins.is_empty;
         }
         at = map.next(at);
     }
-    (begins, is_empty)
+    Begins { kinds, is_empty }
 }
 
 /// Of the rows in one, one after another.
-fn block(ahead: &[Ahead], map: &Map<'_>, row: usize) -> (TokenSet, bool) {
+fn block(ahead: &[Ahead], map: &Map<'_>, row: usize) -> Begins {
     from(ahead, map, map.first_in(row))
 }
 
 /// Of the rows from one on.
-fn from(ahead: &[Ahead], map: &Map<'_>, first: usize) -> (TokenSet, bool) {
-    let mut begins = TokenSet::EMPTY;
+fn from(ahead: &[Ahead], map: &Map<'_>, first: usize) -> Begins {
+    let mut kinds = TokenSet::EMPTY;
     let mut at = first;
-    while at != NONE {
-        let (more, is_empty) = known(ahead, at);
-        begins = begins.union(more);
-        if !is_empty {
-            return (begins, false);
+    while at < NONE {
+        let begins = known(ahead, at);
+        kinds = kinds.union(begins.kinds);
+        if !begins.is_empty {
+            return Begins {
+                kinds,
+                is_empty: false,
+            };
         }
         at = map.next(at);
     }
-    (begins, true)
+    Begins {
+        kinds,
+        is_empty: true,
+    }
 }
 
 /// Works out what follows the rows in one.
 fn follow_in(ahead: &mut [Ahead], map: &Map<'_>, row: usize) {
-    let Some(outer) = ahead.get(row).copied() else {
-        return;
-    };
-    let mut after = outer;
-    match map.row(row) {
-        Row::Repeat { .. } | Row::Some { .. } => {
-            after.follows = after.follows.union(block(ahead, map, row).0);
-        }
-        Row::List { separator, .. } => {
-            after.follows = after.follows.union(TokenSet::new(&[separator]));
-        }
-        Row::Operators { .. } => {
-            after.follows = after.follows.union(tails(ahead, map, row));
-        }
-        Row::Arm { .. } if map.outer(row) == NONE => {
-            after = Ahead {
-                ends: true,
-                ..Ahead::NOTHING
-            };
-        }
-        _ => {}
-    }
+    let after = after_last(ahead, map, row);
     let is_choice = matches!(map.row(row), Row::Choice { .. } | Row::Operators { .. });
     let mut at = map.first_in(row);
-    while at != NONE {
+    while at < NONE {
         let next = if is_choice { NONE } else { map.next(at) };
-        follow(ahead, map, at, next, after);
+        follow(ahead, map, at, next, &after);
         at = map.next(at);
     }
 }
 
+/// What follows the last of the rows in one.
+fn after_last(ahead: &[Ahead], map: &Map<'_>, row: usize) -> Ahead {
+    if map.outer(row) == NONE {
+        return Ahead {
+            ends: true,
+            ..Ahead::NOTHING
+        };
+    }
+    let mut after = match ahead.get(row) {
+        Some(outer) => *outer,
+        None => Ahead::NOTHING,
+    };
+    let again = match map.row(row) {
+        Row::Repeat { .. } | Row::Some { .. } => block(ahead, map, row).kinds,
+        Row::List { .. } => map.separators(row),
+        Row::Operators { .. } => tails(ahead, map, row),
+        _ => TokenSet::EMPTY,
+    };
+    after.follows = after.follows.union(again);
+    after
+}
+
 /// Works out what follows a row, before others from `next` on.
-fn follow(ahead: &mut [Ahead], map: &Map<'_>, row: usize, next: usize, after: Ahead) {
-    let (begins, is_empty) = from(ahead, map, next);
+fn follow(ahead: &mut [Ahead], map: &Map<'_>, row: usize, next: usize, after: &Ahead) {
+    let begins = from(ahead, map, next);
     let later = all_from(ahead, map, next);
     if let Some(found) = ahead.get_mut(row) {
-        found.follows = if is_empty {
-            begins.union(after.follows)
+        found.follows = if begins.is_empty {
+            begins.kinds.union(after.follows)
         } else {
-            begins
+            begins.kinds
         };
-        found.ends = is_empty && after.ends;
+        found.ends = begins.is_empty && after.ends;
         found.later = later.union(after.later).union(after.follows);
     }
 }
 
 /// What the rows from one on begin with.
 fn all_from(ahead: &[Ahead], map: &Map<'_>, first: usize) -> TokenSet {
-    let mut begins = TokenSet::EMPTY;
+    let mut kinds = TokenSet::EMPTY;
     let mut at = first;
-    while at != NONE {
-        begins = begins.union(known(ahead, at).0);
+    while at < NONE {
+        kinds = kinds.union(known(ahead, at).kinds);
         at = map.next(at);
     }
-    begins
+    kinds
 }
 
 /// What the operators in a row begin with.
 pub(crate) fn tails(ahead: &[Ahead], map: &Map<'_>, row: usize) -> TokenSet {
-    let mut begins = TokenSet::EMPTY;
+    let mut kinds = TokenSet::EMPTY;
     let mut at = map.first_in(row);
-    while at != NONE {
+    while at < NONE {
         if let Row::Tail { .. } = map.row(at) {
-            begins = begins.union(known(ahead, at).0);
+            kinds = kinds.union(known(ahead, at).kinds);
         }
         at = map.next(at);
     }
-    begins
+    kinds
 }

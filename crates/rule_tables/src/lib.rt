@@ -5,13 +5,16 @@
 //! ```
 #![tactic(auto)]
 
+mod classes;
+mod definitions;
 mod error;
 mod follow;
 mod looks;
 mod map;
 mod messages;
 mod names;
-mod resolve;
+mod numbers;
+mod rows;
 mod rules;
 mod sets;
 #[cfg(test)]

@@ -1,15 +1,19 @@
 //! What decides between two ways: the tokens that come.
-use crate::map::{Map, Place};
-use crate::sets::{Sets, both, first_of, without};
+ghost use Rattle.std.specs.Prelude.{◌<◌, IfOk};
+
+use crate::error::RulesError;
+use crate::map::{Map, NONE, Place};
+use crate::sets::{Sets, both, first_of, push, without};
 use crate::walk::{Walk, kinds_at};
+use rule_grammar::Part as Row;
 use squawk_kinds::TokenSet;
 use std::alloc::{AllocError, Global};
 
 /// How many tokens are looked at.
-pub(crate) const LOOK: usize = 4;
+const LOOK: usize = 4;
 
 /// Any kind, in a look.
-pub(crate) const ANY: u16 = u16::MAX;
+const ANY: u16 = u16::MAX;
 
 /// A look: the sets that the tokens are in, or [`ANY`], and the number of the look that is tried next, or 0.
 pub(crate) type Look = [u16; 5];
@@ -22,52 +26,79 @@ pub(crate) struct Looks<'m> {
     pub(crate) walk: Walk,
     pub(crate) sets: Sets,
     pub(crate) list: Vec<Look>,
-    /// Whether some tokens fit both ways.
-    pub(crate) is_open: bool,
 }
 
 impl Looks<'_> {
     /// The places that eat first, from one on.
     pub(crate) fn from(&mut self, place: Place) -> Result<Vec<Place>, AllocError> {
         self.walk.begin();
-        self.walk.push(place, self.map.rows.len())?;
+        self.walk.push(place)?;
         self.walk.places(self.alloc, self.map)
     }
 
+    /// The places that eat first, from the later arms or operators beside one on.
+    pub(crate) fn rivals(&mut self, row: usize) -> Result<Vec<Place>, AllocError> {
+        let mut rivals = Vec::new(self.alloc);
+        let mut at = self.map.next(row);
+        while at < NONE {
+            if is_alike(self.map.row(row), self.map.row(at)) {
+                let places = self.from(Place::Before(at))?;
+                rivals.extend_from_slice(&places)?;
+            }
+            at = self.map.next(at);
+        }
+        Ok(rivals)
+    }
+
+    /// The number of the look at which a part goes on at a place, and not after it.
+    pub(crate) fn more(&mut self, part: usize, place: Place) -> Result<u16, RulesError> {
+        let mine = self.from(place)?;
+        let others = self.from(Place::After(part))?;
+        self.decide(part, &mine, &others)
+    }
+
     /// The number of the look at which the first way is gone, or 0 if one token decides.
-    pub(crate) fn decide(&mut self, mine: &[Place], others: &[Place]) -> Result<u16, AllocError> {
+    pub(crate) fn decide(
+        &mut self,
+        part: usize,
+        mine: &[Place],
+        others: &[Place],
+    ) -> Result<u16, RulesError> {
         let shared = both(kinds_at(self.map, mine), kinds_at(self.map, others));
         if shared == TokenSet::EMPTY {
             return Ok(0);
         }
-        let first = self.list.len();
-        self.decide_after(mine, others, [ANY; 5], 0)?;
-        self.link(first);
-        Ok(u16::try_from(first + 1).unwrap_or(0))
+        let first = number_of(self.list.len())?;
+        self.decide_after(part, mine, others, &[ANY; 5], 0)?;
+        self.link(usize::from(first))?;
+        Ok(first)
     }
 
-    /// Links the looks from one on to one another.
-    fn link(&mut self, first: usize) {
-        let len = self.list.len();
-        let mut at = first;
-        while at < len {
-            let next = if at + 1 < len { at + 2 } else { 0 };
-            if let Some(look) = self.list.get_mut(at) {
-                look[4] = u16::try_from(next).unwrap_or(0);
+    /// Links the looks from the one of this number on to one another.
+    fn link(&mut self, first: usize) -> Result<(), RulesError>
+        requires { 0 < first }
+    {
+        for at in first..self.list.len() {
+            let next = number_of(at)?;
+            if let Some(look) = self.list.get_mut(at - 1) {
+                look[4] = next;
             }
-            at += 1;
         }
+        Ok(())
     }
 
     /// Adds the looks that begin so, where `depth` tokens came.
     #[cycle(decide)]
     fn decide_after(
         &mut self,
+        part: usize,
         mine: &[Place],
         others: &[Place],
-        look: Look,
+        look: &Look,
         depth: usize,
-    ) -> Result<(), AllocError> {
+    ) -> Result<(), RulesError>
+        requires { depth < 4 }
+    {
         let own = kinds_at(self.map, mine);
         let shared = both(own, kinds_at(self.map, others));
         let alone = without(own, shared);
@@ -78,39 +109,44 @@ impl Looks<'_> {
             return Ok(());
         }
         if depth + 1 >= LOOK {
-            self.is_open = true;
-            return self.add(look, depth, shared);
+            return Err(RulesError::Undecided { part });
         }
         let groups = self.groups(mine, others, shared)?;
         for group in &groups {
-            self.decide_group(mine, others, look, depth, *group)?;
+            self.decide_group(part, mine, others, look, depth, *group)?;
         }
         Ok(())
     }
 
+    /// The same, where the next token is in a set of kinds that are eaten at the same places.
     #[cycle(decide)]
     fn decide_group(
         &mut self,
+        part: usize,
         mine: &[Place],
         others: &[Place],
-        look: Look,
+        look: &Look,
         depth: usize,
         group: TokenSet,
-    ) -> Result<(), AllocError> {
+    ) -> Result<(), RulesError>
+        requires { depth < 3 }
+    {
         let Some(kind) = first_of(group) else {
             return Ok(());
         };
-        let mut look = look;
+        let mut look = *look;
         look[depth] = self.sets.number(group)?;
         let mine = self.walk.over(self.alloc, self.map, mine, kind)?;
         let others = self.walk.over(self.alloc, self.map, others, kind)?;
-        self.decide_after(&mine, &others, look, depth + 1)
+        self.decide_after(part, &mine, &others, &look, depth + 1)
     }
 
-    fn add(&mut self, look: Look, depth: usize, set: TokenSet) -> Result<(), AllocError> {
-        let mut look = look;
+    fn add(&mut self, look: &Look, depth: usize, set: TokenSet) -> Result<(), RulesError>
+        requires { depth < 4 }
+    {
+        let mut look = *look;
         look[depth] = self.sets.number(set)?;
-        self.list.push(look)?;
+        push(&mut self.list, look)?;
         Ok(())
     }
 
@@ -132,12 +168,36 @@ impl Looks<'_> {
     fn cut(&self, groups: &[TokenSet], kinds: TokenSet) -> Result<Vec<TokenSet>, AllocError> {
         let mut cut = Vec::new(self.alloc);
         for group in groups {
-            for part in [both(*group, kinds), without(*group, kinds)] {
-                if part != TokenSet::EMPTY {
-                    cut.push(part)?;
-                }
-            }
+            add_some(&mut cut, both(*group, kinds))?;
+            add_some(&mut cut, without(*group, kinds))?;
         }
         Ok(cut)
+    }
+}
+
+/// Whether both are arms, or both operators.
+fn is_alike(one: Row, other: Row) -> bool {
+    match one {
+        Row::Arm { .. } => matches!(other, Row::Arm { .. }),
+        _ => matches!(other, Row::Tail { .. }),
+    }
+}
+
+/// Adds a set, unless it is empty.
+fn add_some(sets: &mut Vec<TokenSet>, set: TokenSet) -> Result<(), AllocError> {
+    if set != TokenSet::EMPTY {
+        sets.push(set)?;
+    }
+    Ok(())
+}
+
+/// The number of a look, from 1.
+fn number_of(index: usize) -> Result<u16, RulesError>
+    ensures { IfOk result (λ number. 0 < number) }
+{
+    if index < 65535 {
+        Ok(index as u16 + 1)
+    } else {
+        Err(RulesError::TooMany)
     }
 }

@@ -1,4 +1,7 @@
 //! Sets of kinds, each once.
+ghost use Rattle.std.specs.Prelude.{◌≡◌, ◌++◌, ◌∷◌, [], OnOk};
+
+use crate::error::RulesError;
 use squawk_kinds::{SyntaxKind, TokenSet};
 use std::alloc::{AllocError, Global};
 
@@ -9,33 +12,42 @@ pub(crate) struct Sets {
 }
 
 impl Sets {
-    pub(crate) fn new(alloc: Global) -> Sets {
-        Sets {
-            list: Vec::new(alloc),
-        }
-    }
-
-    /// Adds a set, also one that is there.
-    pub(crate) fn add(&mut self, set: TokenSet) -> Result<(), AllocError> {
-        self.list.push(set)?;
-        Ok(())
+    /// These sets, each also where it is there more than once.
+    pub(crate) fn new(alloc: Global, sets: &[TokenSet]) -> Result<Sets, AllocError> {
+        Ok(Sets {
+            list: Vec::from_slice(alloc, sets)?,
+        })
     }
 
     /// The number of a set.
-    pub(crate) fn number(&mut self, set: TokenSet) -> Result<u16, AllocError> {
-        match self.list.iter().position(|one| *one == set) {
-            Some(number) => Ok(to_u16(number)),
-            None => {
-                let number = self.list.len();
-                self.list.push(set)?;
-                Ok(to_u16(number))
+    pub(crate) fn number(&mut self, set: TokenSet) -> Result<u16, RulesError> {
+        for (number, one) in self.list.iter().enumerate() {
+            if *one == set {
+                return number_of(number);
             }
         }
+        let number = number_of(self.list.len())?;
+        push(&mut self.list, set)?;
+        Ok(number)
     }
 }
 
-fn to_u16(number: usize) -> u16 {
-    u16::try_from(number).unwrap_or(u16::MAX)
+/// The number of a set in a table. The greatest one is no set.
+fn number_of(index: usize) -> Result<u16, RulesError> {
+    if index < 65535 {
+        Ok(index as u16)
+    } else {
+        Err(RulesError::TooMany)
+    }
+}
+
+/// The set of one kind: it has none that no token has.
+pub(crate) fn set_of(kind: SyntaxKind) -> TokenSet {
+    if kind <= SyntaxKind::WHITESPACE {
+        TokenSet::new(&[kind])
+    } else {
+        TokenSet::EMPTY
+    }
 }
 
 /// The kinds that are in both sets.
@@ -85,7 +97,9 @@ pub(crate) fn first_of(set: TokenSet) -> Option<SyntaxKind> {
 }
 
 /// Adds an item to a list.
-pub(crate) fn push<T: Drop>(list: &mut Vec<T>, item: T) -> Result<(), AllocError> {
+pub(crate) fn push<T: Drop>(list: &mut Vec<T>, item: T) -> Result<(), AllocError>
+    ensures { OnOk result (list.new.items ≡ list.old.items ++ item ∷ []) }
+{
     list.push(item)?;
     Ok(())
 }

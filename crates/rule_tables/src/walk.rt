@@ -7,66 +7,89 @@ use std::alloc::{AllocError, Global};
 /// A walk over places, without eating.
 #[derive(Drop)]
 pub(crate) struct Walk {
-    /// The number of the walk that was at each place last.
-    seen: Vec<u32>,
-    walk: u32,
-    open: Vec<Place>,
+    /// The number of this walk.
+    walk: u64,
+    /// The number of the walk that was last before each row.
+    before: Vec<u64>,
+    /// The same after each row.
+    after: Vec<u64>,
+    /// The same before the separator of each row.
+    separators: Vec<u64>,
+    /// The number of the walk that was last at the end of the text.
+    end: u64,
+    /// The places where the walk still has to go on.
+    todo: Vec<Place>,
     /// The row of the header of the rule of a file.
     start: usize,
 }
 
 impl Walk {
     pub(crate) fn new(alloc: Global, rows: usize, start: usize) -> Result<Walk, AllocError> {
-        let mut seen = Vec::new(alloc);
-        seen.resize(3 * rows + 1, 0)?;
         Ok(Walk {
-            seen,
             walk: 0,
-            open: Vec::new(alloc),
+            before: zeros(alloc, rows)?,
+            after: zeros(alloc, rows)?,
+            separators: zeros(alloc, rows)?,
+            end: 0,
+            todo: Vec::new(alloc),
             start,
         })
     }
 
     /// Begins a walk.
     pub(crate) fn begin(&mut self) {
-        self.walk += 1;
-        self.open.clear();
+        self.walk = self.walk.saturating_add(1);
+        self.todo.clear();
     }
 
-    /// Adds a place that the walk begins at.
-    pub(crate) fn push(&mut self, place: Place, rows: usize) -> Result<(), AllocError> {
-        let index = match place {
-            Place::Before(row) => row,
-            Place::After(row) => rows + row,
-            Place::Separator(row) => 2 * rows + row,
-            Place::End => 3 * rows,
-        };
-        if let Some(seen) = self.seen.get_mut(index) {
-            if *seen != self.walk {
-                *seen = self.walk;
-                self.open.push(place)?;
-            }
+    /// Adds a place that the walk goes on at, once.
+    pub(crate) fn push(&mut self, place: Place) -> Result<(), AllocError> {
+        if self.is_new(place) {
+            self.todo.push(place)?;
         }
         Ok(())
+    }
+
+    /// Notes that the walk was at a place. Returns whether it wasn't before.
+    fn is_new(&mut self, place: Place) -> bool {
+        let walk = self.walk;
+        match place {
+            Place::Before(row) => is_new_in(&mut self.before, row, walk),
+            Place::After(row) => is_new_in(&mut self.after, row, walk),
+            Place::Separator(row) => is_new_in(&mut self.separators, row, walk),
+            Place::End => {
+                let last = self.end;
+                self.end = walk;
+                last != walk
+            }
+        }
     }
 
     /// The places that eat, of those that the walk reaches.
     pub(crate) fn places(&mut self, alloc: Global, map: &Map<'_>) -> Result<Vec<Place>, AllocError> {
         let mut places = Vec::new(alloc);
-        while let Some(place) = self.open.pop() {
-            match place {
-                Place::Before(row) => {
-                    if eats(map.row(row)) {
-                        places.push(place)?;
-                    } else {
-                        self.enter(map, row)?;
-                    }
-                }
-                Place::After(row) => self.after(map, row)?,
-                Place::Separator(_) | Place::End => places.push(place)?,
+        // Each place is taken out once.
+        let most = self.before.len().saturating_mul(3).saturating_add(1);
+        for _count in 0..most {
+            let Some(place) = self.todo.pop() else {
+                break;
+            };
+            if eats(map, place) {
+                places.push(place)?;
+            } else {
+                self.go_on(map, place)?;
             }
         }
         Ok(places)
+    }
+
+    /// Goes on from a place that doesn't eat.
+    fn go_on(&mut self, map: &Map<'_>, place: Place) -> Result<(), AllocError> {
+        match place {
+            Place::Before(row) => self.enter(map, row),
+            Place::After(row) => self.after(map, row),
+            Place::Separator(_) | Place::End => Ok(()),
+        }
     }
 
     /// Goes into a part.
@@ -74,32 +97,32 @@ impl Walk {
         match map.row(row) {
             Row::Choice { .. } | Row::Operators { .. } => self.arms(map, row),
             Row::Optional { .. } | Row::Repeat { .. } => {
-                self.push(Place::After(row), map.rows.len())?;
-                self.block(map, row)
-            }
-            Row::Node { .. } | Row::Arm { .. } | Row::Some { .. } | Row::List { .. } | Row::Tail { .. } => {
+                self.push(Place::After(row))?;
                 self.block(map, row)
             }
             Row::Call { start, .. } => self.block(map, usize::from(start).saturating_sub(1)),
             Row::Operand { operators, .. } => self.arms(map, usize::from(operators)),
-            _ => self.push(Place::After(row), map.rows.len()),
+            Row::Becomes { .. } | Row::Nothing => self.push(Place::After(row)),
+            _ => self.block(map, row),
         }
     }
 
     /// Goes to the first of the rows in one.
     fn block(&mut self, map: &Map<'_>, row: usize) -> Result<(), AllocError> {
-        match map.first_in(row) {
-            NONE => self.leave(map, row),
-            first => self.push(Place::Before(first), map.rows.len()),
+        let first = map.first_in(row);
+        if first == NONE {
+            self.leave(map, row)
+        } else {
+            self.push(Place::Before(first))
         }
     }
 
     /// Goes to each arm in a row.
     fn arms(&mut self, map: &Map<'_>, row: usize) -> Result<(), AllocError> {
         let mut at = map.first_in(row);
-        while at != NONE {
+        while at < NONE {
             if let Row::Arm { .. } = map.row(at) {
-                self.push(Place::Before(at), map.rows.len())?;
+                self.push(Place::Before(at))?;
             }
             at = map.next(at);
         }
@@ -108,10 +131,14 @@ impl Walk {
 
     /// Goes on after a part.
     fn after(&mut self, map: &Map<'_>, row: usize) -> Result<(), AllocError> {
-        match (map.row(row), map.next(row)) {
-            (Row::Arm { .. } | Row::Tail { .. }, _) => self.after_arm(map, row),
-            (_, NONE) => self.leave(map, map.outer(row)),
-            (_, next) => self.push(Place::Before(next), map.rows.len()),
+        if matches!(map.row(row), Row::Arm { .. } | Row::Tail { .. }) {
+            return self.after_arm(map, row);
+        }
+        let next = map.next(row);
+        if next == NONE {
+            self.leave(map, map.outer(row))
+        } else {
+            self.push(Place::Before(next))
         }
     }
 
@@ -119,21 +146,21 @@ impl Walk {
     fn leave(&mut self, map: &Map<'_>, row: usize) -> Result<(), AllocError> {
         match map.row(row) {
             Row::Repeat { .. } | Row::Some { .. } => {
-                self.push(Place::Before(row + 1), map.rows.len())?;
+                self.push(Place::Before(map.first_in(row)))?;
             }
-            Row::List { .. } => self.push(Place::Separator(row), map.rows.len())?,
+            Row::List { .. } => self.push(Place::Separator(row))?,
             _ => {}
         }
-        self.push(Place::After(row), map.rows.len())
+        self.push(Place::After(row))
     }
 
     /// Goes on after an arm, an operator or a rule.
     fn after_arm(&mut self, map: &Map<'_>, arm: usize) -> Result<(), AllocError> {
         let outer = map.outer(arm);
         match map.row(outer) {
-            Row::Choice { .. } => self.push(Place::After(outer), map.rows.len()),
+            Row::Choice { .. } => self.push(Place::After(outer)),
             Row::Operators { .. } => {
-                self.push(Place::After(outer), map.rows.len())?;
+                self.push(Place::After(outer))?;
                 self.tails(map, outer)?;
                 self.callers(map, outer)
             }
@@ -144,9 +171,9 @@ impl Walk {
     /// Goes to each operator in a row.
     fn tails(&mut self, map: &Map<'_>, row: usize) -> Result<(), AllocError> {
         let mut at = map.first_in(row);
-        while at != NONE {
+        while at < NONE {
             if let Row::Tail { .. } = map.row(at) {
-                self.push(Place::Before(at), map.rows.len())?;
+                self.push(Place::Before(at))?;
             }
             at = map.next(at);
         }
@@ -156,11 +183,11 @@ impl Walk {
     /// Goes on after each call of a rule.
     fn callers(&mut self, map: &Map<'_>, header: usize) -> Result<(), AllocError> {
         if header == self.start {
-            self.push(Place::End, map.rows.len())?;
+            self.push(Place::End)?;
         }
         let mut call = map.first_call(header);
-        while call != NONE {
-            self.push(Place::After(call), map.rows.len())?;
+        while call < NONE {
+            self.push(Place::After(call))?;
             call = map.next_call(call);
         }
         Ok(())
@@ -185,19 +212,20 @@ impl Walk {
 
     fn step(&mut self, map: &Map<'_>, place: Place) -> Result<(), AllocError> {
         match place {
-            Place::Separator(row) => self.push(Place::Before(row + 1), map.rows.len()),
-            Place::Before(row) => self.push(Place::After(row), map.rows.len()),
-            Place::After(_) | Place::End => self.push(place, map.rows.len()),
+            Place::Separator(row) => self.push(Place::Before(map.first_in(row))),
+            Place::Before(row) => self.push(Place::After(row)),
+            Place::After(_) | Place::End => self.push(place),
         }
     }
 }
 
-/// Whether a part eats a token.
-fn eats(row: Row) -> bool {
-    matches!(
-        row,
-        Row::Token { .. } | Row::Composite { .. } | Row::Class { .. } | Row::Name { .. }
-    )
+/// Whether a token is eaten at a place.
+fn eats(map: &Map<'_>, place: Place) -> bool {
+    match place {
+        Place::Before(row) => matches!(map.row(row), Row::Token { .. } | Row::Class { .. }),
+        Place::After(_) => false,
+        Place::Separator(_) | Place::End => true,
+    }
 }
 
 /// The kinds that are eaten at some places.
@@ -207,4 +235,21 @@ pub(crate) fn kinds_at(map: &Map<'_>, places: &[Place]) -> TokenSet {
         kinds = kinds.union(map.kinds(*place));
     }
     kinds
+}
+
+fn zeros(alloc: Global, len: usize) -> Result<Vec<u64>, AllocError> {
+    let mut list = Vec::new(alloc);
+    list.resize(len, 0)?;
+    Ok(list)
+}
+
+fn is_new_in(walks: &mut [u64], row: usize, walk: u64) -> bool {
+    match walks.get_mut(row) {
+        Some(last) => {
+            let is_new = *last != walk;
+            *last = walk;
+            is_new
+        }
+        None => false,
+    }
 }

@@ -1,0 +1,10 @@
+use Rattle.std.proofs.Common.{◌≡◌, length, Some}
+use Rattle.rule_grammar.specs.Parts.{part_at}
+use Rattle.rule_tables.specs.Rows.{ListsSome}
+use Rattle.rule_tables.proofs.rules.all_numbers.Given as goal
+
+abbrev pub invariant-loop-index : goal.invariant-loop-index
+invariant-loop-index l = record {
+  len : length l.numbers.items ≡ l.index;
+  say : ListsSome (λ i. Some (part_at l.numbers.items i)) l.index l.rows;
+}

@@ -1,0 +1,4 @@
+pub mod Vocabulary
+pub mod Definitions
+pub mod Rows
+pub mod Made

@@ -1,0 +1,128 @@
+//! The numbers of a row.
+ghost use Rattle.std.specs.Prelude.{◌≡◌, ◌<◌, ◌%◌, IfOk, IsTrue, Some, slice_get, slice_index};
+ghost use Rattle.rule_grammar.specs.Parts.{part_by, part_of};
+ghost use Rattle.rule_tables.specs.Rows.{is_exact, tail_tag};
+
+use crate::error::RulesError;
+use crate::follow::{Ahead, tails};
+use crate::looks::Looks;
+use crate::map::{NONE, Place};
+use crate::walk::kinds_at;
+use rule_grammar::Part as Row;
+use squawk_kinds::TokenSet;
+use std::alloc::AllocError;
+
+/// The numbers of a row.
+pub(crate) fn numbers_of(
+    looks: &mut Looks<'_>,
+    ahead: &[Ahead],
+    index: usize,
+    row: &Row,
+    message: u16,
+) -> Result<[u16; 8], RulesError>
+    requires { IsTrue (is_exact row.now) }
+    ensures { IfOk result (λ numbers. part_of numbers ≡ row.now) }
+{
+    let known = match ahead.get(index) {
+        Some(known) => *known,
+        None => Ahead::NOTHING,
+    };
+    let [part, end, number] = part_numbers(row);
+    let begins = begins(looks, &known, index, row)?;
+    let begins = looks.sets.number(begins)?;
+    let follows = looks.sets.number(known.follows)?;
+    let later = looks.sets.number(known.later)?;
+    let look = look(looks, ahead, index, row)?;
+    let part = with_end(part, known.ends);
+    Ok([part, end, number, begins, follows, later, look, message])
+}
+
+/// The number 0 of a row: 256 more if the rule may end after it.
+fn with_end(part: u16, ends: bool) -> u16
+    requires { part < 19 }
+    ensures { result % 256 ≡ part }
+{
+    if ends { part + 256 } else { part }
+}
+
+/// The kinds at which a part is gone into.
+fn begins(
+    looks: &mut Looks<'_>,
+    known: &Ahead,
+    index: usize,
+    row: &Row,
+) -> Result<TokenSet, AllocError> {
+    match row {
+        Row::Arm { .. } | Row::Tail { .. } | Row::Choice { .. } if looks.map.outer(index) != NONE => {
+            let mine = looks.from(Place::Before(index))?;
+            Ok(kinds_at(looks.map, &mine))
+        }
+        _ => Ok(known.begins),
+    }
+}
+
+/// The look of a row, or the set of kinds that one of its operators begins with.
+fn look(
+    looks: &mut Looks<'_>,
+    ahead: &[Ahead],
+    index: usize,
+    row: &Row,
+) -> Result<u16, RulesError> {
+    match row {
+        Row::Arm { .. } | Row::Tail { .. } => {
+            if looks.map.outer(index) == NONE {
+                return Ok(0);
+            }
+            let mine = looks.from(Place::Before(index))?;
+            let others = looks.rivals(index)?;
+            looks.decide(index, &mine, &others)
+        }
+        Row::Optional { .. } | Row::Repeat { .. } | Row::Some { .. } => {
+            looks.more(index, Place::Before(looks.map.first_in(index)))
+        }
+        Row::List { .. } => looks.more(index, Place::Separator(index)),
+        Row::Operators { .. } => {
+            let tails = tails(ahead, looks.map, index);
+            looks.sets.number(tails)
+        }
+        _ => Ok(0),
+    }
+}
+
+/// The numbers 0, 1 and 2 of a row.
+fn part_numbers(row: &Row) -> [u16; 3]
+    ensures small { slice_index result 0 < 19 }
+    ensures is { IsTrue (is_exact row.now) → part_by (slice_index result 0) (slice_index result 1) (slice_index result 2) ≡ row.now }
+{
+    match row {
+        Row::Nothing => [0, 0, 0],
+        Row::Token { kind } => [1, 0, kind.0],
+        Row::Composite { kind } => [2, 0, kind.0],
+        Row::Class { set } => [3, 0, *set],
+        Row::Name { set } => [4, 0, *set],
+        Row::Node { end, kind } => [5, *end, kind.0],
+        Row::Becomes { kind } => [6, 0, kind.0],
+        Row::Choice { end } => [7, *end, 0],
+        Row::Arm { end } => [8, *end, 0],
+        Row::Optional { end } => [9, *end, 0],
+        Row::Repeat { end } => [10, *end, 0],
+        Row::List { end, separator } => [11, *end, separator.0],
+        Row::Call { start, end } => [12, *end, *start],
+        Row::Operators { end } => [13, *end, 0],
+        Row::Operand { operators, floor } => [14, *operators, *floor],
+        Row::Tail { end, level, ceiling } => [tail_number(*level, *ceiling), *end, *level],
+        Row::Some { end } => [18, *end, 0],
+    }
+}
+
+fn tail_number(level: u16, ceiling: u16) -> u16
+    ensures { result ≡ tail_tag level ceiling }
+{
+    if ceiling == level {
+        15
+    } else if ceiling < level {
+        16
+    } else {
+        17
+    }
+}

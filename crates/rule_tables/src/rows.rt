@@ -1,0 +1,205 @@
+//! Rows: parts, with what the names in them stand for.
+ghost use Rattle.std.specs.Prelude.{◌≡◌, ◌≤◌, ◌+◌, IfOk, Some, length, slice_get};
+ghost use Rattle.rule_grammar.specs.declared.part.Part.TheVariants.{Tail};
+ghost use Rattle.rule_tables.specs.Definitions.{class_number, definition_of};
+ghost use Rattle.rule_tables.specs.Rows.{AreRows, call_of, ceiling, end_of, members_end, members_end_after, operators_after, operators_before, row_by, row_of};
+ghost use Rattle.rule_tables.specs.Vocabulary.{vocabulary};
+
+use crate::definitions::{class_number, find};
+use crate::error::RulesError;
+use crate::names::Names;
+use crate::sets::push;
+use rule_grammar::Part as Row;
+use rule_parts::{Association, Name, Part};
+use squawk_kinds::SyntaxKind;
+use std::alloc::Global;
+
+/// The greatest number of parts, and the greatest level.
+const MOST: usize = 65000;
+
+/// The rows of these parts.
+pub(crate) fn rows_of<N: Names>(
+    alloc: Global,
+    parts: &[Part<'_>],
+    names: &N,
+) -> Result<Vec<Row>, RulesError>
+    ensures len { IfOk result (λ rows. length rows.items ≡ length parts.now) }
+    ensures are { IfOk result (λ rows. AreRows (vocabulary (N.token_named names.now) (N.node_named names.now) (N.class_named names.now)) parts.now rows.items) }
+{
+    let mut rows = Vec::new(alloc);
+    let mut outer = Outer {
+        members_end: 0,
+        operators: 0,
+    };
+    for (index, part) in parts.iter().enumerate() {
+        let row = row_by(parts, part, index, &outer, names)?;
+        push(&mut rows, row)?;
+        outer = outer_after(&outer, index, part)?;
+    }
+    Ok(rows)
+}
+
+/// What the parts before one say of it.
+#[derive(Clone, Copy)]
+struct Outer {
+    /// The index after the last member of the class before it.
+    members_end: usize,
+    /// The index of the operators before it.
+    operators: usize,
+}
+
+fn outer_after(outer: &Outer, index: usize, part: &Part<'_>) -> Result<Outer, RulesError>
+    ensures members { IfOk result (λ after. after.members_end ≡ members_end_after outer.now.members_end index (Some part.now)) }
+    ensures operators { IfOk result (λ after. after.operators ≡ operators_after outer.now.operators index (Some part.now)) }
+{
+    match part {
+        Part::Set { size, .. } => Ok(Outer {
+            members_end: usize::from(end_of(index, *size)?),
+            operators: outer.operators,
+        }),
+        Part::Operators { .. } => Ok(Outer {
+            members_end: outer.members_end,
+            operators: index,
+        }),
+        _ => Ok(*outer),
+    }
+}
+
+/// The row of a part.
+fn row_by<N: Names>(
+    parts: &[Part<'_>],
+    part: &Part<'_>,
+    index: usize,
+    outer: &Outer,
+    names: &N,
+) -> Result<Row, RulesError>
+    ensures { IfOk result (λ row. row_by (vocabulary (N.token_named names.now) (N.node_named names.now) (N.class_named names.now)) parts.now outer.now.members_end outer.now.operators index part.now ≡ Some row) }
+{
+    if index < outer.members_end {
+        Ok(Row::Nothing)
+    } else {
+        row_of(parts, part, index, outer, names)
+    }
+}
+
+/// The row of a part that is in no class.
+fn row_of<N: Names>(
+    parts: &[Part<'_>],
+    part: &Part<'_>,
+    index: usize,
+    outer: &Outer,
+    names: &N,
+) -> Result<Row, RulesError>
+    ensures { IfOk result (λ row. row_of (vocabulary (N.token_named names.now) (N.node_named names.now) (N.class_named names.now)) parts.now outer.now.operators index part.now ≡ Some row) }
+{
+    let row = match part {
+        Part::Set { .. } | Part::Without => Row::Nothing,
+        Part::Token { name } => Row::Token {
+            kind: token(names, name, index)?,
+        },
+        Part::Class { name } => Row::Class {
+            set: class(parts, name, index)?,
+        },
+        Part::Call { name } => call(parts, name, index)?,
+        Part::Becomes { name } => Row::Becomes {
+            kind: node(names, name, index)?,
+        },
+        Part::List { size, separator } => Row::List {
+            end: end_of(index, *size)?,
+            separator: token(names, separator, index)?,
+        },
+        Part::Tail { level, association, size } => tail(end_of(index, *size)?, *level, association)?,
+        Part::Operand { floor } => Row::Operand {
+            operators: number(outer.operators)?,
+            floor: number(*floor)?,
+        },
+        Part::Node { size } => Row::Node {
+            end: end_of(index, *size)?,
+            kind: SyntaxKind::ERROR,
+        },
+        Part::Rule { size, .. } => Row::Arm { end: end_of(index, *size)? },
+        Part::Choice { size } => Row::Choice { end: end_of(index, *size)? },
+        Part::Arm { size } => Row::Arm { end: end_of(index, *size)? },
+        Part::Optional { size } => Row::Optional { end: end_of(index, *size)? },
+        Part::Repeat { size } => Row::Repeat { end: end_of(index, *size)? },
+        Part::Some { size } => Row::Some { end: end_of(index, *size)? },
+        Part::Operators { size } => Row::Operators { end: end_of(index, *size)? },
+    };
+    Ok(row)
+}
+
+/// The row after the last one in a part of this size.
+fn end_of(index: usize, size: usize) -> Result<u16, RulesError>
+    ensures { IfOk result (λ end. end ≡ end_of index size) }
+{
+    number(size.saturating_add(index).saturating_add(1))
+}
+
+fn number(number: usize) -> Result<u16, RulesError>
+    ensures is { IfOk result (λ same. same ≡ number) }
+    ensures small { IfOk result (λ same. same ≤ 65000) }
+{
+    if number <= MOST {
+        Ok(number as u16)
+    } else {
+        Err(RulesError::TooMany)
+    }
+}
+
+fn tail(end: u16, level: usize, association: &Association) -> Result<Row, RulesError>
+    ensures { IfOk result (λ row. row ≡ Tail end level (ceiling association.now level)) }
+{
+    let level = number(level)?;
+    let ceiling = match association {
+        Association::Neither => level.saturating_sub(1),
+        _ => level,
+    };
+    Ok(Row::Tail { end, level, ceiling })
+}
+
+fn class(parts: &[Part<'_>], name: &Name<'_>, part: usize) -> Result<u16, RulesError>
+    ensures { IfOk result (λ set. class_number parts.now name.now.text.now ≡ Some set) }
+{
+    match class_number(parts, name.text) {
+        Some(set) => number(set),
+        None => Err(RulesError::Undefined { part }),
+    }
+}
+
+fn call(parts: &[Part<'_>], name: &Name<'_>, part: usize) -> Result<Row, RulesError>
+    ensures { IfOk result (λ row. call_of parts.now (definition_of parts.now name.now.text.now) ≡ Some row) }
+{
+    let Some(rule) = find(parts, name.text) else {
+        return Err(RulesError::Undefined { part });
+    };
+    match parts.get(rule) {
+        Some(Part::Rule { size, .. }) => Ok(Row::Call {
+            start: number(rule + 1)?,
+            end: end_of(rule, *size)?,
+        }),
+        _ => Err(RulesError::Undefined { part }),
+    }
+}
+
+/// The kind of the token with this name.
+pub(crate) fn token<N: Names>(
+    names: &N,
+    name: &Name<'_>,
+    part: usize,
+) -> Result<SyntaxKind, RulesError>
+    ensures { IfOk result (λ kind. N.token_named names.now name.now.text.now ≡ Some kind) }
+{
+    match names.token(name.text) {
+        Some(kind) => Ok(kind),
+        None => Err(RulesError::UnknownKind { part }),
+    }
+}
+
+fn node<N: Names>(names: &N, name: &Name<'_>, part: usize) -> Result<SyntaxKind, RulesError>
+    ensures { IfOk result (λ kind. N.node_named names.now name.now.text.now ≡ Some kind) }
+{
+    match names.node(name.text) {
+        Some(kind) => Ok(kind),
+        None => Err(RulesError::UnknownKind { part }),
+    }
+}
