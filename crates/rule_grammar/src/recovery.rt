@@ -171,7 +171,7 @@ pub(crate) fn is_separated(
     ensures counts { Counts told.old.place told.new.place p.old p.new }
     ensures some { result ≡ true → kind_at p.new 0 ≢ EOF }
 {
-    if is_at(separator, p) {
+    if is_at(separator, p) && rule.table.sees(row, p) {
         true
     } else {
         is_separated_after_others(rule, row, separator, told, p)

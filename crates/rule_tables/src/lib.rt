@@ -9,6 +9,7 @@ mod classes;
 mod definitions;
 mod error;
 mod follow;
+mod keyword_names;
 mod looks;
 mod map;
 mod messages;
@@ -17,10 +18,9 @@ mod numbers;
 mod rows;
 mod rules;
 mod sets;
-#[cfg(test)]
-mod tests;
 mod walk;
 
 pub use error::RulesError;
+pub use keyword_names::KeywordNames;
 pub use names::Names;
 pub use rules::Rules;

@@ -1,0 +1,69 @@
+//! Names by a vocabulary and by lists.
+ghost use Rattle.std.specs.Prelude.{◌≡◌, map};
+ghost use Rattle.std.specs.Map.{lookup};
+ghost use Rattle.std.specs.Str.{bytes_eq};
+
+use crate::names::Names;
+use squawk_kinds::{SyntaxKind, TokenSet, Vocabulary};
+
+/// Names by a vocabulary and by lists, of which the first pair with a name counts.
+#[derive(Clone, Copy)]
+pub struct KeywordNames<'n, V> {
+    /// Keywords.
+    pub words: &'n V,
+    /// The other tokens, by names or spellings.
+    pub tokens: &'n [(&'n str, SyntaxKind)],
+    pub nodes: &'n [(&'n str, SyntaxKind)],
+    /// The caller's classes of tokens.
+    pub classes: &'n [(&'n str, TokenSet)],
+}
+
+impl<'n, V: Vocabulary> Names for KeywordNames<'n, V> {
+    ghost use Rattle.std.specs.Prelude.{map};
+    ghost use Rattle.std.specs.Map.{lookup};
+    ghost use Rattle.std.specs.Option.{option_or};
+    ghost use Rattle.std.specs.Str.{bytes_eq};
+
+    ghost token_named = { λ names name. option_or (lookup (bytes_eq name) (map (λ pair. (pair.0.now, pair.1)) names.tokens.now))
+        (V.keyword names.words.now name) };
+
+    ghost node_named = { λ names name. lookup (bytes_eq name) (map (λ pair. (pair.0.now, pair.1)) names.nodes.now) };
+
+    ghost class_named = { λ names name. lookup (bytes_eq name) (map (λ pair. (pair.0.now, pair.1)) names.classes.now) };
+
+    fn token(&self, name: &str) -> Option<SyntaxKind> {
+        kind_in(self.tokens, name).or(self.words.from_keyword(name))
+    }
+
+    fn node(&self, name: &str) -> Option<SyntaxKind> {
+        kind_in(self.nodes, name)
+    }
+
+    fn class(&self, name: &str) -> Option<TokenSet> {
+        class_in(self.classes, name)
+    }
+}
+
+/// The kind of the first pair with this name.
+fn kind_in(pairs: &[(&str, SyntaxKind)], name: &str) -> Option<SyntaxKind>
+    ensures { result ≡ lookup (bytes_eq name.now) (map (λ pair. (pair.0.now, pair.1)) pairs.now) }
+{
+    for (own, kind) in pairs {
+        if name == *own {
+            return Some(*kind);
+        }
+    }
+    None
+}
+
+/// The class of the first pair with this name.
+fn class_in(pairs: &[(&str, TokenSet)], name: &str) -> Option<TokenSet>
+    ensures { result ≡ lookup (bytes_eq name.now) (map (λ pair. (pair.0.now, pair.1)) pairs.now) }
+{
+    for (own, class) in pairs {
+        if name == *own {
+            return Some(*class);
+        }
+    }
+    None
+}

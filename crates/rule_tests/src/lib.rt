@@ -1,0 +1,7 @@
+//! Tests of rules from their text to trees: what is parsed, where errors stand, and what is refused.
+#![tactic(auto)]
+
+#[cfg(test)]
+mod names;
+#[cfg(test)]
+mod trees;

@@ -1,0 +1,97 @@
+//! Texts by rules, with the trees that they have.
+use crate::names::{CLASSES, NODES, TOKENS};
+use rule_tables::{KeywordNames, Rules};
+use rule_text::read;
+use sql_lexer::tokenize;
+use squawk_kinds::{NoKeywords, SyntaxKind};
+use squawk_parser::{EntryPoint, OwnedStep, StepList, parse_whole_into};
+use std::alloc::{AllocError, Global};
+use std::fmt::Write;
+use std::test::Fail;
+
+/// What a node of the kind is called.
+fn called(kind: SyntaxKind) -> &'static str {
+    for (name, node) in &NODES {
+        if *node == kind {
+            return *name;
+        }
+    }
+    "ERROR"
+}
+
+/// The line of steps: `NAME{a}` is a node with a token in it, and `!expected ;!` an error.
+fn line_of(alloc: Global, steps: &[OwnedStep]) -> Result<String, AllocError> {
+    let mut line = String::new(alloc);
+    for step in steps {
+        match step {
+            OwnedStep::Enter { kind } => write!(line, "{}{{", called(*kind))?,
+            OwnedStep::Token { kind: _, text } => line.push_str(text.as_str())?,
+            OwnedStep::Error { msg, pos: _ } => write!(line, "!{}!", msg.as_str())?,
+            OwnedStep::Exit => line.push('}')?,
+        }
+    }
+    Ok(line)
+}
+
+/// The line of a text's tree by rules.
+fn parsed(alloc: Global, rules: &str, text: &str) -> Result<String, Fail> {
+    let parts = read(alloc, rules)?;
+    let names = KeywordNames {
+        words: &NoKeywords,
+        tokens: &TOKENS,
+        nodes: &NODES,
+        classes: &CLASSES,
+    };
+    let rules = Rules::new(alloc, &parts, &names)?;
+    let tokens = tokenize(alloc, text)?;
+    let mut list = StepList::new(alloc);
+    let entry = EntryPoint::SourceFile;
+    let grammar = rules.grammar(&[]);
+    parse_whole_into(alloc, text, &tokens, &NoKeywords, &grammar, entry, &mut list)?;
+    Ok(line_of(alloc, list.steps())?)
+}
+
+/// Statements of expressions.
+const EXPRESSIONS: &str = "
+file = statement* => FILE
+statement \"a statement\" = expression ';' => STATEMENT
+expression \"an expression\"
+    = => NAME IDENT ('(' {expression}? ')' => CALL)?
+    | '(' expression ')' => PAREN
+    left  '-' _ => NEGATION
+    left  _ ('+' | '-') _ => SUM
+    none  _ '=' _ => EQUALITY
+    left  _ '*' _ => PRODUCT
+";
+
+/// Texts, and what is in their files.
+static CASES: [(&str, &str); 12] = [
+    ("", ""),
+    ("a;", "STATEMENT{NAME{a};}"),
+    ("a+b-c;", "STATEMENT{SUM{SUM{NAME{a}+NAME{b}}-NAME{c}};}"),
+    ("a+b*c;", "STATEMENT{SUM{NAME{a}+PRODUCT{NAME{b}*NAME{c}}};}"),
+    ("(a+b)*c;", "STATEMENT{PRODUCT{PAREN{(SUM{NAME{a}+NAME{b}})}*NAME{c}};}"),
+    ("f(a,g());", "STATEMENT{CALL{f(NAME{a},CALL{g()})};}"),
+    // A prefix of the lowest level takes the operators of higher ones.
+    ("-a*b+c;", "STATEMENT{SUM{NEGATION{-PRODUCT{NAME{a}*NAME{b}}}+NAME{c}};}"),
+    ("a;b;", "STATEMENT{NAME{a};}STATEMENT{NAME{b};}"),
+    // An operator that doesn't associate.
+    (
+        "a=b=c;",
+        "STATEMENT{EQUALITY{EQUALITY{NAME{a}=NAME{b}!this operator doesn't associate: use parentheses!}=NAME{c}};}",
+    ),
+    // What is missing is told where it should stand.
+    ("a", "STATEMENT{NAME{a}!expected ;!}"),
+    ("a+;", "STATEMENT{SUM{NAME{a}+!expected an expression!ERROR{}};}"),
+    ("(a;", "STATEMENT{PAREN{(NAME{a!expected )!}};}"),
+];
+
+#[test]
+fn parses_expressions(rt: HostRuntime) -> Result<(), Fail> {
+    for (text, wanted) in &CASES {
+        let line = parsed(rt.alloc(), EXPRESSIONS, text)?;
+        let wanted = format!(in rt.alloc(); "FILE{{{wanted}}}")?;
+        assert_eq!(rt; line.as_str(), wanted.as_str(), "{text}");
+    }
+    Ok(())
+}
