@@ -6,6 +6,7 @@ ghost use Rattle.squawk_parser.specs.SomeSteps.{AddsSome, AddsSomeNode};
 ghost use Rattle.squawk_parser.specs.State.{IsSound, kind_at};
 
 use crate::open::Open;
+use crate::part::Part;
 use crate::told::Told;
 use squawk_parser::{CompletedMarker, Parser, SyntaxKind};
 
@@ -54,10 +55,64 @@ fn tell(rule: &Open<'_>, row: u16, p: &mut Parser<'_>)
     ensures adds { AddsSome p.old p.new }
     ensures counts { (place : ℕ) → Counts None (Some place) p.old p.new }
 {
-    if goes_on(rule, row, p) {
+    let inside = before_match(rule, row, p);
+    if inside > 0 {
+        skip_some(rule, row, inside, p);
+    } else if goes_on(rule, row, p) {
         p.error(rule.table.message(row));
     } else {
         skip(rule, row, p);
+    }
+}
+
+/// Where a row is a closing parenthesis: how many tokens stand before the one that closes the innermost open one, if it
+/// is among the next [`FAR`] tokens and no semicolon stands before it, else 0.
+fn before_match(rule: &Open<'_>, row: u16, p: &Parser<'_>) -> usize {
+    match rule.table.part(row) {
+        Part::Token {
+            kind: SyntaxKind::R_PAREN,
+        } => closing(p),
+        _ => 0,
+    }
+}
+
+/// How many tokens are looked at to find the parenthesis that closes another.
+const FAR: usize = 256;
+
+fn closing(p: &Parser<'_>) -> usize {
+    let mut unclosed = 0usize;
+    for n in 0..FAR {
+        let kind = p.nth(n);
+        if kind == SyntaxKind::R_PAREN && unclosed == 0 {
+            return n;
+        }
+        if kind == SyntaxKind::SEMICOLON || kind == SyntaxKind::EOF {
+            return 0;
+        }
+        unclosed = unclosed_after(unclosed, kind);
+    }
+    0
+}
+
+/// An error, and so many tokens.
+fn skip_some(rule: &Open<'_>, row: u16, count: usize, p: &mut Parser<'_>)
+    ensures adds { AddsSome p.old p.new }
+    ensures counts { (place : ℕ) → Counts None (Some place) p.old p.new }
+{
+    let node = p.start();
+    p.error(rule.table.message(row));
+    bump_some(count, p);
+    node.complete(p, SyntaxKind::ERROR);
+}
+
+fn bump_some(count: usize, p: &mut Parser<'_>)
+    requires { IsSound p.old }
+    ensures { AddsSome p.old p.new }
+{
+    let mut left = count;
+    while left > 0 && p.current() != SyntaxKind::EOF {
+        p.bump_any();
+        left -= 1;
     }
 }
 
