@@ -1,3 +1,5 @@
+pub mod Read
 pub mod Reading
 pub mod Rules
+pub mod Words
 pub mod Written
