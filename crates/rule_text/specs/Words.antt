@@ -1,9 +1,8 @@
 -- The words of a text: its raw tokens but white space and comments.
-use Rattle.std.specs.Prelude.{◌≡◌, ℕ, ◌+◌, ◌-◌, ◌≤◌, ◌==◌, ◌||◌, Bool, true, false, Option, Some, List, [], ◌∷◌, ◌++◌, length, get_or, ◌&&◌, slice_get, slice_range, if◌then◌else◌, IsCharBoundary, bytes_eq, codes}
+use Rattle.std.specs.Prelude.{◌≡◌, ℕ, ◌+◌, ◌-◌, ◌≤◌, ◌==◌, ◌||◌, Bool, true, false, Some, List, [], ◌∷◌, ◌++◌, length, get_or, ◌&&◌, slice_get, slice_range, if◌then◌else◌, IsCharBoundary, bytes_eq, codes}
 use Rattle.std.specs.Char.{is_ascii_lowercase}
 use Rattle.std.specs.List.{list_any}
 use Rattle.squawk_tokens.specs.AcceptedTokens.{start_of}
-use Rattle.squawk_tokens.specs.declared.token.LiteralKind.{LiteralKind}
 use Rattle.squawk_tokens.specs.declared.token.LiteralKind.TheVariants.{Str}
 use Rattle.squawk_tokens.specs.declared.token.Token.{Token}
 use Rattle.squawk_tokens.specs.declared.token.TokenKind.{TokenKind}

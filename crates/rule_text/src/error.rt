@@ -41,9 +41,7 @@ impl fmt::Display for ReadError {
             ReadError::Expected { what, at } => {
                 write!(f, "{}:{}: expected {}", at.line, at.column, what)
             }
-            ReadError::TooDeep { at } => {
-                write!(f, "{}:{}: nested too deep", at.line, at.column)
-            }
+            ReadError::TooDeep { at } => { write!(f, "{}:{}: nested too deep", at.line, at.column) }
             ReadError::Memory(reason) => write!(f, "{reason}"),
         }
     }

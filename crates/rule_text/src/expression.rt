@@ -122,10 +122,9 @@ fn atom(reader: &mut Reader<'_, '_>, floor: usize, depth: u32) -> Result<(), Wor
         Sort::Class => one(reader, Part::Class { name }),
         Sort::Call => one(reader, Part::Call { name }),
         Sort::Operand => one(reader, Part::Operand { floor }),
-        Sort::Equals => becomes(reader),
         Sort::OpenParen => group(reader, floor, depth),
         Sort::OpenBrace => list(reader, floor, depth),
-        _ => Err(reader.expected("a name, ( or {")),
+        _ => becomes(reader),
     }
 }
 
@@ -140,10 +139,9 @@ fn one<'t>(reader: &mut Reader<'_, 't>, part: Part<'t>) -> Result<(), WordError>
 
 /// `=> KIND`
 fn becomes(reader: &mut Reader<'_, '_>) -> Result<(), WordError>
-    ensures { (floor : ℕ) → sort_at reader.old.words.now reader.old.at ≡ Sort.Equals
-        → OnOk result (Reads (written_as atom floor) reader.old reader.new) }
+    ensures { (floor : ℕ) → OnOk result (Reads (written_as atom floor) reader.old reader.new) }
 {
-    reader.bump();
+    reader.expect(Sort::Equals, "=>")?;
     reader.expect(Sort::Greater, "=>")?;
     let name = reader.expect(Sort::Kind, "the kind of a node")?;
     reader.push(Part::Becomes { name })?;

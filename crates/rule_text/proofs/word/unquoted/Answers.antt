@@ -14,4 +14,4 @@ pub returns-in-None : goal.returns-in-None
 returns-in-None c =
     let end : c.saturating_sub.result ≡ length c.args.text.now - 1 = c.saturating_sub.ensures in
     whole (λ h begins ends. c.in-None.ensures.cases (subst (λ (n : ℕ). 1 ≤ n) (sym end) h) begins
-        (subst (λ (n : ℕ). IsCharBoundary c.args.text.now n) (sym end) ends))
+    (subst (λ (n : ℕ). IsCharBoundary c.args.text.now n) (sym end) ends))

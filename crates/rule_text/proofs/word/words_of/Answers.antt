@@ -1,4 +1,4 @@
-use Rattle.std.proofs.Common.{arith, rules, refl, sym, subst, ap, ◌∙◌, ◌≡◌, Global, List, Vec}
+use Rattle.std.proofs.Common.{arith, refl, sym, subst, ap, ◌∙◌, Global, List, Vec}
 use Rattle.std.proofs.lemmas.Grind.{common_steps}
 use Rattle.std.proofs.lemmas.Str.{IsCharBoundary-start}
 use Rattle.rule_text.specs.declared.word.Word.{Word}
@@ -23,9 +23,9 @@ loop-token-preserved c =
       at = grind (arith, common_steps);
       boundary = good.boundary;
       words = elim c.if-not-is_trivia.branch [
-        then-not-is_trivia+in_ok-push w ↦ word_next _ c.loop-token.invariant.words within c.loop-token.invariant.at (sym w.if-not-is_trivia.ensures)
+        | then-not-is_trivia+in_ok-push w ↦ word_next _ c.loop-token.invariant.words within c.loop-token.invariant.at (sym w.if-not-is_trivia.ensures)
             w.word_at.ensures (ap (λ (v : Vec Word Global). v.items) w.words-is ∙ w.in_ok-push.ensures.items)
-      | else-not-is_trivia w ↦ trivia_next _ c.loop-token.invariant.words within (sym w.if-not-is_trivia.ensures)
+        | else-not-is_trivia w ↦ trivia_next _ c.loop-token.invariant.words within (sym w.if-not-is_trivia.ensures)
             (ap (λ (v : Vec Word Global). v.items) w.words-is)
       ];
     }
