@@ -1,3 +1,4 @@
+pub mod Errors
 pub mod Read
 pub mod Reading
 pub mod Rules

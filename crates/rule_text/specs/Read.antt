@@ -1,5 +1,5 @@
 -- When a text is rules, and when it has no tokens.
-use Rattle.std.specs.Prelude.{ℕ, Bool, true, false, List, length, ⊤}
+use Rattle.std.specs.Prelude.{ℕ, List, length, ⊤}
 use Rattle.rule_parts.specs.declared.Part.{Part}
 use Rattle.sql_lexer.specs.Tokens.{RefusesText, tokens_of}
 use Rattle.rule_text.specs.declared.error.ReadError.{ReadError}
@@ -13,12 +13,6 @@ pub record IsRead (text : List ℕ) (parts : List Part) : Type 0 where
   pub words : List Word
   pub spelled : AreWords text (tokens_of text) (length (tokens_of text)) words
   pub written : Rules words 0 (length words) parts
-
-abbrev pub is_of_tokens : ReadError → Bool
-is_of_tokens (Tokens reason) = true
-is_of_tokens (Expected what at) = false
-is_of_tokens (TooDeep at) = false
-is_of_tokens (Memory reason) = false
 
 -- why a text has no tokens
 abbrev pub Refuses : List ℕ → ReadError → Type 0

@@ -1,5 +1,5 @@
 //! Errors of texts of rules.
-ghost use Rattle.std.specs.Prelude.{◌≡◌, false};
+ghost use Rattle.std.specs.Prelude.{◌≡◌};
 
 use sql_lexer::TokenizeError;
 use std::alloc::{AllocError, AllocFailed};
@@ -35,6 +35,11 @@ pub(crate) enum WordError {
 }
 
 impl fmt::Display for ReadError {
+    ghost use Rattle.std.specs.Prelude.{Some};
+    ghost use Rattle.rule_text.specs.Errors.{read_error_line};
+
+    ghost output = { λ error. Some (read_error_line error) };
+
     fn fmt<W: fmt::Write>(&self, f: &mut fmt::Formatter<W>) -> fmt::Result {
         match self {
             ReadError::Tokens(reason) => write!(f, "{reason}"),
@@ -42,7 +47,7 @@ impl fmt::Display for ReadError {
                 write!(f, "{}:{}: expected {}", at.line, at.column, what)
             }
             ReadError::TooDeep { at } => { write!(f, "{}:{}: nested too deep", at.line, at.column) }
-            ReadError::Memory(reason) => write!(f, "{reason}"),
+            ReadError::Memory(_) => write!(f, "memory"),
         }
     }
 }
@@ -60,9 +65,9 @@ impl From<TokenizeError> for ReadError {
 }
 
 impl From<AllocError> for ReadError {
-    ghost use Rattle.rule_text.specs.Read.{is_of_tokens};
+    ghost use Rattle.rule_text.specs.declared.error.ReadError.TheVariants.{Memory};
 
-    ghost from_gives = { λ _ error. is_of_tokens error ≡ false };
+    ghost from_gives = { λ reason error. error ≡ Memory reason };
 
     fn from(reason: AllocError) -> ReadError {
         ReadError::Memory(reason)
@@ -70,9 +75,9 @@ impl From<AllocError> for ReadError {
 }
 
 impl From<WordError> for ReadError {
-    ghost use Rattle.rule_text.specs.Read.{is_of_tokens};
+    ghost use Rattle.rule_text.specs.Errors.{read_error_of};
 
-    ghost from_gives = { λ _ error. is_of_tokens error ≡ false };
+    ghost from_gives = { λ reason error. error ≡ read_error_of reason };
 
     fn from(reason: WordError) -> ReadError {
         match reason {
@@ -84,6 +89,11 @@ impl From<WordError> for ReadError {
 }
 
 impl<T: Drop> From<AllocFailed<T>> for WordError {
+    ghost use Rattle.std.specs.Prelude.{alloc_error};
+    ghost use Rattle.rule_text.specs.declared.error.WordError.TheVariants.{Memory};
+
+    ghost from_gives = { λ _ error. error ≡ Memory alloc_error };
+
     fn from(reason: AllocFailed<T>) -> WordError {
         WordError::Memory(AllocError::from(reason))
     }
