@@ -1,22 +1,20 @@
 -- What the words of rules write, from reader to reader.
-use Rattle.std.specs.Prelude.{◌≡◌, ◌≢◌, ℕ, ◌+◌, ◌-◌, ◌<◌, ◌≤◌, Bool, true, false, Option, Some, None, List, [], ◌∷◌, ◌++◌, drop, length, IsSome}
+use Rattle.std.specs.Prelude.{◌≡◌, ◌≢◌, ℕ, ◌+◌, ◌-◌, ◌<◌, ◌≤◌, Bool, true, false, Option, Some, None, List, ◌∷◌, ◌++◌, drop, length, IsSome}
 use Rattle.std.proofs.Common.{sym, subst, ap, ◌∙◌, refl, arith, zero, suc}
 use Rattle.rule_parts.specs.declared.Association.{Association}
 use Rattle.rule_parts.specs.declared.Part.{Part}
 use Rattle.rule_parts.specs.declared.Part.TheVariants as parts
 use Rattle.rule_text.specs.declared.reader.Reader.{Reader}
 use Rattle.rule_text.specs.declared.word.Word.{Word}
-use Rattle.rule_text.specs.declared.word.Sort.{Sort}
 use Rattle.rule_text.specs.declared.word.Sort.TheVariants as sorts
 use Rattle.rule_text.specs.Reading.{Bumps, Operates, Reads, Wraps, written_as}
 use Rattle.rule_text.specs.Rules.{Alternative, Body, Levels, MoreArms, OneArm, OneLevel, Operands, Operator, SomeLevels, association_of, floor_of, names_kind}
 use Rattle.rule_text.specs.Rules.Alternative.{node, plain}
-use Rattle.rule_text.specs.Rules.Body.{one_of, only_one, operators}
-use Rattle.rule_text.specs.Rules.Levels.{level, no_level}
+use Rattle.rule_text.specs.Rules.Body.{one_of, operators}
+use Rattle.rule_text.specs.Rules.Levels.{level}
 use Rattle.rule_text.specs.Rules.MoreArms.{further_arm, second_arm}
 use Rattle.rule_text.specs.Rules.OneArm.{as_arm}
 use Rattle.rule_text.specs.Rules.OneLevel.{first_operator, next_operator}
-use Rattle.rule_text.specs.Rules.Operands.{more_operands, one_operand}
 use Rattle.rule_text.specs.Rules.Operator.{prefix, tail}
 use Rattle.rule_text.specs.Rules.SomeLevels.{levels}
 use Rattle.rule_text.specs.Written.{Written, is_end, sort_at}
@@ -93,7 +91,7 @@ pub level_read : {a b c : Reader} {n : ℕ} {association : Association} → Read
     → Reads (λ ws i j ps. Levels ws i (n + 1) j ps) a c
 level_read {a} {b} {c} {n} {association} r is more =
     let there : association_of (sort_at a.words.now b.at) ≡ Some association =
-        subst (λ (x : List Word). association_of (sort_at x b.at) ≡ Some association) r.words is in
+    subst (λ (x : List Word). association_of (sort_at x b.at) ≡ Some association) r.words is in
     reads_both r more (λ ps qs v w. level v there w)
 
 pub positive : (n : ℕ) → (n ≡ 0 → ⊥) → 0 < n
@@ -109,6 +107,7 @@ levels_read {a} {b} {n} r still begins ends = reads_as r (λ ps v. levels (posit
     same : n ≡ 0 → association_of (sort_at a.words.now a.at) ≡ None
     same e = subst (λ (k : ℕ). association_of (sort_at a.words.now k) ≡ None) (still e)
         (subst (λ (x : List Word). association_of (sort_at x b.at) ≡ None) r.words ends)
+
     none : n ≡ 0 → ⊥
     none e = let bad : false ≡ true = subst (λ (o : Option Association). IsSome o) (same e) begins in cc
 

@@ -1,21 +1,19 @@
 -- What the words of classes and rules write, from reader to reader.
-use Rattle.std.specs.Prelude.{◌≡◌, ℕ, ◌+◌, ◌-◌, ◌<◌, ◌≤◌, Bool, true, false, List, [], ◌∷◌, ◌++◌, length}
+use Rattle.std.specs.Prelude.{◌≡◌, ℕ, ◌+◌, ◌-◌, ◌<◌, ◌≤◌, false, List, ◌++◌, length}
 use Rattle.std.proofs.Common.{sym, subst, ap, ◌∙◌, refl, arith}
 use Rattle.rule_parts.specs.declared.Name.{Name}
 use Rattle.rule_parts.specs.declared.Part.{Part}
 use Rattle.rule_parts.specs.declared.Part.TheVariants as parts
 use Rattle.rule_text.specs.declared.reader.Reader.{Reader}
 use Rattle.rule_text.specs.declared.word.Word.{Word}
-use Rattle.rule_text.specs.declared.word.Sort.{Sort}
 use Rattle.rule_text.specs.declared.word.Sort.TheVariants as sorts
 use Rattle.rule_text.specs.Reading.{Adds, Bumps, Names, Reads, Takes, Wraps}
-use Rattle.rule_text.specs.Rules.{Body, Called, Definition, Member, Members, Rules}
+use Rattle.rule_text.specs.Rules.{Body, Called, Definition, Member, Members}
 use Rattle.rule_text.specs.Rules.Body.{one_of, only_one, operators}
 use Rattle.rule_text.specs.Rules.Called.{by_message, by_name}
 use Rattle.rule_text.specs.Rules.Definition.{class_of, rule}
 use Rattle.rule_text.specs.Rules.Member.{given, kind, other, without}
 use Rattle.rule_text.specs.Rules.Members.{member, no_member}
-use Rattle.rule_text.specs.Rules.Rules.{no_rule, one_more}
 use Rattle.rule_text.specs.Rules.Operands.{more_operands, one_operand}
 use Rattle.rule_text.specs.Rules.SomeLevels.{levels}
 use Rattle.rule_text.specs.Rules.{Levels, Operands, SomeLevels}
@@ -23,7 +21,7 @@ use Rattle.rule_text.specs.Rules.Levels.{level, no_level}
 use Rattle.rule_text.specs.Written.{IsWord, is_end, sort_at}
 use Rattle.rule_text.proofs.Bodies.{alternative_goes, arm_goes, level_goes, more_arms_go}
 use Rattle.rule_text.proofs.Expressions.{sort_back, word_back}
-use Rattle.rule_text.proofs.Reading.{longer_by, reads_around, reads_as, reads_both, reads_none, reads_one, word_sort}
+use Rattle.rule_text.proofs.Reading.{longer_by, reads_around, reads_both, reads_one, word_sort}
 
 -- ---- members
 
@@ -38,7 +36,7 @@ pub member_read : {a b c d : Reader} {part : Part} → Reads (λ ws i j ps. Memb
     → Adds part b c → Bumps c d → Reads (λ ws i j ps. Members ws i j ps) a d
 member_read {a} {b} {c} {d} {part} r is adds bumps =
     let one : Reads (λ ws i j ps. (k : ℕ) (qs : List Part) → Members ws k i qs → Members ws k j (qs ++ ps)) b d =
-        reads_one adds bumps (λ k qs v. member v is) in
+    reads_one adds bumps (λ k qs v. member v is) in
     reads_both r one (λ ps qs v w. w a.at ps v)
 
 -- ---- definitions
@@ -65,8 +63,8 @@ class_read {a} {b} {c} {d} {e} {f} {name} is bumps named equals r from sized wra
     let two : c.at ≡ a.at + 2 = omega (arith, bumps.at, named.bumps.at) in
     let three : d.at ≡ a.at + 3 = omega (arith, two, equals.bumps.at) in
     let inner : Reads (λ ws i j ps. Definition a.words.now a.at j ps) d f = reads_around (λ n. parts.Set name n) r from sized wraps
-        (λ ps v. class_of is (word_back bumps.words bumps.at named.word) (sort_back second two equals.sort_is)
-            (subst (λ (k : ℕ). Members a.words.now k e.at ps) three (subst (λ (x : List Word). Members x d.at e.at ps) third v))) in
+    (λ ps v. class_of is (word_back bumps.words bumps.at named.word) (sort_back second two equals.sort_is)
+    (subst (λ (k : ℕ). Members a.words.now k e.at ps) three (subst (λ (x : List Word). Members x d.at e.at ps) third v))) in
     from_start third (equals.bumps.parts ∙ (named.bumps.parts ∙ bumps.parts)) (λ _. equals.bumps.ends) inner
 
 pub rule_read : {a b c d e f : Reader} {name message equals : Name} {start size : ℕ} → IsWord a.words.now a.at sorts.Rule name → Bumps a b
@@ -77,10 +75,10 @@ rule_read {a} {b} {c} {d} {e} {f} {name} {message} is bumps called equals r from
     let second : c.words.now ≡ a.words.now = called.words ∙ bumps.words in
     let third : d.words.now ≡ a.words.now = equals.bumps.words ∙ second in
     let named : Called name a.words.now (a.at + 1) c.at message = subst (λ (k : ℕ). Called name a.words.now k c.at message) bumps.at
-        (subst (λ (x : List Word). Called name x b.at c.at message) bumps.words called.named) in
+    (subst (λ (x : List Word). Called name x b.at c.at message) bumps.words called.named) in
     let inner : Reads (λ ws i j ps. Definition a.words.now a.at j ps) d f = reads_around (λ n. parts.Rule name message n) r from sized wraps
-        (λ ps v. rule is named (sort_back second refl equals.sort_is)
-            (subst (λ (k : ℕ). Body a.words.now k e.at ps) equals.bumps.at (subst (λ (x : List Word). Body x d.at e.at ps) third v))) in
+    (λ ps v. rule is named (sort_back second refl equals.sort_is)
+    (subst (λ (k : ℕ). Body a.words.now k e.at ps) equals.bumps.at (subst (λ (x : List Word). Body x d.at e.at ps) third v))) in
     from_start third (equals.bumps.parts ∙ (called.parts ∙ bumps.parts)) (λ _. equals.bumps.ends) inner
 
 pub message_read : {a b : Reader} {name message : Name} → IsWord a.words.now a.at sorts.Message message → Bumps a b

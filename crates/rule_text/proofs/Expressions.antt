@@ -1,5 +1,5 @@
 -- What the words of an expression write, from reader to reader.
-use Rattle.std.specs.Prelude.{◌≡◌, ℕ, ◌+◌, ◌-◌, ◌<◌, ◌≤◌, Bool, true, false, Option, Some, None, Result, Ok, Err, IfOk, OnOk, List, [], ◌∷◌, ◌++◌, length}
+use Rattle.std.specs.Prelude.{◌≡◌, ℕ, ◌+◌, ◌-◌, ◌<◌, ◌≤◌, false, Result, Ok, Err, IfOk, OnOk, List, [], ◌∷◌, ◌++◌, length}
 use Rattle.std.proofs.Common.{sym, subst, ap, ◌∙◌, refl, arith}
 use Rattle.rule_parts.specs.declared.Part.{Part}
 use Rattle.rule_parts.specs.declared.Part.TheVariants as parts
@@ -10,11 +10,11 @@ use Rattle.rule_text.specs.declared.word.Sort.{Sort}
 use Rattle.rule_text.specs.declared.word.Sort.TheVariants as sorts
 use Rattle.rule_text.specs.Reading.{Adds, Bumps, Marks, Names, One, Reads, Takes, Wraps, behind_one, only, written_as}
 use Rattle.rule_text.specs.Reading.One.{one as one_word}
-use Rattle.rule_text.specs.Written.{Form, IsWord, Separated, Written, is_end, sort_at, sort_of_word}
+use Rattle.rule_text.specs.Written.{Form, IsWord, Separated, Written, is_end, sort_at}
 use Rattle.rule_text.specs.Written.Form.{alternatives, arm, atom, item, more_arms, next_arm, sequence}
 use Rattle.rule_text.specs.Written.Separated.{by_comma, by_token}
 use Rattle.rule_text.specs.Written.Written.{alone, becomes, call, choice, class, group, list, more, next, none, once, one, operand, optional, or, repeated, second, some, token}
-use Rattle.rule_text.proofs.Reading.{reads_around, reads_as, reads_before, reads_behind, reads_both, reads_none, reads_one, longer_by, still_within}
+use Rattle.rule_text.proofs.Reading.{reads_around, reads_as, reads_before, reads_behind, reads_both, longer_by, still_within}
 
 -- ---- results
 
@@ -53,15 +53,16 @@ separated_by {a} {b} {c} {name} is bumps takes = record {
 
 -- ---- atoms
 
-pub becomes_read : {a b c d e : Reader} {arrow kind : Name} (floor : ℕ) → sort_at a.words.now a.at ≡ sorts.Equals → Bumps a b → Takes sorts.Greater arrow b c
+pub becomes_read : {a b c d e : Reader} {equals arrow kind : Name} (floor : ℕ) → Takes sorts.Equals equals a b → Takes sorts.Greater arrow b c
     → Takes sorts.Kind kind c d → Adds (parts.Becomes kind) d e → Reads (written_as atom floor) a e
-becomes_read {a} {b} {c} {d} {e} {arrow} {kind} floor is bumps greater named adds =
+becomes_read {a} {b} {c} {d} {e} {equals} {arrow} {kind} floor first greater named adds =
+    let bumps = first.bumps in
     let second : c.words.now ≡ a.words.now = greater.bumps.words ∙ bumps.words in
     let third : d.words.now ≡ a.words.now = named.bumps.words ∙ second in
     let two : c.at ≡ a.at + 2 = omega (arith, bumps.at, greater.bumps.at) in
     let three : a.at + 3 ≡ e.at = omega (arith, two, named.bumps.at, adds.at) in
     let is_added : e.parts.items ≡ a.parts.items ++ parts.Becomes kind ∷ [] = adds.parts
-        ∙ ap (λ (l : List Part). l ++ parts.Becomes kind ∷ []) (named.bumps.parts ∙ (greater.bumps.parts ∙ bumps.parts)) in
+    ∙ ap (λ (l : List Part). l ++ parts.Becomes kind ∷ []) (named.bumps.parts ∙ (greater.bumps.parts ∙ bumps.parts)) in
     record {
       words = adds.words ∙ third;
       parts = parts.Becomes kind ∷ [];
@@ -69,7 +70,7 @@ becomes_read {a} {b} {c} {d} {e} {arrow} {kind} floor is bumps greater named add
       longer = longer_by a.parts.items (parts.Becomes kind ∷ []) e.parts.items is_added;
       ends = λ _. still_within adds.words adds.at named.bumps.ends;
       written = subst (λ (k : ℕ). Written a.words.now floor atom a.at k (parts.Becomes kind ∷ [])) three
-          (becomes is (sort_back bumps.words bumps.at greater.sort_is) (word_back second two named.word));
+          (becomes first.sort_is (sort_back bumps.words bumps.at greater.sort_is) (word_back second two named.word));
     }
 
 -- a word that is a part
@@ -102,7 +103,7 @@ list_read {a} {b} {c} {d} {e} {close} {separator} {start} {size} {floor} is r se
     let named : Separated a.words.now b.at c.at separator = subst (λ (x : List Word). Separated x b.at c.at separator) r.words separates.named in
     reads_around (λ n. parts.List n separator) inner from sized wraps
     (λ ps v. subst (λ (m : ℕ). Written a.words.now floor atom a.at m (parts.List (length ps) separator ∷ ps)) (sym takes.bumps.at)
-        (list is v named (sort_back words refl takes.sort_is)))
+    (list is v named (sort_back words refl takes.sort_is)))
 
 -- ---- items, arms and alternatives
 
@@ -127,7 +128,7 @@ pub choice_read : {a b c d : Reader} {start size floor : ℕ} → Reads (written
     → start ≡ length a.parts.items → size ≡ length c.parts.items - start → Wraps start (parts.Choice size) c d → Reads (written_as alternatives floor) a d
 choice_read {a} {b} {c} {d} {start} {size} {floor} first rest from sized wraps =
     let both : Reads (λ ws i k qs. Written ws floor alternatives i k (parts.Choice (length qs) ∷ qs)) a c =
-        reads_both first rest (λ ps qs v w. choice v w) in
+    reads_both first rest (λ ps qs v w. choice v w) in
     reads_around (λ n. parts.Choice n) both from sized wraps (λ ps v. v)
 
 -- ---- how far words go

@@ -1,5 +1,5 @@
 -- From reader to reader: what is read by calls one after another.
-use Rattle.std.specs.Prelude.{◌≡◌, ℕ, ◌+◌, ◌-◌, ◌<◌, ◌≤◌, Bool, true, false, Option, Some, None, List, [], ◌∷◌, ◌++◌, length, take, drop, slice_get}
+use Rattle.std.specs.Prelude.{◌≡◌, ℕ, ◌+◌, ◌-◌, ◌<◌, ◌≤◌, false, List, [], ◌∷◌, ◌++◌, length, take, drop}
 use Rattle.std.specs.List.{insert}
 use Rattle.std.proofs.Common.{suc, zero, sym, subst, ap, ◌∙◌, refl, arith, append_assoc, length-append}
 use Rattle.rule_parts.specs.declared.Part.{Part}
@@ -7,9 +7,7 @@ use Rattle.rule_parts.specs.declared.Name.{Name}
 use Rattle.rule_text.specs.declared.reader.Reader.{Reader}
 use Rattle.rule_text.specs.declared.word.Word.{Word}
 use Rattle.rule_text.specs.declared.word.Sort.{Sort}
-use Rattle.rule_text.specs.declared.word.Sort.TheVariants as sorts
-use Rattle.rule_text.specs.Reading.{Adds, Bumps, One, Reads, Takes, Wraps, behind_one, only}
-use Rattle.rule_text.specs.Reading.One.{one}
+use Rattle.rule_text.specs.Reading.{Adds, Bumps, Reads, Wraps}
 use Rattle.rule_text.specs.Written.{IsWord, is_end, sort_at, sort_of_word}
 
 -- where a word isn't the end, it is a word
@@ -98,10 +96,10 @@ module _ {V W : List Word → ℕ → ℕ → List Part → Type 0} where
   reads_around {a} {b} {c} {start} {size} part r from sized wraps f =
       let n : size ≡ length r.parts = sized ∙ (ap (λ (n : ℕ). length b.parts.items - n) from ∙ added_size a.parts.items r.parts b.parts.items r.added) in
       let is : c.parts.items ≡ a.parts.items ++ part (length r.parts) ∷ r.parts = wraps.parts
-          ∙ (ap (λ (n : ℕ). insert b.parts.items start (part n)) n
-          ∙ (ap (λ (n : ℕ). insert b.parts.items n (part (length r.parts))) from
-          ∙ (ap (λ (l : List Part). insert l (length a.parts.items) (part (length r.parts))) r.added
-          ∙ inserted a.parts.items r.parts (part (length r.parts))))) in
+      ∙ (ap (λ (n : ℕ). insert b.parts.items start (part n)) n
+      ∙ (ap (λ (n : ℕ). insert b.parts.items n (part (length r.parts))) from
+      ∙ (ap (λ (l : List Part). insert l (length a.parts.items) (part (length r.parts))) r.added
+      ∙ inserted a.parts.items r.parts (part (length r.parts))))) in
       record {
         words = wraps.words ∙ r.words;
         parts = part (length r.parts) ∷ r.parts;
@@ -121,7 +119,7 @@ pub reads_both : {U V W : List Word → ℕ → ℕ → List Part → Type 0} {a
     → ((ps qs : List Part) → U a.words.now a.at b.at ps → V a.words.now b.at c.at qs → W a.words.now a.at c.at (ps ++ qs)) → Reads W a c
 reads_both {U} {V} {W} {a} {b} {c} p q f =
     let is : c.parts.items ≡ a.parts.items ++ (p.parts ++ q.parts) = q.added
-        ∙ (ap (λ (l : List Part). l ++ q.parts) p.added ∙ append_assoc a.parts.items p.parts q.parts) in
+    ∙ (ap (λ (l : List Part). l ++ q.parts) p.added ∙ append_assoc a.parts.items p.parts q.parts) in
     record {
       words = q.words ∙ p.words;
       parts = p.parts ++ q.parts;

@@ -1,3 +1,6 @@
+pub mod Errors
+pub mod Read
 pub mod Reading
 pub mod Rules
+pub mod Words
 pub mod Written

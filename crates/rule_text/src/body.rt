@@ -4,7 +4,7 @@ ghost use Rattle.rule_text.specs.Reading.{Operates, Reads, written_as};
 ghost use Rattle.rule_text.specs.Rules.{Alternative, Body, MoreArms, OneArm, OneLevel, Operator, SomeLevels, association_of, floor_of};
 ghost use Rattle.rule_text.specs.Written.{is_end, sort_at};
 
-use crate::error::ReadError;
+use crate::error::WordError;
 use crate::expression::sequence;
 use crate::reader::Reader;
 use crate::word::Sort;
@@ -14,7 +14,7 @@ use rule_parts::{Association, Part};
 pub const NESTED: u32 = 100;
 
 /// Alternatives, and operators after them.
-pub(crate) fn body(reader: &mut Reader<'_, '_>) -> Result<(), ReadError>
+pub(crate) fn body(reader: &mut Reader<'_, '_>) -> Result<(), WordError>
     requires { 0 < reader.old.at }
     ensures { OnOk result (Reads (λ ws i j ps. Body ws i j ps) reader.old reader.new) }
 {
@@ -40,7 +40,7 @@ pub(crate) fn body(reader: &mut Reader<'_, '_>) -> Result<(), ReadError>
 }
 
 /// Further alternatives, each after `|`.
-fn more_arms(reader: &mut Reader<'_, '_>) -> Result<(), ReadError>
+fn more_arms(reader: &mut Reader<'_, '_>) -> Result<(), WordError>
     requires { sort_at reader.old.words.now reader.old.at ≡ Sort.Or }
     ensures { OnOk result (Reads (λ ws i j ps. MoreArms ws i j ps) reader.old reader.new) }
 {
@@ -54,7 +54,7 @@ fn more_arms(reader: &mut Reader<'_, '_>) -> Result<(), ReadError>
 }
 
 /// Operators, after the operands from `start` on.
-fn operators(reader: &mut Reader<'_, '_>, start: usize) -> Result<(), ReadError>
+fn operators(reader: &mut Reader<'_, '_>, start: usize) -> Result<(), WordError>
     requires before { start ≤ length reader.old.parts.items }
     requires later { 0 < reader.old.at }
     requires at { IsSome (association_of (sort_at reader.old.words.now reader.old.at)) }
@@ -79,7 +79,7 @@ fn association(sort: Sort) -> Option<Association>
 }
 
 /// An alternative, as an arm.
-fn arm(reader: &mut Reader<'_, '_>, floor: usize) -> Result<(), ReadError>
+fn arm(reader: &mut Reader<'_, '_>, floor: usize) -> Result<(), WordError>
     ensures { OnOk result (Reads (λ ws i j ps. OneArm ws floor i j ps) reader.old reader.new) }
 {
     let start = reader.len();
@@ -89,7 +89,7 @@ fn arm(reader: &mut Reader<'_, '_>, floor: usize) -> Result<(), ReadError>
 }
 
 /// An alternative of a rule: a node, if the kind of one is named in it.
-fn alternative(reader: &mut Reader<'_, '_>, floor: usize) -> Result<(), ReadError>
+fn alternative(reader: &mut Reader<'_, '_>, floor: usize) -> Result<(), WordError>
     ensures { OnOk result (Reads (λ ws i j ps. Alternative ws floor i j ps) reader.old reader.new) }
 {
     let start = reader.len();
@@ -102,7 +102,7 @@ fn alternative(reader: &mut Reader<'_, '_>, floor: usize) -> Result<(), ReadErro
 }
 
 /// Operators, from the lowest level to the highest.
-fn levels(reader: &mut Reader<'_, '_>) -> Result<(), ReadError>
+fn levels(reader: &mut Reader<'_, '_>) -> Result<(), WordError>
     requires later { 0 < reader.old.at }
     requires at { IsSome (association_of (sort_at reader.old.words.now reader.old.at)) }
     ensures { OnOk result (Reads (λ ws i j ps. SomeLevels ws i j ps) reader.old reader.new) }
@@ -121,7 +121,7 @@ fn one_level(
     reader: &mut Reader<'_, '_>,
     level: usize,
     association: Association,
-) -> Result<(), ReadError>
+) -> Result<(), WordError>
     requires { level + 1 < 2 ^ 64 }
     ensures { OnOk result (Reads (λ ws i j ps. OneLevel ws level association i j ps) reader.old reader.new) }
 {
@@ -138,7 +138,7 @@ fn operator(
     reader: &mut Reader<'_, '_>,
     level: usize,
     association: Association,
-) -> Result<(), ReadError>
+) -> Result<(), WordError>
     requires { level + 1 < 2 ^ 64 }
     ensures { OnOk result (Reads (λ ws i j ps. Operator ws level association i j ps) reader.old reader.new) }
 {

@@ -1,4 +1,5 @@
 //! Errors of texts of rules.
+ghost use Rattle.std.specs.Prelude.{◌≡◌};
 
 use sql_lexer::TokenizeError;
 use std::alloc::{AllocError, AllocFailed};
@@ -15,27 +16,38 @@ pub struct Place {
 /// Why a text is no rules.
 #[derive(Debug, Drop, Clone, Copy, PartialEq, Eq)]
 pub enum ReadError {
-    /// The text has no raw tokens.
+    /// The text has no raw tokens: it is too long, or memory ran out.
     Tokens(TokenizeError),
-    /// Another word stands at the place than those that may.
+    /// Another word stands at the place than those that may. It is the first such word.
     Expected { what: &'static str, at: Place },
-    /// Parentheses and braces are nested more than [`NESTED`](crate::NESTED) deep.
+    /// The parenthesis or brace at the place is nested more than [`NESTED`](crate::NESTED) deep.
     TooDeep { at: Place },
     /// Memory ran out.
     Memory(AllocError),
 }
 
+/// Why the words of a text are no rules.
+#[derive(Drop, Clone, Copy)]
+pub(crate) enum WordError {
+    Expected { what: &'static str, at: Place },
+    TooDeep { at: Place },
+    Memory(AllocError),
+}
+
 impl fmt::Display for ReadError {
+    ghost use Rattle.std.specs.Prelude.{Some};
+    ghost use Rattle.rule_text.specs.Errors.{read_error_line};
+
+    ghost output = { λ error. Some (read_error_line error) };
+
     fn fmt<W: fmt::Write>(&self, f: &mut fmt::Formatter<W>) -> fmt::Result {
         match self {
             ReadError::Tokens(reason) => write!(f, "{reason}"),
             ReadError::Expected { what, at } => {
                 write!(f, "{}:{}: expected {}", at.line, at.column, what)
             }
-            ReadError::TooDeep { at } => {
-                write!(f, "{}:{}: nested too deep", at.line, at.column)
-            }
-            ReadError::Memory(reason) => write!(f, "{reason}"),
+            ReadError::TooDeep { at } => { write!(f, "{}:{}: nested too deep", at.line, at.column) }
+            ReadError::Memory(_) => write!(f, "memory"),
         }
     }
 }
@@ -43,20 +55,47 @@ impl fmt::Display for ReadError {
 impl Error for ReadError {}
 
 impl From<TokenizeError> for ReadError {
+    ghost use Rattle.rule_text.specs.declared.error.ReadError.TheVariants.{Tokens};
+
+    ghost from_gives = { λ reason error. error ≡ Tokens reason };
+
     fn from(reason: TokenizeError) -> ReadError {
         ReadError::Tokens(reason)
     }
 }
 
 impl From<AllocError> for ReadError {
+    ghost use Rattle.rule_text.specs.declared.error.ReadError.TheVariants.{Memory};
+
+    ghost from_gives = { λ reason error. error ≡ Memory reason };
+
     fn from(reason: AllocError) -> ReadError {
         ReadError::Memory(reason)
     }
 }
 
-impl<T: Drop> From<AllocFailed<T>> for ReadError {
-    fn from(reason: AllocFailed<T>) -> ReadError {
-        ReadError::Memory(AllocError::from(reason))
+impl From<WordError> for ReadError {
+    ghost use Rattle.rule_text.specs.Errors.{read_error_of};
+
+    ghost from_gives = { λ reason error. error ≡ read_error_of reason };
+
+    fn from(reason: WordError) -> ReadError {
+        match reason {
+            WordError::Expected { what, at } => ReadError::Expected { what, at },
+            WordError::TooDeep { at } => ReadError::TooDeep { at },
+            WordError::Memory(reason) => ReadError::Memory(reason),
+        }
+    }
+}
+
+impl<T: Drop> From<AllocFailed<T>> for WordError {
+    ghost use Rattle.std.specs.Prelude.{alloc_error};
+    ghost use Rattle.rule_text.specs.declared.error.WordError.TheVariants.{Memory};
+
+    ghost from_gives = { λ _ error. error ≡ Memory alloc_error };
+
+    fn from(reason: AllocFailed<T>) -> WordError {
+        WordError::Memory(AllocError::from(reason))
     }
 }
 

@@ -4,14 +4,14 @@ ghost use Rattle.rule_text.specs.Reading.{Marks, Names, Reads, behind_one, only,
 ghost use Rattle.rule_text.specs.Written.{Separated, is_end, sort_at};
 ghost use Rattle.rule_text.specs.Written.Form.{alternatives, atom, item, more_arms, next_arm, sequence};
 
-use crate::error::ReadError;
+use crate::error::WordError;
 use crate::reader::Reader;
 use crate::word::Sort;
 use rule_parts::{Name, Part};
 
 /// Alternatives between `|`.
 #[cycle(expression)]
-fn alternatives(reader: &mut Reader<'_, '_>, floor: usize, depth: u32) -> Result<(), ReadError>
+fn alternatives(reader: &mut Reader<'_, '_>, floor: usize, depth: u32) -> Result<(), WordError>
     ensures { OnOk result (Reads (written_as alternatives floor) reader.old reader.new) }
 {
     let start = reader.len();
@@ -29,7 +29,7 @@ fn alternatives(reader: &mut Reader<'_, '_>, floor: usize, depth: u32) -> Result
 
 /// Further alternatives, each after `|`.
 #[cycle(expression)]
-fn more_arms(reader: &mut Reader<'_, '_>, floor: usize, depth: u32) -> Result<(), ReadError>
+fn more_arms(reader: &mut Reader<'_, '_>, floor: usize, depth: u32) -> Result<(), WordError>
     requires { sort_at reader.old.words.now reader.old.at ≡ Sort.Or }
     ensures { OnOk result (Reads (written_as more_arms floor) reader.old reader.new) }
 {
@@ -42,7 +42,7 @@ fn more_arms(reader: &mut Reader<'_, '_>, floor: usize, depth: u32) -> Result<()
 
 /// `|` and an alternative.
 #[cycle(expression)]
-fn next_arm(reader: &mut Reader<'_, '_>, floor: usize, depth: u32) -> Result<(), ReadError>
+fn next_arm(reader: &mut Reader<'_, '_>, floor: usize, depth: u32) -> Result<(), WordError>
     requires { sort_at reader.old.words.now reader.old.at ≡ Sort.Or }
     ensures { OnOk result (Reads (written_as next_arm floor) reader.old reader.new) }
 {
@@ -60,7 +60,7 @@ pub(crate) fn sequence(
     reader: &mut Reader<'_, '_>,
     floor: usize,
     depth: u32,
-) -> Result<(), ReadError>
+) -> Result<(), WordError>
     ensures { OnOk result (Reads (written_as sequence floor) reader.old reader.new) }
 {
     while begins_item(reader.sort()) {
@@ -87,7 +87,7 @@ fn begins_item(sort: Sort) -> bool
 
 /// A word or a group, and how often it may stand.
 #[cycle(expression)]
-fn item(reader: &mut Reader<'_, '_>, floor: usize, depth: u32) -> Result<(), ReadError>
+fn item(reader: &mut Reader<'_, '_>, floor: usize, depth: u32) -> Result<(), WordError>
     ensures { OnOk result (Reads (written_as item floor) reader.old reader.new) }
 {
     let start = reader.len();
@@ -102,7 +102,7 @@ fn item(reader: &mut Reader<'_, '_>, floor: usize, depth: u32) -> Result<(), Rea
 }
 
 /// A word after some parts, which puts a part in front of them.
-fn mark<'t>(reader: &mut Reader<'_, 't>, start: usize, part: Part<'t>) -> Result<(), ReadError>
+fn mark<'t>(reader: &mut Reader<'_, 't>, start: usize, part: Part<'t>) -> Result<(), WordError>
     requires { start ≤ length reader.old.parts.items }
     ensures { is_end (sort_at reader.old.words.now reader.old.at) ≡ false → OnOk result (Marks start part.entry reader.old reader.new) }
 {
@@ -113,7 +113,7 @@ fn mark<'t>(reader: &mut Reader<'_, 't>, start: usize, part: Part<'t>) -> Result
 
 /// A word or a group.
 #[cycle(expression)]
-fn atom(reader: &mut Reader<'_, '_>, floor: usize, depth: u32) -> Result<(), ReadError>
+fn atom(reader: &mut Reader<'_, '_>, floor: usize, depth: u32) -> Result<(), WordError>
     ensures { OnOk result (Reads (written_as atom floor) reader.old reader.new) }
 {
     let name = reader.name();
@@ -122,15 +122,14 @@ fn atom(reader: &mut Reader<'_, '_>, floor: usize, depth: u32) -> Result<(), Rea
         Sort::Class => one(reader, Part::Class { name }),
         Sort::Call => one(reader, Part::Call { name }),
         Sort::Operand => one(reader, Part::Operand { floor }),
-        Sort::Equals => becomes(reader),
         Sort::OpenParen => group(reader, floor, depth),
         Sort::OpenBrace => list(reader, floor, depth),
-        _ => Err(reader.expected("a name, ( or {")),
+        _ => becomes(reader),
     }
 }
 
 /// A word that is this part.
-fn one<'t>(reader: &mut Reader<'_, 't>, part: Part<'t>) -> Result<(), ReadError>
+fn one<'t>(reader: &mut Reader<'_, 't>, part: Part<'t>) -> Result<(), WordError>
     ensures { is_end (sort_at reader.old.words.now reader.old.at) ≡ false → OnOk result (Reads (only part.entry) reader.old reader.new) }
 {
     reader.push(part)?;
@@ -139,11 +138,10 @@ fn one<'t>(reader: &mut Reader<'_, 't>, part: Part<'t>) -> Result<(), ReadError>
 }
 
 /// `=> KIND`
-fn becomes(reader: &mut Reader<'_, '_>) -> Result<(), ReadError>
-    ensures { (floor : ℕ) → sort_at reader.old.words.now reader.old.at ≡ Sort.Equals
-        → OnOk result (Reads (written_as atom floor) reader.old reader.new) }
+fn becomes(reader: &mut Reader<'_, '_>) -> Result<(), WordError>
+    ensures { (floor : ℕ) → OnOk result (Reads (written_as atom floor) reader.old reader.new) }
 {
-    reader.bump();
+    reader.expect(Sort::Equals, "=>")?;
     reader.expect(Sort::Greater, "=>")?;
     let name = reader.expect(Sort::Kind, "the kind of a node")?;
     reader.push(Part::Becomes { name })?;
@@ -152,7 +150,7 @@ fn becomes(reader: &mut Reader<'_, '_>) -> Result<(), ReadError>
 
 /// `( .. )`
 #[cycle(expression)]
-fn group(reader: &mut Reader<'_, '_>, floor: usize, depth: u32) -> Result<(), ReadError>
+fn group(reader: &mut Reader<'_, '_>, floor: usize, depth: u32) -> Result<(), WordError>
     requires { sort_at reader.old.words.now reader.old.at ≡ Sort.OpenParen }
     ensures { OnOk result (Reads (written_as atom floor) reader.old reader.new) }
 {
@@ -163,7 +161,7 @@ fn group(reader: &mut Reader<'_, '_>, floor: usize, depth: u32) -> Result<(), Re
 
 /// `{ .. }` or `{ .. % ';' }`
 #[cycle(expression)]
-fn list(reader: &mut Reader<'_, '_>, floor: usize, depth: u32) -> Result<(), ReadError>
+fn list(reader: &mut Reader<'_, '_>, floor: usize, depth: u32) -> Result<(), WordError>
     requires { sort_at reader.old.words.now reader.old.at ≡ Sort.OpenBrace }
     ensures { OnOk result (Reads (written_as atom floor) reader.old reader.new) }
 {
@@ -179,7 +177,7 @@ fn list(reader: &mut Reader<'_, '_>, floor: usize, depth: u32) -> Result<(), Rea
 /// The separator where the text names none.
 const COMMA: Name<'static> = Name { text: ",", at: 0 };
 
-fn separator<'t>(reader: &mut Reader<'_, 't>) -> Result<Name<'t>, ReadError>
+fn separator<'t>(reader: &mut Reader<'_, 't>) -> Result<Name<'t>, WordError>
     ensures { IfOk result (λ name. Names Separated name reader.old reader.new) }
 {
     if !reader.is_at(Sort::Percent) {
@@ -191,12 +189,12 @@ fn separator<'t>(reader: &mut Reader<'_, 't>) -> Result<Name<'t>, ReadError>
 
 /// An opening bracket, and alternatives after it.
 #[cycle(expression)]
-fn nested(reader: &mut Reader<'_, '_>, floor: usize, depth: u32) -> Result<(), ReadError>
+fn nested(reader: &mut Reader<'_, '_>, floor: usize, depth: u32) -> Result<(), WordError>
     requires { is_end (sort_at reader.old.words.now reader.old.at) ≡ false }
     ensures { OnOk result (Reads (behind_one (written_as alternatives floor)) reader.old reader.new) }
 {
     if depth == 0 {
-        return Err(ReadError::TooDeep { at: reader.place() });
+        return Err(WordError::TooDeep { at: reader.place() });
     }
     reader.bump();
     alternatives(reader, floor, depth - 1)

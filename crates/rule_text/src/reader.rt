@@ -4,7 +4,7 @@ ghost use Rattle.rule_text.specs.Reading.{Bumps, Takes, Adds, Wraps};
 ghost use Rattle.rule_text.specs.Rules.{names_kind};
 ghost use Rattle.rule_text.specs.Written.{IsWord, is_end, sort_at};
 
-use crate::error::{Place, ReadError};
+use crate::error::{Place, WordError};
 use crate::word::{Sort, Word};
 use rule_parts::{Name, Part};
 use std::alloc::{AllocError, Global};
@@ -82,7 +82,7 @@ impl<'w, 't> Reader<'w, 't> {
     }
 
     /// Goes over the next word, which is to be of this sort.
-    pub(crate) fn expect(&mut self, sort: Sort, what: &'static str) -> Result<Name<'t>, ReadError>
+    pub(crate) fn expect(&mut self, sort: Sort, what: &'static str) -> Result<Name<'t>, WordError>
         ensures { is_end sort ≡ false → IfOk result (λ name. Takes sort name self.old self.new) }
     {
         if !self.is_at(sort) {
@@ -108,7 +108,7 @@ impl<'w, 't> Reader<'w, 't> {
     }
 
     /// Adds a part.
-    pub(crate) fn push(&mut self, part: Part<'t>) -> Result<(), ReadError>
+    pub(crate) fn push(&mut self, part: Part<'t>) -> Result<(), WordError>
         ensures { OnOk result (Adds part.entry self.old self.new) }
     {
         self.parts.push(part)?;
@@ -116,7 +116,7 @@ impl<'w, 't> Reader<'w, 't> {
     }
 
     /// Puts a part in front of those from `start` on.
-    pub(crate) fn wrap(&mut self, start: usize, part: Part<'t>) -> Result<(), ReadError>
+    pub(crate) fn wrap(&mut self, start: usize, part: Part<'t>) -> Result<(), WordError>
         requires { start ≤ length self.old.parts.items }
         ensures { OnOk result (Wraps start part.entry self.old self.new) }
     {
@@ -136,14 +136,14 @@ impl<'w, 't> Reader<'w, 't> {
 
     /// The parts.
     pub(crate) fn into_parts(self) -> Vec<Part<'t>>
-        ensures { result.items ≡ self.parts.items }
+        ensures { result.items ≡ self.entry.parts.items }
     {
         self.parts
     }
 
     /// The error that another word is expected.
-    pub(crate) fn expected(&self, what: &'static str) -> ReadError {
-        ReadError::Expected {
+    pub(crate) fn expected(&self, what: &'static str) -> WordError {
+        WordError::Expected {
             what,
             at: self.place(),
         }

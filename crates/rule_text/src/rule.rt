@@ -1,19 +1,26 @@
 //! Classes and rules.
 ghost use Rattle.std.specs.Prelude.{◌≡◌, ◌≤◌, IfOk, IfErr, IfSome, OnOk, false, length, true};
+ghost use Rattle.rule_text.specs.Read.{IsRead, Refuses};
 ghost use Rattle.rule_text.specs.Reading.{Names, Reads};
 ghost use Rattle.rule_text.specs.Rules.{Called, Definition, Members, Member, Rules};
 ghost use Rattle.rule_text.specs.Written.{IsWord, is_end, sort_at};
 
 use crate::body::body;
-use crate::error::ReadError;
+use crate::error::{ReadError, WordError};
 use crate::reader::Reader;
 use crate::word::{Sort, words_of};
 use rule_parts::{Name, Part};
 use sql_lexer::tokenize;
 use std::alloc::Global;
 
-/// Reads rules.
-pub fn read(alloc: Global, text: &str) -> Result<Vec<Part<'_>>, ReadError> {
+/// The parts of the rules that a text is, each in front of what is in it.
+///
+/// A rule begins with its name in front of a line, and a class with `class` there. White space and comments may stand
+/// between any two words.
+pub fn read(alloc: Global, text: &str) -> Result<Vec<Part<'_>>, ReadError>
+    ensures reads { IfOk result (λ parts. IsRead text.now parts.items) }
+    ensures refused { IfErr result (Refuses text.now) }
+{
     let tokens = tokenize(alloc, text)?;
     let words = words_of(alloc, text, &tokens)?;
     let mut reader = Reader::new(alloc, text, &words);
@@ -22,7 +29,7 @@ pub fn read(alloc: Global, text: &str) -> Result<Vec<Part<'_>>, ReadError> {
 }
 
 /// Classes and rules, one after another.
-fn definitions(reader: &mut Reader<'_, '_>) -> Result<(), ReadError>
+fn definitions(reader: &mut Reader<'_, '_>) -> Result<(), WordError>
     ensures reads { OnOk result (Reads (λ ws i j ps. Rules ws i j ps) reader.old reader.new) }
     ensures all { OnOk result (length reader.new.words.now ≤ reader.new.at) }
 {
@@ -33,7 +40,7 @@ fn definitions(reader: &mut Reader<'_, '_>) -> Result<(), ReadError>
 }
 
 /// A class or a rule.
-fn definition(reader: &mut Reader<'_, '_>) -> Result<(), ReadError>
+fn definition(reader: &mut Reader<'_, '_>) -> Result<(), WordError>
     ensures { OnOk result (Reads (λ ws i j ps. Definition ws i j ps) reader.old reader.new) }
 {
     match reader.sort() {
@@ -44,7 +51,7 @@ fn definition(reader: &mut Reader<'_, '_>) -> Result<(), ReadError>
 }
 
 /// `class Name = KIND Other -KIND`
-fn class(reader: &mut Reader<'_, '_>) -> Result<(), ReadError>
+fn class(reader: &mut Reader<'_, '_>) -> Result<(), WordError>
     requires { sort_at reader.old.words.now reader.old.at ≡ Sort.ClassOf }
     ensures { OnOk result (Reads (λ ws i j ps. Definition ws i j ps) reader.old reader.new) }
 {
@@ -58,7 +65,7 @@ fn class(reader: &mut Reader<'_, '_>) -> Result<(), ReadError>
 }
 
 /// The members of a class.
-fn members(reader: &mut Reader<'_, '_>) -> Result<(), ReadError>
+fn members(reader: &mut Reader<'_, '_>) -> Result<(), WordError>
     ensures { OnOk result (Reads (λ ws i j ps. Members ws i j ps) reader.old reader.new) }
 {
     while let Some(part) = member(reader) {
@@ -83,7 +90,7 @@ fn member<'t>(reader: &Reader<'_, 't>) -> Option<Part<'t>>
 }
 
 /// `rule "message" = ..`
-fn rule(reader: &mut Reader<'_, '_>) -> Result<(), ReadError>
+fn rule(reader: &mut Reader<'_, '_>) -> Result<(), WordError>
     requires { sort_at reader.old.words.now reader.old.at ≡ Sort.Rule }
     ensures { OnOk result (Reads (λ ws i j ps. Definition ws i j ps) reader.old reader.new) }
 {

@@ -1,4 +1,10 @@
 //! The words of a text of rules.
+ghost use Rattle.std.specs.Prelude.{◌≡◌, ◌≤◌, false, get_or, length, true, IfOk, IsCharBoundary};
+ghost use Rattle.std.specs.Char.{is_ascii_lowercase};
+ghost use Rattle.std.specs.List.{list_any};
+ghost use Rattle.squawk_tokens.specs.AcceptedTokens.{AreAcceptedTokens, IsGoodToken};
+ghost use Rattle.rule_text.specs.Words.{AreWords, IsWordOf, Unquoted, case_of, first_sort, is_first, is_quoted, is_trivia, name_sort, sort_of};
+
 use rule_parts::Name;
 use squawk_tokens::{LiteralKind, Token, TokenKind};
 use std::alloc::{AllocError, Global};
@@ -68,57 +74,78 @@ pub(crate) fn words_of<'t>(
     alloc: Global,
     text: &'t str,
     tokens: &[Token],
-) -> Result<Vec<Word<'t>>, AllocError> {
+) -> Result<Vec<Word<'t>>, AllocError>
+    requires { AreAcceptedTokens text.now tokens.now }
+    ensures { IfOk result (λ words. AreWords text.now tokens.now (length tokens.now) words.items) }
+{
     let mut words = Vec::new(alloc);
     let mut at = 0usize;
     for token in tokens {
-        let end = at.saturating_add(token.len as usize);
-        if !is_trivia(token.kind) {
-            words.push(word_at(text, token.kind, at, end))?;
+        if !is_trivia(&token.kind) {
+            words.push(word_at(text, token, at))?;
         }
-        at = end;
+        at += token.len as usize;
     }
     Ok(words)
 }
 
-fn is_trivia(kind: TokenKind) -> bool {
+fn is_trivia(kind: &TokenKind) -> bool
+    ensures { result ≡ is_trivia kind.now }
+{
     matches!(
         kind,
         TokenKind::Whitespace | TokenKind::LineComment | TokenKind::BlockComment { .. }
     )
 }
 
-/// The word that a token is.
-fn word_at(text: &str, kind: TokenKind, at: usize, end: usize) -> Word<'_> {
-    let spelled = text.get(at..end).unwrap_or("");
+/// The word that a token is which begins at a byte.
+fn word_at<'t>(text: &'t str, token: &Token, at: usize) -> Word<'t>
+    requires begins { IsCharBoundary text.now at }
+    requires good { IsGoodToken text.now at token.now }
+    ensures { IsWordOf text.now at token.now result }
+{
+    let spelled = &text[at..at + token.len as usize];
     Word {
-        sort: sort_of(kind, spelled, is_first(text.as_bytes(), at)),
+        sort: sort_of(&token.kind, spelled, is_first(text.as_bytes(), at)),
         name: Name {
-            text: content(kind, spelled),
+            text: content(&token.kind, spelled),
             at,
         },
     }
 }
 
 /// Whether a byte is the first one of a line.
-fn is_first(text: &[u8], at: usize) -> bool {
-    match at.checked_sub(1) {
-        Some(before) => text.get(before) == Some(&b'\n'),
-        None => true,
-    }
+fn is_first(text: &[u8], at: usize) -> bool
+    requires { at ≤ length text.now }
+    ensures { result ≡ is_first text.now at }
+{
+    at == 0 || text[at - 1] == b'\n'
 }
 
 /// The text of a token, without the quotes around it.
-fn content(kind: TokenKind, text: &str) -> &str {
+fn content<'t>(kind: &TokenKind, text: &'t str) -> &'t str
+    ensures plain { is_quoted kind.now ≡ false → result.now ≡ text.now }
+    ensures quoted { is_quoted kind.now ≡ true → Unquoted text.now result.now }
+{
     match kind {
-        TokenKind::QuotedIdent { .. } | TokenKind::Literal { .. } => text
-            .get(1..text.len().saturating_sub(1))
-            .unwrap_or(text),
+        TokenKind::QuotedIdent { .. } | TokenKind::Literal { .. } => unquoted(text),
         _ => text,
     }
 }
 
-fn sort_of(kind: TokenKind, text: &str, is_first: bool) -> Sort {
+/// A text without its first and last byte, where these are whole characters.
+fn unquoted(text: &str) -> &str
+    ensures { Unquoted text.now result.now }
+{
+    match text.get(1..text.len().saturating_sub(1)) {
+        Some(inside) => inside,
+        None => text,
+    }
+}
+
+fn sort_of(kind: &TokenKind, text: &str, is_first: bool) -> Sort
+    ensures { result ≡ sort_of kind.now text.now is_first }
+{
     match kind {
         TokenKind::Ident => name_sort(text, is_first),
         TokenKind::QuotedIdent {
@@ -144,25 +171,62 @@ fn sort_of(kind: TokenKind, text: &str, is_first: bool) -> Sort {
     }
 }
 
-fn name_sort(text: &str, is_first: bool) -> Sort {
-    match (text, is_first) {
-        ("_", _) => Sort::Operand,
-        ("left", _) => Sort::Left,
-        ("right", _) => Sort::Right,
-        ("none", _) => Sort::Neither,
-        ("class", true) => Sort::ClassOf,
-        _ => match (case_of(text.as_bytes()), is_first) {
-            (Sort::Call, true) => Sort::Rule,
-            (sort, _) => sort,
-        },
+/// What a name is, and whether it is in front of a line.
+fn name_sort(name: &str, is_first: bool) -> Sort
+    ensures { result ≡ name_sort name.now is_first }
+{
+    if name == "_" {
+        Sort::Operand
+    } else if name == "left" {
+        Sort::Left
+    } else if name == "right" {
+        Sort::Right
+    } else if name == "none" {
+        Sort::Neither
+    } else if name == "class" && is_first {
+        Sort::ClassOf
+    } else if is_first {
+        first_sort(case_of(name.as_bytes()))
+    } else {
+        case_of(name.as_bytes())
+    }
+}
+
+/// In front of a line the name of a rule begins the rule.
+fn first_sort(sort: Sort) -> Sort
+    ensures { result ≡ first_sort sort }
+{
+    match sort {
+        Sort::Call => Sort::Rule,
+        sort => sort,
     }
 }
 
 /// What a name names, by the case of its letters.
-fn case_of(name: &[u8]) -> Sort {
+fn case_of(name: &[u8]) -> Sort
+    ensures { result ≡ case_of name.now }
+{
+    if begins_small(name) {
+        Sort::Call
+    } else if has_small(name) {
+        Sort::Class
+    } else {
+        Sort::Kind
+    }
+}
+
+/// Whether a name has a small letter, and whether it begins with one.
+fn has_small(name: &[u8]) -> bool
+    ensures { result ≡ list_any is_ascii_lowercase name.now }
+{
+    name.iter().any(|byte| byte.is_ascii_lowercase())
+}
+
+fn begins_small(name: &[u8]) -> bool
+    ensures { result ≡ is_ascii_lowercase (get_or name.now 0 0) }
+{
     match name.first() {
-        Some(first) if first.is_ascii_lowercase() => Sort::Call,
-        _ if name.iter().any(|byte| byte.is_ascii_lowercase()) => Sort::Class,
-        _ => Sort::Kind,
+        Some(byte) => byte.is_ascii_lowercase(),
+        None => false,
     }
 }

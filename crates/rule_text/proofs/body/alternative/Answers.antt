@@ -1,4 +1,3 @@
-use Rattle.std.proofs.Common.{refl}
 use Rattle.rule_text.proofs.Bodies.{node_read, plain_read}
 use Rattle.rule_text.proofs.Expressions.{on_ok}
 use Rattle.rule_text.proofs.body.alternative.Goals as goal

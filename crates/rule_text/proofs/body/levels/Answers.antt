@@ -1,6 +1,4 @@
-use Rattle.std.proofs.Common.{arith, rules, ap, sym, subst, refl, ◌∙◌, ◌≡◌, ◌+◌, ◌≤◌, Option, Some, None, IsSome}
-use Rattle.rule_parts.specs.declared.Association.{Association}
-use Rattle.rule_text.specs.declared.word.Sort.{Sort}
+use Rattle.std.proofs.Common.{arith, ap, sym, refl, ◌∙◌, ◌≡◌, ◌+◌, ◌≤◌, Some, None}
 use Rattle.rule_text.specs.Rules.{association_of}
 use Rattle.rule_text.specs.Rules.Levels.{no_level}
 use Rattle.rule_text.specs.Written.{is_end, sort_at}
@@ -21,7 +19,7 @@ pub loop-association-preserved : goal.loop-association-preserved
 loop-association-preserved c =
     let there = ap is_end (sym c.sort.ensures) ∙ c.in-Some.ensures.begins refl in
     let is : association_of (sort_at c.loop-association.reader.words.now c.loop-association.reader.at) ≡ Some c.in-Some.association
-        = ap association_of (sym c.sort.ensures) ∙ (sym c.association.ensures.is ∙ c.in-Some.is) in
+    = ap association_of (sym c.sort.ensures) ∙ (sym c.association.ensures.is ∙ c.in-Some.is) in
     let r = level_behind (c.bump.ensures there) c.in_ok-one_level.ensures in
     let far : c.loop-association.reader.at + 1 ≤ c.one_level.new.reader.at = level_goes r.written in
     let before = c.loop-association.invariant.later in
@@ -34,5 +32,5 @@ loop-association-preserved c =
 pub returns : goal.returns
 returns c =
     let is : association_of (sort_at c.loop-association.reader.words.now c.loop-association.reader.at) ≡ None
-        = ap association_of (sym c.sort.ensures) ∙ (sym c.association.ensures.is ∙ c.in_default.is) in
+    = ap association_of (sym c.sort.ensures) ∙ (sym c.association.ensures.is ∙ c.in_default.is) in
     levels_read c.loop-association.invariant.reads c.loop-association.invariant.still c.requires.at is

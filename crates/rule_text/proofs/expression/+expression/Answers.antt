@@ -1,10 +1,10 @@
-use Rattle.std.proofs.Common.{arith, refl, sym, subst, ap, ◌≡◌, ◌∙◌, ◌+◌, ◌≤◌, ℕ, true}
+use Rattle.std.proofs.Common.{refl, sym, ap, ◌≡◌, ◌∙◌}
 use Rattle.rule_parts.specs.declared.Part.TheVariants as parts
 use Rattle.rule_text.specs.declared.word.Sort.TheVariants as sorts
 use Rattle.rule_text.specs.Written.{is_end, sort_at}
-use Rattle.rule_text.specs.Written.Written.{alone, becomes, call, choice, class, group, list, more, next, none, once, one, operand, optional, or, repeated, second, some, token}
+use Rattle.rule_text.specs.Written.Written.{alone, call, class, more, next, none, once, operand, optional, repeated, second, some, token}
 use Rattle.rule_text.proofs.Expressions.{arm_read, choice_read, goes, group_read, list_read, marked, measured, next_arm_read, on_ok, one_read, sort_back}
-use Rattle.rule_text.proofs.Reading.{reads_as, reads_around, reads_before, reads_behind, reads_both, reads_none, within}
+use Rattle.rule_text.proofs.Reading.{reads_as, reads_both, reads_none, within}
 use Rattle.rule_text.proofs.expression.+expression.Goals as goal
 
 -- ---- alternatives

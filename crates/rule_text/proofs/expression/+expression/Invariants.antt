@@ -1,4 +1,4 @@
-use Rattle.std.proofs.Common.{◌≡◌, ℕ, ◌+◌, ◌-◌, ◌*◌, ◌<◌, ◌≤◌, length}
+use Rattle.std.proofs.Common.{◌+◌, ◌-◌, ◌*◌, length}
 use Rattle.rule_text.specs.Reading.{Reads, written_as}
 use Rattle.rule_text.specs.Written.Form.{more_arms, sequence}
 use Rattle.rule_text.proofs.expression.+expression.Given as goal

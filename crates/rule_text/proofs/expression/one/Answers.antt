@@ -1,6 +1,4 @@
-use Rattle.std.proofs.Common.{ap, subst, sym, ◌∙◌}
 use Rattle.rule_text.specs.Reading.One.{one}
-use Rattle.rule_text.specs.Written.{is_end, sort_at}
 use Rattle.rule_text.proofs.Expressions.{still_there}
 use Rattle.rule_text.proofs.Reading.{reads_one}
 use Rattle.rule_text.proofs.expression.one.Goals as goal

@@ -7,5 +7,5 @@ use Rattle.rule_text.proofs.rule.class.Goals as goal
 pub returns : goal.returns
 returns c = on_ok c.wrap.result
     (λ w. class_read c.requires (c.bump.ensures (ap is_end c.requires)) (c.in_ok-name.ensures refl) (c.in_ok-expect.ensures refl) c.in_ok-members.ensures
-        c.len-start.ensures c.size_from-size.ensures w)
+    c.len-start.ensures c.size_from-size.ensures w)
     c.wrap.ensures

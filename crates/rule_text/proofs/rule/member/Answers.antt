@@ -1,4 +1,4 @@
-use Rattle.std.proofs.Common.{refl, sym, ◌∙◌, ◌≡◌}
+use Rattle.std.proofs.Common.{refl, sym, ◌∙◌}
 use Rattle.rule_text.specs.declared.word.Sort.TheVariants as sorts
 use Rattle.rule_text.specs.Rules.Member.{given, kind, other, without}
 use Rattle.rule_text.proofs.rule.member.Goals as goal

@@ -8,5 +8,5 @@ use Rattle.rule_text.proofs.rule.rule.Goals as goal
 pub returns : goal.returns
 returns c = on_ok c.wrap.result
     (λ w. rule_read (c.name-name.ensures sorts.Rule c.requires refl) (c.bump.ensures (ap is_end c.requires)) c.message-message.ensures
-        (c.in_ok-expect.ensures refl) c.in_ok-body.ensures c.len-start.ensures c.size_from-size.ensures w)
+    (c.in_ok-expect.ensures refl) c.in_ok-body.ensures c.len-start.ensures c.size_from-size.ensures w)
     c.wrap.ensures
