@@ -1,3 +1,4 @@
 pub mod Lists
 pub mod Exact
 pub mod NextRow
+pub mod Faulty

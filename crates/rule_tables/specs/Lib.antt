@@ -2,3 +2,5 @@ pub mod Vocabulary
 pub mod Definitions
 pub mod Rows
 pub mod Made
+pub mod Faults
+pub mod Classes

@@ -1,5 +1,6 @@
 //! What decides between two ways: the tokens that come.
-ghost use Rattle.std.specs.Prelude.{◌<◌, IfOk};
+ghost use Rattle.std.specs.Prelude.{◌<◌, IfErr, IfOk};
+ghost use Rattle.rule_tables.specs.Faults.{NamesNothing};
 
 use crate::error::RulesError;
 use crate::map::{Map, NONE, Place};
@@ -51,7 +52,9 @@ impl Looks<'_> {
     }
 
     /// The number of the look at which a part goes on at a place, and not after it.
-    pub(crate) fn more(&mut self, part: usize, place: Place) -> Result<u16, RulesError> {
+    pub(crate) fn more(&mut self, part: usize, place: Place) -> Result<u16, RulesError>
+        ensures { IfErr result NamesNothing }
+    {
         let mine = self.from(place)?;
         let others = self.from(Place::After(part))?;
         self.decide(part, &mine, &others)
@@ -63,7 +66,9 @@ impl Looks<'_> {
         part: usize,
         mine: &[Place],
         others: &[Place],
-    ) -> Result<u16, RulesError> {
+    ) -> Result<u16, RulesError>
+        ensures { IfErr result NamesNothing }
+    {
         let shared = both(kinds_at(self.map, mine), kinds_at(self.map, others));
         if shared == TokenSet::EMPTY {
             return Ok(0);
@@ -77,6 +82,7 @@ impl Looks<'_> {
     /// Links the looks from the one of this number on to one another.
     fn link(&mut self, first: usize) -> Result<(), RulesError>
         requires { 0 < first }
+        ensures { IfErr result NamesNothing }
     {
         for at in first..self.list.len() {
             let next = number_of(at)?;
@@ -98,6 +104,7 @@ impl Looks<'_> {
         depth: usize,
     ) -> Result<(), RulesError>
         requires { depth < 4 }
+        ensures { IfErr result NamesNothing }
     {
         let own = kinds_at(self.map, mine);
         let shared = both(own, kinds_at(self.map, others));
@@ -130,6 +137,7 @@ impl Looks<'_> {
         group: TokenSet,
     ) -> Result<(), RulesError>
         requires { depth < 3 }
+        ensures { IfErr result NamesNothing }
     {
         let Some(kind) = first_of(group) else {
             return Ok(());
@@ -143,6 +151,7 @@ impl Looks<'_> {
 
     fn add(&mut self, look: &Look, depth: usize, set: TokenSet) -> Result<(), RulesError>
         requires { depth < 4 }
+        ensures { IfErr result NamesNothing }
     {
         let mut look = *look;
         look[depth] = self.sets.number(set)?;
@@ -193,7 +202,8 @@ fn add_some(sets: &mut Vec<TokenSet>, set: TokenSet) -> Result<(), AllocError> {
 
 /// The number of a look, from 1.
 fn number_of(index: usize) -> Result<u16, RulesError>
-    ensures { IfOk result (λ number. 0 < number) }
+    ensures err { IfErr result NamesNothing }
+    ensures more { IfOk result (λ number. 0 < number) }
 {
     if index < 65535 {
         Ok(index as u16 + 1)

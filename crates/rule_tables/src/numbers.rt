@@ -1,6 +1,7 @@
 //! The numbers of a row.
-ghost use Rattle.std.specs.Prelude.{◌≡◌, ◌<◌, ◌%◌, IfOk, IsTrue, Some, slice_get, slice_index};
+ghost use Rattle.std.specs.Prelude.{◌≡◌, ◌<◌, ◌%◌, IfErr, IfOk, IsTrue, Some, slice_get, slice_index};
 ghost use Rattle.rule_grammar.specs.Parts.{part_by, part_of};
+ghost use Rattle.rule_tables.specs.Faults.{NamesNothing};
 ghost use Rattle.rule_tables.specs.Rows.{is_exact, tail_tag};
 
 use crate::error::RulesError;
@@ -21,7 +22,8 @@ pub(crate) fn numbers_of(
     message: u16,
 ) -> Result<[u16; 8], RulesError>
     requires { IsTrue (is_exact row.now) }
-    ensures { IfOk result (λ numbers. part_of numbers ≡ row.now) }
+    ensures err { IfErr result NamesNothing }
+    ensures ok { IfOk result (λ numbers. part_of numbers ≡ row.now) }
 {
     let known = match ahead.get(index) {
         Some(known) => *known,
@@ -67,7 +69,9 @@ fn look(
     ahead: &[Ahead],
     index: usize,
     row: &Row,
-) -> Result<u16, RulesError> {
+) -> Result<u16, RulesError>
+    ensures { IfErr result NamesNothing }
+{
     match row {
         Row::Arm { .. } | Row::Tail { .. } => {
             if looks.map.outer(index) == NONE {

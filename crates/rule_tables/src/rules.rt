@@ -1,5 +1,6 @@
 //! Rules that are ready to be run.
-ghost use Rattle.std.specs.Prelude.{◌≡◌, ◌≤◌, All, IfOk, IsTrue, Some, length, slice_get};
+ghost use Rattle.std.specs.Prelude.{◌≡◌, ◌≤◌, All, IfErr, IfOk, IsTrue, Some, length, slice_get};
+ghost use Rattle.rule_tables.specs.Faults.{IsFault, NamesNothing};
 ghost use Rattle.rule_tables.specs.Rows.{HasRows, SayRows, is_exact};
 ghost use Rattle.rule_tables.specs.Vocabulary.{vocabulary};
 
@@ -51,7 +52,8 @@ impl Rules {
         parts: &[Part<'_>],
         names: &N,
     ) -> Result<Rules, RulesError>
-        ensures { IfOk result (λ rules. HasRows (vocabulary (N.token_named names.now) (N.node_named names.now) (N.class_named names.now)) parts.now rules.rows) }
+        ensures err { IfErr result (λ reason. IsFault (vocabulary (N.token_named names.now) (N.node_named names.now) (N.class_named names.now)) parts.now reason) }
+        ensures rows { IfOk result (λ rules. HasRows (vocabulary (N.token_named names.now) (N.node_named names.now) (N.class_named names.now)) parts.now rules.rows) }
     {
         if parts.len() > MOST {
             return Err(RulesError::TooMany);
@@ -117,7 +119,8 @@ fn rules_of(
 ) -> Result<Rules, RulesError>
     requires exact { All (λ row. IsTrue (is_exact row)) rows.now }
     requires small { start ≤ 65000 }
-    ensures { IfOk result (λ rules. SayRows rows.now rules.rows) }
+    ensures err { IfErr result NamesNothing }
+    ensures ok { IfOk result (λ rules. SayRows rows.now rules.rows) }
 {
     let map = Map::new(alloc, rows, sets)?;
     let ahead = ahead_of(alloc, &map)?;
@@ -147,7 +150,8 @@ fn all_numbers(
     rows: &[Row],
 ) -> Result<Vec<[u16; 8]>, RulesError>
     requires { All (λ row. IsTrue (is_exact row)) rows.now }
-    ensures { IfOk result (λ numbers. SayRows rows.now numbers.items) }
+    ensures err { IfErr result NamesNothing }
+    ensures ok { IfOk result (λ numbers. SayRows rows.now numbers.items) }
 {
     let mut numbers = Vec::new(looks.alloc);
     let mut rule = 0usize;

@@ -1,5 +1,8 @@
 //! Sets of kinds, each once.
-ghost use Rattle.std.specs.Prelude.{◌≡◌, ◌++◌, ◌∷◌, [], OnOk};
+ghost use Rattle.std.specs.Prelude.{◌≡◌, ℕ, ◌&&◌, ◌++◌, ◌∷◌, [], IfErr, OnOk, Some, not};
+ghost use Rattle.squawk_kinds.specs.TokenSets.{has};
+ghost use Rattle.rule_tables.specs.Classes.{is_token};
+ghost use Rattle.rule_tables.specs.Faults.{NamesNothing};
 
 use crate::error::RulesError;
 use squawk_kinds::{SyntaxKind, TokenSet};
@@ -20,7 +23,9 @@ impl Sets {
     }
 
     /// The number of a set.
-    pub(crate) fn number(&mut self, set: TokenSet) -> Result<u16, RulesError> {
+    pub(crate) fn number(&mut self, set: TokenSet) -> Result<u16, RulesError>
+        ensures { IfErr result NamesNothing }
+    {
         for (number, one) in self.list.iter().enumerate() {
             if *one == set {
                 return number_of(number);
@@ -33,7 +38,9 @@ impl Sets {
 }
 
 /// The number of a set in a table. The greatest one is no set.
-fn number_of(index: usize) -> Result<u16, RulesError> {
+fn number_of(index: usize) -> Result<u16, RulesError>
+    ensures { IfErr result NamesNothing }
+{
     if index < 65535 {
         Ok(index as u16)
     } else {
@@ -42,7 +49,9 @@ fn number_of(index: usize) -> Result<u16, RulesError> {
 }
 
 /// The set of one kind: it has none that no token has.
-pub(crate) fn set_of(kind: SyntaxKind) -> TokenSet {
+pub(crate) fn set_of(kind: SyntaxKind) -> TokenSet
+    ensures { (one : ℕ) → has result one ≡ is_token (Some kind) one }
+{
     if kind <= SyntaxKind::WHITESPACE {
         TokenSet::new(&[kind])
     } else {
@@ -69,7 +78,9 @@ pub(crate) fn both(one: TokenSet, other: TokenSet) -> TokenSet {
 }
 
 /// The kinds of a set that aren't in another.
-pub(crate) fn without(one: TokenSet, other: TokenSet) -> TokenSet {
+pub(crate) fn without(one: TokenSet, other: TokenSet) -> TokenSet
+    ensures { (kind : ℕ) → has result kind ≡ (has one kind && not (has other kind)) }
+{
     let a = one.0;
     let b = other.0;
     TokenSet::from_words([
