@@ -2,3 +2,5 @@ pub mod Lists
 pub mod Exact
 pub mod NextRow
 pub mod Faulty
+pub mod Without
+pub mod Members

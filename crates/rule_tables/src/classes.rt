@@ -1,5 +1,5 @@
 //! Classes of tokens.
-ghost use Rattle.std.specs.Prelude.{◌≡◌, ℕ, ◌<◌, ◌≤◌, IfErr, IfOk, IfSome, None, Some, length, slice_get, take};
+ghost use Rattle.std.specs.Prelude.{◌≡◌, ℕ, ◌+◌, ◌<◌, ◌≤◌, IfErr, IfOk, IfSome, None, Some, length, slice_get, take};
 ghost use Rattle.squawk_kinds.specs.TokenSets.{has};
 ghost use Rattle.rule_tables.specs.Classes.{AreClasses, class_has, class_holds, is_without, joined, list_has, member_has, members_of};
 ghost use Rattle.rule_tables.specs.Definitions.{IsMember, class_number, classes_in, size_of_class};
@@ -39,7 +39,9 @@ pub(crate) fn sets_of<N: Names>(
 /// The members of the class that is this part.
 fn members_of<'p, 't>(parts: &'p [Part<'t>], class: usize, size: usize) -> &'p [Part<'t>]
     requires { class < length parts.now }
-    ensures { result.now ≡ members_of parts.now class size }
+    ensures within { class + 1 + length result.now ≤ length parts.now }
+    ensures few { length result.now ≤ size }
+    ensures are { result.now ≡ members_of parts.now class size }
 {
     let rest = &parts[class + 1..];
     if size < rest.len() { &rest[..size] } else { rest }
@@ -61,7 +63,8 @@ fn union_of<N: Names>(
 {
     let mut set = TokenSet::EMPTY;
     let mut is_without = false;
-    for (index, member) in members_of(parts, class, size).iter().enumerate() {
+    let members = members_of(parts, class, size);
+    for (index, member) in members.iter().enumerate() {
         let kinds = kinds_of(parts, member, class + 1 + index, sets, names)?;
         set = joined(is_without, set, kinds);
         is_without = is_minus(member);

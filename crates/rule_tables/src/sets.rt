@@ -52,7 +52,7 @@ fn number_of(index: usize) -> Result<u16, RulesError>
 pub(crate) fn set_of(kind: SyntaxKind) -> TokenSet
     ensures { (one : ℕ) → has result one ≡ is_token (Some kind) one }
 {
-    if kind <= SyntaxKind::WHITESPACE {
+    if kind.0 <= SyntaxKind::WHITESPACE.0 {
         TokenSet::new(&[kind])
     } else {
         TokenSet::EMPTY
@@ -84,16 +84,16 @@ pub(crate) fn without(one: TokenSet, other: TokenSet) -> TokenSet
     let a = one.0;
     let b = other.0;
     TokenSet::from_words([
-        a[0] & !b[0],
-        a[1] & !b[1],
-        a[2] & !b[2],
-        a[3] & !b[3],
-        a[4] & !b[4],
-        a[5] & !b[5],
-        a[6] & !b[6],
-        a[7] & !b[7],
-        a[8] & !b[8],
-        a[9] & !b[9],
+        a[0] & (a[0] ^ b[0]),
+        a[1] & (a[1] ^ b[1]),
+        a[2] & (a[2] ^ b[2]),
+        a[3] & (a[3] ^ b[3]),
+        a[4] & (a[4] ^ b[4]),
+        a[5] & (a[5] ^ b[5]),
+        a[6] & (a[6] ^ b[6]),
+        a[7] & (a[7] ^ b[7]),
+        a[8] & (a[8] ^ b[8]),
+        a[9] & (a[9] ^ b[9]),
     ])
 }
 
