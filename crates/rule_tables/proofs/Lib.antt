@@ -4,3 +4,4 @@ pub mod NextRow
 pub mod Faulty
 pub mod Without
 pub mod Members
+pub mod MoreClasses

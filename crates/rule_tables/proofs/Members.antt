@@ -1,5 +1,5 @@
 -- The members of a class, one after another.
-use Rattle.std.proofs.Common.{◌≡◌, ℕ, suc, ◌+◌, ◌<◌, ◌≤◌, ◌&&◌, ◌∙◌, Bool, true, false, inl, inr, List, [], ◌∷◌, Option, Some, None, length, get_or, slice_get, take, drop, nat_lt, add-one, arith, refl, sym, ap}
+use Rattle.std.proofs.Common.{◌≡◌, ℕ, suc, ◌+◌, ◌<◌, ◌≤◌, ◌&&◌, ◌∙◌, Bool, true, false, inl, inr, List, [], ◌∷◌, Option, Some, None, length, get_or, slice_get, take, drop, nat_lt, add-one, arith, refl, sym, ap, subst}
 use Rattle.std.proofs.Math.Seq.{drop-cons}
 use Rattle.std.proofs.lemmas.Bool.{cases_Bool}
 use Rattle.std.proofs.lemmas.Bool.Decides.{nat_tests}
@@ -81,3 +81,6 @@ members_same one other same before without (p ∷ ps) = rw (same p) (members_sam
 
 pub class_same : (v : Vocabulary) (parts : List Part) (one other : ℕ → ℕ → Bool) (i size kind : ℕ) → ((n : ℕ) → n < classes_in (take i parts) → one n kind ≡ other n kind) → class_has v parts one i size kind ≡ class_has v parts other i size kind
 class_same v parts one other i size kind same = members_same _ _ (member_same v parts one other (classes_in (take i parts)) kind same) false false (members_of parts i size)
+
+pub member_at : (parts : List Part) (class size i : ℕ) (ms : List Part) (d : Part) → ms ≡ members_of parts class size → i < length ms → slice_get parts (class + 1 + i) ≡ Some (get_or ms i d)
+member_at parts class size i ms d are lt = subst (λ (qs : List Part). slice_get parts (class + 1 + i) ≡ Some (get_or qs i d)) (sym are) (member_is parts class size i d (subst (λ (qs : List Part). i < length qs) are lt))
