@@ -5,3 +5,4 @@ pub mod Faulty
 pub mod Without
 pub mod Members
 pub mod MoreClasses
+pub mod Longer

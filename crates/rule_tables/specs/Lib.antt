@@ -4,3 +4,4 @@ pub mod Rows
 pub mod Made
 pub mod Faults
 pub mod Classes
+pub mod Sets

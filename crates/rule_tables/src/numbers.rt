@@ -1,7 +1,8 @@
 //! The numbers of a row.
-ghost use Rattle.std.specs.Prelude.{◌≡◌, ◌<◌, ◌%◌, IfErr, IfOk, IsTrue, Some, slice_get, slice_index};
+ghost use Rattle.std.specs.Prelude.{◌≡◌, ◌<◌, ◌%◌, IfErr, IfOk, IsTrue, OnOk, Some, slice_get, slice_index};
 ghost use Rattle.rule_grammar.specs.Parts.{part_by, part_of};
 ghost use Rattle.rule_tables.specs.Faults.{NamesNothing};
+ghost use Rattle.rule_tables.specs.Sets.{Extends};
 ghost use Rattle.rule_tables.specs.Rows.{is_exact, tail_tag};
 
 use crate::error::RulesError;
@@ -23,6 +24,7 @@ pub(crate) fn numbers_of(
 ) -> Result<[u16; 8], RulesError>
     requires { IsTrue (is_exact row.now) }
     ensures err { IfErr result NamesNothing }
+    ensures keeps { OnOk result (Extends looks.old.sets.list.items looks.new.sets.list.items) }
     ensures ok { IfOk result (λ numbers. part_of numbers ≡ row.now) }
 {
     let known = match ahead.get(index) {
@@ -53,7 +55,9 @@ fn begins(
     known: &Ahead,
     index: usize,
     row: &Row,
-) -> Result<TokenSet, AllocError> {
+) -> Result<TokenSet, AllocError>
+    ensures { OnOk result (Extends looks.old.sets.list.items looks.new.sets.list.items) }
+{
     match row {
         Row::Arm { .. } | Row::Tail { .. } | Row::Choice { .. } if looks.map.outer(index) != NONE => {
             let mine = looks.from(Place::Before(index))?;
@@ -70,7 +74,8 @@ fn look(
     index: usize,
     row: &Row,
 ) -> Result<u16, RulesError>
-    ensures { IfErr result NamesNothing }
+    ensures err { IfErr result NamesNothing }
+    ensures keeps { OnOk result (Extends looks.old.sets.list.items looks.new.sets.list.items) }
 {
     match row {
         Row::Arm { .. } | Row::Tail { .. } => {

@@ -1,7 +1,8 @@
 //! Rules that are ready to be run.
-ghost use Rattle.std.specs.Prelude.{◌≡◌, ◌≤◌, All, IfErr, IfOk, IsTrue, Some, length, slice_get};
+ghost use Rattle.std.specs.Prelude.{◌≡◌, ◌≤◌, All, IfErr, IfOk, IsTrue, OnOk, Some, length, slice_get};
 ghost use Rattle.rule_tables.specs.Faults.{IsFault, NamesNothing};
 ghost use Rattle.rule_tables.specs.Rows.{HasRows, SayRows, is_exact};
+ghost use Rattle.rule_tables.specs.Sets.{Extends};
 ghost use Rattle.rule_tables.specs.Vocabulary.{vocabulary};
 
 use crate::classes::sets_of;
@@ -151,6 +152,7 @@ fn all_numbers(
 ) -> Result<Vec<[u16; 8]>, RulesError>
     requires { All (λ row. IsTrue (is_exact row)) rows.now }
     ensures err { IfErr result NamesNothing }
+    ensures keeps { OnOk result (Extends looks.old.sets.list.items looks.new.sets.list.items) }
     ensures ok { IfOk result (λ numbers. SayRows rows.now numbers.items) }
 {
     let mut numbers = Vec::new(looks.alloc);

@@ -1,8 +1,9 @@
 //! Sets of kinds, each once.
-ghost use Rattle.std.specs.Prelude.{◌≡◌, ℕ, ◌&&◌, ◌++◌, ◌∷◌, [], IfErr, OnOk, Some, not};
+ghost use Rattle.std.specs.Prelude.{◌≡◌, ℕ, ◌&&◌, ◌++◌, ◌∷◌, [], IfErr, IfOk, OnOk, Some, not};
 ghost use Rattle.squawk_kinds.specs.TokenSets.{has};
 ghost use Rattle.rule_tables.specs.Classes.{is_token};
 ghost use Rattle.rule_tables.specs.Faults.{NamesNothing};
+ghost use Rattle.rule_tables.specs.Sets.{Extends};
 
 use crate::error::RulesError;
 use squawk_kinds::{SyntaxKind, TokenSet};
@@ -16,15 +17,17 @@ pub(crate) struct Sets {
 
 impl Sets {
     /// These sets, each also where it is there more than once.
-    pub(crate) fn new(alloc: Global, sets: &[TokenSet]) -> Result<Sets, AllocError> {
-        Ok(Sets {
-            list: Vec::from_slice(alloc, sets)?,
-        })
+    pub(crate) fn new(alloc: Global, sets: &[TokenSet]) -> Result<Sets, AllocError>
+        ensures { IfOk result (λ made. made.list.items ≡ sets.now) }
+    {
+        let list = Vec::from_slice(alloc, sets)?;
+        Ok(Sets { list })
     }
 
     /// The number of a set.
     pub(crate) fn number(&mut self, set: TokenSet) -> Result<u16, RulesError>
-        ensures { IfErr result NamesNothing }
+        ensures err { IfErr result NamesNothing }
+        ensures keeps { OnOk result (Extends self.old.list.items self.new.list.items) }
     {
         for (number, one) in self.list.iter().enumerate() {
             if *one == set {
