@@ -6,3 +6,4 @@ pub mod Without
 pub mod Members
 pub mod MoreClasses
 pub mod Longer
+pub mod Words

@@ -1,8 +1,11 @@
 //! Rules that are ready to be run.
-ghost use Rattle.std.specs.Prelude.{◌≡◌, ◌≤◌, All, IfErr, IfOk, IsTrue, OnOk, Some, length, slice_get};
+ghost use Rattle.std.specs.Prelude.{◌≡◌, ℕ, ◌<◌, ◌≤◌, All, IfErr, IfOk, IsTrue, OnOk, Some, length, slice_get};
+ghost use Rattle.squawk_kinds.specs.TokenSets.{has};
+ghost use Rattle.rule_grammar.specs.Parts.{words_have};
+ghost use Rattle.rule_tables.specs.Classes.{HasClasses};
 ghost use Rattle.rule_tables.specs.Faults.{IsFault, NamesNothing};
 ghost use Rattle.rule_tables.specs.Rows.{HasRows, SayRows, is_exact};
-ghost use Rattle.rule_tables.specs.Sets.{Extends};
+ghost use Rattle.rule_tables.specs.Sets.{Extends, HaveSets, word_of};
 ghost use Rattle.rule_tables.specs.Vocabulary.{vocabulary};
 
 use crate::classes::sets_of;
@@ -54,6 +57,7 @@ impl Rules {
         names: &N,
     ) -> Result<Rules, RulesError>
         ensures err { IfErr result (λ reason. IsFault (vocabulary (N.token_named names.now) (N.node_named names.now) (N.class_named names.now)) parts.now reason) }
+        ensures classes { IfOk result (λ rules. HasClasses (vocabulary (N.token_named names.now) (N.node_named names.now) (N.class_named names.now)) parts.now rules.sets) }
         ensures rows { IfOk result (λ rules. HasRows (vocabulary (N.token_named names.now) (N.node_named names.now) (N.class_named names.now)) parts.now rules.rows) }
     {
         if parts.len() > MOST {
@@ -121,7 +125,8 @@ fn rules_of(
     requires exact { All (λ row. IsTrue (is_exact row)) rows.now }
     requires small { start ≤ 65000 }
     ensures err { IfErr result NamesNothing }
-    ensures ok { IfOk result (λ rules. SayRows rows.now rules.rows) }
+    ensures rows { IfOk result (λ rules. SayRows rows.now rules.rows) }
+    ensures sets { IfOk result (λ rules. HaveSets sets.now rules.sets (length sets.now)) }
 {
     let map = Map::new(alloc, rows, sets)?;
     let ahead = ahead_of(alloc, &map)?;
@@ -173,7 +178,9 @@ fn to_u16(number: usize) -> u16 {
 }
 
 /// The words of all sets.
-fn all_words(alloc: Global, sets: &[TokenSet]) -> Result<Vec<[u16; 40]>, AllocError> {
+fn all_words(alloc: Global, sets: &[TokenSet]) -> Result<Vec<[u16; 40]>, AllocError>
+    ensures { IfOk result (λ words. HaveSets sets.now words.items (length sets.now)) }
+{
     let mut words = Vec::new(alloc);
     for set in sets {
         push(&mut words, words_of(set))?;
@@ -182,10 +189,20 @@ fn all_words(alloc: Global, sets: &[TokenSet]) -> Result<Vec<[u16; 40]>, AllocEr
 }
 
 /// The words of a set: four of 16 bits for each of its words.
-fn words_of(set: &TokenSet) -> [u16; 40] {
+fn words_of(set: &TokenSet) -> [u16; 40]
+    ensures { (kind : ℕ) → words_have (Some result) kind ≡ has set.now kind }
+{
     let mut words = [0u16; 40];
     for index in 0..40usize {
-        words[index] = ((set.0[index / 4] >> (16 * (index % 4))) % 65536) as u16;
+        words[index] = word_of(set, index);
     }
     words
+}
+
+fn word_of(set: &TokenSet, index: usize) -> u16
+    requires { index < 40 }
+    ensures { result ≡ word_of set.now index }
+{
+    let word = set.0[index / 4];
+    ((word >> (16 * (index % 4))) % 65536) as u16
 }
