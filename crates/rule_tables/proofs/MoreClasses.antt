@@ -128,19 +128,19 @@ pub classes_next : (v : Vocabulary) (parts : List Part) (sets all : List TokenSe
     → (length all ≡ classes_in (take (n + 1) parts)) × AreClasses v parts (list_has all) (n + 1)
 classes_next v parts sets all set n size d own lt is e len has are =
     let count : classes_in (take (n + 1) parts) ≡ classes_in (take n parts) + 1 = count_class parts n d lt (rw is refl) in
-    let class : size_of_class (slice_get parts n) ≡ Some size = rw (slice_get-get_or parts n d lt, is) refl in
-    ( ap length e ∙ length-append sets (set ∷ []) ∙ ap (λ (k : ℕ). k + 1) len ∙ sym count
-    , subst (λ (xs : List TokenSet). AreClasses v parts (list_has xs) (n + 1)) (sym e) (classes_more v parts sets set n size lt len class has are)
+    let class : size_of_class (slice_get parts n) ≡ Some size = rw (slice_get-get_or parts n d lt, is) refl in (
+      ap length e ∙ length-append sets (set ∷ []) ∙ ap (λ (k : ℕ). k + 1) len ∙ sym count,
+      subst (λ (xs : List TokenSet). AreClasses v parts (list_has xs) (n + 1)) (sym e) (classes_more v parts sets set n size lt len class has are),
     )
 
 -- the next part is none
 pub classes_stay : (v : Vocabulary) (parts : List Part) (sets all : List TokenSet) (n : ℕ) (d : Part) → n < length parts → is_class (get_or parts n d) ≡ false
     → all ≡ sets → length sets ≡ classes_in (take n parts) → AreClasses v parts (list_has sets) n
     → (length all ≡ classes_in (take (n + 1) parts)) × AreClasses v parts (list_has all) (n + 1)
-classes_stay v parts sets all n d lt is e len are =
-    ( ap length e ∙ len ∙ sym (count_other parts n d lt is)
-    , subst (λ (xs : List TokenSet). AreClasses v parts (list_has xs) (n + 1)) (sym e) (classes_other v parts (list_has sets) n (no_size parts n d lt is) are)
-    )
+classes_stay v parts sets all n d lt is e len are = (
+  ap length e ∙ len ∙ sym (count_other parts n d lt is),
+  subst (λ (xs : List TokenSet). AreClasses v parts (list_has xs) (n + 1)) (sym e) (classes_other v parts (list_has sets) n (no_size parts n d lt is) are),
+)
 
 pub not_class : (p : Part) → ((own : Name) (size : ℕ) → p ≡ part.Set own size → ⊥) → is_class p ≡ false
 not_class (part.Set own n) no_set = absurd (no_set own n refl)

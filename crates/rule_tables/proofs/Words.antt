@@ -26,7 +26,7 @@ bit_of_field n k r lt =
     let more : 15 - r + 1 ≡ 16 - r = omega (arith, lt) in
     let field : n / 2 ^ k % 2 ^ (16 - r + r) / 2 ^ r ≡ n / 2 ^ k / 2 ^ r % 2 ^ (16 - r) = field_of (n / 2 ^ k) (16 - r) r in
     let cut : n / 2 ^ k % 65536 / 2 ^ r ≡ n / 2 ^ k / 2 ^ r % 2 ^ (15 - r + 1) =
-      subst (λ (w : ℕ). n / 2 ^ k % 2 ^ w / 2 ^ r ≡ n / 2 ^ k / 2 ^ r % 2 ^ (15 - r + 1)) width (subst (λ (w : ℕ). n / 2 ^ k % 2 ^ (16 - r + r) / 2 ^ r ≡ n / 2 ^ k / 2 ^ r % 2 ^ w) (sym more) field) in
+    subst (λ (w : ℕ). n / 2 ^ k % 2 ^ w / 2 ^ r ≡ n / 2 ^ k / 2 ^ r % 2 ^ (15 - r + 1)) width (subst (λ (w : ℕ). n / 2 ^ k % 2 ^ (16 - r + r) / 2 ^ r ≡ n / 2 ^ k / 2 ^ r % 2 ^ w) (sym more) field) in
     ap (λ (w : ℕ). w % 2) cut ∙ mod-mod-pow (n / 2 ^ k / 2 ^ r) (15 - r) 1 ∙ ap (λ (w : ℕ). w % 2) (shr-shr n k r)
 
 -- a word has a kind's bit if the set has
@@ -36,7 +36,7 @@ word_bit set kind le =
     let bit : 16 * (kind / 16 % 4) + kind % 16 ≡ kind % 64 = omega arith in
     ap (λ (b : ℕ). b == 1) (bit_of_field (slice_index set (kind / 16 / 4)) (16 * (kind / 16 % 4)) (kind % 16) (omega arith))
     ∙ subst (λ (q : ℕ). (slice_index set q / 2 ^ (16 * (kind / 16 % 4) + kind % 16) % 2 == 1) ≡ (bit_at (get_or set (kind / 64) 0) (kind % 64) == 1)) (sym place)
-      (ap (λ (b : ℕ). bit_at (get_or set (kind / 64) 0) b == 1) bit)
+    (ap (λ (b : ℕ). bit_at (get_or set (kind / 64) 0) b == 1) bit)
     ∙ sym (has-token set kind le)
 
 -- forty words have the kinds of a set

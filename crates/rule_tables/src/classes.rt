@@ -44,7 +44,11 @@ fn members_of<'p, 't>(parts: &'p [Part<'t>], class: usize, size: usize) -> &'p [
     ensures are { result.now ≡ members_of parts.now class size }
 {
     let rest = &parts[class + 1..];
-    if size < rest.len() { &rest[..size] } else { rest }
+    if size < rest.len() {
+        &rest[..size]
+    } else {
+        rest
+    }
 }
 
 /// The union of the members of a class. After `-` the kinds of one are taken away.

@@ -62,5 +62,8 @@ pub(crate) fn class_number(parts: &[Part<'_>], name: &str) -> Option<usize>
 fn classes_in(parts: &[Part<'_>]) -> usize
     ensures { result ≡ classes_in parts.now }
 {
-    parts.iter().filter(|part| matches!(part, Part::Set { .. })).count()
+    parts
+        .iter()
+        .filter(|part| matches!(part, Part::Set { .. }))
+        .count()
 }

@@ -59,21 +59,17 @@ fn begins(
     ensures { OnOk result (Extends looks.old.sets.list.items looks.new.sets.list.items) }
 {
     match row {
-        Row::Arm { .. } | Row::Tail { .. } | Row::Choice { .. } if looks.map.outer(index) != NONE => {
-            let mine = looks.from(Place::Before(index))?;
-            Ok(kinds_at(looks.map, &mine))
-        }
+        Row::Arm { .. } | Row::Tail { .. } | Row::Choice { .. } if looks.map.outer(index) != NONE =>
+            {
+                let mine = looks.from(Place::Before(index))?;
+                Ok(kinds_at(looks.map, &mine))
+            }
         _ => Ok(known.begins),
     }
 }
 
 /// The look of a row, or the set of kinds that one of its operators begins with.
-fn look(
-    looks: &mut Looks<'_>,
-    ahead: &[Ahead],
-    index: usize,
-    row: &Row,
-) -> Result<u16, RulesError>
+fn look(looks: &mut Looks<'_>, ahead: &[Ahead], index: usize, row: &Row) -> Result<u16, RulesError>
     ensures err { IfErr result NamesNothing }
     ensures keeps { OnOk result (Extends looks.old.sets.list.items looks.new.sets.list.items) }
 {
@@ -119,7 +115,11 @@ fn part_numbers(row: &Row) -> [u16; 3]
         Row::Call { start, end } => [12, *end, *start],
         Row::Operators { end } => [13, *end, 0],
         Row::Operand { operators, floor } => [14, *operators, *floor],
-        Row::Tail { end, level, ceiling } => [tail_number(*level, *ceiling), *end, *level],
+        Row::Tail {
+            end,
+            level,
+            ceiling,
+        } => [tail_number(*level, *ceiling), *end, *level],
         Row::Some { end } => [18, *end, 0],
     }
 }

@@ -114,7 +114,11 @@ fn row_of<N: Names>(
             end: end_of(index, *size)?,
             separator: token(names, separator, index)?,
         },
-        Part::Tail { level, association, size } => tail(end_of(index, *size)?, *level, association)?,
+        Part::Tail {
+            level,
+            association,
+            size,
+        } => tail(end_of(index, *size)?, *level, association)?,
         Part::Operand { floor } => Row::Operand {
             operators: number(outer.operators)?,
             floor: number(*floor)?,
@@ -123,13 +127,27 @@ fn row_of<N: Names>(
             end: end_of(index, *size)?,
             kind: SyntaxKind::ERROR,
         },
-        Part::Rule { size, .. } => Row::Arm { end: end_of(index, *size)? },
-        Part::Choice { size } => Row::Choice { end: end_of(index, *size)? },
-        Part::Arm { size } => Row::Arm { end: end_of(index, *size)? },
-        Part::Optional { size } => Row::Optional { end: end_of(index, *size)? },
-        Part::Repeat { size } => Row::Repeat { end: end_of(index, *size)? },
-        Part::Some { size } => Row::Some { end: end_of(index, *size)? },
-        Part::Operators { size } => Row::Operators { end: end_of(index, *size)? },
+        Part::Rule { size, .. } => Row::Arm {
+            end: end_of(index, *size)?,
+        },
+        Part::Choice { size } => Row::Choice {
+            end: end_of(index, *size)?,
+        },
+        Part::Arm { size } => Row::Arm {
+            end: end_of(index, *size)?,
+        },
+        Part::Optional { size } => Row::Optional {
+            end: end_of(index, *size)?,
+        },
+        Part::Repeat { size } => Row::Repeat {
+            end: end_of(index, *size)?,
+        },
+        Part::Some { size } => Row::Some {
+            end: end_of(index, *size)?,
+        },
+        Part::Operators { size } => Row::Operators {
+            end: end_of(index, *size)?,
+        },
     };
     Ok(row)
 }
@@ -163,7 +181,11 @@ fn tail(end: u16, level: usize, association: &Association) -> Result<Row, RulesE
         Association::Neither => level.saturating_sub(1),
         _ => level,
     };
-    Ok(Row::Tail { end, level, ceiling })
+    Ok(Row::Tail {
+        end,
+        level,
+        ceiling,
+    })
 }
 
 fn class(parts: &[Part<'_>], name: &Name<'_>, part: usize) -> Result<u16, RulesError>

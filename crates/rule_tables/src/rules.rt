@@ -51,11 +51,7 @@ impl Model for Rules {
 
 impl Rules {
     /// The rules of these parts. A file is what the first one says.
-    pub fn new<N: Names>(
-        alloc: Global,
-        parts: &[Part<'_>],
-        names: &N,
-    ) -> Result<Rules, RulesError>
+    pub fn new<N: Names>(alloc: Global, parts: &[Part<'_>], names: &N) -> Result<Rules, RulesError>
         ensures err { IfErr result (λ reason. IsFault (vocabulary (N.token_named names.now) (N.node_named names.now) (N.class_named names.now)) parts.now reason) }
         ensures classes { IfOk result (λ rules. HasClasses (vocabulary (N.token_named names.now) (N.node_named names.now) (N.class_named names.now)) parts.now rules.sets) }
         ensures rows { IfOk result (λ rules. HasRows (vocabulary (N.token_named names.now) (N.node_named names.now) (N.class_named names.now)) parts.now rules.rows) }

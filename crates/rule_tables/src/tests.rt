@@ -1,1 +1,318 @@
-//! Tests.
+//! Trees by a table that is made of these parts:
+//!
+//! ```text
+//! file = statement*
+//! statement = expression ';' => STATEMENT
+//! expression = => NAME word | '(' expression ')' => PAREN
+//!     left _ '+' _ => SUM;  none _ '=' _ => EQUALITY;  left _ '*' _ => PRODUCT
+//! class word = IDENT '+' - '+'
+//! ```
+
+use crate::{Names, Rules, RulesError};
+use rule_parts::{Association, Name, Part};
+use squawk_parser::{
+    EntryPoint, NoKeywords, OwnedStep, StepList, SyntaxKind, Token, TokenKind, TokenSet,
+    parse_whole_into,
+};
+use std::alloc::{AllocError, Global};
+use std::fmt::Write;
+use std::test::Fail;
+
+struct SomeNames;
+
+impl Names for SomeNames {
+    ghost use Rattle.std.specs.Prelude.{None, Some, if◌then◌else◌, nat_eq, codes};
+    ghost use Rattle.std.specs.Cmp.Lexicographic.{pointwise};
+
+    ghost token_named = { λ _ name.
+        if pointwise nat_eq name (codes "IDENT") then Some 3
+        else if pointwise nat_eq name (codes ";") then Some 5
+        else if pointwise nat_eq name (codes "(") then Some 9
+        else if pointwise nat_eq name (codes ")") then Some 10
+        else if pointwise nat_eq name (codes "+") then Some 27
+        else if pointwise nat_eq name (codes "*") then Some 28
+        else if pointwise nat_eq name (codes "=") then Some 20
+        else None };
+
+    ghost node_named = { λ _ name.
+        if pointwise nat_eq name (codes "STATEMENT") then Some 700
+        else if pointwise nat_eq name (codes "NAME") then Some 701
+        else if pointwise nat_eq name (codes "PAREN") then Some 702
+        else if pointwise nat_eq name (codes "SUM") then Some 703
+        else if pointwise nat_eq name (codes "EQUALITY") then Some 704
+        else if pointwise nat_eq name (codes "PRODUCT") then Some 705
+        else None };
+
+    ghost class_named = { λ _ _. None };
+
+    fn token(&self, name: &str) -> Option<SyntaxKind> {
+        match name {
+            "IDENT" => Some(SyntaxKind(3)),
+            ";" => Some(SyntaxKind(5)),
+            "(" => Some(SyntaxKind(9)),
+            ")" => Some(SyntaxKind(10)),
+            "+" => Some(SyntaxKind(27)),
+            "*" => Some(SyntaxKind(28)),
+            "=" => Some(SyntaxKind(20)),
+            _ => None,
+        }
+    }
+
+    fn node(&self, name: &str) -> Option<SyntaxKind> {
+        match name {
+            "STATEMENT" => Some(SyntaxKind(700)),
+            "NAME" => Some(SyntaxKind(701)),
+            "PAREN" => Some(SyntaxKind(702)),
+            "SUM" => Some(SyntaxKind(703)),
+            "EQUALITY" => Some(SyntaxKind(704)),
+            "PRODUCT" => Some(SyntaxKind(705)),
+            _ => None,
+        }
+    }
+
+    fn class(&self, _name: &str) -> Option<TokenSet> {
+        None
+    }
+}
+
+fn named(text: &str) -> Name<'_> {
+    Name { text, at: 0 }
+}
+
+fn rule<'t>(name: &'t str, message: &'t str, size: usize) -> Part<'t> {
+    Part::Rule {
+        name: named(name),
+        message: named(message),
+        size,
+    }
+}
+
+fn token(name: &str) -> Part<'_> {
+    Part::Token { name: named(name) }
+}
+
+fn call(name: &str) -> Part<'_> {
+    Part::Call { name: named(name) }
+}
+
+fn becomes(name: &str) -> Part<'_> {
+    Part::Becomes { name: named(name) }
+}
+
+/// Adds an operator between two operands.
+fn operator(
+    parts: &mut Vec<Part<'static>>,
+    sign: &'static str,
+    level: usize,
+    association: Association,
+    node: &'static str,
+) -> Result<(), AllocError> {
+    parts.push(Part::Tail {
+        level,
+        association,
+        size: 3,
+    })?;
+    parts.push(token(sign))?;
+    parts.push(Part::Operand { floor: level + 1 })?;
+    parts.push(becomes(node))?;
+    Ok(())
+}
+
+fn some_parts(alloc: Global) -> Result<Vec<Part<'static>>, AllocError> {
+    let mut parts = Vec::new(alloc);
+    for part in [
+        rule("file", "a file", 2),
+        Part::Repeat { size: 1 },
+        call("statement"),
+        rule("statement", "a statement", 4),
+        Part::Node { size: 3 },
+        call("expression"),
+        token(";"),
+        becomes("STATEMENT"),
+        rule("expression", "an expression", 23),
+        Part::Operators { size: 22 },
+        Part::Arm { size: 3 },
+        Part::Node { size: 2 },
+        becomes("NAME"),
+        Part::Class {
+            name: named("word"),
+        },
+        Part::Arm { size: 5 },
+        Part::Node { size: 4 },
+        token("("),
+        call("expression"),
+        token(")"),
+        becomes("PAREN"),
+    ] {
+        parts.push(part)?;
+    }
+    operator(&mut parts, "+", 1, Association::Left, "SUM")?;
+    operator(&mut parts, "=", 2, Association::Neither, "EQUALITY")?;
+    operator(&mut parts, "*", 3, Association::Left, "PRODUCT")?;
+    parts.push(Part::Set {
+        name: named("word"),
+        size: 4,
+    })?;
+    parts.push(token("IDENT"))?;
+    parts.push(token("+"))?;
+    parts.push(Part::Without)?;
+    parts.push(token("+"))?;
+    Ok(parts)
+}
+
+/// The raw tokens of a text whose characters are tokens by themselves.
+fn tokens_of(alloc: Global, text: &str) -> Result<Vec<Token>, AllocError> {
+    let mut tokens = Vec::new(alloc);
+    for byte in text.bytes() {
+        let kind = match byte {
+            b' ' => TokenKind::Whitespace,
+            b'(' => TokenKind::OpenParen,
+            b')' => TokenKind::CloseParen,
+            b';' => TokenKind::Semi,
+            b',' => TokenKind::Comma,
+            b'+' => TokenKind::Plus,
+            b'*' => TokenKind::Star,
+            b'=' => TokenKind::Eq,
+            _ => TokenKind::Ident,
+        };
+        tokens.push(Token { kind, len: 1 })?;
+    }
+    Ok(tokens)
+}
+
+static NODES: [&str; 6] = ["STATEMENT", "NAME", "PAREN", "SUM", "EQUALITY", "PRODUCT"];
+
+/// What a node of the kind is called.
+fn called(kind: SyntaxKind) -> &'static str {
+    match NODES.get(usize::from(kind.0.saturating_sub(700))) {
+        Some(name) if kind.0 >= 700 => *name,
+        _ => "ERROR",
+    }
+}
+
+/// The line of steps: `NAME{a}` is a node with a token in it, and `!expected ;` an error.
+fn line_of(alloc: Global, steps: &[OwnedStep]) -> Result<String, AllocError> {
+    let mut line = String::new(alloc);
+    for step in steps {
+        match step {
+            OwnedStep::Enter { kind } => write!(line, "{}{{", called(*kind))?,
+            OwnedStep::Token { kind: _, text } => line.push_str(text.as_str())?,
+            OwnedStep::Error { msg, pos: _ } => write!(line, "!{}!", msg.as_str())?,
+            OwnedStep::Exit => line.push('}')?,
+        }
+    }
+    Ok(line)
+}
+
+fn parsed(alloc: Global, rules: &Rules, text: &str) -> Result<String, Fail> {
+    let tokens = tokens_of(alloc, text)?;
+    let mut list = StepList::new(alloc);
+    let entry = EntryPoint::SourceFile;
+    parse_whole_into(
+        alloc,
+        text,
+        &tokens,
+        &NoKeywords,
+        &rules.grammar(&[]),
+        entry,
+        &mut list,
+    )?;
+    Ok(line_of(alloc, list.steps())?)
+}
+
+/// Texts, and what is in their files.
+static CASES: [(&str, &str); 6] = [
+    (
+        "a+b*c;",
+        "STATEMENT{SUM{NAME{a}+PRODUCT{NAME{b}*NAME{c}}};}",
+    ),
+    (
+        "(a+b)*c;",
+        "STATEMENT{PRODUCT{PAREN{(SUM{NAME{a}+NAME{b}})}*NAME{c}};}",
+    ),
+    (
+        "a=b;c;",
+        "STATEMENT{EQUALITY{NAME{a}=NAME{b}};}STATEMENT{NAME{c};}",
+    ),
+    (
+        "a+;b;",
+        "STATEMENT{SUM{NAME{a}+!expected an expression!ERROR{}};}STATEMENT{NAME{b};}",
+    ),
+    (",a;", "ERROR{!expected a statement!,}STATEMENT{NAME{a};}"),
+    ("(a;", "STATEMENT{PAREN{(NAME{a!expected )!}};}"),
+];
+
+#[test]
+fn parses_cases(rt: HostRuntime) -> Result<(), Fail> {
+    let parts = some_parts(rt.alloc())?;
+    let rules = Rules::new(rt.alloc(), &parts, &SomeNames)?;
+    for (text, wanted) in &CASES {
+        let line = parsed(rt.alloc(), &rules, text)?;
+        let wanted = format!(in rt.alloc(); "ERROR{{{wanted}}}")?;
+        assert_eq!(rt; line.as_str(), wanted.as_str(), "{text}");
+    }
+    Ok(())
+}
+
+fn refusal(alloc: Global, parts: &[Part<'_>]) -> Option<RulesError> {
+    match Rules::new(alloc, parts, &SomeNames) {
+        Ok(_rules) => None,
+        Err(reason) => Some(reason),
+    }
+}
+
+#[test]
+fn refuses_faults(rt: HostRuntime) -> Result<(), Fail> {
+    let alloc = rt.alloc();
+    let undefined = [rule("file", "a file", 1), call("none")];
+    assert_eq!(rt;
+        refusal(alloc, &undefined),
+        Some(RulesError::Undefined { part: 1 })
+    );
+    let doubled = [rule("file", "a file", 0), rule("file", "a file", 0)];
+    assert_eq!(rt;
+        refusal(alloc, &doubled),
+        Some(RulesError::Doubled { part: 1 })
+    );
+    let unknown = [rule("file", "a file", 1), token("none")];
+    assert_eq!(rt;
+        refusal(alloc, &unknown),
+        Some(RulesError::UnknownKind { part: 1 })
+    );
+    // ('+' | '+')
+    let undecided = [
+        rule("file", "a file", 5),
+        Part::Choice { size: 4 },
+        Part::Arm { size: 1 },
+        token("+"),
+        Part::Arm { size: 1 },
+        token("+"),
+    ];
+    assert_eq!(rt;
+        refusal(alloc, &undecided),
+        Some(RulesError::Undecided { part: 2 })
+    );
+    Ok(())
+}
+
+/// Two arms that begin alike, up to the third token: `'+' '+' '=' | '+' '+' '*'`.
+#[test]
+fn looks_at_later_tokens(rt: HostRuntime) -> Result<(), Fail> {
+    let alloc = rt.alloc();
+    let parts = [
+        rule("file", "a file", 9),
+        Part::Choice { size: 8 },
+        Part::Arm { size: 3 },
+        token("+"),
+        token("+"),
+        token("="),
+        Part::Arm { size: 3 },
+        token("+"),
+        token("+"),
+        token("*"),
+    ];
+    let rules = Rules::new(alloc, &parts, &SomeNames)?;
+    assert_eq!(rt; parsed(alloc, &rules, "++*")?.as_str(), "ERROR{++*}");
+    assert_eq!(rt; parsed(alloc, &rules, "++=")?.as_str(), "ERROR{++=}");
+    Ok(())
+}

@@ -13,7 +13,7 @@ loop-index-init g c kind = ap (λ (before : Bool). members_have (member_has (voc
 pub returns-in_err-kinds-clause-err : goal.returns-in_err-kinds-clause-err
 returns-in_err-kinds-clause-err g c =
     let fault : IsFault (vocabulary (g.N.Names.token_named c.args.names.now) (g.N.Names.node_named c.args.names.now) (g.N.Names.class_named c.args.names.now)) c.args.parts.now c.in_err-kinds.field-0.0 =
-      fault_of (vocabulary (g.N.Names.token_named c.args.names.now) (g.N.Names.node_named c.args.names.now) (g.N.Names.class_named c.args.names.now)) c.args.parts.now (c.args.class + 1 + c.loop-index.index) _
-        (member_at c.args.parts.now c.args.class c.args.size c.loop-index.index c.members_of-members.result.now _ c.members_of-members.ensures.are c.loop-index-test.true)
-        c.in_err-kinds.field-0.0 c.in_err-kinds.ensures.err in
+    fault_of (vocabulary (g.N.Names.token_named c.args.names.now) (g.N.Names.node_named c.args.names.now) (g.N.Names.class_named c.args.names.now)) c.args.parts.now (c.args.class + 1 + c.loop-index.index) _
+    (member_at c.args.parts.now c.args.class c.args.size c.loop-index.index c.members_of-members.result.now _ c.members_of-members.ensures.are c.loop-index-test.true)
+    c.in_err-kinds.field-0.0 c.in_err-kinds.ensures.err in
     search rules

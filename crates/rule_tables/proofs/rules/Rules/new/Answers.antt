@@ -26,4 +26,4 @@ if_ok each (Err e) p = tt
 pub returns-clause-classes : goal.returns-clause-classes
 returns-clause-classes g c =
     if_ok (λ rules have. has_classes (vocabulary (g.N.Names.token_named c.args.names.now) (g.N.Names.node_named c.args.names.now) (g.N.Names.class_named c.args.names.now)) c.args.parts.now c.in_ok-sets.sets.items rules.sets c.in_ok-sets.ensures.len c.in_ok-sets.ensures.are
-      (subst (λ (sets : List TokenSet). HaveSets sets rules.sets (length sets)) c.deref-2.ensures.value have)) c.rules_of.result c.rules_of.ensures.sets
+    (subst (λ (sets : List TokenSet). HaveSets sets rules.sets (length sets)) c.deref-2.ensures.value have)) c.rules_of.result c.rules_of.ensures.sets
