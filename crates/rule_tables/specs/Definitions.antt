@@ -1,5 +1,5 @@
 -- The rules and classes that names stand for.
-use Rattle.std.specs.Prelude.{ℕ, ◌+◌, Bool, true, false, Option, Some, None, List, take, position, slice_get}
+use Rattle.std.specs.Prelude.{◌≡◌, ℕ, ◌+◌, ◌<◌, ◌≤◌, Bool, true, false, Option, Some, None, List, take, position, slice_get}
 use Rattle.std.specs.List.{count_by}
 use Rattle.std.specs.Cmp.Lexicographic.{pointwise}
 use Rattle.std.specs.Prelude.{nat_eq}
@@ -36,3 +36,17 @@ class_of parts (Some i) = number_of_class parts i (slice_get parts i)
 -- the number of the class with this name
 abbrev pub class_number : List Part → List ℕ → Option ℕ
 class_number parts name = class_of parts (definition_of parts name)
+
+-- how many members a class has
+abbrev pub size_of_class : Option Part → Option ℕ
+size_of_class (Some (Set own size)) = Some size
+size_of_class part = None
+
+-- Part i is a member of a class, and so many classes stand before that.
+pub record IsMember (parts : List Part) (i before : ℕ) : Type 0 where
+  pub class : ℕ
+  pub size : ℕ
+  pub is : size_of_class (slice_get parts class) ≡ Some size
+  pub above : class < i
+  pub within : i ≤ class + size
+  pub count : classes_in (take class parts) ≡ before

@@ -1,5 +1,11 @@
 //! Classes of tokens.
-ghost use Rattle.std.specs.Prelude.{◌≡◌, ◌<◌, ◌≤◌, ◌+◌, drop, length, take};
+ghost use Rattle.std.specs.Prelude.{◌≡◌, ℕ, ◌+◌, ◌<◌, ◌≤◌, IfErr, IfOk, IfSome, None, Some, length, slice_get, take};
+ghost use Rattle.squawk_kinds.specs.TokenSets.{has};
+ghost use Rattle.rule_tables.specs.Classes.{AreClasses, class_has, class_holds, is_without, joined, list_has, member_has, members_of};
+ghost use Rattle.rule_tables.specs.Definitions.{IsMember, class_number, classes_in, size_of_class};
+ghost use Rattle.rule_tables.specs.Faults.{IsFault, IsFaultOf};
+ghost use Rattle.rule_tables.specs.Vocabulary.{vocabulary};
+ghost use Rattle.rule_tables.specs.declared.error.RulesError.TheVariants.{Undefined};
 
 use crate::definitions::class_number;
 use crate::error::RulesError;
@@ -15,12 +21,15 @@ pub(crate) fn sets_of<N: Names>(
     alloc: Global,
     parts: &[Part<'_>],
     names: &N,
-) -> Result<Vec<TokenSet>, RulesError> {
+) -> Result<Vec<TokenSet>, RulesError>
+    ensures len { IfOk result (λ sets. length sets.items ≡ classes_in parts.now) }
+    ensures err { IfErr result (λ reason. IsFault (vocabulary (N.token_named names.now) (N.node_named names.now) (N.class_named names.now)) parts.now reason) }
+    ensures are { IfOk result (λ sets. AreClasses (vocabulary (N.token_named names.now) (N.node_named names.now) (N.class_named names.now)) parts.now (list_has sets.items) (length parts.now)) }
+{
     let mut sets = Vec::new(alloc);
     for (index, part) in parts.iter().enumerate() {
         if let Part::Set { size, .. } = part {
-            let members = members_of(parts, index, *size);
-            let set = union_of(parts, members, index + 1, &sets, names)?;
+            let set = union_of(parts, index, *size, &sets, names)?;
             push(&mut sets, set)?;
         }
     }
@@ -30,34 +39,58 @@ pub(crate) fn sets_of<N: Names>(
 /// The members of the class that is this part.
 fn members_of<'p, 't>(parts: &'p [Part<'t>], class: usize, size: usize) -> &'p [Part<'t>]
     requires { class < length parts.now }
-    ensures { result.now ≡ take size (drop (class + 1) parts.now) }
+    ensures within { class + 1 + length result.now ≤ length parts.now }
+    ensures few { length result.now ≤ size }
+    ensures are { result.now ≡ members_of parts.now class size }
 {
     let rest = &parts[class + 1..];
-    if size < rest.len() { &rest[..size] } else { rest }
+    if size < rest.len() {
+        &rest[..size]
+    } else {
+        rest
+    }
 }
 
-/// The union of members, of which the first is part `first`. After `-` the kinds of one are taken away.
+/// The union of the members of a class. After `-` the kinds of one are taken away.
 fn union_of<N: Names>(
     parts: &[Part<'_>],
-    members: &[Part<'_>],
-    first: usize,
+    class: usize,
+    size: usize,
     sets: &[TokenSet],
     names: &N,
 ) -> Result<TokenSet, RulesError>
-    requires { first + length members.now ≤ length parts.now }
+    requires within { class < length parts.now }
+    requires is { size_of_class (slice_get parts.now class) ≡ Some size }
+    requires count { classes_in (take class parts.now) ≡ length sets.now }
+    ensures err { IfErr result (λ reason. IsFault (vocabulary (N.token_named names.now) (N.node_named names.now) (N.class_named names.now)) parts.now reason) }
+    ensures ok { IfOk result (λ set. (kind : ℕ) → has set kind ≡ class_has (vocabulary (N.token_named names.now) (N.node_named names.now) (N.class_named names.now)) parts.now (list_has sets.now) class size kind) }
 {
     let mut set = TokenSet::EMPTY;
     let mut is_without = false;
+    let members = members_of(parts, class, size);
     for (index, member) in members.iter().enumerate() {
-        let kinds = kinds_of(parts, member, first + index, sets, names)?;
-        set = if is_without {
-            without(set, kinds)
-        } else {
-            set.union(kinds)
-        };
-        is_without = matches!(member, Part::Without);
+        let kinds = kinds_of(parts, member, class + 1 + index, sets, names)?;
+        set = joined(is_without, set, kinds);
+        is_without = is_minus(member);
     }
     Ok(set)
+}
+
+/// What is so far, with the kinds of one member; or without them, after `-`.
+fn joined(is_without: bool, set: TokenSet, kinds: TokenSet) -> TokenSet
+    ensures { (kind : ℕ) → has result kind ≡ joined is_without (has set kind) (has kinds kind) }
+{
+    if is_without {
+        without(set, kinds)
+    } else {
+        set.union(kinds)
+    }
+}
+
+fn is_minus(part: &Part<'_>) -> bool
+    ensures { result ≡ is_without part.now }
+{
+    matches!(part, Part::Without)
 }
 
 /// The kinds of a member of a class.
@@ -67,7 +100,11 @@ fn kinds_of<N: Names>(
     index: usize,
     sets: &[TokenSet],
     names: &N,
-) -> Result<TokenSet, RulesError> {
+) -> Result<TokenSet, RulesError>
+    requires { IsMember parts.now index (length sets.now) }
+    ensures err { IfErr result (λ reason. IsFaultOf (vocabulary (N.token_named names.now) (N.node_named names.now) (N.class_named names.now)) parts.now index member.now reason) }
+    ensures ok { IfOk result (λ set. (kind : ℕ) → has set kind ≡ member_has (vocabulary (N.token_named names.now) (N.node_named names.now) (N.class_named names.now)) parts.now (list_has sets.now) (length sets.now) kind member.now) }
+{
     match member {
         Part::Token { name } => Ok(set_of(token(names, name, index)?)),
         Part::Class { name } => class(parts, name, index, sets),
@@ -81,7 +118,10 @@ fn class(
     name: &Name<'_>,
     part: usize,
     sets: &[TokenSet],
-) -> Result<TokenSet, RulesError> {
+) -> Result<TokenSet, RulesError>
+    ensures err { IfErr result (λ reason. (reason ≡ Undefined part) × IfSome (class_number parts.now name.now.text.now) (λ n. length sets.now ≤ n)) }
+    ensures ok { IfOk result (λ set. (kind : ℕ) → has set kind ≡ class_holds (list_has sets.now) (length sets.now) (class_number parts.now name.now.text.now) kind) }
+{
     match class_number(parts, name.text) {
         Some(number) => match sets.get(number) {
             Some(set) => Ok(*set),
@@ -91,7 +131,10 @@ fn class(
     }
 }
 
-fn given<N: Names>(names: &N, name: &Name<'_>, part: usize) -> Result<TokenSet, RulesError> {
+fn given<N: Names>(names: &N, name: &Name<'_>, part: usize) -> Result<TokenSet, RulesError>
+    ensures err { IfErr result (λ reason. (reason ≡ Undefined part) × (N.class_named names.now name.now.text.now ≡ None)) }
+    ensures ok { IfOk result (λ set. N.class_named names.now name.now.text.now ≡ Some set) }
+{
     match names.class(name.text) {
         Some(set) => Ok(set),
         None => Err(RulesError::Undefined { part }),

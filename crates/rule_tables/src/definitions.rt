@@ -1,6 +1,8 @@
 //! The rules and classes that names stand for.
-ghost use Rattle.std.specs.Prelude.{◌≡◌};
+ghost use Rattle.std.specs.Prelude.{◌≡◌, IfErr};
 ghost use Rattle.rule_tables.specs.Definitions.{class_number, classes_in, defines, definition_of};
+ghost use Rattle.rule_tables.specs.Faults.{IsFault, is_doubled_in};
+ghost use Rattle.rule_tables.specs.Vocabulary.{Vocabulary};
 
 use crate::error::RulesError;
 use rule_parts::Part;
@@ -23,7 +25,9 @@ fn defines(part: &Part<'_>, name: &str) -> bool
 }
 
 /// Refuses parts in which two rules or classes have one name.
-pub(crate) fn refuse_doubled(parts: &[Part<'_>]) -> Result<(), RulesError> {
+pub(crate) fn refuse_doubled(parts: &[Part<'_>]) -> Result<(), RulesError>
+    ensures { (v : Vocabulary) → IfErr result (λ reason. IsFault v parts.now reason) }
+{
     for (index, part) in parts.iter().enumerate() {
         if is_doubled(&parts[..index], part) {
             return Err(RulesError::Doubled { part: index });
@@ -33,7 +37,9 @@ pub(crate) fn refuse_doubled(parts: &[Part<'_>]) -> Result<(), RulesError> {
 }
 
 /// Whether one of the parts before a rule or class has its name.
-fn is_doubled(before: &[Part<'_>], part: &Part<'_>) -> bool {
+fn is_doubled(before: &[Part<'_>], part: &Part<'_>) -> bool
+    ensures { result ≡ is_doubled_in before.now part.now }
+{
     match part {
         Part::Set { name, .. } => find(before, name.text).is_some(),
         Part::Rule { name, .. } => find(before, name.text).is_some(),
@@ -56,5 +62,8 @@ pub(crate) fn class_number(parts: &[Part<'_>], name: &str) -> Option<usize>
 fn classes_in(parts: &[Part<'_>]) -> usize
     ensures { result ≡ classes_in parts.now }
 {
-    parts.iter().filter(|part| matches!(part, Part::Set { .. })).count()
+    parts
+        .iter()
+        .filter(|part| matches!(part, Part::Set { .. }))
+        .count()
 }

@@ -1,4 +1,5 @@
 //! Why rules can't be run.
+ghost use Rattle.std.specs.Prelude.{◌≡◌};
 
 use std::alloc::AllocError;
 use std::error::Error;
@@ -39,6 +40,10 @@ impl fmt::Display for RulesError {
 impl Error for RulesError {}
 
 impl From<AllocError> for RulesError {
+    ghost use Rattle.rule_tables.specs.declared.error.RulesError.TheVariants.{Memory};
+
+    ghost from_gives = { λ reason error. error ≡ Memory reason };
+
     fn from(reason: AllocError) -> RulesError {
         RulesError::Memory(reason)
     }

@@ -1,5 +1,7 @@
 //! What decides between two ways: the tokens that come.
-ghost use Rattle.std.specs.Prelude.{◌<◌, IfOk};
+ghost use Rattle.std.specs.Prelude.{◌<◌, IfErr, IfOk, OnOk};
+ghost use Rattle.rule_tables.specs.Faults.{NamesNothing};
+ghost use Rattle.rule_tables.specs.Sets.{Extends};
 
 use crate::error::RulesError;
 use crate::map::{Map, NONE, Place};
@@ -30,14 +32,18 @@ pub(crate) struct Looks<'m> {
 
 impl Looks<'_> {
     /// The places that eat first, from one on.
-    pub(crate) fn from(&mut self, place: Place) -> Result<Vec<Place>, AllocError> {
+    pub(crate) fn from(&mut self, place: Place) -> Result<Vec<Place>, AllocError>
+        ensures { OnOk result (Extends self.old.sets.list.items self.new.sets.list.items) }
+    {
         self.walk.begin();
         self.walk.push(place)?;
         self.walk.places(self.alloc, self.map)
     }
 
     /// The places that eat first, from the later arms or operators beside one on.
-    pub(crate) fn rivals(&mut self, row: usize) -> Result<Vec<Place>, AllocError> {
+    pub(crate) fn rivals(&mut self, row: usize) -> Result<Vec<Place>, AllocError>
+        ensures { OnOk result (Extends self.old.sets.list.items self.new.sets.list.items) }
+    {
         let mut rivals = Vec::new(self.alloc);
         let mut at = self.map.next(row);
         while at < NONE {
@@ -51,7 +57,10 @@ impl Looks<'_> {
     }
 
     /// The number of the look at which a part goes on at a place, and not after it.
-    pub(crate) fn more(&mut self, part: usize, place: Place) -> Result<u16, RulesError> {
+    pub(crate) fn more(&mut self, part: usize, place: Place) -> Result<u16, RulesError>
+        ensures err { IfErr result NamesNothing }
+        ensures keeps { OnOk result (Extends self.old.sets.list.items self.new.sets.list.items) }
+    {
         let mine = self.from(place)?;
         let others = self.from(Place::After(part))?;
         self.decide(part, &mine, &others)
@@ -63,7 +72,10 @@ impl Looks<'_> {
         part: usize,
         mine: &[Place],
         others: &[Place],
-    ) -> Result<u16, RulesError> {
+    ) -> Result<u16, RulesError>
+        ensures err { IfErr result NamesNothing }
+        ensures keeps { OnOk result (Extends self.old.sets.list.items self.new.sets.list.items) }
+    {
         let shared = both(kinds_at(self.map, mine), kinds_at(self.map, others));
         if shared == TokenSet::EMPTY {
             return Ok(0);
@@ -77,6 +89,8 @@ impl Looks<'_> {
     /// Links the looks from the one of this number on to one another.
     fn link(&mut self, first: usize) -> Result<(), RulesError>
         requires { 0 < first }
+        ensures err { IfErr result NamesNothing }
+        ensures keeps { OnOk result (Extends self.old.sets.list.items self.new.sets.list.items) }
     {
         for at in first..self.list.len() {
             let next = number_of(at)?;
@@ -98,6 +112,8 @@ impl Looks<'_> {
         depth: usize,
     ) -> Result<(), RulesError>
         requires { depth < 4 }
+        ensures err { IfErr result NamesNothing }
+        ensures keeps { OnOk result (Extends self.old.sets.list.items self.new.sets.list.items) }
     {
         let own = kinds_at(self.map, mine);
         let shared = both(own, kinds_at(self.map, others));
@@ -130,6 +146,8 @@ impl Looks<'_> {
         group: TokenSet,
     ) -> Result<(), RulesError>
         requires { depth < 3 }
+        ensures err { IfErr result NamesNothing }
+        ensures keeps { OnOk result (Extends self.old.sets.list.items self.new.sets.list.items) }
     {
         let Some(kind) = first_of(group) else {
             return Ok(());
@@ -143,6 +161,8 @@ impl Looks<'_> {
 
     fn add(&mut self, look: &Look, depth: usize, set: TokenSet) -> Result<(), RulesError>
         requires { depth < 4 }
+        ensures err { IfErr result NamesNothing }
+        ensures keeps { OnOk result (Extends self.old.sets.list.items self.new.sets.list.items) }
     {
         let mut look = *look;
         look[depth] = self.sets.number(set)?;
@@ -193,7 +213,8 @@ fn add_some(sets: &mut Vec<TokenSet>, set: TokenSet) -> Result<(), AllocError> {
 
 /// The number of a look, from 1.
 fn number_of(index: usize) -> Result<u16, RulesError>
-    ensures { IfOk result (λ number. 0 < number) }
+    ensures err { IfErr result NamesNothing }
+    ensures more { IfOk result (λ number. 0 < number) }
 {
     if index < 65535 {
         Ok(index as u16 + 1)

@@ -1,6 +1,8 @@
 //! The numbers of a row.
-ghost use Rattle.std.specs.Prelude.{◌≡◌, ◌<◌, ◌%◌, IfOk, IsTrue, Some, slice_get, slice_index};
+ghost use Rattle.std.specs.Prelude.{◌≡◌, ◌<◌, ◌%◌, IfErr, IfOk, IsTrue, OnOk, Some, slice_get, slice_index};
 ghost use Rattle.rule_grammar.specs.Parts.{part_by, part_of};
+ghost use Rattle.rule_tables.specs.Faults.{NamesNothing};
+ghost use Rattle.rule_tables.specs.Sets.{Extends};
 ghost use Rattle.rule_tables.specs.Rows.{is_exact, tail_tag};
 
 use crate::error::RulesError;
@@ -21,7 +23,9 @@ pub(crate) fn numbers_of(
     message: u16,
 ) -> Result<[u16; 8], RulesError>
     requires { IsTrue (is_exact row.now) }
-    ensures { IfOk result (λ numbers. part_of numbers ≡ row.now) }
+    ensures err { IfErr result NamesNothing }
+    ensures keeps { OnOk result (Extends looks.old.sets.list.items looks.new.sets.list.items) }
+    ensures ok { IfOk result (λ numbers. part_of numbers ≡ row.now) }
 {
     let known = match ahead.get(index) {
         Some(known) => *known,
@@ -51,23 +55,24 @@ fn begins(
     known: &Ahead,
     index: usize,
     row: &Row,
-) -> Result<TokenSet, AllocError> {
+) -> Result<TokenSet, AllocError>
+    ensures { OnOk result (Extends looks.old.sets.list.items looks.new.sets.list.items) }
+{
     match row {
-        Row::Arm { .. } | Row::Tail { .. } | Row::Choice { .. } if looks.map.outer(index) != NONE => {
-            let mine = looks.from(Place::Before(index))?;
-            Ok(kinds_at(looks.map, &mine))
-        }
+        Row::Arm { .. } | Row::Tail { .. } | Row::Choice { .. } if looks.map.outer(index) != NONE =>
+            {
+                let mine = looks.from(Place::Before(index))?;
+                Ok(kinds_at(looks.map, &mine))
+            }
         _ => Ok(known.begins),
     }
 }
 
 /// The look of a row, or the set of kinds that one of its operators begins with.
-fn look(
-    looks: &mut Looks<'_>,
-    ahead: &[Ahead],
-    index: usize,
-    row: &Row,
-) -> Result<u16, RulesError> {
+fn look(looks: &mut Looks<'_>, ahead: &[Ahead], index: usize, row: &Row) -> Result<u16, RulesError>
+    ensures err { IfErr result NamesNothing }
+    ensures keeps { OnOk result (Extends looks.old.sets.list.items looks.new.sets.list.items) }
+{
     match row {
         Row::Arm { .. } | Row::Tail { .. } => {
             if looks.map.outer(index) == NONE {
@@ -110,7 +115,11 @@ fn part_numbers(row: &Row) -> [u16; 3]
         Row::Call { start, end } => [12, *end, *start],
         Row::Operators { end } => [13, *end, 0],
         Row::Operand { operators, floor } => [14, *operators, *floor],
-        Row::Tail { end, level, ceiling } => [tail_number(*level, *ceiling), *end, *level],
+        Row::Tail {
+            end,
+            level,
+            ceiling,
+        } => [tail_number(*level, *ceiling), *end, *level],
         Row::Some { end } => [18, *end, 0],
     }
 }

@@ -1,8 +1,10 @@
 //! Rows: parts, with what the names in them stand for.
-ghost use Rattle.std.specs.Prelude.{◌≡◌, ◌≤◌, ◌+◌, IfOk, Some, length, slice_get};
+ghost use Rattle.std.specs.Prelude.{◌≡◌, ◌≤◌, ◌+◌, ◌⊎◌, IfErr, IfOk, None, Some, length, slice_get};
 ghost use Rattle.rule_grammar.specs.declared.part.Part.TheVariants.{Tail};
 ghost use Rattle.rule_tables.specs.Definitions.{class_number, definition_of};
 ghost use Rattle.rule_tables.specs.Rows.{AreRows, call_of, ceiling, end_of, members_end, members_end_after, operators_after, operators_before, row_by, row_of};
+ghost use Rattle.rule_tables.specs.Faults.{IsFault, IsFaultOf};
+ghost use Rattle.rule_tables.specs.declared.error.RulesError.TheVariants.{TooMany, Undefined, UnknownKind};
 ghost use Rattle.rule_tables.specs.Vocabulary.{vocabulary};
 
 use crate::definitions::{class_number, find};
@@ -24,6 +26,7 @@ pub(crate) fn rows_of<N: Names>(
     names: &N,
 ) -> Result<Vec<Row>, RulesError>
     ensures len { IfOk result (λ rows. length rows.items ≡ length parts.now) }
+    ensures err { IfErr result (λ reason. IsFault (vocabulary (N.token_named names.now) (N.node_named names.now) (N.class_named names.now)) parts.now reason) }
     ensures are { IfOk result (λ rows. AreRows (vocabulary (N.token_named names.now) (N.node_named names.now) (N.class_named names.now)) parts.now rows.items) }
 {
     let mut rows = Vec::new(alloc);
@@ -49,6 +52,7 @@ struct Outer {
 }
 
 fn outer_after(outer: &Outer, index: usize, part: &Part<'_>) -> Result<Outer, RulesError>
+    ensures err { IfErr result (λ reason. reason ≡ TooMany) }
     ensures members { IfOk result (λ after. after.members_end ≡ members_end_after outer.now.members_end index (Some part.now)) }
     ensures operators { IfOk result (λ after. after.operators ≡ operators_after outer.now.operators index (Some part.now)) }
 {
@@ -73,7 +77,8 @@ fn row_by<N: Names>(
     outer: &Outer,
     names: &N,
 ) -> Result<Row, RulesError>
-    ensures { IfOk result (λ row. row_by (vocabulary (N.token_named names.now) (N.node_named names.now) (N.class_named names.now)) parts.now outer.now.members_end outer.now.operators index part.now ≡ Some row) }
+    ensures err { IfErr result (λ reason. IsFaultOf (vocabulary (N.token_named names.now) (N.node_named names.now) (N.class_named names.now)) parts.now index part.now reason) }
+    ensures ok { IfOk result (λ row. row_by (vocabulary (N.token_named names.now) (N.node_named names.now) (N.class_named names.now)) parts.now outer.now.members_end outer.now.operators index part.now ≡ Some row) }
 {
     if index < outer.members_end {
         Ok(Row::Nothing)
@@ -90,7 +95,8 @@ fn row_of<N: Names>(
     outer: &Outer,
     names: &N,
 ) -> Result<Row, RulesError>
-    ensures { IfOk result (λ row. row_of (vocabulary (N.token_named names.now) (N.node_named names.now) (N.class_named names.now)) parts.now outer.now.operators index part.now ≡ Some row) }
+    ensures err { IfErr result (λ reason. IsFaultOf (vocabulary (N.token_named names.now) (N.node_named names.now) (N.class_named names.now)) parts.now index part.now reason) }
+    ensures ok { IfOk result (λ row. row_of (vocabulary (N.token_named names.now) (N.node_named names.now) (N.class_named names.now)) parts.now outer.now.operators index part.now ≡ Some row) }
 {
     let row = match part {
         Part::Set { .. } | Part::Without => Row::Nothing,
@@ -108,7 +114,11 @@ fn row_of<N: Names>(
             end: end_of(index, *size)?,
             separator: token(names, separator, index)?,
         },
-        Part::Tail { level, association, size } => tail(end_of(index, *size)?, *level, association)?,
+        Part::Tail {
+            level,
+            association,
+            size,
+        } => tail(end_of(index, *size)?, *level, association)?,
         Part::Operand { floor } => Row::Operand {
             operators: number(outer.operators)?,
             floor: number(*floor)?,
@@ -117,20 +127,35 @@ fn row_of<N: Names>(
             end: end_of(index, *size)?,
             kind: SyntaxKind::ERROR,
         },
-        Part::Rule { size, .. } => Row::Arm { end: end_of(index, *size)? },
-        Part::Choice { size } => Row::Choice { end: end_of(index, *size)? },
-        Part::Arm { size } => Row::Arm { end: end_of(index, *size)? },
-        Part::Optional { size } => Row::Optional { end: end_of(index, *size)? },
-        Part::Repeat { size } => Row::Repeat { end: end_of(index, *size)? },
-        Part::Some { size } => Row::Some { end: end_of(index, *size)? },
-        Part::Operators { size } => Row::Operators { end: end_of(index, *size)? },
+        Part::Rule { size, .. } => Row::Arm {
+            end: end_of(index, *size)?,
+        },
+        Part::Choice { size } => Row::Choice {
+            end: end_of(index, *size)?,
+        },
+        Part::Arm { size } => Row::Arm {
+            end: end_of(index, *size)?,
+        },
+        Part::Optional { size } => Row::Optional {
+            end: end_of(index, *size)?,
+        },
+        Part::Repeat { size } => Row::Repeat {
+            end: end_of(index, *size)?,
+        },
+        Part::Some { size } => Row::Some {
+            end: end_of(index, *size)?,
+        },
+        Part::Operators { size } => Row::Operators {
+            end: end_of(index, *size)?,
+        },
     };
     Ok(row)
 }
 
 /// The row after the last one in a part of this size.
 fn end_of(index: usize, size: usize) -> Result<u16, RulesError>
-    ensures { IfOk result (λ end. end ≡ end_of index size) }
+    ensures ok { IfOk result (λ end. end ≡ end_of index size) }
+    ensures err { IfErr result (λ reason. reason ≡ TooMany) }
 {
     number(size.saturating_add(index).saturating_add(1))
 }
@@ -138,6 +163,7 @@ fn end_of(index: usize, size: usize) -> Result<u16, RulesError>
 fn number(number: usize) -> Result<u16, RulesError>
     ensures is { IfOk result (λ same. same ≡ number) }
     ensures small { IfOk result (λ same. same ≤ 65000) }
+    ensures err { IfErr result (λ reason. reason ≡ TooMany) }
 {
     if number <= MOST {
         Ok(number as u16)
@@ -147,18 +173,24 @@ fn number(number: usize) -> Result<u16, RulesError>
 }
 
 fn tail(end: u16, level: usize, association: &Association) -> Result<Row, RulesError>
-    ensures { IfOk result (λ row. row ≡ Tail end level (ceiling association.now level)) }
+    ensures ok { IfOk result (λ row. row ≡ Tail end level (ceiling association.now level)) }
+    ensures err { IfErr result (λ reason. reason ≡ TooMany) }
 {
     let level = number(level)?;
     let ceiling = match association {
         Association::Neither => level.saturating_sub(1),
         _ => level,
     };
-    Ok(Row::Tail { end, level, ceiling })
+    Ok(Row::Tail {
+        end,
+        level,
+        ceiling,
+    })
 }
 
 fn class(parts: &[Part<'_>], name: &Name<'_>, part: usize) -> Result<u16, RulesError>
-    ensures { IfOk result (λ set. class_number parts.now name.now.text.now ≡ Some set) }
+    ensures ok { IfOk result (λ set. class_number parts.now name.now.text.now ≡ Some set) }
+    ensures err { IfErr result (λ reason. (reason ≡ TooMany) ⊎ ((reason ≡ Undefined part) × (class_number parts.now name.now.text.now ≡ None))) }
 {
     match class_number(parts, name.text) {
         Some(set) => number(set),
@@ -167,7 +199,8 @@ fn class(parts: &[Part<'_>], name: &Name<'_>, part: usize) -> Result<u16, RulesE
 }
 
 fn call(parts: &[Part<'_>], name: &Name<'_>, part: usize) -> Result<Row, RulesError>
-    ensures { IfOk result (λ row. call_of parts.now (definition_of parts.now name.now.text.now) ≡ Some row) }
+    ensures ok { IfOk result (λ row. call_of parts.now (definition_of parts.now name.now.text.now) ≡ Some row) }
+    ensures err { IfErr result (λ reason. (reason ≡ TooMany) ⊎ ((reason ≡ Undefined part) × (call_of parts.now (definition_of parts.now name.now.text.now) ≡ None))) }
 {
     let Some(rule) = find(parts, name.text) else {
         return Err(RulesError::Undefined { part });
@@ -187,7 +220,8 @@ pub(crate) fn token<N: Names>(
     name: &Name<'_>,
     part: usize,
 ) -> Result<SyntaxKind, RulesError>
-    ensures { IfOk result (λ kind. N.token_named names.now name.now.text.now ≡ Some kind) }
+    ensures ok { IfOk result (λ kind. N.token_named names.now name.now.text.now ≡ Some kind) }
+    ensures err { IfErr result (λ reason. (reason ≡ UnknownKind part) × (N.token_named names.now name.now.text.now ≡ None)) }
 {
     match names.token(name.text) {
         Some(kind) => Ok(kind),
@@ -196,7 +230,8 @@ pub(crate) fn token<N: Names>(
 }
 
 fn node<N: Names>(names: &N, name: &Name<'_>, part: usize) -> Result<SyntaxKind, RulesError>
-    ensures { IfOk result (λ kind. N.node_named names.now name.now.text.now ≡ Some kind) }
+    ensures ok { IfOk result (λ kind. N.node_named names.now name.now.text.now ≡ Some kind) }
+    ensures err { IfErr result (λ reason. (reason ≡ UnknownKind part) × (N.node_named names.now name.now.text.now ≡ None)) }
 {
     match names.node(name.text) {
         Some(kind) => Ok(kind),

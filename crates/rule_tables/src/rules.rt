@@ -1,6 +1,11 @@
 //! Rules that are ready to be run.
-ghost use Rattle.std.specs.Prelude.{◌≡◌, ◌≤◌, All, IfOk, IsTrue, Some, length, slice_get};
+ghost use Rattle.std.specs.Prelude.{◌≡◌, ℕ, ◌<◌, ◌≤◌, All, IfErr, IfOk, IsTrue, OnOk, Some, length, slice_get};
+ghost use Rattle.squawk_kinds.specs.TokenSets.{has};
+ghost use Rattle.rule_grammar.specs.Parts.{words_have};
+ghost use Rattle.rule_tables.specs.Classes.{HasClasses};
+ghost use Rattle.rule_tables.specs.Faults.{IsFault, NamesNothing};
 ghost use Rattle.rule_tables.specs.Rows.{HasRows, SayRows, is_exact};
+ghost use Rattle.rule_tables.specs.Sets.{Extends, HaveSets, word_of};
 ghost use Rattle.rule_tables.specs.Vocabulary.{vocabulary};
 
 use crate::classes::sets_of;
@@ -46,12 +51,10 @@ impl Model for Rules {
 
 impl Rules {
     /// The rules of these parts. A file is what the first one says.
-    pub fn new<N: Names>(
-        alloc: Global,
-        parts: &[Part<'_>],
-        names: &N,
-    ) -> Result<Rules, RulesError>
-        ensures { IfOk result (λ rules. HasRows (vocabulary (N.token_named names.now) (N.node_named names.now) (N.class_named names.now)) parts.now rules.rows) }
+    pub fn new<N: Names>(alloc: Global, parts: &[Part<'_>], names: &N) -> Result<Rules, RulesError>
+        ensures err { IfErr result (λ reason. IsFault (vocabulary (N.token_named names.now) (N.node_named names.now) (N.class_named names.now)) parts.now reason) }
+        ensures classes { IfOk result (λ rules. HasClasses (vocabulary (N.token_named names.now) (N.node_named names.now) (N.class_named names.now)) parts.now rules.sets) }
+        ensures rows { IfOk result (λ rules. HasRows (vocabulary (N.token_named names.now) (N.node_named names.now) (N.class_named names.now)) parts.now rules.rows) }
     {
         if parts.len() > MOST {
             return Err(RulesError::TooMany);
@@ -117,7 +120,9 @@ fn rules_of(
 ) -> Result<Rules, RulesError>
     requires exact { All (λ row. IsTrue (is_exact row)) rows.now }
     requires small { start ≤ 65000 }
-    ensures { IfOk result (λ rules. SayRows rows.now rules.rows) }
+    ensures err { IfErr result NamesNothing }
+    ensures rows { IfOk result (λ rules. SayRows rows.now rules.rows) }
+    ensures sets { IfOk result (λ rules. HaveSets sets.now rules.sets (length sets.now)) }
 {
     let map = Map::new(alloc, rows, sets)?;
     let ahead = ahead_of(alloc, &map)?;
@@ -147,7 +152,9 @@ fn all_numbers(
     rows: &[Row],
 ) -> Result<Vec<[u16; 8]>, RulesError>
     requires { All (λ row. IsTrue (is_exact row)) rows.now }
-    ensures { IfOk result (λ numbers. SayRows rows.now numbers.items) }
+    ensures err { IfErr result NamesNothing }
+    ensures keeps { OnOk result (Extends looks.old.sets.list.items looks.new.sets.list.items) }
+    ensures ok { IfOk result (λ numbers. SayRows rows.now numbers.items) }
 {
     let mut numbers = Vec::new(looks.alloc);
     let mut rule = 0usize;
@@ -167,7 +174,9 @@ fn to_u16(number: usize) -> u16 {
 }
 
 /// The words of all sets.
-fn all_words(alloc: Global, sets: &[TokenSet]) -> Result<Vec<[u16; 40]>, AllocError> {
+fn all_words(alloc: Global, sets: &[TokenSet]) -> Result<Vec<[u16; 40]>, AllocError>
+    ensures { IfOk result (λ words. HaveSets sets.now words.items (length sets.now)) }
+{
     let mut words = Vec::new(alloc);
     for set in sets {
         push(&mut words, words_of(set))?;
@@ -176,10 +185,20 @@ fn all_words(alloc: Global, sets: &[TokenSet]) -> Result<Vec<[u16; 40]>, AllocEr
 }
 
 /// The words of a set: four of 16 bits for each of its words.
-fn words_of(set: &TokenSet) -> [u16; 40] {
+fn words_of(set: &TokenSet) -> [u16; 40]
+    ensures { (kind : ℕ) → words_have (Some result) kind ≡ has set.now kind }
+{
     let mut words = [0u16; 40];
     for index in 0..40usize {
-        words[index] = ((set.0[index / 4] >> (16 * (index % 4))) % 65536) as u16;
+        words[index] = word_of(set, index);
     }
     words
+}
+
+fn word_of(set: &TokenSet, index: usize) -> u16
+    requires { index < 40 }
+    ensures { result ≡ word_of set.now index }
+{
+    let word = set.0[index / 4];
+    ((word >> (16 * (index % 4))) % 65536) as u16
 }

@@ -1,5 +1,9 @@
 //! Sets of kinds, each once.
-ghost use Rattle.std.specs.Prelude.{◌≡◌, ◌++◌, ◌∷◌, [], OnOk};
+ghost use Rattle.std.specs.Prelude.{◌≡◌, ℕ, ◌&&◌, ◌++◌, ◌∷◌, [], IfErr, IfOk, OnOk, Some, not};
+ghost use Rattle.squawk_kinds.specs.TokenSets.{has};
+ghost use Rattle.rule_tables.specs.Classes.{is_token};
+ghost use Rattle.rule_tables.specs.Faults.{NamesNothing};
+ghost use Rattle.rule_tables.specs.Sets.{Extends};
 
 use crate::error::RulesError;
 use squawk_kinds::{SyntaxKind, TokenSet};
@@ -13,14 +17,18 @@ pub(crate) struct Sets {
 
 impl Sets {
     /// These sets, each also where it is there more than once.
-    pub(crate) fn new(alloc: Global, sets: &[TokenSet]) -> Result<Sets, AllocError> {
-        Ok(Sets {
-            list: Vec::from_slice(alloc, sets)?,
-        })
+    pub(crate) fn new(alloc: Global, sets: &[TokenSet]) -> Result<Sets, AllocError>
+        ensures { IfOk result (λ made. made.list.items ≡ sets.now) }
+    {
+        let list = Vec::from_slice(alloc, sets)?;
+        Ok(Sets { list })
     }
 
     /// The number of a set.
-    pub(crate) fn number(&mut self, set: TokenSet) -> Result<u16, RulesError> {
+    pub(crate) fn number(&mut self, set: TokenSet) -> Result<u16, RulesError>
+        ensures err { IfErr result NamesNothing }
+        ensures keeps { OnOk result (Extends self.old.list.items self.new.list.items) }
+    {
         for (number, one) in self.list.iter().enumerate() {
             if *one == set {
                 return number_of(number);
@@ -33,7 +41,9 @@ impl Sets {
 }
 
 /// The number of a set in a table. The greatest one is no set.
-fn number_of(index: usize) -> Result<u16, RulesError> {
+fn number_of(index: usize) -> Result<u16, RulesError>
+    ensures { IfErr result NamesNothing }
+{
     if index < 65535 {
         Ok(index as u16)
     } else {
@@ -42,8 +52,10 @@ fn number_of(index: usize) -> Result<u16, RulesError> {
 }
 
 /// The set of one kind: it has none that no token has.
-pub(crate) fn set_of(kind: SyntaxKind) -> TokenSet {
-    if kind <= SyntaxKind::WHITESPACE {
+pub(crate) fn set_of(kind: SyntaxKind) -> TokenSet
+    ensures { (one : ℕ) → has result one ≡ is_token (Some kind) one }
+{
+    if kind.0 <= SyntaxKind::WHITESPACE.0 {
         TokenSet::new(&[kind])
     } else {
         TokenSet::EMPTY
@@ -69,20 +81,22 @@ pub(crate) fn both(one: TokenSet, other: TokenSet) -> TokenSet {
 }
 
 /// The kinds of a set that aren't in another.
-pub(crate) fn without(one: TokenSet, other: TokenSet) -> TokenSet {
+pub(crate) fn without(one: TokenSet, other: TokenSet) -> TokenSet
+    ensures { (kind : ℕ) → has result kind ≡ (has one kind && not (has other kind)) }
+{
     let a = one.0;
     let b = other.0;
     TokenSet::from_words([
-        a[0] & !b[0],
-        a[1] & !b[1],
-        a[2] & !b[2],
-        a[3] & !b[3],
-        a[4] & !b[4],
-        a[5] & !b[5],
-        a[6] & !b[6],
-        a[7] & !b[7],
-        a[8] & !b[8],
-        a[9] & !b[9],
+        a[0] & (a[0] ^ b[0]),
+        a[1] & (a[1] ^ b[1]),
+        a[2] & (a[2] ^ b[2]),
+        a[3] & (a[3] ^ b[3]),
+        a[4] & (a[4] ^ b[4]),
+        a[5] & (a[5] ^ b[5]),
+        a[6] & (a[6] ^ b[6]),
+        a[7] & (a[7] ^ b[7]),
+        a[8] & (a[8] ^ b[8]),
+        a[9] & (a[9] ^ b[9]),
     ])
 }
 

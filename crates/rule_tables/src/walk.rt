@@ -66,7 +66,11 @@ impl Walk {
     }
 
     /// The places that eat, of those that the walk reaches.
-    pub(crate) fn places(&mut self, alloc: Global, map: &Map<'_>) -> Result<Vec<Place>, AllocError> {
+    pub(crate) fn places(
+        &mut self,
+        alloc: Global,
+        map: &Map<'_>,
+    ) -> Result<Vec<Place>, AllocError> {
         let mut places = Vec::new(alloc);
         // Each place is taken out once.
         let most = self.before.len().saturating_mul(3).saturating_add(1);

@@ -12,6 +12,6 @@ loop-index-preserved g c = record {
   members = c.in_ok-outer.ensures.members ∙ sym (members_next c.args.parts.now c.loop-index.index c.loop-index.outer.members_end _ c.loop-index-test.true c.loop-index.invariant.members);
   operators = c.in_ok-outer.ensures.operators ∙ sym (operators_next c.args.parts.now c.loop-index.index c.loop-index.outer.operators _ c.loop-index-test.true c.loop-index.invariant.operators);
   rows = subst (λ (items : List row.Part). ListsSome (row_in (vocabulary (g.N.Names.token_named c.args.names.now) (g.N.Names.node_named c.args.names.now) (g.N.Names.class_named c.args.names.now)) c.args.parts.now) (c.loop-index.index + 1) items) (sym c.in_ok-push.ensures)
-    (lists_more _ c.loop-index.rows.items c.loop-index.index c.in_ok-row.row (sym c.loop-index.invariant.len) c.loop-index.invariant.rows
-      (row_here (vocabulary (g.N.Names.token_named c.args.names.now) (g.N.Names.node_named c.args.names.now) (g.N.Names.class_named c.args.names.now)) c.args.parts.now c.loop-index.outer.members_end c.loop-index.outer.operators c.loop-index.index _ _ c.loop-index-test.true c.loop-index.invariant.members c.loop-index.invariant.operators c.in_ok-row.ensures));
+      (lists_more _ c.loop-index.rows.items c.loop-index.index c.in_ok-row.row (sym c.loop-index.invariant.len) c.loop-index.invariant.rows
+      (row_here (vocabulary (g.N.Names.token_named c.args.names.now) (g.N.Names.node_named c.args.names.now) (g.N.Names.class_named c.args.names.now)) c.args.parts.now c.loop-index.outer.members_end c.loop-index.outer.operators c.loop-index.index _ _ c.loop-index-test.true c.loop-index.invariant.members c.loop-index.invariant.operators c.in_ok-row.ensures.ok));
 }
