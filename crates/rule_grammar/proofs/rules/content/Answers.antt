@@ -9,7 +9,7 @@ use Rattle.rule_grammar.proofs.rules.content.Goals as goal
 
 pub returns-clause-derives : goal.returns-clause-derives
 returns-clause-derives c = λ goes same.
-    let ran = c.block.ensures in
+    let ran = c.root.ensures in
     let rest = c.left_over.ensures in
     let begun = ap weight c.new-told.ensures in
     let counted = (counts_then ran.counts rest.counts).errors goes in
