@@ -18,6 +18,8 @@ mod rows;
 mod rules;
 mod sets;
 #[cfg(test)]
+mod some_parts;
+#[cfg(test)]
 mod tests;
 mod walk;
 
