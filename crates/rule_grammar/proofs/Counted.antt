@@ -81,3 +81,7 @@ counts_any {a} {b} {t} {u} p = record {
 pub untold : (t : Option ℕ) → weight t ≤ 0 → t ≡ None
 untold None le = refl
 untold (Some place) le = absurd (omega arith)
+
+-- after an error was told, steps that are added only add errors
+pub counts_known : {a b : State} {i j : ℕ} → AddsSome a b → Counts (Some i) (Some j) a b
+counts_known {a} {b} {i} p = let more = counts_added {t = Some i} p.some in record { keeps = more.keeps; errors = more.errors }

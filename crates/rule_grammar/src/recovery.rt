@@ -29,6 +29,9 @@ pub(crate) fn missing(
         tell(rule, row, p);
         // A second error at the place after it is dropped.
         told.move_to(p.position());
+    } else {
+        skip_inside(rule, row, p);
+        told.move_to(p.position());
     }
 }
 
@@ -92,6 +95,19 @@ fn closing(p: &Parser<'_>) -> usize {
         unclosed = unclosed_after(unclosed, kind);
     }
     0
+}
+
+/// Skips what stands before a parenthesis that closes, without an error.
+fn skip_inside(rule: &Open<'_>, row: u16, p: &mut Parser<'_>)
+    requires { IsSound p.old }
+    ensures { AddsSome p.old p.new }
+{
+    let inside = before_match(rule, row, p);
+    if inside > 0 {
+        let node = p.start();
+        bump_some(inside, p);
+        node.complete(p, SyntaxKind::ERROR);
+    }
 }
 
 /// An error, and so many tokens.

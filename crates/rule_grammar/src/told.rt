@@ -1,5 +1,5 @@
 //! What a run keeps.
-ghost use Rattle.std.specs.Prelude.{◌≡◌, ◌≢◌, IsTrue, None, Some};
+ghost use Rattle.std.specs.Prelude.{◌≡◌, ◌≢◌, IsTrue, None, Some, false};
 ghost use Rattle.squawk_kinds.specs.Kinds.{TOMBSTONE};
 
 use squawk_kinds::SyntaxKind;
@@ -29,6 +29,7 @@ impl Told {
     pub(crate) fn is_new(&mut self, place: usize) -> bool
         ensures place { self.new.place ≡ Some place }
         ensures first { self.old.place ≡ None → IsTrue result }
+        ensures second { result ≡ false → self.old.place ≡ Some place }
     {
         if self.place == Some(place) {
             return false;

@@ -1,5 +1,5 @@
 -- The row that each part is.
-use Rattle.std.specs.Prelude.{◌≡◌, ℕ, ◌+◌, ◌-◌, ◌<◌, zero, suc, ◌||◌, ◌==◌, nat_lt, Bool, true, false, Option, Some, None, List, length, slice_get, option_map, if◌then◌else◌}
+use Rattle.std.specs.Prelude.{◌≡◌, ℕ, ◌+◌, ◌-◌, ◌<◌, zero, suc, ◌||◌, ◌==◌, nat_lt, Bool, true, false, Option, Some, None, List, length, position, slice_get, option_map, IfSome, if◌then◌else◌}
 use Rattle.rule_parts.specs.declared.Part.{Part}
 use Rattle.rule_parts.specs.declared.Part.TheVariants as part
 use Rattle.rule_parts.specs.declared.Association.{Association}
@@ -23,6 +23,14 @@ call_of_rule i part = None
 abbrev pub call_of : List Part → Option ℕ → Option row.Part
 call_of parts None = None
 call_of parts (Some i) = call_of_rule i (slice_get parts i)
+
+abbrev pub is_rule : Part → Bool
+is_rule (part.Rule own message size) = true
+is_rule p = false
+
+-- The rule of a file is the first one, if there is one.
+abbrev pub IsFileRule : List Part → ℕ → ℕ → Type 0
+IsFileRule parts start end = IfSome (call_of parts (position is_rule parts)) (λ call. call ≡ Call start end)
 
 -- the greatest level of an operator after one of this level
 abbrev pub ceiling : Association → ℕ → ℕ

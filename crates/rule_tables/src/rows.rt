@@ -1,8 +1,8 @@
 //! Rows: parts, with what the names in them stand for.
-ghost use Rattle.std.specs.Prelude.{◌≡◌, ◌≤◌, ◌+◌, ◌⊎◌, IfErr, IfOk, None, Some, length, slice_get};
+ghost use Rattle.std.specs.Prelude.{◌≡◌, ◌≤◌, ◌+◌, ◌⊎◌, IfErr, IfOk, None, Some, length, position, slice_get};
 ghost use Rattle.rule_grammar.specs.declared.part.Part.TheVariants.{Tail};
 ghost use Rattle.rule_tables.specs.Definitions.{class_number, definition_of};
-ghost use Rattle.rule_tables.specs.Rows.{AreRows, call_of, ceiling, end_of, members_end, members_end_after, operators_after, operators_before, row_by, row_of};
+ghost use Rattle.rule_tables.specs.Rows.{AreRows, IsFileRule, call_of, ceiling, end_of, is_rule, members_end, members_end_after, operators_after, operators_before, row_by, row_of};
 ghost use Rattle.rule_tables.specs.Faults.{IsFault, IsFaultOf};
 ghost use Rattle.rule_tables.specs.declared.error.RulesError.TheVariants.{TooMany, Undefined, UnknownKind};
 ghost use Rattle.rule_tables.specs.Vocabulary.{vocabulary};
@@ -211,6 +211,37 @@ fn call(parts: &[Part<'_>], name: &Name<'_>, part: usize) -> Result<Row, RulesEr
             end: end_of(rule, *size)?,
         }),
         _ => Err(RulesError::Undefined { part }),
+    }
+}
+
+/// Rows, from one up to another.
+#[derive(Clone, Copy)]
+pub(crate) struct Span {
+    pub(crate) start: u16,
+    pub(crate) end: u16,
+}
+
+fn first_rule(parts: &[Part<'_>]) -> Option<usize>
+    ensures { result ≡ position is_rule parts.now }
+{
+    parts.iter().position(|part| matches!(part, Part::Rule { .. }))
+}
+
+/// The rows of the rule of a file: the first rule, if there is one.
+pub(crate) fn file_of(parts: &[Part<'_>]) -> Result<Span, RulesError>
+    ensures err { IfErr result (λ reason. reason ≡ TooMany) }
+    ensures ok { IfOk result (λ span. IsFileRule parts.now span.start span.end) }
+{
+    let nothing = Span { start: 0, end: 0 };
+    let Some(rule) = first_rule(parts) else {
+        return Ok(nothing);
+    };
+    match parts.get(rule) {
+        Some(Part::Rule { size, .. }) => Ok(Span {
+            start: number(rule + 1)?,
+            end: end_of(rule, *size)?,
+        }),
+        _ => Ok(nothing),
     }
 }
 

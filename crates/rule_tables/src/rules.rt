@@ -4,7 +4,7 @@ ghost use Rattle.squawk_kinds.specs.TokenSets.{has};
 ghost use Rattle.rule_grammar.specs.Parts.{words_have};
 ghost use Rattle.rule_tables.specs.Classes.{HasClasses};
 ghost use Rattle.rule_tables.specs.Faults.{IsFault, NamesNothing};
-ghost use Rattle.rule_tables.specs.Rows.{HasRows, SayRows, is_exact};
+ghost use Rattle.rule_tables.specs.Rows.{HasRows, IsFileRule, SayRows, is_exact};
 ghost use Rattle.rule_tables.specs.Sets.{Extends, HaveSets, word_of};
 ghost use Rattle.rule_tables.specs.Vocabulary.{vocabulary};
 
@@ -17,7 +17,7 @@ use crate::map::{Map, NONE};
 use crate::messages::{Messages, row_of_message};
 use crate::names::Names;
 use crate::numbers::numbers_of;
-use crate::rows::rows_of;
+use crate::rows::{Span, file_of, rows_of};
 use crate::sets::{Sets, push};
 use crate::walk::Walk;
 use rule_grammar::{Part as Row, RuleGrammar, Table};
@@ -53,6 +53,7 @@ impl Rules {
     /// The rules of these parts. A file is what the first one says.
     pub fn new<N: Names>(alloc: Global, parts: &[Part<'_>], names: &N) -> Result<Rules, RulesError>
         ensures err { IfErr result (λ reason. IsFault (vocabulary (N.token_named names.now) (N.node_named names.now) (N.class_named names.now)) parts.now reason) }
+        ensures file { IfOk result (λ rules. IsFileRule parts.now rules.start rules.end) }
         ensures classes { IfOk result (λ rules. HasClasses (vocabulary (N.token_named names.now) (N.node_named names.now) (N.class_named names.now)) parts.now rules.sets) }
         ensures rows { IfOk result (λ rules. HasRows (vocabulary (N.token_named names.now) (N.node_named names.now) (N.class_named names.now)) parts.now rules.rows) }
     {
@@ -63,7 +64,7 @@ impl Rules {
         let rows = rows_of(alloc, parts, names)?;
         let sets = sets_of(alloc, parts, names)?;
         let messages = Messages::new(alloc, parts)?;
-        rules_of(alloc, &rows, &sets, messages, first_rule(parts))
+        rules_of(alloc, &rows, &sets, messages, file_of(parts)?)
     }
 
     /// The rules as a table.
@@ -98,38 +99,27 @@ impl Rules {
     }
 }
 
-/// The index of the first rule, or 0.
-fn first_rule(parts: &[Part<'_>]) -> usize
-    ensures { result ≤ length parts.now }
-{
-    for (index, part) in parts.iter().enumerate() {
-        if let Part::Rule { .. } = part {
-            return index;
-        }
-    }
-    0
-}
-
-/// The rules of these rows. A file is what the rule from row `start` on says.
+/// The rules of these rows, of which some are the rule of a file.
 fn rules_of(
     alloc: Global,
     rows: &[Row],
     sets: &[TokenSet],
     messages: Messages,
-    start: usize,
+    file: Span,
 ) -> Result<Rules, RulesError>
-    requires exact { All (λ row. IsTrue (is_exact row)) rows.now }
-    requires small { start ≤ 65000 }
+    requires { All (λ row. IsTrue (is_exact row)) rows.now }
     ensures err { IfErr result NamesNothing }
     ensures rows { IfOk result (λ rules. SayRows rows.now rules.rows) }
     ensures sets { IfOk result (λ rules. HaveSets sets.now rules.sets (length sets.now)) }
+    ensures start { IfOk result (λ rules. rules.start ≡ file.start) }
+    ensures end { IfOk result (λ rules. rules.end ≡ file.end) }
 {
     let map = Map::new(alloc, rows, sets)?;
     let ahead = ahead_of(alloc, &map)?;
     let mut looks = Looks {
         alloc,
         map: &map,
-        walk: Walk::new(alloc, rows.len(), start)?,
+        walk: Walk::new(alloc, rows.len(), usize::from(file.start).saturating_sub(1))?,
         sets: Sets::new(alloc, sets)?,
         list: Vec::new(alloc),
     };
@@ -140,8 +130,8 @@ fn rules_of(
         sets: words,
         looks: looks.list,
         messages,
-        start: to_u16(start + 1),
-        end: to_u16(map.skip(start)),
+        start: file.start,
+        end: file.end,
     })
 }
 

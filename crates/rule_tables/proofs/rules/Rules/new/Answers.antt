@@ -16,8 +16,8 @@ returns-in_err-refuse_doubled-clause-err g c =
     let fault : IsFault (vocabulary (g.N.Names.token_named c.args.names.now) (g.N.Names.node_named c.args.names.now) (g.N.Names.class_named c.args.names.now)) c.args.parts.now c.in_err-refuse_doubled.field-0.0 = c.in_err-refuse_doubled.ensures (vocabulary (g.N.Names.token_named c.args.names.now) (g.N.Names.node_named c.args.names.now) (g.N.Names.class_named c.args.names.now)) in
     search rules
 
-pub rules_of-requires-clause-exact : goal.rules_of-requires-clause-exact
-rules_of-requires-clause-exact g c = subst (λ (rows : List row.Part). All (λ r. IsTrue (is_exact r)) rows) (sym c.deref.ensures.value) (rows_exact (vocabulary (g.N.Names.token_named c.args.names.now) (g.N.Names.node_named c.args.names.now) (g.N.Names.class_named c.args.names.now)) c.args.parts.now c.in_ok-rows.rows.items c.in_ok-rows.ensures.len c.in_ok-rows.ensures.are)
+pub rules_of-requires : goal.rules_of-requires
+rules_of-requires g c = subst (λ (rows : List row.Part). All (λ r. IsTrue (is_exact r)) rows) (sym c.deref.ensures.value) (rows_exact (vocabulary (g.N.Names.token_named c.args.names.now) (g.N.Names.node_named c.args.names.now) (g.N.Names.class_named c.args.names.now)) c.args.parts.now c.in_ok-rows.rows.items c.in_ok-rows.ensures.len c.in_ok-rows.ensures.are)
 
 if_ok : {T E : Type 0} {P Q : T → Type 0} → ((x : T) → P x → Q x) → (r : Result T E) → IfOk r P → IfOk r Q
 if_ok each (Ok x) p = each x p
