@@ -73,15 +73,15 @@ static CASES: [(&str, &str); 12] = [
     ("(a+b)*c;", "STATEMENT{PRODUCT{PAREN{(SUM{NAME{a}+NAME{b}})}*NAME{c}};}"),
     ("f(a,g());", "STATEMENT{CALL{f(NAME{a},CALL{g()})};}"),
     // A prefix of the lowest level takes the operators of higher ones.
-    ("-a*b+c;", "STATEMENT{SUM{NEGATION{-PRODUCT{NAME{a}*NAME{b}}}+NAME{c}};}"),
+    ("-a*b+c;", "STATEMENT{NEGATION{-SUM{PRODUCT{NAME{a}*NAME{b}}+NAME{c}}};}"),
     ("a;b;", "STATEMENT{NAME{a};}STATEMENT{NAME{b};}"),
     // An operator that doesn't associate.
     (
         "a=b=c;",
         "STATEMENT{EQUALITY{EQUALITY{NAME{a}=NAME{b}!this operator doesn't associate: use parentheses!}=NAME{c}};}",
     ),
-    // What is missing is told where it should stand.
-    ("a", "STATEMENT{NAME{a}!expected ;!}"),
+    // What is missing is told where it should stand. An error stands before the end of the node before it.
+    ("a", "STATEMENT{NAME{a!expected ;!}}"),
     ("a+;", "STATEMENT{SUM{NAME{a}+!expected an expression!ERROR{}};}"),
     ("(a;", "STATEMENT{PAREN{(NAME{a!expected )!}};}"),
 ];
@@ -90,6 +90,42 @@ static CASES: [(&str, &str); 12] = [
 fn parses_expressions(rt: HostRuntime) -> Result<(), Fail> {
     for (text, wanted) in &CASES {
         let line = parsed(rt.alloc(), EXPRESSIONS, text)?;
+        let wanted = format!(in rt.alloc(); "FILE{{{wanted}}}")?;
+        assert_eq!(rt; line.as_str(), wanted.as_str(), "{text}");
+    }
+    Ok(())
+}
+
+/// Items that two tokens tell apart, and lists of pairs between semicolons.
+const ITEMS: &str = "
+class Word = IDENT
+class Value = IDENT literal -IDENT
+file = item+ => FILE
+item \"an item\" = '(' {pair % ';'} ')' => LIST | IDENT '.' IDENT => CALL | IDENT => NAME
+pair \"a pair\" = Word '=' Value
+";
+
+/// Texts, and what is in their files.
+static ITEM_CASES: [(&str, &str); 10] = [
+    ("a", "NAME{a}"),
+    ("a.b", "CALL{a.b}"),
+    ("a b.c", "NAME{a} CALL{b.c}"),
+    ("(a=1)", "LIST{(a=1)}"),
+    ("(a=1;b=2)c", "LIST{(a=1;b=2)}NAME{c}"),
+    // One item at least.
+    ("", "!expected an item!"),
+    // A value is a number: what stands before the parenthesis that closes is skipped.
+    ("(a=b)", "LIST{(a=!expected a pair!ERROR{b})}"),
+    ("(a 1)", "LIST{(a!expected =! 1)}"),
+    ("(a=1 b)", "LIST{(a=1 ERROR{!expected )!b})}"),
+    // No rule goes on at a comma.
+    ("a,b", "NAME{a}ERROR{!expected an item!,}NAME{b}"),
+];
+
+#[test]
+fn parses_items(rt: HostRuntime) -> Result<(), Fail> {
+    for (text, wanted) in &ITEM_CASES {
+        let line = parsed(rt.alloc(), ITEMS, text)?;
         let wanted = format!(in rt.alloc(); "FILE{{{wanted}}}")?;
         assert_eq!(rt; line.as_str(), wanted.as_str(), "{text}");
     }
