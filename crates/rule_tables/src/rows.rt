@@ -224,7 +224,9 @@ pub(crate) struct Span {
 fn first_rule(parts: &[Part<'_>]) -> Option<usize>
     ensures { result ≡ position is_rule parts.now }
 {
-    parts.iter().position(|part| matches!(part, Part::Rule { .. }))
+    parts
+        .iter()
+        .position(|part| matches!(part, Part::Rule { .. }))
 }
 
 /// The rows of the rule of a file: the first rule, if there is one.

@@ -1,4 +1,4 @@
-use Rattle.std.proofs.Common.{rules, ◌≡◌, ℕ, ◌+◌, Bool, false, length, ap}
+use Rattle.std.proofs.Common.{rules, ◌+◌, Bool, false, length, ap}
 use Rattle.squawk_kinds.proofs.TokenSetLemmas.{has-no_kinds}
 use Rattle.rule_tables.specs.Classes.{list_has, member_has, members_have}
 use Rattle.rule_tables.specs.Faults.{IsFault}

@@ -1,4 +1,4 @@
-use Rattle.std.proofs.Common.{◌≡◌, ◌+◌, ◌++◌, ◌∷◌, [], ℕ, Some, List, length, length-append, slice_get, arith, ap, sym, subst, ◌∙◌}
+use Rattle.std.proofs.Common.{◌+◌, ◌∷◌, [], ℕ, List, length, length-append, ap, sym, subst, ◌∙◌}
 use Rattle.rule_grammar.specs.declared.part.Part as row
 use Rattle.rule_tables.specs.Rows.{ListsSome, row_in}
 use Rattle.rule_tables.specs.Vocabulary.{vocabulary}

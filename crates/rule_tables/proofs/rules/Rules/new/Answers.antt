@@ -1,8 +1,6 @@
-use Rattle.std.proofs.Common.{rules, ◌≡◌, All, IfOk, Err, List, Ok, Result, length, sym, subst, IsTrue}
+use Rattle.std.proofs.Common.{rules, All, IfOk, Err, List, Ok, Result, length, sym, subst, IsTrue}
 use Rattle.rule_grammar.specs.declared.part.Part as row
 use Rattle.squawk_kinds.specs.declared.token_set.TokenSet.{TokenSet}
-use Rattle.rule_tables.specs.Made.{Made}
-use Rattle.rule_tables.specs.Classes.{HasClasses}
 use Rattle.rule_tables.specs.Sets.{HaveSets}
 use Rattle.rule_tables.specs.Faults.{IsFault}
 use Rattle.rule_tables.specs.Rows.{is_exact}
