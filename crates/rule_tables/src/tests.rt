@@ -10,6 +10,7 @@
 
 use crate::some_parts::{SomeNames, call, rule, some_parts, token};
 use crate::{Rules, RulesError};
+use rule_grammar::RuleGrammar;
 use rule_parts::Part;
 use squawk_parser::{
     EntryPoint, NoKeywords, OwnedStep, StepList, SyntaxKind, Token, TokenKind, parse_whole_into,
@@ -62,19 +63,11 @@ fn line_of(alloc: Global, steps: &[OwnedStep]) -> Result<String, AllocError> {
     Ok(line)
 }
 
-fn parsed(alloc: Global, rules: &Rules, text: &str) -> Result<String, Fail> {
+fn parsed(alloc: Global, rules: &RuleGrammar<'_>, text: &str) -> Result<String, Fail> {
     let tokens = tokens_of(alloc, text)?;
     let mut list = StepList::new(alloc);
     let entry = EntryPoint::SourceFile;
-    parse_whole_into(
-        alloc,
-        text,
-        &tokens,
-        &NoKeywords,
-        &rules.grammar(&[]),
-        entry,
-        &mut list,
-    )?;
+    parse_whole_into(alloc, text, &tokens, &NoKeywords, rules, entry, &mut list)?;
     Ok(line_of(alloc, list.steps())?)
 }
 
@@ -102,10 +95,10 @@ static CASES: [(&str, &str); 6] = [
 
 #[test]
 fn parses_cases(rt: HostRuntime) -> Result<(), Fail> {
-    let parts = some_parts(rt.alloc())?;
+    let parts = some_parts();
     let rules = Rules::new(rt.alloc(), &parts, &SomeNames)?;
     for (text, wanted) in &CASES {
-        let line = parsed(rt.alloc(), &rules, text)?;
+        let line = parsed(rt.alloc(), &rules.grammar(&[]), text)?;
         let wanted = format!(in rt.alloc(); "ERROR{{{wanted}}}")?;
         assert_eq!(rt; line.as_str(), wanted.as_str(), "{text}");
     }
@@ -170,7 +163,13 @@ fn looks_at_later_tokens(rt: HostRuntime) -> Result<(), Fail> {
         token("*"),
     ];
     let rules = Rules::new(alloc, &parts, &SomeNames)?;
-    assert_eq!(rt; parsed(alloc, &rules, "++*")?.as_str(), "ERROR{++*}");
-    assert_eq!(rt; parsed(alloc, &rules, "++=")?.as_str(), "ERROR{++=}");
+    assert_eq!(rt;
+        parsed(alloc, &rules.grammar(&[]), "++*")?.as_str(),
+        "ERROR{++*}"
+    );
+    assert_eq!(rt;
+        parsed(alloc, &rules.grammar(&[]), "++=")?.as_str(),
+        "ERROR{++=}"
+    );
     Ok(())
 }
