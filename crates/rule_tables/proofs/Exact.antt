@@ -1,5 +1,5 @@
 -- The rows of parts are exact.
-use Rattle.std.proofs.Common.{◌≡◌, ℕ, ◌+◌, ◌-◌, ◌<◌, ◌||◌, ◌==◌, ◌∙◌, Bool, true, false, inl, inr, All, List, length, get_or, Option, Some, None, slice_get, option_map, nat_lt, IfSome, IsTrue, arith, refl, sym, subst}
+use Rattle.std.proofs.Common.{◌≡◌, ℕ, ◌-◌, ◌||◌, ◌==◌, ◌∙◌, inl, inr, All, List, length, get_or, Option, Some, None, slice_get, option_map, nat_lt, IfSome, IsTrue, arith, refl, sym, subst}
 use Rattle.std.proofs.lemmas.Bool.{cases_Bool}
 use Rattle.std.proofs.lemmas.Bool.Decides.{nat_tests}
 use Rattle.std.proofs.lemmas.Option.{slice_get-get_or}
@@ -8,7 +8,7 @@ use Rattle.rule_parts.specs.declared.Part.TheVariants as part
 use Rattle.rule_parts.specs.declared.Association.{Association}
 use Rattle.rule_parts.specs.declared.Association.TheVariants.{Left, Right, Neither}
 use Rattle.rule_grammar.specs.declared.part.Part as row
-use Rattle.rule_tables.specs.Rows.{AreRows, HasRows, SayRows, call_of, call_of_rule, ceiling, end_of, is_exact, row_at, row_by, row_in, row_of, members_end, operators_before}
+use Rattle.rule_tables.specs.Rows.{AreRows, HasRows, SayRows, call_of, call_of_rule, ceiling, is_exact, row_at, row_by, row_in, row_of, members_end, operators_before}
 use Rattle.rule_tables.specs.Definitions.{definition_of}
 use Rattle.rule_tables.specs.Vocabulary.{Vocabulary}
 

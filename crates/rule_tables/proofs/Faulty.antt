@@ -1,6 +1,5 @@
 -- A fault of a part is one of the parts.
-use Rattle.std.proofs.Common.{◌≡◌, ℕ, ◌<◌, List, Option, Some, length, get_or, slice_get, sym, subst, refl}
-use Rattle.std.proofs.lemmas.Option.{slice_get-get_or}
+use Rattle.std.proofs.Common.{◌≡◌, ℕ, List, Some, slice_get}
 use Rattle.rule_parts.specs.declared.Part.{Part}
 use Rattle.rule_tables.specs.declared.error.RulesError.{RulesError}
 use Rattle.rule_tables.specs.declared.error.RulesError.TheVariants.{Undefined, Doubled, UnknownKind, Undecided, TooMany, Memory}

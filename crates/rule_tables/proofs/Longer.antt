@@ -1,5 +1,5 @@
 -- Lists of sets that get longer.
-use Rattle.std.proofs.Common.{◌≡◌, ℕ, ◌<◌, ◌≤◌, ◌++◌, ◌∷◌, [], ◌∙◌, List, Some, length, length-append, slice_get, arith, refl, sym, subst}
+use Rattle.std.proofs.Common.{◌≡◌, ◌++◌, ◌∷◌, [], ◌∙◌, List, length-append, arith, refl, sym, subst}
 use Rattle.squawk_kinds.specs.declared.token_set.TokenSet.{TokenSet}
 use Rattle.rule_tables.specs.Sets.{Extends}
 use Rattle.rule_tables.proofs.Lists.{slice_get-front}

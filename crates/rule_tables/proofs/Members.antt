@@ -1,5 +1,5 @@
 -- The members of a class, one after another.
-use Rattle.std.proofs.Common.{◌≡◌, ℕ, suc, ◌+◌, ◌<◌, ◌≤◌, ◌&&◌, ◌∙◌, Bool, true, false, inl, inr, List, [], ◌∷◌, Option, Some, None, length, get_or, slice_get, take, drop, nat_lt, add-one, arith, refl, sym, ap, subst}
+use Rattle.std.proofs.Common.{◌≡◌, ℕ, ◌+◌, ◌<◌, ◌&&◌, ◌∙◌, Bool, false, inl, inr, List, [], ◌∷◌, Option, Some, None, length, get_or, slice_get, take, drop, nat_lt, add-one, arith, refl, sym, ap, subst}
 use Rattle.std.proofs.Math.Seq.{drop-cons}
 use Rattle.std.proofs.lemmas.Bool.{cases_Bool}
 use Rattle.std.proofs.lemmas.Bool.Decides.{nat_tests}

@@ -1,8 +1,6 @@
 -- The kinds of a set that aren't in another.
-use Rattle.std.proofs.Common.{◌≡◌, ℕ, zero, suc, ◌+◌, ◌/◌, ◌%◌, ◌<◌, ◌≤◌, min, false, ◌&&◌, ◌==◌, not, ◌∙◌, sym, refl, inl, inr, List, [], ◌∷◌, get_or, bit_and, bit_xor, arith, leb, leb-true, below_more, below_none}
-use Rattle.std.specs.Int.{bit_at}
+use Rattle.std.proofs.Common.{◌≡◌, ℕ, zero, suc, ◌+◌, ◌/◌, ◌%◌, ◌<◌, ◌≤◌, min, ◌&&◌, ◌==◌, not, refl, inl, inr, List, [], ◌∷◌, get_or, bit_and, bit_xor, arith, leb, leb-true, below_more, below_none}
 use Rattle.std.proofs.lemmas.Bool.{cases_Bool}
-use Rattle.std.proofs.lemmas.Bool.Decides.{nat_tests}
 use Rattle.std.proofs.lemmas.Nat.Bits.{bit_at_and, bit_at_xor, bit_at-lt}
 use Rattle.squawk_kinds.specs.Kinds.{WHITESPACE}
 use Rattle.squawk_kinds.specs.TokenSets.{has}

@@ -1,5 +1,5 @@
 -- The words of a set in a table: four of 16 bits for each of its own.
-use Rattle.std.proofs.Common.{◌≡◌, ℕ, ◌+◌, ◌-◌, ◌*◌, ◌/◌, ◌%◌, ◌^◌, ◌<◌, ◌≤◌, ◌++◌, ◌∷◌, [], ◌&&◌, ◌==◌, ◌∙◌, Bool, false, inl, inr, List, Option, Some, length, take, get_or, get_or-set_same, get_or-set_other, set, slice_get, slice_index, leb, leb-true, leb-false, le-leb, arith, refl, sym, subst, ap}
+use Rattle.std.proofs.Common.{◌≡◌, ℕ, ◌+◌, ◌-◌, ◌*◌, ◌/◌, ◌%◌, ◌^◌, ◌<◌, ◌≤◌, ◌++◌, ◌∷◌, [], ◌==◌, ◌∙◌, inl, inr, List, Option, Some, length, take, get_or, get_or-set_same, get_or-set_other, set, slice_get, slice_index, leb, leb-true, leb-false, arith, sym, subst, ap}
 use Rattle.std.specs.Int.{bit_at}
 use Rattle.std.proofs.lemmas.Bool.{cases_Bool, cases_eq}
 use Rattle.std.proofs.lemmas.Nat.{shr-shr, field_of}

@@ -1,5 +1,5 @@
 -- What is wrong with parts that are refused.
-use Rattle.std.specs.Prelude.{◌≡◌, ℕ, ◌+◌, ◌≤◌, Bool, true, false, Option, Some, None, List, take, slice_get, IfSome, IsTrue, is_some, ◌⊎◌}
+use Rattle.std.specs.Prelude.{◌≡◌, ℕ, ◌≤◌, Bool, false, Option, Some, None, List, take, slice_get, IfSome, IsTrue, is_some, ◌⊎◌}
 use Rattle.rule_parts.specs.declared.Part.{Part}
 use Rattle.rule_parts.specs.declared.Part.TheVariants as part
 use Rattle.rule_tables.specs.declared.error.RulesError.{RulesError}

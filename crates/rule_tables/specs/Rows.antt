@@ -3,7 +3,7 @@ use Rattle.std.specs.Prelude.{◌≡◌, ℕ, ◌+◌, ◌-◌, ◌<◌, zero, s
 use Rattle.rule_parts.specs.declared.Part.{Part}
 use Rattle.rule_parts.specs.declared.Part.TheVariants as part
 use Rattle.rule_parts.specs.declared.Association.{Association}
-use Rattle.rule_parts.specs.declared.Association.TheVariants.{Left, Right, Neither}
+use Rattle.rule_parts.specs.declared.Association.TheVariants.{Neither}
 use Rattle.rule_grammar.specs.declared.part.Part as row
 use Rattle.rule_grammar.specs.declared.part.Part.TheVariants.{Nothing, Token, Class, Node, Becomes, Choice, Arm, Optional, Repeat, List as Items, Call, Operators, Operand, Tail, Some as Once}
 use Rattle.rule_grammar.specs.Parts.{part_at}

@@ -7,6 +7,3 @@ pub record Vocabulary : Type 0 where
   pub token : List ℕ → Option ℕ
   pub node : List ℕ → Option ℕ
   pub class : List ℕ → Option TokenSet
-
-abbrev pub vocabulary : (List ℕ → Option ℕ) → (List ℕ → Option ℕ) → (List ℕ → Option TokenSet) → Vocabulary
-vocabulary token node class = record { token = token; node = node; class = class }

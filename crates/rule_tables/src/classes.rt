@@ -4,7 +4,6 @@ ghost use Rattle.squawk_kinds.specs.TokenSets.{has};
 ghost use Rattle.rule_tables.specs.Classes.{AreClasses, class_has, class_holds, is_without, joined, list_has, member_has, members_of};
 ghost use Rattle.rule_tables.specs.Definitions.{IsMember, class_number, classes_in, size_of_class};
 ghost use Rattle.rule_tables.specs.Faults.{IsFault, IsFaultOf};
-ghost use Rattle.rule_tables.specs.Vocabulary.{vocabulary};
 ghost use Rattle.rule_tables.specs.declared.error.RulesError.TheVariants.{Undefined};
 
 use crate::definitions::class_number;
@@ -23,8 +22,8 @@ pub(crate) fn sets_of<N: Names>(
     names: &N,
 ) -> Result<Vec<TokenSet>, RulesError>
     ensures len { IfOk result (λ sets. length sets.items ≡ classes_in parts.now) }
-    ensures err { IfErr result (λ reason. IsFault (vocabulary (N.token_named names.now) (N.node_named names.now) (N.class_named names.now)) parts.now reason) }
-    ensures are { IfOk result (λ sets. AreClasses (vocabulary (N.token_named names.now) (N.node_named names.now) (N.class_named names.now)) parts.now (list_has sets.items) (length parts.now)) }
+    ensures err { IfErr result (λ reason. IsFault (N.vocabulary names.now) parts.now reason) }
+    ensures are { IfOk result (λ sets. AreClasses (N.vocabulary names.now) parts.now (list_has sets.items) (length parts.now)) }
 {
     let mut sets = Vec::new(alloc);
     for (index, part) in parts.iter().enumerate() {
@@ -62,8 +61,8 @@ fn union_of<N: Names>(
     requires within { class < length parts.now }
     requires is { size_of_class (slice_get parts.now class) ≡ Some size }
     requires count { classes_in (take class parts.now) ≡ length sets.now }
-    ensures err { IfErr result (λ reason. IsFault (vocabulary (N.token_named names.now) (N.node_named names.now) (N.class_named names.now)) parts.now reason) }
-    ensures ok { IfOk result (λ set. (kind : ℕ) → has set kind ≡ class_has (vocabulary (N.token_named names.now) (N.node_named names.now) (N.class_named names.now)) parts.now (list_has sets.now) class size kind) }
+    ensures err { IfErr result (λ reason. IsFault (N.vocabulary names.now) parts.now reason) }
+    ensures ok { IfOk result (λ set. (kind : ℕ) → has set kind ≡ class_has (N.vocabulary names.now) parts.now (list_has sets.now) class size kind) }
 {
     let mut set = TokenSet::EMPTY;
     let mut is_without = false;
@@ -102,8 +101,8 @@ fn kinds_of<N: Names>(
     names: &N,
 ) -> Result<TokenSet, RulesError>
     requires { IsMember parts.now index (length sets.now) }
-    ensures err { IfErr result (λ reason. IsFaultOf (vocabulary (N.token_named names.now) (N.node_named names.now) (N.class_named names.now)) parts.now index member.now reason) }
-    ensures ok { IfOk result (λ set. (kind : ℕ) → has set kind ≡ member_has (vocabulary (N.token_named names.now) (N.node_named names.now) (N.class_named names.now)) parts.now (list_has sets.now) (length sets.now) kind member.now) }
+    ensures err { IfErr result (λ reason. IsFaultOf (N.vocabulary names.now) parts.now index member.now reason) }
+    ensures ok { IfOk result (λ set. (kind : ℕ) → has set kind ≡ member_has (N.vocabulary names.now) parts.now (list_has sets.now) (length sets.now) kind member.now) }
 {
     match member {
         Part::Token { name } => Ok(set_of(token(names, name, index)?)),
@@ -132,8 +131,8 @@ fn class(
 }
 
 fn given<N: Names>(names: &N, name: &Name<'_>, part: usize) -> Result<TokenSet, RulesError>
-    ensures err { IfErr result (λ reason. (reason ≡ Undefined part) × (N.class_named names.now name.now.text.now ≡ None)) }
-    ensures ok { IfOk result (λ set. N.class_named names.now name.now.text.now ≡ Some set) }
+    ensures err { IfErr result (λ reason. (reason ≡ Undefined part) × ((N.vocabulary names.now).class name.now.text.now ≡ None)) }
+    ensures ok { IfOk result (λ set. (N.vocabulary names.now).class name.now.text.now ≡ Some set) }
 {
     match names.class(name.text) {
         Some(set) => Ok(set),

@@ -5,7 +5,7 @@ use squawk_kinds::TokenSet;
 use std::alloc::{AllocError, Global};
 
 /// What a part may begin with, and what may come after it in its rule.
-#[derive(Clone, Copy, Debug, PartialEq, Eq)]
+#[derive(Clone, Copy)]
 pub(crate) struct Ahead {
     /// The kinds that it may begin with.
     pub(crate) begins: TokenSet,

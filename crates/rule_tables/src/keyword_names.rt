@@ -24,12 +24,11 @@ impl<'n, V: Vocabulary> Names for KeywordNames<'n, V> {
     ghost use Rattle.std.specs.Option.{option_or};
     ghost use Rattle.std.specs.Str.{bytes_eq};
 
-    ghost token_named = { λ names name. option_or (lookup (bytes_eq name) (map (λ pair. (pair.0.now, pair.1)) names.tokens.now))
-        (V.keyword names.words.now name) };
-
-    ghost node_named = { λ names name. lookup (bytes_eq name) (map (λ pair. (pair.0.now, pair.1)) names.nodes.now) };
-
-    ghost class_named = { λ names name. lookup (bytes_eq name) (map (λ pair. (pair.0.now, pair.1)) names.classes.now) };
+    ghost vocabulary = { λ names. record {
+        token = λ name. option_or (lookup (bytes_eq name) (map (λ pair. (pair.0.now, pair.1)) names.tokens.now)) (V.keyword names.words.now name);
+        node = λ name. lookup (bytes_eq name) (map (λ pair. (pair.0.now, pair.1)) names.nodes.now);
+        class = λ name. lookup (bytes_eq name) (map (λ pair. (pair.0.now, pair.1)) names.classes.now);
+    } };
 
     fn token(&self, name: &str) -> Option<SyntaxKind> {
         kind_in(self.tokens, name).or(self.words.from_keyword(name))

@@ -10,7 +10,7 @@ use std::alloc::{AllocError, Global};
 pub(crate) const NONE: usize = usize::MAX;
 
 /// A place in rules.
-#[derive(Clone, Copy, Debug, PartialEq, Eq)]
+#[derive(Clone, Copy)]
 pub(crate) enum Place {
     /// Before a part.
     Before(usize),

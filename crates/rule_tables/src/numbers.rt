@@ -58,13 +58,12 @@ fn begins(
 ) -> Result<TokenSet, AllocError>
     ensures { OnOk result (Extends looks.old.sets.list.items looks.new.sets.list.items) }
 {
-    match row {
-        Row::Arm { .. } | Row::Tail { .. } | Row::Choice { .. } if looks.map.outer(index) != NONE =>
-            {
-                let mine = looks.from(Place::Before(index))?;
-                Ok(kinds_at(looks.map, &mine))
-            }
-        _ => Ok(known.begins),
+    let is_way = matches!(row, Row::Arm { .. } | Row::Tail { .. } | Row::Choice { .. });
+    if is_way && looks.map.outer(index) != NONE {
+        let mine = looks.from(Place::Before(index))?;
+        Ok(kinds_at(looks.map, &mine))
+    } else {
+        Ok(known.begins)
     }
 }
 

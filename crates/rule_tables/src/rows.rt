@@ -5,7 +5,6 @@ ghost use Rattle.rule_tables.specs.Definitions.{class_number, definition_of};
 ghost use Rattle.rule_tables.specs.Rows.{AreRows, IsFileRule, call_of, ceiling, end_of, is_rule, members_end, members_end_after, operators_after, operators_before, row_by, row_of};
 ghost use Rattle.rule_tables.specs.Faults.{IsFault, IsFaultOf};
 ghost use Rattle.rule_tables.specs.declared.error.RulesError.TheVariants.{TooMany, Undefined, UnknownKind};
-ghost use Rattle.rule_tables.specs.Vocabulary.{vocabulary};
 
 use crate::definitions::{class_number, find};
 use crate::error::RulesError;
@@ -17,7 +16,7 @@ use squawk_kinds::SyntaxKind;
 use std::alloc::Global;
 
 /// The greatest number of parts, and the greatest level.
-const MOST: usize = 65000;
+pub(crate) const MOST: usize = 65000;
 
 /// The rows of these parts.
 pub(crate) fn rows_of<N: Names>(
@@ -26,8 +25,8 @@ pub(crate) fn rows_of<N: Names>(
     names: &N,
 ) -> Result<Vec<Row>, RulesError>
     ensures len { IfOk result (λ rows. length rows.items ≡ length parts.now) }
-    ensures err { IfErr result (λ reason. IsFault (vocabulary (N.token_named names.now) (N.node_named names.now) (N.class_named names.now)) parts.now reason) }
-    ensures are { IfOk result (λ rows. AreRows (vocabulary (N.token_named names.now) (N.node_named names.now) (N.class_named names.now)) parts.now rows.items) }
+    ensures err { IfErr result (λ reason. IsFault (N.vocabulary names.now) parts.now reason) }
+    ensures are { IfOk result (λ rows. AreRows (N.vocabulary names.now) parts.now rows.items) }
 {
     let mut rows = Vec::new(alloc);
     let mut outer = Outer {
@@ -77,8 +76,8 @@ fn row_by<N: Names>(
     outer: &Outer,
     names: &N,
 ) -> Result<Row, RulesError>
-    ensures err { IfErr result (λ reason. IsFaultOf (vocabulary (N.token_named names.now) (N.node_named names.now) (N.class_named names.now)) parts.now index part.now reason) }
-    ensures ok { IfOk result (λ row. row_by (vocabulary (N.token_named names.now) (N.node_named names.now) (N.class_named names.now)) parts.now outer.now.members_end outer.now.operators index part.now ≡ Some row) }
+    ensures err { IfErr result (λ reason. IsFaultOf (N.vocabulary names.now) parts.now index part.now reason) }
+    ensures ok { IfOk result (λ row. row_by (N.vocabulary names.now) parts.now outer.now.members_end outer.now.operators index part.now ≡ Some row) }
 {
     if index < outer.members_end {
         Ok(Row::Nothing)
@@ -95,8 +94,8 @@ fn row_of<N: Names>(
     outer: &Outer,
     names: &N,
 ) -> Result<Row, RulesError>
-    ensures err { IfErr result (λ reason. IsFaultOf (vocabulary (N.token_named names.now) (N.node_named names.now) (N.class_named names.now)) parts.now index part.now reason) }
-    ensures ok { IfOk result (λ row. row_of (vocabulary (N.token_named names.now) (N.node_named names.now) (N.class_named names.now)) parts.now outer.now.operators index part.now ≡ Some row) }
+    ensures err { IfErr result (λ reason. IsFaultOf (N.vocabulary names.now) parts.now index part.now reason) }
+    ensures ok { IfOk result (λ row. row_of (N.vocabulary names.now) parts.now outer.now.operators index part.now ≡ Some row) }
 {
     let row = match part {
         Part::Set { .. } | Part::Without => Row::Nothing,
@@ -224,7 +223,9 @@ pub(crate) struct Span {
 fn first_rule(parts: &[Part<'_>]) -> Option<usize>
     ensures { result ≡ position is_rule parts.now }
 {
-    parts.iter().position(|part| matches!(part, Part::Rule { .. }))
+    parts
+        .iter()
+        .position(|part| matches!(part, Part::Rule { .. }))
 }
 
 /// The rows of the rule of a file: the first rule, if there is one.
@@ -251,8 +252,8 @@ pub(crate) fn token<N: Names>(
     name: &Name<'_>,
     part: usize,
 ) -> Result<SyntaxKind, RulesError>
-    ensures ok { IfOk result (λ kind. N.token_named names.now name.now.text.now ≡ Some kind) }
-    ensures err { IfErr result (λ reason. (reason ≡ UnknownKind part) × (N.token_named names.now name.now.text.now ≡ None)) }
+    ensures ok { IfOk result (λ kind. (N.vocabulary names.now).token name.now.text.now ≡ Some kind) }
+    ensures err { IfErr result (λ reason. (reason ≡ UnknownKind part) × ((N.vocabulary names.now).token name.now.text.now ≡ None)) }
 {
     match names.token(name.text) {
         Some(kind) => Ok(kind),
@@ -261,8 +262,8 @@ pub(crate) fn token<N: Names>(
 }
 
 fn node<N: Names>(names: &N, name: &Name<'_>, part: usize) -> Result<SyntaxKind, RulesError>
-    ensures ok { IfOk result (λ kind. N.node_named names.now name.now.text.now ≡ Some kind) }
-    ensures err { IfErr result (λ reason. (reason ≡ UnknownKind part) × (N.node_named names.now name.now.text.now ≡ None)) }
+    ensures ok { IfOk result (λ kind. (N.vocabulary names.now).node name.now.text.now ≡ Some kind) }
+    ensures err { IfErr result (λ reason. (reason ≡ UnknownKind part) × ((N.vocabulary names.now).node name.now.text.now ≡ None)) }
 {
     match names.node(name.text) {
         Some(kind) => Ok(kind),

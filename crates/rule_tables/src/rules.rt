@@ -6,7 +6,6 @@ ghost use Rattle.rule_tables.specs.Classes.{HasClasses};
 ghost use Rattle.rule_tables.specs.Faults.{IsFault, NamesNothing};
 ghost use Rattle.rule_tables.specs.Rows.{HasRows, IsFileRule, SayRows, is_exact};
 ghost use Rattle.rule_tables.specs.Sets.{Extends, HaveSets, word_of};
-ghost use Rattle.rule_tables.specs.Vocabulary.{vocabulary};
 
 use crate::classes::sets_of;
 use crate::definitions::refuse_doubled;
@@ -17,7 +16,7 @@ use crate::map::{Map, NONE};
 use crate::messages::{Messages, row_of_message};
 use crate::names::Names;
 use crate::numbers::numbers_of;
-use crate::rows::{Span, file_of, rows_of};
+use crate::rows::{MOST, Span, file_of, rows_of};
 use crate::sets::{Sets, push};
 use crate::walk::Walk;
 use rule_grammar::{Part as Row, RuleGrammar, Table};
@@ -25,9 +24,6 @@ use rule_parts::Part;
 use squawk_kinds::{SyntaxKind, TokenSet};
 use std::alloc::{AllocError, Global};
 use std::marker::Model;
-
-/// The greatest number of parts.
-const MOST: usize = 65000;
 
 /// Rules that are ready to be run.
 #[derive(Drop)]
@@ -52,10 +48,10 @@ impl Model for Rules {
 impl Rules {
     /// The rules of these parts. A file is what the first one says.
     pub fn new<N: Names>(alloc: Global, parts: &[Part<'_>], names: &N) -> Result<Rules, RulesError>
-        ensures err { IfErr result (λ reason. IsFault (vocabulary (N.token_named names.now) (N.node_named names.now) (N.class_named names.now)) parts.now reason) }
+        ensures err { IfErr result (λ reason. IsFault (N.vocabulary names.now) parts.now reason) }
         ensures file { IfOk result (λ rules. IsFileRule parts.now rules.start rules.end) }
-        ensures classes { IfOk result (λ rules. HasClasses (vocabulary (N.token_named names.now) (N.node_named names.now) (N.class_named names.now)) parts.now rules.sets) }
-        ensures rows { IfOk result (λ rules. HasRows (vocabulary (N.token_named names.now) (N.node_named names.now) (N.class_named names.now)) parts.now rules.rows) }
+        ensures classes { IfOk result (λ rules. HasClasses (N.vocabulary names.now) parts.now rules.sets) }
+        ensures rows { IfOk result (λ rules. HasRows (N.vocabulary names.now) parts.now rules.rows) }
     {
         if parts.len() > MOST {
             return Err(RulesError::TooMany);

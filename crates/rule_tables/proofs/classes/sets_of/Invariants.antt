@@ -1,11 +1,10 @@
 use Rattle.std.proofs.Common.{◌≡◌, length, take}
 use Rattle.rule_tables.specs.Classes.{AreClasses, list_has}
 use Rattle.rule_tables.specs.Definitions.{classes_in}
-use Rattle.rule_tables.specs.Vocabulary.{vocabulary}
 use Rattle.rule_tables.proofs.classes.sets_of.Given as goal
 
 abbrev pub invariant-loop-index : goal.invariant-loop-index
 invariant-loop-index g l = record {
   len : length l.sets.items ≡ classes_in (take l.index l.parts);
-  are : AreClasses (vocabulary (g.N.Names.token_named l.names) (g.N.Names.node_named l.names) (g.N.Names.class_named l.names)) l.parts (list_has l.sets.items) l.index;
+  are : AreClasses (g.N.Names.vocabulary l.names) l.parts (list_has l.sets.items) l.index;
 }

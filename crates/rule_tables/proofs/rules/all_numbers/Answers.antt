@@ -1,4 +1,4 @@
-use Rattle.std.proofs.Common.{◌≡◌, ◌+◌, ◌++◌, ◌∷◌, [], ℕ, Some, List, length, length-append, slice_get, arith, ap, sym, subst, refl, ◌∙◌}
+use Rattle.std.proofs.Common.{◌+◌, ◌∷◌, [], ℕ, Some, List, length, length-append, ap, sym, subst, refl, ◌∙◌}
 use Rattle.std.proofs.lemmas.Option.{slice_get_read}
 use Rattle.rule_grammar.specs.Parts.{part_at}
 use Rattle.rule_tables.specs.Rows.{ListsSome}

@@ -1,4 +1,4 @@
-use Rattle.std.proofs.Common.{◌≡◌, ◌<◌, ◌∙◌, arith, length, length-set, refl, ℕ}
+use Rattle.std.proofs.Common.{◌∙◌, arith, length-set}
 use Rattle.rule_tables.proofs.Words.{word_more, words_have_set}
 use Rattle.rule_tables.proofs.rules.words_of.Goals as goal
 

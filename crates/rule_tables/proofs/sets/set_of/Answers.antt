@@ -1,4 +1,4 @@
-use Rattle.std.proofs.Common.{◌≡◌, ◌∙◌, ◌<◌, ◌&&◌, ◌==◌, ap, false, nat_le, sym, arith}
+use Rattle.std.proofs.Common.{◌≡◌, ◌<◌, false, nat_le, arith}
 use Rattle.std.proofs.lemmas.Bool.Decides.{nat_tests}
 use Rattle.squawk_kinds.specs.Kinds.{WHITESPACE}
 use Rattle.squawk_kinds.proofs.TokenSetLemmas.{has-no_kinds}

@@ -1,5 +1,5 @@
 use Rattle.rule_tables.specs.Sets.{Extends}
-use Rattle.std.proofs.Common.{◌+◌, ◌-◌, ◌*◌}
+use Rattle.std.proofs.Common.{◌-◌, ◌*◌}
 use Rattle.rule_tables.proofs.looks.Looks.+decide.Given as goal
 
 abbrev pub decreases-decide_after : goal.decreases-decide_after
