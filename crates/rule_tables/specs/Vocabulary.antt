@@ -1,5 +1,8 @@
 -- What a caller's names stand for.
-use Rattle.std.specs.Prelude.{ℕ, Option, List}
+use Rattle.std.specs.Prelude.{ℕ, Option, List, option_map}
+use Rattle.std.specs.List.{find}
+use Rattle.std.specs.Str.{bytes_eq}
+use denote.Ref.{Bor}
 use Rattle.squawk_kinds.specs.declared.token_set.TokenSet.{TokenSet}
 
 -- the kind of the token and of the node with each name, and the class of tokens
@@ -7,3 +10,7 @@ pub record Vocabulary : Type 0 where
   pub token : List ℕ → Option ℕ
   pub node : List ℕ → Option ℕ
   pub class : List ℕ → Option TokenSet
+
+-- what the first pair with the name has
+abbrev pub named : {X : Type 0} → List (Bor (List ℕ) × X) → List ℕ → Option X
+named pairs name = option_map (λ pair. pair.1) (find (λ pair. bytes_eq name pair.0.now) pairs)

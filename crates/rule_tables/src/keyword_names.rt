@@ -1,7 +1,6 @@
 //! Names by a vocabulary and by lists.
-ghost use Rattle.std.specs.Prelude.{◌≡◌, map};
-ghost use Rattle.std.specs.Map.{lookup};
-ghost use Rattle.std.specs.Str.{bytes_eq};
+ghost use Rattle.std.specs.Prelude.{◌≡◌};
+ghost use Rattle.rule_tables.specs.Vocabulary.{named};
 
 use crate::names::Names;
 use squawk_kinds::{SyntaxKind, TokenSet, Vocabulary};
@@ -19,15 +18,13 @@ pub struct KeywordNames<'n, V> {
 }
 
 impl<'n, V: Vocabulary> Names for KeywordNames<'n, V> {
-    ghost use Rattle.std.specs.Prelude.{map};
-    ghost use Rattle.std.specs.Map.{lookup};
     ghost use Rattle.std.specs.Option.{option_or};
-    ghost use Rattle.std.specs.Str.{bytes_eq};
+    ghost use Rattle.rule_tables.specs.Vocabulary.{named};
 
     ghost vocabulary = { λ names. record {
-        token = λ name. option_or (lookup (bytes_eq name) (map (λ pair. (pair.0.now, pair.1)) names.tokens.now)) (V.keyword names.words.now name);
-        node = λ name. lookup (bytes_eq name) (map (λ pair. (pair.0.now, pair.1)) names.nodes.now);
-        class = λ name. lookup (bytes_eq name) (map (λ pair. (pair.0.now, pair.1)) names.classes.now);
+        token = λ name. option_or (named names.tokens.now name) (V.keyword names.words.now name);
+        node = λ name. named names.nodes.now name;
+        class = λ name. named names.classes.now name;
     } };
 
     fn token(&self, name: &str) -> Option<SyntaxKind> {
@@ -45,24 +42,20 @@ impl<'n, V: Vocabulary> Names for KeywordNames<'n, V> {
 
 /// The kind of the first pair with this name.
 fn kind_in(pairs: &[(&str, SyntaxKind)], name: &str) -> Option<SyntaxKind>
-    ensures { result ≡ lookup (bytes_eq name.now) (map (λ pair. (pair.0.now, pair.1)) pairs.now) }
+    ensures { result ≡ named pairs.now name.now }
 {
-    for (own, kind) in pairs {
-        if name == *own {
-            return Some(*kind);
-        }
+    match pairs.iter().find(|pair| name == pair.0) {
+        Some((_, kind)) => Some(*kind),
+        None => None,
     }
-    None
 }
 
 /// The class of the first pair with this name.
 fn class_in(pairs: &[(&str, TokenSet)], name: &str) -> Option<TokenSet>
-    ensures { result ≡ lookup (bytes_eq name.now) (map (λ pair. (pair.0.now, pair.1)) pairs.now) }
+    ensures { result ≡ named pairs.now name.now }
 {
-    for (own, class) in pairs {
-        if name == *own {
-            return Some(*class);
-        }
+    match pairs.iter().find(|pair| name == pair.0) {
+        Some((_, class)) => Some(*class),
+        None => None,
     }
-    None
 }
