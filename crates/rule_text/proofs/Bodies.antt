@@ -50,11 +50,11 @@ pub arm_behind : {a b c : Reader} {floor : ℕ} → Bumps a b → Reads (λ ws i
 arm_behind bumps r = reads_behind bumps r (λ ps v. v)
 
 pub second_arm_read : {a b : Reader} → sort_at a.words.now a.at ≡ sorts.Or → Reads (λ ws i j ps. OneArm ws 0 (i + 1) j ps) a b
-    → Reads (λ ws i j ps. MoreArms ws i j ps) a b
+    → Reads MoreArms a b
 second_arm_read is r = reads_as r (λ ps v. second_arm is v)
 
-pub further_arm_read : {a b c : Reader} → Reads (λ ws i j ps. MoreArms ws i j ps) a b → sort_at b.words.now b.at ≡ sorts.Or
-    → Reads (λ ws i j ps. OneArm ws 0 (i + 1) j ps) b c → Reads (λ ws i j ps. MoreArms ws i j ps) a c
+pub further_arm_read : {a b c : Reader} → Reads MoreArms a b → sort_at b.words.now b.at ≡ sorts.Or
+    → Reads (λ ws i j ps. OneArm ws 0 (i + 1) j ps) b c → Reads MoreArms a c
 further_arm_read r is more = reads_both r more (λ ps qs v w. further_arm v (sort_back r.words refl is) w)
 
 -- ---- operators
@@ -101,7 +101,7 @@ positive (suc n) h = omega arith
 -- levels begin where one may, and end where none may: there is one
 pub levels_read : {a b : Reader} {n : ℕ} → Reads (λ ws i j ps. Levels ws i n j ps) a b → (n ≡ 0 → b.at ≡ a.at)
     → IsSome (association_of (sort_at a.words.now a.at)) → association_of (sort_at b.words.now b.at) ≡ None
-    → Reads (λ ws i j ps. SomeLevels ws i j ps) a b
+    → Reads SomeLevels a b
 levels_read {a} {b} {n} r still begins ends = reads_as r (λ ps v. levels (positive n none) v)
   where
     same : n ≡ 0 → association_of (sort_at a.words.now a.at) ≡ None
@@ -113,14 +113,14 @@ levels_read {a} {b} {n} r still begins ends = reads_as r (λ ps v. levels (posit
 
 -- ---- bodies
 
-pub choice_of : {a b c d : Reader} {start size : ℕ} → Reads (λ ws i j ps. OneArm ws 0 i j ps) a b → Reads (λ ws i j ps. MoreArms ws i j ps) b c
-    → start ≡ length a.parts.items → size ≡ length c.parts.items - start → Wraps start (parts.Choice size) c d → Reads (λ ws i j ps. Body ws i j ps) a d
+pub choice_of : {a b c d : Reader} {start size : ℕ} → Reads (λ ws i j ps. OneArm ws 0 i j ps) a b → Reads MoreArms b c
+    → start ≡ length a.parts.items → size ≡ length c.parts.items - start → Wraps start (parts.Choice size) c d → Reads Body a d
 choice_of {a} {b} {c} {d} first more from sized wraps =
     let both : Reads (λ ws i j qs. Body ws i j (parts.Choice (length qs) ∷ qs)) a c = reads_both first more (λ ps qs v w. one_of v w) in
     reads_around (λ n. parts.Choice n) both from sized wraps (λ ps v. v)
 
-pub operators_read : {a b c : Reader} {start : ℕ} → Reads (λ ws i j ps. Operands ws i j ps) a b → start ≡ length a.parts.items
-    → Operates start b c → Reads (λ ws i j ps. Body ws i j ps) a c
+pub operators_read : {a b c : Reader} {start : ℕ} → Reads Operands a b → start ≡ length a.parts.items
+    → Operates start b c → Reads Body a c
 operators_read {a} {b} {c} first from o =
     let both : Reads (λ ws i j qs. Body ws i j (parts.Operators (length qs) ∷ qs)) a o.between = reads_both first o.reads (λ ps qs v w. operators v w) in
     reads_around (λ n. parts.Operators n) both from refl o.wraps (λ ps v. v)

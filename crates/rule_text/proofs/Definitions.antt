@@ -32,8 +32,8 @@ member_is (other w) = ap is_end (word_sort w)
 member_is (given w) = ap is_end (word_sort w)
 member_is (without e) = ap is_end e
 
-pub member_read : {a b c d : Reader} {part : Part} → Reads (λ ws i j ps. Members ws i j ps) a b → Member b.words.now b.at part
-    → Adds part b c → Bumps c d → Reads (λ ws i j ps. Members ws i j ps) a d
+pub member_read : {a b c d : Reader} {part : Part} → Reads Members a b → Member b.words.now b.at part
+    → Adds part b c → Bumps c d → Reads Members a d
 member_read {a} {b} {c} {d} {part} r is adds bumps =
     let one : Reads (λ ws i j ps. (k : ℕ) (qs : List Part) → Members ws k i qs → Members ws k j (qs ++ ps)) b d =
     reads_one adds bumps (λ k qs v. member v is) in
@@ -54,9 +54,9 @@ from_start {W} {a} {b} {c} words same ends r = record {
 }
 
 pub class_read : {a b c d e f : Reader} {name equals : Name} {start size : ℕ} → sort_at a.words.now a.at ≡ sorts.ClassOf → Bumps a b
-    → Takes sorts.Class name b c → Takes sorts.Equals equals c d → Reads (λ ws i j ps. Members ws i j ps) d e
+    → Takes sorts.Class name b c → Takes sorts.Equals equals c d → Reads Members d e
     → start ≡ length d.parts.items → size ≡ length e.parts.items - start → Wraps start (parts.Set name size) e f
-    → Reads (λ ws i j ps. Definition ws i j ps) a f
+    → Reads Definition a f
 class_read {a} {b} {c} {d} {e} {f} {name} is bumps named equals r from sized wraps =
     let second : c.words.now ≡ a.words.now = named.bumps.words ∙ bumps.words in
     let third : d.words.now ≡ a.words.now = equals.bumps.words ∙ second in
@@ -68,9 +68,9 @@ class_read {a} {b} {c} {d} {e} {f} {name} is bumps named equals r from sized wra
     from_start third (equals.bumps.parts ∙ (named.bumps.parts ∙ bumps.parts)) (λ _. equals.bumps.ends) inner
 
 pub rule_read : {a b c d e f : Reader} {name message equals : Name} {start size : ℕ} → IsWord a.words.now a.at sorts.Rule name → Bumps a b
-    → Names (λ ws i j message. Called name ws i j message) message b c → Takes sorts.Equals equals c d → Reads (λ ws i j ps. Body ws i j ps) d e
+    → Names (Called name) message b c → Takes sorts.Equals equals c d → Reads Body d e
     → start ≡ length d.parts.items → size ≡ length e.parts.items - start → Wraps start (parts.Rule name message size) e f
-    → Reads (λ ws i j ps. Definition ws i j ps) a f
+    → Reads Definition a f
 rule_read {a} {b} {c} {d} {e} {f} {name} {message} is bumps called equals r from sized wraps =
     let second : c.words.now ≡ a.words.now = called.words ∙ bumps.words in
     let third : d.words.now ≡ a.words.now = equals.bumps.words ∙ second in
@@ -82,7 +82,7 @@ rule_read {a} {b} {c} {d} {e} {f} {name} {message} is bumps called equals r from
     from_start third (equals.bumps.parts ∙ (called.parts ∙ bumps.parts)) (λ _. equals.bumps.ends) inner
 
 pub message_read : {a b : Reader} {name message : Name} → IsWord a.words.now a.at sorts.Message message → Bumps a b
-    → Names (λ ws i j message. Called name ws i j message) message a b
+    → Names (Called name) message a b
 message_read {a} {b} {name} {message} is bumps = record {
   words = bumps.words;
   parts = bumps.parts;

@@ -75,5 +75,5 @@ pub record Names (N : List Word → ℕ → ℕ → Name → Type 0) (name : Nam
 -- Levels of operators are read, and operators put in front of all from one part on.
 pub record Operates (start : ℕ) (old new : Reader) : Type 0 where
   pub between : Reader
-  pub reads : Reads (λ ws i j ps. SomeLevels ws i j ps) old between
+  pub reads : Reads SomeLevels old between
   pub wraps : Wraps start (Operators (length between.parts.items - start)) between new

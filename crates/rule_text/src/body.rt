@@ -1,6 +1,6 @@
 //! The alternatives of a rule, and its operators, a level a line.
-ghost use Rattle.std.specs.Prelude.{◌≡◌, ◌+◌, ◌^◌, ◌<◌, ◌≤◌, None, Some, IsSome, IfSome, OnOk, false, length, true};
-ghost use Rattle.rule_text.specs.Reading.{Operates, Reads, written_as};
+ghost use Rattle.std.specs.Prelude.{◌≡◌, ◌+◌, ◌^◌, ◌<◌, ◌≤◌, IsSome, OnOk, false, length};
+ghost use Rattle.rule_text.specs.Reading.{Operates, Reads};
 ghost use Rattle.rule_text.specs.Rules.{Alternative, Body, MoreArms, OneArm, OneLevel, Operator, SomeLevels, association_of, floor_of};
 ghost use Rattle.rule_text.specs.Written.{is_end, sort_at};
 
@@ -16,7 +16,7 @@ pub const NESTED: u32 = 100;
 /// Alternatives, and operators after them.
 pub(crate) fn body(reader: &mut Reader<'_, '_>) -> Result<(), WordError>
     requires { 0 < reader.old.at }
-    ensures { OnOk result (Reads (λ ws i j ps. Body ws i j ps) reader.old reader.new) }
+    ensures { OnOk result (Reads Body reader.old reader.new) }
 {
     let start = reader.len();
     alternative(reader, 0)?;
@@ -42,7 +42,7 @@ pub(crate) fn body(reader: &mut Reader<'_, '_>) -> Result<(), WordError>
 /// Further alternatives, each after `|`.
 fn more_arms(reader: &mut Reader<'_, '_>) -> Result<(), WordError>
     requires { sort_at reader.old.words.now reader.old.at ≡ Sort.Or }
-    ensures { OnOk result (Reads (λ ws i j ps. MoreArms ws i j ps) reader.old reader.new) }
+    ensures { OnOk result (Reads MoreArms reader.old reader.new) }
 {
     reader.bump();
     arm(reader, 0)?;
@@ -105,7 +105,7 @@ fn alternative(reader: &mut Reader<'_, '_>, floor: usize) -> Result<(), WordErro
 fn levels(reader: &mut Reader<'_, '_>) -> Result<(), WordError>
     requires later { 0 < reader.old.at }
     requires at { IsSome (association_of (sort_at reader.old.words.now reader.old.at)) }
-    ensures { OnOk result (Reads (λ ws i j ps. SomeLevels ws i j ps) reader.old reader.new) }
+    ensures { OnOk result (Reads SomeLevels reader.old reader.new) }
 {
     let mut level = 0usize;
     while let Some(association) = association(reader.sort()) {

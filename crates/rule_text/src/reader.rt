@@ -1,5 +1,5 @@
 //! Words that are read, and the parts that they have given so far.
-ghost use Rattle.std.specs.Prelude.{◌≡◌, ◌≢◌, ◌<◌, ◌≤◌, ◌-◌, ◌+◌, false, true, [], drop, length, IfOk, OnOk};
+ghost use Rattle.std.specs.Prelude.{◌≡◌, ◌≢◌, ◌<◌, ◌≤◌, ◌-◌, false, true, [], drop, length, IfOk, OnOk};
 ghost use Rattle.rule_text.specs.Reading.{Bumps, Takes, Adds, Wraps};
 ghost use Rattle.rule_text.specs.Rules.{names_kind};
 ghost use Rattle.rule_text.specs.Written.{IsWord, is_end, sort_at};

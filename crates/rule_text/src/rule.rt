@@ -1,9 +1,9 @@
 //! Classes and rules.
-ghost use Rattle.std.specs.Prelude.{◌≡◌, ◌≤◌, IfOk, IfErr, IfSome, OnOk, false, length, true};
+ghost use Rattle.std.specs.Prelude.{◌≡◌, ◌≤◌, IfOk, IfErr, IfSome, OnOk, length};
 ghost use Rattle.rule_text.specs.Read.{IsRead, Refuses};
 ghost use Rattle.rule_text.specs.Reading.{Names, Reads};
 ghost use Rattle.rule_text.specs.Rules.{Called, Definition, Members, Member, Rules};
-ghost use Rattle.rule_text.specs.Written.{IsWord, is_end, sort_at};
+ghost use Rattle.rule_text.specs.Written.{sort_at};
 
 use crate::body::body;
 use crate::error::{ReadError, WordError};
@@ -30,7 +30,7 @@ pub fn read(alloc: Global, text: &str) -> Result<Vec<Part<'_>>, ReadError>
 
 /// Classes and rules, one after another.
 fn definitions(reader: &mut Reader<'_, '_>) -> Result<(), WordError>
-    ensures reads { OnOk result (Reads (λ ws i j ps. Rules ws i j ps) reader.old reader.new) }
+    ensures reads { OnOk result (Reads Rules reader.old reader.new) }
     ensures all { OnOk result (length reader.new.words.now ≤ reader.new.at) }
 {
     while !reader.is_done() {
@@ -41,7 +41,7 @@ fn definitions(reader: &mut Reader<'_, '_>) -> Result<(), WordError>
 
 /// A class or a rule.
 fn definition(reader: &mut Reader<'_, '_>) -> Result<(), WordError>
-    ensures { OnOk result (Reads (λ ws i j ps. Definition ws i j ps) reader.old reader.new) }
+    ensures { OnOk result (Reads Definition reader.old reader.new) }
 {
     match reader.sort() {
         Sort::ClassOf => class(reader),
@@ -53,7 +53,7 @@ fn definition(reader: &mut Reader<'_, '_>) -> Result<(), WordError>
 /// `class Name = KIND Other -KIND`
 fn class(reader: &mut Reader<'_, '_>) -> Result<(), WordError>
     requires { sort_at reader.old.words.now reader.old.at ≡ Sort.ClassOf }
-    ensures { OnOk result (Reads (λ ws i j ps. Definition ws i j ps) reader.old reader.new) }
+    ensures { OnOk result (Reads Definition reader.old reader.new) }
 {
     reader.bump();
     let name = reader.expect(Sort::Class, "the name of a class")?;
@@ -66,7 +66,7 @@ fn class(reader: &mut Reader<'_, '_>) -> Result<(), WordError>
 
 /// The members of a class.
 fn members(reader: &mut Reader<'_, '_>) -> Result<(), WordError>
-    ensures { OnOk result (Reads (λ ws i j ps. Members ws i j ps) reader.old reader.new) }
+    ensures { OnOk result (Reads Members reader.old reader.new) }
 {
     while let Some(part) = member(reader) {
         reader.push(part)?;
@@ -92,7 +92,7 @@ fn member<'t>(reader: &Reader<'_, 't>) -> Option<Part<'t>>
 /// `rule "message" = ..`
 fn rule(reader: &mut Reader<'_, '_>) -> Result<(), WordError>
     requires { sort_at reader.old.words.now reader.old.at ≡ Sort.Rule }
-    ensures { OnOk result (Reads (λ ws i j ps. Definition ws i j ps) reader.old reader.new) }
+    ensures { OnOk result (Reads Definition reader.old reader.new) }
 {
     let name = reader.name();
     reader.bump();
@@ -111,7 +111,7 @@ fn rule(reader: &mut Reader<'_, '_>) -> Result<(), WordError>
 
 /// What errors call the rule.
 fn message<'t>(reader: &mut Reader<'_, 't>, name: Name<'t>) -> Name<'t>
-    ensures { Names (λ ws i j message. Called name.entry ws i j message) result reader.old reader.new }
+    ensures { Names (Called name.entry) result reader.old reader.new }
 {
     if !reader.is_at(Sort::Message) {
         return name;

@@ -4,7 +4,7 @@ use Rattle.rule_text.specs.Rules.{Rules}
 use Rattle.rule_text.proofs.rule.definitions.Given as goal
 
 abbrev pub invariant-loop-reader : goal.invariant-loop-reader
-invariant-loop-reader l = Reads (λ ws i j ps. Rules ws i j ps) l.fn.reader l.reader
+invariant-loop-reader l = Reads Rules l.fn.reader l.reader
 
 abbrev pub decreases-loop-reader : goal.decreases-loop-reader
 decreases-loop-reader l = length l.reader.words.now - l.reader.at
