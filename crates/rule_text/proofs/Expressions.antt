@@ -147,7 +147,7 @@ pub goes : {ws : List Word} {floor i j : ℕ} {form : Form} {ps : List Part} →
 goes (token w) = omega arith
 goes (class w) = omega arith
 goes (call w) = omega arith
-goes (operand e) = omega arith
+goes (operand e _) = omega arith
 goes (becomes e f w) = omega arith
 goes (group e v f) = let h = goes v in omega (arith, h)
 goes (list e v s f) = let h = goes v in let k = separator_goes s in omega (arith, h, k)

@@ -1,5 +1,5 @@
 -- How what stands on the right of `=` is written: which words give which parts.
-use Rattle.std.specs.Prelude.{◌≡◌, ℕ, ◌+◌, Bool, true, false, Option, Some, None, List, [], ◌∷◌, ◌++◌, length, slice_get}
+use Rattle.std.specs.Prelude.{◌≡◌, ℕ, ◌+◌, ◌<◌, Bool, true, false, Option, Some, None, List, [], ◌∷◌, ◌++◌, length, slice_get}
 use Rattle.rule_parts.specs.declared.Part.{Part}
 use Rattle.rule_parts.specs.declared.Part.TheVariants.{Token, Class, Call, Becomes, Choice, Arm, Optional, Repeat, Some as Once, List as Items, Operand}
 use Rattle.rule_parts.specs.declared.Name.{Name}
@@ -52,7 +52,8 @@ pub data Written (ws : List Word) (floor : ℕ) : Form → ℕ → ℕ → List 
   token : {i : ℕ} {name : Name} → IsWord ws i sorts.Kind name → Written ws floor atom i (i + 1) (Token name ∷ [])
   class : {i : ℕ} {name : Name} → IsWord ws i sorts.Class name → Written ws floor atom i (i + 1) (Class name ∷ [])
   call : {i : ℕ} {name : Name} → IsWord ws i sorts.Call name → Written ws floor atom i (i + 1) (Call name ∷ [])
-  operand : {i : ℕ} → sort_at ws i ≡ sorts.Operand → Written ws floor atom i (i + 1) (Operand floor ∷ [])
+  -- in operators alone, whose levels begin at 1
+  operand : {i : ℕ} → sort_at ws i ≡ sorts.Operand → 0 < floor → Written ws floor atom i (i + 1) (Operand floor ∷ [])
   -- => KIND
   becomes : {i : ℕ} {name : Name} → sort_at ws i ≡ sorts.Equals → sort_at ws (i + 1) ≡ sorts.Greater → IsWord ws (i + 2) sorts.Kind name
       → Written ws floor atom i (i + 3) (Becomes name ∷ [])

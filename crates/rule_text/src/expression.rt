@@ -121,7 +121,7 @@ fn atom(reader: &mut Reader<'_, '_>, floor: usize, depth: u32) -> Result<(), Wor
         Sort::Kind => one(reader, Part::Token { name }),
         Sort::Class => one(reader, Part::Class { name }),
         Sort::Call => one(reader, Part::Call { name }),
-        Sort::Operand => one(reader, Part::Operand { floor }),
+        Sort::Operand if floor > 0 => one(reader, Part::Operand { floor }),
         Sort::OpenParen => group(reader, floor, depth),
         Sort::OpenBrace => list(reader, floor, depth),
         _ => becomes(reader),
@@ -141,7 +141,7 @@ fn one<'t>(reader: &mut Reader<'_, 't>, part: Part<'t>) -> Result<(), WordError>
 fn becomes(reader: &mut Reader<'_, '_>) -> Result<(), WordError>
     ensures { (floor : ℕ) → OnOk result (Reads (written_as atom floor) reader.old reader.new) }
 {
-    reader.expect(Sort::Equals, "=>")?;
+    reader.expect(Sort::Equals, "a name, a bracket or =>")?;
     reader.expect(Sort::Greater, "=>")?;
     let name = reader.expect(Sort::Kind, "the kind of a node")?;
     reader.push(Part::Becomes { name })?;

@@ -116,12 +116,14 @@ fn reads_rules(rt: HostRuntime) -> Result<(), Fail> {
 
 /// Texts that are no rules, and where the first word stands that is none of those that may.
 #[rattlefmt::skip]
-static ERRORS: [(&str, &str); 12] = [
+static ERRORS: [(&str, &str); 13] = [
     ("a = (B\n", "2:1: expected | or )"),
     ("a = {b\nc = D\n", "2:1: expected |, % or }"),
     ("a = {b % c}\n", "1:10: expected a separator"),
     ("a = => b\n", "1:8: expected the kind of a node"),
     ("a = = b\n", "1:7: expected =>"),
+    // Operands stand in operators alone.
+    ("a = _\n", "1:5: expected a name, a bracket or =>"),
     ("a B\n", "1:3: expected ="),
     ("class Ab\n\n  CD\n", "3:3: expected ="),
     ("class = X\n", "1:7: expected the name of a class"),

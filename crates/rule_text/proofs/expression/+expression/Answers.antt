@@ -1,4 +1,4 @@
-use Rattle.std.proofs.Common.{refl, sym, ap, ◌≡◌, ◌∙◌}
+use Rattle.std.proofs.Common.{arith, refl, sym, ap, ◌≡◌, ◌∙◌}
 use Rattle.rule_parts.specs.declared.Part.TheVariants as parts
 use Rattle.rule_text.specs.declared.word.Sort.TheVariants as sorts
 use Rattle.rule_text.specs.Written.{is_end, sort_at}
@@ -70,7 +70,7 @@ atom-returns-in-Call t c =
 pub atom-returns-in-Operand : goal.atom-returns-in-Operand
 atom-returns-in-Operand t c =
     let is : sort_at c.args.reader.now.words.now c.args.reader.now.at ≡ sorts.Operand = sym c.sort.ensures ∙ c.in-Operand.is in
-    on_ok c.one-in-Operand.result (λ r. one_read (operand is) r) (c.one-in-Operand.ensures (ap is_end is))
+    on_ok c.one-in-Operand.result (λ r. one_read (operand is (omega arith)) r) (c.one-in-Operand.ensures (ap is_end is))
 
 pub group-returns : goal.group-returns
 group-returns t c = group_read c.requires c.in_ok-nested.ensures (c.in_ok-expect.ensures refl)
