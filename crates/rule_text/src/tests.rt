@@ -44,7 +44,7 @@ fn shown(alloc: Global, text: &str) -> Result<String, Fail> {
 
 /// Texts, and their parts.
 #[rattlefmt::skip]
-static RULES: [(&str, &str); 17] = [
+static RULES: [(&str, &str); 16] = [
     ("", ""),
     ("name = IDENT\n", "Rule name (name) 1; Token IDENT; "),
     ("name \"a name\" = 'x'", "Rule name (a name) 1; Token x; "),
@@ -94,7 +94,6 @@ static RULES: [(&str, &str); 17] = [
         "Rule e (e) 7; Operators { size: 6 }; Arm { size: 1 }; Token A; \
          Tail { level: 1, association: Left, size: 3 }; Optional { size: 2 }; Token x; Operand { floor: 2 }; ",
     ),
-    ("a = _\n", "Rule a (a) 1; Operand { floor: 0 }; "),
     // A rule ends where a name begins a line. Comments and white space stand anywhere.
     (
         "-- one\na = B\n  c /* two */ d\nb = C\nclass Ef = G",
