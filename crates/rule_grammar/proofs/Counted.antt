@@ -1,14 +1,14 @@
 -- That an error that is told is recorded.
-use Rattle.std.specs.Prelude.{◌≡◌, ℕ, ◌+◌, ◌≤◌, false, Option, Some, None, List, [], ◌∷◌, ◌++◌}
-use Rattle.std.proofs.Common.{arith, ap, sym, ◌∙◌, refl}
-use Rattle.squawk_output.specs.Draft.{Close, Item, Mark, Node, OpenMarker, errors_of}
+use Rattle.std.specs.Prelude.{◌≡◌, ℕ, ◌+◌, ◌≤◌, Option, Some, None, List, [], ◌∷◌, ◌++◌}
+use Rattle.std.proofs.Common.{arith, ap, ◌∙◌, refl}
+use Rattle.squawk_output.specs.Draft.{Close, Mark, Node, errors_of}
 use Rattle.squawk_output.specs.Edits.{filled}
 use Rattle.squawk_output.specs.Steps.{Step, errors_in}
 use Rattle.squawk_output.specs.declared.log.Made.TheVariants.{ByPrecede}
 use Rattle.squawk_output.proofs.EditedErrors.{errors-append, errors-filled, errors-preceded}
-use Rattle.squawk_parser.specs.Recorded.{Begins, Completes, Precedes, Puts}
+use Rattle.squawk_parser.specs.Recorded.{Completes, Precedes, Puts}
 use Rattle.squawk_parser.specs.SomeSteps.{AddsSome, HasAdded, open_markers_for}
-use Rattle.squawk_parser.specs.State.{State, HasNotFailed, Keeps}
+use Rattle.squawk_parser.specs.State.{State}
 use Rattle.squawk_parser.proofs.RecordedSteps.{Keeps-then, went}
 use Rattle.squawk_parser.proofs.StepsInOrder.{RecordsSteps-puts}
 use Rattle.rule_grammar.specs.Derivations.{Counts, weight}

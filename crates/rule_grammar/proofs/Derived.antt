@@ -1,7 +1,7 @@
 -- From part to part: what is derived by calls one after another.
-use Rattle.std.specs.Prelude.{◌≡◌, ℕ, ◌+◌, ◌≤◌, Bool, true, false, Option, Some, None, List, [], IsSome}
+use Rattle.std.specs.Prelude.{◌≡◌, ℕ, ◌≤◌, true, false, Option, None, [], IsSome}
 use Rattle.squawk_parser.specs.SomeSteps.{AddsSome}
-use Rattle.std.proofs.Common.{sym, subst, ap, ◌∙◌, refl}
+use Rattle.std.proofs.Common.{sym, subst, ap, ◌∙◌}
 use Rattle.squawk_parser.specs.State.{State, Keeps}
 use Rattle.rule_grammar.specs.declared.table.Table.{Table}
 use Rattle.rule_grammar.specs.Derivations.{Text, text_of, Span, Derives, Derived, IfClean, next_of}

@@ -1,19 +1,19 @@
 -- The rule of a file.
-use Rattle.std.specs.Prelude.{◌≡◌, ℕ, ◌+◌, ◌≤◌, Option, Some, None, List, length}
-use Rattle.std.proofs.Common.{arith, ap, sym, subst, ◌∙◌, refl}
+use Rattle.std.specs.Prelude.{◌≡◌, ℕ, ◌+◌, ◌≤◌, None, length}
+use Rattle.std.proofs.Common.{arith, ap, sym, subst, ◌∙◌}
 use Rattle.squawk_kinds.specs.Kinds.{EOF}
 use Rattle.squawk_output.specs.Draft.{Mark, errors_of}
 use Rattle.squawk_parser.specs.Recorded.{Begins, Completes}
 use Rattle.squawk_parser.specs.SomeSteps.{AddsSome}
-use Rattle.squawk_parser.specs.State.{State, HasNotFailed, IsFresh, IsSound, Keeps, kind_at}
+use Rattle.squawk_parser.specs.State.{State, HasNotFailed, IsFresh, kind_at}
 use Rattle.squawk_parser.specs.Words.{Words}
 use Rattle.squawk_parser.proofs.RecordedSteps.{went}
-use Rattle.squawk_parser.proofs.SomeSteps.{none_some, whole_some}
+use Rattle.squawk_parser.proofs.SomeSteps.{whole_some}
 use Rattle.squawk_parser.proofs.WholeSteps.{at_end}
 use Rattle.rule_grammar.specs.declared.table.Table.{Table}
 use Rattle.rule_grammar.specs.Derivations.{Text, text_of, Derives, IsFile, weight}
 use Rattle.rule_grammar.specs.Derivations.Span.{block}
-use Rattle.rule_grammar.proofs.Derived.{same_text, some_then}
+use Rattle.rule_grammar.proofs.Derived.{same_text}
 use Rattle.rule_grammar.proofs.Counted.{counts_some, counts_completed}
 
 -- some steps were added, and where none is an error, the rule derives the tokens

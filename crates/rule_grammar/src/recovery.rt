@@ -14,12 +14,7 @@ use squawk_parser::{CompletedMarker, Parser, SyntaxKind};
 /// are skipped, into a node of kind ERROR.
 #[cold]
 #[inline(never)]
-pub(crate) fn missing(
-    rule: &Open<'_>,
-    row: u16,
-    told: &mut Told,
-    p: &mut Parser<'_>,
-)
+pub(crate) fn missing(rule: &Open<'_>, row: u16, told: &mut Told, p: &mut Parser<'_>)
     requires { IsSound p.old }
     ensures adds { AddsSome p.old p.new }
     ensures tells { IsSome told.new.place }
@@ -37,12 +32,7 @@ pub(crate) fn missing(
 
 /// Tells that what is in a row is missing, if the token at the position can't begin it.
 #[inline(always)]
-pub(crate) fn expect_one(
-    rule: &Open<'_>,
-    row: u16,
-    told: &mut Told,
-    p: &mut Parser<'_>,
-)
+pub(crate) fn expect_one(rule: &Open<'_>, row: u16, told: &mut Told, p: &mut Parser<'_>)
     requires { IsSound p.old }
     ensures adds { AddsSome p.old p.new }
     ensures told { IfClean told.old.place told.new.place (p.new.position ≡ p.old.position) }
@@ -171,12 +161,7 @@ fn unclosed_after(unclosed: usize, kind: SyntaxKind) -> usize {
 /// Whether what is in a row stands at the position. Where it doesn't and the token can't stand after it either, that is
 /// an error, and tokens are skipped.
 #[inline(always)]
-pub(crate) fn is_next(
-    rule: &Open<'_>,
-    row: u16,
-    told: &mut Told,
-    p: &mut Parser<'_>,
-) -> bool
+pub(crate) fn is_next(rule: &Open<'_>, row: u16, told: &mut Told, p: &mut Parser<'_>) -> bool
     requires { IsSound p.old }
     ensures adds { AddsSome p.old p.new }
     ensures told { IfClean told.old.place told.new.place (p.new.position ≡ p.old.position) }
@@ -190,12 +175,7 @@ pub(crate) fn is_next(
 }
 
 /// Whether it stands after tokens that are skipped.
-fn is_after_others(
-    rule: &Open<'_>,
-    row: u16,
-    told: &mut Told,
-    p: &mut Parser<'_>,
-) -> bool
+fn is_after_others(rule: &Open<'_>, row: u16, told: &mut Told, p: &mut Parser<'_>) -> bool
     requires { IsSound p.old }
     ensures adds { AddsSome p.old p.new }
     ensures told { IfClean told.old.place told.new.place (p.new.position ≡ p.old.position) }
@@ -210,12 +190,7 @@ fn is_after_others(
 }
 
 /// Whether the token at the position stands at a place where no open rule goes on.
-fn is_unexpected(
-    rule: &Open<'_>,
-    row: u16,
-    told: &mut Told,
-    p: &Parser<'_>,
-) -> bool
+fn is_unexpected(rule: &Open<'_>, row: u16, told: &mut Told, p: &Parser<'_>) -> bool
     ensures { told.new.place ≡ told.old.place }
 {
     let place = p.position();
@@ -337,9 +312,7 @@ fn bump_out(rule: &Open<'_>, row: u16, p: &mut Parser<'_>)
     ensures { AddsSome p.old p.new }
 {
     let mut unclosed = 0usize;
-    while p.current() != SyntaxKind::EOF
-        && (unclosed > 0 || !rule.may_follow(row, p.current()))
-    {
+    while p.current() != SyntaxKind::EOF && (unclosed > 0 || !rule.may_follow(row, p.current())) {
         unclosed = unclosed_after(unclosed, p.current());
         p.bump_any();
     }

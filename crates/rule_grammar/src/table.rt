@@ -241,7 +241,13 @@ impl<'r> Table<'r> {
     /// The operator that stands at the position and whose level is `floor` at least, of those in a row of operators
     /// that ends there.
     #[inline(always)]
-    pub(crate) fn operator(&self, row: u16, end: u16, floor: u16, p: &Parser<'_>) -> Option<Operator>
+    pub(crate) fn operator(
+        &self,
+        row: u16,
+        end: u16,
+        floor: u16,
+        p: &Parser<'_>,
+    ) -> Option<Operator>
         requires { row < 65535 }
         ensures later { IfSome result (λ operator. row + 1 < operator.block.start) }
         ensures is { IfSome result (λ operator. IsTail self.now.rows.now (row + 1) end operator.block.start operator.block.end operator.level operator.ceiling) }

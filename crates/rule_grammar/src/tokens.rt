@@ -87,13 +87,7 @@ fn eats(kind: SyntaxKind, p: &mut Parser<'_>) -> bool
 }
 
 /// A token whose kind is in a set, also after an error.
-pub(crate) fn class(
-    rule: &Open<'_>,
-    row: u16,
-    set: u16,
-    told: &mut Told,
-    p: &mut Parser<'_>,
-)
+pub(crate) fn class(rule: &Open<'_>, row: u16, set: u16, told: &mut Told, p: &mut Parser<'_>)
     requires { IsSound p.old }
     ensures adds { AddsSome p.old p.new }
     ensures told { IfClean told.old.place told.new.place ((set_has rule.now.table.now.sets.now set (kind_at p.old 0) ≡ true) × (p.new.position ≡ p.old.position + 1)) }
@@ -117,13 +111,7 @@ fn bump_class(rule: &Open<'_>, set: u16, p: &mut Parser<'_>)
 }
 
 /// The same, as an identifier.
-pub(crate) fn name(
-    rule: &Open<'_>,
-    row: u16,
-    set: u16,
-    told: &mut Told,
-    p: &mut Parser<'_>,
-)
+pub(crate) fn name(rule: &Open<'_>, row: u16, set: u16, told: &mut Told, p: &mut Parser<'_>)
     requires { IsSound p.old }
     ensures adds { AddsSome p.old p.new }
     ensures told { IfClean told.old.place told.new.place ((set_has rule.now.table.now.sets.now set (kind_at p.old 0) ≡ true) × (p.new.position ≡ p.old.position + 1)) }

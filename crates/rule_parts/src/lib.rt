@@ -14,7 +14,10 @@ pub struct Name<'t> {
 #[derive(Clone, Copy, Debug, PartialEq, Eq)]
 pub enum Part<'t> {
     /// A class of tokens: the union of the members in it.
-    Set { name: Name<'t>, size: usize },
+    Set {
+        name: Name<'t>,
+        size: usize,
+    },
     /// A member of a class: the kinds of the member after it are taken away.
     Without,
     /// A rule, and what errors call it: its name if the text says nothing else.
@@ -24,29 +27,54 @@ pub enum Part<'t> {
         size: usize,
     },
     /// A token of the kind with this name or spelling.
-    Token { name: Name<'t> },
+    Token {
+        name: Name<'t>,
+    },
     /// A token of the class.
-    Class { name: Name<'t> },
+    Class {
+        name: Name<'t>,
+    },
     /// What the rule says; in a class the kinds of one that the caller gives.
-    Call { name: Name<'t> },
+    Call {
+        name: Name<'t>,
+    },
     /// A node around what is in it. Its kind is the last one that is named in it.
-    Node { size: usize },
+    Node {
+        size: usize,
+    },
     /// The kind of the node around it.
-    Becomes { name: Name<'t> },
+    Becomes {
+        name: Name<'t>,
+    },
     /// One of the arms in it.
-    Choice { size: usize },
+    Choice {
+        size: usize,
+    },
     /// An arm of a choice, an operand or a prefix operator.
-    Arm { size: usize },
+    Arm {
+        size: usize,
+    },
     /// What is in it, or nothing.
-    Optional { size: usize },
+    Optional {
+        size: usize,
+    },
     /// What is in it, any number of times.
-    Repeat { size: usize },
+    Repeat {
+        size: usize,
+    },
     /// What is in it, once or more.
-    Some { size: usize },
+    Some {
+        size: usize,
+    },
     /// What is in it, once or more, with separators: tokens of the kind with this name or spelling.
-    List { size: usize, separator: Name<'t> },
+    List {
+        size: usize,
+        separator: Name<'t>,
+    },
     /// Operands, which are arms, and operators after them.
-    Operators { size: usize },
+    Operators {
+        size: usize,
+    },
     /// An operator that stands after its first operand.
     Tail {
         level: usize,
@@ -54,7 +82,9 @@ pub enum Part<'t> {
         size: usize,
     },
     /// An operand of an operator: operators in it have this level at least.
-    Operand { floor: usize },
+    Operand {
+        floor: usize,
+    },
 }
 
 /// Which operators of the same level may stand beside one another without parentheses.

@@ -8,7 +8,7 @@ use Rattle.rule_parts.specs.declared.Part.TheVariants as part
 use Rattle.rule_parts.specs.declared.Association.{Association}
 use Rattle.rule_parts.specs.declared.Association.TheVariants.{Left, Right, Neither}
 use Rattle.rule_grammar.specs.declared.part.Part as row
-use Rattle.rule_tables.specs.Rows.{AreRows, HasRows, SayRows, call_of, call_of_rule, ceiling, is_exact, row_at, row_by, row_in, row_of, members_end, operators_before}
+use Rattle.rule_tables.specs.Rows.{AreRows, call_of, call_of_rule, ceiling, is_exact, row_at, row_by, row_in, row_of, members_end, operators_before}
 use Rattle.rule_tables.specs.Definitions.{definition_of}
 use Rattle.rule_tables.specs.Vocabulary.{Vocabulary}
 
@@ -83,7 +83,3 @@ pub rows_exact : (v : Vocabulary) (parts : List Part) (rows : List row.Part) →
 rows_exact v parts rows len are i d lt =
     let is : row_in v parts i ≡ Some (get_or rows i d) = sym (are i (omega (arith, lt, len))) ∙ slice_get-get_or rows i d lt in
     subst (λ (found : Option row.Part). IfSome found IsExact) is (exact_at v parts i (slice_get parts i))
-
--- the rows of a table, by those that its rows say
-pub has_rows : (v : Vocabulary) (parts : List Part) (rows : List row.Part) (numbers : List (List ℕ)) → length rows ≡ length parts → AreRows v parts rows → SayRows rows numbers → HasRows v parts numbers
-has_rows v parts rows numbers len are say i lt = sym (are i lt) ∙ say i (omega (arith, lt, len))

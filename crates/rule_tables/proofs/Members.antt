@@ -1,6 +1,5 @@
 -- The members of a class, one after another.
-use Rattle.std.proofs.Common.{◌≡◌, ℕ, ◌+◌, ◌<◌, ◌&&◌, ◌∙◌, Bool, false, inl, inr, List, [], ◌∷◌, Option, Some, None, length, get_or, slice_get, take, drop, nat_lt, add-one, arith, refl, sym, ap, subst}
-use Rattle.std.proofs.Math.Seq.{drop-cons}
+use Rattle.std.proofs.Common.{◌≡◌, ℕ, ◌+◌, ◌<◌, ◌&&◌, ◌∙◌, Bool, false, inl, inr, List, [], ◌∷◌, Option, Some, None, length, get_or, slice_get, take, drop, nat_lt, arith, refl, sym, ap, subst}
 use Rattle.std.proofs.lemmas.Bool.{cases_Bool}
 use Rattle.std.proofs.lemmas.Bool.Decides.{nat_tests}
 use Rattle.std.proofs.lemmas.List.{get_or-drop, get_or-take, length-drop, length-take}
@@ -33,11 +32,6 @@ no_member v parts holds count kind (part.List size separator) t c r = refl
 no_member v parts holds count kind (part.Operators size) t c r = refl
 no_member v parts holds count kind (part.Tail level association size) t c r = refl
 no_member v parts holds count kind (part.Operand floor) t c r = refl
-
--- one member more
-pub members_step : (member : Part → Bool) (before without : Bool) (ps : List Part) (i : ℕ) (d : Part) → i < length ps
-    → members_have member (joined without before (member (get_or ps i d))) (is_without (get_or ps i d)) (drop (i + 1) ps) ≡ members_have member before without (drop i ps)
-members_step member before without ps i d lt = rw (add-one, drop-cons ps i d lt) refl
 
 -- which part a member is
 pub member_is : (parts : List Part) (class size i : ℕ) (d : Part) → i < length (members_of parts class size) → slice_get parts (class + 1 + i) ≡ Some (get_or (members_of parts class size) i d)

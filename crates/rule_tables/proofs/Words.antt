@@ -1,5 +1,5 @@
 -- The words of a set in a table: four of 16 bits for each of its own.
-use Rattle.std.proofs.Common.{◌≡◌, ℕ, ◌+◌, ◌-◌, ◌*◌, ◌/◌, ◌%◌, ◌^◌, ◌<◌, ◌≤◌, ◌++◌, ◌∷◌, [], ◌==◌, ◌∙◌, inl, inr, List, Option, Some, length, take, get_or, get_or-set_same, get_or-set_other, set, slice_get, slice_index, leb, leb-true, leb-false, arith, sym, subst, ap}
+use Rattle.std.proofs.Common.{◌≡◌, ℕ, ◌+◌, ◌-◌, ◌*◌, ◌/◌, ◌%◌, ◌^◌, ◌<◌, ◌≤◌, ◌==◌, ◌∙◌, inl, inr, List, Option, Some, length, take, get_or, get_or-set_same, get_or-set_other, set, slice_get, slice_index, leb, leb-true, leb-false, arith, sym, subst, ap}
 use Rattle.std.specs.Int.{bit_at}
 use Rattle.std.proofs.lemmas.Bool.{cases_Bool, cases_eq}
 use Rattle.std.proofs.lemmas.Nat.{shr-shr, field_of}
@@ -12,11 +12,10 @@ use Rattle.squawk_kinds.proofs.TokenSetLemmas.{has-other, has-token}
 use Rattle.rule_grammar.specs.Parts.{set_has, word_has, words_have}
 use Rattle.std.proofs.Math.Seq.{take-length}
 use Rattle.rule_parts.specs.declared.Part.{Part}
-use Rattle.rule_tables.specs.Classes.{AreClasses, HasClasses, list_has, some_has}
+use Rattle.rule_tables.specs.Classes.{AreClasses, HasClasses, list_has}
 use Rattle.rule_tables.specs.Definitions.{classes_in}
 use Rattle.rule_tables.specs.Vocabulary.{Vocabulary}
-use Rattle.rule_tables.specs.Sets.{Extends, HaveSets, word_of}
-use Rattle.rule_tables.proofs.Lists.{slice_get-front, slice_get-seam}
+use Rattle.rule_tables.specs.Sets.{HaveSets, word_of}
 use Rattle.rule_tables.proofs.MoreClasses.{classes_same}
 
 -- bit r of 16 bits of a number is one of the number's
@@ -52,18 +51,6 @@ words_have_set set words len each kind =
           ap (λ (found : Option ℕ). word_has found (kind % 16)) (slice_get_past words (kind / 16) (omega (arith, lt, len))) ∙ sym (has-other set kind lt)
     ]
 
--- one set more
-pub have_more : (sets : List TokenSet) (words : List (List ℕ)) (n : ℕ) (d : TokenSet) (last : List ℕ) → n ≡ length words → n < length sets → ((kind : ℕ) → words_have (Some last) kind ≡ has (get_or sets n d) kind)
-    → HaveSets sets words n → HaveSets sets (words ++ last ∷ []) (n + 1)
-have_more sets words n d last len lt is have k less kind =
-    elim (cases_eq k n) [
-      | inl same ↦
-          let at_end : slice_get (words ++ last ∷ []) n ≡ Some last = subst (λ (q : ℕ). slice_get (words ++ last ∷ []) q ≡ Some last) (sym len) (slice_get-seam words last) in
-          rw same (ap (λ (found : Option (List ℕ)). words_have found kind) at_end ∙ is kind ∙ sym (ap (λ (found : Option TokenSet). some_has found kind) (slice_get-get_or sets n d lt)))
-      | inr other ↦
-          ap (λ (found : Option (List ℕ)). words_have found kind) (slice_get-front words (last ∷ []) k (omega (arith, less, other, len))) ∙ have k (omega (arith, less, other)) kind
-    ]
-
 -- one word more
 pub word_more : (words : List ℕ) (s : TokenSet) (i v : ℕ) → i < length words → v ≡ word_of s i → ((n : ℕ) → n < i → get_or words n 0 ≡ word_of s n) → (n : ℕ) → n < i + 1 → get_or (set words i v) n 0 ≡ word_of s n
 word_more words s i v within is before n lt =
@@ -71,11 +58,6 @@ word_more words s i v within is before n lt =
       | inl same ↦ rw same (get_or-set_same words i v 0 within ∙ is)
       | inr other ↦ get_or-set_other words i n v 0 other ∙ before n (omega (arith, lt, other))
     ]
-
--- the words of longer lists of sets
-pub have_longer : (sets all : List TokenSet) (words : List (List ℕ)) → Extends sets all → HaveSets all words (length all) → HaveSets sets words (length sets)
-have_longer sets all words extends have k lt kind =
-    have k (omega (arith, lt, extends.longer)) kind ∙ ap (λ (found : Option TokenSet). some_has found kind) (extends.same k lt)
 
 -- the sets of a table, by those that its words have
 pub has_classes : (v : Vocabulary) (parts : List Part) (sets : List TokenSet) (words : List (List ℕ)) → length sets ≡ classes_in parts → AreClasses v parts (list_has sets) (length parts) → HaveSets sets words (length sets) → HasClasses v parts words

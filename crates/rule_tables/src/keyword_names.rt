@@ -22,9 +22,9 @@ impl<'n, V: Vocabulary> Names for KeywordNames<'n, V> {
     ghost use Rattle.rule_tables.specs.Vocabulary.{named};
 
     ghost vocabulary = { λ names. record {
-        token = λ name. option_or (named names.tokens.now name) (V.keyword names.words.now name);
-        node = λ name. named names.nodes.now name;
-        class = λ name. named names.classes.now name;
+      token = λ name. option_or (named names.tokens.now name) (V.keyword names.words.now name);
+      node = λ name. named names.nodes.now name;
+      class = λ name. named names.classes.now name;
     } };
 
     fn token(&self, name: &str) -> Option<SyntaxKind> {

@@ -25,15 +25,33 @@ static REFUSALS: [(&str, Option<RulesError>); 12] = [
     ("file = Word", Some(RulesError::Undefined { part: 1 })),
     // A class may name those before it, and those that the caller gives.
     ("class One = literal\nclass Two = One\nfile = Two", None),
-    ("class Two = One\nclass One = IDENT\nfile = Two", Some(RulesError::Undefined { part: 1 })),
-    ("class One = other\nfile = One", Some(RulesError::Undefined { part: 1 })),
-    ("file = IDENT\nfile = IDENT", Some(RulesError::Doubled { part: 2 })),
+    (
+        "class Two = One\nclass One = IDENT\nfile = Two",
+        Some(RulesError::Undefined { part: 1 }),
+    ),
+    (
+        "class One = other\nfile = One",
+        Some(RulesError::Undefined { part: 1 }),
+    ),
+    (
+        "file = IDENT\nfile = IDENT",
+        Some(RulesError::Doubled { part: 2 }),
+    ),
     ("file = OTHER", Some(RulesError::UnknownKind { part: 1 })),
-    ("file = IDENT => OTHER", Some(RulesError::UnknownKind { part: 3 })),
-    ("file = {IDENT % OTHER}", Some(RulesError::UnknownKind { part: 1 })),
+    (
+        "file = IDENT => OTHER",
+        Some(RulesError::UnknownKind { part: 3 }),
+    ),
+    (
+        "file = {IDENT % OTHER}",
+        Some(RulesError::UnknownKind { part: 1 }),
+    ),
     // One more token decides whether there are one or two names; none decides which of two names is left out.
     ("file = IDENT? IDENT", None),
-    ("file = IDENT? IDENT?", Some(RulesError::Undecided { part: 1 })),
+    (
+        "file = IDENT? IDENT?",
+        Some(RulesError::Undecided { part: 1 }),
+    ),
 ];
 
 #[test]

@@ -47,7 +47,15 @@ fn parsed(alloc: Global, rules: &str, text: &str) -> Result<String, Fail> {
     let mut list = StepList::new(alloc);
     let entry = EntryPoint::SourceFile;
     let grammar = rules.grammar(&[]);
-    parse_whole_into(alloc, text, &tokens, &NoKeywords, &grammar, entry, &mut list)?;
+    parse_whole_into(
+        alloc,
+        text,
+        &tokens,
+        &NoKeywords,
+        &grammar,
+        entry,
+        &mut list,
+    )?;
     Ok(line_of(alloc, list.steps())?)
 }
 
@@ -69,11 +77,20 @@ static CASES: [(&str, &str); 12] = [
     ("", ""),
     ("a;", "STATEMENT{NAME{a};}"),
     ("a+b-c;", "STATEMENT{SUM{SUM{NAME{a}+NAME{b}}-NAME{c}};}"),
-    ("a+b*c;", "STATEMENT{SUM{NAME{a}+PRODUCT{NAME{b}*NAME{c}}};}"),
-    ("(a+b)*c;", "STATEMENT{PRODUCT{PAREN{(SUM{NAME{a}+NAME{b}})}*NAME{c}};}"),
+    (
+        "a+b*c;",
+        "STATEMENT{SUM{NAME{a}+PRODUCT{NAME{b}*NAME{c}}};}",
+    ),
+    (
+        "(a+b)*c;",
+        "STATEMENT{PRODUCT{PAREN{(SUM{NAME{a}+NAME{b}})}*NAME{c}};}",
+    ),
     ("f(a,g());", "STATEMENT{CALL{f(NAME{a},CALL{g()})};}"),
     // A prefix of the lowest level takes the operators of higher ones.
-    ("-a*b+c;", "STATEMENT{NEGATION{-SUM{PRODUCT{NAME{a}*NAME{b}}+NAME{c}}};}"),
+    (
+        "-a*b+c;",
+        "STATEMENT{NEGATION{-SUM{PRODUCT{NAME{a}*NAME{b}}+NAME{c}}};}",
+    ),
     ("a;b;", "STATEMENT{NAME{a};}STATEMENT{NAME{b};}"),
     // An operator that doesn't associate.
     (
@@ -82,7 +99,10 @@ static CASES: [(&str, &str); 12] = [
     ),
     // What is missing is told where it should stand. An error stands before the end of the node before it.
     ("a", "STATEMENT{NAME{a!expected ;!}}"),
-    ("a+;", "STATEMENT{SUM{NAME{a}+!expected an expression!ERROR{}};}"),
+    (
+        "a+;",
+        "STATEMENT{SUM{NAME{a}+!expected an expression!ERROR{}};}",
+    ),
     ("(a;", "STATEMENT{PAREN{(NAME{a!expected )!}};}"),
 ];
 

@@ -1,5 +1,4 @@
-use Rattle.std.proofs.Common.{◌≡◌, ◌+◌, ◌≤◌, ap, arith, subst}
-use Rattle.squawk_output.specs.Draft.{errors_of}
+use Rattle.std.proofs.Common.{ap, arith, subst}
 use Rattle.rule_grammar.specs.Derivations.{Derives, text_of, weight}
 use Rattle.rule_grammar.specs.Derivations.Span.{block}
 use Rattle.rule_grammar.specs.declared.table.Table.{Table}

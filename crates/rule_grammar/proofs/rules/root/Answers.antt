@@ -1,4 +1,4 @@
-use Rattle.std.proofs.Common.{◌≡◌, sym, ◌∙◌}
+use Rattle.std.proofs.Common.{◌≡◌}
 use Rattle.rule_grammar.specs.Derivations.Derives.{node}
 use Rattle.rule_grammar.specs.Parts.{part_at}
 use Rattle.rule_grammar.specs.declared.part.Part.TheVariants as parts

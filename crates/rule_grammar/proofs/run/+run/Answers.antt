@@ -1,15 +1,13 @@
-use Rattle.std.proofs.Common.{arith, rules, refl, sym, subst, ap, ◌≡◌, ◌≢◌, ◌∙◌, ◌+◌, ◌≤◌, ℕ, true}
-use Rattle.squawk_kinds.specs.Kinds.{EOF}
-use Rattle.squawk_parser.specs.State.{kind_at}
+use Rattle.std.proofs.Common.{arith, sym, subst, ap, ◌≡◌, ◌∙◌, ◌+◌, ℕ}
 use Rattle.std.proofs.lemmas.Bool.Decides.{nat_tests}
 use Rattle.squawk_parser.proofs.SomeSteps.{none_some}
-use Rattle.rule_grammar.specs.Derivations.{Counts, Derived, Derives, Text, is_silent, kind_of, next_of, text_of}
+use Rattle.rule_grammar.specs.Derivations.{Counts, Derived, Derives, Text, is_silent, kind_of, text_of}
 use Rattle.rule_grammar.specs.Derivations.Derives.{none, more, all, silent, token, composite, class, name, node, call, one, taken, left_out, repeated, some, listed, operators, operand, arm, no_turn, turn, first, next, stands, operates}
-use Rattle.rule_grammar.specs.Derivations.Span.{block, choice, items, operation, rows, single, turns}
+use Rattle.rule_grammar.specs.Derivations.Span.{block, rows, single}
 use Rattle.rule_grammar.specs.Parts.{part_at}
 use Rattle.rule_grammar.specs.declared.part.Part.TheVariants as parts
 use Rattle.rule_grammar.proofs.Counted.{counts_added, counts_completed, counts_preceded, counts_some, counts_then}
-use Rattle.rule_grammar.proofs.Derived.{alone, as_part, both_parts, known, moved, quiet, same_text, some_then, still, still_before, told}
+use Rattle.rule_grammar.proofs.Derived.{alone, as_part, both_parts, known, moved, quiet, same_text, some_then, still, still_before}
 use Rattle.rule_grammar.proofs.run.+run.Goals as goal
 
 -- ---- rows
