@@ -11,6 +11,21 @@ use Rattle.squawk_kinds.specs.Kinds.{ERROR}
 use Rattle.rule_tables.specs.Definitions.{class_number, definition_of}
 use Rattle.rule_tables.specs.Vocabulary.{Vocabulary}
 
+-- how many parts are in one
+abbrev pub size_of : Part → ℕ
+size_of (part.Set own size) = size
+size_of (part.Rule own message size) = size
+size_of (part.Node size) = size
+size_of (part.Choice size) = size
+size_of (part.Arm size) = size
+size_of (part.Optional size) = size
+size_of (part.Repeat size) = size
+size_of (part.Some size) = size
+size_of (part.List size separator) = size
+size_of (part.Operators size) = size
+size_of (part.Tail level association size) = size
+size_of p = 0
+
 -- the row after the last one in part i, if it has this size
 abbrev pub end_of : ℕ → ℕ → ℕ
 end_of i size = i + 1 + size
