@@ -19,6 +19,7 @@ abbrev pub class_holds : (ℕ → ℕ → Bool) → ℕ → Option ℕ → ℕ �
 class_holds holds count None kind = false
 class_holds holds count (Some number) kind = nat_lt number count && holds number kind
 
+-- whether a class that the caller gives has the kind
 abbrev pub given_has : Option TokenSet → ℕ → Bool
 given_has None kind = false
 given_has (Some set) kind = has set kind
@@ -30,6 +31,7 @@ member_has v parts holds count kind (Class name) = class_holds holds count (clas
 member_has v parts holds count kind (Call name) = given_has (v.class name.text.now) kind
 member_has v parts holds count kind p = false
 
+-- whether the kinds of the member after this one are taken away
 abbrev pub is_without : Part → Bool
 is_without Without = true
 is_without p = false
@@ -60,10 +62,11 @@ AreClasses v parts holds n = (i : ℕ) → i < n → (size : ℕ) → size_of_cl
 abbrev pub HasClasses : Vocabulary → List Part → List (List ℕ) → Type 0
 HasClasses v parts sets = AreClasses v parts (set_has sets) (length parts)
 
--- whether one of the sets has a kind
+-- whether a set, if there is one, has a kind
 abbrev pub some_has : Option TokenSet → ℕ → Bool
 some_has None kind = false
 some_has (Some set) kind = has set kind
 
+-- whether the set of a number has a kind
 abbrev pub list_has : List TokenSet → ℕ → ℕ → Bool
 list_has sets number kind = some_has (slice_get sets number) kind

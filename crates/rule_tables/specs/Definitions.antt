@@ -1,8 +1,7 @@
 -- The rules and classes that names stand for.
-use Rattle.std.specs.Prelude.{◌≡◌, ℕ, ◌+◌, ◌<◌, ◌≤◌, Bool, true, false, Option, Some, None, List, take, position, slice_get}
+use Rattle.std.specs.Prelude.{◌≡◌, ℕ, ◌+◌, ◌<◌, ◌≤◌, Bool, true, false, Option, Some, None, List, take, position, slice_get, nat_eq}
 use Rattle.std.specs.List.{count_by}
 use Rattle.std.specs.Cmp.Lexicographic.{pointwise}
-use Rattle.std.specs.Prelude.{nat_eq}
 use Rattle.rule_parts.specs.declared.Part.{Part}
 use Rattle.rule_parts.specs.declared.Part.TheVariants.{Set, Rule}
 
@@ -16,6 +15,7 @@ defines name part = false
 abbrev pub definition_of : List Part → List ℕ → Option ℕ
 definition_of parts name = position (defines name) parts
 
+-- whether the part is a class
 abbrev pub is_class : Part → Bool
 is_class (Set own size) = true
 is_class part = false
@@ -24,11 +24,12 @@ is_class part = false
 abbrev pub classes_in : List Part → ℕ
 classes_in parts = count_by is_class parts
 
--- the number of the class that part i is: how many classes stand before it
+-- the number of the class that part i is, if it is one: how many classes stand before it
 abbrev pub number_of_class : List Part → ℕ → Option Part → Option ℕ
 number_of_class parts i (Some (Set own size)) = Some (classes_in (take i parts))
 number_of_class parts i part = None
 
+-- the number of the class at an index, if there is one
 abbrev pub class_of : List Part → Option ℕ → Option ℕ
 class_of parts None = None
 class_of parts (Some i) = number_of_class parts i (slice_get parts i)
@@ -37,7 +38,7 @@ class_of parts (Some i) = number_of_class parts i (slice_get parts i)
 abbrev pub class_number : List Part → List ℕ → Option ℕ
 class_number parts name = class_of parts (definition_of parts name)
 
--- how many members a class has
+-- how many members a class has, if the part is one
 abbrev pub size_of_class : Option Part → Option ℕ
 size_of_class (Some (Set own size)) = Some size
 size_of_class part = None

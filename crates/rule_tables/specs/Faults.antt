@@ -8,10 +8,10 @@ use Rattle.rule_tables.specs.Definitions.{IsMember, class_number, definition_of}
 use Rattle.rule_tables.specs.Rows.{call_of}
 use Rattle.rule_tables.specs.Vocabulary.{Vocabulary}
 
--- No rule or class has the name of the part. In a class it may name a class before that, or one that the caller gives.
+-- No rule or class has the name of the part: in a class no class before that, or none that the caller gives.
 abbrev pub LacksDefinition : Vocabulary → List Part → ℕ → Part → Type 0
 LacksDefinition v parts i (part.Class name) = IfSome (class_number parts name.text.now) (λ n. (before : ℕ) × (before ≤ n) × IsMember parts i before)
-LacksDefinition v parts i (part.Call name) = (call_of parts (definition_of parts name.text.now) ≡ None) ⊎ (v.class name.text.now ≡ None)
+LacksDefinition v parts i (part.Call name) = (call_of parts (definition_of parts name.text.now) ≡ None) ⊎ ((before : ℕ) × IsMember parts i before × (v.class name.text.now ≡ None))
 LacksDefinition v parts i p = ⊥
 
 -- no kind has the name of the part
@@ -27,6 +27,7 @@ is_doubled_in before (part.Set own size) = is_some (definition_of before own.tex
 is_doubled_in before (part.Rule own message size) = is_some (definition_of before own.text.now)
 is_doubled_in before p = false
 
+-- a part before part i has its name
 abbrev pub IsDoubled : List Part → ℕ → Part → Type 0
 IsDoubled parts i p = IsTrue (is_doubled_in (take i parts) p)
 
@@ -39,6 +40,7 @@ IsFaultOf v parts i p (Undecided j) = ⊥
 IsFaultOf v parts i p TooMany = Unit {0}
 IsFaultOf v parts i p (Memory reason) = Unit {0}
 
+-- there is a part, and it is such a one
 abbrev pub AtPart : (Part → Type 0) → Option Part → Type 0
 AtPart P None = ⊥
 AtPart P (Some p) = P p
@@ -50,7 +52,7 @@ IsFault v parts (UnknownKind j) = AtPart (LacksKind v) (slice_get parts j)
 IsFault v parts (Doubled j) = AtPart (IsDoubled parts j) (slice_get parts j)
 IsFault v parts reason = Unit {0}
 
--- a fault that no name has
+-- a fault that is none of a name
 abbrev pub NamesNothing : RulesError → Type 0
 NamesNothing (Undefined j) = ⊥
 NamesNothing (UnknownKind j) = ⊥

@@ -11,19 +11,36 @@ use Rattle.squawk_kinds.specs.Kinds.{ERROR}
 use Rattle.rule_tables.specs.Definitions.{class_number, definition_of}
 use Rattle.rule_tables.specs.Vocabulary.{Vocabulary}
 
+-- how many parts are in one
+abbrev pub size_of : Part → ℕ
+size_of (part.Set own size) = size
+size_of (part.Rule own message size) = size
+size_of (part.Node size) = size
+size_of (part.Choice size) = size
+size_of (part.Arm size) = size
+size_of (part.Optional size) = size
+size_of (part.Repeat size) = size
+size_of (part.Some size) = size
+size_of (part.List size separator) = size
+size_of (part.Operators size) = size
+size_of (part.Tail level association size) = size
+size_of p = 0
+
 -- the row after the last one in part i, if it has this size
 abbrev pub end_of : ℕ → ℕ → ℕ
 end_of i size = i + 1 + size
 
--- the call of the rule that part i is: its rows
+-- the call of the rule that part i is, if it is one: its rows
 abbrev pub call_of_rule : ℕ → Option Part → Option row.Part
 call_of_rule i (Some (part.Rule own message size)) = Some (Call (i + 1) (end_of i size))
 call_of_rule i part = None
 
+-- the call of the rule at an index, if there is one
 abbrev pub call_of : List Part → Option ℕ → Option row.Part
 call_of parts None = None
 call_of parts (Some i) = call_of_rule i (slice_get parts i)
 
+-- whether the part is a rule
 abbrev pub is_rule : Part → Bool
 is_rule (part.Rule own message size) = true
 is_rule p = false
@@ -63,6 +80,7 @@ row_of v parts operators i (part.Operand floor) = Some (Operand operators floor)
 
 -- ---- what the parts before one say of it
 
+-- the index after the last member of the class before part i + 1, by that before part i
 abbrev pub members_end_after : ℕ → ℕ → Option Part → ℕ
 members_end_after before i (Some (part.Set own size)) = end_of i size
 members_end_after before i part = before
@@ -72,6 +90,7 @@ abbrev pub members_end : List Part → ℕ → ℕ
 members_end parts zero = 0
 members_end parts (suc i) = members_end_after (members_end parts i) i (slice_get parts i)
 
+-- the index of the operators before part i + 1, by that before part i
 abbrev pub operators_after : ℕ → ℕ → Option Part → ℕ
 operators_after before i (Some (part.Operators size)) = i
 operators_after before i part = before
@@ -88,6 +107,7 @@ operators_before parts (suc i) = operators_after (operators_before parts i) i (s
 abbrev pub row_by : Vocabulary → List Part → ℕ → ℕ → ℕ → Part → Option row.Part
 row_by v parts members operators i p = if nat_lt i members then Some Nothing else row_of v parts operators i p
 
+-- the row of part i, if there is such a part
 abbrev pub row_at : Vocabulary → List Part → ℕ → Option Part → Option row.Part
 row_at v parts i None = None
 row_at v parts i (Some p) = row_by v parts (members_end parts i) (operators_before parts i) i p

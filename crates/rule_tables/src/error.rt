@@ -16,7 +16,7 @@ pub enum RulesError {
     UnknownKind { part: usize },
     /// Some tokens fit two ways at the part, also after four tokens.
     Undecided { part: usize },
-    /// There are more than 65,000 parts, a level above 65,000, or more than 65,535 sets or looks.
+    /// There are more than 65,000 parts, also by their sizes, a level above 65,000, or more than 65,535 sets or looks.
     TooMany,
     /// Memory ran out.
     Memory(AllocError),

@@ -2,7 +2,7 @@
 ghost use Rattle.std.specs.Prelude.{◌≡◌, ◌≤◌, ◌+◌, ◌⊎◌, IfErr, IfOk, None, Some, length, position, slice_get};
 ghost use Rattle.rule_grammar.specs.declared.part.Part.TheVariants.{Tail};
 ghost use Rattle.rule_tables.specs.Definitions.{class_number, definition_of};
-ghost use Rattle.rule_tables.specs.Rows.{AreRows, IsFileRule, call_of, ceiling, end_of, is_rule, members_end, members_end_after, operators_after, operators_before, row_by, row_of};
+ghost use Rattle.rule_tables.specs.Rows.{AreRows, IsFileRule, call_of, ceiling, end_of, is_rule, members_end, members_end_after, operators_after, operators_before, row_by, row_of, size_of};
 ghost use Rattle.rule_tables.specs.Faults.{IsFault, IsFaultOf};
 ghost use Rattle.rule_tables.specs.declared.error.RulesError.TheVariants.{TooMany, Undefined, UnknownKind};
 
@@ -97,6 +97,7 @@ fn row_of<N: Names>(
     ensures err { IfErr result (λ reason. IsFaultOf (N.vocabulary names.now) parts.now index part.now reason) }
     ensures ok { IfOk result (λ row. row_of (N.vocabulary names.now) parts.now outer.now.operators index part.now ≡ Some row) }
 {
+    let end = end_of(index, size_of(part))?;
     let row = match part {
         Part::Set { .. } | Part::Without => Row::Nothing,
         Part::Token { name } => Row::Token {
@@ -109,46 +110,45 @@ fn row_of<N: Names>(
         Part::Becomes { name } => Row::Becomes {
             kind: node(names, name, index)?,
         },
-        Part::List { size, separator } => Row::List {
-            end: end_of(index, *size)?,
+        Part::List { separator, .. } => Row::List {
+            end,
             separator: token(names, separator, index)?,
         },
-        Part::Tail {
-            level,
-            association,
-            size,
-        } => tail(end_of(index, *size)?, *level, association)?,
         Part::Operand { floor } => Row::Operand {
             operators: number(outer.operators)?,
             floor: number(*floor)?,
         },
-        Part::Node { size } => Row::Node {
-            end: end_of(index, *size)?,
+        Part::Tail {
+            level,
+            association,
+            ..
+        } => tail(end, *level, association)?,
+        Part::Node { .. } => Row::Node {
+            end,
             kind: SyntaxKind::ERROR,
         },
-        Part::Rule { size, .. } => Row::Arm {
-            end: end_of(index, *size)?,
-        },
-        Part::Choice { size } => Row::Choice {
-            end: end_of(index, *size)?,
-        },
-        Part::Arm { size } => Row::Arm {
-            end: end_of(index, *size)?,
-        },
-        Part::Optional { size } => Row::Optional {
-            end: end_of(index, *size)?,
-        },
-        Part::Repeat { size } => Row::Repeat {
-            end: end_of(index, *size)?,
-        },
-        Part::Some { size } => Row::Some {
-            end: end_of(index, *size)?,
-        },
-        Part::Operators { size } => Row::Operators {
-            end: end_of(index, *size)?,
-        },
+        Part::Rule { .. } | Part::Arm { .. } => Row::Arm { end },
+        Part::Choice { .. } => Row::Choice { end },
+        Part::Optional { .. } => Row::Optional { end },
+        Part::Repeat { .. } => Row::Repeat { end },
+        Part::Some { .. } => Row::Some { end },
+        Part::Operators { .. } => Row::Operators { end },
     };
     Ok(row)
+}
+
+/// How many parts are in one.
+fn size_of(part: &Part<'_>) -> usize
+    ensures { result ≡ size_of part.now }
+{
+    match part {
+        Part::Set { size, .. } | Part::Rule { size, .. } => *size,
+        Part::Node { size } | Part::Choice { size } | Part::Arm { size } => *size,
+        Part::Optional { size } | Part::Repeat { size } | Part::Some { size } => *size,
+        Part::List { size, .. } | Part::Operators { size } | Part::Tail { size, .. } => *size,
+        Part::Without | Part::Operand { .. } => 0,
+        Part::Token { .. } | Part::Class { .. } | Part::Call { .. } | Part::Becomes { .. } => 0,
+    }
 }
 
 /// The row after the last one in a part of this size.
