@@ -19,9 +19,10 @@ use crate::numbers::numbers_of;
 use crate::rows::{MOST, Span, file_of, rows_of};
 use crate::sets::{Sets, push};
 use crate::walk::Walk;
-use rule_grammar::{Part as Row, RuleGrammar, Table};
+use rule_grammar::{DEPTH, Part as Row, RuleGrammar, Table};
 use rule_parts::Part;
 use squawk_kinds::{SyntaxKind, TokenSet};
+use squawk_parser::{Grammar, Parser, WholeGrammar, Words};
 use std::alloc::{AllocError, Global};
 use std::marker::Model;
 
@@ -76,23 +77,47 @@ impl Rules {
             message_ends: &self.messages.ends,
         }
     }
+}
 
-    /// The rules as a grammar.
-    pub fn grammar<'r>(&'r self, names: &'r [(SyntaxKind, &'r str)]) -> RuleGrammar<'r>
-        ensures rows { result.table.rows.now ≡ self.entry.now.rows }
-        ensures sets { result.table.sets.now ≡ self.entry.now.sets }
-        ensures start { result.start ≡ self.entry.now.start }
-        ensures end { result.end ≡ self.entry.now.end }
-    {
-        RuleGrammar {
-            table: self.table(),
+impl Grammar for Rules {
+    ghost use Rattle.squawk_parser.specs.Words.{no_words};
+    ghost use Rattle.rule_grammar.specs.Derivations.{IsFile};
+
+    // One node over all tokens. If there is no error in it, the rule of a file derives the tokens.
+    ghost leaves = { λ rules _ input draft. IsFile rules.rows rules.sets no_words rules.start rules.end input draft };
+
+    ghost runs = { λ _ _ _ _. Unit {0} };
+
+    ghost meaning = { λ _. no_words };
+
+    #[tactic(auto, using(squawk_parser::specs::Words::no_words_has_no_end))]
+    fn words(&self) -> Words<'_> {
+        Words {
+            operator_first: TokenSet::EMPTY,
+            names: &[],
+        }
+    }
+
+    fn entry_point(&self, p: &mut Parser<'_>) -> Result<(), AllocError> {
+        let table = self.table();
+        let grammar = RuleGrammar {
+            table,
             start: self.start,
             end: self.end,
             root: SyntaxKind::ERROR,
-            depth: rule_grammar::DEPTH,
-            names,
-        }
+            depth: DEPTH,
+            names: &[],
+        };
+        grammar.entry_point(p)
     }
+
+    fn plpgsql_entry_point(&self, p: &mut Parser<'_>) -> Result<(), AllocError> {
+        self.entry_point(p)
+    }
+}
+
+impl WholeGrammar for Rules {
+    ghost leaves_whole = { λ _ _ _ _ _ left. left.whole };
 }
 
 /// The rules of these rows, of which some are the rule of a file.

@@ -1,6 +1,5 @@
 //! Texts by rules, with the trees that they have.
 use crate::names::{CLASSES, NODES, TOKENS};
-use rule_grammar::RuleGrammar;
 use rule_tables::{KeywordNames, Rules};
 use rule_text::read;
 use sql_lexer::tokenize;
@@ -44,14 +43,10 @@ fn parsed(alloc: Global, rules: &str, text: &str) -> Result<String, Fail> {
         classes: &CLASSES,
     };
     let rules = Rules::new(alloc, &parts, &names)?;
-    line_by(alloc, rules.grammar(&[]), text)
-}
-
-fn line_by(alloc: Global, grammar: RuleGrammar<'_>, text: &str) -> Result<String, Fail> {
     let tokens = tokenize(alloc, text)?;
     let mut list = StepList::new(alloc);
     let entry = EntryPoint::SourceFile;
-    parse_whole_into(alloc, text, &tokens, &NoKeywords, &grammar, entry, &mut list)?;
+    parse_whole_into(alloc, text, &tokens, &NoKeywords, &rules, entry, &mut list)?;
     Ok(line_of(alloc, list.steps())?)
 }
 
