@@ -1,19 +1,19 @@
 -- What rules derive: from which token of an input to which.
-use Rattle.std.specs.Prelude.{◌≡◌, ℕ, ◌+◌, ◌<◌, ◌≤◌, nat_lt, Bool, true, false, Option, Some, None, List, length, if◌then◌else◌}
-use Rattle.squawk_kinds.specs.Kinds.{EOF}
+use Rattle.std.specs.Prelude.{◌≡◌, ℕ, ◌+◌, ◌<◌, ◌≤◌, nat_lt, Bool, true, false, Option, Some, None, List, length, if◌then◌else◌, ◌⊎◌}
+use Rattle.squawk_kinds.specs.Kinds.{EOF, IDENT}
 use Rattle.squawk_kinds.specs.TokenSets.{has}
-use Rattle.squawk_table.specs.ParserInput.{Entry, kind_in}
+use Rattle.squawk_table.specs.ParserInput.{Entry, contextual_kind_in, kind_in}
 use Rattle.squawk_output.specs.Steps.{eaten}
 use Rattle.squawk_output.specs.Draft.{Draft, errors_of}
 use Rattle.squawk_parser.specs.Composites.{stands_at}
 use Rattle.squawk_parser.specs.Eaten.{eat_steps}
 use Rattle.squawk_parser.specs.LookAhead.{seen_from}
-use Rattle.squawk_parser.specs.State.{State, HasNotFailed, Keeps}
+use Rattle.squawk_parser.specs.State.{State, HasNotFailed, Keeps, ahead, kind_at}
 use Rattle.squawk_parser.specs.Whole.{IsWholeFile}
 use Rattle.squawk_parser.specs.Words.{Words}
 use Rattle.rule_grammar.specs.Parts.{part_at, set_has}
 use Rattle.rule_grammar.specs.declared.part.Part as part
-use Rattle.rule_grammar.specs.declared.part.Part.TheVariants.{Nothing, Token, Composite, Class, Name, Node, Becomes, Choice, Arm, Optional, Repeat, List as Items, Call, Operators, Operand, Tail, Some as Once}
+use Rattle.rule_grammar.specs.declared.part.Part.TheVariants.{Nothing, Token, Word, Class, Name, Node, Becomes, Is, Guard, Choice, Arm, Optional, Repeat, List as Items, Call, Operators, Operand, Tail, Some as Once}
 use Rattle.rule_grammar.specs.declared.table.Table.{Table}
 
 -- rules, and the tokens that are parsed by them
@@ -31,6 +31,10 @@ text_of table s = record { rows = table.rows.now; sets = table.sets.now; words =
 -- the kind of token i, and the tokens from it on
 abbrev pub kind_of : Text → ℕ → ℕ
 kind_of t i = if nat_lt (i + 0) t.limit then kind_in t.input (i + 0) else EOF
+
+-- and its contextual kind
+abbrev pub word_of : Text → ℕ → ℕ
+word_of t i = if nat_lt (i + 0) t.limit then contextual_kind_in t.input (i + 0) else EOF
 
 abbrev pub seen_at : Text → ℕ → List Entry
 seen_at t i = seen_from t.input t.limit (i + 0)
@@ -52,12 +56,15 @@ next_of k (Operators end) = row_after k end
 next_of k (Once end) = row_after k end
 next_of k (Arm end) = row_after k end
 next_of k (Tail end level ceiling) = row_after k end
+next_of k (Is end) = row_after k end
 next_of k part = k + 1
 
 -- parts that eat nothing
 abbrev pub is_silent : part.Part → Bool
 is_silent Nothing = true
 is_silent (Becomes kind) = true
+is_silent (Is end) = true
+is_silent (Guard first next) = true
 is_silent (Arm end) = true
 is_silent (Tail end level ceiling) = true
 is_silent part = false
@@ -104,10 +111,11 @@ pub data Derives (t : Text) : Span → ℕ → ℕ → Type 0 where
   all : {start k end i j : ℕ} → end ≤ k → Derives t (rows start k) i j → Derives t (block start end) i j
   silent : {k i : ℕ} → is_silent (part_at t.rows k) ≡ true → Derives t (single k) i i
   token : {k i kind : ℕ} → part_at t.rows k ≡ Token kind → kind_of t i ≡ kind → Derives t (single k) i (i + 1)
-  composite : {k i kind : ℕ} → part_at t.rows k ≡ Composite kind → stands_at (has t.words.operator_first) kind (seen_at t i) ≡ true
+  composite : {k i kind : ℕ} → part_at t.rows k ≡ Token kind → stands_at (has t.words.operator_first) kind (seen_at t i) ≡ true
       → Derives t (single k) i (i + eaten (eat_steps t.words kind (seen_at t i)))
+  word : {k i set : ℕ} → part_at t.rows k ≡ Word set → kind_of t i ≡ IDENT → set_has t.sets set (word_of t i) ≡ true → Derives t (single k) i (i + 1)
   class : {k i set : ℕ} → part_at t.rows k ≡ Class set → set_has t.sets set (kind_of t i) ≡ true → Derives t (single k) i (i + 1)
-  name : {k i set : ℕ} → part_at t.rows k ≡ Name set → set_has t.sets set (kind_of t i) ≡ true → Derives t (single k) i (i + 1)
+  name : {k i kind set : ℕ} → part_at t.rows k ≡ Name kind set → set_has t.sets set (kind_of t i) ≡ true → Derives t (single k) i (i + 1)
   node : {k i j end kind : ℕ} → part_at t.rows k ≡ Node end kind → Derives t (block (k + 1) end) i j → Derives t (single k) i j
   call : {k i j start end : ℕ} → part_at t.rows k ≡ Call start end → Derives t (block start end) i j → Derives t (single k) i j
   one : {k i j end : ℕ} → part_at t.rows k ≡ Choice end → Derives t (choice (k + 1) end) i j → Derives t (single k) i j
@@ -130,6 +138,11 @@ pub data Derives (t : Text) : Span → ℕ → ℕ → Type 0 where
       → Derives t (block first last) j m → Derives t (operation k floor next_ceiling) i m
 
 -- ---- runs
+
+-- A token of a kind is eaten, or the tokens of a composite one.
+abbrev pub EatsKind : ℕ → State → State → Type 0
+EatsKind kind old new = ((kind_at old 0 ≡ kind) × (new.position ≡ old.position + 1))
+    ⊎ ((stands_at (has old.words.operator_first) kind (ahead old 0) ≡ true) × (new.position ≡ old.position + eaten (eat_steps old.words kind (ahead old 0))))
 
 -- If a run told no error, it had told none before, and the span derives what it ate.
 pub record Derived (t : Text) (span : Span) (before after : Option ℕ) (i j : ℕ) : Type 0 where

@@ -1,15 +1,15 @@
 -- Rows as parts of rules, and sets of kinds.
 use Rattle.std.specs.Prelude.{ℕ, ◌-◌, ◌/◌, ◌%◌, ◌^◌, ◌==◌, Bool, false, Option, Some, None, List, slice_get, slice_index, if◌then◌else◌}
 use Rattle.rule_grammar.specs.declared.part.Part.{Part}
-use Rattle.rule_grammar.specs.declared.part.Part.TheVariants.{Nothing, Token, Composite, Class, Name, Node, Becomes, Choice, Arm, Optional, Repeat, List as Items, Call, Operators, Operand, Tail, Some as Once}
+use Rattle.rule_grammar.specs.declared.part.Part.TheVariants.{Nothing, Token, Word, Class, Name, Node, Becomes, Is, Guard, Choice, Arm, Optional, Repeat, List as Items, Call, Operators, Operand, Tail, Some as Once}
 
 -- the part by the numbers 0, 1 and 2 of a row
 abbrev pub part_by : ℕ → ℕ → ℕ → Part
 part_by tag end number =
     if tag == 1 then Token number
-    else if tag == 2 then Composite number
+    else if tag == 2 then Word number
     else if tag == 3 then Class number
-    else if tag == 4 then Name number
+    else if tag == 4 then Name end number
     else if tag == 5 then Node end number
     else if tag == 6 then Becomes number
     else if tag == 7 then Choice end
@@ -24,6 +24,8 @@ part_by tag end number =
     else if tag == 16 then Tail end number (number - 1)
     else if tag == 17 then Tail end number 65535
     else if tag == 18 then Once end
+    else if tag == 19 then Is end
+    else if tag == 20 then Guard end number
     else Nothing
 
 abbrev pub part_of : List ℕ → Part

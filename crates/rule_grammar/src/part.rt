@@ -9,18 +9,23 @@ use squawk_kinds::SyntaxKind;
 pub enum Part {
     /// Nothing: the row is none of the others.
     Nothing,
-    /// A token of the kind.
+    /// A token of the kind, or the tokens of a composite one.
     Token { kind: SyntaxKind },
-    /// The tokens of a composite kind.
-    Composite { kind: SyntaxKind },
+    /// An identifier whose contextual kind is in the set.
+    Word { set: u16 },
     /// A token whose kind is in the set.
     Class { set: u16 },
-    /// The same, as an identifier.
-    Name { set: u16 },
+    /// The same. It gets this kind.
+    Name { kind: SyntaxKind, set: u16 },
     /// A node. It has this kind, unless a part in it says another.
     Node { end: u16, kind: SyntaxKind },
     /// The node around it has this kind.
     Becomes { kind: SyntaxKind },
+    /// The node before has one of the kinds that are named in it.
+    Is { end: u16 },
+    /// The arm that it stands in is parsed only where a run of opening parentheses stands, then a token of the set
+    /// `first`, and after each parenthesis that closes one of them, but the first of the run, one of the set `next`.
+    Guard { first: u16, next: u16 },
     /// One of the arms in it.
     Choice { end: u16 },
     /// An arm of a choice, or an operand: a node.
@@ -53,9 +58,12 @@ pub(crate) fn part_of(row: &[u16; 8]) -> Part
     let kind = SyntaxKind(number);
     match row[0] % 256 {
         1 => Part::Token { kind },
-        2 => Part::Composite { kind },
+        2 => Part::Word { set: number },
         3 => Part::Class { set: number },
-        4 => Part::Name { set: number },
+        4 => Part::Name {
+            kind: SyntaxKind(end),
+            set: number,
+        },
         5 => Part::Node { end, kind },
         6 => Part::Becomes { kind },
         7 => Part::Choice { end },
@@ -77,6 +85,11 @@ pub(crate) fn part_of(row: &[u16; 8]) -> Part
         16 => tail(end, number, number.saturating_sub(1)),
         17 => tail(end, number, u16::MAX),
         18 => Part::Some { end },
+        19 => Part::Is { end },
+        20 => Part::Guard {
+            first: end,
+            next: number,
+        },
         _ => Part::Nothing,
     }
 }

@@ -12,7 +12,7 @@ use crate::recovery::{
     associate, expect_one, is_next, is_separated, missing, no_operand, too_deep,
 };
 use crate::table::Block;
-use crate::tokens::{class, composite, name, token};
+use crate::tokens::{class, name, token, word};
 use crate::told::Told;
 use squawk_parser::{CompletedMarker, Parser, SyntaxKind};
 
@@ -44,9 +44,9 @@ fn step(rule: &Open<'_>, row: u16, part: Part, told: &mut Told, p: &mut Parser<'
 {
     match part {
         Part::Token { kind } => token(rule, row, kind, told, p),
-        Part::Composite { kind } => composite(rule, row, kind, told, p),
+        Part::Word { set } => word(rule, row, set, told, p),
         Part::Class { set } => class(rule, row, set, told, p),
-        Part::Name { set } => name(rule, row, set, told, p),
+        Part::Name { kind, set } => name(rule, row, kind, set, told, p),
         Part::Node { end, kind } => inner_node(rule, row, end, kind, told, p),
         Part::Becomes { kind } => told.becomes(kind),
         Part::Choice { end } => choice(rule, row, end, told, p),
@@ -58,6 +58,8 @@ fn step(rule: &Open<'_>, row: u16, part: Part, told: &mut Told, p: &mut Parser<'
         Part::Operators { .. } => operators(rule, row, 0, told, p),
         Part::Operand { operators, floor } => inner_operand(rule, row, operators, floor, told, p),
         Part::Nothing => {}
+        Part::Is { .. } => {}
+        Part::Guard { .. } => {}
         Part::Arm { .. } => {}
         Part::Tail { .. } => {}
     }

@@ -26,8 +26,9 @@ const NO_SET: u16 = u16::MAX;
 ///
 /// | part | what it is |
 /// |---|---|
-/// | 1, 2 | a token of a kind; the tokens of a composite kind |
-/// | 3, 4 | a token whose kind is in a set; the same, as an identifier |
+/// | 1 | a token of a kind, or the tokens of a composite one |
+/// | 2 | an identifier whose contextual kind is in a set |
+/// | 3, 4 | a token whose kind is in a set; the same, which gets the kind of number 1 |
 /// | 5, 6 | a node of a kind; the kind that the node around it gets |
 /// | 7, 8 | a choice of the arms in it; an arm |
 /// | 9, 10 | what is in it, or nothing; any number of times |
@@ -37,6 +38,8 @@ const NO_SET: u16 = u16::MAX;
 /// | 14 | an operand of an operator: the row of the operators in number 1, their least level in number 2 |
 /// | 15, 16, 17 | an operator of a level: one that associates, one that doesn't, one without a right operand |
 /// | 18 | what is in it, once or more |
+/// | 19 | the node before has one of the kinds that are named in it |
+/// | 20 | a guard: the sets of what comes after a run of opening parentheses, in number 1, and after those that close |
 ///
 /// Any other part is nothing.
 #[derive(Clone, Copy)]
@@ -107,6 +110,7 @@ impl<'r> Table<'r> {
             | Part::Some { end }
             | Part::List { end, .. }
             | Part::Operators { end }
+            | Part::Is { end }
             | Part::Tail { end, .. } => after(row, end),
             _ => row + 1,
         }

@@ -1,13 +1,9 @@
 //! The parts that eat tokens.
 ghost use Rattle.std.specs.Prelude.{◌≡◌, ◌≢◌, ◌+◌, IsTrue, true};
-ghost use Rattle.squawk_kinds.specs.Kinds.{EOF};
-ghost use Rattle.squawk_kinds.specs.TokenSets.{has};
-ghost use Rattle.squawk_output.specs.Steps.{eaten};
-ghost use Rattle.squawk_parser.specs.Composites.{stands_at};
-ghost use Rattle.squawk_parser.specs.Eaten.{eat_steps};
+ghost use Rattle.squawk_kinds.specs.Kinds.{EOF, IDENT};
 ghost use Rattle.squawk_parser.specs.SomeSteps.{AddsSome};
-ghost use Rattle.squawk_parser.specs.State.{IsSound, ahead, kind_at};
-ghost use Rattle.rule_grammar.specs.Derivations.{Counts, IfClean};
+ghost use Rattle.squawk_parser.specs.State.{IsSound, contextual_kind_at, kind_at};
+ghost use Rattle.rule_grammar.specs.Derivations.{Counts, EatsKind, IfClean};
 ghost use Rattle.rule_grammar.specs.Parts.{set_has};
 
 use crate::open::Open;
@@ -15,7 +11,7 @@ use crate::recovery::{is_at, missing};
 use crate::told::Told;
 use squawk_parser::{Parser, SyntaxKind, has_tail};
 
-/// A token of the kind, also after an error.
+/// A token of the kind, or the tokens of a composite one, also after an error. Composite kinds with a tail are none.
 #[inline(always)]
 pub(crate) fn token(
     rule: &Open<'_>,
@@ -26,38 +22,21 @@ pub(crate) fn token(
 )
     requires { IsSound p.old }
     ensures adds { AddsSome p.old p.new }
-    ensures told { IfClean told.old.place told.new.place ((kind_at p.old 0 ≡ kind) × (p.new.position ≡ p.old.position + 1)) }
+    ensures told { IfClean told.old.place told.new.place (EatsKind kind p.old p.new) }
     ensures counts { Counts told.old.place told.new.place p.old p.new }
 {
     if is_at(kind, p) {
         p.bump_any();
     } else {
-        missing(rule, row, told, p);
-        bump_kind(kind, p);
+        composite(rule, row, kind, told, p);
     }
 }
 
-fn bump_kind(kind: SyntaxKind, p: &mut Parser<'_>)
-    requires { IsSound p.old }
-    ensures { AddsSome p.old p.new }
-{
-    if is_at(kind, p) {
-        p.bump_any();
-    }
-}
-
-/// The tokens of a composite kind, also after an error. Those with a tail are none of any kind.
-pub(crate) fn composite(
-    rule: &Open<'_>,
-    row: u16,
-    kind: SyntaxKind,
-    told: &mut Told,
-    p: &mut Parser<'_>,
-)
+#[inline(never)]
+fn composite(rule: &Open<'_>, row: u16, kind: SyntaxKind, told: &mut Told, p: &mut Parser<'_>)
     requires { IsSound p.old }
     ensures adds { AddsSome p.old p.new }
-    ensures told { IfClean told.old.place told.new.place ((stands_at (has p.old.words.operator_first) kind (ahead p.old 0) ≡ true)
-        × (p.new.position ≡ p.old.position + eaten (eat_steps p.old.words kind (ahead p.old 0)))) }
+    ensures told { IfClean told.old.place told.new.place (EatsKind kind p.old p.new) }
     ensures counts { Counts told.old.place told.new.place p.old p.new }
 {
     if !eats(kind, p) {
@@ -76,8 +55,7 @@ fn eat_composite(kind: SyntaxKind, p: &mut Parser<'_>)
 fn eats(kind: SyntaxKind, p: &mut Parser<'_>) -> bool
     requires { IsSound p.old }
     ensures adds { AddsSome p.old p.new }
-    ensures eats { IsTrue result → (stands_at (has p.old.words.operator_first) kind (ahead p.old 0) ≡ true)
-        × (p.new.position ≡ p.old.position + eaten (eat_steps p.old.words kind (ahead p.old 0))) }
+    ensures eats { IsTrue result → EatsKind kind p.old p.new }
 {
     if kind == SyntaxKind::EOF || has_tail(kind) {
         false
@@ -110,27 +88,34 @@ fn bump_class(rule: &Open<'_>, set: u16, p: &mut Parser<'_>)
     }
 }
 
-/// The same, as an identifier.
-pub(crate) fn name(rule: &Open<'_>, row: u16, set: u16, told: &mut Told, p: &mut Parser<'_>)
+/// The same. It gets this kind.
+pub(crate) fn name(
+    rule: &Open<'_>,
+    row: u16,
+    kind: SyntaxKind,
+    set: u16,
+    told: &mut Told,
+    p: &mut Parser<'_>,
+)
     requires { IsSound p.old }
     ensures adds { AddsSome p.old p.new }
     ensures told { IfClean told.old.place told.new.place ((set_has rule.now.table.now.sets.now set (kind_at p.old 0) ≡ true) × (p.new.position ≡ p.old.position + 1)) }
     ensures counts { Counts told.old.place told.new.place p.old p.new }
 {
     if is_in(rule, set, p) {
-        p.bump_remap(SyntaxKind::IDENT);
+        p.bump_remap(kind);
     } else {
         missing(rule, row, told, p);
-        bump_name(rule, set, p);
+        bump_name(rule, kind, set, p);
     }
 }
 
-fn bump_name(rule: &Open<'_>, set: u16, p: &mut Parser<'_>)
+fn bump_name(rule: &Open<'_>, kind: SyntaxKind, set: u16, p: &mut Parser<'_>)
     requires { IsSound p.old }
     ensures { AddsSome p.old p.new }
 {
     if is_in(rule, set, p) {
-        p.bump_remap(SyntaxKind::IDENT);
+        p.bump_remap(kind);
     }
 }
 
@@ -141,4 +126,37 @@ fn is_in(rule: &Open<'_>, set: u16, p: &Parser<'_>) -> bool
     ensures some { result ≡ true → kind_at p.now 0 ≢ EOF }
 {
     p.current() != SyntaxKind::EOF && rule.table.has(set, p.current())
+}
+
+/// An identifier whose contextual kind is in a set, also after an error.
+pub(crate) fn word(rule: &Open<'_>, row: u16, set: u16, told: &mut Told, p: &mut Parser<'_>)
+    requires { IsSound p.old }
+    ensures adds { AddsSome p.old p.new }
+    ensures told { IfClean told.old.place told.new.place ((kind_at p.old 0 ≡ IDENT) × (set_has rule.now.table.now.sets.now set (contextual_kind_at p.old 0) ≡ true)
+        × (p.new.position ≡ p.old.position + 1)) }
+    ensures counts { Counts told.old.place told.new.place p.old p.new }
+{
+    if is_word(rule, set, p) {
+        p.bump_any();
+    } else {
+        missing(rule, row, told, p);
+        bump_word(rule, set, p);
+    }
+}
+
+fn bump_word(rule: &Open<'_>, set: u16, p: &mut Parser<'_>)
+    requires { IsSound p.old }
+    ensures { AddsSome p.old p.new }
+{
+    if is_word(rule, set, p) {
+        p.bump_any();
+    }
+}
+
+/// Whether the token at the position is an identifier whose contextual kind is in a set.
+fn is_word(rule: &Open<'_>, set: u16, p: &Parser<'_>) -> bool
+    ensures name { result ≡ true → kind_at p.now 0 ≡ IDENT }
+    ensures is { result ≡ true → set_has rule.now.table.now.sets.now set (contextual_kind_at p.now 0) ≡ true }
+{
+    p.current() == SyntaxKind::IDENT && rule.table.has(set, p.nth_contextual_kind(0))
 }

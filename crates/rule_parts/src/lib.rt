@@ -13,10 +13,22 @@ pub struct Name<'t> {
 /// Names are those of rules, of classes of tokens, and of kinds of tokens and nodes.
 #[derive(Clone, Copy, Debug, PartialEq, Eq)]
 pub enum Part<'t> {
-    /// A class of tokens: the union of the members in it.
+    /// A class of tokens: the union of the members in it. A token of one in which a kind is named gets that kind.
     Set {
         name: Name<'t>,
         size: usize,
+    },
+    /// A class of identifiers with certain texts, which are the tokens in it.
+    Words {
+        name: Name<'t>,
+        size: usize,
+    },
+    /// A guard: after a run of opening parentheses comes a token of the class `first`, and after each parenthesis that
+    /// closes one of them, but the first of the run, comes one of the class `next`.
+    Guard {
+        name: Name<'t>,
+        first: Name<'t>,
+        next: Name<'t>,
     },
     /// A member of a class: the kinds of the member after it are taken away.
     Without,
@@ -46,25 +58,41 @@ pub enum Part<'t> {
     Becomes {
         name: Name<'t>,
     },
-    /// One of the arms in it.
+    /// The arm that it stands in is parsed only where the guard holds.
+    Guarded {
+        name: Name<'t>,
+    },
+    /// The node before it has one of the kinds in it.
+    Is {
+        size: usize,
+    },
+    /// A kind of node.
+    Kind {
+        name: Name<'t>,
+    },
+    /// One of the arms in it. Where tokens don't decide, it is the first that fits if they are ordered.
     Choice {
         size: usize,
+        ordered: bool,
     },
     /// An arm of a choice, an operand or a prefix operator.
     Arm {
         size: usize,
     },
-    /// What is in it, or nothing.
+    /// What is in it, or nothing. Where tokens don't decide, it is parsed if it is greedy; so are the next two.
     Optional {
         size: usize,
+        greedy: bool,
     },
     /// What is in it, any number of times.
     Repeat {
         size: usize,
+        greedy: bool,
     },
     /// What is in it, once or more.
     Some {
         size: usize,
+        greedy: bool,
     },
     /// What is in it, once or more, with separators: tokens of the kind with this name or spelling.
     List {

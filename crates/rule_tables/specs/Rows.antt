@@ -5,7 +5,7 @@ use Rattle.rule_parts.specs.declared.Part.TheVariants as part
 use Rattle.rule_parts.specs.declared.Association.{Association}
 use Rattle.rule_parts.specs.declared.Association.TheVariants.{Neither}
 use Rattle.rule_grammar.specs.declared.part.Part as row
-use Rattle.rule_grammar.specs.declared.part.Part.TheVariants.{Nothing, Token, Class, Node, Becomes, Choice, Arm, Optional, Repeat, List as Items, Call, Operators, Operand, Tail, Some as Once}
+use Rattle.rule_grammar.specs.declared.part.Part.TheVariants.{Nothing, Token, Class, Node, Becomes, Is, Choice, Arm, Optional, Repeat, List as Items, Call, Operators, Operand, Tail, Some as Once}
 use Rattle.rule_grammar.specs.Parts.{part_at}
 use Rattle.squawk_kinds.specs.Kinds.{ERROR}
 use Rattle.rule_tables.specs.Definitions.{class_number, definition_of}
@@ -16,11 +16,13 @@ abbrev pub size_of : Part → ℕ
 size_of (part.Set own size) = size
 size_of (part.Rule own message size) = size
 size_of (part.Node size) = size
-size_of (part.Choice size) = size
+size_of (part.Words own size) = size
+size_of (part.Is size) = size
+size_of (part.Choice size ordered) = size
 size_of (part.Arm size) = size
-size_of (part.Optional size) = size
-size_of (part.Repeat size) = size
-size_of (part.Some size) = size
+size_of (part.Optional size greedy) = size
+size_of (part.Repeat size greedy) = size
+size_of (part.Some size greedy) = size
 size_of (part.List size separator) = size
 size_of (part.Operators size) = size
 size_of (part.Tail level association size) = size
@@ -58,7 +60,12 @@ ceiling association level = level
 abbrev pub row_of : Vocabulary → List Part → ℕ → ℕ → Part → Option row.Part
 -- a class, and what is in one
 row_of v parts operators i (part.Set own size) = Some Nothing
+row_of v parts operators i (part.Words own size) = Some Nothing
+row_of v parts operators i (part.Guard own first next) = Some Nothing
 row_of v parts operators i part.Without = Some Nothing
+row_of v parts operators i (part.Guarded name) = Some Nothing
+row_of v parts operators i (part.Is size) = Some (Is (end_of i size))
+row_of v parts operators i (part.Kind name) = option_map Becomes (v.node name.text.now)
 -- a rule is an arm that stands in no choice
 row_of v parts operators i (part.Rule own message size) = Some (Arm (end_of i size))
 -- the kind that the caller gives
@@ -69,11 +76,11 @@ row_of v parts operators i (part.List size separator) = option_map (Items (end_o
 row_of v parts operators i (part.Class name) = option_map Class (class_number parts name.text.now)
 row_of v parts operators i (part.Call name) = call_of parts (definition_of parts name.text.now)
 row_of v parts operators i (part.Node size) = Some (Node (end_of i size) ERROR)
-row_of v parts operators i (part.Choice size) = Some (Choice (end_of i size))
+row_of v parts operators i (part.Choice size ordered) = Some (Choice (end_of i size))
 row_of v parts operators i (part.Arm size) = Some (Arm (end_of i size))
-row_of v parts operators i (part.Optional size) = Some (Optional (end_of i size))
-row_of v parts operators i (part.Repeat size) = Some (Repeat (end_of i size))
-row_of v parts operators i (part.Some size) = Some (Once (end_of i size))
+row_of v parts operators i (part.Optional size greedy) = Some (Optional (end_of i size))
+row_of v parts operators i (part.Repeat size greedy) = Some (Repeat (end_of i size))
+row_of v parts operators i (part.Some size greedy) = Some (Once (end_of i size))
 row_of v parts operators i (part.Operators size) = Some (Operators (end_of i size))
 row_of v parts operators i (part.Tail level association size) = Some (Tail (end_of i size) level (ceiling association level))
 row_of v parts operators i (part.Operand floor) = Some (Operand operators floor)

@@ -95,7 +95,7 @@ fn begin(ahead: &[Ahead], map: &Map<'_>, row: usize) -> Begins {
         },
         Row::Call { start, .. } => known(ahead, usize::from(start).saturating_sub(1)),
         Row::Operand { operators, .. } => known(ahead, usize::from(operators)),
-        Row::Becomes { .. } | Row::Nothing => Begins {
+        Row::Becomes { .. } | Row::Is { .. } | Row::Guard { .. } | Row::Nothing => Begins {
             kinds: TokenSet::EMPTY,
             is_empty: true,
         },

@@ -182,6 +182,7 @@ pub(crate) fn end_of(row: Row) -> usize {
         | Row::Some { end }
         | Row::List { end, .. }
         | Row::Operators { end }
+        | Row::Is { end }
         | Row::Tail { end, .. } => usize::from(end),
         _ => 0,
     }

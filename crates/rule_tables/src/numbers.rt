@@ -43,7 +43,7 @@ pub(crate) fn numbers_of(
 
 /// The number 0 of a row: 256 more if the rule may end after it.
 fn with_end(part: u16, ends: bool) -> u16
-    requires { part < 19 }
+    requires { part < 21 }
     ensures { result % 256 ≡ part }
 {
     if ends { part + 256 } else { part }
@@ -95,15 +95,15 @@ fn look(looks: &mut Looks<'_>, ahead: &[Ahead], index: usize, row: &Row) -> Resu
 
 /// The numbers 0, 1 and 2 of a row.
 fn part_numbers(row: &Row) -> [u16; 3]
-    ensures small { slice_index result 0 < 19 }
+    ensures small { slice_index result 0 < 21 }
     ensures is { IsTrue (is_exact row.now) → part_by (slice_index result 0) (slice_index result 1) (slice_index result 2) ≡ row.now }
 {
     match row {
         Row::Nothing => [0, 0, 0],
         Row::Token { kind } => [1, 0, kind.0],
-        Row::Composite { kind } => [2, 0, kind.0],
+        Row::Word { set } => [2, 0, *set],
         Row::Class { set } => [3, 0, *set],
-        Row::Name { set } => [4, 0, *set],
+        Row::Name { kind, set } => [4, kind.0, *set],
         Row::Node { end, kind } => [5, *end, kind.0],
         Row::Becomes { kind } => [6, 0, kind.0],
         Row::Choice { end } => [7, *end, 0],
@@ -120,6 +120,8 @@ fn part_numbers(row: &Row) -> [u16; 3]
             ceiling,
         } => [tail_number(*level, *ceiling), *end, *level],
         Row::Some { end } => [18, *end, 0],
+        Row::Is { end } => [19, *end, 0],
+        Row::Guard { first, next } => [20, *first, *next],
     }
 }
 

@@ -99,12 +99,17 @@ fn row_of<N: Names>(
 {
     let end = end_of(index, size_of(part))?;
     let row = match part {
-        Part::Set { .. } | Part::Without => Row::Nothing,
+        Part::Set { .. } | Part::Words { .. } | Part::Guard { .. } | Part::Without => Row::Nothing,
         Part::Token { name } => Row::Token {
             kind: token(names, name, index)?,
         },
         Part::Class { name } => Row::Class {
             set: class(parts, name, index)?,
+        },
+        Part::Guarded { .. } => Row::Nothing,
+        Part::Is { .. } => Row::Is { end },
+        Part::Kind { name } => Row::Becomes {
+            kind: node(names, name, index)?,
         },
         Part::Call { name } => call(parts, name, index)?,
         Part::Becomes { name } => Row::Becomes {
@@ -142,10 +147,12 @@ fn size_of(part: &Part<'_>) -> usize
     ensures { result ≡ size_of part.now }
 {
     match part {
-        Part::Set { size, .. } | Part::Rule { size, .. } => *size,
-        Part::Node { size } | Part::Choice { size } | Part::Arm { size } => *size,
-        Part::Optional { size } | Part::Repeat { size } | Part::Some { size } => *size,
+        Part::Set { size, .. } | Part::Words { size, .. } | Part::Rule { size, .. } => *size,
+        Part::Node { size } | Part::Choice { size, .. } | Part::Arm { size } => *size,
+        Part::Optional { size, .. } | Part::Repeat { size, .. } | Part::Some { size, .. } => *size,
         Part::List { size, .. } | Part::Operators { size } | Part::Tail { size, .. } => *size,
+        Part::Is { size } => *size,
+        Part::Guard { .. } | Part::Guarded { .. } | Part::Kind { .. } => 0,
         Part::Without | Part::Operand { .. } => 0,
         Part::Token { .. } | Part::Class { .. } | Part::Call { .. } | Part::Becomes { .. } => 0,
     }

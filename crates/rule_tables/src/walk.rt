@@ -106,7 +106,9 @@ impl Walk {
             }
             Row::Call { start, .. } => self.block(map, usize::from(start).saturating_sub(1)),
             Row::Operand { operators, .. } => self.arms(map, usize::from(operators)),
-            Row::Becomes { .. } | Row::Nothing => self.push(Place::After(row)),
+            Row::Becomes { .. } | Row::Is { .. } | Row::Guard { .. } | Row::Nothing => {
+                self.push(Place::After(row))
+            }
             _ => self.block(map, row),
         }
     }

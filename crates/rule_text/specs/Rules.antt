@@ -76,7 +76,7 @@ pub data Operands (ws : List Word) (i : ℕ) : ℕ → List Part → Type 0 wher
 -- what stands on the right of =
 pub data Body (ws : List Word) (i : ℕ) : ℕ → List Part → Type 0 where
   only_one : {j : ℕ} {ps : List Part} → Alternative ws 0 i j ps → Body ws i j ps
-  one_of : {j k : ℕ} {ps qs : List Part} → OneArm ws 0 i j ps → MoreArms ws j k qs → Body ws i k (Choice (length (ps ++ qs)) ∷ ps ++ qs)
+  one_of : {j k : ℕ} {ps qs : List Part} → OneArm ws 0 i j ps → MoreArms ws j k qs → Body ws i k (Choice (length (ps ++ qs)) false ∷ ps ++ qs)
   operators : {j k : ℕ} {ps qs : List Part} → Operands ws i j ps → SomeLevels ws j k qs → Body ws i k (Operators (length (ps ++ qs)) ∷ ps ++ qs)
 
 -- the members of a class

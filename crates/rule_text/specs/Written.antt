@@ -64,9 +64,9 @@ pub data Written (ws : List Word) (floor : ℕ) : Form → ℕ → ℕ → List 
   list : {i j k : ℕ} {ps : List Part} {separator : Name} → sort_at ws i ≡ sorts.OpenBrace → Written ws floor alternatives (i + 1) j ps
       → Separated ws j k separator → sort_at ws k ≡ sorts.CloseBrace → Written ws floor atom i (k + 1) (Items (length ps) separator ∷ ps)
   once : {i j : ℕ} {ps : List Part} → Written ws floor atom i j ps → Written ws floor item i j ps
-  optional : {i j : ℕ} {ps : List Part} → Written ws floor atom i j ps → sort_at ws j ≡ sorts.Question → Written ws floor item i (j + 1) (Optional (length ps) ∷ ps)
-  repeated : {i j : ℕ} {ps : List Part} → Written ws floor atom i j ps → sort_at ws j ≡ sorts.Star → Written ws floor item i (j + 1) (Repeat (length ps) ∷ ps)
-  some : {i j : ℕ} {ps : List Part} → Written ws floor atom i j ps → sort_at ws j ≡ sorts.Plus → Written ws floor item i (j + 1) (Once (length ps) ∷ ps)
+  optional : {i j : ℕ} {ps : List Part} → Written ws floor atom i j ps → sort_at ws j ≡ sorts.Question → Written ws floor item i (j + 1) (Optional (length ps) false ∷ ps)
+  repeated : {i j : ℕ} {ps : List Part} → Written ws floor atom i j ps → sort_at ws j ≡ sorts.Star → Written ws floor item i (j + 1) (Repeat (length ps) false ∷ ps)
+  some : {i j : ℕ} {ps : List Part} → Written ws floor atom i j ps → sort_at ws j ≡ sorts.Plus → Written ws floor item i (j + 1) (Once (length ps) false ∷ ps)
   none : {i : ℕ} → Written ws floor sequence i i []
   more : {i j k : ℕ} {ps qs : List Part} → Written ws floor sequence i j ps → Written ws floor item j k qs → Written ws floor sequence i k (ps ++ qs)
   one : {i j : ℕ} {ps : List Part} → Written ws floor sequence i j ps → Written ws floor arm i j (Arm (length ps) ∷ ps)
@@ -75,4 +75,4 @@ pub data Written (ws : List Word) (floor : ℕ) : Form → ℕ → ℕ → List 
   next : {i j k : ℕ} {ps qs : List Part} → Written ws floor more_arms i j ps → Written ws floor next_arm j k qs → Written ws floor more_arms i k (ps ++ qs)
   alone : {i j : ℕ} {ps : List Part} → Written ws floor sequence i j ps → Written ws floor alternatives i j ps
   choice : {i j k : ℕ} {ps qs : List Part} → Written ws floor arm i j ps → Written ws floor more_arms j k qs
-      → Written ws floor alternatives i k (Choice (length (ps ++ qs)) ∷ ps ++ qs)
+      → Written ws floor alternatives i k (Choice (length (ps ++ qs)) false ∷ ps ++ qs)

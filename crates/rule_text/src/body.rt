@@ -28,7 +28,7 @@ pub(crate) fn body(reader: &mut Reader<'_, '_>) -> Result<(), WordError>
             operators(reader, start)
         } else {
             let size = reader.size_from(start);
-            reader.wrap(start, Part::Choice { size })
+            reader.wrap(start, Part::Choice { size, ordered: false })
         }
     } else if association(reader.sort()).is_some() {
         let size = reader.size_from(start);

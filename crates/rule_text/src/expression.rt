@@ -23,7 +23,7 @@ fn alternatives(reader: &mut Reader<'_, '_>, floor: usize, depth: u32) -> Result
     reader.wrap(start, Part::Arm { size })?;
     more_arms(reader, floor, depth)?;
     let size = reader.size_from(start);
-    reader.wrap(start, Part::Choice { size })?;
+    reader.wrap(start, Part::Choice { size, ordered: false })?;
     Ok(())
 }
 
@@ -94,9 +94,9 @@ fn item(reader: &mut Reader<'_, '_>, floor: usize, depth: u32) -> Result<(), Wor
     atom(reader, floor, depth)?;
     let size = reader.size_from(start);
     match reader.sort() {
-        Sort::Question => mark(reader, start, Part::Optional { size }),
-        Sort::Star => mark(reader, start, Part::Repeat { size }),
-        Sort::Plus => mark(reader, start, Part::Some { size }),
+        Sort::Question => mark(reader, start, Part::Optional { size, greedy: false }),
+        Sort::Star => mark(reader, start, Part::Repeat { size, greedy: false }),
+        Sort::Plus => mark(reader, start, Part::Some { size, greedy: false }),
         _ => Ok(()),
     }
 }

@@ -56,26 +56,26 @@ static RULES: [(&str, &str); 16] = [
     // Signs behind a word or a group.
     (
         "a = B? c* D+\n",
-        "Rule a (a) 6; Optional { size: 1 }; Token B; Repeat { size: 1 }; Call c; Some { size: 1 }; Token D; ",
+        "Rule a (a) 6; Optional { size: 1, greedy: false }; Token B; Repeat { size: 1, greedy: false }; Call c; Some { size: 1, greedy: false }; Token D; ",
     ),
-    ("a = (B Cd)*\n", "Rule a (a) 3; Repeat { size: 2 }; Token B; Class Cd; "),
+    ("a = (B Cd)*\n", "Rule a (a) 3; Repeat { size: 2, greedy: false }; Token B; Class Cd; "),
     (
         "a = (B | c d | )? E\n",
-        "Rule a (a) 9; Optional { size: 7 }; Choice { size: 6 }; Arm { size: 1 }; Token B; \
+        "Rule a (a) 9; Optional { size: 7, greedy: false }; Choice { size: 6, ordered: false }; Arm { size: 1 }; Token B; \
          Arm { size: 2 }; Call c; Call d; Arm { size: 0 }; Token E; ",
     ),
     // Lists: with commas, and with other separators.
     ("a = {b}\n", "Rule a (a) 2; List 1 (,); Call b; "),
     (
         "a = { b | C % 'OR' }\n",
-        "Rule a (a) 6; List 5 (OR); Choice { size: 4 }; Arm { size: 1 }; Call b; Arm { size: 1 }; Token C; ",
+        "Rule a (a) 6; List 5 (OR); Choice { size: 4, ordered: false }; Arm { size: 1 }; Call b; Arm { size: 1 }; Token C; ",
     ),
     // Alternatives of a rule that name the kind of a node are nodes, also where it stands in a group.
     ("a = B => C\n", "Rule a (a) 3; Node { size: 2 }; Token B; Becomes C; "),
     (
         "a = B | C (=> D)? |\n",
-        "Rule a (a) 9; Choice { size: 8 }; Arm { size: 1 }; Token B; Arm { size: 4 }; Node { size: 3 }; \
-         Token C; Optional { size: 1 }; Becomes D; Arm { size: 0 }; ",
+        "Rule a (a) 9; Choice { size: 8, ordered: false }; Arm { size: 1 }; Token B; Arm { size: 4 }; Node { size: 3 }; \
+         Token C; Optional { size: 1, greedy: false }; Becomes D; Arm { size: 0 }; ",
     ),
     // Operators: levels go up, and operands on the right have the same level where it nests to the right.
     (
@@ -92,7 +92,7 @@ static RULES: [(&str, &str); 16] = [
     (
         "e = A left _ ('x' _)?\n",
         "Rule e (e) 7; Operators { size: 6 }; Arm { size: 1 }; Token A; \
-         Tail { level: 1, association: Left, size: 3 }; Optional { size: 2 }; Token x; Operand { floor: 2 }; ",
+         Tail { level: 1, association: Left, size: 3 }; Optional { size: 2, greedy: false }; Token x; Operand { floor: 2 }; ",
     ),
     // A rule ends where a name begins a line. Comments and white space stand anywhere.
     (
