@@ -1,13 +1,14 @@
 -- From part to part: what is derived by calls one after another.
 use Rattle.std.specs.Prelude.{◌≡◌, ℕ, ◌≤◌, true, false, Option, None, [], IsSome}
 use Rattle.squawk_parser.specs.SomeSteps.{AddsSome}
-use Rattle.std.proofs.Common.{sym, subst, ap, ◌∙◌}
+use Rattle.std.proofs.Common.{sym, subst, ap, inl, inr, ◌∙◌}
 use Rattle.squawk_parser.specs.State.{State, Keeps}
 use Rattle.rule_grammar.specs.declared.table.Table.{Table}
-use Rattle.rule_grammar.specs.Derivations.{Text, text_of, Span, Derives, Derived, IfClean, next_of}
-use Rattle.rule_grammar.specs.Derivations.Derives.{none, more, all}
+use Rattle.rule_grammar.specs.Derivations.{Text, text_of, Span, Derives, Derived, EatsKind, IfClean, next_of}
+use Rattle.rule_grammar.specs.Derivations.Derives.{none, more, all, token, composite}
 use Rattle.rule_grammar.specs.Derivations.Span.{block, single}
 use Rattle.rule_grammar.specs.Parts.{part_at}
+use Rattle.rule_grammar.specs.declared.part.Part.TheVariants.{Token}
 
 pub some_then : {a b c : State} → AddsSome a b → AddsSome b c → AddsSome a c
 some_then {a} p q = record {
@@ -25,6 +26,12 @@ same_text table {a} {b} keeps =
 pub moved : (table : Table) {a b : State} {span : Span} {t u : Option ℕ} {i j : ℕ} → Keeps a b
     → Derived (text_of table b) span t u i j → Derived (text_of table a) span t u i j
 moved table {a} {b} {span} {t} {u} {i} {j} keeps d = subst (λ (x : Text). Derived x span t u i j) (same_text table keeps) d
+
+-- the tokens of a kind
+pub of_kind : (table : Table) (a b : State) {k kind : ℕ} → part_at table.rows.now k ≡ Token kind → EatsKind kind a b
+    → Derives (text_of table a) (single k) a.position b.position
+of_kind table a b {k} is (inl eats) = subst (λ (m : ℕ). Derives (text_of table a) (single k) a.position m) (sym eats.1) (token is eats.0)
+of_kind table a b {k} is (inr eats) = subst (λ (m : ℕ). Derives (text_of table a) (single k) a.position m) (sym eats.1) (composite is eats.0)
 
 module _ {x : Text} where
   -- one part is another

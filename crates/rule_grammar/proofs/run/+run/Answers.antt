@@ -2,12 +2,12 @@ use Rattle.std.proofs.Common.{arith, sym, subst, ap, ◌≡◌, ◌∙◌, ◌+�
 use Rattle.std.proofs.lemmas.Bool.Decides.{nat_tests}
 use Rattle.squawk_parser.proofs.SomeSteps.{none_some}
 use Rattle.rule_grammar.specs.Derivations.{Counts, Derived, Derives, Text, is_silent, kind_of, text_of}
-use Rattle.rule_grammar.specs.Derivations.Derives.{none, more, all, silent, token, composite, class, name, node, call, one, taken, left_out, repeated, some, listed, operators, operand, arm, no_turn, turn, first, next, stands, operates}
+use Rattle.rule_grammar.specs.Derivations.Derives.{none, more, all, silent, class, name, node, word, call, one, taken, left_out, repeated, some, listed, operators, operand, arm, no_turn, turn, first, next, stands, operates}
 use Rattle.rule_grammar.specs.Derivations.Span.{block, rows, single}
 use Rattle.rule_grammar.specs.Parts.{part_at}
 use Rattle.rule_grammar.specs.declared.part.Part.TheVariants as parts
 use Rattle.rule_grammar.proofs.Counted.{counts_added, counts_completed, counts_preceded, counts_some, counts_then}
-use Rattle.rule_grammar.proofs.Derived.{alone, as_part, both_parts, known, moved, quiet, same_text, some_then, still, still_before}
+use Rattle.rule_grammar.proofs.Derived.{alone, as_part, both_parts, known, moved, of_kind, quiet, same_text, some_then, still, still_before}
 use Rattle.rule_grammar.proofs.run.+run.Goals as goal
 
 -- ---- rows
@@ -42,14 +42,13 @@ block-returns-clause-counts t c = c.loop-row.invariant.counts
 pub step-returns-in-Token-clause-derives : goal.step-returns-in-Token-clause-derives
 step-returns-in-Token-clause-derives t c =
     let is : part_at c.args.rule.now.table.now.rows.now c.args.row ≡ parts.Token c.in-Token.kind = sym c.requires.is ∙ c.in-Token.is in
-    known c.token.ensures.told
-    (λ f. subst (λ (m : ℕ). Derives (text_of c.args.rule.now.table.now c.args.p.now) (single c.args.row) c.args.p.now.position m) (sym f.1) (token is f.0))
+    known c.token.ensures.told (λ f. of_kind c.args.rule.now.table.now c.args.p.now c.token.new.p is f)
 
-pub step-returns-in-Composite-clause-derives : goal.step-returns-in-Composite-clause-derives
-step-returns-in-Composite-clause-derives t c =
-    let is : part_at c.args.rule.now.table.now.rows.now c.args.row ≡ parts.Composite c.in-Composite.kind = sym c.requires.is ∙ c.in-Composite.is in
-    known c.composite.ensures.told
-    (λ f. subst (λ (m : ℕ). Derives (text_of c.args.rule.now.table.now c.args.p.now) (single c.args.row) c.args.p.now.position m) (sym f.1) (composite is f.0))
+pub step-returns-in-Word-clause-derives : goal.step-returns-in-Word-clause-derives
+step-returns-in-Word-clause-derives t c =
+    let is : part_at c.args.rule.now.table.now.rows.now c.args.row ≡ parts.Word c.in-Word.set = sym c.requires.is ∙ c.in-Word.is in
+    known c.word.ensures.told
+    (λ f. subst (λ (m : ℕ). Derives (text_of c.args.rule.now.table.now c.args.p.now) (single c.args.row) c.args.p.now.position m) (sym f.2) (word is f.0 f.1))
 
 pub step-returns-in-Class-clause-derives : goal.step-returns-in-Class-clause-derives
 step-returns-in-Class-clause-derives t c =
@@ -59,7 +58,7 @@ step-returns-in-Class-clause-derives t c =
 
 pub step-returns-in-Name-clause-derives : goal.step-returns-in-Name-clause-derives
 step-returns-in-Name-clause-derives t c =
-    let is : part_at c.args.rule.now.table.now.rows.now c.args.row ≡ parts.Name c.in-Name.set = sym c.requires.is ∙ c.in-Name.is in
+    let is : part_at c.args.rule.now.table.now.rows.now c.args.row ≡ parts.Name c.in-Name.kind c.in-Name.set = sym c.requires.is ∙ c.in-Name.is in
     known c.name.ensures.told
     (λ f. subst (λ (m : ℕ). Derives (text_of c.args.rule.now.table.now c.args.p.now) (single c.args.row) c.args.p.now.position m) (sym f.1) (name is f.0))
 
@@ -112,6 +111,16 @@ step-returns-in-Operators-clause-derives t c =
 pub step-returns-in-Nothing-clause-derives : goal.step-returns-in-Nothing-clause-derives
 step-returns-in-Nothing-clause-derives t c =
     let is : part_at c.args.rule.now.table.now.rows.now c.args.row ≡ parts.Nothing = sym c.requires.is ∙ c.in-Nothing.is in
+    quiet (silent (ap is_silent is))
+
+pub step-returns-in-Is-clause-derives : goal.step-returns-in-Is-clause-derives
+step-returns-in-Is-clause-derives t c =
+    let is : part_at c.args.rule.now.table.now.rows.now c.args.row ≡ parts.Is c.in-Is.end = sym c.requires.is ∙ c.in-Is.is in
+    quiet (silent (ap is_silent is))
+
+pub step-returns-in-Guard-clause-derives : goal.step-returns-in-Guard-clause-derives
+step-returns-in-Guard-clause-derives t c =
+    let is : part_at c.args.rule.now.table.now.rows.now c.args.row ≡ parts.Guard c.in-Guard.first c.in-Guard.next = sym c.requires.is ∙ c.in-Guard.is in
     quiet (silent (ap is_silent is))
 
 pub step-returns-in-Arm-clause-derives : goal.step-returns-in-Arm-clause-derives
