@@ -6,11 +6,14 @@
 //! ```
 #![tactic(auto)]
 
+mod guard;
 mod open;
 mod part;
 mod recovery;
 mod rules;
 mod run;
+mod skip;
+mod symbol;
 mod table;
 #[cfg(test)]
 mod tests;
@@ -19,4 +22,5 @@ mod told;
 
 pub use part::Part;
 pub use rules::{DEPTH, RuleGrammar};
+pub use symbol::bit_of;
 pub use table::Table;

@@ -9,7 +9,8 @@ ghost use Rattle.squawk_parser.specs.State.{HasNode, IsSound, State};
 use crate::open::Open;
 use crate::part::Part;
 use crate::recovery::{
-    associate, expect_one, is_next, is_separated, missing, no_operand, too_deep,
+    associate, bump_at, expect_kind, expect_one, is_next, is_separated, missing, no_operand,
+    too_deep,
 };
 use crate::table::Block;
 use crate::tokens::{class, name, token, word};
@@ -58,7 +59,7 @@ fn step(rule: &Open<'_>, row: u16, part: Part, told: &mut Told, p: &mut Parser<'
         Part::Operators { .. } => operators(rule, row, 0, told, p),
         Part::Operand { operators, floor } => inner_operand(rule, row, operators, floor, told, p),
         Part::Nothing => {}
-        Part::Is { .. } => {}
+        Part::Is { end } => expect_kind(rule, row, end, told, p),
         Part::Guard { .. } => {}
         Part::Arm { .. } => {}
         Part::Tail { .. } => {}
@@ -121,7 +122,7 @@ fn choice(rule: &Open<'_>, row: u16, end: u16, told: &mut Told, p: &mut Parser<'
         start: row + 1,
         end,
     };
-    match rule.table.arm(arms, p) {
+    match rule.table.arm(arms, told, p) {
         Some(arm) => block(rule, arm, told, p),
         None => missing(rule, row, told, p),
     }
@@ -210,8 +211,12 @@ fn list(
 {
     inner(rule, row, end, told, p);
     while is_separated(rule, row, separator, told, p) {
-        p.bump_any();
+        let place = p.position();
+        bump_at(separator, p);
         inner(rule, row, end, told, p);
+        if p.position() == place {
+            break;
+        }
     }
 }
 
@@ -319,35 +324,46 @@ fn operand(
         start: row + 1,
         end,
     };
-    match rule.table.arm(arms, p) {
+    match rule.table.arm(arms, told, p) {
         Some(arm) => one_node(rule, arm, told, p),
         None => no_operand(rule, row, told, p),
     }
 }
 
-/// What is in some rows, which is one node: it stands there, or in a rule that is called, or is an operand with
-/// operators.
+/// What is in some rows, which is one node, also after a guard: it stands there, or in a rule that is called, or is an
+/// operand with operators.
 #[cycle(run)]
 fn one_node(rule: &Open<'_>, rows: Block, told: &mut Told, p: &mut Parser<'_>) -> CompletedMarker
     ensures adds { AddsSomeNode result p.old p.new }
     ensures derives { Derived (text_of rule.now.table.now p.old) (block rows.start rows.end) told.old.place told.new.place p.old.position p.new.position }
     ensures counts { Counts told.old.place told.new.place p.old p.new }
 {
-    if !rule.table.is_one(rows) {
-        return no_operand(rule, rows.start, told, p);
+    match rule.table.only(rows) {
+        Some(row) => node_in(rule, row, told, p),
+        None => no_operand(rule, rows.start, told, p),
     }
-    match rule.table.part(rows.start) {
+}
+
+/// The part in a row, which is one node.
+#[cycle(run)]
+fn node_in(rule: &Open<'_>, row: u16, told: &mut Told, p: &mut Parser<'_>) -> CompletedMarker
+    requires { row < 65535 }
+    ensures adds { AddsSomeNode result p.old p.new }
+    ensures derives { Derived (text_of rule.now.table.now p.old) (single row) told.old.place told.new.place p.old.position p.new.position }
+    ensures counts { Counts told.old.place told.new.place p.old p.new }
+{
+    match rule.table.part(row) {
         Part::Node { end, kind } => {
             let inner = Block {
-                start: rows.start + 1,
+                start: row + 1,
                 end,
             };
             node(rule, inner, kind, told, p)
         }
-        Part::Call { start, end } => called_node(rule, rows.start, Block { start, end }, told, p),
-        Part::Choice { end } => operand(rule, rows.start, end, told, p),
-        Part::Operators { end } => climb(rule, rows.start, end, 0, told, p),
-        _ => no_operand(rule, rows.start, told, p),
+        Part::Call { start, end } => called_node(rule, row, Block { start, end }, told, p),
+        Part::Choice { end } => operand(rule, row, end, told, p),
+        Part::Operators { end } => climb(rule, row, end, 0, told, p),
+        _ => no_operand(rule, row, told, p),
     }
 }
 

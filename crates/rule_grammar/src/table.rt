@@ -1,10 +1,12 @@
 //! Rules as numbers.
 ghost use Rattle.std.specs.Prelude.{◌≡◌, ◌<◌, ◌≤◌, ◌+◌, IfSome, true};
-ghost use Rattle.rule_grammar.specs.Derivations.{IsArm, IsTail, next_of, row_after};
+ghost use Rattle.rule_grammar.specs.Derivations.{IsArm, IsOnly, IsTail, next_of, row_after};
 ghost use Rattle.rule_grammar.specs.Parts.{part_at, set_has};
 
+use crate::guard::Guard;
 use crate::part::{Part, part_of};
-use squawk_parser::{Parser, SyntaxKind};
+use crate::told::Told;
+use squawk_parser::{Parser, SyntaxKind, TokenSet};
 
 /// No set of kinds.
 const NO_SET: u16 = u16::MAX;
@@ -15,7 +17,7 @@ const NO_SET: u16 = u16::MAX;
 ///
 /// | number of a row | meaning |
 /// |---|---|
-/// | 0 | which part it is, as below, and 256 more if its rule may end after it |
+/// | 0 | which part it is, as below, 256 more if its rule may end after it, 512 more if it is an arm with a guard |
 /// | 1 | the row after the last one in it |
 /// | 2 | its kind, set or level, or the row of the rule that it calls |
 /// | 3 | the set of kinds that it can begin with |
@@ -38,8 +40,12 @@ const NO_SET: u16 = u16::MAX;
 /// | 14 | an operand of an operator: the row of the operators in number 1, their least level in number 2 |
 /// | 15, 16, 17 | an operator of a level: one that associates, one that doesn't, one without a right operand |
 /// | 18 | what is in it, once or more |
-/// | 19 | the node before has one of the kinds that are named in it |
-/// | 20 | a guard: the sets of what comes after a run of opening parentheses, in number 1, and after those that close |
+/// | 19 | the node before has one of the kinds that the rows in it name, each as the part 6 does |
+/// | 20 | a guard, the first part of its arm: the arm is parsed where a run of opening parentheses stands, then a token |
+/// |    | of the set of number 1, and after each that closes one of them, but the first, one of the set of number 2 |
+///
+/// The sets of the numbers 3 to 6, and the first of a look, are asked for the *symbol* of the token at the position
+/// ([`Table::glued`]), and stand for kinds by [`bit_of`]; the others are asked for kinds of tokens.
 ///
 /// Any other part is nothing.
 #[derive(Clone, Copy)]
@@ -54,6 +60,14 @@ pub struct Table<'r> {
     pub messages: &'r str,
     /// Where each message ends, in bytes.
     pub message_ends: &'r [usize],
+    /// The kinds that operators are made of. With EOF in it, it counts as empty.
+    pub operators: TokenSet,
+    /// The kinds of operators of one token that are symbols by themselves.
+    pub plain: TokenSet,
+    /// The composite kinds that are symbols. Any other operator's symbol is CUSTOM_OP, and any other token's its kind.
+    pub glued: &'r [SyntaxKind],
+    /// The kinds that `operators` has and that those in `glued` begin with.
+    pub composed: TokenSet,
 }
 
 /// Rows, from one up to another.
@@ -72,17 +86,6 @@ pub(crate) struct Operator {
 }
 
 impl<'r> Table<'r> {
-    #[inline(always)]
-    fn number(&self, row: u16, column: usize) -> u16 {
-        match self.rows.get(usize::from(row)) {
-            Some(numbers) => match numbers.get(column) {
-                Some(number) => *number,
-                None => 0,
-            },
-            None => 0,
-        }
-    }
-
     /// The part in a row.
     #[inline(always)]
     pub(crate) fn part(&self, row: u16) -> Part
@@ -118,28 +121,48 @@ impl<'r> Table<'r> {
 
     /// Whether the rule of a row may end after it.
     pub(crate) fn may_end_after(&self, row: u16) -> bool {
-        self.number(row, 0) >= 256
+        match self.row(row) {
+            Some(numbers) => numbers[0] % 512 >= 256,
+            None => false,
+        }
     }
 
-    /// Whether a token of the kind may come after a row in its rule.
-    pub(crate) fn may_follow(&self, row: u16, kind: SyntaxKind) -> bool {
-        self.has(self.number(row, 4), kind)
+    /// Whether a symbol may come after a row in its rule.
+    pub(crate) fn may_follow(&self, row: u16, symbol: SyntaxKind) -> bool {
+        match self.row(row) {
+            Some(numbers) => self.has(numbers[4], symbol),
+            None => false,
+        }
     }
 
-    /// Whether the rule of a row goes on at a token of the kind, after an error.
-    pub(crate) fn goes_on_at(&self, row: u16, kind: SyntaxKind) -> bool {
-        self.may_follow(row, kind) || self.has(self.number(row, 5), kind)
+    /// Whether the rule of a row goes on at a symbol, after an error.
+    pub(crate) fn goes_on_at(&self, row: u16, symbol: SyntaxKind) -> bool {
+        match self.row(row) {
+            Some(numbers) => self.has(numbers[4], symbol) || self.has(numbers[5], symbol),
+            None => false,
+        }
     }
 
-    /// Whether a row can begin with a token of the kind.
+    /// Whether a row can begin with a symbol.
     #[inline(always)]
-    pub(crate) fn begins_with(&self, row: u16, kind: SyntaxKind) -> bool {
-        self.has(self.number(row, 3), kind)
+    pub(crate) fn begins_with(&self, row: u16, symbol: SyntaxKind) -> bool {
+        match self.row(row) {
+            Some(numbers) => self.has(numbers[3], symbol),
+            None => false,
+        }
+    }
+
+    #[inline(always)]
+    fn row(&self, row: u16) -> Option<&'r [u16; 8]> {
+        self.rows.get(usize::from(row))
     }
 
     /// What is expected where a row stands.
     pub(crate) fn message(&self, row: u16) -> &'r str {
-        let number = usize::from(self.number(row, 7));
+        let number = match self.row(row) {
+            Some(numbers) => usize::from(numbers[7]),
+            None => usize::MAX,
+        };
         let start = match number.checked_sub(1) {
             Some(before) => self.message_end(before),
             None => 0,
@@ -171,23 +194,32 @@ impl<'r> Table<'r> {
         }
     }
 
-    /// Whether what is in a row stands at the position, as far as its set and its look tell.
+    /// Whether what is in a row stands at the position, where this symbol is, as far as its set and its look tell.
     #[inline(always)]
-    pub(crate) fn stands(&self, row: u16, p: &Parser<'_>) -> bool {
-        self.begins_with(row, p.current()) && self.sees(row, p)
+    pub(crate) fn stands(&self, row: u16, symbol: SyntaxKind, p: &Parser<'_>) -> bool {
+        match self.row(row) {
+            Some(numbers) => self.has(numbers[3], symbol) && self.sees(numbers[6], symbol, p),
+            None => false,
+        }
     }
 
-    /// Whether the tokens at the position are those of a row's look, or of the looks after it.
-    #[inline(always)]
-    pub(crate) fn sees(&self, row: u16, p: &Parser<'_>) -> bool {
-        let look = self.number(row, 6);
-        look == 0 || self.sees_some(look, p)
+    /// Whether the tokens at the position, where this symbol is, are those of a row's look, or of the looks after it.
+    pub(crate) fn sees_look(&self, row: u16, symbol: SyntaxKind, p: &Parser<'_>) -> bool {
+        match self.row(row) {
+            Some(numbers) => self.sees(numbers[6], symbol, p),
+            None => true,
+        }
     }
 
-    fn sees_some(&self, look: u16, p: &Parser<'_>) -> bool {
+    #[inline(always)]
+    fn sees(&self, look: u16, symbol: SyntaxKind, p: &Parser<'_>) -> bool {
+        look == 0 || self.sees_some(look, symbol, p)
+    }
+
+    fn sees_some(&self, look: u16, symbol: SyntaxKind, p: &Parser<'_>) -> bool {
         let mut at = look;
         while let Some(row) = self.look(at) {
-            if self.sees_row(row, p) {
+            if self.sees_row(row, symbol, p) {
                 return true;
             }
             if row[4] <= at {
@@ -205,8 +237,8 @@ impl<'r> Table<'r> {
         }
     }
 
-    fn sees_row(&self, row: [u16; 5], p: &Parser<'_>) -> bool {
-        self.sees_set(row[0], 0, p)
+    fn sees_row(&self, row: [u16; 5], symbol: SyntaxKind, p: &Parser<'_>) -> bool {
+        (row[0] == NO_SET || self.has(row[0], symbol))
             && self.sees_set(row[1], 1, p)
             && self.sees_set(row[2], 2, p)
             && self.sees_set(row[3], 3, p)
@@ -217,21 +249,85 @@ impl<'r> Table<'r> {
     }
 
     /// The first arm that stands at the position, of those in these rows.
-    pub(crate) fn arm(&self, rows: Block, p: &Parser<'_>) -> Option<Block>
+    pub(crate) fn arm(&self, rows: Block, told: &mut Told, p: &Parser<'_>) -> Option<Block>
         ensures later { IfSome result (λ block. rows.start < block.start) }
         ensures is { IfSome result (λ block. IsArm self.now.rows.now rows.start rows.end block.start block.end) }
+        ensures told { told.new.place ≡ told.old.place }
     {
+        let symbol = self.symbol(p);
         let mut at = rows.start;
         while at < rows.end {
             let beyond = self.beyond(at);
             if let Part::Arm { end } = self.part(at) {
-                if self.stands(at, p) {
+                if self.takes(at, symbol, told, p) {
                     return Some(Block { start: at + 1, end });
                 }
             }
             at = beyond;
         }
         None
+    }
+
+    /// Whether an arm stands at the position, where this symbol is, and its guard holds, if it has one.
+    #[inline(always)]
+    fn takes(&self, arm: u16, symbol: SyntaxKind, told: &mut Told, p: &Parser<'_>) -> bool
+        requires { arm < 65535 }
+        ensures { told.new.place ≡ told.old.place }
+    {
+        self.stands(arm, symbol, p) && (!self.has_guard(arm) || self.guard_holds(arm + 1, told, p))
+    }
+
+    #[inline(always)]
+    fn has_guard(&self, arm: u16) -> bool {
+        match self.row(arm) {
+            Some(numbers) => numbers[0] >= 512,
+            None => false,
+        }
+    }
+
+    fn guard_holds(&self, row: u16, told: &mut Told, p: &Parser<'_>) -> bool
+        ensures { told.new.place ≡ told.old.place }
+    {
+        match self.part(row) {
+            Part::Guard { first, next } => told.holds(self, Guard { first, next }, p),
+            _ => true,
+        }
+    }
+
+    /// Whether one of some rows names a kind for a node.
+    pub(crate) fn names(&self, rows: Block, kind: SyntaxKind) -> bool {
+        for row in rows.start..rows.end {
+            if self.part(row) == (Part::Becomes { kind }) {
+                return true;
+            }
+        }
+        false
+    }
+
+    /// The row of the part that is alone in some rows, or after a guard.
+    pub(crate) fn only(&self, rows: Block) -> Option<u16>
+        ensures later { IfSome result (λ row. rows.start ≤ row) }
+        ensures room { IfSome result (λ row. row < 65535) }
+        ensures is { IfSome result (λ row. IsOnly self.now.rows.now rows.start rows.end row) }
+    {
+        match self.part(rows.start) {
+            Part::Guard { .. } if rows.start < u16::MAX => {
+                let inner = Block {
+                    start: rows.start + 1,
+                    end: rows.end,
+                };
+                if self.is_one(inner) {
+                    Some(inner.start)
+                } else {
+                    None
+                }
+            }
+            _ => if self.is_one(rows) {
+                Some(rows.start)
+            } else {
+                None
+            },
+        }
     }
 
     /// Whether there is one part in some rows.
@@ -257,18 +353,33 @@ impl<'r> Table<'r> {
         ensures is { IfSome result (λ operator. IsTail self.now.rows.now (row + 1) end operator.block.start operator.block.end operator.level operator.ceiling) }
         ensures floor { IfSome result (λ operator. floor ≤ operator.level) }
     {
-        if self.has(self.number(row, 6), p.current()) {
+        let symbol = self.symbol(p);
+        if self.has_operator(row, symbol) {
             let rows = Block {
                 start: row + 1,
                 end,
             };
-            self.operator_in(rows, floor, p)
+            self.operator_in(rows, floor, symbol, p)
         } else {
             None
         }
     }
 
-    fn operator_in(&self, rows: Block, floor: u16, p: &Parser<'_>) -> Option<Operator>
+    #[inline(always)]
+    fn has_operator(&self, row: u16, symbol: SyntaxKind) -> bool {
+        match self.row(row) {
+            Some(numbers) => self.has(numbers[6], symbol),
+            None => false,
+        }
+    }
+
+    fn operator_in(
+        &self,
+        rows: Block,
+        floor: u16,
+        symbol: SyntaxKind,
+        p: &Parser<'_>,
+    ) -> Option<Operator>
         ensures later { IfSome result (λ operator. rows.start < operator.block.start) }
         ensures is { IfSome result (λ operator. IsTail self.now.rows.now rows.start rows.end operator.block.start operator.block.end operator.level operator.ceiling) }
         ensures floor { IfSome result (λ operator. floor ≤ operator.level) }
@@ -282,7 +393,7 @@ impl<'r> Table<'r> {
                 ceiling,
             } = self.part(at)
             {
-                if floor <= level && self.stands(at, p) {
+                if floor <= level && self.stands(at, symbol, p) {
                     let block = Block { start: at + 1, end };
                     return Some(Operator {
                         block,

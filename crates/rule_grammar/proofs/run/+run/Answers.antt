@@ -7,7 +7,7 @@ use Rattle.rule_grammar.specs.Derivations.Span.{block, rows, single}
 use Rattle.rule_grammar.specs.Parts.{part_at}
 use Rattle.rule_grammar.specs.declared.part.Part.TheVariants as parts
 use Rattle.rule_grammar.proofs.Counted.{counts_added, counts_completed, counts_preceded, counts_some, counts_then}
-use Rattle.rule_grammar.proofs.Derived.{alone, as_part, both_parts, known, moved, of_kind, quiet, same_text, some_then, still, still_before}
+use Rattle.rule_grammar.proofs.Derived.{as_part, both_parts, from_place, known, moved, of_kind, one_more, only_in, quiet, some_then, still, still_before}
 use Rattle.rule_grammar.proofs.run.+run.Goals as goal
 
 -- ---- rows
@@ -116,7 +116,7 @@ step-returns-in-Nothing-clause-derives t c =
 pub step-returns-in-Is-clause-derives : goal.step-returns-in-Is-clause-derives
 step-returns-in-Is-clause-derives t c =
     let is : part_at c.args.rule.now.table.now.rows.now c.args.row ≡ parts.Is c.in-Is.end = sym c.requires.is ∙ c.in-Is.is in
-    quiet (silent (ap is_silent is))
+    still (quiet (silent (ap is_silent is))) c.expect_kind.ensures.told
 
 pub step-returns-in-Guard-clause-derives : goal.step-returns-in-Guard-clause-derives
 step-returns-in-Guard-clause-derives t c =
@@ -144,7 +144,8 @@ node-returns-clause-counts t c =
 pub choice-returns-in-Some-clause-derives : goal.choice-returns-in-Some-clause-derives
 choice-returns-in-Some-clause-derives t c =
     let before = c.expect_one.ensures in
-    still_before before.told (as_part (moved c.args.rule.now.table.now before.adds.some.keeps c.block.ensures.derives) (λ d. arm c.in-Some.ensures.is d))
+    still_before before.told
+    (from_place c.arm.ensures.told (as_part (moved c.args.rule.now.table.now before.adds.some.keeps c.block.ensures.derives) (λ d. arm c.in-Some.ensures.is d)))
 
 pub repeat-loop-p-init : goal.repeat-loop-p-init
 repeat-loop-p-init t c =
@@ -181,28 +182,21 @@ repeat-loop-p-preserved t c =
 
 pub list-loop-separator-preserved : goal.list-loop-separator-preserved
 list-loop-separator-preserved t c =
-    let table = c.args.rule.now.table.now in
     let so_far = c.loop-separator.invariant in
     let seen = c.is_separated.ensures in
-    let yes = c.loop-separator-test.true in
     let reached = some_then so_far.adds seen.adds in
-    let before = some_then reached c.bump_any.ensures.some in
-    let here : kind_of (text_of table c.args.p.now) c.is_separated.new.p.position ≡ c.args.separator =
-    subst (λ (x : Text). kind_of x c.is_separated.new.p.position ≡ c.args.separator) (same_text table reached.some.keeps) (seen.at yes) in
+    let before = some_then reached c.bump_at.ensures.adds in
+    let item = c.inner-in-loop-separator.ensures in
     record {
-      adds = some_then before c.inner-in-loop-separator.ensures.adds;
-      derives = both_parts (still so_far.derives seen.told) (moved table before.some.keeps c.inner-in-loop-separator.ensures.derives)
-          (λ a b. next a here
-          (subst (λ (k : ℕ). Derives (text_of table c.args.p.now) (block (c.args.row + 1) c.args.end) k c.inner-in-loop-separator.new.p.position)
-          (c.bump_any.ensures.position (seen.some yes)) b));
-      counts = counts_then so_far.counts
-          (counts_then seen.counts (counts_then (counts_some c.bump_any.ensures.some) c.inner-in-loop-separator.ensures.counts));
+      adds = some_then before item.adds;
+      derives = one_more c.args.rule.now.table.now c.args.p.now c.loop-separator.p c.is_separated.new.p c.bump_at.new.p c.inner-in-loop-separator.new.p reached.some.keeps before.some.keeps so_far.derives seen.told c.loop-separator-test.true c.bump_at.ensures.eats item.derives;
+      counts = counts_then so_far.counts (counts_then seen.counts (counts_then (counts_some c.bump_at.ensures.adds) item.counts));
     }
 
 -- ---- operators
 
 pub operand-returns-in-Some-clause-derives : goal.operand-returns-in-Some-clause-derives
-operand-returns-in-Some-clause-derives t c = as_part c.one_node.ensures.derives (λ d. arm c.in-Some.ensures.is d)
+operand-returns-in-Some-clause-derives t c = from_place c.arm.ensures.told (as_part c.one_node.ensures.derives (λ d. arm c.in-Some.ensures.is d))
 
 pub operation-returns-clause-counts : goal.operation-returns-clause-counts
 operation-returns-clause-counts t c =
@@ -240,22 +234,25 @@ some-returns-clause-derives t c = λ is.
 
 -- ---- one node
 
-pub one_node-returns-in-Node-clause-derives : goal.one_node-returns-in-Node-clause-derives
-one_node-returns-in-Node-clause-derives t c =
-    let is : part_at c.args.rule.now.table.now.rows.now c.args.rows.start ≡ parts.Node c.in-Node.end c.in-Node.kind = cc in
-    alone (as_part c.node.ensures.derives (λ d. node is d)) (c.is_one.ensures.only cc)
+pub one_node-returns-in-Some-clause-derives : goal.one_node-returns-in-Some-clause-derives
+one_node-returns-in-Some-clause-derives t c = as_part c.node_in.ensures.derives (λ d. only_in c.in-Some.ensures.is d)
 
-pub one_node-returns-in-Call-clause-derives : goal.one_node-returns-in-Call-clause-derives
-one_node-returns-in-Call-clause-derives t c =
-    let is : part_at c.args.rule.now.table.now.rows.now c.args.rows.start ≡ parts.Call c.in-Call.start c.in-Call.end = cc in
-    alone (as_part c.called_node.ensures.derives (λ d. call is d)) (c.is_one.ensures.only cc)
+pub node_in-returns-in-Node-clause-derives : goal.node_in-returns-in-Node-clause-derives
+node_in-returns-in-Node-clause-derives t c =
+    let is : part_at c.args.rule.now.table.now.rows.now c.args.row ≡ parts.Node c.in-Node.end c.in-Node.kind = cc in
+    as_part c.node.ensures.derives (λ d. node is d)
 
-pub one_node-returns-in-Choice-clause-derives : goal.one_node-returns-in-Choice-clause-derives
-one_node-returns-in-Choice-clause-derives t c =
-    let is : part_at c.args.rule.now.table.now.rows.now c.args.rows.start ≡ parts.Choice c.in-Choice.end = cc in
-    alone (as_part c.operand.ensures.derives (λ d. one is d)) (c.is_one.ensures.only cc)
+pub node_in-returns-in-Call-clause-derives : goal.node_in-returns-in-Call-clause-derives
+node_in-returns-in-Call-clause-derives t c =
+    let is : part_at c.args.rule.now.table.now.rows.now c.args.row ≡ parts.Call c.in-Call.start c.in-Call.end = cc in
+    as_part c.called_node.ensures.derives (λ d. call is d)
 
-pub one_node-returns-in-Operators-clause-derives : goal.one_node-returns-in-Operators-clause-derives
-one_node-returns-in-Operators-clause-derives t c =
-    let is : part_at c.args.rule.now.table.now.rows.now c.args.rows.start ≡ parts.Operators c.in-Operators.end = cc in
-    alone (as_part (c.climb.ensures.derives is).1 (λ d. operators is d)) (c.is_one.ensures.only cc)
+pub node_in-returns-in-Choice-clause-derives : goal.node_in-returns-in-Choice-clause-derives
+node_in-returns-in-Choice-clause-derives t c =
+    let is : part_at c.args.rule.now.table.now.rows.now c.args.row ≡ parts.Choice c.in-Choice.end = cc in
+    as_part c.operand.ensures.derives (λ d. one is d)
+
+pub node_in-returns-in-Operators-clause-derives : goal.node_in-returns-in-Operators-clause-derives
+node_in-returns-in-Operators-clause-derives t c =
+    let is : part_at c.args.rule.now.table.now.rows.now c.args.row ≡ parts.Operators c.in-Operators.end = cc in
+    as_part (c.climb.ensures.derives is).1 (λ d. operators is d)
