@@ -55,6 +55,9 @@ one_more table a b c d e {start} {end} {separator} keeps_c keeps_d so_far seen g
       next (so_far.derives (seen.clean (took.clean n))) here (subst (λ (k : ℕ). Derives (text_of table a) (block start end) k e.position) behind item);
 }
 
+is_none : {u : Option ℕ} → IsSome u → u ≡ None → ⊥
+is_none is n = let bad : false ≡ true = subst IsSome n is in cc
+
 module _ {x : Text} where
   -- one part is another
   pub as_part : {p q : Span} {t u : Option ℕ} {i j : ℕ} → Derived x p t u i j → (Derives x p i j → Derives x q i j) → Derived x q t u i j
@@ -75,10 +78,11 @@ module _ {x : Text} where
 
   -- an error is told
   pub told : {p : Span} {t u : Option ℕ} {i j : ℕ} → IsSome u → Derived x p t u i j
-  told {p} {t} {u} {i} {j} is = record { clean = λ n. absurd (none is n); derives = λ n. absurd (none is n) }
-    where
-      none : IsSome u → u ≡ None → ⊥
-      none is n = let bad : false ≡ true = subst IsSome n is in cc
+  told is = record { clean = λ n. absurd (is_none is n); derives = λ n. absurd (is_none is n) }
+
+  -- an error was told before
+  pub after_error : {y : Text} {p q : Span} {t u v : Option ℕ} {i j k m : ℕ} → IsSome u → Derived y p u v i j → Derived x q t v k m
+  after_error is d = record { clean = λ n. absurd (is_none is (d.clean n)); derives = λ n. absurd (is_none is (d.clean n)) }
 
   -- what is eaten is known
   pub known : {p : Span} {t u : Option ℕ} {fact : Type 0} {i j : ℕ} → IfClean t u fact → (fact → Derives x p i j) → Derived x p t u i j

@@ -61,6 +61,7 @@ pub(crate) fn is_next(rule: &Open<'_>, row: u16, told: &mut Told, p: &mut Parser
 }
 
 /// Whether it stands after tokens that are skipped.
+#[inline(never)]
 fn is_after_others(rule: &Open<'_>, row: u16, told: &mut Told, p: &mut Parser<'_>) -> bool
     requires { IsSound p.old }
     ensures adds { AddsSome p.old p.new }
@@ -109,6 +110,7 @@ pub(crate) fn is_separated(
     }
 }
 
+#[inline(never)]
 fn is_separated_after_others(
     rule: &Open<'_>,
     row: u16,

@@ -27,8 +27,10 @@ pub(crate) fn block(rule: &Open<'_>, rows: Block, told: &mut Told, p: &mut Parse
 {
     let mut row = rows.start;
     while row < rows.end {
-        step(rule, row, rule.table.part(row), told, p);
-        row = rule.table.beyond(row);
+        let part = rule.table.part(row);
+        let beyond = part.beyond(row);
+        step(rule, row, part, told, p);
+        row = beyond;
     }
 }
 
@@ -56,7 +58,7 @@ fn step(rule: &Open<'_>, row: u16, part: Part, told: &mut Told, p: &mut Parser<'
         Part::Some { end } => some(rule, row, end, told, p),
         Part::List { end, separator } => list(rule, row, end, separator, told, p),
         Part::Call { start, end } => call(rule, row, Block { start, end }, told, p),
-        Part::Operators { .. } => operators(rule, row, 0, told, p),
+        Part::Operators { end } => whole(rule, row, end, told, p),
         Part::Operand { operators, floor } => inner_operand(rule, row, operators, floor, told, p),
         Part::Nothing => {}
         Part::Is { end } => expect_kind(rule, row, end, told, p),
@@ -117,14 +119,29 @@ fn choice(rule: &Open<'_>, row: u16, end: u16, told: &mut Told, p: &mut Parser<'
     ensures derives { Derived (text_of rule.now.table.now p.old) (choice (row + 1) end) told.old.place told.new.place p.old.position p.new.position }
     ensures counts { Counts told.old.place told.new.place p.old p.new }
 {
-    expect_one(rule, row, told, p);
     let arms = Block {
         start: row + 1,
         end,
     };
     match rule.table.arm(arms, told, p) {
         Some(arm) => block(rule, arm, told, p),
-        None => missing(rule, row, told, p),
+        None => choice_after_others(rule, row, arms, told, p),
+    }
+}
+
+/// The error that no arm stands at the position, and the one that stands after tokens that are skipped.
+#[cold]
+#[inline(never)]
+#[cycle(run)]
+fn choice_after_others(rule: &Open<'_>, row: u16, arms: Block, told: &mut Told, p: &mut Parser<'_>)
+    requires { IsSound p.old }
+    ensures adds { AddsSome p.old p.new }
+    ensures derives { Derived (text_of rule.now.table.now p.old) (choice arms.start arms.end) told.old.place told.new.place p.old.position p.new.position }
+    ensures counts { Counts told.old.place told.new.place p.old p.new }
+{
+    missing(rule, row, told, p);
+    if let Some(arm) = rule.table.arm(arms, told, p) {
+        block(rule, arm, told, p);
     }
 }
 
@@ -274,6 +291,21 @@ fn operators(rule: &Open<'_>, row: u16, floor: u16, told: &mut Told, p: &mut Par
         }
         _ => missing(rule, row, told, p),
     }
+}
+
+/// The same, where these rows are its arms and operators, of any level.
+#[inline(always)]
+#[cycle(run)]
+fn whole(rule: &Open<'_>, row: u16, end: u16, told: &mut Told, p: &mut Parser<'_>)
+    requires room { row < 65535 }
+    requires sound { IsSound p.old }
+    ensures adds { AddsSome p.old p.new }
+    ensures derives { part_at rule.now.table.now.rows.now row ≡ Part.Operators end
+        → Derived (text_of rule.now.table.now p.old) (single row) told.old.place told.new.place p.old.position p.new.position }
+    ensures counts { Counts told.old.place told.new.place p.old p.new }
+{
+    expect_one(rule, row, told, p);
+    let _ = climb(rule, row, end, 0, told, p);
 }
 
 /// The same, where the operators are these.

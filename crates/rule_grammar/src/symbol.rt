@@ -32,6 +32,7 @@ impl Table<'_> {
         }
     }
 
+    #[inline(never)]
     fn composite(&self, kind: SyntaxKind, p: &Parser<'_>) -> SyntaxKind {
         if !self.operators.contains(kind) {
             self.glued_or(kind, p)

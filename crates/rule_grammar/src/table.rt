@@ -1,6 +1,6 @@
 //! Rules as numbers.
 ghost use Rattle.std.specs.Prelude.{◌≡◌, ◌<◌, ◌≤◌, ◌+◌, IfSome, true};
-ghost use Rattle.rule_grammar.specs.Derivations.{IsArm, IsOnly, IsTail, next_of, row_after};
+ghost use Rattle.rule_grammar.specs.Derivations.{IsArm, IsOnly, IsTail, next_of};
 ghost use Rattle.rule_grammar.specs.Parts.{part_at, set_has};
 
 use crate::guard::Guard;
@@ -104,19 +104,8 @@ impl<'r> Table<'r> {
         ensures later { row < result }
         ensures is { result ≡ next_of row (part_at self.now.rows.now row) }
     {
-        match self.part(row) {
-            Part::Node { end, .. }
-            | Part::Choice { end }
-            | Part::Arm { end }
-            | Part::Optional { end }
-            | Part::Repeat { end }
-            | Part::Some { end }
-            | Part::List { end, .. }
-            | Part::Operators { end }
-            | Part::Is { end }
-            | Part::Tail { end, .. } => after(row, end),
-            _ => row + 1,
-        }
+        let part = self.part(row);
+        part.beyond(row)
     }
 
     /// Whether the rule of a row may end after it.
@@ -216,6 +205,7 @@ impl<'r> Table<'r> {
         look == 0 || self.sees_some(look, symbol, p)
     }
 
+    #[inline(never)]
     fn sees_some(&self, look: u16, symbol: SyntaxKind, p: &Parser<'_>) -> bool {
         let mut at = look;
         while let Some(row) = self.look(at) {
@@ -257,8 +247,9 @@ impl<'r> Table<'r> {
         let symbol = self.symbol(p);
         let mut at = rows.start;
         while at < rows.end {
-            let beyond = self.beyond(at);
-            if let Part::Arm { end } = self.part(at) {
+            let part = self.part(at);
+            let beyond = part.beyond(at);
+            if let Part::Arm { end } = part {
                 if self.takes(at, symbol, told, p) {
                     return Some(Block { start: at + 1, end });
                 }
@@ -285,6 +276,7 @@ impl<'r> Table<'r> {
         }
     }
 
+    #[inline(never)]
     fn guard_holds(&self, row: u16, told: &mut Told, p: &Parser<'_>) -> bool
         ensures { told.new.place ≡ told.old.place }
     {
@@ -386,12 +378,13 @@ impl<'r> Table<'r> {
     {
         let mut at = rows.start;
         while at < rows.end {
-            let beyond = self.beyond(at);
+            let part = self.part(at);
+            let beyond = part.beyond(at);
             if let Part::Tail {
                 end,
                 level,
                 ceiling,
-            } = self.part(at)
+            } = part
             {
                 if floor <= level && self.stands(at, symbol, p) {
                     let block = Block { start: at + 1, end };
@@ -406,13 +399,4 @@ impl<'r> Table<'r> {
         }
         None
     }
-}
-
-/// The row after one that ends there.
-fn after(row: u16, end: u16) -> u16
-    requires { row < 65535 }
-    ensures later { row < result }
-    ensures is { result ≡ row_after row end }
-{
-    if row < end { end } else { row + 1 }
 }

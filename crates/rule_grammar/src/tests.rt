@@ -181,21 +181,7 @@ fn line_of(alloc: Global, steps: &[OwnedStep]) -> Result<String, AllocError> {
 
 /// The line of a text's tree, where rules may be called in one another so often.
 fn parsed(alloc: Global, text: &str, depth: u32) -> Result<String, Fail> {
-    parsed_by(alloc, text, &expressions(depth))
-}
-
-/// The line of a text's tree by rules.
-fn parsed_by(alloc: Global, text: &str, rules: &RuleGrammar<'_>) -> Result<String, Fail> {
-    let tokens = tokens_of(alloc, text)?;
-    let mut list = StepList::new(alloc);
-    let entry = EntryPoint::SourceFile;
-    parse_whole_into(alloc, text, &tokens, &NoKeywords, rules, entry, &mut list)?;
-    Ok(line_of(alloc, list.steps())?)
-}
-
-/// The rules of this file's table.
-fn expressions(depth: u32) -> RuleGrammar<'static> {
-    RuleGrammar {
+    let rules = RuleGrammar {
         table: Table {
             rows: &ROWS,
             sets: &SETS,
@@ -212,7 +198,17 @@ fn expressions(depth: u32) -> RuleGrammar<'static> {
         root: ROOT,
         depth,
         names: &[],
-    }
+    };
+    parsed_by(alloc, text, &rules)
+}
+
+/// The line of a text's tree by rules.
+fn parsed_by(alloc: Global, text: &str, rules: &RuleGrammar<'_>) -> Result<String, Fail> {
+    let tokens = tokens_of(alloc, text)?;
+    let mut list = StepList::new(alloc);
+    let entry = EntryPoint::SourceFile;
+    parse_whole_into(alloc, text, &tokens, &NoKeywords, rules, entry, &mut list)?;
+    Ok(line_of(alloc, list.steps())?)
 }
 
 /// Texts, and what is in their files.

@@ -132,38 +132,25 @@ const MESSAGES: &str =
 
 static MESSAGE_ENDS: [usize; 6] = [10, 30, 52, 67, 78, 88];
 
-/// The rules of this file's table, where these composite kinds are symbols.
-fn rules<'g>(glued: &'g [SyntaxKind]) -> RuleGrammar<'g> {
-    RuleGrammar {
-        table: Table {
-            rows: &ROWS,
-            sets: &SETS,
-            looks: &[],
-            messages: MESSAGES,
-            message_ends: &MESSAGE_ENDS,
-            operators: token_set![
-                SyntaxKind::L_ANGLE,
-                SyntaxKind::R_ANGLE,
-                SyntaxKind::EQ,
-                SyntaxKind::AT
-            ],
-            plain: token_set![SyntaxKind::L_ANGLE, SyntaxKind::EQ],
-            glued,
-            composed: token_set![
-                SyntaxKind::L_ANGLE,
-                SyntaxKind::R_ANGLE,
-                SyntaxKind::EQ,
-                SyntaxKind::AT,
-                SyntaxKind::COLON
-            ],
-        },
-        start: 0,
-        end: 3,
-        root: ROOT,
-        depth: crate::DEPTH,
-        names: &[],
-    }
-}
+/// The kinds that operators are made of.
+const OPERATORS: TokenSet = token_set![
+    SyntaxKind::L_ANGLE,
+    SyntaxKind::R_ANGLE,
+    SyntaxKind::EQ,
+    SyntaxKind::AT,
+];
+
+/// Those that are operators by themselves.
+const PLAIN: TokenSet = token_set![SyntaxKind::L_ANGLE, SyntaxKind::EQ];
+
+/// The kinds that symbols of other kinds begin with.
+const COMPOSED: TokenSet = token_set![
+    SyntaxKind::L_ANGLE,
+    SyntaxKind::R_ANGLE,
+    SyntaxKind::EQ,
+    SyntaxKind::AT,
+    SyntaxKind::COLON,
+];
 
 /// Texts, and what is in their files.
 static CASES: [(&str, &str); 22] = [
@@ -226,7 +213,24 @@ static CASES: [(&str, &str); 22] = [
 #[test]
 fn parses_parts(rt: HostRuntime) -> Result<(), Fail> {
     let glued = [SyntaxKind::LTEQ, SyntaxKind::COLON_COLON];
-    let rules = rules(&glued);
+    let rules = RuleGrammar {
+        table: Table {
+            rows: &ROWS,
+            sets: &SETS,
+            looks: &[],
+            messages: MESSAGES,
+            message_ends: &MESSAGE_ENDS,
+            operators: OPERATORS,
+            plain: PLAIN,
+            glued: &glued,
+            composed: COMPOSED,
+        },
+        start: 0,
+        end: 3,
+        root: ROOT,
+        depth: crate::DEPTH,
+        names: &[],
+    };
     for (text, wanted) in &CASES {
         let line = parsed_by(rt.alloc(), text, &rules)?;
         let wanted = format!(in rt.alloc(); "FILE{{{wanted}}}")?;

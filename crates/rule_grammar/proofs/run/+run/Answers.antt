@@ -1,13 +1,13 @@
 use Rattle.std.proofs.Common.{arith, sym, subst, ap, ◌≡◌, ◌∙◌, ◌+◌, ℕ}
 use Rattle.std.proofs.lemmas.Bool.Decides.{nat_tests}
 use Rattle.squawk_parser.proofs.SomeSteps.{none_some}
-use Rattle.rule_grammar.specs.Derivations.{Counts, Derived, Derives, Text, is_silent, kind_of, text_of}
+use Rattle.rule_grammar.specs.Derivations.{Counts, Derived, Derives, Text, is_silent, kind_of, next_of, text_of}
 use Rattle.rule_grammar.specs.Derivations.Derives.{none, more, all, silent, class, name, node, word, call, one, taken, left_out, repeated, some, listed, operators, operand, arm, no_turn, turn, first, next, stands, operates}
 use Rattle.rule_grammar.specs.Derivations.Span.{block, rows, single}
 use Rattle.rule_grammar.specs.Parts.{part_at}
 use Rattle.rule_grammar.specs.declared.part.Part.TheVariants as parts
 use Rattle.rule_grammar.proofs.Counted.{counts_added, counts_completed, counts_preceded, counts_some, counts_then}
-use Rattle.rule_grammar.proofs.Derived.{as_part, both_parts, from_place, known, moved, of_kind, one_more, only_in, quiet, some_then, still, still_before}
+use Rattle.rule_grammar.proofs.Derived.{after_error, as_part, both_parts, from_place, known, moved, of_kind, one_more, only_in, quiet, some_then, still, still_before}
 use Rattle.rule_grammar.proofs.run.+run.Goals as goal
 
 -- ---- rows
@@ -24,10 +24,10 @@ block-loop-row-preserved t c =
     let both = both_parts before.derives (moved c.args.rule.now.table.now before.adds.some.keeps took.derives) (λ a b. more a b) in
     record {
       adds = some_then before.adds took.adds;
-      further = omega (arith, c.beyond-row.ensures.later);
+      further = omega (arith, c.beyond-beyond.ensures.later);
       derives = subst
           (λ (k : ℕ). Derived (text_of c.args.rule.now.table.now c.args.p.now) (rows c.args.rows.start k) c.args.told.now.place c.step.new.told.place c.args.p.now.position c.step.new.p.position)
-          (sym c.beyond-row.ensures.is) both;
+          (sym (c.beyond-beyond.ensures.is ∙ ap (next_of c.loop-row.row) c.part-part.ensures)) both;
       counts = counts_then before.counts took.counts;
     }
 
@@ -106,7 +106,12 @@ step-returns-in-List-clause-derives t c =
 pub step-returns-in-Operators-clause-derives : goal.step-returns-in-Operators-clause-derives
 step-returns-in-Operators-clause-derives t c =
     let is : part_at c.args.rule.now.table.now.rows.now c.args.row ≡ parts.Operators c.in-Operators.end = sym c.requires.is ∙ c.in-Operators.is in
-    as_part c.operators.ensures.derives.1 (λ d. operators is d)
+    c.whole.ensures.derives is
+
+pub whole-returns-clause-derives : goal.whole-returns-clause-derives
+whole-returns-clause-derives t c = λ is.
+    let before = c.expect_one.ensures in
+    still_before before.told (as_part (moved c.args.rule.now.table.now before.adds.some.keeps (c.climb.ensures.derives is).1) (λ d. operators is d))
 
 pub step-returns-in-Nothing-clause-derives : goal.step-returns-in-Nothing-clause-derives
 step-returns-in-Nothing-clause-derives t c =
@@ -142,10 +147,10 @@ node-returns-clause-counts t c =
     subst (λ v. Counts c.args.told.now.place v c.args.p.now c.complete.new.p) (sym c.leave.ensures.place) whole
 
 pub choice-returns-in-Some-clause-derives : goal.choice-returns-in-Some-clause-derives
-choice-returns-in-Some-clause-derives t c =
-    let before = c.expect_one.ensures in
-    still_before before.told
-    (from_place c.arm.ensures.told (as_part (moved c.args.rule.now.table.now before.adds.some.keeps c.block.ensures.derives) (λ d. arm c.in-Some.ensures.is d)))
+choice-returns-in-Some-clause-derives t c = from_place c.arm.ensures.told (as_part c.block.ensures.derives (λ d. arm c.in-Some.ensures.is d))
+
+pub choice_after_others-returns-in-Some-clause-derives : goal.choice_after_others-returns-in-Some-clause-derives
+choice_after_others-returns-in-Some-clause-derives t c = after_error c.missing.ensures.tells (from_place c.arm.ensures.told c.block.ensures.derives)
 
 pub repeat-loop-p-init : goal.repeat-loop-p-init
 repeat-loop-p-init t c =
