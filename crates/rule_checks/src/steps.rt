@@ -1,0 +1,81 @@
+//! What comes after a row, in any number of steps.
+ghost use Rattle.std.specs.Prelude.{◌≡◌, ℕ, ◌<◌, ◌≤◌, ◌↔◌, ◌⊎◌, ¬◌, Contains, length, count_by, not, true, false, IfOk};
+ghost use Rattle.rule_checks.specs.Sets.{has};
+ghost use Rattle.rule_checks.specs.Steps.{After, IsClosedFrom, Lists};
+
+use crate::rows::has;
+use std::alloc::{AllocError, Global};
+
+/// The rows after a row, by one or more steps.
+pub(crate) fn after(
+    alloc: Global,
+    lists: &[Vec<usize>],
+    from: usize,
+) -> Result<Vec<bool>, AllocError>
+    ensures { IfOk result (λ marks. (k : ℕ) → k < length lists.now → (has marks.items k ≡ true) ↔ After (Lists lists.now) from k) }
+{
+    let mut marks = vec![in alloc; false; lists.len()]?;
+    while add_after(lists, from, &mut marks) {}
+    Ok(marks)
+}
+
+/// Marks what the row and marked rows lead to. Returns whether one is new.
+fn add_after(lists: &[Vec<usize>], from: usize, marks: &mut [bool]) -> bool
+    requires { length marks.old ≡ length lists.now }
+    ensures len { length marks.new ≡ length lists.now }
+    ensures sound { ((k : ℕ) → k < length lists.now → has marks.old k ≡ true → After (Lists lists.now) from k)
+        → (k : ℕ) → k < length lists.now → has marks.new k ≡ true → After (Lists lists.now) from k }
+    ensures all { result ≡ false → IsClosedFrom (Lists lists.now) from (has marks.new) }
+    ensures more { result ≡ true → count_by not marks.new < count_by not marks.old }
+{
+    let mut is_new = false;
+    for (k, list) in lists.iter().enumerate() {
+        if (k == from || has(marks, k)) && mark_all(list, marks) {
+            is_new = true;
+        }
+    }
+    is_new
+}
+
+/// Marks the rows of a list. Returns whether one is new.
+fn mark_all(list: &[usize], marks: &mut [bool]) -> bool
+    ensures len { length marks.new ≡ length marks.old }
+    ensures marked { (k : ℕ) → has marks.new k ≡ true ↔ ((has marks.old k ≡ true) ⊎ Contains list.now k) }
+    ensures none { result ≡ false → marks.new ≡ marks.old }
+    ensures more { result ≡ true → count_by not marks.new < count_by not marks.old }
+{
+    let mut is_new = false;
+    for k in list {
+        if !has(marks, *k) {
+            marks[*k] = true;
+            is_new = true;
+        }
+    }
+    is_new
+}
+
+/// Rows from which all steps end: none of them comes after itself.
+pub(crate) fn ended(alloc: Global, lists: &[Vec<usize>]) -> Result<Vec<bool>, AllocError>
+    ensures { IfOk result (λ marks. (k : ℕ) → k < length lists.now → has marks.items k ≡ true → ¬ After (Lists lists.now) k k) }
+{
+    let mut marks = vec![in alloc; false; lists.len()]?;
+    for _ in 0..lists.len() {
+        if !add_ended(lists, &mut marks) {
+            break;
+        }
+    }
+    Ok(marks)
+}
+
+/// Marks rows that lead to none but marked ones. Returns whether one is new.
+fn add_ended(lists: &[Vec<usize>], marks: &mut [bool]) -> bool
+{
+    let mut is_new = false;
+    for k in (0..lists.len()).rev() {
+        if !marks[k] && lists[k].iter().all(|m| has(marks, *m)) {
+            marks[k] = true;
+            is_new = true;
+        }
+    }
+    is_new
+}
