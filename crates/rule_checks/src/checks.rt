@@ -1,14 +1,15 @@
 //! The first row with a fault.
-ghost use Rattle.std.specs.Prelude.{◌≡◌, ℕ, ◌<◌, ◌≤◌, length, IfOk, Option};
-ghost use Rattle.rule_checks.specs.Empty.{IsEmptyRepeat};
-ghost use Rattle.rule_checks.specs.Leads.{IsLeftRecursive};
+ghost use Rattle.std.specs.Prelude.{◌<◌, ◌↔◌, length, IfOk, IsTrue};
+ghost use Rattle.rule_checks.specs.Empty.{Empty, IsEmptyRepeat};
+ghost use Rattle.rule_checks.specs.Leads.{IsCall, IsLeftRecursive};
+ghost use Rattle.rule_checks.specs.Rows.{row_at};
 ghost use Rattle.rule_checks.specs.Rules.{IsUnreached};
-ghost use Rattle.rule_checks.specs.Sets.{IsFirst};
+ghost use Rattle.rule_checks.specs.Sets.{IsFirst, IsSetOf};
 
-use crate::empty::{all_have, empties, is_arm};
+use crate::empty::{all_have, empties};
 use crate::leads::all_leads;
-use crate::rows::{has, next_at, row_at};
-use crate::rules::all_uses;
+use crate::rows::{has, row_at};
+use crate::rules::{all_uses, rules};
 use crate::steps::{after, ended};
 use rule_grammar::Part as Row;
 use std::alloc::{AllocError, Global};
@@ -26,7 +27,11 @@ pub fn empty_repeat(alloc: Global, rows: &[Row]) -> Result<Option<usize>, AllocE
     Ok(None)
 }
 
-fn repeats_nothing(rows: &[Row], empties: &[bool], k: usize) -> bool {
+fn repeats_nothing(rows: &[Row], empties: &[bool], k: usize) -> bool
+    requires k { k < length rows.now }
+    requires empties { IsSetOf (Empty rows.now) empties.now }
+    ensures { IsTrue result ↔ IsEmptyRepeat rows.now k }
+{
     match row_at(rows, k) {
         Row::Repeat { end } | Row::Some { end } | Row::List { end, .. } => {
             all_have(rows, empties, k + 1, end)
@@ -50,10 +55,12 @@ pub fn left_recursive(alloc: Global, rows: &[Row]) -> Result<Option<usize>, Allo
     Ok(None)
 }
 
-fn is_call(rows: &[Row], k: usize) -> bool {
+fn is_call(rows: &[Row], k: usize) -> bool
+    ensures { IsTrue result ↔ IsCall (row_at rows.now k) }
+{
     matches!(
-        rows.get(k),
-        Some(Row::Call { .. } | Row::Operand { .. })
+        row_at(rows, k),
+        Row::Call { .. } | Row::Operand { .. }
     )
 }
 
@@ -65,14 +72,13 @@ pub fn unreached(
 ) -> Result<Option<usize>, AllocError>
     ensures { IfOk result (IsFirst (length rows.now) (IsUnreached rows.now file)) }
 {
-    let uses = all_uses(alloc, rows)?;
+    let rules = rules(alloc, rows)?;
+    let uses = all_uses(alloc, rows, &rules)?;
     let used = after(alloc, &uses, file)?;
-    let mut past = 0;
     for k in 0..rows.len() {
-        if past <= k && is_arm(rows, k) && k != file && !has(&used, k) {
+        if has(&rules, k) && k != file && !has(&used, k) {
             return Ok(Some(k));
         }
-        past = past.max(next_at(rows, k));
     }
     Ok(None)
 }

@@ -10,7 +10,7 @@ use std::alloc::{AllocError, Global};
 
 /// The rows that may eat nothing.
 pub(crate) fn empties(alloc: Global, rows: &[Row]) -> Result<Vec<bool>, AllocError>
-    ensures { IfOk result (λ empties. IsSetOf empties.items (Empty rows.now)) }
+    ensures { IfOk result (λ empties. IsSetOf (Empty rows.now) empties.items) }
 {
     let mut empties = vec![in alloc; false; rows.len()]?;
     while add_empties(rows, &mut empties) {}
@@ -26,7 +26,9 @@ fn add_empties(rows: &[Row], empties: &mut [bool]) -> bool
     ensures more { result ≡ true → count_by not empties.new < count_by not empties.old }
 {
     let mut is_new = false;
-    for k in (0..rows.len()).rev() {
+    let mut k = rows.len();
+    while k > 0 {
+        k -= 1;
         if !empties[k] && eats_nothing(rows, empties, k) {
             empties[k] = true;
             is_new = true;

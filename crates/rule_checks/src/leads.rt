@@ -1,9 +1,9 @@
 //! Rows that are entered first from a row.
-ghost use Rattle.std.specs.Prelude.{◌≡◌, ℕ, ◌<◌, ◌↔◌, Contains, List, length, true, slice_get, IfOk, IsSomeAnd};
+ghost use Rattle.std.specs.Prelude.{◌≡◌, ℕ, ◌<◌, ◌↔◌, Contains, length, true, IfOk, IsTrue};
 ghost use Rattle.rule_checks.specs.Empty.{Empty};
 ghost use Rattle.rule_checks.specs.Leads.{Begins, Leads};
 ghost use Rattle.rule_checks.specs.Rows.{Beside, First, row_at};
-ghost use Rattle.rule_checks.specs.Sets.{IsSetOf, has};
+ghost use Rattle.rule_checks.specs.Sets.{IsSetOf};
 ghost use Rattle.rule_checks.specs.Steps.{Lists};
 
 use crate::rows::{has, next_at, row_at};
@@ -16,7 +16,7 @@ pub(crate) fn all_leads(
     rows: &[Row],
     empties: &[bool],
 ) -> Result<Vec<Vec<usize>>, AllocError>
-    requires { IsSetOf empties.now (Empty rows.now) }
+    requires { IsSetOf (Empty rows.now) empties.now }
     ensures len { IfOk result (λ lists. length lists.items ≡ length rows.now) }
     ensures is { IfOk result (λ lists. (k m : ℕ) → Lists lists.items k m ↔ Leads rows.now k m) }
 {
@@ -35,7 +35,7 @@ fn leads(
     k: usize,
 ) -> Result<Vec<usize>, AllocError>
     requires k { k < length rows.now }
-    requires empties { IsSetOf empties.now (Empty rows.now) }
+    requires empties { IsSetOf (Empty rows.now) empties.now }
     ensures { IfOk result (λ list. (m : ℕ) → Contains list.items m ↔ Leads rows.now k m) }
 {
     match row_at(rows, k) {
@@ -62,7 +62,7 @@ fn first(
     start: usize,
     end: u16,
 ) -> Result<Vec<usize>, AllocError>
-    requires { IsSetOf empties.now (Empty rows.now) }
+    requires { IsSetOf (Empty rows.now) empties.now }
     ensures { IfOk result (λ list. (m : ℕ) → Contains list.items m ↔ First rows.now (Empty rows.now) end start m) }
 {
     let mut list = Vec::new(alloc);
@@ -70,7 +70,7 @@ fn first(
     while at < usize::from(end) {
         list.push(at)?;
         if !has(empties, at) {
-            break;
+            return Ok(list);
         }
         at = next_at(rows, at);
     }
@@ -90,15 +90,21 @@ fn begins(
     let mut list = Vec::new(alloc);
     let mut at = start;
     while at < usize::from(end) {
-        let begins = match row_at(rows, at) {
-            Row::Arm { .. } => true,
-            Row::Tail { .. } => operand_may_be_empty,
-            _ => false,
-        };
-        if begins {
+        if begins_at(rows, operand_may_be_empty, at) {
             list.push(at)?;
         }
         at = next_at(rows, at);
     }
     Ok(list)
+}
+
+/// Whether a row is an arm, or an operator where the operand may be empty.
+fn begins_at(rows: &[Row], operand_may_be_empty: bool, k: usize) -> bool
+    ensures { IsTrue result ↔ Begins (operand_may_be_empty ≡ true) (row_at rows.now k) }
+{
+    match row_at(rows, k) {
+        Row::Arm { .. } => true,
+        Row::Tail { .. } => operand_may_be_empty,
+        _ => false,
+    }
 }

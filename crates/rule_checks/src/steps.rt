@@ -1,7 +1,7 @@
 //! What comes after a row, in any number of steps.
-ghost use Rattle.std.specs.Prelude.{◌≡◌, ℕ, ◌<◌, ◌≤◌, ◌↔◌, ◌⊎◌, ¬◌, Contains, length, count_by, not, true, false, IfOk};
-ghost use Rattle.rule_checks.specs.Sets.{has};
-ghost use Rattle.rule_checks.specs.Steps.{After, IsClosedFrom, Lists};
+ghost use Rattle.std.specs.Prelude.{◌≡◌, ℕ, ◌<◌, ◌≤◌, ◌↔◌, ◌⊎◌, Contains, length, count_by, not, true, false, IfOk, IsTrue};
+ghost use Rattle.rule_checks.specs.Sets.{IsSetBelow, has};
+ghost use Rattle.rule_checks.specs.Steps.{After, HaveEnded, IsClosedFrom, Lists};
 
 use crate::rows::has;
 use std::alloc::{AllocError, Global};
@@ -12,7 +12,7 @@ pub(crate) fn after(
     lists: &[Vec<usize>],
     from: usize,
 ) -> Result<Vec<bool>, AllocError>
-    ensures { IfOk result (λ marks. (k : ℕ) → k < length lists.now → (has marks.items k ≡ true) ↔ After (Lists lists.now) from k) }
+    ensures { IfOk result (λ marks. IsSetBelow (length lists.now) (After (Lists lists.now) from) marks.items) }
 {
     let mut marks = vec![in alloc; false; lists.len()]?;
     while add_after(lists, from, &mut marks) {}
@@ -56,7 +56,7 @@ fn mark_all(list: &[usize], marks: &mut [bool]) -> bool
 
 /// Rows from which all steps end: none of them comes after itself.
 pub(crate) fn ended(alloc: Global, lists: &[Vec<usize>]) -> Result<Vec<bool>, AllocError>
-    ensures { IfOk result (λ marks. (k : ℕ) → k < length lists.now → has marks.items k ≡ true → ¬ After (Lists lists.now) k k) }
+    ensures { IfOk result (λ marks. HaveEnded lists.now marks.items) }
 {
     let mut marks = vec![in alloc; false; lists.len()]?;
     for _ in 0..lists.len() {
@@ -69,13 +69,25 @@ pub(crate) fn ended(alloc: Global, lists: &[Vec<usize>]) -> Result<Vec<bool>, Al
 
 /// Marks rows that lead to none but marked ones. Returns whether one is new.
 fn add_ended(lists: &[Vec<usize>], marks: &mut [bool]) -> bool
+    requires { length marks.old ≡ length lists.now }
+    ensures len { length marks.new ≡ length lists.now }
+    ensures ended { HaveEnded lists.now marks.old → HaveEnded lists.now marks.new }
 {
     let mut is_new = false;
-    for k in (0..lists.len()).rev() {
-        if !marks[k] && lists[k].iter().all(|m| has(marks, *m)) {
+    let mut k = lists.len();
+    while k > 0 {
+        k -= 1;
+        if !marks[k] && all_marked(&lists[k], marks) {
             marks[k] = true;
             is_new = true;
         }
     }
     is_new
+}
+
+/// Whether all rows of a list are marked.
+fn all_marked(list: &[usize], marks: &[bool]) -> bool
+    ensures { IsTrue result ↔ ((k : ℕ) → Contains list.now k → has marks.now k ≡ true) }
+{
+    list.iter().all(|k| has(marks, *k))
 }
