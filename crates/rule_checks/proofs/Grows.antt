@@ -1,5 +1,6 @@
 -- What eats nothing if some rows do does so if more do.
-use Rattle.std.proofs.Common.{◌≡◌, ℕ, ◌+◌, List, true, Bool}
+use Rattle.std.proofs.Common.{◌≡◌, ℕ, ◌+◌, ◌≤◌, List, length, true, Bool, subst, sym}
+use Rattle.std.proofs.lemmas.List.{get_or_past}
 use Rattle.rule_grammar.specs.declared.part.Part as part
 use Rattle.rule_grammar.specs.declared.part.Part.TheVariants.{Nothing, Token, Word, Class, Name, Node, Becomes, Is, Guard, Choice, Arm, Optional, Repeat, List as Items, Call, Operators, Operand, Tail, Some as Once}
 use Rattle.rule_checks.specs.Rows.{row_at}
@@ -33,6 +34,13 @@ module _ (rows : List part.Part) (P Q : ℕ → Type 0) (grows : (m : ℕ) → P
   part-grows k (Word set) eats = absurd eats
   part-grows k (Class set) eats = absurd eats
   part-grows k (Name kind set) eats = absurd eats
+
+-- After the last row there is nothing, which is empty.
+pub row-past : (rows : List part.Part) (k : ℕ) → length rows ≤ k → row_at rows k ≡ Nothing
+row-past rows k past = get_or_past rows k Nothing past
+
+pub empty-past : (rows : List part.Part) (k : ℕ) → length rows ≤ k → Empty rows k
+empty-past rows k past set closed = closed k (subst (λ p. PartEatsNothing rows (λ m. set m ≡ true) k p) (sym (row-past rows k past)) tt)
 
 -- A row may be empty if it eats nothing where rows that may be empty do.
 pub empty-by : (rows : List part.Part) (P : ℕ → Type 0) → ((m : ℕ) → P m → Empty rows m) → (k : ℕ) → EatsNothingBy rows P k → Empty rows k

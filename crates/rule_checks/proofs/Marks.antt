@@ -1,5 +1,5 @@
 -- Marking a row.
-use Rattle.std.proofs.Common.{◌≡◌, ◌≢◌, ℕ, ◌+◌, ◌<◌, ◌≤◌, ◌⊎◌, inl, inr, List, [], ◌∷◌, zero, suc, Bool, true, false, not, length, get_or, refl, arith, cond}
+use Rattle.std.proofs.Common.{◌≡◌, ◌≢◌, ℕ, ◌+◌, ◌<◌, ◌≤◌, ◌⊎◌, inl, inr, List, [], ◌∷◌, ◌++◌, zero, suc, Bool, true, false, not, length, get_or, refl, arith, cond}
 use Rattle.std.specs.List.{count_by}
 use Rattle.std.proofs.Math.ListN.{set}
 use Rattle.std.proofs.lemmas.Grind.{common_steps}
@@ -10,6 +10,11 @@ pub has-within : (marks : List Bool) (k : ℕ) → has marks k ≡ false → k <
 has-within [] k unmarked = absurd (cc)
 has-within (b ∷ marks) zero unmarked = omega arith
 has-within (b ∷ marks) (suc k) unmarked = let within = has-within marks k unmarked in omega arith
+
+pub has-unmarked : (marks : List Bool) (k : ℕ) → k < length marks → get_or marks k false ≡ false → has marks k ≡ false
+has-unmarked [] k within unmarked = absurd (omega arith)
+has-unmarked (b ∷ marks) zero within unmarked = unmarked
+has-unmarked (b ∷ marks) (suc k) within unmarked = has-unmarked marks k (omega arith) unmarked
 
 pub has-past : (marks : List Bool) (k : ℕ) → length marks ≤ k → has marks k ≡ true
 has-past [] k past = refl
@@ -41,3 +46,14 @@ fewer marks k unmarked =
     let moved = sum_by-set (λ b. cond (not b) 1 0) marks k true true within in
     let one = rw unmarked at moved in
     omega arith
+
+pub has-push : (marks : List Bool) (b : Bool) (k : ℕ) → k < length marks → has (marks ++ b ∷ []) k ≡ has marks k
+has-push [] b k within = absurd (omega arith)
+has-push (a ∷ marks) b zero within = refl
+has-push (a ∷ marks) b (suc k) within = has-push marks b k (omega arith)
+
+pub has-last : (marks : List Bool) (b : Bool) (k : ℕ) → length marks ≡ k → has (marks ++ b ∷ []) k ≡ b
+has-last [] b zero is = refl
+has-last [] b (suc k) is = absurd (omega arith)
+has-last (a ∷ marks) b zero is = absurd (omega arith)
+has-last (a ∷ marks) b (suc k) is = has-last marks b k (omega arith)

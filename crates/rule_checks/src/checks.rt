@@ -1,16 +1,16 @@
 //! The first row with a fault.
-ghost use Rattle.std.specs.Prelude.{◌<◌, ◌↔◌, length, IfOk, IsTrue};
+ghost use Rattle.std.specs.Prelude.{◌≡◌, ◌≢◌, ◌<◌, ◌↔◌, length, true, false, IfOk, IsTrue};
 ghost use Rattle.rule_checks.specs.Empty.{Empty, IsEmptyRepeat};
 ghost use Rattle.rule_checks.specs.Leads.{IsCall, IsLeftRecursive};
 ghost use Rattle.rule_checks.specs.Rows.{row_at};
 ghost use Rattle.rule_checks.specs.Rules.{IsUnreached};
-ghost use Rattle.rule_checks.specs.Sets.{IsFirst, IsSetOf};
+ghost use Rattle.rule_checks.specs.Sets.{IsFirst, IsSetOf, has};
 
 use crate::empty::{all_have, empties};
 use crate::leads::all_leads;
 use crate::rows::{has, row_at};
 use crate::rules::{all_uses, rules};
-use crate::steps::{after, ended};
+use crate::steps::{after, comes_back, ended};
 use rule_grammar::Part as Row;
 use std::alloc::{AllocError, Global};
 
@@ -48,8 +48,10 @@ pub fn left_recursive(alloc: Global, rows: &[Row]) -> Result<Option<usize>, Allo
     let leads = all_leads(alloc, rows, &empties)?;
     let ended = ended(alloc, &leads)?;
     for k in 0..rows.len() {
-        if is_call(rows, k) && !has(&ended, k) && has(&after(alloc, &leads, k)?, k) {
-            return Ok(Some(k));
+        if is_call(rows, k) {
+            if comes_back(alloc, &leads, &ended, k)? {
+                return Ok(Some(k));
+            }
         }
     }
     Ok(None)
@@ -76,9 +78,16 @@ pub fn unreached(
     let uses = all_uses(alloc, rows, &rules)?;
     let used = after(alloc, &uses, file)?;
     for k in 0..rows.len() {
-        if has(&rules, k) && k != file && !has(&used, k) {
+        if is_unreached(&rules, &used, file, k) {
             return Ok(Some(k));
         }
     }
     Ok(None)
+}
+
+/// Whether a row begins a rule, isn't the file's, and isn't used.
+fn is_unreached(rules: &[bool], used: &[bool], file: usize, k: usize) -> bool
+    ensures { IsTrue result ↔ ((has rules.now k ≡ true) × (k ≢ file) × (has used.now k ≡ false)) }
+{
+    has(rules, k) && k != file && !has(used, k)
 }

@@ -1,6 +1,7 @@
 //! Which rules use which.
-ghost use Rattle.std.specs.Prelude.{◌≡◌, ℕ, ◌+◌, ◌<◌, ◌↔◌, Contains, Some, length, IfOk, IfSome};
+ghost use Rattle.std.specs.Prelude.{◌≡◌, ℕ, ◌+◌, ◌<◌, ◌≤◌, ◌↔◌, Contains, Some, length, IfOk, IfSome, IsTrue};
 ghost use Rattle.rule_grammar.specs.declared.part.Part.TheVariants.{Call};
+ghost use Rattle.rule_checks.specs.Empty.{IsArm};
 ghost use Rattle.rule_checks.specs.Rows.{row_at};
 ghost use Rattle.rule_checks.specs.Rules.{IsCalled, IsRule, Uses};
 ghost use Rattle.rule_checks.specs.Sets.{IsSetBelow};
@@ -18,10 +19,17 @@ pub(crate) fn rules(alloc: Global, rows: &[Row]) -> Result<Vec<bool>, AllocError
     let mut rules = Vec::new(alloc);
     let mut past = 0;
     for k in 0..rows.len() {
-        rules.push(past <= k && is_arm(rows, k))?;
+        rules.push(begins_rule(rows, past, k))?;
         past = past.max(next_at(rows, k));
     }
     Ok(rules)
+}
+
+/// Whether a row is an arm that no row before it holds: those end at `past`.
+fn begins_rule(rows: &[Row], past: usize, k: usize) -> bool
+    ensures { IsTrue result ↔ ((past ≤ k) × IsArm (row_at rows.now k)) }
+{
+    past <= k && is_arm(rows, k)
 }
 
 /// For each row those whose rules are called in the rule that begins with it.
@@ -66,6 +74,7 @@ fn calls(
     start: usize,
     end: usize,
 ) -> Result<Vec<usize>, AllocError>
+    requires { start ≤ end }
     ensures { IfOk result (λ list. (r : ℕ) → Contains list.items r ↔ IsCalled rows.now start end r) }
 {
     let mut list = Vec::new(alloc);

@@ -29,8 +29,8 @@ fn add_after(lists: &[Vec<usize>], from: usize, marks: &mut [bool]) -> bool
     ensures more { result ≡ true → count_by not marks.new < count_by not marks.old }
 {
     let mut is_new = false;
-    for (k, list) in lists.iter().enumerate() {
-        if (k == from || has(marks, k)) && mark_all(list, marks) {
+    for k in 0..lists.len() {
+        if (k == from || has(marks, k)) && mark_all(&lists[k], marks) {
             is_new = true;
         }
     }
@@ -52,6 +52,24 @@ fn mark_all(list: &[usize], marks: &mut [bool]) -> bool
         }
     }
     is_new
+}
+
+/// Whether a row comes after itself. Marked are rows that don't.
+pub(crate) fn comes_back(
+    alloc: Global,
+    lists: &[Vec<usize>],
+    ended: &[bool],
+    k: usize,
+) -> Result<bool, AllocError>
+    requires k { k < length lists.now }
+    requires ended { HaveEnded lists.now ended.now }
+    ensures { IfOk result (λ back. IsTrue back ↔ After (Lists lists.now) k k) }
+{
+    if has(ended, k) {
+        return Ok(false);
+    }
+    let marks = after(alloc, lists, k)?;
+    Ok(has(&marks, k))
 }
 
 /// Rows from which all steps end: none of them comes after itself.

@@ -12,6 +12,6 @@ invariant-loop-k l = record {
   within : l.k ≤ length l.rows;
   len : length l.empties ≡ length l.rows;
   sound : ((m : ℕ) → has l.fn.empties m ≡ true → Empty l.rows m) → (m : ℕ) → has l.empties m ≡ true → Empty l.rows m;
-  same : l.is_new ≡ false → l.empties ≡ l.fn.empties;
   all : l.is_new ≡ false → (m : ℕ) → l.k ≤ m → EatsNothingBy l.rows (λ i. has l.empties i ≡ true) m → has l.empties m ≡ true;
+  most : count_by not l.empties ≤ count_by not l.fn.empties;
   more : l.is_new ≡ true → count_by not l.empties < count_by not l.fn.empties }
