@@ -15,7 +15,7 @@ within_or_past zero (suc n) = inl (omega arith)
 within_or_past (suc k) zero = inr (omega arith)
 within_or_past (suc k) (suc n) = elim (within_or_past k n) [ inl less ↦ inl (omega arith) | inr more ↦ inr (omega arith) ]
 
-split_at : (k n : ℕ) → k < n + 1 → (k < n) ⊎ (n ≡ k)
+pub split_at : (k n : ℕ) → k < n + 1 → (k < n) ⊎ (n ≡ k)
 split_at k n below = elim (within_or_past k n) [ inl less ↦ inl less | inr more ↦ inr (omega arith) ]
 
 pub lists-at : (lists : List (Vec ℕ Global)) (k m : ℕ) (list : Vec ℕ Global) → k < length lists → list ≡ get_or lists k list → Contains list.items m ↔ Lists lists k m

@@ -1,16 +1,17 @@
 //! The first row with a fault.
-ghost use Rattle.std.specs.Prelude.{◌≡◌, ◌≢◌, ◌<◌, ◌↔◌, length, true, false, IfOk, IsTrue};
+ghost use Rattle.std.specs.Prelude.{◌≡◌, ℕ, ◌<◌, ◌↔◌, length, IfOk, IsTrue};
 ghost use Rattle.rule_checks.specs.Empty.{Empty, IsEmptyRepeat};
-ghost use Rattle.rule_checks.specs.Leads.{IsCall, IsLeftRecursive};
+ghost use Rattle.rule_checks.specs.Leads.{IsCall, IsLeftRecursive, Leads};
 ghost use Rattle.rule_checks.specs.Rows.{row_at};
 ghost use Rattle.rule_checks.specs.Rules.{IsUnreached};
-ghost use Rattle.rule_checks.specs.Sets.{IsFirst, IsSetOf, has};
+ghost use Rattle.rule_checks.specs.Sets.{IsFirst, IsSetOf};
+ghost use Rattle.rule_checks.specs.Steps.{HaveEnded, Lists};
 
 use crate::empty::{all_have, empties};
 use crate::leads::all_leads;
 use crate::rows::{has, row_at};
-use crate::rules::{all_uses, rules};
-use crate::steps::{after, comes_back, ended};
+use crate::rules::{rules, used};
+use crate::steps::{comes_back, ended};
 use rule_grammar::Part as Row;
 use std::alloc::{AllocError, Global};
 
@@ -48,13 +49,30 @@ pub fn left_recursive(alloc: Global, rows: &[Row]) -> Result<Option<usize>, Allo
     let leads = all_leads(alloc, rows, &empties)?;
     let ended = ended(alloc, &leads)?;
     for k in 0..rows.len() {
-        if is_call(rows, k) {
-            if comes_back(alloc, &leads, &ended, k)? {
-                return Ok(Some(k));
-            }
+        if is_left_recursive(alloc, rows, &leads, &ended, k)? {
+            return Ok(Some(k));
         }
     }
     Ok(None)
+}
+
+fn is_left_recursive(
+    alloc: Global,
+    rows: &[Row],
+    leads: &[Vec<usize>],
+    ended: &[bool],
+    k: usize,
+) -> Result<bool, AllocError>
+    requires k { k < length leads.now }
+    requires leads { (i j : ℕ) → Lists leads.now i j ↔ Leads rows.now i j }
+    requires ended { HaveEnded leads.now ended.now }
+    ensures { IfOk result (λ found. IsTrue found ↔ IsLeftRecursive rows.now k) }
+{
+    if is_call(rows, k) {
+        comes_back(alloc, leads, ended, k)
+    } else {
+        Ok(false)
+    }
 }
 
 fn is_call(rows: &[Row], k: usize) -> bool
@@ -75,19 +93,11 @@ pub fn unreached(
     ensures { IfOk result (IsFirst (length rows.now) (IsUnreached rows.now file)) }
 {
     let rules = rules(alloc, rows)?;
-    let uses = all_uses(alloc, rows, &rules)?;
-    let used = after(alloc, &uses, file)?;
+    let used = used(alloc, rows, &rules, file)?;
     for k in 0..rows.len() {
-        if is_unreached(&rules, &used, file, k) {
+        if has(&rules, k) && k != file && !has(&used, k) {
             return Ok(Some(k));
         }
     }
     Ok(None)
-}
-
-/// Whether a row begins a rule, isn't the file's, and isn't used.
-fn is_unreached(rules: &[bool], used: &[bool], file: usize, k: usize) -> bool
-    ensures { IsTrue result ↔ ((has rules.now k ≡ true) × (k ≢ file) × (has used.now k ≡ false)) }
-{
-    has(rules, k) && k != file && !has(used, k)
 }

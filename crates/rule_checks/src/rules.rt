@@ -5,10 +5,11 @@ ghost use Rattle.rule_checks.specs.Empty.{IsArm};
 ghost use Rattle.rule_checks.specs.Rows.{row_at};
 ghost use Rattle.rule_checks.specs.Rules.{IsCalled, IsRule, Uses};
 ghost use Rattle.rule_checks.specs.Sets.{IsSetBelow};
-ghost use Rattle.rule_checks.specs.Steps.{Lists};
+ghost use Rattle.rule_checks.specs.Steps.{After, Lists};
 
 use crate::empty::is_arm;
 use crate::rows::{has, next_at, row_at};
+use crate::steps::after;
 use rule_grammar::Part as Row;
 use std::alloc::{AllocError, Global};
 
@@ -32,8 +33,22 @@ fn begins_rule(rows: &[Row], past: usize, k: usize) -> bool
     past <= k && is_arm(rows, k)
 }
 
+/// The first rows of the rules that are called, through other rules, from the rule of a row.
+pub(crate) fn used(
+    alloc: Global,
+    rows: &[Row],
+    rules: &[bool],
+    from: usize,
+) -> Result<Vec<bool>, AllocError>
+    requires { IsSetBelow (length rows.now) (IsRule rows.now) rules.now }
+    ensures { IfOk result (λ used. IsSetBelow (length rows.now) (After (Uses rows.now) from) used.items) }
+{
+    let lists = all_uses(alloc, rows, rules)?;
+    after(alloc, &lists, from)
+}
+
 /// For each row those whose rules are called in the rule that begins with it.
-pub(crate) fn all_uses(
+fn all_uses(
     alloc: Global,
     rows: &[Row],
     rules: &[bool],

@@ -30,11 +30,28 @@ fn add_after(lists: &[Vec<usize>], from: usize, marks: &mut [bool]) -> bool
 {
     let mut is_new = false;
     for k in 0..lists.len() {
-        if (k == from || has(marks, k)) && mark_all(&lists[k], marks) {
+        if mark_next(lists, from, k, marks) {
             is_new = true;
         }
     }
     is_new
+}
+
+/// Marks what row `k` leads to, if it is the first one or marked. Returns whether one is new.
+fn mark_next(lists: &[Vec<usize>], from: usize, k: usize, marks: &mut [bool]) -> bool
+    requires { k < length lists.now }
+    ensures len { length marks.new ≡ length marks.old }
+    ensures sound { ((m : ℕ) → m < length lists.now → has marks.old m ≡ true → After (Lists lists.now) from m)
+        → (m : ℕ) → m < length lists.now → has marks.new m ≡ true → After (Lists lists.now) from m }
+    ensures all { (j : ℕ) → (k ≡ from) ⊎ (has marks.old k ≡ true) → Lists lists.now k j → has marks.new j ≡ true }
+    ensures none { result ≡ false → marks.new ≡ marks.old }
+    ensures more { result ≡ true → count_by not marks.new < count_by not marks.old }
+{
+    if k == from || has(marks, k) {
+        mark_all(&lists[k], marks)
+    } else {
+        false
+    }
 }
 
 /// Marks the rows of a list. Returns whether one is new.
