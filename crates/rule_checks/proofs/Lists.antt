@@ -9,7 +9,7 @@ use Rattle.rule_checks.specs.Steps.{Lists}
 pub iff_then : {A B C : Type 0} → A ↔ B → B ↔ C → A ↔ C
 iff_then ab bc = (λ a. bc.0 (ab.0 a), λ c. ab.1 (bc.1 c))
 
-within_or_past : (k n : ℕ) → (k < n) ⊎ (n ≤ k)
+pub within_or_past : (k n : ℕ) → (k < n) ⊎ (n ≤ k)
 within_or_past zero zero = inr (omega arith)
 within_or_past zero (suc n) = inl (omega arith)
 within_or_past (suc k) zero = inr (omega arith)
