@@ -1,0 +1,48 @@
+-- What eats nothing if some rows do does so if more do.
+use Rattle.std.proofs.Common.{◌≡◌, ℕ, ◌+◌, ◌≤◌, List, length, true, Bool, subst, sym}
+use Rattle.std.proofs.lemmas.List.{get_or_past}
+use Rattle.rule_grammar.specs.declared.part.Part as part
+use Rattle.rule_grammar.specs.declared.part.Part.TheVariants.{Nothing, Token, Word, Class, Name, Node, Becomes, Is, Guard, Choice, Arm, Optional, Repeat, List as Items, Call, Operators, Operand, Tail, Some as Once}
+use Rattle.rule_checks.specs.Rows.{row_at}
+use Rattle.rule_checks.specs.Empty.{AllHave, EatsNothingBy, Empty, PartEatsNothing, SomeArmHas}
+
+module _ (rows : List part.Part) (P Q : ℕ → Type 0) (grows : (m : ℕ) → P m → Q m) where
+
+  all-grows : (start end : ℕ) → AllHave rows P start end → AllHave rows Q start end
+  all-grows start end all m walk = grows m (all m walk)
+
+  some-grows : (start end : ℕ) → SomeArmHas rows P start end → SomeArmHas rows Q start end
+  some-grows start end some = (some.0, some.1, some.2, grows some.0 some.3)
+
+  part-grows : (k : ℕ) (p : part.Part) → PartEatsNothing rows P k p → PartEatsNothing rows Q k p
+  part-grows k Nothing eats = tt
+  part-grows k (Becomes kind) eats = tt
+  part-grows k (Is end) eats = tt
+  part-grows k (Guard first next) eats = tt
+  part-grows k (Optional end) eats = tt
+  part-grows k (Repeat end) eats = tt
+  part-grows k (Node end kind) eats = all-grows (k + 1) end eats
+  part-grows k (Arm end) eats = all-grows (k + 1) end eats
+  part-grows k (Tail end level ceiling) eats = all-grows (k + 1) end eats
+  part-grows k (Once end) eats = all-grows (k + 1) end eats
+  part-grows k (Items end separator) eats = all-grows (k + 1) end eats
+  part-grows k (Call start end) eats = all-grows start end eats
+  part-grows k (Choice end) eats = some-grows (k + 1) end eats
+  part-grows k (Operators end) eats = some-grows (k + 1) end eats
+  part-grows k (Operand operators floor) eats = grows operators eats
+  part-grows k (Token kind) eats = absurd eats
+  part-grows k (Word set) eats = absurd eats
+  part-grows k (Class set) eats = absurd eats
+  part-grows k (Name kind set) eats = absurd eats
+
+-- After the last row there is nothing, which is empty.
+pub row-past : (rows : List part.Part) (k : ℕ) → length rows ≤ k → row_at rows k ≡ Nothing
+row-past rows k past = get_or_past rows k Nothing past
+
+pub empty-past : (rows : List part.Part) (k : ℕ) → length rows ≤ k → Empty rows k
+empty-past rows k past set closed = closed k (subst (λ p. PartEatsNothing rows (λ m. set m ≡ true) k p) (sym (row-past rows k past)) tt)
+
+-- A row may be empty if it eats nothing where rows that may be empty do.
+pub empty-by : (rows : List part.Part) (P : ℕ → Type 0) → ((m : ℕ) → P m → Empty rows m) → (k : ℕ) → EatsNothingBy rows P k → Empty rows k
+empty-by rows P are_empty k eats set closed =
+    closed k (part-grows rows P (λ m. set m ≡ true) (λ m has. are_empty m has set closed) k (row_at rows k) eats)

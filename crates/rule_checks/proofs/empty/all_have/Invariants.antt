@@ -1,0 +1,10 @@
+use Rattle.std.proofs.Common.{◌≡◌, ℕ, ◌-◌, true}
+use Rattle.rule_checks.specs.Sets.{has}
+use Rattle.rule_checks.proofs.Walks.{Passed}
+use Rattle.rule_checks.proofs.empty.all_have.Given as goal
+
+abbrev pub decreases-loop-at : goal.decreases-loop-at
+decreases-loop-at l = 18446744073709551615 - l.at
+
+abbrev pub invariant-loop-at : goal.invariant-loop-at
+invariant-loop-at l = Passed l.rows (λ _. Unit {0}) l.start l.end l.at (λ m. has l.marks m ≡ true)
