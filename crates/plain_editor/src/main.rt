@@ -6,6 +6,7 @@
 //! 10000, from the seed 1.
 #![tactic(auto)]
 
+mod by_rules;
 mod comparison;
 mod counts;
 mod draft;
@@ -19,6 +20,7 @@ mod trees;
 mod trivia;
 mod words;
 
+use crate::by_rules::Judged;
 use crate::comparison::compare;
 use crate::counts::Counts;
 use crate::generator::Random;
@@ -48,5 +50,16 @@ fn run(rt: &HostRuntime, scripts: u64, seed: u64) -> io::Result<ExitCode> {
         }
     }
     println!(rt; "{scripts} scripts: {counts:?}")?;
+    judge(rt, &mut random, scripts)
+}
+
+/// Judges so many sentences of rules.
+fn judge(rt: &HostRuntime, random: &mut Random, sentences: u64) -> io::Result<ExitCode> {
+    let mut judged = Judged::default();
+    if let Some(difference) = by_rules::compare(rt.alloc(), random, sentences, &mut judged)? {
+        print!(rt; "sentence {}\n{}", judged.sentences, difference.as_str())?;
+        return Ok(ExitCode::FAILURE);
+    }
+    println!(rt; "{judged:?}")?;
     Ok(ExitCode::SUCCESS)
 }

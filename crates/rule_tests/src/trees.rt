@@ -1,4 +1,5 @@
 //! Texts by rules, with the trees that they have.
+use crate::lines::line_of;
 use crate::names::{CLASSES, NODES, TOKENS};
 use rule_tables::{KeywordNames, Rules};
 use rule_text::read;
@@ -8,30 +9,6 @@ use squawk_parser::{EntryPoint, OwnedStep, StepList, parse_whole_into};
 use std::alloc::{AllocError, Global};
 use std::fmt::Write;
 use std::test::Fail;
-
-/// What a node of the kind is called.
-fn called(kind: SyntaxKind) -> &'static str {
-    for (name, node) in &NODES {
-        if *node == kind {
-            return *name;
-        }
-    }
-    "ERROR"
-}
-
-/// The line of steps: `NAME{a}` is a node with a token in it, and `!expected ;!` an error.
-fn line_of(alloc: Global, steps: &[OwnedStep]) -> Result<String, AllocError> {
-    let mut line = String::new(alloc);
-    for step in steps {
-        match step {
-            OwnedStep::Enter { kind } => write!(line, "{}{{", called(*kind))?,
-            OwnedStep::Token { kind: _, text } => line.push_str(text.as_str())?,
-            OwnedStep::Error { msg, pos: _ } => write!(line, "!{}!", msg.as_str())?,
-            OwnedStep::Exit => line.push('}')?,
-        }
-    }
-    Ok(line)
-}
 
 /// The line of a text's tree by rules.
 fn parsed(alloc: Global, rules: &str, text: &str) -> Result<String, Fail> {
@@ -47,7 +24,7 @@ fn parsed(alloc: Global, rules: &str, text: &str) -> Result<String, Fail> {
     let mut list = StepList::new(alloc);
     let entry = EntryPoint::SourceFile;
     parse_whole_into(alloc, text, &tokens, &NoKeywords, &rules, entry, &mut list)?;
-    Ok(line_of(alloc, list.steps())?)
+    Ok(line_of(alloc, &NODES, list.steps())?)
 }
 
 /// Statements of expressions.

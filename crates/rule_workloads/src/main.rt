@@ -1,0 +1,67 @@
+//! SELECT statements at random, parsed by a grammar in code and by rules: `rule_workloads JOB SEED COUNT [ROUNDS]`.
+//!
+//! `code` and `rules` take one text of COUNT statements to the parse's output ROUNDS times, and print how many events
+//! were recorded, which is the same. `making` reads the rules COUNT times and makes tables of them.
+#![tactic(auto)]
+
+mod by_code;
+mod by_rules;
+mod texts;
+
+use crate::by_rules::{making, rules};
+use crate::texts::text;
+use select_grammar::kinds::KEYWORDS;
+use squawk_keywords::Keywords;
+use std::alloc::{AllocError, Global};
+use std::process::ExitCode;
+use std::{env, io};
+
+/// A job from a seed, over so many statements, so many times.
+#[derive(Clone, Copy)]
+struct Order<'w> {
+    job: &'w str,
+    seed: u64,
+    count: usize,
+    rounds: usize,
+}
+
+fn main(rt: HostRuntime) -> io::Result<ExitCode> {
+    let mut words = env::args(&rt)?.skip(1);
+    let (Some(job), Some(seed), Some(count)) = (words.next(), words.next(), words.next()) else {
+        return Ok(ExitCode::FAILURE);
+    };
+    let (Ok(seed), Ok(count)) = (seed.parse::<u64>(), count.parse::<usize>()) else {
+        return Ok(ExitCode::FAILURE);
+    };
+    let rounds = match words.next() {
+        Some(word) => word.parse::<usize>().unwrap_or(0),
+        None => 1,
+    };
+    let order = Order {
+        job: job.as_str(),
+        seed,
+        count,
+        rounds,
+    };
+    match do_job(rt.alloc(), order)? {
+        Some(number) => {
+            println!(rt; "{number}")?;
+            Ok(ExitCode::SUCCESS)
+        }
+        None => Ok(ExitCode::FAILURE),
+    }
+}
+
+/// Does a job, if there is one of this name. A refusal counts as want of memory.
+fn do_job(alloc: Global, order: Order<'_>) -> Result<Option<u64>, AllocError> {
+    let Ok(words) = Keywords::ignoring_case(alloc, &KEYWORDS, &[]) else {
+        return Err(AllocError);
+    };
+    let text = text(alloc, order.seed, order.count)?;
+    match order.job {
+        "code" => Ok(Some(by_code::events(alloc, &words, text.as_str(), order.rounds)?)),
+        "rules" => Ok(Some(rules(alloc, &words, text.as_str(), order.rounds)?)),
+        "making" => Ok(Some(making(alloc, &words, order.count)?)),
+        _ => Ok(None),
+    }
+}
