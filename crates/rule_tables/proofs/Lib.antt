@@ -1,7 +1,7 @@
+pub mod NoKinds
+pub mod ByName
 pub mod Lists
-pub mod Exact
 pub mod NextRow
-pub mod Faulty
 pub mod Without
 pub mod Members
 pub mod MoreClasses

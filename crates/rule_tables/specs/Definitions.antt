@@ -1,53 +1,99 @@
--- The rules and classes that names stand for.
-use Rattle.std.specs.Prelude.{◌≡◌, ℕ, ◌+◌, ◌<◌, ◌≤◌, Bool, true, false, Option, Some, None, List, take, position, slice_get, nat_eq}
+-- The rules, classes and guards that names stand for.
+use Rattle.std.specs.Prelude.{◌≡◌, ℕ, nat_lt, Bool, true, false, Option, Some, None, List, take, position, slice_get, is_some, option_map}
+use Rattle.std.specs.BTreeMap.{BTreeMap, get_by}
+use Rattle.std.specs.Cmp.Lexicographic.{slice_cmp}
 use Rattle.std.specs.List.{count_by}
-use Rattle.std.specs.Cmp.Lexicographic.{pointwise}
+use Rattle.std.specs.Ordering.{nat_cmp}
+use Rattle.std.specs.Str.{bytes_eq}
+use denote.Ref.{Bor}
 use Rattle.rule_parts.specs.declared.Part.{Part}
-use Rattle.rule_parts.specs.declared.Part.TheVariants.{Set, Rule}
+use Rattle.rule_parts.specs.declared.Part.TheVariants.{Set, Words, Guard, Rule}
+use Rattle.rule_tables.specs.declared.definitions.Definition.{Definition}
 
--- whether the part is a rule or a class with this name
+-- the name that a rule, a class or a guard has
+abbrev pub name_of : Part → Option (List ℕ)
+name_of (Set own size) = Some own.text.now
+name_of (Words own size) = Some own.text.now
+name_of (Guard own first next) = Some own.text.now
+name_of (Rule own message size) = Some own.text.now
+name_of part = None
+
+-- whether it is this name
+abbrev pub is_name : List ℕ → Option (List ℕ) → Bool
+is_name name None = false
+is_name name (Some own) = bytes_eq own name
+
+-- whether the part is a rule, a class or a guard with this name
 abbrev pub defines : List ℕ → Part → Bool
-defines name (Set own size) = pointwise nat_eq own.text.now name
-defines name (Rule own message size) = pointwise nat_eq own.text.now name
-defines name part = false
+defines name part = is_name name (name_of part)
 
--- the index of the first rule or class with this name
+-- the index of the first one with this name
 abbrev pub definition_of : List Part → List ℕ → Option ℕ
 definition_of parts name = position (defines name) parts
 
--- whether the part is a class
-abbrev pub is_class : Part → Bool
-is_class (Set own size) = true
-is_class part = false
+-- the part at an index, if there is one
+abbrev pub part_in : List Part → Option ℕ → Option Part
+part_in parts None = None
+part_in parts (Some i) = slice_get parts i
 
--- how many classes there are in some parts
-abbrev pub classes_in : List Part → ℕ
-classes_in parts = count_by is_class parts
+-- the first rule, class or guard with this name
+abbrev pub defined : List Part → List ℕ → Option Part
+defined parts name = part_in parts (definition_of parts name)
 
--- the number of the class that part i is, if it is one: how many classes stand before it
-abbrev pub number_of_class : List Part → ℕ → Option Part → Option ℕ
-number_of_class parts i (Some (Set own size)) = Some (classes_in (take i parts))
-number_of_class parts i part = None
+-- whether it is there, and before part i
+abbrev pub is_before : ℕ → Option ℕ → Bool
+is_before i None = false
+is_before i (Some j) = nat_lt j i
 
--- the number of the class at an index, if there is one
-abbrev pub class_of : List Part → Option ℕ → Option ℕ
-class_of parts None = None
-class_of parts (Some i) = number_of_class parts i (slice_get parts i)
+-- whether there is such a part
+abbrev pub is_set : Option Part → Bool
+is_set (Some (Set own size)) = true
+is_set part = false
 
--- the number of the class with this name
-abbrev pub class_number : List Part → List ℕ → Option ℕ
-class_number parts name = class_of parts (definition_of parts name)
+abbrev pub is_rule : Option Part → Bool
+is_rule (Some (Rule own message size)) = true
+is_rule part = false
+
+abbrev pub is_guard : Option Part → Bool
+is_guard (Some (Guard own first next)) = true
+is_guard part = false
 
 -- how many members a class has, if the part is one
 abbrev pub size_of_class : Option Part → Option ℕ
 size_of_class (Some (Set own size)) = Some size
+size_of_class (Some (Words own size)) = Some size
 size_of_class part = None
 
--- Part i is a member of a class, and so many classes stand before that.
-pub record IsMember (parts : List Part) (i before : ℕ) : Type 0 where
-  pub class : ℕ
-  pub size : ℕ
-  pub is : size_of_class (slice_get parts class) ≡ Some size
-  pub above : class < i
-  pub within : i ≤ class + size
-  pub count : classes_in (take class parts) ≡ before
+abbrev pub is_class : Option Part → Bool
+is_class part = is_some (size_of_class part)
+
+-- how many classes there are in some parts
+abbrev pub classes_in : List Part → ℕ
+classes_in parts = count_by (λ p. is_class (Some p)) parts
+
+-- ---- definitions by names
+
+-- the index of a definition, and how many classes stand before it
+abbrev pub definition_at : List Part → ℕ → Definition
+definition_at parts i = record { part = i; number = classes_in (take i parts) }
+
+-- the first definition of the name in the first n parts
+abbrev pub definition_in : List Part → ℕ → List ℕ → Option Definition
+definition_in parts n name = option_map (definition_at parts) (position (defines name) (take n parts))
+
+-- what a map has for a name
+abbrev pub has_for : BTreeMap (Bor (List ℕ)) Definition → List ℕ → Option Definition
+has_for map name = get_by (λ key. slice_cmp nat_cmp name key.now) map
+
+-- a map has the definitions of the first n parts
+abbrev pub HasDefinitions : List Part → ℕ → BTreeMap (Bor (List ℕ)) Definition → Type 0
+HasDefinitions parts n map = (name : List ℕ) → has_for map name ≡ definition_in parts n name
+
+-- the number of a class: how many classes stand before it
+abbrev pub number_in : List Part → Option ℕ → Option Part → Option ℕ
+number_in parts None part = None
+number_in parts (Some i) part = option_map (λ _. classes_in (take i parts)) (size_of_class part)
+
+-- the number of the class with this name
+abbrev pub class_number : List Part → List ℕ → Option ℕ
+class_number parts name = number_in parts (definition_of parts name) (defined parts name)

@@ -1,56 +1,82 @@
 -- What is wrong with parts that are refused.
-use Rattle.std.specs.Prelude.{◌≡◌, ℕ, ◌≤◌, Bool, false, Option, Some, None, List, take, slice_get, IfSome, IsTrue, is_some, ◌⊎◌}
+use Rattle.std.specs.Prelude.{◌≡◌, ℕ, ◌+◌, zero, suc, ◌&&◌, ◌||◌, not, nat_lt, Bool, false, Option, Some, None, List, length, slice_get, is_some, is_none, if◌then◌else◌, ◌⊎◌}
+use Rattle.std.specs.Option.{option_and_then, option_or}
 use Rattle.rule_parts.specs.declared.Part.{Part}
 use Rattle.rule_parts.specs.declared.Part.TheVariants as part
 use Rattle.rule_tables.specs.declared.error.RulesError.{RulesError}
-use Rattle.rule_tables.specs.declared.error.RulesError.TheVariants.{Undefined, Doubled, UnknownKind, Undecided, TooMany, Memory}
-use Rattle.rule_tables.specs.Definitions.{IsMember, class_number, definition_of}
-use Rattle.rule_tables.specs.Rows.{call_of}
-use Rattle.rule_tables.specs.Vocabulary.{Vocabulary}
+use Rattle.rule_tables.specs.declared.error.RulesError.TheVariants.{Undefined, Doubled, UnknownKind, TooMany, Memory}
+use Rattle.rule_tables.specs.declared.outer.Outer.{Outer}
+use Rattle.rule_tables.specs.Definitions.{defined, definition_of, is_before, is_class, is_guard, is_rule, is_set, name_of}
+use Rattle.rule_tables.specs.Outer.{is_member, outer_at}
+use Rattle.rule_tables.specs.Rows.{end_of, level_of, size_of}
+use Rattle.rule_tables.specs.Vocabulary.{Vocabulary, kind_in}
 
--- No rule or class has the name of the part: in a class no class before that, or none that the caller gives.
-abbrev pub LacksDefinition : Vocabulary → List Part → ℕ → Part → Type 0
-LacksDefinition v parts i (part.Class name) = IfSome (class_number parts name.text.now) (λ n. (before : ℕ) × (before ≤ n) × IsMember parts i before)
-LacksDefinition v parts i (part.Call name) = (call_of parts (definition_of parts name.text.now) ≡ None) ⊎ ((before : ℕ) × IsMember parts i before × (v.class name.text.now ≡ None))
-LacksDefinition v parts i p = ⊥
+-- ---- names
 
--- no kind has the name of the part
-abbrev pub LacksKind : Vocabulary → Part → Type 0
-LacksKind v (part.Token name) = v.token name.text.now ≡ None
-LacksKind v (part.List size separator) = v.token separator.text.now ≡ None
-LacksKind v (part.Becomes name) = v.node name.text.now ≡ None
-LacksKind v p = ⊥
+-- whether a rule, class or guard before part i has this name
+abbrev pub is_taken : List Part → ℕ → Option (List ℕ) → Bool
+is_taken parts i None = false
+is_taken parts i (Some name) = is_before i (definition_of parts name)
 
--- whether one of the parts before a rule or class has its name
-abbrev pub is_doubled_in : List Part → Part → Bool
-is_doubled_in before (part.Set own size) = is_some (definition_of before own.text.now)
-is_doubled_in before (part.Rule own message size) = is_some (definition_of before own.text.now)
-is_doubled_in before p = false
+-- Whether nothing that the part needs has the name in it. A class may have classes before it as members, and those of the
+-- caller.
+abbrev pub is_undefined : Vocabulary → List Part → Outer → ℕ → Part → Bool
+is_undefined v parts outer i (part.Class name) =
+    not (if is_member outer i then is_before outer.class (definition_of parts name.text.now) && is_set (defined parts name.text.now) else is_class (defined parts name.text.now))
+is_undefined v parts outer i (part.Call name) = not (if is_member outer i then is_some (v.class name.text.now) else is_rule (defined parts name.text.now))
+is_undefined v parts outer i (part.Guarded name) = not (is_member outer i || is_guard (defined parts name.text.now))
+is_undefined v parts outer i (part.Guard own first next) = not (is_set (defined parts first.text.now) && is_set (defined parts next.text.now))
+is_undefined v parts outer i p = false
 
--- a part before part i has its name
-abbrev pub IsDoubled : List Part → ℕ → Part → Type 0
-IsDoubled parts i p = IsTrue (is_doubled_in (take i parts) p)
+-- the fault of the names of part i
+abbrev pub name_fault : Vocabulary → List Part → Outer → ℕ → Part → Option RulesError
+name_fault v parts outer i p = if is_taken parts i (name_of p) then Some (Doubled i) else if is_undefined v parts outer i p then Some (Undefined i) else None
 
--- a fault is that of part i
-abbrev pub IsFaultOf : Vocabulary → List Part → ℕ → Part → RulesError → Type 0
-IsFaultOf v parts i p (Undefined j) = (j ≡ i) × LacksDefinition v parts i p
-IsFaultOf v parts i p (UnknownKind j) = (j ≡ i) × LacksKind v p
-IsFaultOf v parts i p (Doubled j) = (j ≡ i) × IsDoubled parts i p
-IsFaultOf v parts i p (Undecided j) = ⊥
-IsFaultOf v parts i p TooMany = Unit {0}
-IsFaultOf v parts i p (Memory reason) = Unit {0}
+-- ---- kinds
 
--- there is a part, and it is such a one
-abbrev pub AtPart : (Part → Type 0) → Option Part → Type 0
-AtPart P None = ⊥
-AtPart P (Some p) = P p
+-- whether no kind has the name in the part: of tokens in a class, else of tokens or nodes
+abbrev pub lacks_kind : Vocabulary → Outer → ℕ → Part → Bool
+lacks_kind v outer i (part.Token name) = is_none (kind_in v (is_member outer i && outer.is_words) name.text.now)
+lacks_kind v outer i (part.Becomes name) = is_none (if is_member outer i then v.token name.text.now else v.node name.text.now)
+lacks_kind v outer i (part.Kind name) = not (is_member outer i) && is_none (v.node name.text.now)
+lacks_kind v outer i (part.List size separator) = not (is_member outer i) && is_none (v.token separator.text.now)
+lacks_kind v outer i p = false
 
--- the part that a fault names has it
-abbrev pub IsFault : Vocabulary → List Part → RulesError → Type 0
-IsFault v parts (Undefined j) = AtPart (LacksDefinition v parts j) (slice_get parts j)
-IsFault v parts (UnknownKind j) = AtPart (LacksKind v) (slice_get parts j)
-IsFault v parts (Doubled j) = AtPart (IsDoubled parts j) (slice_get parts j)
-IsFault v parts reason = Unit {0}
+-- the fault of the kind in part i
+abbrev pub kind_fault : Vocabulary → Outer → ℕ → Part → Option RulesError
+kind_fault v outer i p = if lacks_kind v outer i p then Some (UnknownKind i) else None
+
+-- ---- sizes
+
+-- there are more than 65,000 parts up to the end of the part, or its level is above that
+abbrev pub is_large : ℕ → Part → Bool
+is_large i p = nat_lt 65000 (end_of i (size_of p)) || nat_lt 65000 (level_of p)
+
+abbrev pub size_fault : ℕ → Part → Option RulesError
+size_fault i p = if is_large i p then Some TooMany else None
+
+-- ---- the first fault
+
+-- the fault of part i, if there is such a part
+abbrev pub fault_at : (ℕ → Part → Option RulesError) → List Part → ℕ → Option RulesError
+fault_at fault parts i = option_and_then (fault i) (slice_get parts i)
+
+-- the fault of the first part that has one, of the first n parts
+abbrev pub first_fault : (ℕ → Part → Option RulesError) → List Part → ℕ → Option RulesError
+first_fault fault parts zero = None
+first_fault fault parts (suc n) = option_or (first_fault fault parts n) (fault_at fault parts n)
+
+abbrev pub first_name_fault : Vocabulary → List Part → ℕ → Option RulesError
+first_name_fault v parts n = first_fault (λ i. name_fault v parts (outer_at parts i) i) parts n
+
+abbrev pub first_kind_fault : Vocabulary → List Part → ℕ → Option RulesError
+first_kind_fault v parts n = first_fault (λ i. kind_fault v (outer_at parts i) i) parts n
+
+-- Names come first, then kinds, then sizes.
+abbrev pub fault_of : Vocabulary → List Part → Option RulesError
+fault_of v parts = option_or (option_or (first_name_fault v parts (length parts)) (first_kind_fault v parts (length parts))) (first_fault size_fault parts (length parts))
+
+-- ---- refusals
 
 -- a fault that is none of a name
 abbrev pub NamesNothing : RulesError → Type 0
@@ -58,3 +84,12 @@ NamesNothing (Undefined j) = ⊥
 NamesNothing (UnknownKind j) = ⊥
 NamesNothing (Doubled j) = ⊥
 NamesNothing reason = Unit {0}
+
+-- memory ran out
+abbrev pub IsMemory : RulesError → Type 0
+IsMemory (Memory reason) = Unit {0}
+IsMemory reason = ⊥
+
+-- Parts are refused for their first fault; if they have none, for another one than of a name.
+abbrev pub IsRefusal : Vocabulary → List Part → RulesError → Type 0
+IsRefusal v parts reason = (fault_of v parts ≡ Some reason) ⊎ ((fault_of v parts ≡ None) × NamesNothing reason) ⊎ IsMemory reason

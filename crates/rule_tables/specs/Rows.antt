@@ -1,22 +1,26 @@
 -- The row that each part is.
-use Rattle.std.specs.Prelude.{◌≡◌, ℕ, ◌+◌, ◌-◌, ◌<◌, zero, suc, ◌||◌, ◌==◌, nat_lt, Bool, true, false, Option, Some, None, List, length, position, slice_get, option_map, IfSome, if◌then◌else◌}
+use Rattle.std.specs.Prelude.{◌≡◌, ℕ, ◌+◌, ◌-◌, ◌<◌, ◌≤◌, ◌||◌, ◌==◌, nat_lt, Bool, true, false, Option, Some, None, List, [], ◌∷◌, length, position, slice_get, take, option_map, unwrap_or, IfSome, if◌then◌else◌}
+use Rattle.std.specs.Option.{option_and_then, option_or}
 use Rattle.rule_parts.specs.declared.Part.{Part}
 use Rattle.rule_parts.specs.declared.Part.TheVariants as part
 use Rattle.rule_parts.specs.declared.Association.{Association}
 use Rattle.rule_parts.specs.declared.Association.TheVariants.{Neither}
 use Rattle.rule_grammar.specs.declared.part.Part as row
-use Rattle.rule_grammar.specs.declared.part.Part.TheVariants.{Nothing, Token, Class, Node, Becomes, Is, Choice, Arm, Optional, Repeat, List as Items, Call, Operators, Operand, Tail, Some as Once}
+use Rattle.rule_grammar.specs.declared.part.Part.TheVariants.{Nothing, Token, Word, Class, Name, Node, Becomes, Is, Guard, Choice, Arm, Optional, Repeat, List as Items, Call, Operators, Operand, Tail, Some as Once}
 use Rattle.rule_grammar.specs.Parts.{part_at}
 use Rattle.squawk_kinds.specs.Kinds.{ERROR}
-use Rattle.rule_tables.specs.Definitions.{class_number, definition_of}
+use Rattle.rule_tables.specs.declared.outer.Outer.{Outer}
+use Rattle.rule_tables.specs.Classes.{members_of}
+use Rattle.rule_tables.specs.Definitions.{class_number, classes_in, defined, definition_of, is_rule}
+use Rattle.rule_tables.specs.Outer.{is_member, outer_at}
 use Rattle.rule_tables.specs.Vocabulary.{Vocabulary}
 
 -- how many parts are in one
 abbrev pub size_of : Part → ℕ
 size_of (part.Set own size) = size
+size_of (part.Words own size) = size
 size_of (part.Rule own message size) = size
 size_of (part.Node size) = size
-size_of (part.Words own size) = size
 size_of (part.Is size) = size
 size_of (part.Choice size ordered) = size
 size_of (part.Arm size) = size
@@ -28,9 +32,19 @@ size_of (part.Operators size) = size
 size_of (part.Tail level association size) = size
 size_of p = 0
 
+-- the level of an operator, or the least one in an operand
+abbrev pub level_of : Part → ℕ
+level_of (part.Tail level association size) = level
+level_of (part.Operand floor) = floor
+level_of p = 0
+
 -- the row after the last one in part i, if it has this size
 abbrev pub end_of : ℕ → ℕ → ℕ
 end_of i size = i + 1 + size
+
+-- There are at most 65,000 parts, also by their sizes, and the levels are at most that.
+abbrev pub AreSmall : List Part → Type 0
+AreSmall parts = (i : ℕ) (p : Part) → slice_get parts i ≡ Some p → (end_of i (size_of p) ≤ 65000) × (level_of p ≤ 65000)
 
 -- the call of the rule that part i is, if it is one: its rows
 abbrev pub call_of_rule : ℕ → Option Part → Option row.Part
@@ -42,86 +56,91 @@ abbrev pub call_of : List Part → Option ℕ → Option row.Part
 call_of parts None = None
 call_of parts (Some i) = call_of_rule i (slice_get parts i)
 
--- whether the part is a rule
-abbrev pub is_rule : Part → Bool
-is_rule (part.Rule own message size) = true
-is_rule p = false
-
 -- The rule of a file is the first one, if there is one.
 abbrev pub IsFileRule : List Part → ℕ → ℕ → Type 0
-IsFileRule parts start end = IfSome (call_of parts (position is_rule parts)) (λ call. call ≡ Call start end)
+IsFileRule parts start end = IfSome (call_of parts (position (λ p. is_rule (Some p)) parts)) (λ call. call ≡ Call start end)
+
+-- a token of a set, which gets the kind, if there is one
+abbrev pub token_row : ℕ → Option ℕ → row.Part
+token_row set None = Class set
+token_row set (Some kind) = Name kind set
+
+-- the kind that a member of a class names, if it does, and the first one that some members name
+abbrev pub kind_name : Part → Option (List ℕ)
+kind_name (part.Becomes name) = Some name.text.now
+kind_name p = None
+
+abbrev pub named_kind : List Part → Option (List ℕ)
+named_kind [] = None
+named_kind (p ∷ ps) = option_or (kind_name p) (named_kind ps)
+
+-- a token of the class that part i is, if it is one: one that gets the kind which the class names, or an identifier
+abbrev pub class_row : Vocabulary → List Part → ℕ → Option Part → row.Part
+class_row v parts i (Some (part.Set own size)) = token_row (classes_in (take i parts)) (option_and_then v.token (named_kind (members_of parts i size)))
+class_row v parts i (Some (part.Words own size)) = Word (classes_in (take i parts))
+class_row v parts i part = Nothing
+
+-- a token of the class at an index, if there is one
+abbrev pub class_of : Vocabulary → List Part → Option ℕ → row.Part
+class_of v parts None = Nothing
+class_of v parts (Some i) = class_row v parts i (slice_get parts i)
+
+-- a guard by the numbers of its classes
+abbrev pub guard_of : Option ℕ → Option ℕ → row.Part
+guard_of None next = Nothing
+guard_of (Some first) None = Nothing
+guard_of (Some first) (Some next) = Guard first next
+
+-- the guard that a part is, if it is one
+abbrev pub guard_row : List Part → Option Part → row.Part
+guard_row parts (Some (part.Guard own first next)) = guard_of (class_number parts first.text.now) (class_number parts next.text.now)
+guard_row parts part = Nothing
 
 -- the greatest level of an operator after one of this level
 abbrev pub ceiling : Association → ℕ → ℕ
 ceiling Neither level = level - 1
 ceiling association level = level
 
--- The row of part i outside of a class. The operators before it stand at `operators`.
-abbrev pub row_of : Vocabulary → List Part → ℕ → ℕ → Part → Option row.Part
--- a class, and what is in one
-row_of v parts operators i (part.Set own size) = Some Nothing
-row_of v parts operators i (part.Words own size) = Some Nothing
-row_of v parts operators i (part.Guard own first next) = Some Nothing
-row_of v parts operators i part.Without = Some Nothing
-row_of v parts operators i (part.Guarded name) = Some Nothing
-row_of v parts operators i (part.Is size) = Some (Is (end_of i size))
-row_of v parts operators i (part.Kind name) = option_map Becomes (v.node name.text.now)
+-- a row, if a name stands for one
+abbrev pub or_nothing : Option row.Part → row.Part
+or_nothing found = unwrap_or found Nothing
+
+-- The row of part i, which is no member of a class. The operators before it stand at `operators`.
+abbrev pub row_of : Vocabulary → List Part → ℕ → ℕ → Part → row.Part
+-- definitions, and what is in a class alone
+row_of v parts operators i (part.Set own size) = Nothing
+row_of v parts operators i (part.Words own size) = Nothing
+row_of v parts operators i (part.Guard own first next) = Nothing
+row_of v parts operators i part.Without = Nothing
 -- a rule is an arm that stands in no choice
-row_of v parts operators i (part.Rule own message size) = Some (Arm (end_of i size))
--- the kind that the caller gives
-row_of v parts operators i (part.Token name) = option_map Token (v.token name.text.now)
-row_of v parts operators i (part.Becomes name) = option_map Becomes (v.node name.text.now)
-row_of v parts operators i (part.List size separator) = option_map (Items (end_of i size)) (v.token separator.text.now)
--- the number of the class, the rows of the rule
-row_of v parts operators i (part.Class name) = option_map Class (class_number parts name.text.now)
-row_of v parts operators i (part.Call name) = call_of parts (definition_of parts name.text.now)
-row_of v parts operators i (part.Node size) = Some (Node (end_of i size) ERROR)
-row_of v parts operators i (part.Choice size ordered) = Some (Choice (end_of i size))
-row_of v parts operators i (part.Arm size) = Some (Arm (end_of i size))
-row_of v parts operators i (part.Optional size greedy) = Some (Optional (end_of i size))
-row_of v parts operators i (part.Repeat size greedy) = Some (Repeat (end_of i size))
-row_of v parts operators i (part.Some size greedy) = Some (Once (end_of i size))
-row_of v parts operators i (part.Operators size) = Some (Operators (end_of i size))
-row_of v parts operators i (part.Tail level association size) = Some (Tail (end_of i size) level (ceiling association level))
-row_of v parts operators i (part.Operand floor) = Some (Operand operators floor)
+row_of v parts operators i (part.Rule own message size) = Arm (end_of i size)
+-- what names stand for
+row_of v parts operators i (part.Token name) = or_nothing (option_map Token (v.token name.text.now))
+row_of v parts operators i (part.Becomes name) = or_nothing (option_map Becomes (v.node name.text.now))
+row_of v parts operators i (part.Kind name) = or_nothing (option_map Becomes (v.node name.text.now))
+row_of v parts operators i (part.List size separator) = or_nothing (option_map (Items (end_of i size)) (v.token separator.text.now))
+row_of v parts operators i (part.Class name) = class_of v parts (definition_of parts name.text.now)
+row_of v parts operators i (part.Call name) = or_nothing (call_of parts (definition_of parts name.text.now))
+row_of v parts operators i (part.Guarded name) = guard_row parts (defined parts name.text.now)
+-- the others
+row_of v parts operators i (part.Node size) = Node (end_of i size) ERROR
+row_of v parts operators i (part.Is size) = Is (end_of i size)
+row_of v parts operators i (part.Choice size ordered) = Choice (end_of i size)
+row_of v parts operators i (part.Arm size) = Arm (end_of i size)
+row_of v parts operators i (part.Optional size greedy) = Optional (end_of i size)
+row_of v parts operators i (part.Repeat size greedy) = Repeat (end_of i size)
+row_of v parts operators i (part.Some size greedy) = Once (end_of i size)
+row_of v parts operators i (part.Operators size) = Operators (end_of i size)
+row_of v parts operators i (part.Tail level association size) = Tail (end_of i size) level (ceiling association level)
+row_of v parts operators i (part.Operand floor) = Operand operators floor
 
--- ---- what the parts before one say of it
-
--- the index after the last member of the class before part i + 1, by that before part i
-abbrev pub members_end_after : ℕ → ℕ → Option Part → ℕ
-members_end_after before i (Some (part.Set own size)) = end_of i size
-members_end_after before i part = before
-
--- the index after the last member of the class before part i, or 0
-abbrev pub members_end : List Part → ℕ → ℕ
-members_end parts zero = 0
-members_end parts (suc i) = members_end_after (members_end parts i) i (slice_get parts i)
-
--- the index of the operators before part i + 1, by that before part i
-abbrev pub operators_after : ℕ → ℕ → Option Part → ℕ
-operators_after before i (Some (part.Operators size)) = i
-operators_after before i part = before
-
--- the index of the operators before part i, or 0
-abbrev pub operators_before : List Part → ℕ → ℕ
-operators_before parts zero = 0
-operators_before parts (suc i) = operators_after (operators_before parts i) i (slice_get parts i)
-
--- ---- the row of a part
-
--- The row of part i. The class before it ends before `members`, and the operators before it stand at `operators`. A
--- member of a class is nothing.
-abbrev pub row_by : Vocabulary → List Part → ℕ → ℕ → ℕ → Part → Option row.Part
-row_by v parts members operators i p = if nat_lt i members then Some Nothing else row_of v parts operators i p
+-- The row of part i. A member of a class is nothing.
+abbrev pub row_by : Vocabulary → List Part → Outer → ℕ → Part → row.Part
+row_by v parts outer i p = if is_member outer i then Nothing else row_of v parts outer.operators i p
 
 -- the row of part i, if there is such a part
-abbrev pub row_at : Vocabulary → List Part → ℕ → Option Part → Option row.Part
-row_at v parts i None = None
-row_at v parts i (Some p) = row_by v parts (members_end parts i) (operators_before parts i) i p
-
--- the row of part i, if the names in it stand for something
-abbrev pub row_in : Vocabulary → List Part → ℕ → Option row.Part
-row_in v parts i = row_at v parts i (slice_get parts i)
+abbrev pub row_at : Vocabulary → List Part → ℕ → Option row.Part
+row_at v parts i = option_map (row_by v parts (outer_at parts i) i) (slice_get parts i)
 
 -- the items of a list, as far as n, are those that a function gives for their indices
 abbrev pub ListsSome : {X : Type 0} → (ℕ → Option X) → ℕ → List X → Type 0
@@ -129,7 +148,7 @@ ListsSome f n xs = (i : ℕ) → i < n → slice_get xs i ≡ f i
 
 -- the rows of all parts
 abbrev pub AreRows : Vocabulary → List Part → List row.Part → Type 0
-AreRows v parts rows = ListsSome (row_in v parts) (length parts) rows
+AreRows v parts rows = ListsSome (row_at v parts) (length parts) rows
 
 -- ---- rows as numbers
 
@@ -148,4 +167,4 @@ SayRows rows numbers = ListsSome (λ i. Some (part_at numbers i)) (length rows) 
 
 -- The rows of a table are those of the parts.
 abbrev pub HasRows : Vocabulary → List Part → List (List ℕ) → Type 0
-HasRows v parts numbers = (i : ℕ) → i < length parts → row_in v parts i ≡ Some (part_at numbers i)
+HasRows v parts numbers = (i : ℕ) → i < length parts → row_at v parts i ≡ Some (part_at numbers i)

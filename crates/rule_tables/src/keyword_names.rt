@@ -3,6 +3,7 @@ ghost use Rattle.std.specs.Prelude.{◌≡◌};
 ghost use Rattle.rule_tables.specs.Vocabulary.{named};
 
 use crate::names::Names;
+use crate::sets::{set_of, without};
 use squawk_kinds::{SyntaxKind, TokenSet, Vocabulary};
 
 /// Names by a vocabulary and by lists, of which the first pair with a name counts.
@@ -15,16 +16,23 @@ pub struct KeywordNames<'n, V> {
     pub nodes: &'n [(&'n str, SyntaxKind)],
     /// The caller's classes of tokens.
     pub classes: &'n [(&'n str, TokenSet)],
+    /// The kinds that operators are made of. The end of the text is none.
+    pub operators: TokenSet,
 }
 
 impl<'n, V: Vocabulary> Names for KeywordNames<'n, V> {
+    ghost use Rattle.std.specs.Prelude.{◌&&◌, ◌==◌, not};
     ghost use Rattle.std.specs.Option.{option_or};
+    ghost use Rattle.squawk_kinds.specs.Kinds.{EOF};
+    ghost use Rattle.squawk_kinds.specs.TokenSets.{has};
     ghost use Rattle.rule_tables.specs.Vocabulary.{named};
 
     ghost vocabulary = { λ names. record {
       token = λ name. option_or (named names.tokens.now name) (V.keyword names.words.now name);
       node = λ name. named names.nodes.now name;
+      word = λ text. V.contextual_keyword names.words.now text;
       class = λ name. named names.classes.now name;
+      operators = λ kind. has names.operators kind && not (EOF == kind);
     } };
 
     fn token(&self, name: &str) -> Option<SyntaxKind> {
@@ -35,8 +43,16 @@ impl<'n, V: Vocabulary> Names for KeywordNames<'n, V> {
         kind_in(self.nodes, name)
     }
 
+    fn word(&self, text: &str) -> Option<SyntaxKind> {
+        self.words.from_contextual_keyword(text)
+    }
+
     fn class(&self, name: &str) -> Option<TokenSet> {
         class_in(self.classes, name)
+    }
+
+    fn operators(&self) -> TokenSet {
+        without(self.operators, set_of(SyntaxKind::EOF))
     }
 }
 

@@ -8,6 +8,7 @@
 mod classes;
 mod definitions;
 mod error;
+mod faults;
 mod follow;
 mod keyword_names;
 mod looks;
@@ -15,6 +16,7 @@ mod map;
 mod messages;
 mod names;
 mod numbers;
+mod outer;
 mod rows;
 mod rules;
 mod sets;

@@ -1,19 +1,19 @@
 //! Rows: parts, with what the names in them stand for.
-ghost use Rattle.std.specs.Prelude.{◌≡◌, ◌≤◌, ◌+◌, ◌⊎◌, IfErr, IfOk, None, Some, length, position, slice_get};
-ghost use Rattle.rule_grammar.specs.declared.part.Part.TheVariants.{Tail};
-ghost use Rattle.rule_tables.specs.Definitions.{class_number, definition_of};
-ghost use Rattle.rule_tables.specs.Rows.{AreRows, IsFileRule, call_of, ceiling, end_of, is_rule, members_end, members_end_after, operators_after, operators_before, row_by, row_of, size_of};
-ghost use Rattle.rule_tables.specs.Faults.{IsFault, IsFaultOf};
-ghost use Rattle.rule_tables.specs.declared.error.RulesError.TheVariants.{TooMany, Undefined, UnknownKind};
+ghost use Rattle.std.specs.Prelude.{◌≡◌, ◌≤◌, All, IfOk, IfSome, IsTrue, Some, length, option_map, position, slice_get, take};
+ghost use Rattle.std.specs.Option.{option_and_then};
+ghost use Rattle.rule_grammar.specs.declared.part.Part.TheVariants.{Becomes, Call, List as Items, Tail, Token};
+ghost use Rattle.rule_tables.specs.Definitions.{classes_in, defined, definition_of, is_rule};
+ghost use Rattle.rule_tables.specs.Rows.{AreRows, AreSmall, IsFileRule, call_of, call_of_rule, ceiling, class_of, class_row, end_of, guard_of, guard_row, is_exact, level_of, named_kind, or_nothing, row_by, row_of, size_of, token_row};
 
-use crate::definitions::{class_number, find};
-use crate::error::RulesError;
+use crate::classes::{members_of, named_kind};
+use crate::definitions::{Definitions, part_at};
 use crate::names::Names;
+use crate::outer::Outer;
 use crate::sets::push;
 use rule_grammar::Part as Row;
 use rule_parts::{Association, Name, Part};
 use squawk_kinds::SyntaxKind;
-use std::alloc::Global;
+use std::alloc::{AllocError, Global};
 
 /// The greatest number of parts, and the greatest level.
 pub(crate) const MOST: usize = 65000;
@@ -21,129 +21,90 @@ pub(crate) const MOST: usize = 65000;
 /// The rows of these parts.
 pub(crate) fn rows_of<N: Names>(
     alloc: Global,
-    parts: &[Part<'_>],
+    definitions: &Definitions<'_, '_>,
     names: &N,
-) -> Result<Vec<Row>, RulesError>
-    ensures len { IfOk result (λ rows. length rows.items ≡ length parts.now) }
-    ensures err { IfErr result (λ reason. IsFault (N.vocabulary names.now) parts.now reason) }
-    ensures are { IfOk result (λ rows. AreRows (N.vocabulary names.now) parts.now rows.items) }
+) -> Result<Vec<Row>, AllocError>
+    requires { AreSmall definitions.now.parts.now }
+    ensures len { IfOk result (λ rows. length rows.items ≡ length definitions.now.parts.now) }
+    ensures are { IfOk result (λ rows. AreRows (N.vocabulary names.now) definitions.now.parts.now rows.items) }
+    ensures exact { IfOk result (λ rows. All (λ row. IsTrue (is_exact row)) rows.items) }
 {
     let mut rows = Vec::new(alloc);
-    let mut outer = Outer {
-        members_end: 0,
-        operators: 0,
-    };
-    for (index, part) in parts.iter().enumerate() {
-        let row = row_by(parts, part, index, &outer, names)?;
+    let mut outer = Outer::none();
+    for (index, part) in definitions.parts.iter().enumerate() {
+        let row = row_by(definitions, names, &outer, index, part);
         push(&mut rows, row)?;
-        outer = outer_after(&outer, index, part)?;
+        outer = outer.after(index, part);
     }
     Ok(rows)
 }
 
-/// What the parts before one say of it.
-#[derive(Clone, Copy)]
-struct Outer {
-    /// The index after the last member of the class before it.
-    members_end: usize,
-    /// The index of the operators before it.
-    operators: usize,
-}
-
-fn outer_after(outer: &Outer, index: usize, part: &Part<'_>) -> Result<Outer, RulesError>
-    ensures err { IfErr result (λ reason. reason ≡ TooMany) }
-    ensures members { IfOk result (λ after. after.members_end ≡ members_end_after outer.now.members_end index (Some part.now)) }
-    ensures operators { IfOk result (λ after. after.operators ≡ operators_after outer.now.operators index (Some part.now)) }
-{
-    match part {
-        Part::Set { size, .. } => Ok(Outer {
-            members_end: usize::from(end_of(index, *size)?),
-            operators: outer.operators,
-        }),
-        Part::Operators { .. } => Ok(Outer {
-            members_end: outer.members_end,
-            operators: index,
-        }),
-        _ => Ok(*outer),
-    }
-}
-
 /// The row of a part.
 fn row_by<N: Names>(
-    parts: &[Part<'_>],
-    part: &Part<'_>,
-    index: usize,
-    outer: &Outer,
+    definitions: &Definitions<'_, '_>,
     names: &N,
-) -> Result<Row, RulesError>
-    ensures err { IfErr result (λ reason. IsFaultOf (N.vocabulary names.now) parts.now index part.now reason) }
-    ensures ok { IfOk result (λ row. row_by (N.vocabulary names.now) parts.now outer.now.members_end outer.now.operators index part.now ≡ Some row) }
+    outer: &Outer,
+    index: usize,
+    part: &Part<'_>,
+) -> Row
+    requires small { AreSmall definitions.now.parts.now }
+    requires is { slice_get definitions.now.parts.now index ≡ Some part.now }
+    requires operators { outer.now.operators ≤ index }
+    ensures is { result ≡ row_by (N.vocabulary names.now) definitions.now.parts.now outer.now index part.now }
+    ensures exact { IsTrue (is_exact result) }
 {
-    if index < outer.members_end {
-        Ok(Row::Nothing)
+    if outer.has(index) {
+        Row::Nothing
     } else {
-        row_of(parts, part, index, outer, names)
+        row_of(definitions, names, outer.operators, index, part)
     }
 }
 
 /// The row of a part that is in no class.
 fn row_of<N: Names>(
-    parts: &[Part<'_>],
-    part: &Part<'_>,
-    index: usize,
-    outer: &Outer,
+    definitions: &Definitions<'_, '_>,
     names: &N,
-) -> Result<Row, RulesError>
-    ensures err { IfErr result (λ reason. IsFaultOf (N.vocabulary names.now) parts.now index part.now reason) }
-    ensures ok { IfOk result (λ row. row_of (N.vocabulary names.now) parts.now outer.now.operators index part.now ≡ Some row) }
+    operators: usize,
+    index: usize,
+    part: &Part<'_>,
+) -> Row
+    requires small { AreSmall definitions.now.parts.now }
+    requires is { slice_get definitions.now.parts.now index ≡ Some part.now }
+    requires operators { operators ≤ index }
+    ensures is { result ≡ row_of (N.vocabulary names.now) definitions.now.parts.now operators index part.now }
+    ensures exact { IsTrue (is_exact result) }
 {
-    let end = end_of(index, size_of(part))?;
-    let row = match part {
+    let end = end_of(index, size_of(part));
+    let level = level_of(part) as u16;
+    match part {
         Part::Set { .. } | Part::Words { .. } | Part::Guard { .. } | Part::Without => Row::Nothing,
-        Part::Token { name } => Row::Token {
-            kind: token(names, name, index)?,
-        },
-        Part::Class { name } => Row::Class {
-            set: class(parts, name, index)?,
-        },
-        Part::Guarded { .. } => Row::Nothing,
-        Part::Is { .. } => Row::Is { end },
-        Part::Kind { name } => Row::Becomes {
-            kind: node(names, name, index)?,
-        },
-        Part::Call { name } => call(parts, name, index)?,
-        Part::Becomes { name } => Row::Becomes {
-            kind: node(names, name, index)?,
-        },
-        Part::List { separator, .. } => Row::List {
-            end,
-            separator: token(names, separator, index)?,
-        },
-        Part::Operand { floor } => Row::Operand {
-            operators: number(outer.operators)?,
-            floor: number(*floor)?,
-        },
-        Part::Tail {
-            level,
-            association,
-            ..
-        } => tail(end, *level, association)?,
+        Part::Rule { .. } | Part::Arm { .. } => Row::Arm { end },
+        Part::Token { name } => token(names, name),
+        Part::Becomes { name } | Part::Kind { name } => becomes(names, name),
+        Part::List { separator, .. } => list(names, end, separator),
+        Part::Class { name } => class(definitions, names, name),
+        Part::Call { name } => call(definitions, name),
+        Part::Guarded { name } => guard(definitions, name),
         Part::Node { .. } => Row::Node {
             end,
             kind: SyntaxKind::ERROR,
         },
-        Part::Rule { .. } | Part::Arm { .. } => Row::Arm { end },
+        Part::Is { .. } => Row::Is { end },
         Part::Choice { .. } => Row::Choice { end },
         Part::Optional { .. } => Row::Optional { end },
         Part::Repeat { .. } => Row::Repeat { end },
         Part::Some { .. } => Row::Some { end },
         Part::Operators { .. } => Row::Operators { end },
-    };
-    Ok(row)
+        Part::Tail { association, .. } => tail(end, level, association),
+        Part::Operand { .. } => Row::Operand {
+            operators: operators as u16,
+            floor: level,
+        },
+    }
 }
 
 /// How many parts are in one.
-fn size_of(part: &Part<'_>) -> usize
+pub(crate) fn size_of(part: &Part<'_>) -> usize
     ensures { result ≡ size_of part.now }
 {
     match part {
@@ -152,71 +113,155 @@ fn size_of(part: &Part<'_>) -> usize
         Part::Optional { size, .. } | Part::Repeat { size, .. } | Part::Some { size, .. } => *size,
         Part::List { size, .. } | Part::Operators { size } | Part::Tail { size, .. } => *size,
         Part::Is { size } => *size,
-        Part::Guard { .. } | Part::Guarded { .. } | Part::Kind { .. } => 0,
-        Part::Without | Part::Operand { .. } => 0,
-        Part::Token { .. } | Part::Class { .. } | Part::Call { .. } | Part::Becomes { .. } => 0,
+        _ => 0,
+    }
+}
+
+/// The level of an operator, or the least one in an operand.
+pub(crate) fn level_of(part: &Part<'_>) -> usize
+    ensures { result ≡ level_of part.now }
+{
+    match part {
+        Part::Tail { level, .. } => *level,
+        Part::Operand { floor } => *floor,
+        _ => 0,
     }
 }
 
 /// The row after the last one in a part of this size.
-fn end_of(index: usize, size: usize) -> Result<u16, RulesError>
-    ensures ok { IfOk result (λ end. end ≡ end_of index size) }
-    ensures err { IfErr result (λ reason. reason ≡ TooMany) }
+fn end_of(index: usize, size: usize) -> u16
+    requires { end_of index size ≤ 65000 }
+    ensures { result ≡ end_of index size }
 {
-    number(size.saturating_add(index).saturating_add(1))
+    (index + 1 + size) as u16
 }
 
-fn number(number: usize) -> Result<u16, RulesError>
-    ensures is { IfOk result (λ same. same ≡ number) }
-    ensures small { IfOk result (λ same. same ≤ 65000) }
-    ensures err { IfErr result (λ reason. reason ≡ TooMany) }
+fn tail(end: u16, level: u16, association: &Association) -> Row
+    ensures is { result ≡ Tail end level (ceiling association.now level) }
+    ensures exact { IsTrue (is_exact result) }
 {
-    if number <= MOST {
-        Ok(number as u16)
-    } else {
-        Err(RulesError::TooMany)
-    }
-}
-
-fn tail(end: u16, level: usize, association: &Association) -> Result<Row, RulesError>
-    ensures ok { IfOk result (λ row. row ≡ Tail end level (ceiling association.now level)) }
-    ensures err { IfErr result (λ reason. reason ≡ TooMany) }
-{
-    let level = number(level)?;
     let ceiling = match association {
         Association::Neither => level.saturating_sub(1),
         _ => level,
     };
-    Ok(Row::Tail {
+    Row::Tail {
         end,
         level,
         ceiling,
-    })
-}
-
-fn class(parts: &[Part<'_>], name: &Name<'_>, part: usize) -> Result<u16, RulesError>
-    ensures ok { IfOk result (λ set. class_number parts.now name.now.text.now ≡ Some set) }
-    ensures err { IfErr result (λ reason. (reason ≡ TooMany) ⊎ ((reason ≡ Undefined part) × (class_number parts.now name.now.text.now ≡ None))) }
-{
-    match class_number(parts, name.text) {
-        Some(set) => number(set),
-        None => Err(RulesError::Undefined { part }),
     }
 }
 
-fn call(parts: &[Part<'_>], name: &Name<'_>, part: usize) -> Result<Row, RulesError>
-    ensures ok { IfOk result (λ row. call_of parts.now (definition_of parts.now name.now.text.now) ≡ Some row) }
-    ensures err { IfErr result (λ reason. (reason ≡ TooMany) ⊎ ((reason ≡ Undefined part) × (call_of parts.now (definition_of parts.now name.now.text.now) ≡ None))) }
+fn token<N: Names>(names: &N, name: &Name<'_>) -> Row
+    ensures is { result ≡ or_nothing (option_map Token ((N.vocabulary names.now).token name.now.text.now)) }
+    ensures exact { IsTrue (is_exact result) }
 {
-    let Some(rule) = find(parts, name.text) else {
-        return Err(RulesError::Undefined { part });
-    };
-    match parts.get(rule) {
-        Some(Part::Rule { size, .. }) => Ok(Row::Call {
-            start: number(rule + 1)?,
-            end: end_of(rule, *size)?,
-        }),
-        _ => Err(RulesError::Undefined { part }),
+    match names.token(name.text) {
+        Some(kind) => Row::Token { kind },
+        None => Row::Nothing,
+    }
+}
+
+fn becomes<N: Names>(names: &N, name: &Name<'_>) -> Row
+    ensures is { result ≡ or_nothing (option_map Becomes ((N.vocabulary names.now).node name.now.text.now)) }
+    ensures exact { IsTrue (is_exact result) }
+{
+    match names.node(name.text) {
+        Some(kind) => Row::Becomes { kind },
+        None => Row::Nothing,
+    }
+}
+
+fn list<N: Names>(names: &N, end: u16, separator: &Name<'_>) -> Row
+    ensures is { result ≡ or_nothing (option_map (Items end) ((N.vocabulary names.now).token separator.now.text.now)) }
+    ensures exact { IsTrue (is_exact result) }
+{
+    match names.token(separator.text) {
+        Some(separator) => Row::List { end, separator },
+        None => Row::Nothing,
+    }
+}
+
+/// A token of a class.
+fn class<N: Names>(definitions: &Definitions<'_, '_>, names: &N, name: &Name<'_>) -> Row
+    requires { AreSmall definitions.now.parts.now }
+    ensures is { result ≡ class_of (N.vocabulary names.now) definitions.now.parts.now (definition_of definitions.now.parts.now name.now.text.now) }
+    ensures exact { IsTrue (is_exact result) }
+{
+    match definitions.find(name.text) {
+        Some(found) => class_row(definitions.parts, names, found.part, found.number),
+        None => Row::Nothing,
+    }
+}
+
+/// A token of the class that a part is, by its number.
+fn class_row<N: Names>(parts: &[Part<'_>], names: &N, part: usize, number: usize) -> Row
+    requires number { number ≡ classes_in (take part parts.now) }
+    requires few { number ≤ 65000 }
+    ensures is { result ≡ class_row (N.vocabulary names.now) parts.now part (slice_get parts.now part) }
+    ensures exact { IsTrue (is_exact result) }
+{
+    let set = number as u16;
+    match part_at(parts, part) {
+        Some(Part::Set { size, .. }) => set_row(names, set, members_of(parts, part, *size)),
+        Some(Part::Words { .. }) => Row::Word { set },
+        _ => Row::Nothing,
+    }
+}
+
+/// A token of a set, with the kind that the members of its class name.
+fn set_row<N: Names>(names: &N, set: u16, members: &[Part<'_>]) -> Row
+    ensures is { result ≡ token_row set (option_and_then (N.vocabulary names.now).token (named_kind members.now)) }
+    ensures exact { IsTrue (is_exact result) }
+{
+    match named_kind(members) {
+        Some(name) => match names.token(name) {
+            Some(kind) => Row::Name { kind, set },
+            None => Row::Class { set },
+        },
+        None => Row::Class { set },
+    }
+}
+
+fn guard(definitions: &Definitions<'_, '_>, name: &Name<'_>) -> Row
+    requires { AreSmall definitions.now.parts.now }
+    ensures is { result ≡ guard_row definitions.now.parts.now (defined definitions.now.parts.now name.now.text.now) }
+    ensures exact { IsTrue (is_exact result) }
+{
+    match definitions.part(name.text) {
+        Some(Part::Guard { first, next, .. }) => guard_of(
+            definitions.class_number(first.text),
+            definitions.class_number(next.text),
+        ),
+        _ => Row::Nothing,
+    }
+}
+
+fn guard_of(first: Option<usize>, next: Option<usize>) -> Row
+    requires first { IfSome first (λ number. number ≤ 65000) }
+    requires next { IfSome next (λ number. number ≤ 65000) }
+    ensures is { result ≡ guard_of first next }
+    ensures exact { IsTrue (is_exact result) }
+{
+    match (first, next) {
+        (Some(first), Some(next)) => Row::Guard {
+            first: first as u16,
+            next: next as u16,
+        },
+        _ => Row::Nothing,
+    }
+}
+
+fn call(definitions: &Definitions<'_, '_>, name: &Name<'_>) -> Row
+    requires { AreSmall definitions.now.parts.now }
+    ensures is { result ≡ or_nothing (call_of definitions.now.parts.now (definition_of definitions.now.parts.now name.now.text.now)) }
+    ensures exact { IsTrue (is_exact result) }
+{
+    match definitions.find(name.text) {
+        Some(found) => match rule_at(definitions.parts, found.part) {
+            Some(Span { start, end }) => Row::Call { start, end },
+            None => Row::Nothing,
+        },
+        None => Row::Nothing,
     }
 }
 
@@ -227,8 +272,22 @@ pub(crate) struct Span {
     pub(crate) end: u16,
 }
 
+/// The rows of the rule that a part is.
+fn rule_at(parts: &[Part<'_>], part: usize) -> Option<Span>
+    requires { AreSmall parts.now }
+    ensures { option_map (λ span. Call span.start span.end) result ≡ call_of_rule part (slice_get parts.now part) }
+{
+    match part_at(parts, part) {
+        Some(Part::Rule { size, .. }) => Some(Span {
+            start: end_of(part, 0),
+            end: end_of(part, *size),
+        }),
+        _ => None,
+    }
+}
+
 fn first_rule(parts: &[Part<'_>]) -> Option<usize>
-    ensures { result ≡ position is_rule parts.now }
+    ensures { result ≡ position (λ part. is_rule (Some part)) parts.now }
 {
     parts
         .iter()
@@ -236,44 +295,15 @@ fn first_rule(parts: &[Part<'_>]) -> Option<usize>
 }
 
 /// The rows of the rule of a file: the first rule, if there is one.
-pub(crate) fn file_of(parts: &[Part<'_>]) -> Result<Span, RulesError>
-    ensures err { IfErr result (λ reason. reason ≡ TooMany) }
-    ensures ok { IfOk result (λ span. IsFileRule parts.now span.start span.end) }
+pub(crate) fn file_of(parts: &[Part<'_>]) -> Span
+    requires { AreSmall parts.now }
+    ensures { IsFileRule parts.now result.start result.end }
 {
-    let nothing = Span { start: 0, end: 0 };
-    let Some(rule) = first_rule(parts) else {
-        return Ok(nothing);
-    };
-    match parts.get(rule) {
-        Some(Part::Rule { size, .. }) => Ok(Span {
-            start: number(rule + 1)?,
-            end: end_of(rule, *size)?,
-        }),
-        _ => Ok(nothing),
-    }
-}
-
-/// The kind of the token with this name.
-pub(crate) fn token<N: Names>(
-    names: &N,
-    name: &Name<'_>,
-    part: usize,
-) -> Result<SyntaxKind, RulesError>
-    ensures ok { IfOk result (λ kind. (N.vocabulary names.now).token name.now.text.now ≡ Some kind) }
-    ensures err { IfErr result (λ reason. (reason ≡ UnknownKind part) × ((N.vocabulary names.now).token name.now.text.now ≡ None)) }
-{
-    match names.token(name.text) {
-        Some(kind) => Ok(kind),
-        None => Err(RulesError::UnknownKind { part }),
-    }
-}
-
-fn node<N: Names>(names: &N, name: &Name<'_>, part: usize) -> Result<SyntaxKind, RulesError>
-    ensures ok { IfOk result (λ kind. (N.vocabulary names.now).node name.now.text.now ≡ Some kind) }
-    ensures err { IfErr result (λ reason. (reason ≡ UnknownKind part) × ((N.vocabulary names.now).node name.now.text.now ≡ None)) }
-{
-    match names.node(name.text) {
-        Some(kind) => Ok(kind),
-        None => Err(RulesError::UnknownKind { part }),
+    match first_rule(parts) {
+        Some(rule) => match rule_at(parts, rule) {
+            Some(span) => span,
+            None => Span { start: 0, end: 0 },
+        },
+        None => Span { start: 0, end: 0 },
     }
 }

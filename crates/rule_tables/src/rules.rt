@@ -1,22 +1,23 @@
 //! Rules that are ready to be run.
-ghost use Rattle.std.specs.Prelude.{◌≡◌, ℕ, ◌<◌, ◌≤◌, All, IfErr, IfOk, IsTrue, OnOk, Some, length, slice_get};
+ghost use Rattle.std.specs.Prelude.{◌≡◌, ℕ, ◌<◌, ◌≤◌, All, IfErr, IfOk, IsTrue, None, OnOk, Some, length, slice_get};
 ghost use Rattle.squawk_kinds.specs.TokenSets.{has};
 ghost use Rattle.rule_grammar.specs.Parts.{words_have};
 ghost use Rattle.rule_tables.specs.Classes.{HasClasses};
-ghost use Rattle.rule_tables.specs.Faults.{IsFault, NamesNothing};
-ghost use Rattle.rule_tables.specs.Rows.{HasRows, IsFileRule, SayRows, is_exact};
+ghost use Rattle.rule_tables.specs.Faults.{IsRefusal, NamesNothing, fault_of};
+ghost use Rattle.rule_tables.specs.Rows.{AreSmall, HasRows, IsFileRule, SayRows, is_exact};
 ghost use Rattle.rule_tables.specs.Sets.{Extends, HaveSets, word_of};
 
 use crate::classes::sets_of;
-use crate::definitions::refuse_doubled;
+use crate::definitions::Definitions;
 use crate::error::RulesError;
+use crate::faults::fault_of;
 use crate::follow::{Ahead, ahead_of};
 use crate::looks::{Look, Looks};
 use crate::map::{Map, NONE};
 use crate::messages::{Messages, row_of_message};
 use crate::names::Names;
 use crate::numbers::numbers_of;
-use crate::rows::{MOST, Span, file_of, rows_of};
+use crate::rows::{Span, file_of, rows_of};
 use crate::sets::{Sets, push};
 use crate::walk::Walk;
 use rule_grammar::{DEPTH, Part as Row, RuleGrammar, Table};
@@ -49,19 +50,17 @@ impl Model for Rules {
 impl Rules {
     /// The rules of these parts. A file is what the first one says.
     pub fn new<N: Names>(alloc: Global, parts: &[Part<'_>], names: &N) -> Result<Rules, RulesError>
-        ensures err { IfErr result (λ reason. IsFault (N.vocabulary names.now) parts.now reason) }
+        ensures err { IfErr result (IsRefusal (N.vocabulary names.now) parts.now) }
+        ensures named { IfOk result (λ _. fault_of (N.vocabulary names.now) parts.now ≡ None) }
         ensures file { IfOk result (λ rules. IsFileRule parts.now rules.start rules.end) }
         ensures classes { IfOk result (λ rules. HasClasses (N.vocabulary names.now) parts.now rules.sets) }
         ensures rows { IfOk result (λ rules. HasRows (N.vocabulary names.now) parts.now rules.rows) }
     {
-        if parts.len() > MOST {
-            return Err(RulesError::TooMany);
+        let definitions = Definitions::new(alloc, parts)?;
+        match fault_of(&definitions, names) {
+            Some(fault) => Err(fault),
+            None => rules_by(alloc, &definitions, names),
         }
-        refuse_doubled(parts)?;
-        let rows = rows_of(alloc, parts, names)?;
-        let sets = sets_of(alloc, parts, names)?;
-        let messages = Messages::new(alloc, parts)?;
-        rules_of(alloc, &rows, &sets, messages, file_of(parts)?)
     }
 
     /// The rules as a table.
@@ -118,6 +117,24 @@ impl Grammar for Rules {
 
 impl WholeGrammar for Rules {
     ghost leaves_whole = { λ _ _ _ _ _ left. left.whole };
+}
+
+/// The rules of parts without faults.
+fn rules_by<N: Names>(
+    alloc: Global,
+    definitions: &Definitions<'_, '_>,
+    names: &N,
+) -> Result<Rules, RulesError>
+    requires { AreSmall definitions.now.parts.now }
+    ensures err { IfErr result NamesNothing }
+    ensures file { IfOk result (λ rules. IsFileRule definitions.now.parts.now rules.start rules.end) }
+    ensures classes { IfOk result (λ rules. HasClasses (N.vocabulary names.now) definitions.now.parts.now rules.sets) }
+    ensures rows { IfOk result (λ rules. HasRows (N.vocabulary names.now) definitions.now.parts.now rules.rows) }
+{
+    let rows = rows_of(alloc, definitions, names)?;
+    let sets = sets_of(alloc, definitions, names)?;
+    let messages = Messages::new(alloc, definitions.parts)?;
+    rules_of(alloc, &rows, &sets, messages, file_of(definitions.parts))
 }
 
 /// The rules of these rows, of which some are the rule of a file.

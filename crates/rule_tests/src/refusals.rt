@@ -2,7 +2,7 @@
 use crate::names::{CLASSES, NODES, TOKENS};
 use rule_tables::{KeywordNames, Rules, RulesError};
 use rule_text::read;
-use squawk_kinds::NoKeywords;
+use squawk_kinds::{NoKeywords, TokenSet};
 use std::alloc::Global;
 use std::test::Fail;
 
@@ -14,6 +14,7 @@ fn refused(alloc: Global, text: &str) -> Result<Option<RulesError>, Fail> {
         tokens: &TOKENS,
         nodes: &NODES,
         classes: &CLASSES,
+        operators: TokenSet::EMPTY,
     };
     Ok(Rules::new(alloc, &parts, &names).err())
 }

@@ -4,7 +4,7 @@ use crate::names::{CLASSES, NODES, TOKENS};
 use rule_tables::{KeywordNames, Rules};
 use rule_text::read;
 use sql_lexer::tokenize;
-use squawk_kinds::{NoKeywords, SyntaxKind};
+use squawk_kinds::{NoKeywords, SyntaxKind, TokenSet};
 use squawk_parser::{EntryPoint, OwnedStep, StepList, parse_whole_into};
 use std::alloc::{AllocError, Global};
 use std::fmt::Write;
@@ -18,6 +18,7 @@ fn parsed(alloc: Global, rules: &str, text: &str) -> Result<String, Fail> {
         tokens: &TOKENS,
         nodes: &NODES,
         classes: &CLASSES,
+        operators: TokenSet::EMPTY,
     };
     let rules = Rules::new(alloc, &parts, &names)?;
     let tokens = tokenize(alloc, text)?;

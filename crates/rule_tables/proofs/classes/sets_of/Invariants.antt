@@ -5,6 +5,6 @@ use Rattle.rule_tables.proofs.classes.sets_of.Given as goal
 
 abbrev pub invariant-loop-index : goal.invariant-loop-index
 invariant-loop-index g l = record {
-  len : length l.sets.items ≡ classes_in (take l.index l.parts);
-  are : AreClasses (g.N.Names.vocabulary l.names) l.parts (list_has l.sets.items) l.index;
+  len : length l.sets.items ≡ classes_in (take l.index l.definitions.parts.now);
+  are : AreClasses (g.N.Names.vocabulary l.names) l.definitions.parts.now (list_has l.sets.items) l.index;
 }

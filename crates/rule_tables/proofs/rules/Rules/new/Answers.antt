@@ -1,26 +1,12 @@
-use Rattle.std.proofs.Common.{rules, All, IfOk, Err, List, Ok, Result, length, sym, subst, IsTrue}
-use Rattle.rule_grammar.specs.declared.part.Part as row
-use Rattle.squawk_kinds.specs.declared.token_set.TokenSet.{TokenSet}
-use Rattle.rule_tables.specs.Sets.{HaveSets}
-use Rattle.rule_tables.specs.Faults.{IsFault}
-use Rattle.rule_tables.specs.Rows.{is_exact}
-use Rattle.rule_tables.proofs.Words.{has_classes}
-use Rattle.rule_tables.proofs.Exact.{rows_exact}
+use Rattle.std.proofs.Common.{IfOk, List, ◌∙◌, sym, subst}
+use Rattle.rule_parts.specs.declared.Part.{Part}
+use Rattle.rule_tables.specs.Classes.{HasClasses}
+use Rattle.rule_tables.proofs.NextRow.{are_small}
 use Rattle.rule_tables.proofs.rules.Rules.new.Goals as goal
 
-pub returns-in_err-refuse_doubled-clause-err : goal.returns-in_err-refuse_doubled-clause-err
-returns-in_err-refuse_doubled-clause-err g c =
-    let fault : IsFault (g.N.Names.vocabulary c.args.names.now) c.args.parts.now c.in_err-refuse_doubled.field-0.0 = c.in_err-refuse_doubled.ensures (g.N.Names.vocabulary c.args.names.now) in
-    search rules
-
-pub rules_of-requires : goal.rules_of-requires
-rules_of-requires g c = subst (λ (rows : List row.Part). All (λ r. IsTrue (is_exact r)) rows) (sym c.deref.ensures.value) (rows_exact (g.N.Names.vocabulary c.args.names.now) c.args.parts.now c.in_ok-rows.rows.items c.in_ok-rows.ensures.len c.in_ok-rows.ensures.are)
-
-if_ok : {T E : Type 0} {P Q : T → Type 0} → ((x : T) → P x → Q x) → (r : Result T E) → IfOk r P → IfOk r Q
-if_ok each (Ok x) p = each x p
-if_ok each (Err e) p = tt
+pub rules_by-requires : goal.rules_by-requires
+rules_by-requires g c = are_small (g.N.Names.vocabulary c.args.names.now) c.in_ok-definitions.definitions.parts.now (sym c.fault_of.ensures ∙ c.in-None.is)
 
 pub returns-clause-classes : goal.returns-clause-classes
 returns-clause-classes g c =
-    if_ok (λ rules have. has_classes (g.N.Names.vocabulary c.args.names.now) c.args.parts.now c.in_ok-sets.sets.items rules.sets c.in_ok-sets.ensures.len c.in_ok-sets.ensures.are
-    (subst (λ (sets : List TokenSet). HaveSets sets rules.sets (length sets)) c.deref-2.ensures.value have)) c.rules_of.result c.rules_of.ensures.sets
+    subst (λ (parts : List Part). IfOk c.rules_by.result (λ rules. HasClasses (g.N.Names.vocabulary c.args.names.now) parts rules.sets)) c.in_ok-definitions.ensures c.rules_by.ensures.classes
