@@ -15,10 +15,11 @@ impl Table<'_> {
         }
     }
 
-    /// Whether the tokens at the position, where this symbol is, are those of a row's look, or of the looks after it.
-    pub(crate) fn sees_look(&self, row: u16, symbol: SyntaxKind, p: &Parser<'_>) -> bool {
+    /// Whether the tokens at the position are those of a row's look, or of the looks after it.
+    #[inline(always)]
+    pub(crate) fn sees_look(&self, row: u16, p: &Parser<'_>) -> bool {
         match self.row(row) {
-            Some(numbers) => self.sees(numbers[6], symbol, p),
+            Some(numbers) => numbers[6] == 0 || self.sees_some(numbers[6], self.symbol(p), p),
             None => true,
         }
     }
@@ -43,14 +44,11 @@ impl Table<'_> {
         false
     }
 
-    fn look(&self, look: u16) -> Option<[u16; 5]> {
-        match self.looks.get(usize::from(look.saturating_sub(1))) {
-            Some(row) => Some(*row),
-            None => None,
-        }
+    fn look(&self, look: u16) -> Option<&[u16; 5]> {
+        self.looks.get(usize::from(look.saturating_sub(1)))
     }
 
-    fn sees_row(&self, row: [u16; 5], symbol: SyntaxKind, p: &Parser<'_>) -> bool {
+    fn sees_row(&self, row: &[u16; 5], symbol: SyntaxKind, p: &Parser<'_>) -> bool {
         (row[0] == NO_SET || self.has(row[0], symbol))
             && self.sees_set(row[1], 1, p)
             && self.sees_set(row[2], 2, p)

@@ -374,6 +374,7 @@ fn one_node(rule: &Open<'_>, rows: Block, told: &mut Told, p: &mut Parser<'_>) -
 }
 
 /// The part in a row, which is one node.
+#[inline(always)]
 #[cycle(run)]
 fn node_in(rule: &Open<'_>, row: u16, told: &mut Told, p: &mut Parser<'_>) -> CompletedMarker
     requires { row < 65535 }
@@ -397,6 +398,7 @@ fn node_in(rule: &Open<'_>, row: u16, told: &mut Told, p: &mut Parser<'_>) -> Co
 }
 
 /// The rule in some rows, which a row calls, and which is one node.
+#[inline(always)]
 #[cycle(run)]
 fn called_node(
     rule: &Open<'_>,

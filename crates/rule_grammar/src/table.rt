@@ -39,8 +39,9 @@ use squawk_parser::{SyntaxKind, TokenSet};
 /// | 20 | a guard, the first part of its arm: the arm is parsed where a run of opening parentheses stands, then a token |
 /// |    | of the set of number 1, and after each that closes one of them, but the first, one of the set of number 2 |
 ///
-/// The sets of the numbers 3 to 6, and the first of a look, are asked for the *symbol* of the token at the position
-/// ([`Table::glued`]), and stand for kinds by [`bit_of`]; the others are asked for kinds of tokens.
+/// The sets of the numbers 3 to 5, that of operators and the first of a look have *symbols*: a symbol is the kind of the
+/// token at the position, or the composite kind that it begins ([`Table::glued`]), as [`bit_of`](crate::bit_of) tells it.
+/// The other sets have kinds of tokens.
 ///
 /// Any other part is nothing.
 #[derive(Clone, Copy)]
