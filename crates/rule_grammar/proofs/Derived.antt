@@ -1,5 +1,5 @@
 -- From part to part: what is derived by calls one after another.
-use Rattle.std.specs.Prelude.{◌≡◌, ◌≢◌, ℕ, ◌+◌, ◌≤◌, Bool, true, false, List, Option, None, [], IsSome}
+use Rattle.std.specs.Prelude.{◌≡◌, ◌≢◌, ℕ, ◌+◌, ◌≤◌, Bool, true, false, Option, None, [], IsSome}
 use Rattle.squawk_kinds.specs.Kinds.{EOF}
 use Rattle.squawk_parser.specs.SomeSteps.{AddsSome}
 use Rattle.std.proofs.Common.{sym, subst, ap, inl, inr, ◌∙◌}
@@ -10,7 +10,7 @@ use Rattle.rule_grammar.specs.Derivations.IsOnly.{alone, guarded}
 use Rattle.rule_grammar.specs.Derivations.Derives.{none, more, all, silent, token, composite, next}
 use Rattle.rule_grammar.specs.Derivations.Span.{block, items, rows, single}
 use Rattle.rule_grammar.specs.Parts.{part_at}
-use Rattle.rule_grammar.specs.declared.part.Part.TheVariants.{Guard, Token}
+use Rattle.rule_grammar.specs.declared.part.Part.TheVariants.{Token}
 
 pub some_then : {a b c : State} → AddsSome a b → AddsSome b c → AddsSome a c
 some_then {a} p q = record {

@@ -7,6 +7,7 @@
 #![tactic(auto)]
 
 mod guard;
+mod looks;
 mod open;
 mod part;
 mod recovery;
@@ -19,6 +20,7 @@ mod table;
 mod tests;
 mod tokens;
 mod told;
+mod ways;
 
 pub use part::Part;
 pub use rules::{DEPTH, RuleGrammar};

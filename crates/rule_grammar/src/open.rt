@@ -1,5 +1,5 @@
 //! Rules that are open.
-ghost use Rattle.std.specs.Prelude.{◌≡◌, ◌<◌, IfSome};
+ghost use Rattle.std.specs.Prelude.{◌≡◌, ◌<◌, false};
 
 use crate::table::Table;
 use squawk_kinds::SyntaxKind;
@@ -31,20 +31,26 @@ impl<'c> Open<'c> {
         }
     }
 
-    /// The rule that a row calls, unless too many are open.
+    /// Whether no rule may be called any more.
     #[inline(always)]
-    pub(crate) fn called(&self, row: u16) -> Option<Open<'_>>
-        ensures table { IfSome result (λ inner. inner.table.now ≡ self.now.table.now) }
-        ensures deeper { IfSome result (λ inner. inner.depth < self.now.depth) }
+    pub(crate) fn is_deepest(&self) -> bool
+        ensures { result ≡ false → 0 < self.now.depth }
     {
-        if self.depth == 0 {
-            return None;
-        }
-        Some(Open {
+        self.depth == 0
+    }
+
+    /// The rule that a row calls.
+    #[inline(always)]
+    pub(crate) fn called(&self, row: u16) -> Open<'_>
+        requires { 0 < self.now.depth }
+        ensures table { result.table.now ≡ self.now.table.now }
+        ensures deeper { result.depth < self.now.depth }
+    {
+        Open {
             table: self.table,
             chain: self.chain.with(row),
             depth: self.depth - 1,
-        })
+        }
     }
 
     /// Whether a symbol may come after a row.

@@ -103,7 +103,7 @@ pub(crate) fn is_separated(
     ensures told { IfClean told.old.place told.new.place (IsSeparated separator result p.old p.new) }
     ensures counts { Counts told.old.place told.new.place p.old p.new }
 {
-    if is_at(separator, p) && rule.table.sees_look(row, separator, p) {
+    if is_at(separator, p) && rule.table.sees_look(row, p) {
         true
     } else {
         is_separated_after_others(rule, row, separator, told, p)

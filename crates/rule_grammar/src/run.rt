@@ -27,9 +27,8 @@ pub(crate) fn block(rule: &Open<'_>, rows: Block, told: &mut Told, p: &mut Parse
 {
     let mut row = rows.start;
     while row < rows.end {
-        let part = rule.table.part(row);
-        let beyond = part.beyond(row);
-        step(rule, row, part, told, p);
+        let beyond = rule.table.beyond(row);
+        step(rule, row, rule.table.part(row), told, p);
         row = beyond;
     }
 }
@@ -245,11 +244,10 @@ fn call(rule: &Open<'_>, row: u16, rows: Block, told: &mut Told, p: &mut Parser<
     ensures derives { Derived (text_of rule.now.table.now p.old) (block rows.start rows.end) told.old.place told.new.place p.old.position p.new.position }
     ensures counts { Counts told.old.place told.new.place p.old p.new }
 {
-    match rule.called(row) {
-        Some(inner) => block(&inner, rows, told, p),
-        None => {
-            let _ = too_deep(rule, row, told, p);
-        }
+    if rule.is_deepest() {
+        let _ = too_deep(rule, row, told, p);
+    } else {
+        block(&rule.called(row), rows, told, p);
     }
 }
 
@@ -268,11 +266,10 @@ fn inner_operand(
     ensures derives { (ceiling : ℕ) × Derived (text_of rule.now.table.now p.old) (operation operators_row floor ceiling) told.old.place told.new.place p.old.position p.new.position }
     ensures counts { Counts told.old.place told.new.place p.old p.new }
 {
-    match rule.called(row) {
-        Some(inner) => operators(&inner, operators_row, floor, told, p),
-        None => {
-            let _ = too_deep(rule, row, told, p);
-        }
+    if rule.is_deepest() {
+        let _ = too_deep(rule, row, told, p);
+    } else {
+        operators(&rule.called(row), operators_row, floor, told, p);
     }
 }
 
@@ -377,6 +374,7 @@ fn one_node(rule: &Open<'_>, rows: Block, told: &mut Told, p: &mut Parser<'_>) -
 }
 
 /// The part in a row, which is one node.
+#[inline(always)]
 #[cycle(run)]
 fn node_in(rule: &Open<'_>, row: u16, told: &mut Told, p: &mut Parser<'_>) -> CompletedMarker
     requires { row < 65535 }
@@ -400,6 +398,7 @@ fn node_in(rule: &Open<'_>, row: u16, told: &mut Told, p: &mut Parser<'_>) -> Co
 }
 
 /// The rule in some rows, which a row calls, and which is one node.
+#[inline(always)]
 #[cycle(run)]
 fn called_node(
     rule: &Open<'_>,
@@ -412,9 +411,10 @@ fn called_node(
     ensures derives { Derived (text_of rule.now.table.now p.old) (block rows.start rows.end) told.old.place told.new.place p.old.position p.new.position }
     ensures counts { Counts told.old.place told.new.place p.old p.new }
 {
-    match rule.called(row) {
-        Some(inner) => one_node(&inner, rows, told, p),
-        None => too_deep(rule, row, told, p),
+    if rule.is_deepest() {
+        too_deep(rule, row, told, p)
+    } else {
+        one_node(&rule.called(row), rows, told, p)
     }
 }
 

@@ -1,15 +1,10 @@
 //! Rules as numbers.
-ghost use Rattle.std.specs.Prelude.{◌≡◌, ◌<◌, ◌≤◌, ◌+◌, IfSome, true};
-ghost use Rattle.rule_grammar.specs.Derivations.{IsArm, IsOnly, IsTail, next_of};
+ghost use Rattle.std.specs.Prelude.{◌≡◌, ◌<◌};
+ghost use Rattle.rule_grammar.specs.Derivations.{next_of};
 ghost use Rattle.rule_grammar.specs.Parts.{part_at, set_has};
 
-use crate::guard::Guard;
 use crate::part::{Part, part_of};
-use crate::told::Told;
-use squawk_parser::{Parser, SyntaxKind, TokenSet};
-
-/// No set of kinds.
-const NO_SET: u16 = u16::MAX;
+use squawk_parser::{SyntaxKind, TokenSet};
 
 /// Rules as numbers. Any numbers can be run.
 ///
@@ -44,8 +39,9 @@ const NO_SET: u16 = u16::MAX;
 /// | 20 | a guard, the first part of its arm: the arm is parsed where a run of opening parentheses stands, then a token |
 /// |    | of the set of number 1, and after each that closes one of them, but the first, one of the set of number 2 |
 ///
-/// The sets of the numbers 3 to 6, and the first of a look, are asked for the *symbol* of the token at the position
-/// ([`Table::glued`]), and stand for kinds by [`bit_of`]; the others are asked for kinds of tokens.
+/// The sets of the numbers 3 to 5, that of operators and the first of a look have *symbols*: a symbol is the kind of the
+/// token at the position, or the composite kind that it begins ([`Table::glued`]), as [`bit_of`](crate::bit_of) tells it.
+/// The other sets have kinds of tokens.
 ///
 /// Any other part is nothing.
 #[derive(Clone, Copy)]
@@ -75,14 +71,6 @@ pub struct Table<'r> {
 pub(crate) struct Block {
     pub(crate) start: u16,
     pub(crate) end: u16,
-}
-
-/// An operator: what stands in it, its level, and the greatest level of an operator after it.
-#[derive(Clone, Copy)]
-pub(crate) struct Operator {
-    pub(crate) block: Block,
-    pub(crate) level: u16,
-    pub(crate) ceiling: u16,
 }
 
 impl<'r> Table<'r> {
@@ -142,7 +130,7 @@ impl<'r> Table<'r> {
     }
 
     #[inline(always)]
-    fn row(&self, row: u16) -> Option<&'r [u16; 8]> {
+    pub(crate) fn row(&self, row: u16) -> Option<&'r [u16; 8]> {
         self.rows.get(usize::from(row))
     }
 
@@ -181,222 +169,5 @@ impl<'r> Table<'r> {
             },
             None => false,
         }
-    }
-
-    /// Whether what is in a row stands at the position, where this symbol is, as far as its set and its look tell.
-    #[inline(always)]
-    pub(crate) fn stands(&self, row: u16, symbol: SyntaxKind, p: &Parser<'_>) -> bool {
-        match self.row(row) {
-            Some(numbers) => self.has(numbers[3], symbol) && self.sees(numbers[6], symbol, p),
-            None => false,
-        }
-    }
-
-    /// Whether the tokens at the position, where this symbol is, are those of a row's look, or of the looks after it.
-    pub(crate) fn sees_look(&self, row: u16, symbol: SyntaxKind, p: &Parser<'_>) -> bool {
-        match self.row(row) {
-            Some(numbers) => self.sees(numbers[6], symbol, p),
-            None => true,
-        }
-    }
-
-    #[inline(always)]
-    fn sees(&self, look: u16, symbol: SyntaxKind, p: &Parser<'_>) -> bool {
-        look == 0 || self.sees_some(look, symbol, p)
-    }
-
-    #[inline(never)]
-    fn sees_some(&self, look: u16, symbol: SyntaxKind, p: &Parser<'_>) -> bool {
-        let mut at = look;
-        while let Some(row) = self.look(at) {
-            if self.sees_row(row, symbol, p) {
-                return true;
-            }
-            if row[4] <= at {
-                return false;
-            }
-            at = row[4];
-        }
-        false
-    }
-
-    fn look(&self, look: u16) -> Option<[u16; 5]> {
-        match self.looks.get(usize::from(look.saturating_sub(1))) {
-            Some(row) => Some(*row),
-            None => None,
-        }
-    }
-
-    fn sees_row(&self, row: [u16; 5], symbol: SyntaxKind, p: &Parser<'_>) -> bool {
-        (row[0] == NO_SET || self.has(row[0], symbol))
-            && self.sees_set(row[1], 1, p)
-            && self.sees_set(row[2], 2, p)
-            && self.sees_set(row[3], 3, p)
-    }
-
-    fn sees_set(&self, set: u16, n: usize, p: &Parser<'_>) -> bool {
-        set == NO_SET || self.has(set, p.nth(n))
-    }
-
-    /// The first arm that stands at the position, of those in these rows.
-    pub(crate) fn arm(&self, rows: Block, told: &mut Told, p: &Parser<'_>) -> Option<Block>
-        ensures later { IfSome result (λ block. rows.start < block.start) }
-        ensures is { IfSome result (λ block. IsArm self.now.rows.now rows.start rows.end block.start block.end) }
-        ensures told { told.new.place ≡ told.old.place }
-    {
-        let symbol = self.symbol(p);
-        let mut at = rows.start;
-        while at < rows.end {
-            let part = self.part(at);
-            let beyond = part.beyond(at);
-            if let Part::Arm { end } = part {
-                if self.takes(at, symbol, told, p) {
-                    return Some(Block { start: at + 1, end });
-                }
-            }
-            at = beyond;
-        }
-        None
-    }
-
-    /// Whether an arm stands at the position, where this symbol is, and its guard holds, if it has one.
-    #[inline(always)]
-    fn takes(&self, arm: u16, symbol: SyntaxKind, told: &mut Told, p: &Parser<'_>) -> bool
-        requires { arm < 65535 }
-        ensures { told.new.place ≡ told.old.place }
-    {
-        self.stands(arm, symbol, p) && (!self.has_guard(arm) || self.guard_holds(arm + 1, told, p))
-    }
-
-    #[inline(always)]
-    fn has_guard(&self, arm: u16) -> bool {
-        match self.row(arm) {
-            Some(numbers) => numbers[0] >= 512,
-            None => false,
-        }
-    }
-
-    #[inline(never)]
-    fn guard_holds(&self, row: u16, told: &mut Told, p: &Parser<'_>) -> bool
-        ensures { told.new.place ≡ told.old.place }
-    {
-        match self.part(row) {
-            Part::Guard { first, next } => told.holds(self, Guard { first, next }, p),
-            _ => true,
-        }
-    }
-
-    /// Whether one of some rows names a kind for a node.
-    pub(crate) fn names(&self, rows: Block, kind: SyntaxKind) -> bool {
-        for row in rows.start..rows.end {
-            if self.part(row) == (Part::Becomes { kind }) {
-                return true;
-            }
-        }
-        false
-    }
-
-    /// The row of the part that is alone in some rows, or after a guard.
-    pub(crate) fn only(&self, rows: Block) -> Option<u16>
-        ensures later { IfSome result (λ row. rows.start ≤ row) }
-        ensures room { IfSome result (λ row. row < 65535) }
-        ensures is { IfSome result (λ row. IsOnly self.now.rows.now rows.start rows.end row) }
-    {
-        match self.part(rows.start) {
-            Part::Guard { .. } if rows.start < u16::MAX => {
-                let inner = Block {
-                    start: rows.start + 1,
-                    end: rows.end,
-                };
-                if self.is_one(inner) {
-                    Some(inner.start)
-                } else {
-                    None
-                }
-            }
-            _ => if self.is_one(rows) {
-                Some(rows.start)
-            } else {
-                None
-            },
-        }
-    }
-
-    /// Whether there is one part in some rows.
-    pub(crate) fn is_one(&self, rows: Block) -> bool
-        ensures room { result ≡ true → rows.start < 65535 }
-        ensures only { result ≡ true → rows.end ≤ next_of rows.start (part_at self.now.rows.now rows.start) }
-    {
-        rows.start < rows.end && rows.end <= self.beyond(rows.start)
-    }
-
-    /// The operator that stands at the position and whose level is `floor` at least, of those in a row of operators
-    /// that ends there.
-    #[inline(always)]
-    pub(crate) fn operator(
-        &self,
-        row: u16,
-        end: u16,
-        floor: u16,
-        p: &Parser<'_>,
-    ) -> Option<Operator>
-        requires { row < 65535 }
-        ensures later { IfSome result (λ operator. row + 1 < operator.block.start) }
-        ensures is { IfSome result (λ operator. IsTail self.now.rows.now (row + 1) end operator.block.start operator.block.end operator.level operator.ceiling) }
-        ensures floor { IfSome result (λ operator. floor ≤ operator.level) }
-    {
-        let symbol = self.symbol(p);
-        if self.has_operator(row, symbol) {
-            let rows = Block {
-                start: row + 1,
-                end,
-            };
-            self.operator_in(rows, floor, symbol, p)
-        } else {
-            None
-        }
-    }
-
-    #[inline(always)]
-    fn has_operator(&self, row: u16, symbol: SyntaxKind) -> bool {
-        match self.row(row) {
-            Some(numbers) => self.has(numbers[6], symbol),
-            None => false,
-        }
-    }
-
-    fn operator_in(
-        &self,
-        rows: Block,
-        floor: u16,
-        symbol: SyntaxKind,
-        p: &Parser<'_>,
-    ) -> Option<Operator>
-        ensures later { IfSome result (λ operator. rows.start < operator.block.start) }
-        ensures is { IfSome result (λ operator. IsTail self.now.rows.now rows.start rows.end operator.block.start operator.block.end operator.level operator.ceiling) }
-        ensures floor { IfSome result (λ operator. floor ≤ operator.level) }
-    {
-        let mut at = rows.start;
-        while at < rows.end {
-            let part = self.part(at);
-            let beyond = part.beyond(at);
-            if let Part::Tail {
-                end,
-                level,
-                ceiling,
-            } = part
-            {
-                if floor <= level && self.stands(at, symbol, p) {
-                    let block = Block { start: at + 1, end };
-                    return Some(Operator {
-                        block,
-                        level,
-                        ceiling,
-                    });
-                }
-            }
-            at = beyond;
-        }
-        None
     }
 }

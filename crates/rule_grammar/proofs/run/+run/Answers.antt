@@ -1,9 +1,9 @@
-use Rattle.std.proofs.Common.{arith, sym, subst, ap, ◌≡◌, ◌∙◌, ◌+◌, ℕ}
+use Rattle.std.proofs.Common.{arith, sym, subst, ap, ◌≡◌, ◌∙◌, ℕ}
 use Rattle.std.proofs.lemmas.Bool.Decides.{nat_tests}
 use Rattle.squawk_parser.proofs.SomeSteps.{none_some}
-use Rattle.rule_grammar.specs.Derivations.{Counts, Derived, Derives, Text, is_silent, kind_of, next_of, text_of}
-use Rattle.rule_grammar.specs.Derivations.Derives.{none, more, all, silent, class, name, node, word, call, one, taken, left_out, repeated, some, listed, operators, operand, arm, no_turn, turn, first, next, stands, operates}
-use Rattle.rule_grammar.specs.Derivations.Span.{block, rows, single}
+use Rattle.rule_grammar.specs.Derivations.{Counts, Derived, Derives, is_silent, text_of}
+use Rattle.rule_grammar.specs.Derivations.Derives.{none, more, all, silent, class, name, node, word, call, one, taken, left_out, repeated, some, listed, operators, operand, arm, no_turn, turn, first, stands, operates}
+use Rattle.rule_grammar.specs.Derivations.Span.{rows, single}
 use Rattle.rule_grammar.specs.Parts.{part_at}
 use Rattle.rule_grammar.specs.declared.part.Part.TheVariants as parts
 use Rattle.rule_grammar.proofs.Counted.{counts_added, counts_completed, counts_preceded, counts_some, counts_then}
@@ -27,7 +27,7 @@ block-loop-row-preserved t c =
       further = omega (arith, c.beyond-beyond.ensures.later);
       derives = subst
           (λ (k : ℕ). Derived (text_of c.args.rule.now.table.now c.args.p.now) (rows c.args.rows.start k) c.args.told.now.place c.step.new.told.place c.args.p.now.position c.step.new.p.position)
-          (sym (c.beyond-beyond.ensures.is ∙ ap (next_of c.loop-row.row) c.part-part.ensures)) both;
+          (sym c.beyond-beyond.ensures.is) both;
       counts = counts_then before.counts took.counts;
     }
 
