@@ -1,13 +1,10 @@
-//! Rules with faults, as rows.
+//! Rules with faults, as rows. A rule's first row is its arm; a call names the row after that.
 use crate::{empty_repeat, left_recursive, unreached};
 use rule_grammar::Part as Row;
 use squawk_kinds::SyntaxKind;
 use std::alloc::{AllocError, Global};
+use std::test::Fail;
 
-const A: Row = Row::Token {
+const EAT: Row = Row::Token {
     kind: SyntaxKind(1),
 };
-
-fn arm(end: u16) -> Row {
-    Row::Arm { end }
-}
