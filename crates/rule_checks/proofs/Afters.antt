@@ -27,10 +27,12 @@ pub ended_more : (lists : List (Vec ℕ Global)) (marks : List Bool) (k : ℕ) �
     → ((m : ℕ) → Lists lists k m → has marks m ≡ true) → HaveEnded lists (set marks k true)
 ended_more lists marks k ended unmarked all = record {
   stay = λ i m marked step. has-set_keeps marks k m (elim (has-set_only marks k i marked) [
-      inl same ↦ all m (subst (λ n. Lists lists n m) (sym same) step)
-    | inr before ↦ ended.stay i m before step ]);
+    | inl same ↦ all m (subst (λ n. Lists lists n m) (sym same) step)
+    | inr before ↦ ended.stay i m before step
+  ]);
   end = λ i within marked. elim (has-set_only marks k i marked) [
-      inl same ↦ subst (λ n. After (Lists lists) n n → ⊥) same
+    | inl same ↦ subst (λ n. After (Lists lists) n n → ⊥) same
         (λ after. let again = after_in (Lists lists) k (has marks) (λ i j known step. elim known [ inl first ↦ all j (subst (λ n. Lists lists n j) first step) | inr before ↦ ended.stay i j before step ]) after in cc)
-    | inr before ↦ ended.end i within before ];
+    | inr before ↦ ended.end i within before
+  ];
 }

@@ -10,7 +10,6 @@ use Rattle.rule_checks.proofs.Lists.{within_or_past}
 use Rattle.rule_checks.specs.Empty.{AllHave, Empty, IsClosed, PartEatsNothing, SomeArmHas, empty}
 
 module _ (rows : List part.Part) (P Q : ℕ → Type 0) (grows : (m : ℕ) → P m → Q m) where
-
   all-grows : (start end : ℕ) → AllHave rows P start end → AllHave rows Q start end
   all-grows start end all m walk = grows m (all m walk)
 
@@ -47,8 +46,9 @@ empty-past rows k past = empty (λ _. false) (subst (λ p. PartEatsNothing rows 
 
 pub unmarked-empty : (rows : List part.Part) (k : ℕ) → has (replicate (length rows) false) k ≡ true → Empty rows k
 unmarked-empty rows k marked = elim (within_or_past k (length rows)) [
-    inl within ↦ let unmarked = get_or-replicate (length rows) k false true within in absurd (cc)
-  | inr past ↦ empty-past rows k past ]
+  | inl within ↦ let unmarked = get_or-replicate (length rows) k false true within in absurd (cc)
+  | inr past ↦ empty-past rows k past
+]
 
 -- A closed set has all rows that may be empty.
 pub empty_in : (rows : List part.Part) (set : ℕ → Bool) → IsClosed rows set → {k : ℕ} → Empty rows k → set k ≡ true

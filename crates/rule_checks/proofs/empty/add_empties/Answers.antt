@@ -15,8 +15,9 @@ loop-k-preserved-then-eats_nothing c =
       within = omega arith;
       len = simp length-set c.loop-k.invariant.len;
       sound = λ all m marked. elim (has-set_only c.loop-k.empties at m marked) [
-          inl same ↦ subst (Empty c.args.rows.now) same (empty (has c.loop-k.empties) (c.eats_nothing.ensures.0 (cc)) (c.loop-k.invariant.sound all))
-        | inr before ↦ c.loop-k.invariant.sound all m before ];
+        | inl same ↦ subst (Empty c.args.rows.now) same (empty (has c.loop-k.empties) (c.eats_nothing.ensures.0 (cc)) (c.loop-k.invariant.sound all))
+        | inr before ↦ c.loop-k.invariant.sound all m before
+      ];
       all = λ impossible. absurd (cc);
       most = omega arith;
       more = λ _. omega arith;

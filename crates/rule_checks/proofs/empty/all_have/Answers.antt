@@ -11,9 +11,10 @@ pub loop-at-preserved : goal.loop-at-preserved
 loop-at-preserved c = passed_more _ _ _ _ c.loop-at.invariant c.next_at-at.ensures.is (omega arith) tt (λ m marked. marked) (cc)
 
 pub returns-then-not-has : goal.returns-then-not-has
-returns-then-not-has c =
-    (λ impossible. absurd (cc),
-     λ all. let marked : has c.args.marks.now c.loop-at.at ≡ true = all c.loop-at.at (c.loop-at.invariant.goes_on c.loop-at.at (here (omega arith))) in cc)
+returns-then-not-has c = (
+  λ impossible. absurd (cc),
+  λ all. let marked : has c.args.marks.now c.loop-at.at ≡ true = all c.loop-at.at (c.loop-at.invariant.goes_on c.loop-at.at (here (omega arith))) in cc,
+)
 
 pub returns : goal.returns
 returns c = (λ _. passed_all _ _ _ _ c.loop-at.invariant (omega arith), λ _. refl)

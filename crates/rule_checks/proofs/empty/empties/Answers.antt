@@ -22,6 +22,7 @@ loop-preserved c =
 pub returns : goal.returns
 returns c k =
     let whole : length c.add_empties.new.empties ≡ c.loop.empties.len = cc c.loop.empties.ok.0 in
-    rw take_at
-    (c.add_empties.ensures.sound (λ i marked. c.loop.invariant.sound i (rw (← c.deref_mut.ensures.value) marked)) k,
-     empty_in c.args.rows.now (has c.add_empties.new.empties) (c.add_empties.ensures.all (cc)))
+    rw take_at (
+      c.add_empties.ensures.sound (λ i marked. c.loop.invariant.sound i (rw (← c.deref_mut.ensures.value) marked)) k,
+      empty_in c.args.rows.now (has c.add_empties.new.empties) (c.add_empties.ensures.all (cc)),
+    )

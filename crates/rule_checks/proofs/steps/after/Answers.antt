@@ -16,6 +16,7 @@ loop-preserved c =
 pub returns : goal.returns
 returns c k within =
     let whole : length c.add_after.new.marks ≡ c.loop.marks.len = cc c.loop.marks.ok.0 in
-    rw take_at
-    (c.add_after.ensures.sound (λ i below marked. c.loop.invariant.sound i below (rw (← c.deref_mut.ensures.value) marked)) k within,
-     after_in (Lists c.args.lists.now) c.args.from (has c.add_after.new.marks) (c.add_after.ensures.all (cc)))
+    rw take_at (
+      c.add_after.ensures.sound (λ i below marked. c.loop.invariant.sound i below (rw (← c.deref_mut.ensures.value) marked)) k within,
+      after_in (Lists c.args.lists.now) c.args.from (has c.add_after.new.marks) (c.add_after.ensures.all (cc)),
+    )
