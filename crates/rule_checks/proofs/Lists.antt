@@ -1,5 +1,5 @@
 -- A list for each row.
-use Rattle.std.proofs.Common.{◌≡◌, ℕ, ◌+◌, ◌<◌, ◌≤◌, ◌⊎◌, ◌++◌, ◌∷◌, [], zero, suc, inl, inr, List, length, get_or, refl, subst, sym, arith, Some, None, Option, Vec}
+use Rattle.std.proofs.Common.{◌≡◌, ℕ, ◌+◌, ◌<◌, ◌≤◌, ◌⊎◌, ◌++◌, ◌∷◌, [], zero, suc, inl, inr, List, length, get_or, refl, subst, sym, arith, Some, Option, Vec}
 use Rattle.std.specs.Prelude.{Contains, ◌↔◌, slice_get, IsSomeAnd}
 use Rattle.std.specs.declared.alloc.Global.{Global}
 use Rattle.std.proofs.Math.ListN.{length-append}

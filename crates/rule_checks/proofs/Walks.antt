@@ -1,5 +1,5 @@
 -- Walks over rows beside one another.
-use Rattle.std.proofs.Common.{◌≡◌, ℕ, ◌<◌, ◌≤◌, ◌⊎◌, ◌++◌, ◌∷◌, [], inl, inr, List, refl, subst, sym, arith}
+use Rattle.std.proofs.Common.{◌≡◌, ℕ, ◌<◌, ◌≤◌, ◌⊎◌, ◌++◌, ◌∷◌, [], inl, inr, List, refl, subst, arith}
 use Rattle.std.specs.Prelude.{Contains, ◌↔◌}
 use Rattle.std.proofs.lemmas.List.Elements.{Contains-append_left, Contains-push, Contains-push_cases}
 use Rattle.rule_grammar.specs.declared.part.Part.{Part}

@@ -1,7 +1,7 @@
 -- Rows that may eat nothing.
 use Rattle.std.specs.Prelude.{◌≡◌, ℕ, ◌+◌, Bool, true, List}
 use Rattle.rule_grammar.specs.declared.part.Part as part
-use Rattle.rule_grammar.specs.declared.part.Part.TheVariants.{Nothing, Token, Word, Class, Name, Node, Becomes, Is, Guard, Choice, Arm, Optional, Repeat, List as Items, Call, Operators, Operand, Tail, Some as Once}
+use Rattle.rule_grammar.specs.declared.part.Part.TheVariants.{Nothing, Node, Becomes, Is, Guard, Choice, Arm, Optional, Repeat, List as Items, Call, Operators, Operand, Tail, Some as Once}
 use Rattle.rule_checks.specs.Rows.{Beside, row_at}
 
 abbrev pub IsArm : part.Part → Type 0

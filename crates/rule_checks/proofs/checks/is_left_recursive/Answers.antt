@@ -1,6 +1,5 @@
-use Rattle.std.proofs.Common.{◌≡◌, ℕ, true}
 use Rattle.std.proofs.lemmas.Result.{IfOk-weaker}
-use Rattle.rule_checks.specs.Leads.{IsLeftRecursive, Leads}
+use Rattle.rule_checks.specs.Leads.{Leads}
 use Rattle.rule_checks.specs.Steps.{Lists}
 use Rattle.rule_checks.proofs.Afters.{after_same}
 use Rattle.rule_checks.proofs.checks.is_left_recursive.Goals as goal

@@ -1,4 +1,4 @@
-use Rattle.std.proofs.Common.{◌≡◌, ℕ, ◌-◌, ◌<◌, List, Bool, true, false, not, length, inl, inr, subst, arith}
+use Rattle.std.proofs.Common.{◌-◌, ◌<◌, length, inl, inr, subst, arith}
 use Rattle.std.proofs.Math.ListN.{length-set}
 use Rattle.rule_checks.specs.Empty.{Empty, empty}
 use Rattle.rule_checks.specs.Sets.{has}

@@ -1,4 +1,4 @@
-use Rattle.std.proofs.Common.{◌≡◌, ℕ, true, refl, arith}
+use Rattle.std.proofs.Common.{◌≡◌, true, refl, arith}
 use Rattle.rule_checks.specs.Rows.{here}
 use Rattle.rule_checks.specs.Sets.{has}
 use Rattle.rule_checks.proofs.Walks.{passed_all, passed_more, passed_none}

@@ -6,7 +6,6 @@ use Rattle.rule_grammar.specs.declared.part.Part.TheVariants.{Choice, Operators}
 use Rattle.rule_checks.specs.Empty.{Empty}
 use Rattle.rule_checks.specs.Leads.{Begins, Leads, PartLeads}
 use Rattle.rule_checks.specs.Rows.{Beside, row_at}
-use Rattle.rule_checks.specs.Sets.{has}
 use Rattle.rule_checks.proofs.Lists.{iff_then}
 use Rattle.rule_checks.proofs.leads.leads.Goals as goal
 

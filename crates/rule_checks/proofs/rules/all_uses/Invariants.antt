@@ -1,4 +1,4 @@
-use Rattle.std.proofs.Common.{◌≡◌, ℕ, length}
+use Rattle.std.proofs.Common.{◌≡◌, length}
 use Rattle.rule_checks.specs.Rules.{Uses}
 use Rattle.rule_checks.proofs.Lists.{Made}
 use Rattle.rule_checks.proofs.rules.all_uses.Given as goal

@@ -1,6 +1,5 @@
-use Rattle.std.proofs.Common.{◌≡◌, ℕ, ◌+◌, ◌<◌, ◌≤◌, ◌++◌, ◌∷◌, [], max, Bool, true, List, length, inl, inr, subst, sym, arith}
+use Rattle.std.proofs.Common.{◌≡◌, ℕ, ◌+◌, ◌<◌, ◌≤◌, ◌++◌, ◌∷◌, [], Bool, true, List, length, inl, inr, subst, arith}
 use Rattle.std.specs.Prelude.{◌↔◌, IsTrue}
-use Rattle.std.proofs.Math.ListN.{length-append}
 use Rattle.rule_grammar.specs.declared.part.Part.{Part}
 use Rattle.rule_checks.specs.Empty.{IsArm}
 use Rattle.rule_checks.specs.Rows.{next_at, row_at}

@@ -1,4 +1,4 @@
-use Rattle.std.proofs.Common.{◌≡◌, ℕ, ◌<◌, ◌≤◌, length, true}
+use Rattle.std.proofs.Common.{◌≡◌, ℕ, ◌<◌, ◌≤◌, length}
 use Rattle.rule_checks.specs.Rows.{next_at}
 use Rattle.rule_checks.specs.Rules.{IsRule}
 use Rattle.rule_checks.specs.Sets.{IsSetBelow}

@@ -1,4 +1,3 @@
-use Rattle.std.proofs.Common.{◌≡◌, ℕ, ◌<◌, length}
 use Rattle.std.proofs.lemmas.Result.{IfOk-weaker}
 use Rattle.rule_checks.specs.Rules.{Uses}
 use Rattle.rule_checks.specs.Steps.{Lists}

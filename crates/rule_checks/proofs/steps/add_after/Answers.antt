@@ -1,4 +1,4 @@
-use Rattle.std.proofs.Common.{◌≡◌, ℕ, ◌+◌, ◌<◌, ◌≤◌, ◌⊎◌, List, Bool, true, false, length, inl, inr, subst, sym, Vec, arith}
+use Rattle.std.proofs.Common.{◌≡◌, ℕ, ◌+◌, ◌<◌, ◌⊎◌, List, Bool, true, false, length, inl, inr, subst, Vec, arith}
 use Rattle.std.specs.declared.alloc.Global.{Global}
 use Rattle.rule_checks.specs.Sets.{has}
 use Rattle.rule_checks.specs.Steps.{Lists}

@@ -1,4 +1,4 @@
-use Rattle.std.proofs.Common.{◌≡◌, ℕ, ◌≤◌, length}
+use Rattle.std.proofs.Common.{◌≡◌, ◌≤◌, length}
 use Rattle.rule_checks.specs.Steps.{HaveEnded}
 use Rattle.rule_checks.proofs.steps.add_ended.Given as goal
 

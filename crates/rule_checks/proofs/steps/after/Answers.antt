@@ -1,4 +1,4 @@
-use Rattle.std.proofs.Common.{◌≡◌, ℕ, length}
+use Rattle.std.proofs.Common.{◌≡◌, length}
 use Rattle.std.proofs.lemmas.List.{take_at}
 use Rattle.rule_checks.specs.Sets.{has}
 use Rattle.rule_checks.specs.Steps.{Lists}

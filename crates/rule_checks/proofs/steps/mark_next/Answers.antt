@@ -1,5 +1,4 @@
-use Rattle.std.proofs.Common.{◌≡◌, ℕ, ◌⊎◌, true, inl, inr, arith}
-use Rattle.std.specs.Prelude.{Contains}
+use Rattle.std.proofs.Common.{inl, inr}
 use Rattle.rule_checks.specs.Steps.{Lists}
 use Rattle.rule_checks.proofs.Afters.{after_step}
 use Rattle.rule_checks.proofs.Lists.{lists-at}
