@@ -1,13 +1,15 @@
 -- What eats nothing if some rows do does so if more do.
-use Rattle.std.proofs.Common.{◌≡◌, ℕ, ◌+◌, ◌≤◌, List, length, true, Bool, subst, sym}
-use Rattle.std.proofs.lemmas.List.{get_or_past}
+use Rattle.std.proofs.Common.{◌≡◌, ℕ, ◌+◌, ◌≤◌, List, length, true, false, Bool, inl, inr, subst, sym}
+use Rattle.std.proofs.Math.ListN.{replicate}
+use Rattle.std.proofs.lemmas.List.{get_or-replicate, get_or_past}
 use Rattle.rule_grammar.specs.declared.part.Part as part
 use Rattle.rule_grammar.specs.declared.part.Part.TheVariants.{Nothing, Token, Word, Class, Name, Node, Becomes, Is, Guard, Choice, Arm, Optional, Repeat, List as Items, Call, Operators, Operand, Tail, Some as Once}
 use Rattle.rule_checks.specs.Rows.{row_at}
-use Rattle.rule_checks.specs.Empty.{AllHave, EatsNothingBy, Empty, PartEatsNothing, SomeArmHas}
+use Rattle.rule_checks.specs.Sets.{has}
+use Rattle.rule_checks.proofs.Lists.{within_or_past}
+use Rattle.rule_checks.specs.Empty.{AllHave, Empty, IsClosed, PartEatsNothing, SomeArmHas, empty}
 
 module _ (rows : List part.Part) (P Q : ℕ → Type 0) (grows : (m : ℕ) → P m → Q m) where
-
   all-grows : (start end : ℕ) → AllHave rows P start end → AllHave rows Q start end
   all-grows start end all m walk = grows m (all m walk)
 
@@ -39,10 +41,16 @@ module _ (rows : List part.Part) (P Q : ℕ → Type 0) (grows : (m : ℕ) → P
 pub row-past : (rows : List part.Part) (k : ℕ) → length rows ≤ k → row_at rows k ≡ Nothing
 row-past rows k past = get_or_past rows k Nothing past
 
-pub empty-past : (rows : List part.Part) (k : ℕ) → length rows ≤ k → Empty rows k
-empty-past rows k past set closed = closed k (subst (λ p. PartEatsNothing rows (λ m. set m ≡ true) k p) (sym (row-past rows k past)) tt)
+empty-past : (rows : List part.Part) (k : ℕ) → length rows ≤ k → Empty rows k
+empty-past rows k past = empty (λ _. false) (subst (λ p. PartEatsNothing rows (λ _. false ≡ true) k p) (sym (row-past rows k past)) tt) (λ m impossible. absurd (cc))
 
--- A row may be empty if it eats nothing where rows that may be empty do.
-pub empty-by : (rows : List part.Part) (P : ℕ → Type 0) → ((m : ℕ) → P m → Empty rows m) → (k : ℕ) → EatsNothingBy rows P k → Empty rows k
-empty-by rows P are_empty k eats set closed =
-    closed k (part-grows rows P (λ m. set m ≡ true) (λ m has. are_empty m has set closed) k (row_at rows k) eats)
+pub unmarked-empty : (rows : List part.Part) (k : ℕ) → has (replicate (length rows) false) k ≡ true → Empty rows k
+unmarked-empty rows k marked = elim (within_or_past k (length rows)) [
+  | inl within ↦ let unmarked = get_or-replicate (length rows) k false true within in absurd (cc)
+  | inr past ↦ empty-past rows k past
+]
+
+-- A closed set has all rows that may be empty.
+pub empty_in : (rows : List part.Part) (set : ℕ → Bool) → IsClosed rows set → {k : ℕ} → Empty rows k → set k ≡ true
+empty_in rows set closed (empty {k} others eats are_empty) =
+    closed k (part-grows rows (λ m. others m ≡ true) (λ m. set m ≡ true) (λ m has. empty_in rows set closed (are_empty m has)) k (row_at rows k) eats)

@@ -1,5 +1,5 @@
 -- A list for each row.
-use Rattle.std.proofs.Common.{◌≡◌, ℕ, ◌+◌, ◌<◌, ◌≤◌, ◌⊎◌, ◌++◌, ◌∷◌, [], zero, suc, inl, inr, List, length, get_or, refl, subst, sym, arith, Some, None, Option, Vec}
+use Rattle.std.proofs.Common.{◌≡◌, ℕ, ◌+◌, ◌<◌, ◌≤◌, ◌⊎◌, ◌++◌, ◌∷◌, [], zero, suc, inl, inr, List, length, get_or, refl, subst, sym, arith, Some, Option, Vec}
 use Rattle.std.specs.Prelude.{Contains, ◌↔◌, slice_get, IsSomeAnd}
 use Rattle.std.specs.declared.alloc.Global.{Global}
 use Rattle.std.proofs.Math.ListN.{length-append}
@@ -21,7 +21,7 @@ split_at k n below = elim (within_or_past k n) [ inl less ↦ inl less | inr mor
 pub lists-at : (lists : List (Vec ℕ Global)) (k m : ℕ) (list : Vec ℕ Global) → k < length lists → list ≡ get_or lists k list → Contains list.items m ↔ Lists lists k m
 lists-at lists k m list within is =
     subst (λ (o : Option (Vec ℕ Global)). Contains list.items m ↔ IsSomeAnd o (λ v. Contains v.items m)) (sym (slice_get_read lists (length lists) k list refl within is))
-      ((λ contained. contained), (λ contained. contained))
+    ((λ contained. contained), (λ contained. contained))
 
 pub lists-past : (lists : List (Vec ℕ Global)) (k m : ℕ) → length lists ≤ k → Lists lists k m → ⊥
 lists-past lists k m past listed = subst (λ (o : Option (Vec ℕ Global)). IsSomeAnd o (λ v. Contains v.items m)) (slice_get_past lists k past) listed
@@ -50,8 +50,9 @@ same-option P o o' m same is = rw same is
 made_at : (P : ℕ → ℕ → Type 0) (lists : List (Vec ℕ Global)) (list : Vec ℕ Global) → Made P lists → ((m : ℕ) → Contains list.items m ↔ P (length lists) m)
     → (k m : ℕ) → (k < length lists) ⊎ (length lists ≡ k) → Lists (lists ++ list ∷ []) k m ↔ P k m
 made_at P lists list made is k m at = elim at [
-    inl within ↦ same-option (P k) (slice_get (lists ++ list ∷ []) k) (slice_get lists k) m (slice_get-push lists k list within) (made.is k m within)
-  | inr last ↦ same-option (P k) (slice_get (lists ++ list ∷ []) k) (Some list) m (slice_get-last lists k list last) (subst (λ n. Contains list.items m ↔ P n m) last (is m)) ]
+  | inl within ↦ same-option (P k) (slice_get (lists ++ list ∷ []) k) (slice_get lists k) m (slice_get-push lists k list within) (made.is k m within)
+  | inr last ↦ same-option (P k) (slice_get (lists ++ list ∷ []) k) (Some list) m (slice_get-last lists k list last) (subst (λ n. Contains list.items m ↔ P n m) last (is m))
+]
 
 pub made_more : (P : ℕ → ℕ → Type 0) (lists longer : List (Vec ℕ Global)) (list : Vec ℕ Global) → Made P lists → longer ≡ lists ++ list ∷ []
     → ((m : ℕ) → Contains list.items m ↔ P (length lists) m) → Made P longer
@@ -62,5 +63,6 @@ made_more P lists longer list made longer_is is = rw longer_is record {
 pub made_all : (P : ℕ → ℕ → Type 0) (lists : List (Vec ℕ Global)) → Made P lists → ((k m : ℕ) → length lists ≤ k → P k m → ⊥)
     → (k m : ℕ) → Lists lists k m ↔ P k m
 made_all P lists made none k m = elim (within_or_past k (length lists)) [
-    inl within ↦ made.is k m within
-  | inr past ↦ ((λ listed. absurd (lists-past lists k m past listed)), (λ p. absurd (none k m past p))) ]
+  | inl within ↦ made.is k m within
+  | inr past ↦ ((λ listed. absurd (lists-past lists k m past listed)), (λ p. absurd (none k m past p)))
+]

@@ -1,7 +1,7 @@
 -- Rows that may eat nothing.
 use Rattle.std.specs.Prelude.{◌≡◌, ℕ, ◌+◌, Bool, true, List}
 use Rattle.rule_grammar.specs.declared.part.Part as part
-use Rattle.rule_grammar.specs.declared.part.Part.TheVariants.{Nothing, Token, Word, Class, Name, Node, Becomes, Is, Guard, Choice, Arm, Optional, Repeat, List as Items, Call, Operators, Operand, Tail, Some as Once}
+use Rattle.rule_grammar.specs.declared.part.Part.TheVariants.{Nothing, Node, Becomes, Is, Guard, Choice, Arm, Optional, Repeat, List as Items, Call, Operators, Operand, Tail, Some as Once}
 use Rattle.rule_checks.specs.Rows.{Beside, row_at}
 
 abbrev pub IsArm : part.Part → Type 0
@@ -37,13 +37,13 @@ PartEatsNothing rows P k part = ⊥
 abbrev pub EatsNothingBy : List part.Part → (ℕ → Type 0) → ℕ → Type 0
 EatsNothingBy rows P k = PartEatsNothing rows P k (row_at rows k)
 
+-- Row k may eat nothing: it eats nothing if some rows do, and each of those may.
+pub data Empty (rows : List part.Part) : ℕ → Type 0 where
+  empty : {k : ℕ} (others : ℕ → Bool) → EatsNothingBy rows (λ m. others m ≡ true) k → ((m : ℕ) → others m ≡ true → Empty rows m) → Empty rows k
+
 -- A set has each row that eats nothing if its rows do.
 abbrev pub IsClosed : List part.Part → (ℕ → Bool) → Type 0
 IsClosed rows set = (i : ℕ) → EatsNothingBy rows (λ m. set m ≡ true) i → set i ≡ true
-
--- Row k may eat nothing: it is in the least such set.
-abbrev pub Empty : List part.Part → ℕ → Type 0
-Empty rows k = (set : ℕ → Bool) → IsClosed rows set → set k ≡ true
 
 -- Row k repeats what may eat nothing.
 abbrev pub RepeatsNothing : List part.Part → ℕ → part.Part → Type 0

@@ -1,7 +1,7 @@
 -- Which rows are entered first from a row.
 use Rattle.std.specs.Prelude.{◌≡◌, ℕ, ◌+◌, ◌⊎◌, List}
 use Rattle.rule_grammar.specs.declared.part.Part as part
-use Rattle.rule_grammar.specs.declared.part.Part.TheVariants.{Nothing, Token, Word, Class, Name, Node, Becomes, Is, Guard, Choice, Arm, Optional, Repeat, List as Items, Call, Operators, Operand, Tail, Some as Once}
+use Rattle.rule_grammar.specs.declared.part.Part.TheVariants.{Node, Choice, Arm, Optional, Repeat, List as Items, Call, Operators, Operand, Tail, Some as Once}
 use Rattle.rule_checks.specs.Rows.{Beside, First, row_at}
 use Rattle.rule_checks.specs.Empty.{Empty, IsArm}
 use Rattle.rule_checks.specs.Steps.{After}

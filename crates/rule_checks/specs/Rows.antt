@@ -1,5 +1,5 @@
 -- Rows, and which of them stand beside one another.
-use Rattle.std.specs.Prelude.{◌≡◌, ℕ, ◌+◌, ◌<◌, Bool, List, slice_index_or}
+use Rattle.std.specs.Prelude.{ℕ, ◌<◌, List, slice_index_or}
 use Rattle.rule_grammar.specs.Derivations.{next_of}
 use Rattle.rule_grammar.specs.declared.part.Part.{Part}
 use Rattle.rule_grammar.specs.declared.part.Part.TheVariants.{Nothing}

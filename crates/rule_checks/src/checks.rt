@@ -78,18 +78,11 @@ fn is_left_recursive(
 fn is_call(rows: &[Row], k: usize) -> bool
     ensures { IsTrue result ↔ IsCall (row_at rows.now k) }
 {
-    matches!(
-        row_at(rows, k),
-        Row::Call { .. } | Row::Operand { .. }
-    )
+    matches!(row_at(rows, k), Row::Call { .. } | Row::Operand { .. })
 }
 
 /// The first row of the first rule that neither is the file's nor is called, through other rules, from it.
-pub fn unreached(
-    alloc: Global,
-    rows: &[Row],
-    file: usize,
-) -> Result<Option<usize>, AllocError>
+pub fn unreached(alloc: Global, rows: &[Row], file: usize) -> Result<Option<usize>, AllocError>
     ensures { IfOk result (IsFirst (length rows.now) (IsUnreached rows.now file)) }
 {
     let rules = rules(alloc, rows)?;

@@ -28,12 +28,7 @@ pub(crate) fn all_leads(
 }
 
 /// The rows that are entered first from a row.
-fn leads(
-    alloc: Global,
-    rows: &[Row],
-    empties: &[bool],
-    k: usize,
-) -> Result<Vec<usize>, AllocError>
+fn leads(alloc: Global, rows: &[Row], empties: &[bool], k: usize) -> Result<Vec<usize>, AllocError>
     requires k { k < length rows.now }
     requires empties { IsSetOf (Empty rows.now) empties.now }
     ensures { IfOk result (λ list. (m : ℕ) → Contains list.items m ↔ Leads rows.now k m) }

@@ -48,11 +48,7 @@ pub(crate) fn used(
 }
 
 /// For each row those whose rules are called in the rule that begins with it.
-fn all_uses(
-    alloc: Global,
-    rows: &[Row],
-    rules: &[bool],
-) -> Result<Vec<Vec<usize>>, AllocError>
+fn all_uses(alloc: Global, rows: &[Row], rules: &[bool]) -> Result<Vec<Vec<usize>>, AllocError>
     requires { IsSetBelow (length rows.now) (IsRule rows.now) rules.now }
     ensures len { IfOk result (λ lists. length lists.items ≡ length rows.now) }
     ensures is { IfOk result (λ lists. (h r : ℕ) → Lists lists.items h r ↔ Uses rows.now h r) }
@@ -65,12 +61,7 @@ fn all_uses(
 }
 
 /// The rows whose rules are called in the rule that begins with a row.
-fn uses(
-    alloc: Global,
-    rows: &[Row],
-    rules: &[bool],
-    k: usize,
-) -> Result<Vec<usize>, AllocError>
+fn uses(alloc: Global, rows: &[Row], rules: &[bool], k: usize) -> Result<Vec<usize>, AllocError>
     requires k { k < length rows.now }
     requires rules { IsSetBelow (length rows.now) (IsRule rows.now) rules.now }
     ensures { IfOk result (λ list. (r : ℕ) → Contains list.items r ↔ Uses rows.now k r) }
@@ -83,12 +74,7 @@ fn uses(
 }
 
 /// The rows in front of those that are called from one row up to another.
-fn calls(
-    alloc: Global,
-    rows: &[Row],
-    start: usize,
-    end: usize,
-) -> Result<Vec<usize>, AllocError>
+fn calls(alloc: Global, rows: &[Row], start: usize, end: usize) -> Result<Vec<usize>, AllocError>
     requires { start ≤ end }
     ensures { IfOk result (λ list. (r : ℕ) → Contains list.items r ↔ IsCalled rows.now start end r) }
 {

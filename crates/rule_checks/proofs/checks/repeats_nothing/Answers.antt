@@ -4,7 +4,6 @@ use Rattle.squawk_kinds.specs.declared.syntax_kind.SyntaxKind.{SyntaxKind}
 use Rattle.rule_grammar.specs.declared.part.Part as part
 use Rattle.rule_grammar.specs.declared.part.Part.TheVariants.{Repeat, List as Items, Some as Once}
 use Rattle.rule_checks.specs.Empty.{AllHave, Empty, RepeatsNothing}
-use Rattle.rule_checks.specs.Rows.{row_at}
 use Rattle.rule_checks.specs.Sets.{IsSetOf, has}
 use Rattle.rule_checks.proofs.Lists.{iff_then}
 use Rattle.rule_checks.proofs.checks.repeats_nothing.Goals as goal

@@ -1,8 +1,7 @@
-use Rattle.std.proofs.Common.{◌≡◌, ℕ, ◌-◌, ◌<◌, List, Bool, true, false, not, length, inl, inr, subst, arith}
+use Rattle.std.proofs.Common.{◌-◌, ◌<◌, length, inl, inr, subst, arith}
 use Rattle.std.proofs.Math.ListN.{length-set}
-use Rattle.rule_checks.specs.Empty.{Empty}
+use Rattle.rule_checks.specs.Empty.{Empty, empty}
 use Rattle.rule_checks.specs.Sets.{has}
-use Rattle.rule_checks.proofs.Grows.{empty-by}
 use Rattle.rule_checks.proofs.Marks.{fewer, has-set_only, has-unmarked}
 use Rattle.rule_checks.proofs.empty.add_empties.Goals as goal
 
@@ -16,8 +15,9 @@ loop-k-preserved-then-eats_nothing c =
       within = omega arith;
       len = simp length-set c.loop-k.invariant.len;
       sound = λ all m marked. elim (has-set_only c.loop-k.empties at m marked) [
-          inl same ↦ subst (Empty c.args.rows.now) same (empty-by c.args.rows.now (λ i. has c.loop-k.empties i ≡ true) (c.loop-k.invariant.sound all) at (c.eats_nothing.ensures.0 (cc)))
-        | inr before ↦ c.loop-k.invariant.sound all m before ];
+        | inl same ↦ subst (Empty c.args.rows.now) same (empty (has c.loop-k.empties) (c.eats_nothing.ensures.0 (cc)) (c.loop-k.invariant.sound all))
+        | inr before ↦ c.loop-k.invariant.sound all m before
+      ];
       all = λ impossible. absurd (cc);
       most = omega arith;
       more = λ _. omega arith;

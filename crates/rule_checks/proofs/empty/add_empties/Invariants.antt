@@ -14,4 +14,5 @@ invariant-loop-k l = record {
   sound : ((m : ℕ) → has l.fn.empties m ≡ true → Empty l.rows m) → (m : ℕ) → has l.empties m ≡ true → Empty l.rows m;
   all : l.is_new ≡ false → (m : ℕ) → l.k ≤ m → EatsNothingBy l.rows (λ i. has l.empties i ≡ true) m → has l.empties m ≡ true;
   most : count_by not l.empties ≤ count_by not l.fn.empties;
-  more : l.is_new ≡ true → count_by not l.empties < count_by not l.fn.empties }
+  more : l.is_new ≡ true → count_by not l.empties < count_by not l.fn.empties;
+}

@@ -1,4 +1,4 @@
-use Rattle.std.proofs.Common.{◌≡◌, ℕ, true, refl, arith}
+use Rattle.std.proofs.Common.{◌≡◌, true, refl, arith}
 use Rattle.rule_checks.specs.Rows.{here}
 use Rattle.rule_checks.specs.Sets.{has}
 use Rattle.rule_checks.proofs.Walks.{passed_all, passed_more, passed_none}
@@ -11,9 +11,10 @@ pub loop-at-preserved : goal.loop-at-preserved
 loop-at-preserved c = passed_more _ _ _ _ c.loop-at.invariant c.next_at-at.ensures.is (omega arith) tt (λ m marked. marked) (cc)
 
 pub returns-then-not-has : goal.returns-then-not-has
-returns-then-not-has c =
-    (λ impossible. absurd (cc),
-     λ all. let marked : has c.args.marks.now c.loop-at.at ≡ true = all c.loop-at.at (c.loop-at.invariant.goes_on c.loop-at.at (here (omega arith))) in cc)
+returns-then-not-has c = (
+  λ impossible. absurd (cc),
+  λ all. let marked : has c.args.marks.now c.loop-at.at ≡ true = all c.loop-at.at (c.loop-at.invariant.goes_on c.loop-at.at (here (omega arith))) in cc,
+)
 
 pub returns : goal.returns
 returns c = (λ _. passed_all _ _ _ _ c.loop-at.invariant (omega arith), λ _. refl)

@@ -1,4 +1,4 @@
-use Rattle.std.proofs.Common.{◌≡◌, ℕ, ◌-◌, true}
+use Rattle.std.proofs.Common.{◌≡◌, ◌-◌, true}
 use Rattle.rule_checks.specs.Sets.{has}
 use Rattle.rule_checks.proofs.Walks.{Passed}
 use Rattle.rule_checks.proofs.empty.all_have.Given as goal

@@ -10,4 +10,5 @@ decreases-loop l = count_by not l.empties.items
 abbrev pub invariant-loop : goal.invariant-loop
 invariant-loop l = record {
   len : length l.empties.items ≡ length l.rows;
-  sound : (k : ℕ) → has l.empties.items k ≡ true → Empty l.rows k }
+  sound : (k : ℕ) → has l.empties.items k ≡ true → Empty l.rows k;
+}

@@ -1,4 +1,4 @@
-use Rattle.std.proofs.Common.{◌≡◌, ℕ, ◌-◌, true}
+use Rattle.std.proofs.Common.{◌≡◌, ◌-◌, true}
 use Rattle.rule_checks.specs.Empty.{IsArm}
 use Rattle.rule_checks.specs.Rows.{row_at}
 use Rattle.rule_checks.specs.Sets.{has}

@@ -1,4 +1,4 @@
-use Rattle.std.proofs.Common.{◌≡◌, ℕ, ◌≤◌, List, length, subst, arith}
+use Rattle.std.proofs.Common.{ℕ, ◌≤◌, List, length, subst, arith}
 use Rattle.rule_grammar.specs.declared.part.Part.{Part}
 use Rattle.rule_checks.specs.Leads.{Leads, PartLeads}
 use Rattle.rule_checks.proofs.Grows.{row-past}

@@ -1,4 +1,4 @@
-use Rattle.std.proofs.Common.{◌≡◌, ℕ, true, arith}
+use Rattle.std.proofs.Common.{arith}
 use Rattle.rule_checks.proofs.Walks.{listed_all, listed_more, listed_none, listed_stops}
 use Rattle.rule_checks.proofs.leads.first.Goals as goal
 

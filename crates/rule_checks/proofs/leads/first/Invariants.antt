@@ -1,4 +1,4 @@
-use Rattle.std.proofs.Common.{ℕ, ◌-◌}
+use Rattle.std.proofs.Common.{◌-◌}
 use Rattle.rule_checks.specs.Empty.{Empty}
 use Rattle.rule_checks.proofs.Walks.{Listed}
 use Rattle.rule_checks.proofs.leads.first.Given as goal

@@ -6,7 +6,6 @@ use Rattle.rule_grammar.specs.declared.part.Part.TheVariants.{Choice, Operators}
 use Rattle.rule_checks.specs.Empty.{Empty}
 use Rattle.rule_checks.specs.Leads.{Begins, Leads, PartLeads}
 use Rattle.rule_checks.specs.Rows.{Beside, row_at}
-use Rattle.rule_checks.specs.Sets.{has}
 use Rattle.rule_checks.proofs.Lists.{iff_then}
 use Rattle.rule_checks.proofs.leads.leads.Goals as goal
 
@@ -17,9 +16,10 @@ choice-leads rows k end m is = subst (λ p. (Beside rows (k + 1) end m × Begins
 
 operators-lead : (rows : List part.Part) (k end m : ℕ) (P : Type 0) → P ↔ Empty rows k → Operators end ≡ row_at rows k
     → (Beside rows (k + 1) end m × Begins P (row_at rows m)) ↔ Leads rows k m
-operators-lead rows k end m P same is = subst (λ p. (Beside rows (k + 1) end m × Begins P (row_at rows m)) ↔ PartLeads rows k p m) is
-    (λ begins. (begins.0, elim begins.1 [ inl arm ↦ inl arm | inr operator ↦ inr (same.0 operator.0, operator.1) ]),
-     λ leads. (leads.0, elim leads.1 [ inl arm ↦ inl arm | inr operator ↦ inr (same.1 operator.0, operator.1) ]))
+operators-lead rows k end m P same is = subst (λ p. (Beside rows (k + 1) end m × Begins P (row_at rows m)) ↔ PartLeads rows k p m) is (
+  λ begins. (begins.0, elim begins.1 [ inl arm ↦ inl arm | inr operator ↦ inr (same.0 operator.0, operator.1) ]),
+  λ leads. (leads.0, elim leads.1 [ inl arm ↦ inl arm | inr operator ↦ inr (same.1 operator.0, operator.1) ]),
+)
 
 pub returns-in-Choice : goal.returns-in-Choice
 returns-in-Choice c = IfOk-weaker c.begins.result _ _

@@ -1,4 +1,4 @@
-use Rattle.std.proofs.Common.{◌≡◌, ℕ, length}
+use Rattle.std.proofs.Common.{◌≡◌, length}
 use Rattle.rule_checks.specs.Rules.{Uses}
 use Rattle.rule_checks.proofs.Lists.{Made}
 use Rattle.rule_checks.proofs.rules.all_uses.Given as goal
@@ -6,4 +6,5 @@ use Rattle.rule_checks.proofs.rules.all_uses.Given as goal
 abbrev pub invariant-loop-k : goal.invariant-loop-k
 invariant-loop-k l = record {
   len : length l.lists.items ≡ l.k;
-  made : Made (Uses l.rows) l.lists.items }
+  made : Made (Uses l.rows) l.lists.items;
+}

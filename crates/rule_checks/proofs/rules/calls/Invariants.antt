@@ -1,4 +1,4 @@
-use Rattle.std.proofs.Common.{◌≡◌, ℕ}
+use Rattle.std.proofs.Common.{ℕ}
 use Rattle.std.specs.Prelude.{Contains, ◌↔◌}
 use Rattle.rule_checks.specs.Rules.{IsCalled}
 use Rattle.rule_checks.proofs.rules.calls.Given as goal

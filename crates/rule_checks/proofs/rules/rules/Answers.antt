@@ -1,6 +1,5 @@
-use Rattle.std.proofs.Common.{◌≡◌, ℕ, ◌+◌, ◌<◌, ◌≤◌, ◌++◌, ◌∷◌, [], max, Bool, true, List, length, inl, inr, subst, sym, arith}
+use Rattle.std.proofs.Common.{◌≡◌, ℕ, ◌+◌, ◌<◌, ◌≤◌, ◌++◌, ◌∷◌, [], Bool, true, List, length, inl, inr, subst, arith}
 use Rattle.std.specs.Prelude.{◌↔◌, IsTrue}
-use Rattle.std.proofs.Math.ListN.{length-append}
 use Rattle.rule_grammar.specs.declared.part.Part.{Part}
 use Rattle.rule_checks.specs.Empty.{IsArm}
 use Rattle.rule_checks.specs.Rows.{next_at, row_at}
@@ -15,9 +14,10 @@ below_next P k below here o within = elim (split_at o k within) [ inl less ↦ b
 
 rule_at : (rows : List Part) (past k : ℕ) (b : Bool) → ((o : ℕ) → o < k → next_at rows o ≤ past) → ((bound : ℕ) → ((o : ℕ) → o < k → next_at rows o ≤ bound) → past ≤ bound)
     → IsTrue b ↔ ((past ≤ k) × IsArm (row_at rows k)) → (b ≡ true) ↔ IsRule rows k
-rule_at rows past k b bound least is =
-    ((λ yes. let both = is.0 yes in record { arm = both.1; outermost = λ o less. let below = bound o less in let first = both.0 in omega arith }),
-     λ rule. is.1 (least k rule.outermost, rule.arm))
+rule_at rows past k b bound least is = (
+  (λ yes. let both = is.0 yes in record { arm = both.1; outermost = λ o less. let below = bound o less in let first = both.0 in omega arith }),
+  λ rule. is.1 (least k rule.outermost, rule.arm),
+)
 
 more_rules : (rows : List Part) (rules longer : List Bool) (b : Bool) (k : ℕ) → length rules ≡ k → longer ≡ rules ++ b ∷ [] → IsSetBelow k (IsRule rows) rules → (b ≡ true) ↔ IsRule rows k
     → IsSetBelow (k + 1) (IsRule rows) longer

@@ -1,4 +1,4 @@
-use Rattle.std.proofs.Common.{◌≡◌, ℕ, ◌<◌, ◌≤◌, length, true}
+use Rattle.std.proofs.Common.{◌≡◌, ℕ, ◌<◌, ◌≤◌, length}
 use Rattle.rule_checks.specs.Rows.{next_at}
 use Rattle.rule_checks.specs.Rules.{IsRule}
 use Rattle.rule_checks.specs.Sets.{IsSetBelow}
@@ -9,4 +9,5 @@ invariant-loop-k l = record {
   len : length l.rules.items ≡ l.k;
   is : IsSetBelow l.k (IsRule l.rows) l.rules.items;
   bound : (o : ℕ) → o < l.k → next_at l.rows o ≤ l.past;
-  least : (b : ℕ) → ((o : ℕ) → o < l.k → next_at l.rows o ≤ b) → l.past ≤ b }
+  least : (b : ℕ) → ((o : ℕ) → o < l.k → next_at l.rows o ≤ b) → l.past ≤ b;
+}

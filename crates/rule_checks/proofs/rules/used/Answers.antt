@@ -1,4 +1,3 @@
-use Rattle.std.proofs.Common.{◌≡◌, ℕ, ◌<◌, length}
 use Rattle.std.proofs.lemmas.Result.{IfOk-weaker}
 use Rattle.rule_checks.specs.Rules.{Uses}
 use Rattle.rule_checks.specs.Steps.{Lists}
@@ -9,5 +8,5 @@ use Rattle.rule_checks.proofs.rules.used.Goals as goal
 pub returns : goal.returns
 returns c = IfOk-weaker c.after.result _ _
     (λ used is k within. iff_then (is k (rw c.in_ok-lists.ensures.len within))
-      (after_same (Lists c.in_ok-lists.lists.items) (Uses c.args.rows.now) c.args.from k c.in_ok-lists.ensures.is))
+    (after_same (Lists c.in_ok-lists.lists.items) (Uses c.args.rows.now) c.args.from k c.in_ok-lists.ensures.is))
     (rw c.deref.ensures.value at c.after.ensures)

@@ -1,4 +1,4 @@
-use Rattle.std.proofs.Common.{◌≡◌, ℕ, ◌-◌, ◌<◌, length, arith}
+use Rattle.std.proofs.Common.{◌-◌, ◌<◌, length, arith}
 use Rattle.std.proofs.Math.ListN.{length-set}
 use Rattle.rule_checks.proofs.Afters.{ended_more}
 use Rattle.rule_checks.proofs.Lists.{lists-at}

@@ -1,4 +1,4 @@
-use Rattle.std.proofs.Common.{◌≡◌, ℕ, ◌≤◌, length}
+use Rattle.std.proofs.Common.{◌≡◌, ◌≤◌, length}
 use Rattle.rule_checks.specs.Steps.{HaveEnded}
 use Rattle.rule_checks.proofs.steps.add_ended.Given as goal
 
@@ -9,4 +9,5 @@ abbrev pub invariant-loop-k : goal.invariant-loop-k
 invariant-loop-k l = record {
   within : l.k ≤ length l.lists;
   len : length l.marks ≡ length l.lists;
-  ended : HaveEnded l.lists l.fn.marks → HaveEnded l.lists l.marks }
+  ended : HaveEnded l.lists l.fn.marks → HaveEnded l.lists l.marks;
+}

@@ -10,4 +10,5 @@ decreases-loop l = count_by not l.marks.items
 abbrev pub invariant-loop : goal.invariant-loop
 invariant-loop l = record {
   len : length l.marks.items ≡ length l.lists;
-  sound : (k : ℕ) → k < length l.lists → has l.marks.items k ≡ true → After (Lists l.lists) l.from k }
+  sound : (k : ℕ) → k < length l.lists → has l.marks.items k ≡ true → After (Lists l.lists) l.from k;
+}

@@ -12,4 +12,5 @@ invariant-loop-k l = record {
   only : (m : ℕ) → has l.marks m ≡ true → (has l.fn.marks m ≡ true) ⊎ Contains l.list m;
   none : l.is_new ≡ false → l.marks ≡ l.fn.marks;
   most : count_by not l.marks ≤ count_by not l.fn.marks;
-  more : l.is_new ≡ true → count_by not l.marks < count_by not l.fn.marks }
+  more : l.is_new ≡ true → count_by not l.marks < count_by not l.fn.marks;
+}
