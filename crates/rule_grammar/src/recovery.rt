@@ -1,5 +1,5 @@
 //! Errors, and where parsing goes on after one.
-ghost use Rattle.std.specs.Prelude.{◌≡◌, ◌≢◌, ◌+◌, ◌<◌, IsSome, true};
+ghost use Rattle.std.specs.Prelude.{◌≡◌, ◌≢◌, ◌+◌, ◌<◌, IsSome, false, true};
 ghost use Rattle.rule_grammar.specs.Derivations.{Counts, IfClean, IsSeparated};
 ghost use Rattle.squawk_kinds.specs.Kinds.{EOF};
 ghost use Rattle.squawk_parser.specs.SomeSteps.{AddsSome, AddsSomeNode};
@@ -31,17 +31,21 @@ pub(crate) fn missing(rule: &Open<'_>, row: u16, told: &mut Told, p: &mut Parser
     }
 }
 
-/// Tells that what is in a row is missing, if the token at the position can't begin it.
+/// Whether what is in a row can begin at the position, also after tokens that are skipped. Where it can't, that is an
+/// error.
 #[inline(always)]
-pub(crate) fn expect_one(rule: &Open<'_>, row: u16, told: &mut Told, p: &mut Parser<'_>)
+pub(crate) fn can_begin(rule: &Open<'_>, row: u16, told: &mut Told, p: &mut Parser<'_>) -> bool
     requires { IsSound p.old }
     ensures adds { AddsSome p.old p.new }
     ensures told { IfClean told.old.place told.new.place (p.new.position ≡ p.old.position) }
+    ensures tells { result ≡ false → IsSome told.new.place }
     ensures counts { Counts told.old.place told.new.place p.old p.new }
 {
-    if !rule.table.begins_with(row, rule.table.symbol(p)) {
-        missing(rule, row, told, p);
+    if rule.table.begins_with(row, rule.table.symbol(p)) {
+        return true;
     }
+    missing(rule, row, told, p);
+    rule.table.begins_with(row, rule.table.symbol(p))
 }
 
 /// Whether what is in a row stands at the position. Where it doesn't and the token can't stand after it either, that is
@@ -123,7 +127,7 @@ fn is_separated_after_others(
     ensures told { IfClean told.old.place told.new.place (IsSeparated separator result p.old p.new) }
     ensures counts { Counts told.old.place told.new.place p.old p.new }
 {
-    if is_forgotten(rule, row, told, p) {
+    if is_forgotten(rule, row, p) {
         forgotten(rule, row, separator, told, p);
         true
     } else if is_unexpected(rule, row, told, p) {
@@ -134,16 +138,15 @@ fn is_separated_after_others(
     }
 }
 
-/// Whether an item of a list stands at the position, where no open rule may go on and no error was told.
-fn is_forgotten(rule: &Open<'_>, row: u16, told: &Told, p: &Parser<'_>) -> bool {
+/// Whether an item of a list stands at the position, where no open rule may go on.
+fn is_forgotten(rule: &Open<'_>, row: u16, p: &Parser<'_>) -> bool {
     let symbol = rule.table.symbol(p);
     symbol != SyntaxKind::EOF
         && rule.table.begins_with(row, symbol)
-        && !told.has_error_at(p.position())
         && !rule.may_follow(row, symbol)
 }
 
-/// The error that a separator is forgotten.
+/// The error that a separator is forgotten, unless one was told at this place.
 fn forgotten(rule: &Open<'_>, row: u16, separator: SyntaxKind, told: &mut Told, p: &mut Parser<'_>)
     requires { IsSound p.old }
     ensures adds { AddsSome p.old p.new }
@@ -154,8 +157,9 @@ fn forgotten(rule: &Open<'_>, row: u16, separator: SyntaxKind, told: &mut Told, 
         SyntaxKind::COMMA => "expected a comma",
         _ => rule.table.message(row),
     };
-    told.move_to(p.position());
-    p.error(message);
+    if told.is_new(p.position()) {
+        p.error(message);
+    }
 }
 
 /// Eats the token at the position if it has this kind.

@@ -9,7 +9,7 @@ ghost use Rattle.squawk_parser.specs.State.{HasNode, IsSound, State};
 use crate::open::Open;
 use crate::part::Part;
 use crate::recovery::{
-    associate, bump_at, expect_kind, expect_one, is_next, is_separated, missing, no_operand,
+    associate, bump_at, can_begin, expect_kind, is_next, is_separated, missing, no_operand,
     too_deep,
 };
 use crate::table::Block;
@@ -67,7 +67,7 @@ fn step(rule: &Open<'_>, row: u16, part: Part, told: &mut Told, p: &mut Parser<'
     }
 }
 
-/// A node around what is in a row.
+/// A node around what is in a row, unless that can't begin at the position.
 #[cycle(run)]
 fn inner_node(
     rule: &Open<'_>,
@@ -83,11 +83,13 @@ fn inner_node(
     ensures derives { Derived (text_of rule.now.table.now p.old) (block (row + 1) end) told.old.place told.new.place p.old.position p.new.position }
     ensures counts { Counts told.old.place told.new.place p.old p.new }
 {
-    let rows = Block {
-        start: row + 1,
-        end,
-    };
-    let _ = node(rule, rows, kind, told, p);
+    if can_begin(rule, row, told, p) {
+        let rows = Block {
+            start: row + 1,
+            end,
+        };
+        let _ = node(rule, rows, kind, told, p);
+    }
 }
 
 /// A node around some rows.
@@ -283,8 +285,9 @@ fn operators(rule: &Open<'_>, row: u16, floor: u16, told: &mut Told, p: &mut Par
 {
     match rule.table.part(row) {
         Part::Operators { end } if row < u16::MAX => {
-            expect_one(rule, row, told, p);
-            let _ = climb(rule, row, end, floor, told, p);
+            if can_begin(rule, row, told, p) {
+                let _ = climb(rule, row, end, floor, told, p);
+            }
         }
         _ => missing(rule, row, told, p),
     }
@@ -301,8 +304,9 @@ fn whole(rule: &Open<'_>, row: u16, end: u16, told: &mut Told, p: &mut Parser<'_
         → Derived (text_of rule.now.table.now p.old) (single row) told.old.place told.new.place p.old.position p.new.position }
     ensures counts { Counts told.old.place told.new.place p.old p.new }
 {
-    expect_one(rule, row, told, p);
-    let _ = climb(rule, row, end, 0, told, p);
+    if can_begin(rule, row, told, p) {
+        let _ = climb(rule, row, end, 0, told, p);
+    }
 }
 
 /// The same, where the operators are these.

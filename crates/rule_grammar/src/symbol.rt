@@ -35,20 +35,18 @@ impl Table<'_> {
     #[inline(never)]
     fn composite(&self, kind: SyntaxKind, p: &Parser<'_>) -> SyntaxKind {
         if !self.operators.contains(kind) {
-            self.glued_or(kind, p)
-        } else if p.op_len() > 1 {
-            self.glued_or(SyntaxKind::CUSTOM_OP, p)
-        } else if self.plain.contains(kind) {
-            kind
-        } else {
-            SyntaxKind::CUSTOM_OP
+            return self.glued_or(kind, 2, p);
+        }
+        match p.op_len() {
+            1 if self.plain.contains(kind) => kind,
+            len => self.glued_or(SyntaxKind::CUSTOM_OP, len, p),
         }
     }
 
-    /// The first composite kind that stands at the position, or the other.
-    fn glued_or(&self, other: SyntaxKind, p: &Parser<'_>) -> SyntaxKind {
+    /// The first composite kind of so many tokens that stands at the position, or the other.
+    fn glued_or(&self, other: SyntaxKind, len: usize, p: &Parser<'_>) -> SyntaxKind {
         for kind in self.glued {
-            if p.at(*kind) {
+            if len_of(*kind) == len && p.at(*kind) {
                 return *kind;
             }
         }
@@ -64,5 +62,13 @@ impl Table<'_> {
         } else {
             self.operators
         }
+    }
+}
+
+/// How many tokens a composite kind of signs has.
+fn len_of(kind: SyntaxKind) -> usize {
+    match kind {
+        SyntaxKind::LONG_ARROW => 3,
+        _ => 2,
     }
 }

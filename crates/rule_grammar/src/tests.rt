@@ -235,7 +235,7 @@ static CASES: [(&str, &str); 14] = [
     // What is missing is one error, and eats nothing. An error after the end of a node is sent before that end.
     (
         "a+;b;",
-        "STATEMENT{SUM{NAME{a}+!expected an expression!ERROR{}}};STATEMENT{NAME{b}};",
+        "STATEMENT{SUM{NAME{a}+!expected an expression!}};STATEMENT{NAME{b}};",
     ),
     ("a b;", "STATEMENT{NAME{a}!expected ;!} STATEMENT{NAME{b}};"),
     ("(a;", "STATEMENT{PAREN{(NAME{a!expected )!}}};"),

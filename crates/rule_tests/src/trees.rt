@@ -70,7 +70,7 @@ static CASES: [(&str, &str); 12] = [
     ("a", "STATEMENT{NAME{a!expected ;!}}"),
     (
         "a+;",
-        "STATEMENT{SUM{NAME{a}+!expected an expression!ERROR{}};}",
+        "STATEMENT{SUM{NAME{a}+!expected an expression!};}",
     ),
     ("(a;", "STATEMENT{PAREN{(NAME{a!expected )!}};}"),
 ];

@@ -108,9 +108,9 @@ step-returns-in-Operators-clause-derives t c =
     let is : part_at c.args.rule.now.table.now.rows.now c.args.row ≡ parts.Operators c.in-Operators.end = sym c.requires.is ∙ c.in-Operators.is in
     c.whole.ensures.derives is
 
-pub whole-returns-clause-derives : goal.whole-returns-clause-derives
-whole-returns-clause-derives t c = λ is.
-    let before = c.expect_one.ensures in
+pub whole-returns-then-can_begin-clause-derives : goal.whole-returns-then-can_begin-clause-derives
+whole-returns-then-can_begin-clause-derives t c = λ is.
+    let before = c.can_begin.ensures in
     still_before before.told (as_part (moved c.args.rule.now.table.now before.adds.some.keeps (c.climb.ensures.derives is).1) (λ d. operators is d))
 
 pub step-returns-in-Nothing-clause-derives : goal.step-returns-in-Nothing-clause-derives
