@@ -68,8 +68,8 @@ fn opening(p: &Parser<'_>) -> usize {
     usize::MAX
 }
 
-/// How many of so many opening parentheses at the position stand before the last one that closes before a token that
-/// is not in the set. The first one is not asked for, and a parenthesis that no other closes before a semicolon is well.
+/// How many of so many opening parentheses at the position a guard doesn't hold at: it holds where each one after that
+/// is closed before a token of the set `next`, or isn't closed before a semicolon or the end.
 fn refused(table: &Table<'_>, next: u16, count: usize, p: &Parser<'_>) -> usize {
     let mut outer = count;
     let mut inner = 0usize;

@@ -27,9 +27,8 @@ impl Table<'_> {
         let symbol = self.symbol(p);
         let mut at = rows.start;
         while at < rows.end {
-            let part = self.part(at);
-            let beyond = part.beyond(at);
-            if let Part::Arm { end } = part {
+            let beyond = self.beyond(at);
+            if let Part::Arm { end } = self.part(at) {
                 if self.takes(at, symbol, told, p) {
                     return Some(Block { start: at + 1, end });
                 }
@@ -158,13 +157,12 @@ impl Table<'_> {
     {
         let mut at = rows.start;
         while at < rows.end {
-            let part = self.part(at);
-            let beyond = part.beyond(at);
+            let beyond = self.beyond(at);
             if let Part::Tail {
                 end,
                 level,
                 ceiling,
-            } = part
+            } = self.part(at)
             {
                 if floor <= level && self.stands(at, symbol, p) {
                     let block = Block { start: at + 1, end };

@@ -1,7 +1,8 @@
 //! Words, names, kinds of nodes, guards, forgotten commas and composite kinds:
 //!
 //! ```text
-//! statement = '+' expression (',' expression)* | '*' word | '=' a word that is none | ',' LABEL | expression that is a NAME
+//! statement = '+' item (',' item)* | '*' word | '=' a word that is none | ',' LABEL | expression that is a NAME
+//! item = expression ':'?
 //! expression = operand: where it is one, query | IDENT => NAME | '(' expression ')' => PAREN
 //!     level 1: '<' => LESS, '<=' => AT_MOST;  level 2: any other operator => OTHER;  level 3: '::' => CAST
 //! query = '(' query ')' => NESTED | INT_NUMBER => QUERY
@@ -17,6 +18,8 @@ use std::test::Fail;
 const INT: u16 = SyntaxKind::INT_NUMBER.0;
 
 const COMMA: u16 = SyntaxKind::COMMA.0;
+
+const COLON: u16 = SyntaxKind::COLON.0;
 
 const L_ANGLE: u16 = SyntaxKind::L_ANGLE.0;
 
@@ -49,15 +52,15 @@ macro_rules! set {
 
 /// CUSTOM_OP and COLON_COLON stand in sets at the bits 1 and 2.
 #[rattlefmt::skip]
-static SETS: [[u16; 40]; 18] = [
+static SETS: [[u16; 40]; 19] = [
     set![PLUS, STAR, EQ, COMMA, IDENT, L_PAREN, INT], set![SEMICOLON], set![IDENT, L_PAREN, INT],
     set![PLUS], set![STAR], set![EQ], set![COMMA], set![IDENT], set![INT], set![L_PAREN, INT],
     set![L_PAREN], set![R_PAREN], set![R_PAREN, SEMICOLON], set![L_ANGLE, LTEQ, 1, 2], set![LTEQ],
-    set![L_ANGLE], set![1], set![2],
+    set![L_ANGLE], set![1], set![2], set![COLON],
 ];
 
 #[rattlefmt::skip]
-static ROWS: [[u16; 8]; 59] = [
+static ROWS: [[u16; 8]; 62] = [
     // The file: statements, each with a semicolon.
     [256 + 10, 3, 0, 0, NONE, NONE, 0, 1],
     [12, 22, 3, 0, 1, NONE, 0, 0],
@@ -68,7 +71,7 @@ static ROWS: [[u16; 8]; 59] = [
     [8, 9, 0, 3, NONE, NONE, 0, 0],
     [1, 0, PLUS, 3, 2, NONE, 0, 0],
     [256 + 11, 9, COMMA, 2, NONE, NONE, 0, 2],
-    [256 + 12, 50, 22, 2, 6, 2, 0, 2],
+    [256 + 12, 62, 59, 2, 6, 2, 0, 2],
     // a word, one that no identifier is, a name,
     [8, 12, 0, 4, NONE, NONE, 0, 0],
     [1, 0, STAR, 4, 7, NONE, 0, 0],
@@ -124,13 +127,18 @@ static ROWS: [[u16; 8]; 59] = [
     [8, 59, 0, 8, NONE, NONE, 0, 0],
     [256 + 5, 59, QUERY, 8, NONE, NONE, 0, 0],
     [256 + 1, 0, INT, 8, NONE, NONE, 0, 0],
+    // An item of a list.
+    [12, 50, 22, 2, 18, NONE, 0, 2],
+    [256 + 9, 62, 0, 18, NONE, NONE, 0, 6],
+    [256 + 1, 0, COLON, 18, NONE, NONE, 0, 0],
 ];
 
-/// `expected ;`, `expected a statement`, `expected an expression`, `expected a word`, `only a name` and `expected )`.
+/// `expected ;`, `expected a statement`, `expected an expression`, `expected a word`, `only a name`, `expected )` and
+/// `expected a colon`.
 const MESSAGES: &str =
-    "expected ;expected a statementexpected an expressionexpected a wordonly a nameexpected )";
+    "expected ;expected a statementexpected an expressionexpected a wordonly a nameexpected )expected a colon";
 
-static MESSAGE_ENDS: [usize; 6] = [10, 30, 52, 67, 78, 88];
+static MESSAGE_ENDS: [usize; 7] = [10, 30, 52, 67, 78, 88, 104];
 
 /// The kinds that operators are made of.
 const OPERATORS: TokenSet = token_set![
@@ -153,7 +161,7 @@ const COMPOSED: TokenSet = token_set![
 ];
 
 /// Texts, and what is in their files.
-static CASES: [(&str, &str); 22] = [
+static CASES: [(&str, &str); 24] = [
     // A word is an identifier of a contextual kind; here that is IDENT. One that is none is left for the next statement.
     ("*a;", "STATEMENT{*a};"),
     ("*1;", "STATEMENT{*ERROR{!expected a word!1}};"),
@@ -162,6 +170,7 @@ static CASES: [(&str, &str); 22] = [
     // The node that ended last has another kind than it has to. An error after the end of a node is sent before that end.
     ("a;", "STATEMENT{NAME{a}};"),
     ("(a);", "STATEMENT{PAREN{(NAME{a})!only a name!}};"),
+    ("a<b;", "STATEMENT{LESS{NAME{a}<NAME{b}!only a name!}};"),
     // A query in parentheses is one, unless an operator comes after it.
     ("+(1);", "STATEMENT{+NESTED{(QUERY{1})}};"),
     ("+((1));", "STATEMENT{+NESTED{(NESTED{(QUERY{1})})}};"),
@@ -189,9 +198,10 @@ static CASES: [(&str, &str); 22] = [
         "STATEMENT{+NAME{a!expected a comma!} NAME{b},NAME{c}};",
     ),
     (
-        "+a=;",
-        "STATEMENT{+NAME{a}ERROR{!expected an expression!=}};",
+        "+a:b,c;",
+        "STATEMENT{+NAME{a}:!expected a comma!NAME{b},NAME{c}};",
     ),
+    ("+a=;", "STATEMENT{+NAME{a}ERROR{!expected a colon!=}};"),
     // Operators of one token and more, and a glued kind that is a node.
     ("+a<b;", "STATEMENT{+LESS{NAME{a}<NAME{b}}};"),
     (

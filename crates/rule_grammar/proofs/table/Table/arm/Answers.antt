@@ -1,5 +1,5 @@
-use Rattle.std.proofs.Common.{ap, arith, refl, sym, subst, ◌∙◌, ℕ}
-use Rattle.rule_grammar.specs.Derivations.{Beside, next_of}
+use Rattle.std.proofs.Common.{arith, refl, sym, subst, ◌∙◌, ℕ}
+use Rattle.rule_grammar.specs.Derivations.{Beside}
 use Rattle.rule_grammar.specs.Derivations.Beside.{at_first, over_one}
 use Rattle.rule_grammar.proofs.table.Table.arm.Goals as goal
 
@@ -9,14 +9,14 @@ loop-at-init c = (omega arith, at_first, refl)
 pub loop-at-preserved : goal.loop-at-preserved
 loop-at-preserved c = (
   omega (arith, c.beyond-beyond.ensures.later),
-  subst (λ (k : ℕ). Beside c.args.self.now.rows.now c.args.rows.start k) (sym (c.beyond-beyond.ensures.is ∙ ap (next_of c.loop-at.at) c.part-part.ensures)) (over_one c.loop-at.invariant.1),
+  subst (λ (k : ℕ). Beside c.args.self.now.rows.now c.args.rows.start k) (sym c.beyond-beyond.ensures.is) (over_one c.loop-at.invariant.1),
   c.loop-at.invariant.2,
 )
 
 pub loop-at-preserved-else-takes : goal.loop-at-preserved-else-takes
 loop-at-preserved-else-takes c = (
   omega (arith, c.beyond-beyond.ensures.later),
-  subst (λ (k : ℕ). Beside c.args.self.now.rows.now c.args.rows.start k) (sym (c.beyond-beyond.ensures.is ∙ ap (next_of c.loop-at.at) c.part-part.ensures)) (over_one c.loop-at.invariant.1),
+  subst (λ (k : ℕ). Beside c.args.self.now.rows.now c.args.rows.start k) (sym c.beyond-beyond.ensures.is) (over_one c.loop-at.invariant.1),
   c.takes.ensures ∙ c.loop-at.invariant.2,
 )
 
