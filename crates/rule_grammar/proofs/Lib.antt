@@ -1,3 +1,4 @@
 pub mod Counted
 pub mod Derived
 pub mod Files
+pub mod Operators

@@ -1,7 +1,8 @@
 -- What rules derive: from which token of an input to which.
-use Rattle.std.specs.Prelude.{◌≡◌, ℕ, ◌+◌, ◌<◌, ◌≤◌, nat_lt, Bool, true, false, Option, Some, None, List, length, if◌then◌else◌, ◌⊎◌}
+use Rattle.std.specs.Prelude.{◌≡◌, ◌≢◌, ℕ, ◌+◌, ◌<◌, ◌≤◌, nat_lt, Bool, true, false, Option, Some, None, List, length, if◌then◌else◌, ◌⊎◌}
 use Rattle.squawk_kinds.specs.Kinds.{EOF, IDENT}
-use Rattle.squawk_kinds.specs.TokenSets.{has}
+use Rattle.squawk_kinds.specs.TokenSets.{has, no_kinds}
+use Rattle.squawk_kinds.specs.declared.token_set.TokenSet.{TokenSet}
 use Rattle.squawk_table.specs.ParserInput.{Entry, contextual_kind_in, kind_in}
 use Rattle.squawk_output.specs.Steps.{eaten}
 use Rattle.squawk_output.specs.Draft.{Draft, errors_of}
@@ -90,6 +91,11 @@ pub record IsTail (list : List (List ℕ)) (start end first last level ceiling :
   pub is : part_at list at ≡ Tail last level ceiling
   pub first_is : first ≡ at + 1
 
+-- the only part in some rows, also after a guard
+pub data IsOnly (list : List (List ℕ)) (start end : ℕ) : ℕ → Type 0 where
+  alone : end ≤ next_of start (part_at list start) → IsOnly list start end start
+  guarded : {first next : ℕ} → part_at list start ≡ Guard first next → end ≤ next_of (start + 1) (part_at list (start + 1)) → IsOnly list start end (start + 1)
+
 -- ---- derivations
 
 -- what derives tokens: rows one after another up to one; a part; a block of rows; an arm of those in a block; a block any
@@ -144,6 +150,11 @@ abbrev pub EatsKind : ℕ → State → State → Type 0
 EatsKind kind old new = ((kind_at old 0 ≡ kind) × (new.position ≡ old.position + 1))
     ⊎ ((stands_at (has old.words.operator_first) kind (ahead old 0) ≡ true) × (new.position ≡ old.position + eaten (eat_steps old.words kind (ahead old 0))))
 
+-- Nothing is eaten, and where a list goes on, its separator is next.
+abbrev pub IsSeparated : ℕ → Bool → State → State → Type 0
+IsSeparated separator goes_on old new =
+    (new.position ≡ old.position) × (goes_on ≡ true → (kind_at new 0 ≡ separator) × (kind_at new 0 ≢ EOF))
+
 -- If a run told no error, it had told none before, and the span derives what it ate.
 pub record Derived (t : Text) (span : Span) (before after : Option ℕ) (i j : ℕ) : Type 0 where
   pub clean : after ≡ None → before ≡ None
@@ -162,6 +173,10 @@ weight (Some place) = 1
 pub record Counts (before after : Option ℕ) (old new : State) : Type 0 where
   pub keeps : Keeps old new
   pub errors : HasNotFailed new → errors_of old.draft.items + weight after ≤ errors_of new.draft.items + weight before
+
+-- the kinds of operators: none where the end is one
+abbrev pub operators_of : TokenSet → TokenSet
+operators_of kinds = if has kinds EOF then no_kinds else kinds
 
 -- One node over all tokens. If there is no error in it, the rule of a file derives them.
 pub record IsFile (rows sets : List (List ℕ)) (words : Words) (start end : ℕ) (input : List Entry) (draft : Draft) : Type 0 where

@@ -6,17 +6,23 @@
 //! ```
 #![tactic(auto)]
 
+mod guard;
+mod looks;
 mod open;
 mod part;
 mod recovery;
 mod rules;
 mod run;
+mod skip;
+mod symbol;
 mod table;
 #[cfg(test)]
 mod tests;
 mod tokens;
 mod told;
+mod ways;
 
 pub use part::Part;
 pub use rules::{DEPTH, RuleGrammar};
+pub use symbol::bit_of;
 pub use table::Table;

@@ -1,5 +1,5 @@
 //! Rules that are open.
-ghost use Rattle.std.specs.Prelude.{◌≡◌, ◌<◌, IfSome};
+ghost use Rattle.std.specs.Prelude.{◌≡◌, ◌<◌, false};
 
 use crate::table::Table;
 use squawk_kinds::SyntaxKind;
@@ -31,30 +31,36 @@ impl<'c> Open<'c> {
         }
     }
 
-    /// The rule that a row calls, unless too many are open.
+    /// Whether no rule may be called any more.
     #[inline(always)]
-    pub(crate) fn called(&self, row: u16) -> Option<Open<'_>>
-        ensures table { IfSome result (λ inner. inner.table.now ≡ self.now.table.now) }
-        ensures deeper { IfSome result (λ inner. inner.depth < self.now.depth) }
+    pub(crate) fn is_deepest(&self) -> bool
+        ensures { result ≡ false → 0 < self.now.depth }
     {
-        if self.depth == 0 {
-            return None;
-        }
-        Some(Open {
+        self.depth == 0
+    }
+
+    /// The rule that a row calls.
+    #[inline(always)]
+    pub(crate) fn called(&self, row: u16) -> Open<'_>
+        requires { 0 < self.now.depth }
+        ensures table { result.table.now ≡ self.now.table.now }
+        ensures deeper { result.depth < self.now.depth }
+    {
+        Open {
             table: self.table,
             chain: self.chain.with(row),
             depth: self.depth - 1,
-        })
+        }
     }
 
-    /// Whether a token of the kind may come after a row.
-    pub(crate) fn may_follow(&self, row: u16, kind: SyntaxKind) -> bool {
-        self.chain.may_follow(self.table, row, kind)
+    /// Whether a symbol may come after a row.
+    pub(crate) fn may_follow(&self, row: u16, symbol: SyntaxKind) -> bool {
+        self.chain.may_follow(self.table, row, symbol)
     }
 
-    /// Whether a rule that is open goes on at a token of the kind, after an error in a row.
-    pub(crate) fn goes_on_at(&self, row: u16, kind: SyntaxKind) -> bool {
-        self.chain.goes_on_at(self.table, row, kind)
+    /// Whether a rule that is open goes on at a symbol, after an error in a row.
+    pub(crate) fn goes_on_at(&self, row: u16, symbol: SyntaxKind) -> bool {
+        self.chain.goes_on_at(self.table, row, symbol)
     }
 }
 
@@ -74,38 +80,38 @@ impl Chain<'_> {
         }
     }
 
-    /// Whether a token of the kind may come after a row of the rule that was called last: in its rule, or after a rule
+    /// Whether a symbol may come after a row of the rule that was called last: in its rule, or after a rule
     /// that may end there.
-    fn may_follow(&self, table: &Table<'_>, row: u16, kind: SyntaxKind) -> bool {
-        if table.may_follow(row, kind) {
+    fn may_follow(&self, table: &Table<'_>, row: u16, symbol: SyntaxKind) -> bool {
+        if table.may_follow(row, symbol) {
             return true;
         }
-        table.may_end_after(row) && self.may_follow_call(table, kind)
+        table.may_end_after(row) && self.may_follow_call(table, symbol)
     }
 
     /// The same after the call.
-    fn may_follow_call(&self, table: &Table<'_>, kind: SyntaxKind) -> bool {
+    fn may_follow_call(&self, table: &Table<'_>, symbol: SyntaxKind) -> bool {
         let mut open = Some(self);
         while let Some(call) = open {
-            if table.may_follow(call.row, kind) {
+            if table.may_follow(call.row, symbol) {
                 return true;
             }
             if !table.may_end_after(call.row) {
-                return call.outer.is_none() && kind == SyntaxKind::EOF;
+                return call.outer.is_none() && symbol == SyntaxKind::EOF;
             }
             open = call.outer;
         }
-        kind == SyntaxKind::EOF
+        symbol == SyntaxKind::EOF
     }
 
-    /// Whether a rule that is open goes on at a token of the kind, after an error in a row of the one called last.
-    fn goes_on_at(&self, table: &Table<'_>, row: u16, kind: SyntaxKind) -> bool {
-        if table.begins_with(row, kind) || table.goes_on_at(row, kind) {
+    /// Whether a rule that is open goes on at a symbol, after an error in a row of the one called last.
+    fn goes_on_at(&self, table: &Table<'_>, row: u16, symbol: SyntaxKind) -> bool {
+        if table.begins_with(row, symbol) || table.goes_on_at(row, symbol) {
             return true;
         }
         let mut open = Some(self);
         while let Some(call) = open {
-            if table.goes_on_at(call.row, kind) {
+            if table.goes_on_at(call.row, symbol) {
                 return true;
             }
             open = call.outer;

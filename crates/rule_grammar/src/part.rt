@@ -1,5 +1,6 @@
 //! The parts of rules.
-ghost use Rattle.std.specs.Prelude.{◌≡◌};
+ghost use Rattle.std.specs.Prelude.{◌≡◌, ◌<◌};
+ghost use Rattle.rule_grammar.specs.Derivations.{next_of, row_after};
 ghost use Rattle.rule_grammar.specs.Parts.{part_of};
 
 use squawk_kinds::SyntaxKind;
@@ -46,6 +47,39 @@ pub enum Part {
     Operand { operators: u16, floor: u16 },
     /// An operator with what stands on its right. The level of the operator after it is `ceiling` at most.
     Tail { end: u16, level: u16, ceiling: u16 },
+}
+
+impl Part {
+    /// The row after this part of a row, with all that is in it.
+    #[inline(always)]
+    pub(crate) fn beyond(&self, row: u16) -> u16
+        requires { row < 65535 }
+        ensures later { row < result }
+        ensures is { result ≡ next_of row self.now }
+    {
+        match self {
+            Part::Node { end, .. }
+            | Part::Choice { end }
+            | Part::Arm { end }
+            | Part::Optional { end }
+            | Part::Repeat { end }
+            | Part::Some { end }
+            | Part::List { end, .. }
+            | Part::Operators { end }
+            | Part::Is { end }
+            | Part::Tail { end, .. } => after(row, *end),
+            _ => row + 1,
+        }
+    }
+}
+
+/// The row after one that ends there.
+fn after(row: u16, end: u16) -> u16
+    requires { row < 65535 }
+    ensures later { row < result }
+    ensures is { result ≡ row_after row end }
+{
+    if row < end { end } else { row + 1 }
 }
 
 /// The part that a row is.

@@ -1,12 +1,13 @@
 //! Errors, and where parsing goes on after one.
-ghost use Rattle.std.specs.Prelude.{◌≡◌, ◌≢◌, IsSome, None, Some, ℕ, true};
-ghost use Rattle.rule_grammar.specs.Derivations.{Counts, IfClean};
+ghost use Rattle.std.specs.Prelude.{◌≡◌, ◌≢◌, ◌+◌, ◌<◌, IsSome, true};
+ghost use Rattle.rule_grammar.specs.Derivations.{Counts, IfClean, IsSeparated};
 ghost use Rattle.squawk_kinds.specs.Kinds.{EOF};
 ghost use Rattle.squawk_parser.specs.SomeSteps.{AddsSome, AddsSomeNode};
 ghost use Rattle.squawk_parser.specs.State.{IsSound, kind_at};
 
 use crate::open::Open;
-use crate::part::Part;
+use crate::skip::{bump_to, goes_on, skip_inside, tell};
+use crate::table::Block;
 use crate::told::Told;
 use squawk_parser::{CompletedMarker, Parser, SyntaxKind};
 
@@ -38,123 +39,8 @@ pub(crate) fn expect_one(rule: &Open<'_>, row: u16, told: &mut Told, p: &mut Par
     ensures told { IfClean told.old.place told.new.place (p.new.position ≡ p.old.position) }
     ensures counts { Counts told.old.place told.new.place p.old p.new }
 {
-    if !rule.table.begins_with(row, p.current()) {
+    if !rule.table.begins_with(row, rule.table.symbol(p)) {
         missing(rule, row, told, p);
-    }
-}
-
-fn tell(rule: &Open<'_>, row: u16, p: &mut Parser<'_>)
-    requires { IsSound p.old }
-    ensures adds { AddsSome p.old p.new }
-    ensures counts { (place : ℕ) → Counts None (Some place) p.old p.new }
-{
-    let inside = before_match(rule, row, p);
-    if inside > 0 {
-        skip_some(rule, row, inside, p);
-    } else if goes_on(rule, row, p) {
-        p.error(rule.table.message(row));
-    } else {
-        skip(rule, row, p);
-    }
-}
-
-/// Where a row is a closing parenthesis: how many tokens stand before the one that closes the innermost open one, if it
-/// is among the next [`FAR`] tokens and no semicolon stands before it, else 0.
-fn before_match(rule: &Open<'_>, row: u16, p: &Parser<'_>) -> usize {
-    match rule.table.part(row) {
-        Part::Token {
-            kind: SyntaxKind::R_PAREN,
-        } => closing(p),
-        _ => 0,
-    }
-}
-
-/// How many tokens are looked at to find the parenthesis that closes another.
-const FAR: usize = 256;
-
-fn closing(p: &Parser<'_>) -> usize {
-    let mut unclosed = 0usize;
-    for n in 0..FAR {
-        let kind = p.nth(n);
-        if kind == SyntaxKind::R_PAREN && unclosed == 0 {
-            return n;
-        }
-        if kind == SyntaxKind::SEMICOLON || kind == SyntaxKind::EOF {
-            return 0;
-        }
-        unclosed = unclosed_after(unclosed, kind);
-    }
-    0
-}
-
-/// Skips what stands before a parenthesis that closes, without an error.
-fn skip_inside(rule: &Open<'_>, row: u16, p: &mut Parser<'_>)
-    requires { IsSound p.old }
-    ensures { AddsSome p.old p.new }
-{
-    let inside = before_match(rule, row, p);
-    if inside > 0 {
-        let node = p.start();
-        bump_some(inside, p);
-        node.complete(p, SyntaxKind::ERROR);
-    }
-}
-
-/// An error, and so many tokens.
-fn skip_some(rule: &Open<'_>, row: u16, count: usize, p: &mut Parser<'_>)
-    ensures adds { AddsSome p.old p.new }
-    ensures counts { (place : ℕ) → Counts None (Some place) p.old p.new }
-{
-    let node = p.start();
-    p.error(rule.table.message(row));
-    bump_some(count, p);
-    node.complete(p, SyntaxKind::ERROR);
-}
-
-fn bump_some(count: usize, p: &mut Parser<'_>)
-    requires { IsSound p.old }
-    ensures { AddsSome p.old p.new }
-{
-    let mut left = count;
-    while left > 0 && p.current() != SyntaxKind::EOF {
-        p.bump_any();
-        left -= 1;
-    }
-}
-
-/// Whether no token is to be skipped after an error in a row.
-fn goes_on(rule: &Open<'_>, row: u16, p: &Parser<'_>) -> bool {
-    p.current() == SyntaxKind::EOF || rule.goes_on_at(row, p.current())
-}
-
-/// An error, and the tokens at which no open rule goes on.
-fn skip(rule: &Open<'_>, row: u16, p: &mut Parser<'_>)
-    ensures adds { AddsSome p.old p.new }
-    ensures counts { (place : ℕ) → Counts None (Some place) p.old p.new }
-{
-    let node = p.start();
-    p.error(rule.table.message(row));
-    bump_to(rule, row, p);
-    node.complete(p, SyntaxKind::ERROR);
-}
-
-/// Eats tokens up to one at which an open rule goes on. Parentheses are eaten with what is in them.
-fn bump_to(rule: &Open<'_>, row: u16, p: &mut Parser<'_>)
-    requires { IsSound p.old }
-    ensures { AddsSome p.old p.new }
-{
-    let mut unclosed = 0usize;
-    while p.current() != SyntaxKind::EOF && (unclosed > 0 || !goes_on(rule, row, p)) {
-        unclosed = unclosed_after(unclosed, p.current());
-        p.bump_any();
-    }
-}
-
-fn unclosed_after(unclosed: usize, kind: SyntaxKind) -> usize {
-    match kind {
-        SyntaxKind::L_PAREN => unclosed.saturating_add(1),
-        SyntaxKind::R_PAREN => unclosed.saturating_sub(1),
-        _ => unclosed,
     }
 }
 
@@ -167,7 +53,7 @@ pub(crate) fn is_next(rule: &Open<'_>, row: u16, told: &mut Told, p: &mut Parser
     ensures told { IfClean told.old.place told.new.place (p.new.position ≡ p.old.position) }
     ensures counts { Counts told.old.place told.new.place p.old p.new }
 {
-    if rule.table.stands(row, p) {
+    if rule.table.stands(row, rule.table.symbol(p), p) {
         true
     } else {
         is_after_others(rule, row, told, p)
@@ -175,6 +61,7 @@ pub(crate) fn is_next(rule: &Open<'_>, row: u16, told: &mut Told, p: &mut Parser
 }
 
 /// Whether it stands after tokens that are skipped.
+#[inline(never)]
 fn is_after_others(rule: &Open<'_>, row: u16, told: &mut Told, p: &mut Parser<'_>) -> bool
     requires { IsSound p.old }
     ensures adds { AddsSome p.old p.new }
@@ -183,7 +70,7 @@ fn is_after_others(rule: &Open<'_>, row: u16, told: &mut Told, p: &mut Parser<'_
 {
     if is_unexpected(rule, row, told, p) {
         missing(rule, row, told, p);
-        rule.table.stands(row, p)
+        rule.table.stands(row, rule.table.symbol(p), p)
     } else {
         false
     }
@@ -198,10 +85,11 @@ fn is_unexpected(rule: &Open<'_>, row: u16, told: &mut Told, p: &Parser<'_>) -> 
         return false;
     }
     told.settle(place);
-    !rule.may_follow(row, p.current()) && !goes_on(rule, row, p)
+    !rule.may_follow(row, rule.table.symbol(p)) && !goes_on(rule, row, p)
 }
 
-/// Whether a separator stands at the position, also after tokens that are skipped.
+/// Whether a list goes on: its separator stands at the position, also after tokens that are skipped, or is forgotten
+/// there, which is an error.
 #[inline(always)]
 pub(crate) fn is_separated(
     rule: &Open<'_>,
@@ -212,18 +100,17 @@ pub(crate) fn is_separated(
 ) -> bool
     requires { IsSound p.old }
     ensures adds { AddsSome p.old p.new }
-    ensures at { result ≡ true → kind_at p.new 0 ≡ separator }
-    ensures told { IfClean told.old.place told.new.place (p.new.position ≡ p.old.position) }
+    ensures told { IfClean told.old.place told.new.place (IsSeparated separator result p.old p.new) }
     ensures counts { Counts told.old.place told.new.place p.old p.new }
-    ensures some { result ≡ true → kind_at p.new 0 ≢ EOF }
 {
-    if is_at(separator, p) && rule.table.sees(row, p) {
+    if is_at(separator, p) && rule.table.sees_look(row, p) {
         true
     } else {
         is_separated_after_others(rule, row, separator, told, p)
     }
 }
 
+#[inline(never)]
 fn is_separated_after_others(
     rule: &Open<'_>,
     row: u16,
@@ -233,16 +120,53 @@ fn is_separated_after_others(
 ) -> bool
     requires { IsSound p.old }
     ensures adds { AddsSome p.old p.new }
-    ensures at { result ≡ true → kind_at p.new 0 ≡ separator }
-    ensures told { IfClean told.old.place told.new.place (p.new.position ≡ p.old.position) }
+    ensures told { IfClean told.old.place told.new.place (IsSeparated separator result p.old p.new) }
     ensures counts { Counts told.old.place told.new.place p.old p.new }
-    ensures some { result ≡ true → kind_at p.new 0 ≢ EOF }
 {
-    if is_unexpected(rule, row, told, p) {
+    if is_forgotten(rule, row, told, p) {
+        forgotten(rule, row, separator, told, p);
+        true
+    } else if is_unexpected(rule, row, told, p) {
         missing(rule, row, told, p);
         is_at(separator, p)
     } else {
         false
+    }
+}
+
+/// Whether an item of a list stands at the position, where no open rule may go on and no error was told.
+fn is_forgotten(rule: &Open<'_>, row: u16, told: &Told, p: &Parser<'_>) -> bool {
+    let symbol = rule.table.symbol(p);
+    symbol != SyntaxKind::EOF
+        && rule.table.begins_with(row, symbol)
+        && !told.has_error_at(p.position())
+        && !rule.may_follow(row, symbol)
+}
+
+/// The error that a separator is forgotten.
+fn forgotten(rule: &Open<'_>, row: u16, separator: SyntaxKind, told: &mut Told, p: &mut Parser<'_>)
+    requires { IsSound p.old }
+    ensures adds { AddsSome p.old p.new }
+    ensures tells { IsSome told.new.place }
+    ensures counts { Counts told.old.place told.new.place p.old p.new }
+{
+    let message = match separator {
+        SyntaxKind::COMMA => "expected a comma",
+        _ => rule.table.message(row),
+    };
+    told.move_to(p.position());
+    p.error(message);
+}
+
+/// Eats the token at the position if it has this kind.
+#[inline(always)]
+pub(crate) fn bump_at(kind: SyntaxKind, p: &mut Parser<'_>)
+    requires { IsSound p.old }
+    ensures adds { AddsSome p.old p.new }
+    ensures eats { kind_at p.old 0 ≡ kind → kind_at p.old 0 ≢ EOF → p.new.position ≡ p.old.position + 1 }
+{
+    if p.current() == kind {
+        p.bump_any();
     }
 }
 
@@ -265,6 +189,23 @@ pub(crate) fn associate(fits: bool, told: &mut Told, p: &mut Parser<'_>)
 {
     if !fits && told.is_new(p.position()) {
         p.error("this operator doesn't associate: use parentheses");
+    }
+}
+
+/// The error that the node that ended last has none of the kinds that the rows in a row name.
+pub(crate) fn expect_kind(rule: &Open<'_>, row: u16, end: u16, told: &mut Told, p: &mut Parser<'_>)
+    requires room { row < 65535 }
+    requires sound { IsSound p.old }
+    ensures adds { AddsSome p.old p.new }
+    ensures told { IfClean told.old.place told.new.place (p.new.position ≡ p.old.position) }
+    ensures counts { Counts told.old.place told.new.place p.old p.new }
+{
+    let named = Block {
+        start: row + 1,
+        end,
+    };
+    if !rule.table.names(named, told.ended()) && told.is_new(p.position()) {
+        p.error(rule.table.message(row));
     }
 }
 
@@ -301,19 +242,7 @@ pub(crate) fn too_deep(
 {
     let node = p.start();
     p.error("nested too deep");
-    bump_out(rule, row, p);
+    bump_to(rule, row, p);
     told.move_to(p.position());
     node.complete(p, SyntaxKind::ERROR)
-}
-
-/// Eats the token at the position and those after it up to one at which an open rule goes on.
-fn bump_out(rule: &Open<'_>, row: u16, p: &mut Parser<'_>)
-    requires { IsSound p.old }
-    ensures { AddsSome p.old p.new }
-{
-    let mut unclosed = 0usize;
-    while p.current() != SyntaxKind::EOF && (unclosed > 0 || !rule.may_follow(row, p.current())) {
-        unclosed = unclosed_after(unclosed, p.current());
-        p.bump_any();
-    }
 }

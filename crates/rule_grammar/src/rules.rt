@@ -12,7 +12,7 @@ use crate::part::Part;
 use crate::run::block;
 use crate::table::{Block, Table};
 use crate::told::Told;
-use squawk_parser::{Grammar, Parser, SyntaxKind, TokenSet, WholeGrammar, Words};
+use squawk_parser::{Grammar, Parser, SyntaxKind, WholeGrammar, Words};
 use std::alloc::AllocError;
 
 /// How many rules may be called in one another.
@@ -36,22 +36,21 @@ pub struct RuleGrammar<'r> {
 
 impl<'r> Grammar for RuleGrammar<'r> {
     ghost use Rattle.std.specs.Prelude.{map};
-    ghost use Rattle.squawk_kinds.specs.TokenSets.{no_kinds};
-    ghost use Rattle.rule_grammar.specs.Derivations.{IsFile};
+    ghost use Rattle.rule_grammar.specs.Derivations.{IsFile, operators_of};
 
     // One node over all tokens, whatever the numbers of the table are. If there is no error in it, the rule of a file
     // derives the tokens.
     ghost leaves = { λ rules _ input draft. IsFile rules.table.rows.now rules.table.sets.now
-        (record { operator_first = no_kinds; names = map (λ pair. (pair.0, pair.1.now)) rules.names.now }) rules.start rules.end input draft };
+        (record { operator_first = operators_of rules.table.operators; names = map (λ pair. (pair.0, pair.1.now)) rules.names.now }) rules.start rules.end input draft };
 
     ghost runs = { λ _ _ _ _. Unit {0} };
 
-    ghost meaning = { λ rules. record { operator_first = no_kinds; names = map (λ pair. (pair.0, pair.1.now)) rules.names.now } };
+    ghost meaning = { λ rules. record { operator_first = operators_of rules.table.operators; names = map (λ pair. (pair.0, pair.1.now)) rules.names.now } };
 
-    #[tactic(auto, using(squawk_parser::specs::Words::no_words_has_no_end))]
+    #[tactic(auto, using(crate::proofs::Operators::operators_have_no_end))]
     fn words(&self) -> Words<'_> {
         Words {
-            operator_first: TokenSet::EMPTY,
+            operator_first: self.table.operator_kinds(),
             names: self.names,
         }
     }

@@ -9,7 +9,8 @@ ghost use Rattle.squawk_parser.specs.State.{HasNode, IsSound, State};
 use crate::open::Open;
 use crate::part::Part;
 use crate::recovery::{
-    associate, expect_one, is_next, is_separated, missing, no_operand, too_deep,
+    associate, bump_at, expect_kind, expect_one, is_next, is_separated, missing, no_operand,
+    too_deep,
 };
 use crate::table::Block;
 use crate::tokens::{class, name, token, word};
@@ -26,8 +27,9 @@ pub(crate) fn block(rule: &Open<'_>, rows: Block, told: &mut Told, p: &mut Parse
 {
     let mut row = rows.start;
     while row < rows.end {
+        let beyond = rule.table.beyond(row);
         step(rule, row, rule.table.part(row), told, p);
-        row = rule.table.beyond(row);
+        row = beyond;
     }
 }
 
@@ -55,10 +57,10 @@ fn step(rule: &Open<'_>, row: u16, part: Part, told: &mut Told, p: &mut Parser<'
         Part::Some { end } => some(rule, row, end, told, p),
         Part::List { end, separator } => list(rule, row, end, separator, told, p),
         Part::Call { start, end } => call(rule, row, Block { start, end }, told, p),
-        Part::Operators { .. } => operators(rule, row, 0, told, p),
+        Part::Operators { end } => whole(rule, row, end, told, p),
         Part::Operand { operators, floor } => inner_operand(rule, row, operators, floor, told, p),
         Part::Nothing => {}
-        Part::Is { .. } => {}
+        Part::Is { end } => expect_kind(rule, row, end, told, p),
         Part::Guard { .. } => {}
         Part::Arm { .. } => {}
         Part::Tail { .. } => {}
@@ -116,14 +118,29 @@ fn choice(rule: &Open<'_>, row: u16, end: u16, told: &mut Told, p: &mut Parser<'
     ensures derives { Derived (text_of rule.now.table.now p.old) (choice (row + 1) end) told.old.place told.new.place p.old.position p.new.position }
     ensures counts { Counts told.old.place told.new.place p.old p.new }
 {
-    expect_one(rule, row, told, p);
     let arms = Block {
         start: row + 1,
         end,
     };
-    match rule.table.arm(arms, p) {
+    match rule.table.arm(arms, told, p) {
         Some(arm) => block(rule, arm, told, p),
-        None => missing(rule, row, told, p),
+        None => choice_after_others(rule, row, arms, told, p),
+    }
+}
+
+/// The error that no arm stands at the position, and the one that stands after tokens that are skipped.
+#[cold]
+#[inline(never)]
+#[cycle(run)]
+fn choice_after_others(rule: &Open<'_>, row: u16, arms: Block, told: &mut Told, p: &mut Parser<'_>)
+    requires { IsSound p.old }
+    ensures adds { AddsSome p.old p.new }
+    ensures derives { Derived (text_of rule.now.table.now p.old) (choice arms.start arms.end) told.old.place told.new.place p.old.position p.new.position }
+    ensures counts { Counts told.old.place told.new.place p.old p.new }
+{
+    missing(rule, row, told, p);
+    if let Some(arm) = rule.table.arm(arms, told, p) {
+        block(rule, arm, told, p);
     }
 }
 
@@ -210,8 +227,12 @@ fn list(
 {
     inner(rule, row, end, told, p);
     while is_separated(rule, row, separator, told, p) {
-        p.bump_any();
+        let place = p.position();
+        bump_at(separator, p);
         inner(rule, row, end, told, p);
+        if p.position() == place {
+            break;
+        }
     }
 }
 
@@ -223,11 +244,10 @@ fn call(rule: &Open<'_>, row: u16, rows: Block, told: &mut Told, p: &mut Parser<
     ensures derives { Derived (text_of rule.now.table.now p.old) (block rows.start rows.end) told.old.place told.new.place p.old.position p.new.position }
     ensures counts { Counts told.old.place told.new.place p.old p.new }
 {
-    match rule.called(row) {
-        Some(inner) => block(&inner, rows, told, p),
-        None => {
-            let _ = too_deep(rule, row, told, p);
-        }
+    if rule.is_deepest() {
+        let _ = too_deep(rule, row, told, p);
+    } else {
+        block(&rule.called(row), rows, told, p);
     }
 }
 
@@ -246,11 +266,10 @@ fn inner_operand(
     ensures derives { (ceiling : ℕ) × Derived (text_of rule.now.table.now p.old) (operation operators_row floor ceiling) told.old.place told.new.place p.old.position p.new.position }
     ensures counts { Counts told.old.place told.new.place p.old p.new }
 {
-    match rule.called(row) {
-        Some(inner) => operators(&inner, operators_row, floor, told, p),
-        None => {
-            let _ = too_deep(rule, row, told, p);
-        }
+    if rule.is_deepest() {
+        let _ = too_deep(rule, row, told, p);
+    } else {
+        operators(&rule.called(row), operators_row, floor, told, p);
     }
 }
 
@@ -269,6 +288,21 @@ fn operators(rule: &Open<'_>, row: u16, floor: u16, told: &mut Told, p: &mut Par
         }
         _ => missing(rule, row, told, p),
     }
+}
+
+/// The same, where these rows are its arms and operators, of any level.
+#[inline(always)]
+#[cycle(run)]
+fn whole(rule: &Open<'_>, row: u16, end: u16, told: &mut Told, p: &mut Parser<'_>)
+    requires room { row < 65535 }
+    requires sound { IsSound p.old }
+    ensures adds { AddsSome p.old p.new }
+    ensures derives { part_at rule.now.table.now.rows.now row ≡ Part.Operators end
+        → Derived (text_of rule.now.table.now p.old) (single row) told.old.place told.new.place p.old.position p.new.position }
+    ensures counts { Counts told.old.place told.new.place p.old p.new }
+{
+    expect_one(rule, row, told, p);
+    let _ = climb(rule, row, end, 0, told, p);
 }
 
 /// The same, where the operators are these.
@@ -319,39 +353,52 @@ fn operand(
         start: row + 1,
         end,
     };
-    match rule.table.arm(arms, p) {
+    match rule.table.arm(arms, told, p) {
         Some(arm) => one_node(rule, arm, told, p),
         None => no_operand(rule, row, told, p),
     }
 }
 
-/// What is in some rows, which is one node: it stands there, or in a rule that is called, or is an operand with
-/// operators.
+/// What is in some rows, which is one node, also after a guard: it stands there, or in a rule that is called, or is an
+/// operand with operators.
 #[cycle(run)]
 fn one_node(rule: &Open<'_>, rows: Block, told: &mut Told, p: &mut Parser<'_>) -> CompletedMarker
     ensures adds { AddsSomeNode result p.old p.new }
     ensures derives { Derived (text_of rule.now.table.now p.old) (block rows.start rows.end) told.old.place told.new.place p.old.position p.new.position }
     ensures counts { Counts told.old.place told.new.place p.old p.new }
 {
-    if !rule.table.is_one(rows) {
-        return no_operand(rule, rows.start, told, p);
+    match rule.table.only(rows) {
+        Some(row) => node_in(rule, row, told, p),
+        None => no_operand(rule, rows.start, told, p),
     }
-    match rule.table.part(rows.start) {
+}
+
+/// The part in a row, which is one node.
+#[inline(always)]
+#[cycle(run)]
+fn node_in(rule: &Open<'_>, row: u16, told: &mut Told, p: &mut Parser<'_>) -> CompletedMarker
+    requires { row < 65535 }
+    ensures adds { AddsSomeNode result p.old p.new }
+    ensures derives { Derived (text_of rule.now.table.now p.old) (single row) told.old.place told.new.place p.old.position p.new.position }
+    ensures counts { Counts told.old.place told.new.place p.old p.new }
+{
+    match rule.table.part(row) {
         Part::Node { end, kind } => {
             let inner = Block {
-                start: rows.start + 1,
+                start: row + 1,
                 end,
             };
             node(rule, inner, kind, told, p)
         }
-        Part::Call { start, end } => called_node(rule, rows.start, Block { start, end }, told, p),
-        Part::Choice { end } => operand(rule, rows.start, end, told, p),
-        Part::Operators { end } => climb(rule, rows.start, end, 0, told, p),
-        _ => no_operand(rule, rows.start, told, p),
+        Part::Call { start, end } => called_node(rule, row, Block { start, end }, told, p),
+        Part::Choice { end } => operand(rule, row, end, told, p),
+        Part::Operators { end } => climb(rule, row, end, 0, told, p),
+        _ => no_operand(rule, row, told, p),
     }
 }
 
 /// The rule in some rows, which a row calls, and which is one node.
+#[inline(always)]
 #[cycle(run)]
 fn called_node(
     rule: &Open<'_>,
@@ -364,9 +411,10 @@ fn called_node(
     ensures derives { Derived (text_of rule.now.table.now p.old) (block rows.start rows.end) told.old.place told.new.place p.old.position p.new.position }
     ensures counts { Counts told.old.place told.new.place p.old p.new }
 {
-    match rule.called(row) {
-        Some(inner) => one_node(&inner, rows, told, p),
-        None => too_deep(rule, row, told, p),
+    if rule.is_deepest() {
+        too_deep(rule, row, told, p)
+    } else {
+        one_node(&rule.called(row), rows, told, p)
     }
 }
 

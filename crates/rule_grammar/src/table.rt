@@ -1,13 +1,10 @@
 //! Rules as numbers.
-ghost use Rattle.std.specs.Prelude.{◌≡◌, ◌<◌, ◌≤◌, ◌+◌, IfSome, true};
-ghost use Rattle.rule_grammar.specs.Derivations.{IsArm, IsTail, next_of, row_after};
+ghost use Rattle.std.specs.Prelude.{◌≡◌, ◌<◌};
+ghost use Rattle.rule_grammar.specs.Derivations.{next_of};
 ghost use Rattle.rule_grammar.specs.Parts.{part_at, set_has};
 
 use crate::part::{Part, part_of};
-use squawk_parser::{Parser, SyntaxKind};
-
-/// No set of kinds.
-const NO_SET: u16 = u16::MAX;
+use squawk_parser::{SyntaxKind, TokenSet};
 
 /// Rules as numbers. Any numbers can be run.
 ///
@@ -15,7 +12,7 @@ const NO_SET: u16 = u16::MAX;
 ///
 /// | number of a row | meaning |
 /// |---|---|
-/// | 0 | which part it is, as below, and 256 more if its rule may end after it |
+/// | 0 | which part it is, as below, 256 more if its rule may end after it, 512 more if it is an arm with a guard |
 /// | 1 | the row after the last one in it |
 /// | 2 | its kind, set or level, or the row of the rule that it calls |
 /// | 3 | the set of kinds that it can begin with |
@@ -38,8 +35,13 @@ const NO_SET: u16 = u16::MAX;
 /// | 14 | an operand of an operator: the row of the operators in number 1, their least level in number 2 |
 /// | 15, 16, 17 | an operator of a level: one that associates, one that doesn't, one without a right operand |
 /// | 18 | what is in it, once or more |
-/// | 19 | the node before has one of the kinds that are named in it |
-/// | 20 | a guard: the sets of what comes after a run of opening parentheses, in number 1, and after those that close |
+/// | 19 | the node before has one of the kinds that the rows in it name, each as the part 6 does |
+/// | 20 | a guard, the first part of its arm: the arm is parsed where a run of opening parentheses stands, then a token |
+/// |    | of the set of number 1, and after each that closes one of them, but the first, one of the set of number 2 |
+///
+/// The sets of the numbers 3 to 5, that of operators and the first of a look have *symbols*: a symbol is the kind of the
+/// token at the position, or the composite kind that it begins ([`Table::glued`]), as [`bit_of`](crate::bit_of) tells it.
+/// The other sets have kinds of tokens.
 ///
 /// Any other part is nothing.
 #[derive(Clone, Copy)]
@@ -54,6 +56,14 @@ pub struct Table<'r> {
     pub messages: &'r str,
     /// Where each message ends, in bytes.
     pub message_ends: &'r [usize],
+    /// The kinds that operators are made of. With EOF in it, it counts as empty.
+    pub operators: TokenSet,
+    /// The kinds of operators of one token that are symbols by themselves.
+    pub plain: TokenSet,
+    /// The composite kinds that are symbols. Any other operator's symbol is CUSTOM_OP, and any other token's its kind.
+    pub glued: &'r [SyntaxKind],
+    /// The kinds that `operators` has and that those in `glued` begin with.
+    pub composed: TokenSet,
 }
 
 /// Rows, from one up to another.
@@ -63,26 +73,7 @@ pub(crate) struct Block {
     pub(crate) end: u16,
 }
 
-/// An operator: what stands in it, its level, and the greatest level of an operator after it.
-#[derive(Clone, Copy)]
-pub(crate) struct Operator {
-    pub(crate) block: Block,
-    pub(crate) level: u16,
-    pub(crate) ceiling: u16,
-}
-
 impl<'r> Table<'r> {
-    #[inline(always)]
-    fn number(&self, row: u16, column: usize) -> u16 {
-        match self.rows.get(usize::from(row)) {
-            Some(numbers) => match numbers.get(column) {
-                Some(number) => *number,
-                None => 0,
-            },
-            None => 0,
-        }
-    }
-
     /// The part in a row.
     #[inline(always)]
     pub(crate) fn part(&self, row: u16) -> Part
@@ -101,45 +92,54 @@ impl<'r> Table<'r> {
         ensures later { row < result }
         ensures is { result ≡ next_of row (part_at self.now.rows.now row) }
     {
-        match self.part(row) {
-            Part::Node { end, .. }
-            | Part::Choice { end }
-            | Part::Arm { end }
-            | Part::Optional { end }
-            | Part::Repeat { end }
-            | Part::Some { end }
-            | Part::List { end, .. }
-            | Part::Operators { end }
-            | Part::Is { end }
-            | Part::Tail { end, .. } => after(row, end),
-            _ => row + 1,
-        }
+        let part = self.part(row);
+        part.beyond(row)
     }
 
     /// Whether the rule of a row may end after it.
     pub(crate) fn may_end_after(&self, row: u16) -> bool {
-        self.number(row, 0) >= 256
+        match self.row(row) {
+            Some(numbers) => numbers[0] % 512 >= 256,
+            None => false,
+        }
     }
 
-    /// Whether a token of the kind may come after a row in its rule.
-    pub(crate) fn may_follow(&self, row: u16, kind: SyntaxKind) -> bool {
-        self.has(self.number(row, 4), kind)
+    /// Whether a symbol may come after a row in its rule.
+    pub(crate) fn may_follow(&self, row: u16, symbol: SyntaxKind) -> bool {
+        match self.row(row) {
+            Some(numbers) => self.has(numbers[4], symbol),
+            None => false,
+        }
     }
 
-    /// Whether the rule of a row goes on at a token of the kind, after an error.
-    pub(crate) fn goes_on_at(&self, row: u16, kind: SyntaxKind) -> bool {
-        self.may_follow(row, kind) || self.has(self.number(row, 5), kind)
+    /// Whether the rule of a row goes on at a symbol, after an error.
+    pub(crate) fn goes_on_at(&self, row: u16, symbol: SyntaxKind) -> bool {
+        match self.row(row) {
+            Some(numbers) => self.has(numbers[4], symbol) || self.has(numbers[5], symbol),
+            None => false,
+        }
     }
 
-    /// Whether a row can begin with a token of the kind.
+    /// Whether a row can begin with a symbol.
     #[inline(always)]
-    pub(crate) fn begins_with(&self, row: u16, kind: SyntaxKind) -> bool {
-        self.has(self.number(row, 3), kind)
+    pub(crate) fn begins_with(&self, row: u16, symbol: SyntaxKind) -> bool {
+        match self.row(row) {
+            Some(numbers) => self.has(numbers[3], symbol),
+            None => false,
+        }
+    }
+
+    #[inline(always)]
+    pub(crate) fn row(&self, row: u16) -> Option<&'r [u16; 8]> {
+        self.rows.get(usize::from(row))
     }
 
     /// What is expected where a row stands.
     pub(crate) fn message(&self, row: u16) -> &'r str {
-        let number = usize::from(self.number(row, 7));
+        let number = match self.row(row) {
+            Some(numbers) => usize::from(numbers[7]),
+            None => usize::MAX,
+        };
         let start = match number.checked_sub(1) {
             Some(before) => self.message_end(before),
             None => 0,
@@ -170,138 +170,4 @@ impl<'r> Table<'r> {
             None => false,
         }
     }
-
-    /// Whether what is in a row stands at the position, as far as its set and its look tell.
-    #[inline(always)]
-    pub(crate) fn stands(&self, row: u16, p: &Parser<'_>) -> bool {
-        self.begins_with(row, p.current()) && self.sees(row, p)
-    }
-
-    /// Whether the tokens at the position are those of a row's look, or of the looks after it.
-    #[inline(always)]
-    pub(crate) fn sees(&self, row: u16, p: &Parser<'_>) -> bool {
-        let look = self.number(row, 6);
-        look == 0 || self.sees_some(look, p)
-    }
-
-    fn sees_some(&self, look: u16, p: &Parser<'_>) -> bool {
-        let mut at = look;
-        while let Some(row) = self.look(at) {
-            if self.sees_row(row, p) {
-                return true;
-            }
-            if row[4] <= at {
-                return false;
-            }
-            at = row[4];
-        }
-        false
-    }
-
-    fn look(&self, look: u16) -> Option<[u16; 5]> {
-        match self.looks.get(usize::from(look.saturating_sub(1))) {
-            Some(row) => Some(*row),
-            None => None,
-        }
-    }
-
-    fn sees_row(&self, row: [u16; 5], p: &Parser<'_>) -> bool {
-        self.sees_set(row[0], 0, p)
-            && self.sees_set(row[1], 1, p)
-            && self.sees_set(row[2], 2, p)
-            && self.sees_set(row[3], 3, p)
-    }
-
-    fn sees_set(&self, set: u16, n: usize, p: &Parser<'_>) -> bool {
-        set == NO_SET || self.has(set, p.nth(n))
-    }
-
-    /// The first arm that stands at the position, of those in these rows.
-    pub(crate) fn arm(&self, rows: Block, p: &Parser<'_>) -> Option<Block>
-        ensures later { IfSome result (λ block. rows.start < block.start) }
-        ensures is { IfSome result (λ block. IsArm self.now.rows.now rows.start rows.end block.start block.end) }
-    {
-        let mut at = rows.start;
-        while at < rows.end {
-            let beyond = self.beyond(at);
-            if let Part::Arm { end } = self.part(at) {
-                if self.stands(at, p) {
-                    return Some(Block { start: at + 1, end });
-                }
-            }
-            at = beyond;
-        }
-        None
-    }
-
-    /// Whether there is one part in some rows.
-    pub(crate) fn is_one(&self, rows: Block) -> bool
-        ensures room { result ≡ true → rows.start < 65535 }
-        ensures only { result ≡ true → rows.end ≤ next_of rows.start (part_at self.now.rows.now rows.start) }
-    {
-        rows.start < rows.end && rows.end <= self.beyond(rows.start)
-    }
-
-    /// The operator that stands at the position and whose level is `floor` at least, of those in a row of operators
-    /// that ends there.
-    #[inline(always)]
-    pub(crate) fn operator(
-        &self,
-        row: u16,
-        end: u16,
-        floor: u16,
-        p: &Parser<'_>,
-    ) -> Option<Operator>
-        requires { row < 65535 }
-        ensures later { IfSome result (λ operator. row + 1 < operator.block.start) }
-        ensures is { IfSome result (λ operator. IsTail self.now.rows.now (row + 1) end operator.block.start operator.block.end operator.level operator.ceiling) }
-        ensures floor { IfSome result (λ operator. floor ≤ operator.level) }
-    {
-        if self.has(self.number(row, 6), p.current()) {
-            let rows = Block {
-                start: row + 1,
-                end,
-            };
-            self.operator_in(rows, floor, p)
-        } else {
-            None
-        }
-    }
-
-    fn operator_in(&self, rows: Block, floor: u16, p: &Parser<'_>) -> Option<Operator>
-        ensures later { IfSome result (λ operator. rows.start < operator.block.start) }
-        ensures is { IfSome result (λ operator. IsTail self.now.rows.now rows.start rows.end operator.block.start operator.block.end operator.level operator.ceiling) }
-        ensures floor { IfSome result (λ operator. floor ≤ operator.level) }
-    {
-        let mut at = rows.start;
-        while at < rows.end {
-            let beyond = self.beyond(at);
-            if let Part::Tail {
-                end,
-                level,
-                ceiling,
-            } = self.part(at)
-            {
-                if floor <= level && self.stands(at, p) {
-                    let block = Block { start: at + 1, end };
-                    return Some(Operator {
-                        block,
-                        level,
-                        ceiling,
-                    });
-                }
-            }
-            at = beyond;
-        }
-        None
-    }
-}
-
-/// The row after one that ends there.
-fn after(row: u16, end: u16) -> u16
-    requires { row < 65535 }
-    ensures later { row < result }
-    ensures is { result ≡ row_after row end }
-{
-    if row < end { end } else { row + 1 }
 }

@@ -7,9 +7,12 @@
 //!     level 1, left: '+' => SUM;  level 2, none: '=' => EQUALITY;  level 3, left: '*' => PRODUCT
 //! ```
 
+mod parts;
+
 use crate::{RuleGrammar, Table};
 use squawk_parser::{
-    EntryPoint, NoKeywords, OwnedStep, StepList, SyntaxKind, Token, TokenKind, parse_whole_into,
+    Base, EntryPoint, LiteralKind, NoKeywords, OwnedStep, StepList, SyntaxKind, Token, TokenKind,
+    TokenSet, parse_whole_into,
 };
 use std::alloc::{AllocError, Global};
 use std::fmt::Write;
@@ -43,6 +46,9 @@ const SUM: u16 = 703;
 const EQUALITY: u16 = 704;
 
 const PRODUCT: u16 = 705;
+
+/// A kind that tokens get.
+const LABEL: u16 = 713;
 
 const ROOT: SyntaxKind = SyntaxKind(706);
 
@@ -85,7 +91,7 @@ static ROWS: [[u16; 8]; 27] = [
 macro_rules! set {
     (@word $word:expr; $($kind:expr),*) => { 0u16 $(| ((($kind / 16 == $word) as u16) << ($kind % 16)))* };
     ($($kind:expr),*) => { [
-        set!(@word 0; $($kind),*), set!(@word 1; $($kind),*), set!(@word 2; $($kind),*), 0, 0, 0, 0, 0, 0, 0,
+        set!(@word 0; $($kind),*), set!(@word 1; $($kind),*), set!(@word 2; $($kind),*), set!(@word 3; $($kind),*), 0, 0, 0, 0, 0, 0,
         0, 0, 0, 0, 0, 0, 0, 0, 0, 0, 0, 0, 0, 0, 0, 0, 0, 0, 0, 0, 0, 0, 0, 0, 0, 0, 0, 0, 0, 0,
     ] };
 }
@@ -114,6 +120,17 @@ fn tokens_of(alloc: Global, text: &str) -> Result<Vec<Token>, AllocError> {
             b'+' => TokenKind::Plus,
             b'*' => TokenKind::Star,
             b'=' => TokenKind::Eq,
+            b'<' => TokenKind::Lt,
+            b'>' => TokenKind::Gt,
+            b'@' => TokenKind::At,
+            b':' => TokenKind::Colon,
+            b'1' => TokenKind::Literal {
+                kind: LiteralKind::Int {
+                    empty_int: false,
+                    base: Base::Decimal,
+                    trailing_junk_start: 1,
+                },
+            },
             _ => TokenKind::Ident,
         };
         tokens.push(Token { kind, len: 1 })?;
@@ -131,17 +148,29 @@ fn called(kind: SyntaxKind) -> &'static str {
         EQUALITY => "EQUALITY",
         PRODUCT => "PRODUCT",
         2 => "ERROR",
+        707 => "LESS",
+        708 => "AT_MOST",
+        709 => "OTHER",
+        710 => "CAST",
+        711 => "NESTED",
+        712 => "QUERY",
+        664 => "CUSTOM_OP",
+        645 => "COLON_COLON",
         706 => "FILE",
         _ => "?",
     }
 }
 
-/// The line of steps: `NAME{a}` is a node with a token in it, and `!expected ;` an error.
+/// The line of steps: `NAME{a}` is a node with a token in it, `<a>` a token of kind LABEL, and `!expected ;!` an error.
 fn line_of(alloc: Global, steps: &[OwnedStep]) -> Result<String, AllocError> {
     let mut line = String::new(alloc);
     for step in steps {
         match step {
             OwnedStep::Enter { kind } => write!(line, "{}{{", called(*kind))?,
+            OwnedStep::Token {
+                kind: SyntaxKind(LABEL),
+                text,
+            } => write!(line, "<{}>", text.as_str())?,
             OwnedStep::Token { kind: _, text } => line.push_str(text.as_str())?,
             OwnedStep::Error { msg, pos: _ } => write!(line, "!{}!", msg.as_str())?,
             OwnedStep::Exit => line.push('}')?,
@@ -159,6 +188,10 @@ fn parsed(alloc: Global, text: &str, depth: u32) -> Result<String, Fail> {
             looks: &[],
             messages: MESSAGES,
             message_ends: &MESSAGE_ENDS,
+            operators: TokenSet::EMPTY,
+            plain: TokenSet::EMPTY,
+            glued: &[],
+            composed: TokenSet::EMPTY,
         },
         start: 0,
         end: 3,
@@ -166,10 +199,15 @@ fn parsed(alloc: Global, text: &str, depth: u32) -> Result<String, Fail> {
         depth,
         names: &[],
     };
+    parsed_by(alloc, text, &rules)
+}
+
+/// The line of a text's tree by rules.
+fn parsed_by(alloc: Global, text: &str, rules: &RuleGrammar<'_>) -> Result<String, Fail> {
     let tokens = tokens_of(alloc, text)?;
     let mut list = StepList::new(alloc);
     let entry = EntryPoint::SourceFile;
-    parse_whole_into(alloc, text, &tokens, &NoKeywords, &rules, entry, &mut list)?;
+    parse_whole_into(alloc, text, &tokens, &NoKeywords, rules, entry, &mut list)?;
     Ok(line_of(alloc, list.steps())?)
 }
 

@@ -2,15 +2,19 @@
 ghost use Rattle.std.specs.Prelude.{◌≡◌, ◌≢◌, IsTrue, None, Some, false};
 ghost use Rattle.squawk_kinds.specs.Kinds.{TOMBSTONE};
 
-use squawk_kinds::SyntaxKind;
+use crate::guard::{Guard, Guarded};
+use crate::table::Table;
+use squawk_parser::{Parser, SyntaxKind};
 
-/// What a run keeps: the place of its last error, the last place whose token was judged, and the kind of the innermost
-/// node so far.
+/// What a run keeps: the place of its last error, the last place whose token was judged, the kind of the innermost node
+/// so far, that of the node that ended last, and what is known of a guard.
 #[derive(Drop)]
 pub(crate) struct Told {
     place: Option<usize>,
     seen: Option<usize>,
     kind: SyntaxKind,
+    ended: SyntaxKind,
+    guarded: Guarded,
 }
 
 impl Told {
@@ -22,6 +26,8 @@ impl Told {
             place: None,
             seen: None,
             kind: root,
+            ended: SyntaxKind::EOF,
+            guarded: Guarded::NOTHING,
         }
     }
 
@@ -48,7 +54,12 @@ impl Told {
     /// Whether the token at a place was judged already, or an error was told at it.
     #[inline(always)]
     pub(crate) fn is_settled(&self, place: usize) -> bool {
-        self.seen == Some(place) || self.place == Some(place)
+        self.seen == Some(place) || self.has_error_at(place)
+    }
+
+    /// Whether an error was told at a place.
+    pub(crate) fn has_error_at(&self, place: usize) -> bool {
+        self.place == Some(place)
     }
 
     /// Notes that the token at a place is judged.
@@ -74,13 +85,18 @@ impl Told {
         ensures kind { result ≢ TOMBSTONE }
         ensures place { self.new.place ≡ self.old.place }
     {
-        let kind = self.kind;
+        let kind = match self.kind {
+            SyntaxKind::TOMBSTONE => SyntaxKind::ERROR,
+            kind => kind,
+        };
         self.kind = outer;
-        if kind == SyntaxKind::TOMBSTONE {
-            SyntaxKind::ERROR
-        } else {
-            kind
-        }
+        self.ended = kind;
+        kind
+    }
+
+    /// The kind of the node that ended last.
+    pub(crate) fn ended(&self) -> SyntaxKind {
+        self.ended
     }
 
     /// The innermost node gets this kind.
@@ -88,5 +104,12 @@ impl Told {
         ensures { self.new.place ≡ self.old.place }
     {
         self.kind = kind;
+    }
+
+    /// Whether a guard holds at the position.
+    pub(crate) fn holds(&mut self, table: &Table<'_>, guard: Guard, p: &Parser<'_>) -> bool
+        ensures { self.new.place ≡ self.old.place }
+    {
+        self.guarded.holds(table, guard, p)
     }
 }

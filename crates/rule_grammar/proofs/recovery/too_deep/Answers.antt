@@ -5,4 +5,4 @@ use Rattle.rule_grammar.proofs.recovery.too_deep.Goals as goal
 pub returns-clause-counts : goal.returns-clause-counts
 returns-clause-counts c =
     counts_then (counts_added c.start-node.ensures.opens.some)
-    (counts_then (counts_told c.error.ensures.puts (omega arith)) (counts_then (counts_some c.bump_out.ensures) (counts_completed c.complete.ensures.completes)))
+    (counts_then (counts_told c.error.ensures.puts (omega arith)) (counts_then (counts_some c.bump_to.ensures) (counts_completed c.complete.ensures.completes)))

@@ -1,13 +1,13 @@
-use Rattle.std.proofs.Common.{arith, sym, subst, ap, ◌≡◌, ◌∙◌, ◌+◌, ℕ}
+use Rattle.std.proofs.Common.{arith, sym, subst, ap, ◌≡◌, ◌∙◌, ℕ}
 use Rattle.std.proofs.lemmas.Bool.Decides.{nat_tests}
 use Rattle.squawk_parser.proofs.SomeSteps.{none_some}
-use Rattle.rule_grammar.specs.Derivations.{Counts, Derived, Derives, Text, is_silent, kind_of, text_of}
-use Rattle.rule_grammar.specs.Derivations.Derives.{none, more, all, silent, token, composite, class, name, node, call, one, taken, left_out, repeated, some, listed, operators, operand, arm, no_turn, turn, first, next, stands, operates}
-use Rattle.rule_grammar.specs.Derivations.Span.{block, rows, single}
+use Rattle.rule_grammar.specs.Derivations.{Counts, Derived, Derives, is_silent, text_of}
+use Rattle.rule_grammar.specs.Derivations.Derives.{none, more, all, silent, class, name, node, word, call, one, taken, left_out, repeated, some, listed, operators, operand, arm, no_turn, turn, first, stands, operates}
+use Rattle.rule_grammar.specs.Derivations.Span.{rows, single}
 use Rattle.rule_grammar.specs.Parts.{part_at}
 use Rattle.rule_grammar.specs.declared.part.Part.TheVariants as parts
 use Rattle.rule_grammar.proofs.Counted.{counts_added, counts_completed, counts_preceded, counts_some, counts_then}
-use Rattle.rule_grammar.proofs.Derived.{alone, as_part, both_parts, known, moved, quiet, same_text, some_then, still, still_before}
+use Rattle.rule_grammar.proofs.Derived.{after_error, as_part, both_parts, from_place, known, moved, of_kind, one_more, only_in, quiet, some_then, still, still_before}
 use Rattle.rule_grammar.proofs.run.+run.Goals as goal
 
 -- ---- rows
@@ -24,10 +24,10 @@ block-loop-row-preserved t c =
     let both = both_parts before.derives (moved c.args.rule.now.table.now before.adds.some.keeps took.derives) (λ a b. more a b) in
     record {
       adds = some_then before.adds took.adds;
-      further = omega (arith, c.beyond-row.ensures.later);
+      further = omega (arith, c.beyond-beyond.ensures.later);
       derives = subst
           (λ (k : ℕ). Derived (text_of c.args.rule.now.table.now c.args.p.now) (rows c.args.rows.start k) c.args.told.now.place c.step.new.told.place c.args.p.now.position c.step.new.p.position)
-          (sym c.beyond-row.ensures.is) both;
+          (sym c.beyond-beyond.ensures.is) both;
       counts = counts_then before.counts took.counts;
     }
 
@@ -42,14 +42,13 @@ block-returns-clause-counts t c = c.loop-row.invariant.counts
 pub step-returns-in-Token-clause-derives : goal.step-returns-in-Token-clause-derives
 step-returns-in-Token-clause-derives t c =
     let is : part_at c.args.rule.now.table.now.rows.now c.args.row ≡ parts.Token c.in-Token.kind = sym c.requires.is ∙ c.in-Token.is in
-    known c.token.ensures.told
-    (λ f. subst (λ (m : ℕ). Derives (text_of c.args.rule.now.table.now c.args.p.now) (single c.args.row) c.args.p.now.position m) (sym f.1) (token is f.0))
+    known c.token.ensures.told (λ f. of_kind c.args.rule.now.table.now c.args.p.now c.token.new.p is f)
 
-pub step-returns-in-Composite-clause-derives : goal.step-returns-in-Composite-clause-derives
-step-returns-in-Composite-clause-derives t c =
-    let is : part_at c.args.rule.now.table.now.rows.now c.args.row ≡ parts.Composite c.in-Composite.kind = sym c.requires.is ∙ c.in-Composite.is in
-    known c.composite.ensures.told
-    (λ f. subst (λ (m : ℕ). Derives (text_of c.args.rule.now.table.now c.args.p.now) (single c.args.row) c.args.p.now.position m) (sym f.1) (composite is f.0))
+pub step-returns-in-Word-clause-derives : goal.step-returns-in-Word-clause-derives
+step-returns-in-Word-clause-derives t c =
+    let is : part_at c.args.rule.now.table.now.rows.now c.args.row ≡ parts.Word c.in-Word.set = sym c.requires.is ∙ c.in-Word.is in
+    known c.word.ensures.told
+    (λ f. subst (λ (m : ℕ). Derives (text_of c.args.rule.now.table.now c.args.p.now) (single c.args.row) c.args.p.now.position m) (sym f.2) (word is f.0 f.1))
 
 pub step-returns-in-Class-clause-derives : goal.step-returns-in-Class-clause-derives
 step-returns-in-Class-clause-derives t c =
@@ -59,7 +58,7 @@ step-returns-in-Class-clause-derives t c =
 
 pub step-returns-in-Name-clause-derives : goal.step-returns-in-Name-clause-derives
 step-returns-in-Name-clause-derives t c =
-    let is : part_at c.args.rule.now.table.now.rows.now c.args.row ≡ parts.Name c.in-Name.set = sym c.requires.is ∙ c.in-Name.is in
+    let is : part_at c.args.rule.now.table.now.rows.now c.args.row ≡ parts.Name c.in-Name.kind c.in-Name.set = sym c.requires.is ∙ c.in-Name.is in
     known c.name.ensures.told
     (λ f. subst (λ (m : ℕ). Derives (text_of c.args.rule.now.table.now c.args.p.now) (single c.args.row) c.args.p.now.position m) (sym f.1) (name is f.0))
 
@@ -107,11 +106,26 @@ step-returns-in-List-clause-derives t c =
 pub step-returns-in-Operators-clause-derives : goal.step-returns-in-Operators-clause-derives
 step-returns-in-Operators-clause-derives t c =
     let is : part_at c.args.rule.now.table.now.rows.now c.args.row ≡ parts.Operators c.in-Operators.end = sym c.requires.is ∙ c.in-Operators.is in
-    as_part c.operators.ensures.derives.1 (λ d. operators is d)
+    c.whole.ensures.derives is
+
+pub whole-returns-clause-derives : goal.whole-returns-clause-derives
+whole-returns-clause-derives t c = λ is.
+    let before = c.expect_one.ensures in
+    still_before before.told (as_part (moved c.args.rule.now.table.now before.adds.some.keeps (c.climb.ensures.derives is).1) (λ d. operators is d))
 
 pub step-returns-in-Nothing-clause-derives : goal.step-returns-in-Nothing-clause-derives
 step-returns-in-Nothing-clause-derives t c =
     let is : part_at c.args.rule.now.table.now.rows.now c.args.row ≡ parts.Nothing = sym c.requires.is ∙ c.in-Nothing.is in
+    quiet (silent (ap is_silent is))
+
+pub step-returns-in-Is-clause-derives : goal.step-returns-in-Is-clause-derives
+step-returns-in-Is-clause-derives t c =
+    let is : part_at c.args.rule.now.table.now.rows.now c.args.row ≡ parts.Is c.in-Is.end = sym c.requires.is ∙ c.in-Is.is in
+    still (quiet (silent (ap is_silent is))) c.expect_kind.ensures.told
+
+pub step-returns-in-Guard-clause-derives : goal.step-returns-in-Guard-clause-derives
+step-returns-in-Guard-clause-derives t c =
+    let is : part_at c.args.rule.now.table.now.rows.now c.args.row ≡ parts.Guard c.in-Guard.first c.in-Guard.next = sym c.requires.is ∙ c.in-Guard.is in
     quiet (silent (ap is_silent is))
 
 pub step-returns-in-Arm-clause-derives : goal.step-returns-in-Arm-clause-derives
@@ -133,9 +147,10 @@ node-returns-clause-counts t c =
     subst (λ v. Counts c.args.told.now.place v c.args.p.now c.complete.new.p) (sym c.leave.ensures.place) whole
 
 pub choice-returns-in-Some-clause-derives : goal.choice-returns-in-Some-clause-derives
-choice-returns-in-Some-clause-derives t c =
-    let before = c.expect_one.ensures in
-    still_before before.told (as_part (moved c.args.rule.now.table.now before.adds.some.keeps c.block.ensures.derives) (λ d. arm c.in-Some.ensures.is d))
+choice-returns-in-Some-clause-derives t c = from_place c.arm.ensures.told (as_part c.block.ensures.derives (λ d. arm c.in-Some.ensures.is d))
+
+pub choice_after_others-returns-in-Some-clause-derives : goal.choice_after_others-returns-in-Some-clause-derives
+choice_after_others-returns-in-Some-clause-derives t c = after_error c.missing.ensures.tells (from_place c.arm.ensures.told c.block.ensures.derives)
 
 pub repeat-loop-p-init : goal.repeat-loop-p-init
 repeat-loop-p-init t c =
@@ -172,28 +187,21 @@ repeat-loop-p-preserved t c =
 
 pub list-loop-separator-preserved : goal.list-loop-separator-preserved
 list-loop-separator-preserved t c =
-    let table = c.args.rule.now.table.now in
     let so_far = c.loop-separator.invariant in
     let seen = c.is_separated.ensures in
-    let yes = c.loop-separator-test.true in
     let reached = some_then so_far.adds seen.adds in
-    let before = some_then reached c.bump_any.ensures.some in
-    let here : kind_of (text_of table c.args.p.now) c.is_separated.new.p.position ≡ c.args.separator =
-    subst (λ (x : Text). kind_of x c.is_separated.new.p.position ≡ c.args.separator) (same_text table reached.some.keeps) (seen.at yes) in
+    let before = some_then reached c.bump_at.ensures.adds in
+    let item = c.inner-in-loop-separator.ensures in
     record {
-      adds = some_then before c.inner-in-loop-separator.ensures.adds;
-      derives = both_parts (still so_far.derives seen.told) (moved table before.some.keeps c.inner-in-loop-separator.ensures.derives)
-          (λ a b. next a here
-          (subst (λ (k : ℕ). Derives (text_of table c.args.p.now) (block (c.args.row + 1) c.args.end) k c.inner-in-loop-separator.new.p.position)
-          (c.bump_any.ensures.position (seen.some yes)) b));
-      counts = counts_then so_far.counts
-          (counts_then seen.counts (counts_then (counts_some c.bump_any.ensures.some) c.inner-in-loop-separator.ensures.counts));
+      adds = some_then before item.adds;
+      derives = one_more c.args.rule.now.table.now c.args.p.now c.loop-separator.p c.is_separated.new.p c.bump_at.new.p c.inner-in-loop-separator.new.p reached.some.keeps before.some.keeps so_far.derives seen.told c.loop-separator-test.true c.bump_at.ensures.eats item.derives;
+      counts = counts_then so_far.counts (counts_then seen.counts (counts_then (counts_some c.bump_at.ensures.adds) item.counts));
     }
 
 -- ---- operators
 
 pub operand-returns-in-Some-clause-derives : goal.operand-returns-in-Some-clause-derives
-operand-returns-in-Some-clause-derives t c = as_part c.one_node.ensures.derives (λ d. arm c.in-Some.ensures.is d)
+operand-returns-in-Some-clause-derives t c = from_place c.arm.ensures.told (as_part c.one_node.ensures.derives (λ d. arm c.in-Some.ensures.is d))
 
 pub operation-returns-clause-counts : goal.operation-returns-clause-counts
 operation-returns-clause-counts t c =
@@ -231,22 +239,25 @@ some-returns-clause-derives t c = λ is.
 
 -- ---- one node
 
-pub one_node-returns-in-Node-clause-derives : goal.one_node-returns-in-Node-clause-derives
-one_node-returns-in-Node-clause-derives t c =
-    let is : part_at c.args.rule.now.table.now.rows.now c.args.rows.start ≡ parts.Node c.in-Node.end c.in-Node.kind = cc in
-    alone (as_part c.node.ensures.derives (λ d. node is d)) (c.is_one.ensures.only cc)
+pub one_node-returns-in-Some-clause-derives : goal.one_node-returns-in-Some-clause-derives
+one_node-returns-in-Some-clause-derives t c = as_part c.node_in.ensures.derives (λ d. only_in c.in-Some.ensures.is d)
 
-pub one_node-returns-in-Call-clause-derives : goal.one_node-returns-in-Call-clause-derives
-one_node-returns-in-Call-clause-derives t c =
-    let is : part_at c.args.rule.now.table.now.rows.now c.args.rows.start ≡ parts.Call c.in-Call.start c.in-Call.end = cc in
-    alone (as_part c.called_node.ensures.derives (λ d. call is d)) (c.is_one.ensures.only cc)
+pub node_in-returns-in-Node-clause-derives : goal.node_in-returns-in-Node-clause-derives
+node_in-returns-in-Node-clause-derives t c =
+    let is : part_at c.args.rule.now.table.now.rows.now c.args.row ≡ parts.Node c.in-Node.end c.in-Node.kind = cc in
+    as_part c.node.ensures.derives (λ d. node is d)
 
-pub one_node-returns-in-Choice-clause-derives : goal.one_node-returns-in-Choice-clause-derives
-one_node-returns-in-Choice-clause-derives t c =
-    let is : part_at c.args.rule.now.table.now.rows.now c.args.rows.start ≡ parts.Choice c.in-Choice.end = cc in
-    alone (as_part c.operand.ensures.derives (λ d. one is d)) (c.is_one.ensures.only cc)
+pub node_in-returns-in-Call-clause-derives : goal.node_in-returns-in-Call-clause-derives
+node_in-returns-in-Call-clause-derives t c =
+    let is : part_at c.args.rule.now.table.now.rows.now c.args.row ≡ parts.Call c.in-Call.start c.in-Call.end = cc in
+    as_part c.called_node.ensures.derives (λ d. call is d)
 
-pub one_node-returns-in-Operators-clause-derives : goal.one_node-returns-in-Operators-clause-derives
-one_node-returns-in-Operators-clause-derives t c =
-    let is : part_at c.args.rule.now.table.now.rows.now c.args.rows.start ≡ parts.Operators c.in-Operators.end = cc in
-    alone (as_part (c.climb.ensures.derives is).1 (λ d. operators is d)) (c.is_one.ensures.only cc)
+pub node_in-returns-in-Choice-clause-derives : goal.node_in-returns-in-Choice-clause-derives
+node_in-returns-in-Choice-clause-derives t c =
+    let is : part_at c.args.rule.now.table.now.rows.now c.args.row ≡ parts.Choice c.in-Choice.end = cc in
+    as_part c.operand.ensures.derives (λ d. one is d)
+
+pub node_in-returns-in-Operators-clause-derives : goal.node_in-returns-in-Operators-clause-derives
+node_in-returns-in-Operators-clause-derives t c =
+    let is : part_at c.args.rule.now.table.now.rows.now c.args.row ≡ parts.Operators c.in-Operators.end = cc in
+    as_part (c.climb.ensures.derives is).1 (λ d. operators is d)

@@ -103,3 +103,12 @@ decreases-inner l = 16 * (65536 * l.rule.now.depth + (65536 - l.row)) + 5
 
 abbrev pub decreases-inner_node : goal.decreases-inner_node
 decreases-inner_node l = 16 * (65536 * l.rule.now.depth + (65536 - l.row)) + 8
+
+abbrev pub decreases-node_in : goal.decreases-node_in
+decreases-node_in l = 16 * (65536 * l.rule.now.depth + (65536 - l.row)) + 8
+
+abbrev pub decreases-whole : goal.decreases-whole
+decreases-whole l = 16 * (65536 * l.rule.now.depth + (65536 - l.row)) + 7
+
+abbrev pub decreases-choice_after_others : goal.decreases-choice_after_others
+decreases-choice_after_others l = 16 * (65536 * l.rule.now.depth + (65536 - l.arms.start)) + 15

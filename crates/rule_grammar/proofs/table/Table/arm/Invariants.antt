@@ -1,9 +1,9 @@
-use Rattle.std.proofs.Common.{◌-◌, ◌≤◌}
+use Rattle.std.proofs.Common.{◌≡◌, ◌-◌, ◌≤◌}
 use Rattle.rule_grammar.specs.Derivations.{Beside}
 use Rattle.rule_grammar.proofs.table.Table.arm.Given as goal
 
 abbrev pub invariant-loop-at : goal.invariant-loop-at
-invariant-loop-at l = (l.rows.start ≤ l.at) × Beside l.self.rows.now l.rows.start l.at
+invariant-loop-at l = (l.rows.start ≤ l.at) × Beside l.self.rows.now l.rows.start l.at × (l.told.place ≡ l.initial.told.place)
 
 abbrev pub decreases-loop-at : goal.decreases-loop-at
 decreases-loop-at l = l.rows.end - l.at

@@ -1,5 +1,5 @@
 use Rattle.squawk_parser.specs.SomeSteps.{AddsSome}
-use Rattle.rule_grammar.proofs.recovery.bump_some.Given as goal
+use Rattle.rule_grammar.proofs.skip.bump_some.Given as goal
 
 abbrev pub invariant-loop-left : goal.invariant-loop-left
 invariant-loop-left l = AddsSome l.initial.p l.p

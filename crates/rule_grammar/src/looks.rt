@@ -1,0 +1,61 @@
+//! What stands at the position, as far as sets and looks tell.
+use crate::table::Table;
+use squawk_parser::{Parser, SyntaxKind};
+
+/// No set of kinds.
+const NO_SET: u16 = u16::MAX;
+
+impl Table<'_> {
+    /// Whether what is in a row stands at the position, where this symbol is, as far as its set and its look tell.
+    #[inline(always)]
+    pub(crate) fn stands(&self, row: u16, symbol: SyntaxKind, p: &Parser<'_>) -> bool {
+        match self.row(row) {
+            Some(numbers) => self.has(numbers[3], symbol) && self.sees(numbers[6], symbol, p),
+            None => false,
+        }
+    }
+
+    /// Whether the tokens at the position are those of a row's look, or of the looks after it.
+    #[inline(always)]
+    pub(crate) fn sees_look(&self, row: u16, p: &Parser<'_>) -> bool {
+        match self.row(row) {
+            Some(numbers) => numbers[6] == 0 || self.sees_some(numbers[6], self.symbol(p), p),
+            None => true,
+        }
+    }
+
+    #[inline(always)]
+    fn sees(&self, look: u16, symbol: SyntaxKind, p: &Parser<'_>) -> bool {
+        look == 0 || self.sees_some(look, symbol, p)
+    }
+
+    #[inline(never)]
+    fn sees_some(&self, look: u16, symbol: SyntaxKind, p: &Parser<'_>) -> bool {
+        let mut at = look;
+        while let Some(row) = self.look(at) {
+            if self.sees_row(row, symbol, p) {
+                return true;
+            }
+            if row[4] <= at {
+                return false;
+            }
+            at = row[4];
+        }
+        false
+    }
+
+    fn look(&self, look: u16) -> Option<&[u16; 5]> {
+        self.looks.get(usize::from(look.saturating_sub(1)))
+    }
+
+    fn sees_row(&self, row: &[u16; 5], symbol: SyntaxKind, p: &Parser<'_>) -> bool {
+        (row[0] == NO_SET || self.has(row[0], symbol))
+            && self.sees_set(row[1], 1, p)
+            && self.sees_set(row[2], 2, p)
+            && self.sees_set(row[3], 3, p)
+    }
+
+    fn sees_set(&self, set: u16, n: usize, p: &Parser<'_>) -> bool {
+        set == NO_SET || self.has(set, p.nth(n))
+    }
+}
