@@ -1,5 +1,5 @@
 -- Definitions by their names.
-use Rattle.std.proofs.Common.{◌≡◌, ℕ, ◌+◌, ◌<◌, ◌≤◌, ◌⊎◌, ◌∙◌, rules, inl, inr, Bool, true, false, List, [], ◌∷◌, ◌++◌, ◌==◌, not, Option, Some, None, IfSome, is_some, length, get_or, take, position, option_map, nat_lt, arith, refl, sym, subst, ap, length-append}
+use Rattle.std.proofs.Common.{◌≡◌, ℕ, ◌+◌, ◌<◌, ◌≤◌, ◌⊎◌, ◌∙◌, rules, inl, inr, Bool, true, false, List, [], ◌∷◌, ◌++◌, ◌==◌, not, Option, Some, None, IfSome, is_some, length, get_or, take, position, option_map, nat_lt, arith, refl, sym, ap, length-append}
 use Rattle.std.specs.Prelude.{if◌then◌else◌}
 use Rattle.std.proofs.lemmas.Bool.{cases_Bool}
 use Rattle.std.proofs.lemmas.Bool.Decides.{nat_tests}

@@ -1,5 +1,5 @@
 -- What is wrong with parts that are refused.
-use Rattle.std.specs.Prelude.{◌≡◌, ℕ, ◌+◌, zero, suc, ◌&&◌, ◌||◌, not, nat_lt, Bool, false, Option, Some, None, List, length, slice_get, is_some, is_none, if◌then◌else◌, ◌⊎◌}
+use Rattle.std.specs.Prelude.{◌≡◌, ℕ, zero, suc, ◌&&◌, ◌||◌, not, nat_lt, Bool, false, Option, Some, None, List, length, slice_get, is_some, is_none, if◌then◌else◌, ◌⊎◌}
 use Rattle.std.specs.Option.{option_and_then, option_or}
 use Rattle.rule_parts.specs.declared.Part.{Part}
 use Rattle.rule_parts.specs.declared.Part.TheVariants as part

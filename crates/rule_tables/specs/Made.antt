@@ -1,9 +1,12 @@
 -- Rules that are ready to be run.
 use Rattle.std.specs.Prelude.{ℕ, List}
+use Rattle.squawk_kinds.specs.declared.token_set.TokenSet.{TokenSet}
 
--- the rows and sets of the table, and the rows of the rule of a file: the first, and the one after the last
+-- the rows and sets of the table, the rows of the rule of a file: the first, and the one after the last, and the kinds that
+-- operators are made of
 pub record Made : Type 0 where
   pub rows : List (List ℕ)
   pub sets : List (List ℕ)
   pub start : ℕ
   pub end : ℕ
+  pub operators : TokenSet

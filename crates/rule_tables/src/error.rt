@@ -8,9 +8,9 @@ use std::fmt;
 /// Why rules can't be run. `part` is the index of the part that is at fault.
 #[derive(Debug, Drop, Clone, Copy, PartialEq, Eq)]
 pub enum RulesError {
-    /// No rule or class has the name of the part.
+    /// No rule, class or guard that the part needs has the name in it.
     Undefined { part: usize },
-    /// An earlier rule or class has the name of the part, too.
+    /// An earlier rule, class or guard has the name of the part, too.
     Doubled { part: usize },
     /// No token or node has the name of the part.
     UnknownKind { part: usize },

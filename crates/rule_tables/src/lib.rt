@@ -14,6 +14,7 @@ mod keyword_names;
 mod looks;
 mod map;
 mod messages;
+mod named;
 mod names;
 mod numbers;
 mod outer;

@@ -15,9 +15,10 @@ use crate::follow::{Ahead, ahead_of};
 use crate::looks::{Look, Looks};
 use crate::map::{Map, NONE};
 use crate::messages::{Messages, row_of_message};
+use crate::named::{Span, file_of};
 use crate::names::Names;
 use crate::numbers::numbers_of;
-use crate::rows::{Span, file_of, rows_of};
+use crate::rows::rows_of;
 use crate::sets::{Sets, push};
 use crate::walk::Walk;
 use rule_grammar::{DEPTH, Part as Row, RuleGrammar, Table};
@@ -37,6 +38,8 @@ pub struct Rules {
     /// The first row of the rule of a file, and the one after its last.
     start: u16,
     end: u16,
+    /// The kinds that operators are made of.
+    operators: TokenSet,
 }
 
 impl Model for Rules {
@@ -44,7 +47,7 @@ impl Model for Rules {
 
     ghost Value = { Made };
 
-    ghost view = { λ rules. record { rows = rules.rows.items; sets = rules.sets.items; start = rules.start; end = rules.end } };
+    ghost view = { λ rules. record { rows = rules.rows.items; sets = rules.sets.items; start = rules.start; end = rules.end; operators = rules.operators } };
 }
 
 impl Rules {
@@ -55,6 +58,7 @@ impl Rules {
         ensures file { IfOk result (λ rules. IsFileRule parts.now rules.start rules.end) }
         ensures classes { IfOk result (λ rules. HasClasses (N.vocabulary names.now) parts.now rules.sets) }
         ensures rows { IfOk result (λ rules. HasRows (N.vocabulary names.now) parts.now rules.rows) }
+        ensures operators { IfOk result (λ rules. (kind : ℕ) → has rules.operators kind ≡ (N.vocabulary names.now).operators kind) }
     {
         let definitions = Definitions::new(alloc, parts)?;
         match fault_of(&definitions, names) {
@@ -130,11 +134,13 @@ fn rules_by<N: Names>(
     ensures file { IfOk result (λ rules. IsFileRule definitions.now.parts.now rules.start rules.end) }
     ensures classes { IfOk result (λ rules. HasClasses (N.vocabulary names.now) definitions.now.parts.now rules.sets) }
     ensures rows { IfOk result (λ rules. HasRows (N.vocabulary names.now) definitions.now.parts.now rules.rows) }
+    ensures operators { IfOk result (λ rules. (kind : ℕ) → has rules.operators kind ≡ (N.vocabulary names.now).operators kind) }
 {
     let rows = rows_of(alloc, definitions, names)?;
     let sets = sets_of(alloc, definitions, names)?;
     let messages = Messages::new(alloc, definitions.parts)?;
-    rules_of(alloc, &rows, &sets, messages, file_of(definitions.parts))
+    let file = file_of(definitions.parts);
+    rules_of(alloc, &rows, &sets, messages, file, names.operators())
 }
 
 /// The rules of these rows, of which some are the rule of a file.
@@ -144,6 +150,7 @@ fn rules_of(
     sets: &[TokenSet],
     messages: Messages,
     file: Span,
+    operators: TokenSet,
 ) -> Result<Rules, RulesError>
     requires { All (λ row. IsTrue (is_exact row)) rows.now }
     ensures err { IfErr result NamesNothing }
@@ -151,6 +158,7 @@ fn rules_of(
     ensures sets { IfOk result (λ rules. HaveSets sets.now rules.sets (length sets.now)) }
     ensures start { IfOk result (λ rules. rules.start ≡ file.start) }
     ensures end { IfOk result (λ rules. rules.end ≡ file.end) }
+    ensures operators { IfOk result (λ rules. rules.operators ≡ operators) }
 {
     let map = Map::new(alloc, rows, sets)?;
     let ahead = ahead_of(alloc, &map)?;
@@ -170,6 +178,7 @@ fn rules_of(
         messages,
         start: file.start,
         end: file.end,
+        operators,
     })
 }
 

@@ -1,7 +1,6 @@
-use Rattle.std.proofs.Common.{◌≡◌, ℕ, Some, Bool, false, drop, length, List}
+use Rattle.std.proofs.Common.{◌≡◌, ℕ, false, drop, length}
 use Rattle.squawk_kinds.specs.TokenSets.{has}
-use Rattle.rule_parts.specs.declared.Part.{Part}
-use Rattle.rule_tables.specs.Classes.{is_words, list_has, member_has, members_have}
+use Rattle.rule_tables.specs.Classes.{list_has, member_has, members_have}
 use Rattle.rule_tables.proofs.classes.union_of.Given as goal
 
 -- the union so far, joined with the members that are left, is that of all

@@ -1,4 +1,3 @@
-use Rattle.std.proofs.Common.{◌+◌}
 use Rattle.rule_tables.specs.Faults.{kind_fault, name_fault, size_fault}
 use Rattle.rule_tables.proofs.NextRow.{fault_step, outer_step}
 use Rattle.rule_tables.proofs.faults.fault_of.Goals as goal
