@@ -59,6 +59,8 @@ pub(crate) fn is_next(rule: &Open<'_>, row: u16, told: &mut Told, p: &mut Parser
 {
     if rule.table.stands(row, rule.table.symbol(p), p) {
         true
+    } else if told.is_settled(p.position()) {
+        false
     } else {
         is_after_others(rule, row, told, p)
     }

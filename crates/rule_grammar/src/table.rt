@@ -38,6 +38,8 @@ use squawk_parser::{SyntaxKind, TokenSet};
 /// | 19 | the node before has one of the kinds that the rows in it name, each as the part 6 does |
 /// | 20 | a guard, with the sets of the numbers 1 and 2 |
 ///
+/// Any other part is nothing.
+///
 /// A guard is the first part of its arm, which is parsed only where it holds: a run of opening parentheses stands there,
 /// then a token of the set of number 1, and after each that closes one of them, but the first of the run, a token of the
 /// set of number 2. A parenthesis that isn't closed before a semicolon or the end needs none.
@@ -45,8 +47,6 @@ use squawk_parser::{SyntaxKind, TokenSet};
 /// The sets of the numbers 3 to 5, that of operators and the first of a look have *symbols*: a symbol is the kind of the
 /// token at the position, or the composite kind that it begins ([`Table::glued`]), as [`bit_of`](crate::bit_of) tells it.
 /// The other sets have kinds of tokens.
-///
-/// Any other part is nothing.
 #[derive(Clone, Copy)]
 pub struct Table<'r> {
     pub rows: &'r [[u16; 8]],
