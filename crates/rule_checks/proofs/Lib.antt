@@ -1,5 +1,5 @@
 pub mod Walks
 pub mod Marks
-pub mod Grows
+pub mod Empties
 pub mod Lists
 pub mod Afters

@@ -1,22 +1,15 @@
 -- A list for each row.
-use Rattle.std.proofs.Common.{◌≡◌, ℕ, ◌+◌, ◌<◌, ◌≤◌, ◌⊎◌, ◌++◌, ◌∷◌, [], zero, suc, inl, inr, List, length, get_or, refl, subst, sym, arith, Some, Option, Vec}
+use Rattle.std.proofs.Common.{◌≡◌, ℕ, ◌<◌, ◌≤◌, ◌⊎◌, ◌++◌, ◌∷◌, [], zero, suc, inl, inr, List, length, get_or, refl, subst, sym, arith, Some, Option, Vec}
 use Rattle.std.specs.Prelude.{Contains, ◌↔◌, slice_get, IsSomeAnd}
 use Rattle.std.specs.declared.alloc.Global.{Global}
 use Rattle.std.proofs.Math.ListN.{length-append}
+use Rattle.std.proofs.Math.Nat.{eq-or-lt_of_le}
+use Rattle.std.proofs.lemmas.Bool.{cases_lt}
 use Rattle.std.proofs.lemmas.Option.{slice_get_past, slice_get_read}
 use Rattle.rule_checks.specs.Steps.{Lists}
 
 pub iff_then : {A B C : Type 0} → A ↔ B → B ↔ C → A ↔ C
 iff_then ab bc = (λ a. bc.0 (ab.0 a), λ c. ab.1 (bc.1 c))
-
-pub within_or_past : (k n : ℕ) → (k < n) ⊎ (n ≤ k)
-within_or_past zero zero = inr (omega arith)
-within_or_past zero (suc n) = inl (omega arith)
-within_or_past (suc k) zero = inr (omega arith)
-within_or_past (suc k) (suc n) = elim (within_or_past k n) [ inl less ↦ inl (omega arith) | inr more ↦ inr (omega arith) ]
-
-pub split_at : (k n : ℕ) → k < n + 1 → (k < n) ⊎ (n ≡ k)
-split_at k n below = elim (within_or_past k n) [ inl less ↦ inl less | inr more ↦ inr (omega arith) ]
 
 pub lists-at : (lists : List (Vec ℕ Global)) (k m : ℕ) (list : Vec ℕ Global) → k < length lists → list ≡ get_or lists k list → Contains list.items m ↔ Lists lists k m
 lists-at lists k m list within is =
@@ -29,9 +22,6 @@ lists-past lists k m past listed = subst (λ (o : Option (Vec ℕ Global)). IsSo
 -- Those for the first rows are made.
 pub record Made (P : ℕ → ℕ → Type 0) (lists : List (Vec ℕ Global)) : Type 0 where
   pub is : (k m : ℕ) → k < length lists → Lists lists k m ↔ P k m
-
-pub made_none : (P : ℕ → ℕ → Type 0) → Made P []
-made_none P = record { is = λ k m within. absurd (omega arith) }
 
 slice_get-push : (lists : List (Vec ℕ Global)) (k : ℕ) (list : Vec ℕ Global) → k < length lists → slice_get (lists ++ list ∷ []) k ≡ slice_get lists k
 slice_get-push [] k list within = absurd (omega arith)
@@ -48,21 +38,21 @@ same-option : (P : ℕ → Type 0) (o o' : Option (Vec ℕ Global)) (m : ℕ) �
 same-option P o o' m same is = rw same is
 
 made_at : (P : ℕ → ℕ → Type 0) (lists : List (Vec ℕ Global)) (list : Vec ℕ Global) → Made P lists → ((m : ℕ) → Contains list.items m ↔ P (length lists) m)
-    → (k m : ℕ) → (k < length lists) ⊎ (length lists ≡ k) → Lists (lists ++ list ∷ []) k m ↔ P k m
+    → (k m : ℕ) → (k ≡ length lists) ⊎ (k < length lists) → Lists (lists ++ list ∷ []) k m ↔ P k m
 made_at P lists list made is k m at = elim at [
-  | inl within ↦ same-option (P k) (slice_get (lists ++ list ∷ []) k) (slice_get lists k) m (slice_get-push lists k list within) (made.is k m within)
-  | inr last ↦ same-option (P k) (slice_get (lists ++ list ∷ []) k) (Some list) m (slice_get-last lists k list last) (subst (λ n. Contains list.items m ↔ P n m) last (is m))
+  | inr within ↦ same-option (P k) (slice_get (lists ++ list ∷ []) k) (slice_get lists k) m (slice_get-push lists k list within) (made.is k m within)
+  | inl last ↦ same-option (P k) (slice_get (lists ++ list ∷ []) k) (Some list) m (slice_get-last lists k list (sym last)) (rw last (is m))
 ]
 
 pub made_more : (P : ℕ → ℕ → Type 0) (lists longer : List (Vec ℕ Global)) (list : Vec ℕ Global) → Made P lists → longer ≡ lists ++ list ∷ []
     → ((m : ℕ) → Contains list.items m ↔ P (length lists) m) → Made P longer
 made_more P lists longer list made longer_is is = rw longer_is record {
-  is = λ k m within. made_at P lists list made is k m (split_at k (length lists) (simp length-append at within));
+  is = λ k m within. made_at P lists list made is k m (eq-or-lt_of_le (let below = simp length-append at within in omega arith));
 }
 
 pub made_all : (P : ℕ → ℕ → Type 0) (lists : List (Vec ℕ Global)) → Made P lists → ((k m : ℕ) → length lists ≤ k → P k m → ⊥)
     → (k m : ℕ) → Lists lists k m ↔ P k m
-made_all P lists made none k m = elim (within_or_past k (length lists)) [
+made_all P lists made none k m = elim (cases_lt k (length lists)) [
   | inl within ↦ made.is k m within
   | inr past ↦ ((λ listed. absurd (lists-past lists k m past listed)), (λ p. absurd (none k m past p)))
 ]

@@ -1,5 +1,5 @@
 -- Marking a row.
-use Rattle.std.proofs.Common.{◌≡◌, ℕ, ◌<◌, ◌≤◌, ◌⊎◌, inl, inr, List, [], ◌∷◌, ◌++◌, zero, suc, Bool, true, false, not, length, get_or, refl, arith, cond}
+use Rattle.std.proofs.Common.{◌≡◌, ℕ, ◌<◌, ◌⊎◌, inl, inr, List, [], ◌∷◌, zero, suc, Bool, true, false, not, length, get_or, refl, arith, cond}
 use Rattle.std.specs.List.{count_by}
 use Rattle.std.proofs.Math.ListN.{set}
 use Rattle.std.proofs.lemmas.List.Sums.{sum_by-set}
@@ -15,22 +15,12 @@ has-unmarked [] k within unmarked = absurd (omega arith)
 has-unmarked (b ∷ marks) zero within unmarked = unmarked
 has-unmarked (b ∷ marks) (suc k) within unmarked = has-unmarked marks k (omega arith) unmarked
 
-pub has-past : (marks : List Bool) (k : ℕ) → length marks ≤ k → has marks k ≡ true
-has-past [] k past = refl
-has-past (b ∷ marks) zero past = absurd (omega arith)
-has-past (b ∷ marks) (suc k) past = has-past marks k (omega arith)
-
 pub has-set_only : (marks : List Bool) (k m : ℕ) → has (set marks k true) m ≡ true → (k ≡ m) ⊎ (has marks m ≡ true)
 has-set_only [] k m marked = inr refl
 has-set_only (b ∷ marks) zero zero marked = inl refl
 has-set_only (b ∷ marks) zero (suc m) marked = inr marked
 has-set_only (b ∷ marks) (suc k) zero marked = inr marked
 has-set_only (b ∷ marks) (suc k) (suc m) marked = elim (has-set_only marks k m marked) [ inl same ↦ inl (cc) | inr before ↦ inr before ]
-
-pub has-set_same : (marks : List Bool) (k : ℕ) → has (set marks k true) k ≡ true
-has-set_same [] k = refl
-has-set_same (b ∷ marks) zero = refl
-has-set_same (b ∷ marks) (suc k) = has-set_same marks k
 
 pub has-set_keeps : (marks : List Bool) (k m : ℕ) → has marks m ≡ true → has (set marks k true) m ≡ true
 has-set_keeps [] k m marked = refl
@@ -45,14 +35,3 @@ fewer marks k unmarked =
     let moved = sum_by-set (λ b. cond (not b) 1 0) marks k true true within in
     let one = rw unmarked at moved in
     omega arith
-
-pub has-push : (marks : List Bool) (b : Bool) (k : ℕ) → k < length marks → has (marks ++ b ∷ []) k ≡ has marks k
-has-push [] b k within = absurd (omega arith)
-has-push (a ∷ marks) b zero within = refl
-has-push (a ∷ marks) b (suc k) within = has-push marks b k (omega arith)
-
-pub has-last : (marks : List Bool) (b : Bool) (k : ℕ) → length marks ≡ k → has (marks ++ b ∷ []) k ≡ b
-has-last [] b zero is = refl
-has-last [] b (suc k) is = absurd (omega arith)
-has-last (a ∷ marks) b zero is = absurd (omega arith)
-has-last (a ∷ marks) b (suc k) is = has-last marks b k (omega arith)

@@ -1,7 +1,7 @@
 -- Rows that may eat nothing.
 use Rattle.std.specs.Prelude.{◌≡◌, ℕ, ◌+◌, Bool, true, List}
 use Rattle.rule_grammar.specs.declared.part.Part as part
-use Rattle.rule_grammar.specs.declared.part.Part.TheVariants.{Nothing, Node, Becomes, Is, Guard, Choice, Arm, Optional, Repeat, List as Items, Call, Operators, Operand, Tail, Some as Once}
+use Rattle.rule_grammar.specs.declared.part.Part.TheVariants.{Token, Word, Class, Name, Node, Choice, Arm, Repeat, List as Items, Call, Operators, Operand, Tail, Some as Once}
 use Rattle.rule_checks.specs.Rows.{Beside, row_at}
 
 abbrev pub IsArm : part.Part → Type 0
@@ -15,27 +15,42 @@ AllHave rows P start end = (m : ℕ) → Beside rows start end m → P m
 abbrev pub SomeArmHas : List part.Part → (ℕ → Type 0) → ℕ → ℕ → Type 0
 SomeArmHas rows P start end = (m : ℕ) × Beside rows start end m × IsArm (row_at rows m) × P m
 
--- Part k eats nothing if rows with a property do: what is in it, one after another; one of its arms; its operators.
-abbrev pub PartEatsNothing : List part.Part → (ℕ → Type 0) → ℕ → part.Part → Type 0
-PartEatsNothing rows P k Nothing = Unit {0}
-PartEatsNothing rows P k (Becomes kind) = Unit {0}
-PartEatsNothing rows P k (Is end) = Unit {0}
-PartEatsNothing rows P k (Guard first next) = Unit {0}
-PartEatsNothing rows P k (Optional end) = Unit {0}
-PartEatsNothing rows P k (Repeat end) = Unit {0}
-PartEatsNothing rows P k (Node end kind) = AllHave rows P (k + 1) end
-PartEatsNothing rows P k (Arm end) = AllHave rows P (k + 1) end
-PartEatsNothing rows P k (Tail end level ceiling) = AllHave rows P (k + 1) end
-PartEatsNothing rows P k (Once end) = AllHave rows P (k + 1) end
-PartEatsNothing rows P k (Items end separator) = AllHave rows P (k + 1) end
-PartEatsNothing rows P k (Call start end) = AllHave rows P start end
-PartEatsNothing rows P k (Choice end) = SomeArmHas rows P (k + 1) end
-PartEatsNothing rows P k (Operators end) = SomeArmHas rows P (k + 1) end
-PartEatsNothing rows P k (Operand operators floor) = P operators
-PartEatsNothing rows P k part = ⊥
+-- what must eat nothing so that a part does: rows beside one another, an arm that stands there, a row, nothing; or it
+-- never does
+pub data Needs : Type 0 where
+  all : ℕ → ℕ → Needs
+  arm : ℕ → ℕ → Needs
+  row : ℕ → Needs
+  nothing : Needs
+  never : Needs
 
+abbrev pub needs : ℕ → part.Part → Needs
+needs k (Node end kind) = all (k + 1) end
+needs k (Arm end) = all (k + 1) end
+needs k (Tail end level ceiling) = all (k + 1) end
+needs k (Once end) = all (k + 1) end
+needs k (Items end separator) = all (k + 1) end
+needs k (Call start end) = all start end
+needs k (Choice end) = arm (k + 1) end
+needs k (Operators end) = arm (k + 1) end
+needs k (Operand operators floor) = row operators
+needs k (Token kind) = never
+needs k (Word set) = never
+needs k (Class set) = never
+needs k (Name kind set) = never
+needs k part = nothing
+
+-- Those have a property.
+abbrev pub HaveAll : List part.Part → (ℕ → Type 0) → Needs → Type 0
+HaveAll rows P (all start end) = AllHave rows P start end
+HaveAll rows P (arm start end) = SomeArmHas rows P start end
+HaveAll rows P (row m) = P m
+HaveAll rows P nothing = Unit {0}
+HaveAll rows P never = ⊥
+
+-- Row k eats nothing if rows with a property do.
 abbrev pub EatsNothingBy : List part.Part → (ℕ → Type 0) → ℕ → Type 0
-EatsNothingBy rows P k = PartEatsNothing rows P k (row_at rows k)
+EatsNothingBy rows P k = HaveAll rows P (needs k (row_at rows k))
 
 -- Row k may eat nothing: it eats nothing if some rows do, and each of those may.
 pub data Empty (rows : List part.Part) : ℕ → Type 0 where

@@ -81,7 +81,8 @@ fn is_call(rows: &[Row], k: usize) -> bool
     matches!(row_at(rows, k), Row::Call { .. } | Row::Operand { .. })
 }
 
-/// The first row of the first rule that neither is the file's nor is called, through other rules, from it.
+/// The first row of the first rule that neither is the file's nor is called, through other rules, from it. The file's
+/// begins at row `file`.
 pub fn unreached(alloc: Global, rows: &[Row], file: usize) -> Result<Option<usize>, AllocError>
     ensures { IfOk result (IsFirst (length rows.now) (IsUnreached rows.now file)) }
 {

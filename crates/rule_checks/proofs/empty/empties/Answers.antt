@@ -2,7 +2,7 @@ use Rattle.std.proofs.Common.{◌≡◌, false, length}
 use Rattle.std.proofs.Math.ListN.{length-replicate}
 use Rattle.std.proofs.lemmas.List.{take_at}
 use Rattle.rule_checks.specs.Sets.{has}
-use Rattle.rule_checks.proofs.Grows.{empty_in, unmarked-empty}
+use Rattle.rule_checks.proofs.Empties.{empty_in, unmarked-empty}
 use Rattle.rule_checks.proofs.empty.empties.Goals as goal
 
 pub loop-init : goal.loop-init

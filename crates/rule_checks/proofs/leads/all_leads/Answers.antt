@@ -1,7 +1,7 @@
 use Rattle.std.proofs.Common.{ℕ, ◌≤◌, List, length, subst, arith}
 use Rattle.rule_grammar.specs.declared.part.Part.{Part}
 use Rattle.rule_checks.specs.Leads.{Leads, PartLeads}
-use Rattle.rule_checks.proofs.Grows.{row-past}
+use Rattle.rule_checks.proofs.Empties.{row-past}
 use Rattle.rule_checks.proofs.Lists.{made_all}
 use Rattle.rule_checks.proofs.leads.all_leads.Goals as goal
 

@@ -2,7 +2,7 @@ use Rattle.std.proofs.Common.{ℕ, ◌≤◌, List, length, subst, arith}
 use Rattle.rule_grammar.specs.declared.part.Part.{Part}
 use Rattle.rule_checks.specs.Empty.{IsArm}
 use Rattle.rule_checks.specs.Rules.{Uses}
-use Rattle.rule_checks.proofs.Grows.{row-past}
+use Rattle.rule_checks.proofs.Empties.{row-past}
 use Rattle.rule_checks.proofs.Lists.{made_all, made_more}
 use Rattle.rule_checks.proofs.rules.all_uses.Goals as goal
 

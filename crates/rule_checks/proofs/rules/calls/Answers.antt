@@ -1,18 +1,18 @@
-use Rattle.std.proofs.Common.{◌≡◌, ℕ, ◌+◌, ◌≤◌, ◌++◌, ◌∷◌, [], List, ◌⊎◌, inl, inr, subst, sym, arith}
+use Rattle.std.proofs.Common.{◌≡◌, ℕ, ◌+◌, ◌≤◌, ◌++◌, ◌∷◌, [], List, ◌⊎◌, inl, inr, subst, arith}
 use Rattle.std.specs.Prelude.{Contains, ◌↔◌}
 use Rattle.std.proofs.lemmas.List.Elements.{Contains-append_left, Contains-push, Contains-push_cases}
 use Rattle.rule_grammar.specs.declared.part.Part.{Part}
 use Rattle.rule_grammar.specs.declared.part.Part.TheVariants.{Call}
 use Rattle.rule_checks.specs.Rows.{row_at}
 use Rattle.rule_checks.specs.Rules.{IsCalled}
-use Rattle.rule_checks.proofs.Lists.{split_at}
+use Rattle.std.proofs.Math.Nat.{eq-or-lt_of_le}
 use Rattle.rule_checks.proofs.rules.calls.Goals as goal
 use Rattle.rule_checks.proofs.rules.calls.Goals.{in-Some+in_ok-push, in_default}
 
 called_before : (rows : List Part) (start k r : ℕ) → IsCalled rows start (k + 1) r → (IsCalled rows start k r) ⊎ ((last : ℕ) × (row_at rows k ≡ Call (r + 1) last))
-called_before rows start k r call = elim (split_at call.at k call.before) [
-  | inl less ↦ inl (record { at = call.at; from = call.from; before = less; last = call.last; calls = call.calls })
-  | inr last ↦ inr (call.last, subst (λ n. row_at rows n ≡ Call (r + 1) call.last) (sym last) call.calls)
+called_before rows start k r call = elim (eq-or-lt_of_le {n = call.at} {m = k} (let before = call.before in omega arith)) [
+  | inr less ↦ inl (record { at = call.at; from = call.from; before = less; last = call.last; calls = call.calls })
+  | inl last ↦ inr (call.last, subst (λ n. row_at rows n ≡ Call (r + 1) call.last) last call.calls)
 ]
 
 call_more : (rows : List Part) (start k r rule : ℕ) (list : List ℕ) → start ≤ k → (last : ℕ) × (row_at rows k ≡ Call (rule + 1) last)

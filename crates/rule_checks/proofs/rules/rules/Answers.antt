@@ -1,16 +1,13 @@
-use Rattle.std.proofs.Common.{◌≡◌, ℕ, ◌+◌, ◌<◌, ◌≤◌, ◌++◌, ◌∷◌, [], Bool, true, List, length, inl, inr, subst, arith}
+use Rattle.std.proofs.Common.{◌≡◌, ℕ, ◌+◌, ◌<◌, ◌≤◌, ◌++◌, ◌∷◌, [], Bool, true, List, length, below_more, arith}
+use Rattle.std.proofs.Math.ListN.{get_or-append}
+use Rattle.std.proofs.Math.Seq.{get_or-append_seam}
 use Rattle.std.specs.Prelude.{◌↔◌, IsTrue}
 use Rattle.rule_grammar.specs.declared.part.Part.{Part}
 use Rattle.rule_checks.specs.Empty.{IsArm}
 use Rattle.rule_checks.specs.Rows.{next_at, row_at}
 use Rattle.rule_checks.specs.Rules.{IsRule}
 use Rattle.rule_checks.specs.Sets.{IsSetBelow, has}
-use Rattle.rule_checks.proofs.Lists.{split_at}
-use Rattle.rule_checks.proofs.Marks.{has-last, has-push}
 use Rattle.rule_checks.proofs.rules.rules.Goals as goal
-
-below_next : (P : ℕ → Type 0) (k : ℕ) → ((o : ℕ) → o < k → P o) → P k → (o : ℕ) → o < k + 1 → P o
-below_next P k below here o within = elim (split_at o k within) [ inl less ↦ below o less | inr same ↦ subst P same here ]
 
 rule_at : (rows : List Part) (past k : ℕ) (b : Bool) → ((o : ℕ) → o < k → next_at rows o ≤ past) → ((bound : ℕ) → ((o : ℕ) → o < k → next_at rows o ≤ bound) → past ≤ bound)
     → IsTrue b ↔ ((past ≤ k) × IsArm (row_at rows k)) → (b ≡ true) ↔ IsRule rows k
@@ -21,8 +18,8 @@ rule_at rows past k b bound least is = (
 
 more_rules : (rows : List Part) (rules longer : List Bool) (b : Bool) (k : ℕ) → length rules ≡ k → longer ≡ rules ++ b ∷ [] → IsSetBelow k (IsRule rows) rules → (b ≡ true) ↔ IsRule rows k
     → IsSetBelow (k + 1) (IsRule rows) longer
-more_rules rows rules longer b k len longer_is is at = rw longer_is (below_next (λ i. (has (rules ++ b ∷ []) i ≡ true) ↔ IsRule rows i) k
-    (λ i less. let within : i < length rules = omega arith in rw (has-push rules b i within) (is i less)) (rw (has-last rules b k len) at))
+more_rules rows rules longer b k len longer_is is at = rw longer_is (below_more (λ i. (has (rules ++ b ∷ []) i ≡ true) ↔ IsRule rows i) k
+    (λ i less. let within : i < length rules = omega arith in rw (get_or-append rules (b ∷ []) true i within) (is i less)) (rw (← len) (rw (get_or-append_seam rules b [] true) (rw len at))))
 
 pub loop-k-preserved : goal.loop-k-preserved
 loop-k-preserved c =
@@ -31,7 +28,7 @@ loop-k-preserved c =
       len = omega (arith, c.in_ok-push.ensures.len);
       is = more_rules c.args.rows.now _ _ _ c.loop-k.k c.loop-k.invariant.len c.in_ok-push.ensures.items c.loop-k.invariant.is
           (rule_at c.args.rows.now c.loop-k.past c.loop-k.k _ c.loop-k.invariant.bound c.loop-k.invariant.least c.begins_rule.ensures);
-      bound = below_next (λ o. next_at c.args.rows.now o ≤ c.max-past.result) c.loop-k.k
+      bound = below_more (λ o. next_at c.args.rows.now o ≤ c.max-past.result) c.loop-k.k
           (λ o less. let before = c.loop-k.invariant.bound o less in omega arith) (omega arith);
       least = λ b all. let before = c.loop-k.invariant.least b (λ o less. all o (omega arith)) in let here = all c.loop-k.k (omega arith) in omega arith;
     }
