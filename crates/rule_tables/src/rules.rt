@@ -1,5 +1,6 @@
 //! Rules that are ready to be run.
-ghost use Rattle.std.specs.Prelude.{◌≡◌, ℕ, ◌<◌, ◌≤◌, All, IfErr, IfOk, IsTrue, None, OnOk, Some, length, slice_get};
+ghost use Rattle.std.specs.Prelude.{◌≡◌, ℕ, false, ◌<◌, ◌≤◌, All, IfErr, IfOk, IsTrue, None, OnOk, Some, length, slice_get};
+ghost use Rattle.squawk_kinds.specs.Kinds.{EOF};
 ghost use Rattle.squawk_kinds.specs.TokenSets.{has};
 ghost use Rattle.rule_grammar.specs.Parts.{words_have};
 ghost use Rattle.rule_tables.specs.Classes.{HasClasses};
@@ -43,11 +44,16 @@ pub struct Rules {
 }
 
 impl Model for Rules {
+    ghost use Rattle.std.specs.Prelude.{◌≡◌, false};
+    ghost use Rattle.squawk_kinds.specs.Kinds.{EOF};
+    ghost use Rattle.squawk_kinds.specs.TokenSets.{has};
     ghost use Rattle.rule_tables.specs.Made.{Made};
 
     ghost Value = { Made };
 
     ghost view = { λ rules. record { rows = rules.rows.items; sets = rules.sets.items; start = rules.start; end = rules.end; operators = rules.operators } };
+
+    ghost invariant = { λ rules. has rules.operators EOF ≡ false };
 }
 
 impl Rules {
@@ -71,6 +77,8 @@ impl Rules {
     pub fn table(&self) -> Table<'_>
         ensures rows { result.rows.now ≡ self.now.rows }
         ensures sets { result.sets.now ≡ self.now.sets }
+        ensures operators { result.operators ≡ self.now.operators }
+        ensures no_end { has self.now.operators EOF ≡ false }
     {
         Table {
             rows: &self.rows,
@@ -78,25 +86,28 @@ impl Rules {
             looks: &self.looks,
             messages: self.messages.text.as_str(),
             message_ends: &self.messages.ends,
+            operators: self.operators,
+            plain: TokenSet::EMPTY,
+            glued: &[],
+            composed: TokenSet::EMPTY,
         }
     }
 }
 
 impl Grammar for Rules {
-    ghost use Rattle.squawk_parser.specs.Words.{no_words};
+    ghost use Rattle.std.specs.Prelude.{[]};
     ghost use Rattle.rule_grammar.specs.Derivations.{IsFile};
 
     // One node over all tokens. If there is no error in it, the rule of a file derives the tokens.
-    ghost leaves = { λ rules _ input draft. IsFile rules.rows rules.sets no_words rules.start rules.end input draft };
+    ghost leaves = { λ rules _ input draft. IsFile rules.rows rules.sets (record { operator_first = rules.operators; names = [] }) rules.start rules.end input draft };
 
     ghost runs = { λ _ _ _ _. Unit {0} };
 
-    ghost meaning = { λ _. no_words };
+    ghost meaning = { λ rules. record { operator_first = rules.operators; names = [] } };
 
-    #[tactic(auto, using(squawk_parser::specs::Words::no_words_has_no_end))]
     fn words(&self) -> Words<'_> {
         Words {
-            operator_first: TokenSet::EMPTY,
+            operator_first: self.operators,
             names: &[],
         }
     }
@@ -152,7 +163,8 @@ fn rules_of(
     file: Span,
     operators: TokenSet,
 ) -> Result<Rules, RulesError>
-    requires { All (λ row. IsTrue (is_exact row)) rows.now }
+    requires exact { All (λ row. IsTrue (is_exact row)) rows.now }
+    requires no_end { has operators EOF ≡ false }
     ensures err { IfErr result NamesNothing }
     ensures rows { IfOk result (λ rules. SayRows rows.now rules.rows) }
     ensures sets { IfOk result (λ rules. HaveSets sets.now rules.sets (length sets.now)) }

@@ -106,7 +106,8 @@ static ITEM_CASES: [(&str, &str); 10] = [
     // A value is a number: what stands before the parenthesis that closes is skipped.
     ("(a=b)", "LIST{(a=!expected a pair!ERROR{b})}"),
     ("(a 1)", "LIST{(a!expected =! 1)}"),
-    ("(a=1 b)", "LIST{(a=1 ERROR{!expected )!b})}"),
+    // What can begin an item is one, also without a separator before it.
+    ("(a=1 b)", "LIST{(a=1!expected a pair! b!expected =!)}"),
     // No rule goes on at a comma.
     ("a,b", "NAME{a}ERROR{!expected an item!,}NAME{b}"),
 ];
