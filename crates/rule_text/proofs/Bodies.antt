@@ -114,10 +114,10 @@ levels_read {a} {b} {n} r still begins ends = reads_as r (λ ps v. levels (posit
 -- ---- bodies
 
 pub choice_of : {a b c d : Reader} {start size : ℕ} → Reads (λ ws i j ps. OneArm ws 0 i j ps) a b → Reads MoreArms b c
-    → start ≡ length a.parts.items → size ≡ length c.parts.items - start → Wraps start (parts.Choice size) c d → Reads Body a d
+    → start ≡ length a.parts.items → size ≡ length c.parts.items - start → Wraps start (parts.Choice size false) c d → Reads Body a d
 choice_of {a} {b} {c} {d} first more from sized wraps =
-    let both : Reads (λ ws i j qs. Body ws i j (parts.Choice (length qs) ∷ qs)) a c = reads_both first more (λ ps qs v w. one_of v w) in
-    reads_around (λ n. parts.Choice n) both from sized wraps (λ ps v. v)
+    let both : Reads (λ ws i j qs. Body ws i j (parts.Choice (length qs) false ∷ qs)) a c = reads_both first more (λ ps qs v w. one_of v w) in
+    reads_around (λ n. parts.Choice n false) both from sized wraps (λ ps v. v)
 
 pub operators_read : {a b c : Reader} {start : ℕ} → Reads Operands a b → start ≡ length a.parts.items
     → Operates start b c → Reads Body a c

@@ -125,11 +125,11 @@ pub next_arm_read : {a b c d : Reader} {start size floor : ℕ} → sort_at a.wo
 next_arm_read is bumps r from sized wraps = reads_behind bumps (arm_read r from sized wraps) (λ ps v. or is v)
 
 pub choice_read : {a b c d : Reader} {start size floor : ℕ} → Reads (written_as arm floor) a b → Reads (written_as more_arms floor) b c
-    → start ≡ length a.parts.items → size ≡ length c.parts.items - start → Wraps start (parts.Choice size) c d → Reads (written_as alternatives floor) a d
+    → start ≡ length a.parts.items → size ≡ length c.parts.items - start → Wraps start (parts.Choice size false) c d → Reads (written_as alternatives floor) a d
 choice_read {a} {b} {c} {d} {start} {size} {floor} first rest from sized wraps =
-    let both : Reads (λ ws i k qs. Written ws floor alternatives i k (parts.Choice (length qs) ∷ qs)) a c =
+    let both : Reads (λ ws i k qs. Written ws floor alternatives i k (parts.Choice (length qs) false ∷ qs)) a c =
     reads_both first rest (λ ps qs v w. choice v w) in
-    reads_around (λ n. parts.Choice n) both from sized wraps (λ ps v. v)
+    reads_around (λ n. parts.Choice n false) both from sized wraps (λ ps v. v)
 
 -- ---- how far words go
 

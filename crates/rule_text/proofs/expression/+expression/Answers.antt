@@ -1,4 +1,4 @@
-use Rattle.std.proofs.Common.{arith, refl, sym, ap, ◌≡◌, ◌∙◌}
+use Rattle.std.proofs.Common.{arith, refl, sym, ap, false, ◌≡◌, ◌∙◌}
 use Rattle.rule_parts.specs.declared.Part.TheVariants as parts
 use Rattle.rule_text.specs.declared.word.Sort.TheVariants as sorts
 use Rattle.rule_text.specs.Written.{is_end, sort_at}
@@ -84,7 +84,7 @@ item-returns-in-Question t c =
     let is : sort_at c.atom.new.reader.words.now c.atom.new.reader.at ≡ sorts.Question = sym c.sort.ensures ∙ c.in-Question.is in
     let r = c.in_ok-atom.ensures in
     on_ok c.mark.result
-    (λ m. marked (λ n. parts.Optional n) r c.len-start.ensures c.size_from-size.ensures m (λ ps v. optional v (sort_back r.words refl is)))
+    (λ m. marked (λ n. parts.Optional n false) r c.len-start.ensures c.size_from-size.ensures m (λ ps v. optional v (sort_back r.words refl is)))
     (c.mark.ensures (ap is_end is))
 
 pub item-returns-in-Star : goal.item-returns-in-Star
@@ -92,7 +92,7 @@ item-returns-in-Star t c =
     let is : sort_at c.atom.new.reader.words.now c.atom.new.reader.at ≡ sorts.Star = sym c.sort.ensures ∙ c.in-Star.is in
     let r = c.in_ok-atom.ensures in
     on_ok c.mark-in-Star.result
-    (λ m. marked (λ n. parts.Repeat n) r c.len-start.ensures c.size_from-size.ensures m (λ ps v. repeated v (sort_back r.words refl is)))
+    (λ m. marked (λ n. parts.Repeat n false) r c.len-start.ensures c.size_from-size.ensures m (λ ps v. repeated v (sort_back r.words refl is)))
     (c.mark-in-Star.ensures (ap is_end is))
 
 pub item-returns-in-Plus : goal.item-returns-in-Plus
@@ -100,5 +100,5 @@ item-returns-in-Plus t c =
     let is : sort_at c.atom.new.reader.words.now c.atom.new.reader.at ≡ sorts.Plus = sym c.sort.ensures ∙ c.in-Plus.is in
     let r = c.in_ok-atom.ensures in
     on_ok c.mark-in-Plus.result
-    (λ m. marked (λ n. parts.Some n) r c.len-start.ensures c.size_from-size.ensures m (λ ps v. some v (sort_back r.words refl is)))
+    (λ m. marked (λ n. parts.Some n false) r c.len-start.ensures c.size_from-size.ensures m (λ ps v. some v (sort_back r.words refl is)))
     (c.mark-in-Plus.ensures (ap is_end is))
