@@ -1,7 +1,6 @@
 -- What the words of rules write, from reader to reader.
-use Rattle.std.specs.Prelude.{◌≡◌, ◌≢◌, ℕ, ◌+◌, ◌-◌, ◌<◌, ◌≤◌, Bool, true, false, Some, None, List, ◌∷◌, ◌++◌, length, Result, ⊤}
-use Rattle.std.proofs.Common.{sym, subst, ap, ◌∙◌, refl, arith}
-use Rattle.rule_parts.specs.declared.Association.{Association}
+use Rattle.std.specs.Prelude.{◌≡◌, ◌≢◌, ℕ, ◌+◌, ◌-◌, ◌≤◌, Bool, true, false, Some, List, ◌∷◌, ◌++◌, length, Result, ⊤}
+use Rattle.std.proofs.Common.{subst, ap, ◌∙◌, refl, arith}
 use Rattle.rule_parts.specs.declared.Part.{Part}
 use Rattle.rule_parts.specs.declared.Part.TheVariants as parts
 use Rattle.rule_text.specs.declared.body.Level.{Level}
@@ -17,7 +16,7 @@ use Rattle.rule_text.specs.Rules.Operator.{prefix, tail}
 use Rattle.rule_text.specs.Written.{IsAfterBars, Written as forms, bar, sort_at}
 use Rattle.rule_text.specs.Written.Form.{alternative, arm, arms, sequence}
 use Rattle.rule_text.proofs.Expressions.{sort_back, still_after_bars, told_back}
-use Rattle.rule_text.proofs.Reading.{Leads, Splits, Stop, behind, decides_as, leads_more, miss_first, reads_around, reads_as, reads_behind, reads_both, reads_none, written_in}
+use Rattle.rule_text.proofs.Reading.{Leads, Splits, Stop, behind, decides_as, leads_more, miss_first, reads_around, reads_as, reads_both, reads_none, written_in}
 use Rattle.rule_text.proofs.Reading.Stop.{stop}
 use Rattle.rule_text.proofs.Reading.Then.{both}
 use Rattle.rule_text.proofs.Same.{bars, differ, one_bar, same, unlike}

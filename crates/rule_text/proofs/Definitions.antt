@@ -11,7 +11,6 @@ use Rattle.rule_text.specs.declared.word.Sort.{Sort}
 use Rattle.rule_text.specs.declared.word.Sort.TheVariants as sorts
 use Rattle.rule_text.specs.Reading.{Adds, Bumps, Decides, Gives, IsMissed, Reads, Takes, Wraps, of_first}
 use Rattle.rule_text.specs.Rules.{Body, Called, Definition as definitions, Guards, Head, Member, Members, RuleHead, Rules, Texts}
-use Rattle.rule_text.specs.Rules.Called.{by_message, by_name}
 use Rattle.rule_text.specs.Rules.Head.{head}
 use Rattle.rule_text.specs.Rules.Member.{given, kind, other, without}
 use Rattle.rule_text.specs.Rules.Members.{becomes, member, no_member}
@@ -20,8 +19,8 @@ use Rattle.rule_text.specs.Rules.Rules.{no_rule, one_more}
 use Rattle.rule_text.specs.Rules.Texts.{no_text, text}
 use Rattle.rule_text.specs.Written.{Arrow, IsWord, is_end, sort_at}
 use Rattle.rule_text.specs.Written.Arrow.{arrow}
-use Rattle.rule_text.proofs.Expressions.{gives_over, over_taken, sort_back, sort_not_back}
-use Rattle.rule_text.proofs.Reading.{Leads, Over, Splits, Stop, decides_as, leads_more, longer_by, miss_first, missed_from, over_more, over_one, reads_around, reads_as, reads_one, reads_part, sort_from, sort_not_from, word_from, word_sort}
+use Rattle.rule_text.proofs.Expressions.{gives_over, over_taken, sort_back}
+use Rattle.rule_text.proofs.Reading.{Leads, Splits, Stop, decides_as, leads_more, longer_by, miss_first, over_more, over_one, reads_around, reads_as, reads_one, reads_part, sort_from, word_from, word_sort}
 use Rattle.rule_text.proofs.Reading.Stop.{stop}
 use Rattle.rule_text.proofs.Reading.Then.{both}
 use Rattle.rule_text.proofs.SameRules.{no_equals, same_called, same_definition, same_head, same_rule_head}

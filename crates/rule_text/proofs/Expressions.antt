@@ -1,5 +1,5 @@
 -- What the words of an expression write, from reader to reader.
-use Rattle.std.specs.Prelude.{◌≡◌, ◌≢◌, ℕ, ◌+◌, ◌-◌, ◌<◌, ◌≤◌, Bool, true, false, List, [], ◌∷◌, ◌++◌, drop, length, Result, ⊤}
+use Rattle.std.specs.Prelude.{◌≡◌, ◌≢◌, ℕ, ◌+◌, ◌-◌, Bool, true, false, List, [], ◌∷◌, ◌++◌, drop, length, Result, ⊤}
 use Rattle.std.proofs.Common.{sym, subst, ap, ◌∙◌, refl, arith}
 use Rattle.rule_parts.specs.declared.Part.{Part}
 use Rattle.rule_parts.specs.declared.Part.TheVariants as parts
@@ -11,11 +11,10 @@ use Rattle.rule_text.specs.declared.word.Sort.{Sort}
 use Rattle.rule_text.specs.declared.word.Sort.TheVariants as sorts
 use Rattle.rule_text.specs.Reading.{Adds, Bumps, Decides, Gives, IsMissed, One, Reads, Takes, Wraps, behind_one, of_word, only, written_as}
 use Rattle.rule_text.specs.Reading.One.{one as one_word}
-use Rattle.rule_text.specs.Written.{Arrow, Form, Greedy, Guarding, IsAfterBars, IsWord, Kinds, MoreKinds, OneKind, Separated, Written, as_node, bar, begins_item, is_end, is_sign, names_kind, sign_part, sort_at}
+use Rattle.rule_text.specs.Written.{Arrow, Form, Greedy, Guarding, IsAfterBars, Kinds, MoreKinds, OneKind, Separated, Written, as_node, bar, begins_item, is_end, is_sign, names_kind, sign_part, sort_at}
 use Rattle.rule_text.specs.Written.Form.{alternative, alternatives, arm, arms, atom, item, items, sequence}
 use Rattle.rule_text.specs.Written.Arrow.{arrow}
-use Rattle.rule_text.specs.Written.Greedy.{greedy, not_greedy}
-use Rattle.rule_text.specs.Written.Guarding.{guarded, unguarded}
+use Rattle.rule_text.specs.Written.Guarding.{guarded}
 use Rattle.rule_text.specs.Written.Kinds.{one_kind, some_kinds}
 use Rattle.rule_text.specs.Written.MoreKinds.{last_kind, next_kind}
 use Rattle.rule_text.specs.Written.OneKind.{kind}
@@ -24,8 +23,8 @@ use Rattle.rule_text.specs.Written.{Written as forms}
 use Rattle.rule_text.proofs.Reading.Then.{both}
 use Rattle.rule_text.proofs.Reading.Sole.{sole}
 use Rattle.rule_text.proofs.Reading.Stop.{stop}
-use Rattle.rule_text.proofs.Reading.{Leads, Over, Sole, Splits, Stop, Then, behind, decides_as, drop_all, leads_end, leads_more, longer_by, over_more, over_one, reads_around, reads_as, reads_before, reads_behind, reads_both, reads_none, reads_part, reads_with, sort_from, still_within, within, word_from, word_sort}
-use Rattle.rule_text.proofs.Same.{one_bar, same, same_greedy, same_guarding, same_kind, same_kinds, same_more_kinds, same_separated, unlike}
+use Rattle.rule_text.proofs.Reading.{Leads, Over, Sole, Splits, Stop, Then, behind, decides_as, drop_all, leads_more, longer_by, over_more, over_one, reads_around, reads_as, reads_before, reads_both, reads_part, reads_with, sort_from, word_from, word_sort}
+use Rattle.rule_text.proofs.Same.{one_bar, same, same_kind, same_separated, unlike}
 
 -- ---- words
 

@@ -1,5 +1,5 @@
 -- How far words go.
-use Rattle.std.specs.Prelude.{◌≡◌, ℕ, ◌+◌, ◌-◌, ◌<◌, ◌≤◌, Bool, false, List, length}
+use Rattle.std.specs.Prelude.{◌≡◌, ℕ, ◌-◌, ◌<◌, ◌≤◌, Bool, false, List, length}
 use Rattle.std.proofs.Common.{ap, arith}
 use Rattle.rule_parts.specs.declared.Name.{Name}
 use Rattle.rule_parts.specs.declared.Part.{Part}

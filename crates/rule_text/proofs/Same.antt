@@ -1,12 +1,11 @@
 -- The next word decides: what the words from one on write as a form ends at one place.
-use Rattle.std.specs.Prelude.{◌≡◌, ◌≢◌, ℕ, ◌+◌, Bool, true, false, Some, None, List}
+use Rattle.std.specs.Prelude.{◌≡◌, ◌≢◌, ℕ, ◌+◌, Bool, true, false, List}
 use Rattle.std.proofs.Common.{sym, subst, ap, ◌∙◌, refl}
 use Rattle.rule_parts.specs.declared.Name.{Name}
 use Rattle.rule_parts.specs.declared.Part.{Part}
 use Rattle.rule_text.specs.declared.word.Word.{Word}
 use Rattle.rule_text.specs.declared.word.Sort.{Sort}
-use Rattle.rule_text.specs.declared.word.Sort.TheVariants as sorts
-use Rattle.rule_text.specs.Written.{Arrow, Form, Greedy, Guarding, IsWord, Kinds, MoreKinds, OneKind, Separated, Written, bar, begins_item, is_sign, sort_at}
+use Rattle.rule_text.specs.Written.{Arrow, Form, Greedy, Guarding, Kinds, MoreKinds, OneKind, Separated, Written, bar, begins_item, is_sign, sort_at}
 use Rattle.rule_text.specs.Written.Arrow.{arrow}
 use Rattle.rule_text.specs.Written.Form.{arms, atom, item, items}
 use Rattle.rule_text.specs.Written.Greedy.{greedy, not_greedy}

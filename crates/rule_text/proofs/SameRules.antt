@@ -1,5 +1,5 @@
 -- The same of rules: what the words from one on write ends at one place.
-use Rattle.std.specs.Prelude.{◌≡◌, ◌≢◌, ℕ, ◌+◌, Bool, true, false, Some, None, List, length}
+use Rattle.std.specs.Prelude.{◌≡◌, ℕ, ◌+◌, Bool, true, false, Some, None, List}
 use Rattle.std.proofs.Common.{sym, subst, ap, ◌∙◌, refl}
 use Rattle.rule_parts.specs.declared.Name.{Name}
 use Rattle.rule_parts.specs.declared.Part.{Part}
@@ -18,9 +18,9 @@ use Rattle.rule_text.specs.Rules.MoreOperators.{no_operator, operator}
 use Rattle.rule_text.specs.Rules.Operator.{prefix, tail}
 use Rattle.rule_text.specs.Rules.RuleHead.{rule_head}
 use Rattle.rule_text.specs.Rules.Texts.{no_text, text}
-use Rattle.rule_text.specs.Written.{IsWord, IsAfterBars, Written, bar, sort_at}
+use Rattle.rule_text.specs.Written.{IsAfterBars, Written, bar, sort_at}
 use Rattle.rule_text.specs.Written.Arrow.{arrow}
-use Rattle.rule_text.specs.Written.Form.{arm, arms}
+use Rattle.rule_text.specs.Written.Form.{arms}
 use Rattle.rule_text.specs.Written.Written.{last, next, one}
 use Rattle.rule_text.proofs.Reading.{word_sort}
 use Rattle.rule_text.proofs.Same.{bars, differ, one_bar, same, same_arrow, unlike}

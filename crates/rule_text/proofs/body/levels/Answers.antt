@@ -1,4 +1,4 @@
-use Rattle.std.proofs.Common.{arith, ap, sym, refl, ◌∙◌, ◌≡◌, Some, None}
+use Rattle.std.proofs.Common.{arith, ap, sym, ◌∙◌, ◌≡◌, Some, None}
 use Rattle.rule_text.specs.Rules.{next_level}
 use Rattle.rule_text.specs.Rules.MoreOperators.{no_operator}
 use Rattle.rule_text.specs.Written.{is_end, sort_at}

@@ -1,6 +1,6 @@
 use Rattle.std.proofs.Common.{ap}
 use Rattle.rule_text.specs.Written.{is_end}
-use Rattle.rule_text.proofs.Bodies.{prefix_decided, tail_read, tail_split}
+use Rattle.rule_text.proofs.Bodies.{prefix_decided, tail_read}
 use Rattle.rule_text.proofs.Reading.{decides_by}
 use Rattle.rule_text.proofs.body.operator.Goals as goal
 

@@ -1,10 +1,9 @@
-use Rattle.std.proofs.Common.{arith, refl, sym, ap, true, false, ◌≡◌, ◌∙◌}
-use Rattle.rule_parts.specs.declared.Part.TheVariants as parts
+use Rattle.std.proofs.Common.{arith, refl, sym, ap, ◌≡◌, ◌∙◌}
 use Rattle.rule_text.specs.declared.word.Sort.TheVariants as sorts
 use Rattle.rule_text.specs.Written.{Written as forms, begins_item, is_end, is_sign, sort_at}
-use Rattle.rule_text.proofs.Expressions.{alternative_split, alternatives_split, arm_read, arm_split, arms_lead, choice_read, group_read_as, node_read, plain_read, told_back, arms_split, arrow_split, atom_decided, group_read, group_split, item_split, items_lead, items_split, list_read, list_split, miss_arms, miss_brace, miss_separator, no_atom, one_as, sequence_split, item_is, sign_is, signed_read, sort_back, sort_not_back, still_after_bars, still_sort}
+use Rattle.rule_text.proofs.Expressions.{arm_read, arms_lead, choice_read, group_read_as, node_read, plain_read, told_back, arrow_split, atom_decided, group_read, group_split, items_lead, list_read, list_split, miss_arms, miss_brace, miss_separator, no_atom, one_as, sequence_split, item_is, sign_is, signed_read, sort_back, sort_not_back, still_after_bars, still_sort}
 use Rattle.rule_text.proofs.Goes.{goes, nearer}
-use Rattle.rule_text.proofs.Reading.{behind, decides_as, decides_behind, decides_by, decides_then, exits, exits_as, leads_back, leads_end, miss_first, miss_rest, miss_sole, missed_at, missed_from, read, reads_around, reads_as, reads_none, refused, sort_not_from, written_in}
+use Rattle.rule_text.proofs.Reading.{behind, decides_as, decides_by, decides_then, exits, exits_as, leads_end, miss_first, miss_rest, miss_sole, missed_at, missed_from, read, reads_as, reads_none, refused}
 use Rattle.rule_text.proofs.Same.{same, same_guarding}
 use Rattle.rule_text.proofs.expression.+expression.Goals as goal
 
@@ -174,6 +173,8 @@ alternatives-returns-in_default t c =
 pub atom-returns-in_default : goal.atom-returns-in_default
 atom-returns-in_default t c =
     let n = c.in_default in
-    refused (record { no = λ k ps v. no_atom (λ e. n.not-Kind (c.sort.ensures ∙ e)) (λ e. n.not-Class (c.sort.ensures ∙ e)) (λ e. n.not-Call (c.sort.ensures ∙ e))
-    (λ e. n.not-Operand (c.sort.ensures ∙ e)) (λ e. n.not-Equals (c.sort.ensures ∙ e)) (λ e. n.not-Tilde (c.sort.ensures ∙ e))
-    (λ e. n.not-OpenParen (c.sort.ensures ∙ e)) (λ e. n.not-OpenBrace (c.sort.ensures ∙ e)) v })
+    refused (record {
+      no = λ k ps v. no_atom (λ e. n.not-Kind (c.sort.ensures ∙ e)) (λ e. n.not-Class (c.sort.ensures ∙ e)) (λ e. n.not-Call (c.sort.ensures ∙ e))
+          (λ e. n.not-Operand (c.sort.ensures ∙ e)) (λ e. n.not-Equals (c.sort.ensures ∙ e)) (λ e. n.not-Tilde (c.sort.ensures ∙ e))
+          (λ e. n.not-OpenParen (c.sort.ensures ∙ e)) (λ e. n.not-OpenBrace (c.sort.ensures ∙ e)) v;
+    })

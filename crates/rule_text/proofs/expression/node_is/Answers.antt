@@ -1,8 +1,7 @@
 use Rattle.std.proofs.Common.{ap}
 use Rattle.rule_parts.specs.declared.Part.TheVariants as parts
 use Rattle.rule_text.specs.Written.{is_end, Written as forms}
-use Rattle.rule_text.proofs.Expressions.{tilde_split}
-use Rattle.rule_text.proofs.Reading.{behind, decides_by, decides_behind, miss_first, reads_around, refused_as}
+use Rattle.rule_text.proofs.Reading.{behind, decides_by, reads_around}
 use Rattle.rule_text.proofs.expression.node_is.Goals as goal
 
 pub returns : goal.returns

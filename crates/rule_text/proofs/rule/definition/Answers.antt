@@ -1,6 +1,4 @@
-use Rattle.std.proofs.Common.{sym, ◌≡◌, ◌∙◌}
-use Rattle.rule_text.specs.declared.word.Sort.TheVariants as sorts
-use Rattle.rule_text.specs.Written.{sort_at}
+use Rattle.std.proofs.Common.{sym, ◌∙◌}
 use Rattle.rule_text.proofs.Definitions.{first_decided, no_definition}
 use Rattle.rule_text.proofs.Reading.{refused}
 use Rattle.rule_text.proofs.rule.definition.Goals as goal
@@ -20,5 +18,7 @@ returns-in-Rule c = first_decided (sym c.sort.ensures ∙ c.in-Rule.is) c.rule.e
 pub returns-in_default : goal.returns-in_default
 returns-in_default c =
     let n = c.in_default in
-    refused (record { no = λ k ps v. no_definition (λ e. n.not-ClassOf (c.sort.ensures ∙ e)) (λ e. n.not-WordsOf (c.sort.ensures ∙ e))
-    (λ e. n.not-GuardOf (c.sort.ensures ∙ e)) (λ e. n.not-Rule (c.sort.ensures ∙ e)) v })
+    refused (record {
+      no = λ k ps v. no_definition (λ e. n.not-ClassOf (c.sort.ensures ∙ e)) (λ e. n.not-WordsOf (c.sort.ensures ∙ e))
+          (λ e. n.not-GuardOf (c.sort.ensures ∙ e)) (λ e. n.not-Rule (c.sort.ensures ∙ e)) v;
+    })
