@@ -1,150 +1,151 @@
 -- What the words of rules write, from reader to reader.
-use Rattle.std.specs.Prelude.{◌≡◌, ◌≢◌, ℕ, ◌+◌, ◌-◌, ◌<◌, ◌≤◌, Bool, true, false, Option, Some, None, List, ◌∷◌, ◌++◌, drop, length, IsSome}
-use Rattle.std.proofs.Common.{sym, subst, ap, ◌∙◌, refl, arith, zero, suc}
-use Rattle.rule_parts.specs.declared.Association.{Association}
+use Rattle.std.specs.Prelude.{◌≡◌, ◌≢◌, ℕ, ◌+◌, ◌-◌, ◌≤◌, Bool, true, false, Some, List, ◌∷◌, ◌++◌, length, Result, ⊤}
+use Rattle.std.proofs.Common.{subst, ap, ◌∙◌, refl, arith}
 use Rattle.rule_parts.specs.declared.Part.{Part}
 use Rattle.rule_parts.specs.declared.Part.TheVariants as parts
+use Rattle.rule_text.specs.declared.body.Level.{Level}
+use Rattle.rule_text.specs.declared.error.WordError.{WordError}
 use Rattle.rule_text.specs.declared.reader.Reader.{Reader}
 use Rattle.rule_text.specs.declared.word.Word.{Word}
+use Rattle.rule_text.specs.declared.word.Sort.{Sort}
 use Rattle.rule_text.specs.declared.word.Sort.TheVariants as sorts
-use Rattle.rule_text.specs.Reading.{Bumps, Operates, Reads, Wraps, written_as}
-use Rattle.rule_text.specs.Rules.{Alternative, Body, Levels, MoreArms, OneArm, OneLevel, Operands, Operator, SomeLevels, association_of, floor_of, names_kind}
-use Rattle.rule_text.specs.Rules.Alternative.{node, plain}
-use Rattle.rule_text.specs.Rules.Body.{one_of, operators}
-use Rattle.rule_text.specs.Rules.Levels.{level}
-use Rattle.rule_text.specs.Rules.MoreArms.{further_arm, second_arm}
-use Rattle.rule_text.specs.Rules.OneArm.{as_arm}
-use Rattle.rule_text.specs.Rules.OneLevel.{first_operator, next_operator}
+use Rattle.rule_text.specs.Reading.{Bumps, Decides, IsMissed, Operates, Reads, Wraps, behind_one, written_as}
+use Rattle.rule_text.specs.Rules.{Body as bodies, MoreOperators, Operator, first_level, floor_of, is_level, next_level}
+use Rattle.rule_text.specs.Rules.MoreOperators.{no_operator, operator}
 use Rattle.rule_text.specs.Rules.Operator.{prefix, tail}
-use Rattle.rule_text.specs.Rules.SomeLevels.{levels}
-use Rattle.rule_text.specs.Written.{Written, is_end, sort_at}
-use Rattle.rule_text.specs.Written.Form.{sequence}
-use Rattle.rule_text.proofs.Expressions.{goes, measured, sort_back}
-use Rattle.rule_text.proofs.Reading.{drop_all, reads_around, reads_as, reads_behind, reads_both, reads_with, within}
-
--- ---- alternatives
-
-pub named : (xs ys : List Part) {zs : List Part} {start : ℕ} {flag v : Bool} → zs ≡ xs ++ ys → start ≡ length xs → flag ≡ names_kind (drop start zs) → flag ≡ v
-    → names_kind ys ≡ v
-named xs ys {zs} {start} {flag} {v} e from told is =
-    let rest : drop start zs ≡ ys = ap (λ (n : ℕ). drop n zs) from ∙ (ap (λ (l : List Part). drop (length xs) l) e ∙ drop_all xs ys) in
-    sym (ap names_kind rest) ∙ (sym told ∙ is)
-
-pub plain_read : {a b : Reader} {start floor : ℕ} {flag : Bool} → Reads (written_as sequence floor) a b → start ≡ length a.parts.items
-    → flag ≡ names_kind (drop start b.parts.items) → flag ≡ false → Reads (λ ws i j ps. Alternative ws floor i j ps) a b
-plain_read {a} r from told is = reads_as (reads_with (λ ps. names_kind ps ≡ false) r (named a.parts.items r.parts r.added from told is)) (λ ps v. plain v.0 v.1)
-
-pub node_read : {a b c : Reader} {start size floor : ℕ} {flag : Bool} → Reads (written_as sequence floor) a b → start ≡ length a.parts.items
-    → flag ≡ names_kind (drop start b.parts.items) → flag ≡ true → size ≡ length b.parts.items - start → Wraps start (parts.Node size) b c
-    → Reads (λ ws i j ps. Alternative ws floor i j ps) a c
-node_read {a} r from told is sized wraps =
-    reads_around (λ n. parts.Node n) (reads_with (λ ps. names_kind ps ≡ true) r (named a.parts.items r.parts r.added from told is)) from sized wraps (λ ps v. node v.0 v.1)
-
-pub rule_arm_read : {a b c : Reader} {start size floor : ℕ} → Reads (λ ws i j ps. Alternative ws floor i j ps) a b
-    → start ≡ length a.parts.items → size ≡ length b.parts.items - start → Wraps start (parts.Arm size) b c
-    → Reads (λ ws i j ps. OneArm ws floor i j ps) a c
-rule_arm_read r from sized wraps = reads_around (λ n. parts.Arm n) r from sized wraps (λ ps v. as_arm v)
-
-pub arm_behind : {a b c : Reader} {floor : ℕ} → Bumps a b → Reads (λ ws i j ps. OneArm ws floor i j ps) b c
-    → Reads (λ ws i j ps. OneArm ws floor (i + 1) j ps) a c
-arm_behind bumps r = reads_behind bumps r (λ ps v. v)
-
-pub second_arm_read : {a b : Reader} → sort_at a.words.now a.at ≡ sorts.Or → Reads (λ ws i j ps. OneArm ws 0 (i + 1) j ps) a b
-    → Reads MoreArms a b
-second_arm_read is r = reads_as r (λ ps v. second_arm is v)
-
-pub further_arm_read : {a b c : Reader} → Reads MoreArms a b → sort_at b.words.now b.at ≡ sorts.Or
-    → Reads (λ ws i j ps. OneArm ws 0 (i + 1) j ps) b c → Reads MoreArms a c
-further_arm_read r is more = reads_both r more (λ ps qs v w. further_arm v (sort_back r.words refl is) w)
+use Rattle.rule_text.specs.Written.{IsAfterBars, Written as forms, bar, sort_at}
+use Rattle.rule_text.specs.Written.Form.{alternative, arm, arms, sequence}
+use Rattle.rule_text.proofs.Expressions.{sort_back, still_after_bars, told_back}
+use Rattle.rule_text.proofs.Reading.{Leads, Splits, Stop, behind, decides_as, leads_more, miss_first, reads_around, reads_as, reads_both, reads_none, written_in}
+use Rattle.rule_text.proofs.Reading.Stop.{stop}
+use Rattle.rule_text.proofs.Reading.Then.{both}
+use Rattle.rule_text.proofs.Same.{bars, differ, one_bar, same, unlike}
+use Rattle.rule_text.proofs.SameRules.{no_choice, no_level, no_operators, no_slash, one_level, same_operator}
 
 -- ---- operators
 
-pub prefix_read : {a b : Reader} {floor level : ℕ} {association : Association} → floor ≡ floor_of level association
-    → sort_at a.words.now a.at ≢ sorts.Operand → Reads (λ ws i j ps. OneArm ws floor i j ps) a b
-    → Reads (λ ws i j ps. Operator ws level association i j ps) a b
-prefix_read {a} {b} e is r = reads_as r (λ ps v. prefix is (subst (λ (f : ℕ). OneArm a.words.now f a.at b.at ps) e v))
+prefix_split : {ws : List Word} {level : Level} {i : ℕ} → sort_at ws i ≢ sorts.Operand → Splits (written_as (arm true) (floor_of level)) Stop (Operator level) ws i
+prefix_split n k rs (prefix m v) = both v stop
+prefix_split n k rs (tail e v) = absurd (n e)
 
-pub tail_read : {a b c d : Reader} {floor level start size : ℕ} {association : Association} → floor ≡ floor_of level association
-    → sort_at a.words.now a.at ≡ sorts.Operand → Bumps a b → Reads (written_as sequence floor) b c
-    → start ≡ length b.parts.items → size ≡ length c.parts.items - start → Wraps start (parts.Tail level association size) c d
-    → Reads (λ ws i j ps. Operator ws level association i j ps) a d
-tail_read {a} {b} {c} {d} {floor} {level} {start} {size} {association} e is bumps r from sized wraps =
-    let inner : Reads (λ ws i j ps. Written ws floor sequence (i + 1) j ps) a c = reads_behind bumps r (λ ps v. v) in
-    reads_around (λ n. parts.Tail level association n) inner (from ∙ ap (λ (l : List Part). length l) bumps.parts) sized wraps
-    (λ ps v. tail is (subst (λ (f : ℕ). Written a.words.now f sequence (a.at + 1) c.at ps) e v))
+pub tail_split : {ws : List Word} {level : Level} {i : ℕ} → sort_at ws i ≡ sorts.Operand
+    → Splits (behind_one (written_as sequence (floor_of level))) Stop (Operator level) ws i
+tail_split e k rs (prefix n v) = absurd (n e)
+tail_split e k rs (tail f v) = both v stop
 
-pub operator_behind : {a b c : Reader} {level : ℕ} {association : Association} → Bumps a b → Reads (λ ws i j ps. Operator ws level association i j ps) b c
-    → Reads (λ ws i j ps. Operator ws level association (i + 1) j ps) a c
-operator_behind bumps r = reads_behind bumps r (λ ps v. v)
+pub prefix_decided : {a b : Reader} {r : Result ⊤ WordError} {floor : ℕ} {level : Level} → floor ≡ floor_of level → sort_at a.words.now a.at ≢ sorts.Operand
+    → Decides (written_as (arm true) floor) a b r → Decides (Operator level) a b r
+prefix_decided {a} {b} {r} e n d =
+    decides_as (subst (λ (f : ℕ). Decides (written_as (arm true) f) a b r) e d) (λ q. reads_as q (λ ps v. prefix n v)) (λ m. miss_first (prefix_split n) m)
 
-pub next_operator_read : {a b c : Reader} {level : ℕ} {association : Association} → Reads (λ ws i j ps. OneLevel ws level association i j ps) a b
-    → sort_at b.words.now b.at ≡ sorts.Or → Reads (λ ws i j ps. Operator ws level association (i + 1) j ps) b c
-    → Reads (λ ws i j ps. OneLevel ws level association i j ps) a c
-next_operator_read r is more = reads_both r more (λ ps qs v w. next_operator v (sort_back r.words refl is) w)
+pub tail_read : {a b c d : Reader} {floor start size : ℕ} {level : Level} → floor ≡ floor_of level → sort_at a.words.now a.at ≡ sorts.Operand → Bumps a b
+    → Reads (written_as sequence floor) b c → start ≡ length b.parts.items → size ≡ length c.parts.items - start
+    → Wraps start (parts.Tail level.number level.association size) c d → Reads (Operator level) a d
+tail_read {a} {b} {c} {level = level} e there bumps r from sized wraps =
+    let inner : Reads (behind_one (written_as sequence (floor_of level))) a c =
+    behind bumps (subst (λ (f : ℕ). Reads (written_as sequence f) b c) e r) in
+    reads_around (λ n. parts.Tail level.number level.association n) inner (from ∙ ap (λ (l : List Part). length l) bumps.parts) sized wraps
+    (λ ps v. tail there v)
 
-pub level_behind : {a b c : Reader} {level : ℕ} {association : Association} → Bumps a b → Reads (λ ws i j ps. OneLevel ws level association i j ps) b c
-    → Reads (λ ws i j ps. OneLevel ws level association (i + 1) j ps) a c
-level_behind bumps r = reads_behind bumps r (λ ps v. v)
+operators_split : {ws : List Word} {level next : Level} {i : ℕ} → next_level (sort_at ws i) level ≡ Some next
+    → Splits (behind_one (Operator next)) (MoreOperators next) (MoreOperators level) ws i
+operators_split {ws} {level} {next} {i} e k rs (no_operator f) = absurd (no_level (sort_at ws i) level e f)
+operators_split {ws} {level} {next} {i} e k rs (operator {j = j} {ps = ps} {qs = qs} f v w) =
+    let is = one_level (sort_at ws i) level f e in
+    both (subst (λ (l : Level). Operator l ws (i + 1) j ps) is v) (subst (λ (l : Level). MoreOperators l ws j k qs) is w)
 
-pub level_read : {a b c : Reader} {n : ℕ} {association : Association} → Reads (λ ws i j ps. Levels ws i n j ps) a b
-    → association_of (sort_at b.words.now b.at) ≡ Some association → Reads (λ ws i j ps. OneLevel ws (n + 1) association (i + 1) j ps) b c
-    → Reads (λ ws i j ps. Levels ws i (n + 1) j ps) a c
-level_read {a} {b} {c} {n} {association} r is more =
-    let there : association_of (sort_at a.words.now b.at) ≡ Some association =
-    subst (λ (x : List Word). association_of (sort_at x b.at) ≡ Some association) r.words is in
-    reads_both r more (λ ps qs v w. level v there w)
+pub level_lead : {a b c d : Reader} {level next : Level} → Leads (MoreOperators level) (MoreOperators first_level) a b
+    → next_level (sort_at b.words.now b.at) level ≡ Some next → Bumps b c → Reads (Operator next) c d
+    → Leads (MoreOperators next) (MoreOperators first_level) a d
+level_lead p e bumps r = leads_more p (behind bumps r) (λ k ps qs u v. operator e u v) (operators_split e) (λ j k ps qs v w. same_operator v w)
 
-pub positive : (n : ℕ) → (n ≡ 0 → ⊥) → 0 < n
-positive zero h = absurd (h refl)
-positive (suc n) h = omega arith
-
--- levels begin where one may, and end where none may: there is one
-pub levels_read : {a b : Reader} {n : ℕ} → Reads (λ ws i j ps. Levels ws i n j ps) a b → (n ≡ 0 → b.at ≡ a.at)
-    → IsSome (association_of (sort_at a.words.now a.at)) → association_of (sort_at b.words.now b.at) ≡ None
-    → Reads SomeLevels a b
-levels_read {a} {b} {n} r still begins ends = reads_as r (λ ps v. levels (positive n none) v)
-  where
-    same : n ≡ 0 → association_of (sort_at a.words.now a.at) ≡ None
-    same e = subst (λ (k : ℕ). association_of (sort_at a.words.now k) ≡ None) (still e)
-        (subst (λ (x : List Word). association_of (sort_at x b.at) ≡ None) r.words ends)
-
-    none : n ≡ 0 → ⊥
-    none e = let bad : false ≡ true = subst (λ (o : Option Association). IsSome o) (same e) begins in cc
+-- a level is the one before it, or the next
+pub level_after : (s : Sort) (level : Level) {next : Level} → next_level s level ≡ Some next → next.number ≤ level.number + 1
+level_after s level e = grind arith
 
 -- ---- bodies
 
-pub choice_of : {a b c d : Reader} {start size : ℕ} → Reads (λ ws i j ps. OneArm ws 0 i j ps) a b → Reads MoreArms b c
-    → start ≡ length a.parts.items → size ≡ length c.parts.items - start → Wraps start (parts.Choice size) c d → Reads Body a d
-choice_of {a} {b} {c} {d} first more from sized wraps =
-    let both : Reads (λ ws i j qs. Body ws i j (parts.Choice (length qs) ∷ qs)) a c = reads_both first more (λ ps qs v w. one_of v w) in
-    reads_around (λ n. parts.Choice n) both from sized wraps (λ ps v. v)
+pub body_split : {ws : List Word} {i : ℕ} → Splits (written_as (alternative true) 0) Stop bodies ws i
+body_split k rs (bodies.only_one v n l) = both v stop
+body_split k rs (bodies.one_of (forms.one v) e w l) = both v stop
+body_split k rs (bodies.operators (forms.one v) w e x) = both v stop
 
-pub operators_read : {a b c : Reader} {start : ℕ} → Reads Operands a b → start ≡ length a.parts.items
-    → Operates start b c → Reads Body a c
-operators_read {a} {b} {c} first from o =
-    let both : Reads (λ ws i j qs. Body ws i j (parts.Operators (length qs) ∷ qs)) a o.between = reads_both first o.reads (λ ps qs v w. operators v w) in
-    reads_around (λ n. parts.Operators n) both from refl o.wraps (λ ps v. v)
+no_arms : {ws : List Word} {j k : ℕ} {ps : List Part} (ordered : Bool) → sort_at ws j ≡ bar ordered → IsMissed (written_as (arms true ordered) 0) ws j
+    → forms ws 0 (arms true false) j k ps → is_level (sort_at ws k) ≡ true → ⊥
+no_arms {k = k} {ps = ps} false e m v l = m.no k ps v
+no_arms true e m v l = no_slash e v l
 
--- ---- how far words go
+pub miss_body_arms : {ws : List Word} {i j : ℕ} {ps : List Part} (ordered : Bool) → forms ws 0 (alternative true) i j ps → sort_at ws j ≡ bar ordered
+    → IsMissed (written_as (arms true ordered) 0) ws j → IsMissed bodies ws i
+miss_body_arms {ws} {i} {j} ordered v e m = record { no = no }
+  where
+    no : (k : ℕ) (rs : List Part) → bodies ws i k rs → ⊥
+    no k rs (bodies.only_one w n l) = unlike ws (bar ordered) (same w v) (n ordered) e
+    no k rs (bodies.one_of {j = p} {qs = qs} {ordered = o} (forms.one w) f x l) =
+        let y = subst (λ (b : Bool). forms ws 0 (arms true b) p k qs) (one_bar ws o ordered (same w v) f e) x in
+        m.no k qs (subst (λ (n : ℕ). forms ws 0 (arms true ordered) n k qs) (same w v) y)
+    no k rs (bodies.operators {k = l} {qs = qs} (forms.one w) x f y) =
+        no_arms ordered e m (subst (λ (n : ℕ). forms ws 0 (arms true false) n l qs) (same w v) x) f
 
-pub alternative_goes : {ws : List Word} {floor i j : ℕ} {ps : List Part} → Alternative ws floor i j ps → i ≤ j
-alternative_goes (plain v e) = goes v
-alternative_goes (node v e) = goes v
+-- where operators should come
+pub miss_body_levels : {ws : List Word} {i j k : ℕ} {ps qs : List Part} → forms ws 0 (alternative true) i j ps → forms ws 0 (arms true false) j k qs
+    → is_level (sort_at ws k) ≡ true → IsMissed (MoreOperators first_level) ws k → IsMissed bodies ws i
+miss_body_levels {ws} {i} {j} {k} {ps} {qs} v rest e m = record { no = no }
+  where
+    no : (l : ℕ) (rs : List Part) → bodies ws i l rs → ⊥
+    no l rs (bodies.only_one w n f) = no_operators n f (subst (λ (n : ℕ). forms ws 0 (arms true false) n k qs) (same v w) rest) e
+    no l rs (bodies.one_of {ordered = o} (forms.one w) f x g) =
+        no_choice o f x g (subst (λ (n : ℕ). forms ws 0 (arms true false) n k qs) (same v w) rest) e
+    no l rs (bodies.operators {k = p} {qs = os} {rs = ts} (forms.one w) x f y) =
+        let ends = same (subst (λ (n : ℕ). forms ws 0 (arms true false) n p os) (same w v) x) rest in
+        m.no l ts (subst (λ (n : ℕ). MoreOperators first_level ws n l ts) ends y)
 
-pub arm_goes : {ws : List Word} {floor i j : ℕ} {ps : List Part} → OneArm ws floor i j ps → i ≤ j
-arm_goes (as_arm v) = alternative_goes v
+pub miss_body_ordered : {ws : List Word} {i j k : ℕ} {ps qs : List Part} {ordered : Bool} → ordered ≡ true → forms ws 0 (alternative true) i j ps
+    → sort_at ws j ≡ bar ordered → forms ws 0 (arms true ordered) j k qs → is_level (sort_at ws k) ≡ true → IsMissed bodies ws i
+miss_body_ordered {ws} {i} {j} {k} {ps} {qs} {ordered} is v at_bar arms_of g = record { no = no }
+  where
+    e : sort_at ws j ≡ sorts.Slash
+    e = at_bar ∙ ap bar is
 
-pub operator_goes : {ws : List Word} {level i : ℕ} {association : Association} {j : ℕ} {ps : List Part} → Operator ws level association i j ps → i ≤ j
-operator_goes (prefix n v) = arm_goes v
-operator_goes (tail e v) = let h = goes v in omega (arith, h)
+    rest : forms ws 0 (arms true true) j k qs
+    rest = subst (λ (o : Bool). forms ws 0 (arms true o) j k qs) is arms_of
 
-pub level_goes : {ws : List Word} {level i : ℕ} {association : Association} {j : ℕ} {ps : List Part} → OneLevel ws level association i j ps → i ≤ j
-level_goes (first_operator v) = operator_goes v
-level_goes (next_operator v e w) = let h = level_goes v in let k = operator_goes w in omega (arith, h, k)
+    no : (l : ℕ) (rs : List Part) → bodies ws i l rs → ⊥
+    no l rs (bodies.only_one w n f) = unlike ws sorts.Slash (same w v) (n true) e
+    no l rs (bodies.one_of {j = p} {qs = os} {ordered = o} (forms.one w) f x h) =
+        let y = subst (λ (b : Bool). forms ws 0 (arms true b) p l os) (one_bar ws o true (same w v) f e) x in
+        differ (λ n. is_level (sort_at ws n)) (same rest (subst (λ (n : ℕ). forms ws 0 (arms true true) n l os) (same w v) y)) g h
+    no l rs (bodies.operators {k = n} {qs = os} (forms.one w) x f y) = no_slash e (subst (λ (m : ℕ). forms ws 0 (arms true false) m n os) (same w v) x) f
 
-pub more_arms_go : {ws : List Word} {i j : ℕ} {ps : List Part} → MoreArms ws i j ps → i < j
-more_arms_go (second_arm e v) = let h = arm_goes v in omega (arith, h)
-more_arms_go (further_arm v e w) = let h = more_arms_go v in let k = arm_goes w in omega (arith, h, k)
+pub only_one_read : {a b : Reader} → Reads (written_as (alternative true) 0) a b → IsAfterBars b.words.now b.at → is_level (sort_at b.words.now b.at) ≡ false
+    → Reads bodies a b
+only_one_read {b = b} r bars ends = reads_as r (λ ps v. bodies.only_one v (still_after_bars b.at r.words bars) (told_back is_level b.at r.words ends))
 
-pub nearer : {ws vs : List Word} (i : ℕ) {j : ℕ} → vs ≡ ws → i + 1 ≤ j → is_end (sort_at ws i) ≡ false → length vs - j < length ws - i
-nearer {ws} {vs} i {j} e far is = let h = within ws i is in measured e (omega (arith, far)) h
+-- the arms after the first one, as they stand in all the words
+pub rest_read : {a b c d : Reader} {start : ℕ} {part : Part} {ordered : Bool} → Reads (written_as (alternative true) 0) a b → Wraps start part b c
+    → (r : Reads (written_as (arms true ordered) 0) c d) → forms a.words.now 0 (arms true ordered) b.at d.at r.parts
+rest_read {a} {b} {c} {d} {ordered = ordered} first wraps r =
+    subst (λ (n : ℕ). forms a.words.now 0 (arms true ordered) n d.at r.parts) wraps.at (written_in (wraps.words ∙ first.words) r)
+
+-- no further operand
+pub no_operand_more : {b : Reader} → IsAfterBars b.words.now b.at → Reads (written_as (arms true false) 0) b b
+no_operand_more {b} n = reads_none b (forms.last (n false))
+
+pub one_of_read : {a b c d : Reader} {start size : ℕ} {ordered : Bool} → Reads (written_as (arm true) 0) a b → sort_at b.words.now b.at ≡ bar ordered
+    → Reads (written_as (arms true ordered) 0) b c → is_level (sort_at c.words.now c.at) ≡ false
+    → start ≡ length a.parts.items → size ≡ length c.parts.items - start → Wraps start (parts.Choice size ordered) c d → Reads bodies a d
+one_of_read {a} {b} {c} {ordered = ordered} first there rest ends from sized wraps =
+    let ended = told_back is_level c.at (rest.words ∙ first.words) ends in
+    let joined : Reads (λ ws i j qs. bodies ws i j (parts.Choice (length qs) ordered ∷ qs)) a c =
+    reads_both first rest (λ ps qs v w. bodies.one_of v (sort_back b.at first.words there) w ended) in
+    reads_around (λ n. parts.Choice n ordered) joined from sized wraps (λ ps v. v)
+
+pub operators_read : {a b c d : Reader} {start : ℕ} → Reads (written_as (arm true) 0) a b → Reads (written_as (arms true false) 0) b c
+    → is_level (sort_at c.words.now c.at) ≡ true → start ≡ length a.parts.items → Operates start c d → Reads bodies a d
+operators_read {a} {b} {c} first rest begins from o =
+    let begun = told_back is_level c.at (rest.words ∙ first.words) begins in
+    let operands : Reads (λ ws i k qs. (l : ℕ) (rs : List Part) → MoreOperators first_level ws k l rs → bodies ws i l (parts.Operators (length (qs ++ rs)) ∷ qs ++ rs)) a c
+    = reads_both first rest (λ ps qs v w l rs x. bodies.operators v w begun x) in
+    let joined : Reads (λ ws i j qs. bodies ws i j (parts.Operators (length qs) ∷ qs)) a o.between =
+    reads_both operands o.reads (λ ps qs v w. v o.between.at qs w) in
+    reads_around (λ n. parts.Operators n) joined from refl o.wraps (λ ps v. v)

@@ -1,95 +1,152 @@
 -- What the words of an expression write, from reader to reader.
-use Rattle.std.specs.Prelude.{◌≡◌, ℕ, ◌+◌, ◌-◌, ◌<◌, ◌≤◌, false, Result, Ok, Err, IfOk, OnOk, List, [], ◌∷◌, ◌++◌, length}
+use Rattle.std.specs.Prelude.{◌≡◌, ◌≢◌, ℕ, ◌+◌, ◌-◌, Bool, true, false, List, [], ◌∷◌, ◌++◌, drop, length, Result, ⊤}
 use Rattle.std.proofs.Common.{sym, subst, ap, ◌∙◌, refl, arith}
 use Rattle.rule_parts.specs.declared.Part.{Part}
 use Rattle.rule_parts.specs.declared.Part.TheVariants as parts
 use Rattle.rule_parts.specs.declared.Name.{Name}
+use Rattle.rule_text.specs.declared.error.WordError.{WordError}
 use Rattle.rule_text.specs.declared.reader.Reader.{Reader}
 use Rattle.rule_text.specs.declared.word.Word.{Word}
 use Rattle.rule_text.specs.declared.word.Sort.{Sort}
 use Rattle.rule_text.specs.declared.word.Sort.TheVariants as sorts
-use Rattle.rule_text.specs.Reading.{Adds, Bumps, Marks, Names, One, Reads, Takes, Wraps, behind_one, only, written_as}
+use Rattle.rule_text.specs.Reading.{Adds, Bumps, Decides, Gives, IsMissed, One, Reads, Takes, Wraps, behind_one, of_word, only, written_as}
 use Rattle.rule_text.specs.Reading.One.{one as one_word}
-use Rattle.rule_text.specs.Written.{Form, IsWord, Separated, Written, is_end, sort_at}
-use Rattle.rule_text.specs.Written.Form.{alternatives, arm, atom, item, more_arms, next_arm, sequence}
+use Rattle.rule_text.specs.Written.{Arrow, Form, Greedy, Guarding, IsAfterBars, Kinds, MoreKinds, OneKind, Separated, Written, as_node, bar, begins_item, is_end, is_sign, names_kind, sign_part, sort_at}
+use Rattle.rule_text.specs.Written.Form.{alternative, alternatives, arm, arms, atom, item, items, sequence}
+use Rattle.rule_text.specs.Written.Arrow.{arrow}
+use Rattle.rule_text.specs.Written.Guarding.{guarded}
+use Rattle.rule_text.specs.Written.Kinds.{one_kind, some_kinds}
+use Rattle.rule_text.specs.Written.MoreKinds.{last_kind, next_kind}
+use Rattle.rule_text.specs.Written.OneKind.{kind}
 use Rattle.rule_text.specs.Written.Separated.{by_comma, by_token}
-use Rattle.rule_text.specs.Written.Written.{alone, becomes, call, choice, class, group, list, more, next, none, once, one, operand, optional, or, repeated, second, some, token}
-use Rattle.rule_text.proofs.Reading.{reads_around, reads_as, reads_before, reads_behind, reads_both, longer_by, still_within}
-
--- ---- results
-
-pub on_ok : {T E : Type 0} {P Q : Type 0} (r : Result T E) → (P → Q) → OnOk r P → OnOk r Q
-on_ok (Ok x) f p = f p
-on_ok (Err e) f p = tt
-
-pub if_ok : {T E : Type 0} {P Q : T → Type 0} (r : Result T E) → ((x : T) → P x → Q x) → IfOk r P → IfOk r Q
-if_ok (Ok x) f p = f x p
-if_ok (Err e) f p = tt
+use Rattle.rule_text.specs.Written.{Written as forms}
+use Rattle.rule_text.proofs.Reading.Then.{both}
+use Rattle.rule_text.proofs.Reading.Sole.{sole}
+use Rattle.rule_text.proofs.Reading.Stop.{stop}
+use Rattle.rule_text.proofs.Reading.{Leads, Over, Sole, Splits, Stop, Then, behind, decides_as, drop_all, leads_more, longer_by, over_more, over_one, reads_around, reads_as, reads_before, reads_both, reads_part, reads_with, sort_from, word_from, word_sort}
+use Rattle.rule_text.proofs.Same.{one_bar, same, same_kind, same_separated, unlike}
 
 -- ---- words
 
-pub sort_back : {ws vs : List Word} {i j : ℕ} {sort : Sort} → vs ≡ ws → i ≡ j → sort_at vs i ≡ sort → sort_at ws j ≡ sort
-sort_back {ws} {vs} {i} {j} {sort} e f s = subst (λ (k : ℕ). sort_at ws k ≡ sort) f (subst (λ (x : List Word). sort_at x i ≡ sort) e s)
+pub sort_back : {ws vs : List Word} (i : ℕ) {sort : Sort} → vs ≡ ws → sort_at vs i ≡ sort → sort_at ws i ≡ sort
+sort_back {ws} {vs} i {sort} e s = subst (λ (x : List Word). sort_at x i ≡ sort) e s
 
-pub word_back : {ws vs : List Word} {i j : ℕ} {sort : Sort} {name : Name} → vs ≡ ws → i ≡ j → IsWord vs i sort name → IsWord ws j sort name
-word_back {ws} {vs} {i} {j} {sort} {name} e f w =
-    subst (λ (k : ℕ). IsWord ws k sort name) f (subst (λ (x : List Word). IsWord x i sort name) e w)
+pub sort_not_back : {ws vs : List Word} (i : ℕ) {sort : Sort} → vs ≡ ws → sort_at vs i ≢ sort → sort_at ws i ≢ sort
+sort_not_back {ws} {vs} i {sort} e n s = n (subst (λ (x : List Word). sort_at x i ≡ sort) (sym e) s)
+
+pub still_sort : {ws vs : List Word} {i j : ℕ} {sort : Sort} → ws ≡ vs → j ≡ i → sort_at ws i ≡ sort → sort_at vs j ≡ sort
+still_sort {ws} {vs} {i} {j} {sort} e f s = subst (λ (k : ℕ). sort_at vs k ≡ sort) (sym f) (sort_back i e s)
 
 -- it isn't the end there either
 pub still_there : {ws vs : List Word} {i j : ℕ} → vs ≡ ws → j ≡ i → is_end (sort_at ws i) ≡ false → is_end (sort_at vs j) ≡ false
 still_there {ws} {vs} {i} {j} e f h = subst (λ (k : ℕ). is_end (sort_at vs k) ≡ false) (sym f) (subst (λ (x : List Word). is_end (sort_at x i) ≡ false) (sym e) h)
 
--- ---- separators
+-- ---- single words
 
-pub separated_by : {a b c : Reader} {name : Name} → sort_at a.words.now a.at ≡ sorts.Percent → Bumps a b → Takes sorts.Kind name b c → Names Separated name a c
-separated_by {a} {b} {c} {name} is bumps takes = record {
-  words = takes.bumps.words ∙ bumps.words;
-  parts = takes.bumps.parts ∙ bumps.parts;
-  ends = λ _. takes.bumps.ends;
-  named =
-      let at : a.at + 2 ≡ c.at = omega (arith, bumps.at, takes.bumps.at) in
-      subst (λ (k : ℕ). Separated a.words.now a.at k name) at (by_token is (word_back bumps.words bumps.at takes.word));
+-- something that no words give
+pub gives_none : {X : Type 0} {N : List Word → ℕ → ℕ → X → Type 0} {x : X} (a : Reader) → N a.words.now a.at a.at x → Gives N x a a
+gives_none a n = record { words = refl; parts = refl; ends = λ h. h; given = n }
+
+pub gives_over : {X : Type 0} {N : List Word → ℕ → ℕ → X → Type 0} {x : X} {n : ℕ} {a b : Reader} → Over n a b → N a.words.now a.at (a.at + n) x → Gives N x a b
+gives_over {X} {N} {x} {n} {a} {b} o g = record {
+  words = o.words;
+  parts = o.parts;
+  ends = λ _. o.ends;
+  given = subst (λ (k : ℕ). N a.words.now a.at k x) o.at g;
 }
+
+pub over_taken : {a b c : Reader} {sort : Sort} {name : Name} → Bumps a b → Takes sort name b c → Over 2 a c
+over_taken bumps takes = over_more (over_one bumps) takes.bumps
+
+pub separator_read : {a b c : Reader} {name : Name} → sort_at a.words.now a.at ≡ sorts.Percent → Bumps a b → Takes sorts.Kind name b c → Gives Separated name a c
+separator_read there bumps takes = gives_over (over_taken bumps takes) (by_token there (word_from (over_one bumps) takes.word))
+
+pub no_separator : {ws : List Word} {i : ℕ} → sort_at ws i ≡ sorts.Percent → sort_at ws (i + 1) ≢ sorts.Kind → IsMissed Separated ws i
+no_separator {ws} {i} e n = record { no = no }
+  where
+    no : (j : ℕ) (name : Name) → Separated ws i j name → ⊥
+    no j name (by_comma m c) = m e
+    no j name (by_token f w) = n (word_sort w)
+
+pub guard_read : {a b c d : Reader} {name : Name} → sort_at a.words.now a.at ≡ sorts.At → Bumps a b → Takes sorts.Call name b c
+    → Adds (parts.Guarded name) c d → Reads Guarding a d
+guard_read there bumps takes adds = reads_part (over_taken bumps takes) adds (guarded there (word_from (over_one bumps) takes.word))
+
+pub arrow_read : {a b c d e : Reader} {greater name : Name} → sort_at a.words.now a.at ≡ sorts.Equals → Bumps a b → Takes sorts.Greater greater b c
+    → Takes sorts.Kind name c d → Adds (parts.Becomes name) d e → Reads Arrow a e
+arrow_read there bumps greater takes adds =
+    let two = over_taken bumps greater in
+    reads_part (over_more two takes.bumps) adds (arrow there (sort_from (over_one bumps) greater.sort_is) (word_from two takes.word))
+
+pub kind_read : {a b c : Reader} {name : Name} → Takes sorts.Kind name a b → Adds (parts.Kind name) b c → Reads OneKind a c
+kind_read takes adds = reads_part (over_one takes.bumps) adds (kind takes.word)
+
+-- ---- kinds
+
+pub more_kinds_split : {ws : List Word} {i : ℕ} → sort_at ws i ≡ sorts.Or → Splits (behind_one OneKind) MoreKinds MoreKinds ws i
+more_kinds_split e k rs (last_kind n) = absurd (n e)
+more_kinds_split e k rs (next_kind f v w) = both v w
+
+pub more_kinds_lead : {a b c d : Reader} → Leads MoreKinds MoreKinds a b → sort_at b.words.now b.at ≡ sorts.Or → Bumps b c → Reads OneKind c d
+    → Leads MoreKinds MoreKinds a d
+more_kinds_lead p there bumps r =
+    leads_more p (behind bumps r) (λ k ps qs u v. next_kind there u v) (more_kinds_split there) (λ j k ps qs v w. same_kind v w)
+
+pub kinds_split : {ws : List Word} {i : ℕ} → sort_at ws i ≡ sorts.OpenParen → Splits (behind_one OneKind) (Then MoreKinds (Sole sorts.CloseParen)) Kinds ws i
+kinds_split e k rs (one_kind n v) = absurd (n e)
+kinds_split e k rs (some_kinds f v w g) = both {qs = []} v (both w (sole g))
+
+pub one_kind_split : {ws : List Word} {i : ℕ} → sort_at ws i ≢ sorts.OpenParen → Splits OneKind Stop Kinds ws i
+one_kind_split n k rs (one_kind m v) = both v stop
+one_kind_split n k rs (some_kinds e v w f) = absurd (n e)
+
+pub kinds_read : {a b c d : Reader} {name : Name} → sort_at a.words.now a.at ≡ sorts.OpenParen → Reads (behind_one OneKind) a b → Reads MoreKinds b c
+    → Takes sorts.CloseParen name c d → Reads Kinds a d
+kinds_read {a} {b} {c} there first further close =
+    let r : Reads (λ ws i k ps. sort_at ws k ≡ sorts.CloseParen → Kinds ws i (k + 1) ps) a c = reads_both first further (λ ps qs v w. some_kinds there v w) in
+    reads_before r close.bumps (λ ps v. v (sort_back c.at r.words close.sort_is))
 
 -- ---- atoms
 
-pub becomes_read : {a b c d e : Reader} {equals arrow kind : Name} (floor : ℕ) → Takes sorts.Equals equals a b → Takes sorts.Greater arrow b c
-    → Takes sorts.Kind kind c d → Adds (parts.Becomes kind) d e → Reads (written_as atom floor) a e
-becomes_read {a} {b} {c} {d} {e} {equals} {arrow} {kind} floor first greater named adds =
-    let bumps = first.bumps in
-    let second : c.words.now ≡ a.words.now = greater.bumps.words ∙ bumps.words in
-    let third : d.words.now ≡ a.words.now = named.bumps.words ∙ second in
-    let two : c.at ≡ a.at + 2 = omega (arith, bumps.at, greater.bumps.at) in
-    let three : a.at + 3 ≡ e.at = omega (arith, two, named.bumps.at, adds.at) in
-    let is_added : e.parts.items ≡ a.parts.items ++ parts.Becomes kind ∷ [] = adds.parts
-    ∙ ap (λ (l : List Part). l ++ parts.Becomes kind ∷ []) (named.bumps.parts ∙ (greater.bumps.parts ∙ bumps.parts)) in
-    record {
-      words = adds.words ∙ third;
-      parts = parts.Becomes kind ∷ [];
-      added = is_added;
-      longer = longer_by a.parts.items (parts.Becomes kind ∷ []) e.parts.items is_added;
-      ends = λ _. still_within adds.words adds.at named.bumps.ends;
-      written = subst (λ (k : ℕ). Written a.words.now floor atom a.at k (parts.Becomes kind ∷ [])) three
-          (becomes first.sort_is (sort_back bumps.words bumps.at greater.sort_is) (word_back second two named.word));
-    }
+pub tilde_split : {ws : List Word} {floor i : ℕ} → Splits (behind_one Kinds) Stop (written_as (atom sorts.Tilde) floor) ws i
+tilde_split k rs (forms.is v) = both v stop
 
--- a word that is a part
-pub one_read : {a b : Reader} {part : Part} {form : Form} {floor : ℕ} → Written a.words.now floor form a.at (a.at + 1) (part ∷ [])
-    → Reads (only part) a b → Reads (written_as form floor) a b
-one_read {a} {b} {part} {form} {floor} v r = reads_as r (λ ps o. along o)
+pub arrow_split : {ws : List Word} {floor i : ℕ} → Splits Arrow Stop (written_as (atom sorts.Equals) floor) ws i
+arrow_split k rs (forms.becomes v) = both v stop
+
+pub group_split : {ws : List Word} {floor i : ℕ}
+    → Splits (behind_one (written_as alternatives floor)) (Sole sorts.CloseParen) (written_as (atom sorts.OpenParen) floor) ws i
+group_split k rs (forms.group v e) = both v (sole e)
+
+pub group_read : {a b c : Reader} {name : Name} {floor : ℕ} → Reads (behind_one (written_as alternatives floor)) a b → Takes sorts.CloseParen name b c
+    → Reads (written_as (atom sorts.OpenParen) floor) a c
+group_read {b = b} r close = reads_before r close.bumps (λ ps v. forms.group v (sort_back b.at r.words close.sort_is))
+
+-- after the arguments of a list
+pub data ListEnd (ws : List Word) (i : ℕ) : ℕ → List Part → Type 0 where
+  list_end : {k : ℕ} {separator : Name} → Separated ws i k separator → sort_at ws k ≡ sorts.CloseBrace → ListEnd ws i (k + 1) []
+
+pub list_split : {ws : List Word} {floor i : ℕ}
+    → Splits (behind_one (written_as alternatives floor)) ListEnd (written_as (atom sorts.OpenBrace) floor) ws i
+list_split k rs (forms.list v s e) = both v (list_end s e)
+
+pub miss_separator : {ws : List Word} {i : ℕ} → IsMissed Separated ws i → IsMissed ListEnd ws i
+miss_separator {ws} {i} m = record { no = no }
   where
-    along : {k : ℕ} {ps : List Part} → One part a.at k ps → Written a.words.now floor form a.at k ps
-    along one_word = v
+    no : (k : ℕ) (rs : List Part) → ListEnd ws i k rs → ⊥
+    no _ _ (list_end {k = k} {separator = x} s e) = m.no k x s
 
-pub group_read : {a b c : Reader} {name : Name} {floor : ℕ} → sort_at a.words.now a.at ≡ sorts.OpenParen
-    → Reads (behind_one (written_as alternatives floor)) a b → Takes sorts.CloseParen name b c → Reads (written_as atom floor) a c
-group_read is r takes = reads_before r takes.bumps (λ ps v. group is v (sort_back r.words refl takes.sort_is))
+pub miss_brace : {ws : List Word} {i j : ℕ} {name : Name} → Separated ws i j name → sort_at ws j ≢ sorts.CloseBrace → IsMissed ListEnd ws i
+miss_brace {ws} {i} {j} s n = record { no = no }
+  where
+    no : (k : ℕ) (rs : List Part) → ListEnd ws i k rs → ⊥
+    no _ _ (list_end t e) = n (subst (λ (k : ℕ). sort_at ws k ≡ sorts.CloseBrace) (same_separated t s) e)
 
-pub list_read : {a b c d e : Reader} {close separator : Name} {start size floor : ℕ} → sort_at a.words.now a.at ≡ sorts.OpenBrace
-    → Reads (behind_one (written_as alternatives floor)) a b → Names Separated separator b c → Takes sorts.CloseBrace close c d
+pub list_read : {a b c d e : Reader} {close separator : Name} {start size floor : ℕ}
+    → Reads (behind_one (written_as alternatives floor)) a b → Gives Separated separator b c → Takes sorts.CloseBrace close c d
     → start ≡ length a.parts.items → size ≡ length d.parts.items - start → Wraps start (parts.List size separator) d e
-    → Reads (written_as atom floor) a e
-list_read {a} {b} {c} {d} {e} {close} {separator} {start} {size} {floor} is r separates takes from sized wraps =
+    → Reads (written_as (atom sorts.OpenBrace) floor) a e
+list_read {a} {b} {c} {d} {e} {close} {separator} {start} {size} {floor} r separates takes from sized wraps =
     let words : c.words.now ≡ a.words.now = separates.words ∙ r.words in
     let is_added : d.parts.items ≡ a.parts.items ++ r.parts = takes.bumps.parts ∙ (separates.parts ∙ r.added) in
     let inner : Reads (λ ws i k ps. Written ws floor alternatives (i + 1) b.at ps) a d = record {
@@ -100,70 +157,186 @@ list_read {a} {b} {c} {d} {e} {close} {separator} {start} {size} {floor} is r se
       ends = λ _. takes.bumps.ends;
       written = r.written;
     } in
-    let named : Separated a.words.now b.at c.at separator = subst (λ (x : List Word). Separated x b.at c.at separator) r.words separates.named in
+    let named : Separated a.words.now b.at c.at separator = subst (λ (x : List Word). Separated x b.at c.at separator) r.words separates.given in
     reads_around (λ n. parts.List n separator) inner from sized wraps
-    (λ ps v. subst (λ (m : ℕ). Written a.words.now floor atom a.at m (parts.List (length ps) separator ∷ ps)) (sym takes.bumps.at)
-    (list is v named (sort_back words refl takes.sort_is)))
+    (λ ps v. subst (λ (m : ℕ). Written a.words.now floor (atom sorts.OpenBrace) a.at m (parts.List (length ps) separator ∷ ps)) (sym takes.bumps.at)
+    (forms.list v named (sort_back c.at words takes.sort_is)))
 
--- ---- items, arms and alternatives
+-- a word that is a part
+pub one_read : {a b : Reader} {part : Part} {form : Form} {floor : ℕ} → Written a.words.now floor form a.at (a.at + 1) (part ∷ [])
+    → Reads (only part) a b → Reads (written_as form floor) a b
+one_read {a} {b} {part} {form} {floor} v r = reads_as r (λ ps o. along o)
+  where
+    along : {k : ℕ} {ps : List Part} → One part a.at k ps → Written a.words.now floor form a.at k ps
+    along one_word = v
 
--- an atom, and a sign behind it
-pub marked : {a b c : Reader} {start size floor : ℕ} (part : ℕ → Part) → Reads (written_as atom floor) a b
-    → start ≡ length a.parts.items → size ≡ length b.parts.items - start → Marks start (part size) b c
-    → ((ps : List Part) → Written a.words.now floor atom a.at b.at ps → Written a.words.now floor item a.at (b.at + 1) (part (length ps) ∷ ps))
-    → Reads (written_as item floor) a c
-marked {a} {b} {c} {start} {size} {floor} part r from sized marks f =
-    let wrapped : Reads (λ ws i k ps. Written ws floor item i (k + 1) ps) a marks.between = reads_around part r from sized marks.wraps f in
-    reads_before wrapped marks.bumps (λ ps v. v)
+pub one_as : {a b : Reader} {r : Result ⊤ WordError} {part : Part} {form : Form} {floor : ℕ} → Written a.words.now floor form a.at (a.at + 1) (part ∷ [])
+    → Decides (only part) a b r → Decides (written_as form floor) a b r
+one_as {a} {part = part} v d = decides_as d (λ r. one_read v r) (λ m. absurd (m.no (a.at + 1) (part ∷ []) one_word))
 
-pub arm_read : {a b c : Reader} {start size floor : ℕ} → Reads (written_as sequence floor) a b
-    → start ≡ length a.parts.items → size ≡ length b.parts.items - start → Wraps start (parts.Arm size) b c → Reads (written_as arm floor) a c
-arm_read r from sized wraps = reads_around (λ n. parts.Arm n) r from sized wraps (λ ps v. one v)
+-- an atom that begins with a word of this sort
+pub atom_decided : {a b : Reader} {r : Result ⊤ WordError} {sort : Sort} {floor : ℕ} → sort_at a.words.now a.at ≡ sort
+    → Decides (written_as (atom sort) floor) a b r → Decides (of_word floor) a b r
+atom_decided {a} {b} {sort = sort} {floor = floor} there d =
+    decides_as d (λ r. reads_as r (λ ps v. subst (λ (s : Sort). Written a.words.now floor (atom s) a.at b.at ps) (sym there) v))
+    (λ m. record { no = λ k ps v. m.no k ps (subst (λ (s : Sort). Written a.words.now floor (atom s) a.at k ps) there v) })
 
-pub next_arm_read : {a b c d : Reader} {start size floor : ℕ} → sort_at a.words.now a.at ≡ sorts.Or → Bumps a b → Reads (written_as sequence floor) b c
-    → start ≡ length b.parts.items → size ≡ length c.parts.items - start → Wraps start (parts.Arm size) c d → Reads (written_as next_arm floor) a d
-next_arm_read is bumps r from sized wraps = reads_behind bumps (arm_read r from sized wraps) (λ ps v. or is v)
+pub no_atom : {ws : List Word} {floor i k : ℕ} {s : Sort} {ps : List Part} → s ≢ sorts.Kind → s ≢ sorts.Class → s ≢ sorts.Call → s ≢ sorts.Operand
+    → s ≢ sorts.Equals → s ≢ sorts.Tilde → s ≢ sorts.OpenParen → s ≢ sorts.OpenBrace → Written ws floor (atom s) i k ps → ⊥
+no_atom n1 n2 n3 n4 n5 n6 n7 n8 (forms.token w) = n1 refl
+no_atom n1 n2 n3 n4 n5 n6 n7 n8 (forms.class w) = n2 refl
+no_atom n1 n2 n3 n4 n5 n6 n7 n8 (forms.call w) = n3 refl
+no_atom n1 n2 n3 n4 n5 n6 n7 n8 (forms.operand h) = n4 refl
+no_atom n1 n2 n3 n4 n5 n6 n7 n8 (forms.becomes v) = n5 refl
+no_atom n1 n2 n3 n4 n5 n6 n7 n8 (forms.is v) = n6 refl
+no_atom n1 n2 n3 n4 n5 n6 n7 n8 (forms.group v e) = n7 refl
+no_atom n1 n2 n3 n4 n5 n6 n7 n8 (forms.list v s e) = n8 refl
 
-pub choice_read : {a b c d : Reader} {start size floor : ℕ} → Reads (written_as arm floor) a b → Reads (written_as more_arms floor) b c
-    → start ≡ length a.parts.items → size ≡ length c.parts.items - start → Wraps start (parts.Choice size) c d → Reads (written_as alternatives floor) a d
-choice_read {a} {b} {c} {d} {start} {size} {floor} first rest from sized wraps =
-    let both : Reads (λ ws i k qs. Written ws floor alternatives i k (parts.Choice (length qs) ∷ qs)) a c =
-    reads_both first rest (λ ps qs v w. choice v w) in
-    reads_around (λ n. parts.Choice n) both from sized wraps (λ ps v. v)
+no_operand_of : {ws : List Word} {floor i k : ℕ} {ps : List Part} → floor ≡ 0 → Written ws floor (atom sorts.Operand) i k ps → ⊥
+no_operand_of h (forms.operand p) = omega (arith, h, p)
 
--- ---- how far words go
+pub no_operand : {ws : List Word} {floor i : ℕ} → floor ≡ 0 → IsMissed (written_as (atom sorts.Operand) floor) ws i
+no_operand h = record { no = λ k ps v. no_operand_of h v }
 
-abbrev pub Goes : Form → ℕ → ℕ → Type 0
-Goes atom i j = i < j
-Goes item i j = i < j
-Goes next_arm i j = i < j
-Goes form i j = i ≤ j
+-- ---- items
 
-pub separator_goes : {ws : List Word} {i j : ℕ} {name : Name} → Separated ws i j name → i ≤ j
-separator_goes (by_comma is) = omega arith
-separator_goes (by_token is word) = omega arith
+pub item_split : {ws : List Word} {floor i : ℕ} → Splits (of_word floor) Stop (written_as item floor) ws i
+item_split k rs (forms.once v e) = both v stop
+item_split k rs (forms.signed v e g) = both v stop
 
-pub goes : {ws : List Word} {floor i j : ℕ} {form : Form} {ps : List Part} → Written ws floor form i j ps → Goes form i j
-goes (token w) = omega arith
-goes (class w) = omega arith
-goes (call w) = omega arith
-goes (operand e _) = omega arith
-goes (becomes e f w) = omega arith
-goes (group e v f) = let h = goes v in omega (arith, h)
-goes (list e v s f) = let h = goes v in let k = separator_goes s in omega (arith, h, k)
-goes (once v) = goes v
-goes (optional v e) = let h = goes v in omega (arith, h)
-goes (repeated v e) = let h = goes v in omega (arith, h)
-goes (some v e) = let h = goes v in omega (arith, h)
-goes none = omega arith
-goes (more v w) = let h = goes v in let k = goes w in omega (arith, h, k)
-goes (one v) = goes v
-goes (or e v) = let h = goes v in omega (arith, h)
-goes (second v) = let h = goes v in omega (arith, h)
-goes (next v w) = let h = goes v in let k = goes w in omega (arith, h, k)
-goes (alone v) = goes v
-goes (choice v w) = let h = goes v in let k = goes w in omega (arith, h, k)
+pub signed_read : {a b c d e : Reader} {start size floor : ℕ} {sign : Sort} {greedy : Bool} → Reads (of_word floor) a b → sort_at b.words.now b.at ≡ sign
+    → is_sign sign ≡ true → Bumps b c → Gives Greedy greedy c d → start ≡ length a.parts.items → size ≡ length b.parts.items - start
+    → Wraps start (sign_part sign size greedy) d e → Reads (written_as item floor) a e
+signed_read {a} {b} {c} {d} {e} {start} {size} {floor} {sign} {greedy} r there marks bumps g from sized wraps =
+    let words : c.words.now ≡ a.words.now = bumps.words ∙ r.words in
+    let same_parts : d.parts.items ≡ b.parts.items = g.parts ∙ bumps.parts in
+    let at_sign : sort_at a.words.now b.at ≡ sign = sort_back b.at r.words there in
+    let given : Greedy a.words.now (b.at + 1) d.at greedy = subst (λ (n : ℕ). Greedy a.words.now n d.at greedy) bumps.at
+    (subst (λ (x : List Word). Greedy x c.at d.at greedy) words g.given) in
+    let inner : Reads (λ ws i k ps. Written ws floor item i k (sign_part sign (length ps) greedy ∷ ps)) a d = record {
+      words = g.words ∙ words;
+      parts = r.parts;
+      added = same_parts ∙ r.added;
+      longer = longer_by a.parts.items r.parts d.parts.items (same_parts ∙ r.added);
+      ends = λ _. g.ends bumps.ends;
+      written = subst (λ (s : Sort). Written a.words.now floor item a.at d.at (sign_part s (length r.parts) greedy ∷ r.parts)) at_sign
+          (forms.signed r.written (ap is_sign at_sign ∙ marks) given);
+    } in
+    reads_around (λ n. sign_part sign n greedy) inner from (sized ∙ ap (λ (l : List Part). length l - start) (sym same_parts)) wraps (λ ps v. v)
 
--- what is left of the words
-pub measured : {ws vs : List Word} {i j : ℕ} → vs ≡ ws → i < j → i < length ws → length vs - j < length ws - i
-measured e at within = omega (arith, ap length e)
+pub items_split : {ws : List Word} {floor i : ℕ} → begins_item (sort_at ws i) ≡ true → Splits (written_as item floor) (written_as items floor) (written_as items floor) ws i
+items_split b k rs (forms.none e) = cc
+items_split b k rs (forms.more v w) = both v w
+
+pub items_lead : {a b c : Reader} {floor : ℕ} → Leads (written_as items floor) (written_as items floor) a b → begins_item (sort_at b.words.now b.at) ≡ true
+    → Reads (written_as item floor) b c → Leads (written_as items floor) (written_as items floor) a c
+items_lead p begins r = leads_more p r (λ k ps qs u v. forms.more u v) (items_split begins) (λ j k ps qs v w. same v w)
+
+pub sequence_split : {ws : List Word} {floor i : ℕ} → Splits Guarding (written_as items floor) (written_as sequence floor) ws i
+sequence_split k rs (forms.sequenced g v) = both g v
+
+-- ---- alternatives
+
+unnoded : (of_rule : Bool) → of_rule ≡ false → (ps : List Part) → as_node of_rule ps ≡ ps
+unnoded true e ps = cc
+unnoded false e ps = refl
+
+unnamed : (of_rule : Bool) (ps : List Part) → names_kind ps ≡ false → as_node of_rule ps ≡ ps
+unnamed true ps e = rw e refl
+unnamed false ps e = refl
+
+noded : (of_rule : Bool) → of_rule ≡ true → (ps : List Part) → names_kind ps ≡ true → as_node of_rule ps ≡ parts.Node (length ps) ∷ ps
+noded true f ps e = rw e refl
+noded false f ps e = cc
+
+named : (xs ys : List Part) {zs : List Part} {start : ℕ} {flag v : Bool} → zs ≡ xs ++ ys → start ≡ length xs → flag ≡ names_kind (drop start zs) → flag ≡ v
+    → names_kind ys ≡ v
+named xs ys {zs} {start} {flag} {v} e from told is =
+    let rest : drop start zs ≡ ys = ap (λ (n : ℕ). drop n zs) from ∙ (ap (λ (l : List Part). drop (length xs) l) e ∙ drop_all xs ys) in
+    sym (ap names_kind rest) ∙ (sym told ∙ is)
+
+pub group_read_as : {a b : Reader} {floor : ℕ} {of_rule : Bool} → Reads (written_as sequence floor) a b → of_rule ≡ false
+    → Reads (written_as (alternative of_rule) floor) a b
+group_read_as {a} {b} {floor} {of_rule} r e =
+    reads_as r (λ ps v. subst (λ (l : List Part). Written a.words.now floor (alternative of_rule) a.at b.at l) (unnoded of_rule e ps) (forms.all v))
+
+pub plain_read : {a b : Reader} {start floor : ℕ} {of_rule flag : Bool} → Reads (written_as sequence floor) a b → start ≡ length a.parts.items
+    → flag ≡ names_kind (drop start b.parts.items) → flag ≡ false → Reads (written_as (alternative of_rule) floor) a b
+plain_read {a} {b} {start} {floor} {of_rule} r from told is =
+    reads_as (reads_with (λ ps. names_kind ps ≡ false) r (named a.parts.items r.parts r.added from told is))
+    (λ ps v. subst (λ (l : List Part). Written a.words.now floor (alternative of_rule) a.at b.at l) (unnamed of_rule ps v.1) (forms.all v.0))
+
+pub node_read : {a b c : Reader} {start size floor : ℕ} {of_rule flag : Bool} → Reads (written_as sequence floor) a b → start ≡ length a.parts.items
+    → of_rule ≡ true → flag ≡ names_kind (drop start b.parts.items) → flag ≡ true → size ≡ length b.parts.items - start
+    → Wraps start (parts.Node size) b c → Reads (written_as (alternative of_rule) floor) a c
+node_read {a} {b} {c} {start} {size} {floor} {of_rule} r from rules told is sized wraps =
+    reads_around (λ n. parts.Node n) (reads_with (λ ps. names_kind ps ≡ true) r (named a.parts.items r.parts r.added from told is)) from sized wraps
+    (λ ps v. subst (λ (l : List Part). Written a.words.now floor (alternative of_rule) a.at b.at l) (noded of_rule rules ps v.1) (forms.all v.0))
+
+pub arm_read : {a b c : Reader} {start size floor : ℕ} {of_rule : Bool} → Reads (written_as (alternative of_rule) floor) a b
+    → start ≡ length a.parts.items → size ≡ length b.parts.items - start → Wraps start (parts.Arm size) b c → Reads (written_as (arm of_rule) floor) a c
+arm_read r from sized wraps = reads_around (λ n. parts.Arm n) r from sized wraps (λ ps v. forms.one v)
+
+pub choice_read : {a b c d : Reader} {start size floor : ℕ} {ordered : Bool} → Reads (written_as (arm false) floor) a b
+    → sort_at b.words.now b.at ≡ bar ordered → Reads (written_as (arms false ordered) floor) b c
+    → start ≡ length a.parts.items → size ≡ length c.parts.items - start → Wraps start (parts.Choice size ordered) c d
+    → Reads (written_as alternatives floor) a d
+choice_read {a} {b} {c} {d} {start} {size} {floor} {ordered} first there rest from sized wraps =
+    let joined : Reads (λ ws i k qs. Written ws floor alternatives i k (parts.Choice (length qs) ordered ∷ qs)) a c =
+    reads_both first rest (λ ps qs v w. forms.choice v (sort_back b.at first.words there) w) in
+    reads_around (λ n. parts.Choice n ordered) joined from sized wraps (λ ps v. v)
+
+pub still_after_bars : {ws vs : List Word} (i : ℕ) → vs ≡ ws → IsAfterBars vs i → IsAfterBars ws i
+still_after_bars i e n ordered = sort_not_back i e (n ordered)
+
+pub after_bars_at : {ws vs : List Word} {i j : ℕ} → ws ≡ vs → j ≡ i → IsAfterBars ws i → IsAfterBars vs j
+after_bars_at {ws} {vs} {i} {j} e f n = subst (λ (k : ℕ). IsAfterBars vs k) (sym f) (still_after_bars i e n)
+
+pub no_bar : {s : Sort} → s ≢ sorts.Or → s ≢ sorts.Slash → (ordered : Bool) → s ≢ bar ordered
+no_bar n m false e = n e
+no_bar n m true e = m e
+
+-- what is told of a word, where the words are others
+pub told_back : {ws vs : List Word} (P : Sort → Bool) (i : ℕ) {v : Bool} → vs ≡ ws → P (sort_at vs i) ≡ v → P (sort_at ws i) ≡ v
+told_back {ws} {vs} P i {v} e h = subst (λ (x : List Word). P (sort_at x i) ≡ v) e h
+
+pub told_at : {ws vs : List Word} {i j : ℕ} (P : Sort → Bool) {v : Bool} → ws ≡ vs → j ≡ i → P (sort_at ws i) ≡ v → P (sort_at vs j) ≡ v
+told_at {ws} {vs} {i} {j} P {v} e f h = subst (λ (k : ℕ). P (sort_at vs k) ≡ v) (sym f) (told_back P i e h)
+
+pub alternative_split : {ws : List Word} {floor i : ℕ} {of_rule : Bool} → Splits (written_as sequence floor) Stop (written_as (alternative of_rule) floor) ws i
+alternative_split k rs (forms.all v) = both v stop
+
+pub arm_split : {ws : List Word} {floor i : ℕ} {of_rule : Bool} → Splits (written_as (alternative of_rule) floor) Stop (written_as (arm of_rule) floor) ws i
+arm_split k rs (forms.one v) = both v stop
+
+pub arms_split : {ws : List Word} {floor i : ℕ} {of_rule ordered : Bool} → sort_at ws i ≡ bar ordered
+    → Splits (behind_one (written_as (arm of_rule) floor)) (written_as (arms of_rule ordered) floor) (written_as (arms of_rule ordered) floor) ws i
+arms_split e k rs (forms.last n) = absurd (n e)
+arms_split e k rs (forms.next f v w) = both v w
+
+pub arms_lead : {a b c d : Reader} {floor : ℕ} {of_rule ordered : Bool}
+    → Leads (written_as (arms of_rule ordered) floor) (written_as (arms of_rule ordered) floor) a b → sort_at b.words.now b.at ≡ bar ordered → Bumps b c
+    → Reads (written_as (arm of_rule) floor) c d → Leads (written_as (arms of_rule ordered) floor) (written_as (arms of_rule ordered) floor) a d
+arms_lead p there bumps r = leads_more p (behind bumps r) (λ k ps qs u v. forms.next there u v) (arms_split there) (λ j k ps qs v w. same v w)
+
+pub alternatives_split : {ws : List Word} {floor i : ℕ} → Splits (written_as (alternative false) floor) Stop (written_as alternatives floor) ws i
+alternatives_split k rs (forms.alone v e) = both v stop
+alternatives_split k rs (forms.choice (forms.one v) e w) = both v stop
+
+pub miss_arms : {ws : List Word} {floor i j : ℕ} {ps : List Part} (ordered : Bool) → Written ws floor (alternative false) i j ps → sort_at ws j ≡ bar ordered
+    → IsMissed (written_as (arms false ordered) floor) ws j → IsMissed (written_as alternatives floor) ws i
+miss_arms {ws} {floor} {i} {j} ordered v e m = record { no = no }
+  where
+    no : (k : ℕ) (rs : List Part) → Written ws floor alternatives i k rs → ⊥
+    no k rs (forms.alone w f) = absurd (unlike ws (bar ordered) (same w v) (f ordered) e)
+    no k rs (forms.choice {j = l} {qs = qs} {ordered = o} (forms.one w) f x) =
+        let is = one_bar ws o ordered (same w v) f e in
+        m.no k qs (subst (λ (b : Bool). Written ws floor (arms false b) j k qs) is (subst (λ (n : ℕ). Written ws floor (arms false o) n k qs) (same w v) x))
+
+-- ---- words that aren't the end
+
+pub item_is : (s : Sort) → begins_item s ≡ true → is_end s ≡ false
+item_is s e = grind arith
+
+pub sign_is : (s : Sort) {t : Sort} → s ≡ t → is_sign t ≡ true → is_end s ≡ false
+sign_is s e f = grind arith

@@ -1,5 +1,5 @@
 -- The words of a text: its raw tokens but white space and comments.
-use Rattle.std.specs.Prelude.{◌≡◌, ℕ, ◌+◌, ◌-◌, ◌≤◌, ◌==◌, ◌||◌, Bool, true, false, Some, List, [], ◌∷◌, ◌++◌, length, get_or, ◌&&◌, slice_get, slice_range, if◌then◌else◌, IsCharBoundary, bytes_eq, codes}
+use Rattle.std.specs.Prelude.{◌≡◌, ℕ, ◌+◌, ◌-◌, ◌≤◌, ◌==◌, ◌||◌, Bool, true, false, Some, List, [], ◌∷◌, ◌++◌, length, get_or, slice_get, slice_range, if◌then◌else◌, IsCharBoundary, bytes_eq, codes}
 use Rattle.std.specs.Char.{is_ascii_lowercase}
 use Rattle.std.specs.List.{list_any}
 use Rattle.squawk_tokens.specs.AcceptedTokens.{start_of}
@@ -27,9 +27,13 @@ case_of name =
     if is_ascii_lowercase (get_or name 0 0) then sorts.Call else if list_any is_ascii_lowercase name then sorts.Class else sorts.Kind
 
 -- the same in front of a line, where the name of a rule begins the rule
-abbrev pub first_sort : Sort → Sort
-first_sort sorts.Call = sorts.Rule
-first_sort sort = sort
+abbrev pub first_sort : List ℕ → Sort
+first_sort name =
+    if bytes_eq name (codes "class") then sorts.ClassOf
+    else if bytes_eq name (codes "words") then sorts.WordsOf
+    else if bytes_eq name (codes "guard") then sorts.GuardOf
+    else if is_ascii_lowercase (get_or name 0 0) then sorts.Rule
+    else case_of name
 
 -- what a name is, and whether it is in front of a line
 abbrev pub name_sort : List ℕ → Bool → Sort
@@ -38,8 +42,7 @@ name_sort name first =
     else if bytes_eq name (codes "left") then sorts.Left
     else if bytes_eq name (codes "right") then sorts.Right
     else if bytes_eq name (codes "none") then sorts.Neither
-    else if bytes_eq name (codes "class") && first then sorts.ClassOf
-    else if first then first_sort (case_of name)
+    else if first then first_sort name
     else case_of name
 
 -- what a token is
@@ -50,6 +53,9 @@ sort_of (kinds.Literal (Str true)) text first = sorts.Kind
 sort_of kinds.Eq text first = sorts.Equals
 sort_of kinds.Gt text first = sorts.Greater
 sort_of kinds.Or text first = sorts.Or
+sort_of kinds.Slash text first = sorts.Slash
+sort_of kinds.At text first = sorts.At
+sort_of kinds.Tilde text first = sorts.Tilde
 sort_of kinds.Question text first = sorts.Question
 sort_of kinds.Star text first = sorts.Star
 sort_of kinds.Plus text first = sorts.Plus

@@ -1,7 +1,8 @@
--- How what stands on the right of `=` is written: which words give which parts.
-use Rattle.std.specs.Prelude.{◌≡◌, ℕ, ◌+◌, ◌<◌, Bool, true, false, Option, Some, None, List, [], ◌∷◌, ◌++◌, length, slice_get}
+-- How what stands on the right of `=` is written: which words give which parts. The next word decides what is written.
+use Rattle.std.specs.Prelude.{◌≡◌, ◌≢◌, ℕ, ◌+◌, ◌<◌, Bool, true, false, if◌then◌else◌, Option, Some, None, List, [], ◌∷◌, ◌++◌, length, slice_get}
+use Rattle.std.specs.List.{list_any}
 use Rattle.rule_parts.specs.declared.Part.{Part}
-use Rattle.rule_parts.specs.declared.Part.TheVariants.{Token, Class, Call, Becomes, Choice, Arm, Optional, Repeat, Some as Once, List as Items, Operand}
+use Rattle.rule_parts.specs.declared.Part.TheVariants.{Token, Class, Call, Node, Becomes, Guarded, Is, Kind, Choice, Arm, Optional, Repeat, Some as Once, List as Items, Operand}
 use Rattle.rule_parts.specs.declared.Name.{Name}
 use Rattle.rule_text.specs.declared.word.Word.{Word}
 use Rattle.rule_text.specs.declared.word.Sort.{Sort}
@@ -28,51 +29,133 @@ pub record IsComma (name : Name) : Type 0 where
   pub text : name.text.now ≡ 44 ∷ []
   pub at : name.at ≡ 0
 
+-- ---- which words decide
+
+-- those that begin an atom
+abbrev pub begins_item : Sort → Bool
+begins_item sorts.Kind = true
+begins_item sorts.Class = true
+begins_item sorts.Call = true
+begins_item sorts.Operand = true
+begins_item sorts.Equals = true
+begins_item sorts.Tilde = true
+begins_item sorts.OpenParen = true
+begins_item sorts.OpenBrace = true
+begins_item sort = false
+
+-- the signs after an atom, and the parts that they put in front of so many; the third one is +
+abbrev pub is_sign : Sort → Bool
+is_sign sorts.Question = true
+is_sign sorts.Star = true
+is_sign sorts.Plus = true
+is_sign sort = false
+
+abbrev pub sign_part : Sort → ℕ → Bool → Part
+sign_part sorts.Question size greedy = Optional size greedy
+sign_part sorts.Star size greedy = Repeat size greedy
+sign_part sort size greedy = Once size greedy
+
+-- what separates alternatives: / where they are ordered
+abbrev pub bar : Bool → Sort
+bar false = sorts.Or
+bar true = sorts.Slash
+
+-- alternatives end there: no bar stands there
+abbrev pub IsAfterBars : List Word → ℕ → Type 0
+IsAfterBars ws i = (ordered : Bool) → sort_at ws i ≢ bar ordered
+
+-- ---- what they write
+
+-- whether the kind of a node is named among some parts
+abbrev pub becomes_kind : Part → Bool
+becomes_kind (Becomes name) = true
+becomes_kind part = false
+
+abbrev pub names_kind : List Part → Bool
+names_kind ps = list_any becomes_kind ps
+
+-- an alternative: of a rule it is a node, if the kind of one is named in it
+abbrev pub as_node : Bool → List Part → List Part
+as_node true ps = if names_kind ps then Node (length ps) ∷ ps else ps
+as_node false ps = ps
+
 -- what some words may be
 pub data Form : Type 0 where
-  -- a word or a group, and how often it may stand
-  atom : Form
+  -- a word or a group that begins with a word of this sort; the same, and how often it may stand; these, one after another
+  atom : Sort → Form
   item : Form
-  -- items one after another; the same as an arm; an arm after |; one or more of these
+  items : Form
+  -- a guard and items; an alternative: of a rule, or of a group; the same as an arm; further arms, each after |, or after / if ordered
   sequence : Form
-  arm : Form
-  next_arm : Form
-  more_arms : Form
+  alternative : Bool → Form
+  arm : Bool → Form
+  arms : Bool → Bool → Form
   -- all that stands in a group
   alternatives : Form
 
 -- after the arguments of a list: the separator of its items
 pub data Separated (ws : List Word) (i : ℕ) : ℕ → Name → Type 0 where
-  by_comma : {comma : Name} → IsComma comma → Separated ws i i comma
+  by_comma : {comma : Name} → sort_at ws i ≢ sorts.Percent → IsComma comma → Separated ws i i comma
   -- % ';'
   by_token : {name : Name} → sort_at ws i ≡ sorts.Percent → IsWord ws (i + 1) sorts.Kind name → Separated ws i (i + 2) name
 
+-- after a sign: whether it is greedy
+pub data Greedy (ws : List Word) (i : ℕ) : ℕ → Bool → Type 0 where
+  greedy : sort_at ws i ≡ sorts.Plus → Greedy ws i (i + 1) true
+  not_greedy : sort_at ws i ≢ sorts.Plus → Greedy ws i i false
+
+-- => KIND
+pub data Arrow (ws : List Word) (i : ℕ) : ℕ → List Part → Type 0 where
+  arrow : {name : Name} → sort_at ws i ≡ sorts.Equals → sort_at ws (i + 1) ≡ sorts.Greater → IsWord ws (i + 2) sorts.Kind name
+      → Arrow ws i (i + 3) (Becomes name ∷ [])
+
+-- @name, or nothing
+pub data Guarding (ws : List Word) (i : ℕ) : ℕ → List Part → Type 0 where
+  unguarded : sort_at ws i ≢ sorts.At → Guarding ws i i []
+  guarded : {name : Name} → sort_at ws i ≡ sorts.At → IsWord ws (i + 1) sorts.Call name → Guarding ws i (i + 2) (Guarded name ∷ [])
+
+-- a kind of node; further ones, each after |
+pub data OneKind (ws : List Word) (i : ℕ) : ℕ → List Part → Type 0 where
+  kind : {name : Name} → IsWord ws i sorts.Kind name → OneKind ws i (i + 1) (Kind name ∷ [])
+
+pub data MoreKinds (ws : List Word) : ℕ → ℕ → List Part → Type 0 where
+  last_kind : {i : ℕ} → sort_at ws i ≢ sorts.Or → MoreKinds ws i i []
+  next_kind : {i j k : ℕ} {ps qs : List Part} → sort_at ws i ≡ sorts.Or → OneKind ws (i + 1) j ps → MoreKinds ws j k qs → MoreKinds ws i k (ps ++ qs)
+
+-- after ~: one kind, or some in parentheses
+pub data Kinds (ws : List Word) (i : ℕ) : ℕ → List Part → Type 0 where
+  one_kind : {j : ℕ} {ps : List Part} → sort_at ws i ≢ sorts.OpenParen → OneKind ws i j ps → Kinds ws i j ps
+  some_kinds : {j k : ℕ} {ps qs : List Part} → sort_at ws i ≡ sorts.OpenParen → OneKind ws (i + 1) j ps → MoreKinds ws j k qs
+      → sort_at ws k ≡ sorts.CloseParen → Kinds ws i (k + 1) (ps ++ qs)
+
 -- The words from one up to another write these parts. Operands in them have the floor.
 pub data Written (ws : List Word) (floor : ℕ) : Form → ℕ → ℕ → List Part → Type 0 where
-  token : {i : ℕ} {name : Name} → IsWord ws i sorts.Kind name → Written ws floor atom i (i + 1) (Token name ∷ [])
-  class : {i : ℕ} {name : Name} → IsWord ws i sorts.Class name → Written ws floor atom i (i + 1) (Class name ∷ [])
-  call : {i : ℕ} {name : Name} → IsWord ws i sorts.Call name → Written ws floor atom i (i + 1) (Call name ∷ [])
+  token : {i : ℕ} {name : Name} → IsWord ws i sorts.Kind name → Written ws floor (atom sorts.Kind) i (i + 1) (Token name ∷ [])
+  class : {i : ℕ} {name : Name} → IsWord ws i sorts.Class name → Written ws floor (atom sorts.Class) i (i + 1) (Class name ∷ [])
+  call : {i : ℕ} {name : Name} → IsWord ws i sorts.Call name → Written ws floor (atom sorts.Call) i (i + 1) (Call name ∷ [])
   -- in operators alone, whose levels begin at 1
-  operand : {i : ℕ} → sort_at ws i ≡ sorts.Operand → 0 < floor → Written ws floor atom i (i + 1) (Operand floor ∷ [])
-  -- => KIND
-  becomes : {i : ℕ} {name : Name} → sort_at ws i ≡ sorts.Equals → sort_at ws (i + 1) ≡ sorts.Greater → IsWord ws (i + 2) sorts.Kind name
-      → Written ws floor atom i (i + 3) (Becomes name ∷ [])
+  operand : {i : ℕ} → 0 < floor → Written ws floor (atom sorts.Operand) i (i + 1) (Operand floor ∷ [])
+  becomes : {i j : ℕ} {ps : List Part} → Arrow ws i j ps → Written ws floor (atom sorts.Equals) i j ps
+  -- ~KIND or ~( .. )
+  is : {i j : ℕ} {ps : List Part} → Kinds ws (i + 1) j ps → Written ws floor (atom sorts.Tilde) i j (Is (length ps) ∷ ps)
   -- ( .. )
-  group : {i j : ℕ} {ps : List Part} → sort_at ws i ≡ sorts.OpenParen → Written ws floor alternatives (i + 1) j ps → sort_at ws j ≡ sorts.CloseParen
-      → Written ws floor atom i (j + 1) ps
+  group : {i j : ℕ} {ps : List Part} → Written ws floor alternatives (i + 1) j ps → sort_at ws j ≡ sorts.CloseParen
+      → Written ws floor (atom sorts.OpenParen) i (j + 1) ps
   -- { .. } or { .. % ';' }
-  list : {i j k : ℕ} {ps : List Part} {separator : Name} → sort_at ws i ≡ sorts.OpenBrace → Written ws floor alternatives (i + 1) j ps
-      → Separated ws j k separator → sort_at ws k ≡ sorts.CloseBrace → Written ws floor atom i (k + 1) (Items (length ps) separator ∷ ps)
-  once : {i j : ℕ} {ps : List Part} → Written ws floor atom i j ps → Written ws floor item i j ps
-  optional : {i j : ℕ} {ps : List Part} → Written ws floor atom i j ps → sort_at ws j ≡ sorts.Question → Written ws floor item i (j + 1) (Optional (length ps) false ∷ ps)
-  repeated : {i j : ℕ} {ps : List Part} → Written ws floor atom i j ps → sort_at ws j ≡ sorts.Star → Written ws floor item i (j + 1) (Repeat (length ps) false ∷ ps)
-  some : {i j : ℕ} {ps : List Part} → Written ws floor atom i j ps → sort_at ws j ≡ sorts.Plus → Written ws floor item i (j + 1) (Once (length ps) false ∷ ps)
-  none : {i : ℕ} → Written ws floor sequence i i []
-  more : {i j k : ℕ} {ps qs : List Part} → Written ws floor sequence i j ps → Written ws floor item j k qs → Written ws floor sequence i k (ps ++ qs)
-  one : {i j : ℕ} {ps : List Part} → Written ws floor sequence i j ps → Written ws floor arm i j (Arm (length ps) ∷ ps)
-  or : {i j : ℕ} {ps : List Part} → sort_at ws i ≡ sorts.Or → Written ws floor arm (i + 1) j ps → Written ws floor next_arm i j ps
-  second : {i j : ℕ} {ps : List Part} → Written ws floor next_arm i j ps → Written ws floor more_arms i j ps
-  next : {i j k : ℕ} {ps qs : List Part} → Written ws floor more_arms i j ps → Written ws floor next_arm j k qs → Written ws floor more_arms i k (ps ++ qs)
-  alone : {i j : ℕ} {ps : List Part} → Written ws floor sequence i j ps → Written ws floor alternatives i j ps
-  choice : {i j k : ℕ} {ps qs : List Part} → Written ws floor arm i j ps → Written ws floor more_arms j k qs
-      → Written ws floor alternatives i k (Choice (length (ps ++ qs)) false ∷ ps ++ qs)
+  list : {i j k : ℕ} {ps : List Part} {separator : Name} → Written ws floor alternatives (i + 1) j ps → Separated ws j k separator
+      → sort_at ws k ≡ sorts.CloseBrace → Written ws floor (atom sorts.OpenBrace) i (k + 1) (Items (length ps) separator ∷ ps)
+  once : {i j : ℕ} {ps : List Part} → Written ws floor (atom (sort_at ws i)) i j ps → is_sign (sort_at ws j) ≡ false → Written ws floor item i j ps
+  signed : {i j k : ℕ} {ps : List Part} {greedy : Bool} → Written ws floor (atom (sort_at ws i)) i j ps → is_sign (sort_at ws j) ≡ true
+      → Greedy ws (j + 1) k greedy → Written ws floor item i k (sign_part (sort_at ws j) (length ps) greedy ∷ ps)
+  none : {i : ℕ} → begins_item (sort_at ws i) ≡ false → Written ws floor items i i []
+  more : {i j k : ℕ} {ps qs : List Part} → Written ws floor item i j ps → Written ws floor items j k qs → Written ws floor items i k (ps ++ qs)
+  sequenced : {i j k : ℕ} {ps qs : List Part} → Guarding ws i j ps → Written ws floor items j k qs → Written ws floor sequence i k (ps ++ qs)
+  all : {i j : ℕ} {ps : List Part} {of_rule : Bool} → Written ws floor sequence i j ps → Written ws floor (alternative of_rule) i j (as_node of_rule ps)
+  one : {i j : ℕ} {ps : List Part} {of_rule : Bool} → Written ws floor (alternative of_rule) i j ps
+      → Written ws floor (arm of_rule) i j (Arm (length ps) ∷ ps)
+  last : {i : ℕ} {of_rule ordered : Bool} → sort_at ws i ≢ bar ordered → Written ws floor (arms of_rule ordered) i i []
+  next : {i j k : ℕ} {ps qs : List Part} {of_rule ordered : Bool} → sort_at ws i ≡ bar ordered → Written ws floor (arm of_rule) (i + 1) j ps
+      → Written ws floor (arms of_rule ordered) j k qs → Written ws floor (arms of_rule ordered) i k (ps ++ qs)
+  alone : {i j : ℕ} {ps : List Part} → Written ws floor (alternative false) i j ps → IsAfterBars ws j → Written ws floor alternatives i j ps
+  choice : {i j k : ℕ} {ps qs : List Part} {ordered : Bool} → Written ws floor (arm false) i j ps → sort_at ws j ≡ bar ordered
+      → Written ws floor (arms false ordered) j k qs → Written ws floor alternatives i k (Choice (length (ps ++ qs)) ordered ∷ ps ++ qs)

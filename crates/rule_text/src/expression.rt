@@ -1,67 +1,136 @@
 //! What stands on the right of `=`.
-ghost use Rattle.std.specs.Prelude.{◌≡◌, ◌≤◌, ℕ, IfOk, OnOk, false, length, true};
-ghost use Rattle.rule_text.specs.Reading.{Marks, Names, Reads, behind_one, only, written_as};
-ghost use Rattle.rule_text.specs.Written.{Separated, is_end, sort_at};
-ghost use Rattle.rule_text.specs.Written.Form.{alternatives, atom, item, more_arms, next_arm, sequence};
+ghost use Rattle.std.specs.Prelude.{◌≡◌, ℕ, false, IfNone, IfOk, IfSome, OnErr};
+ghost use Rattle.rule_text.specs.Reading.{Decides, Gives, IsMissed, behind_one, of_word, only, written_as};
+ghost use Rattle.rule_text.specs.Written.{Arrow, Greedy, Guarding, IsAfterBars, Kinds, MoreKinds, OneKind, Separated, bar, begins_item, is_end, is_sign, sign_part, sort_at};
+ghost use Rattle.rule_text.specs.Written.Form.{alternative, alternatives, arm, arms, atom, item, items, sequence};
 
 use crate::error::WordError;
 use crate::reader::Reader;
 use crate::word::Sort;
 use rule_parts::{Name, Part};
 
-/// Alternatives between `|`.
+/// Alternatives between bars: all that stands in a group.
 #[cycle(expression)]
 fn alternatives(reader: &mut Reader<'_, '_>, floor: usize, depth: u32) -> Result<(), WordError>
-    ensures { OnOk result (Reads (written_as alternatives floor) reader.old reader.new) }
+    ensures { Decides (written_as alternatives floor) reader.old reader.new result }
+{
+    let start = reader.len();
+    alternative(reader, floor, depth, false)?;
+    let Some(ordered) = ordered_by(reader) else {
+        return Ok(());
+    };
+    let size = reader.size_from(start);
+    reader.wrap(start, Part::Arm { size })?;
+    arms(reader, floor, depth, false, ordered)?;
+    let size = reader.size_from(start);
+    reader.wrap(start, Part::Choice { size, ordered })
+}
+
+/// Whether alternatives are ordered that the next word separates.
+pub(crate) fn ordered_by(reader: &Reader<'_, '_>) -> Option<bool>
+    ensures some { IfSome result (λ ordered. sort_at reader.now.words.now reader.now.at ≡ bar ordered) }
+    ensures none { IfNone result (IsAfterBars reader.now.words.now reader.now.at) }
+{
+    match reader.sort() {
+        Sort::Or => Some(false),
+        Sort::Slash => Some(true),
+        _ => None,
+    }
+}
+
+/// Further alternatives, each after `|`, or after `/` if they are ordered.
+#[cycle(expression)]
+pub(crate) fn arms(
+    reader: &mut Reader<'_, '_>,
+    floor: usize,
+    depth: u32,
+    of_rule: bool,
+    ordered: bool,
+) -> Result<(), WordError>
+    ensures { Decides (written_as (arms of_rule ordered) floor) reader.old reader.new result }
+{
+    while reader.is_at(bar(ordered)) {
+        reader.bump();
+        arm(reader, floor, depth, of_rule)?;
+    }
+    Ok(())
+}
+
+/// What separates alternatives.
+fn bar(ordered: bool) -> Sort
+    ensures is { result ≡ bar ordered }
+    ensures some { is_end result ≡ false }
+{
+    if ordered { Sort::Slash } else { Sort::Or }
+}
+
+/// An alternative, as an arm.
+#[cycle(expression)]
+pub(crate) fn arm(
+    reader: &mut Reader<'_, '_>,
+    floor: usize,
+    depth: u32,
+    of_rule: bool,
+) -> Result<(), WordError>
+    ensures { Decides (written_as (arm of_rule) floor) reader.old reader.new result }
+{
+    let start = reader.len();
+    alternative(reader, floor, depth, of_rule)?;
+    let size = reader.size_from(start);
+    reader.wrap(start, Part::Arm { size })
+}
+
+/// An alternative. That of a rule is a node, if the kind of one is named in it.
+#[cycle(expression)]
+pub(crate) fn alternative(
+    reader: &mut Reader<'_, '_>,
+    floor: usize,
+    depth: u32,
+    of_rule: bool,
+) -> Result<(), WordError>
+    ensures { Decides (written_as (alternative of_rule) floor) reader.old reader.new result }
 {
     let start = reader.len();
     sequence(reader, floor, depth)?;
-    if !reader.is_at(Sort::Or) {
+    if !of_rule {
+        return Ok(());
+    }
+    if !reader.names_a_kind(start) {
         return Ok(());
     }
     let size = reader.size_from(start);
-    reader.wrap(start, Part::Arm { size })?;
-    more_arms(reader, floor, depth)?;
-    let size = reader.size_from(start);
-    reader.wrap(start, Part::Choice { size, ordered: false })?;
-    Ok(())
+    reader.wrap(start, Part::Node { size })
 }
 
-/// Further alternatives, each after `|`.
-#[cycle(expression)]
-fn more_arms(reader: &mut Reader<'_, '_>, floor: usize, depth: u32) -> Result<(), WordError>
-    requires { sort_at reader.old.words.now reader.old.at ≡ Sort.Or }
-    ensures { OnOk result (Reads (written_as more_arms floor) reader.old reader.new) }
-{
-    next_arm(reader, floor, depth)?;
-    while reader.is_at(Sort::Or) {
-        next_arm(reader, floor, depth)?;
-    }
-    Ok(())
-}
-
-/// `|` and an alternative.
-#[cycle(expression)]
-fn next_arm(reader: &mut Reader<'_, '_>, floor: usize, depth: u32) -> Result<(), WordError>
-    requires { sort_at reader.old.words.now reader.old.at ≡ Sort.Or }
-    ensures { OnOk result (Reads (written_as next_arm floor) reader.old reader.new) }
-{
-    reader.bump();
-    let start = reader.len();
-    sequence(reader, floor, depth)?;
-    let size = reader.size_from(start);
-    reader.wrap(start, Part::Arm { size })?;
-    Ok(())
-}
-
-/// Items, one after another.
+/// A guard, if there is one, and items.
 #[cycle(expression)]
 pub(crate) fn sequence(
     reader: &mut Reader<'_, '_>,
     floor: usize,
     depth: u32,
 ) -> Result<(), WordError>
-    ensures { OnOk result (Reads (written_as sequence floor) reader.old reader.new) }
+    ensures { Decides (written_as sequence floor) reader.old reader.new result }
+{
+    guard(reader)?;
+    items(reader, floor, depth)
+}
+
+/// `@name`, or nothing.
+fn guard(reader: &mut Reader<'_, '_>) -> Result<(), WordError>
+    ensures { Decides Guarding reader.old reader.new result }
+{
+    if !reader.is_at(Sort::At) {
+        return Ok(());
+    }
+    reader.bump();
+    let name = reader.expect(Sort::Call, "the name of a guard")?;
+    reader.push(Part::Guarded { name })
+}
+
+/// Items, one after another.
+#[cycle(expression)]
+fn items(reader: &mut Reader<'_, '_>, floor: usize, depth: u32) -> Result<(), WordError>
+    ensures { Decides (written_as items floor) reader.old reader.new result }
 {
     while begins_item(reader.sort()) {
         item(reader, floor, depth)?;
@@ -71,7 +140,7 @@ pub(crate) fn sequence(
 
 /// Whether a word begins an item.
 fn begins_item(sort: Sort) -> bool
-    ensures { result ≡ true → is_end sort ≡ false }
+    ensures { result ≡ begins_item sort }
 {
     matches!(
         sort,
@@ -80,6 +149,7 @@ fn begins_item(sort: Sort) -> bool
             | Sort::Call
             | Sort::Operand
             | Sort::Equals
+            | Sort::Tilde
             | Sort::OpenParen
             | Sort::OpenBrace
     )
@@ -88,74 +158,152 @@ fn begins_item(sort: Sort) -> bool
 /// A word or a group, and how often it may stand.
 #[cycle(expression)]
 fn item(reader: &mut Reader<'_, '_>, floor: usize, depth: u32) -> Result<(), WordError>
-    ensures { OnOk result (Reads (written_as item floor) reader.old reader.new) }
+    ensures { Decides (written_as item floor) reader.old reader.new result }
 {
     let start = reader.len();
     atom(reader, floor, depth)?;
     let size = reader.size_from(start);
-    match reader.sort() {
-        Sort::Question => mark(reader, start, Part::Optional { size, greedy: false }),
-        Sort::Star => mark(reader, start, Part::Repeat { size, greedy: false }),
-        Sort::Plus => mark(reader, start, Part::Some { size, greedy: false }),
-        _ => Ok(()),
+    let sign = reader.sort();
+    if !is_sign(sign) {
+        return Ok(());
+    }
+    reader.bump();
+    let greedy = greedy(reader);
+    reader.wrap(start, sign_part(sign, size, greedy))
+}
+
+/// Whether a word says how often an item may stand.
+fn is_sign(sort: Sort) -> bool
+    ensures { result ≡ is_sign sort }
+{
+    matches!(sort, Sort::Question | Sort::Star | Sort::Plus)
+}
+
+/// The part that a sign puts in front of so many.
+fn sign_part<'t>(sort: Sort, size: usize, greedy: bool) -> Part<'t>
+    ensures { result ≡ sign_part sort size greedy }
+{
+    match sort {
+        Sort::Question => Part::Optional { size, greedy },
+        Sort::Star => Part::Repeat { size, greedy },
+        _ => Part::Some { size, greedy },
     }
 }
 
-/// A word after some parts, which puts a part in front of them.
-fn mark<'t>(reader: &mut Reader<'_, 't>, start: usize, part: Part<'t>) -> Result<(), WordError>
-    requires { start ≤ length reader.old.parts.items }
-    ensures { is_end (sort_at reader.old.words.now reader.old.at) ≡ false → OnOk result (Marks start part.entry reader.old reader.new) }
+/// Whether the sign before is greedy.
+fn greedy(reader: &mut Reader<'_, '_>) -> bool
+    ensures { Gives Greedy result reader.old reader.new }
 {
-    reader.wrap(start, part)?;
+    if !reader.is_at(Sort::Plus) {
+        return false;
+    }
     reader.bump();
-    Ok(())
+    true
 }
 
 /// A word or a group.
 #[cycle(expression)]
 fn atom(reader: &mut Reader<'_, '_>, floor: usize, depth: u32) -> Result<(), WordError>
-    ensures { OnOk result (Reads (written_as atom floor) reader.old reader.new) }
+    ensures { Decides (of_word floor) reader.old reader.new result }
 {
     let name = reader.name();
     match reader.sort() {
         Sort::Kind => one(reader, Part::Token { name }),
         Sort::Class => one(reader, Part::Class { name }),
         Sort::Call => one(reader, Part::Call { name }),
-        Sort::Operand if floor > 0 => one(reader, Part::Operand { floor }),
+        Sort::Operand => operand(reader, floor),
+        Sort::Equals => becomes(reader),
+        Sort::Tilde => node_is(reader),
         Sort::OpenParen => group(reader, floor, depth),
         Sort::OpenBrace => list(reader, floor, depth),
-        _ => becomes(reader),
+        _ => Err(reader.expected("a name or a bracket")),
     }
 }
 
 /// A word that is this part.
 fn one<'t>(reader: &mut Reader<'_, 't>, part: Part<'t>) -> Result<(), WordError>
-    ensures { is_end (sort_at reader.old.words.now reader.old.at) ≡ false → OnOk result (Reads (only part.entry) reader.old reader.new) }
+    ensures { is_end (sort_at reader.old.words.now reader.old.at) ≡ false → Decides (only part.entry) reader.old reader.new result }
 {
     reader.push(part)?;
     reader.bump();
     Ok(())
 }
 
-/// `=> KIND`
-fn becomes(reader: &mut Reader<'_, '_>) -> Result<(), WordError>
-    ensures { (floor : ℕ) → OnOk result (Reads (written_as atom floor) reader.old reader.new) }
+/// `_`, which stands in operators alone.
+fn operand(reader: &mut Reader<'_, '_>, floor: usize) -> Result<(), WordError>
+    requires { sort_at reader.old.words.now reader.old.at ≡ Sort.Operand }
+    ensures { Decides (written_as (atom Sort.Operand) floor) reader.old reader.new result }
 {
-    reader.expect(Sort::Equals, "a name, a bracket or =>")?;
+    if floor == 0 {
+        return Err(reader.expected("a name or a bracket"));
+    }
+    one(reader, Part::Operand { floor })
+}
+
+/// `=> KIND`
+pub(crate) fn becomes(reader: &mut Reader<'_, '_>) -> Result<(), WordError>
+    requires { sort_at reader.old.words.now reader.old.at ≡ Sort.Equals }
+    ensures { Decides Arrow reader.old reader.new result }
+{
+    reader.bump();
     reader.expect(Sort::Greater, "=>")?;
-    let name = reader.expect(Sort::Kind, "the kind of a node")?;
-    reader.push(Part::Becomes { name })?;
+    let name = reader.expect(Sort::Kind, "a kind")?;
+    reader.push(Part::Becomes { name })
+}
+
+/// `~KIND` or `~(KIND | KIND)`
+fn node_is(reader: &mut Reader<'_, '_>) -> Result<(), WordError>
+    requires { sort_at reader.old.words.now reader.old.at ≡ Sort.Tilde }
+    ensures { (floor : ℕ) → Decides (written_as (atom Sort.Tilde) floor) reader.old reader.new result }
+{
+    let start = reader.len();
+    reader.bump();
+    kinds(reader)?;
+    let size = reader.size_from(start);
+    reader.wrap(start, Part::Is { size })
+}
+
+/// A kind of node, or some in parentheses.
+fn kinds(reader: &mut Reader<'_, '_>) -> Result<(), WordError>
+    ensures { Decides Kinds reader.old reader.new result }
+{
+    if !reader.is_at(Sort::OpenParen) {
+        return kind(reader);
+    }
+    reader.bump();
+    kind(reader)?;
+    more_kinds(reader)?;
+    reader.expect(Sort::CloseParen, "| or )")?;
     Ok(())
+}
+
+/// Further kinds of nodes, each after `|`.
+fn more_kinds(reader: &mut Reader<'_, '_>) -> Result<(), WordError>
+    ensures { Decides MoreKinds reader.old reader.new result }
+{
+    while reader.is_at(Sort::Or) {
+        reader.bump();
+        kind(reader)?;
+    }
+    Ok(())
+}
+
+/// A kind of node.
+fn kind(reader: &mut Reader<'_, '_>) -> Result<(), WordError>
+    ensures { Decides OneKind reader.old reader.new result }
+{
+    let name = reader.expect(Sort::Kind, "the kind of a node")?;
+    reader.push(Part::Kind { name })
 }
 
 /// `( .. )`
 #[cycle(expression)]
 fn group(reader: &mut Reader<'_, '_>, floor: usize, depth: u32) -> Result<(), WordError>
     requires { sort_at reader.old.words.now reader.old.at ≡ Sort.OpenParen }
-    ensures { OnOk result (Reads (written_as atom floor) reader.old reader.new) }
+    ensures { Decides (written_as (atom Sort.OpenParen) floor) reader.old reader.new result }
 {
     nested(reader, floor, depth)?;
-    reader.expect(Sort::CloseParen, "| or )")?;
+    reader.expect(Sort::CloseParen, ")")?;
     Ok(())
 }
 
@@ -163,22 +311,22 @@ fn group(reader: &mut Reader<'_, '_>, floor: usize, depth: u32) -> Result<(), Wo
 #[cycle(expression)]
 fn list(reader: &mut Reader<'_, '_>, floor: usize, depth: u32) -> Result<(), WordError>
     requires { sort_at reader.old.words.now reader.old.at ≡ Sort.OpenBrace }
-    ensures { OnOk result (Reads (written_as atom floor) reader.old reader.new) }
+    ensures { Decides (written_as (atom Sort.OpenBrace) floor) reader.old reader.new result }
 {
     let start = reader.len();
     nested(reader, floor, depth)?;
     let separator = separator(reader)?;
-    reader.expect(Sort::CloseBrace, "|, % or }")?;
+    reader.expect(Sort::CloseBrace, "% or }")?;
     let size = reader.size_from(start);
-    reader.wrap(start, Part::List { size, separator })?;
-    Ok(())
+    reader.wrap(start, Part::List { size, separator })
 }
 
 /// The separator where the text names none.
 const COMMA: Name<'static> = Name { text: ",", at: 0 };
 
 fn separator<'t>(reader: &mut Reader<'_, 't>) -> Result<Name<'t>, WordError>
-    ensures { IfOk result (λ name. Names Separated name reader.old reader.new) }
+    ensures read { IfOk result (λ name. Gives Separated name reader.old reader.new) }
+    ensures missed { OnErr result (IsMissed Separated reader.old.words.now reader.old.at) }
 {
     if !reader.is_at(Sort::Percent) {
         return Ok(COMMA);
@@ -191,7 +339,7 @@ fn separator<'t>(reader: &mut Reader<'_, 't>) -> Result<Name<'t>, WordError>
 #[cycle(expression)]
 fn nested(reader: &mut Reader<'_, '_>, floor: usize, depth: u32) -> Result<(), WordError>
     requires { is_end (sort_at reader.old.words.now reader.old.at) ≡ false }
-    ensures { OnOk result (Reads (behind_one (written_as alternatives floor)) reader.old reader.new) }
+    ensures { Decides (behind_one (written_as alternatives floor)) reader.old reader.new result }
 {
     if depth == 0 {
         return Err(WordError::TooDeep { at: reader.place() });

@@ -1,8 +1,7 @@
 //! Words that are read, and the parts that they have given so far.
-ghost use Rattle.std.specs.Prelude.{◌≡◌, ◌≢◌, ◌<◌, ◌≤◌, ◌-◌, false, true, [], drop, length, IfOk, OnOk};
-ghost use Rattle.rule_text.specs.Reading.{Bumps, Takes, Adds, Wraps};
-ghost use Rattle.rule_text.specs.Rules.{names_kind};
-ghost use Rattle.rule_text.specs.Written.{IsWord, is_end, sort_at};
+ghost use Rattle.std.specs.Prelude.{◌≡◌, ◌≢◌, ◌<◌, ◌≤◌, ◌-◌, false, true, [], drop, length, IfErr, IfOk, OnErr, OnOk};
+ghost use Rattle.rule_text.specs.Reading.{Adds, Bumps, IsMemory, Takes, Wraps};
+ghost use Rattle.rule_text.specs.Written.{IsWord, is_end, names_kind, sort_at};
 
 use crate::error::{Place, WordError};
 use crate::word::{Sort, Word};
@@ -83,7 +82,8 @@ impl<'w, 't> Reader<'w, 't> {
 
     /// Goes over the next word, which is to be of this sort.
     pub(crate) fn expect(&mut self, sort: Sort, what: &'static str) -> Result<Name<'t>, WordError>
-        ensures { is_end sort ≡ false → IfOk result (λ name. Takes sort name self.old self.new) }
+        ensures takes { is_end sort ≡ false → IfOk result (λ name. Takes sort name self.old self.new) }
+        ensures misses { OnErr result (sort_at self.old.words.now self.old.at ≢ sort) }
     {
         if !self.is_at(sort) {
             return Err(self.expected(what));
@@ -109,7 +109,8 @@ impl<'w, 't> Reader<'w, 't> {
 
     /// Adds a part.
     pub(crate) fn push(&mut self, part: Part<'t>) -> Result<(), WordError>
-        ensures { OnOk result (Adds part.entry self.old self.new) }
+        ensures adds { OnOk result (Adds part.entry self.old self.new) }
+        ensures only { IfErr result IsMemory }
     {
         self.parts.push(part)?;
         Ok(())
@@ -118,7 +119,8 @@ impl<'w, 't> Reader<'w, 't> {
     /// Puts a part in front of those from `start` on.
     pub(crate) fn wrap(&mut self, start: usize, part: Part<'t>) -> Result<(), WordError>
         requires { start ≤ length self.old.parts.items }
-        ensures { OnOk result (Wraps start part.entry self.old self.new) }
+        ensures wraps { OnOk result (Wraps start part.entry self.old self.new) }
+        ensures only { IfErr result IsMemory }
     {
         self.parts.insert(start, part)?;
         Ok(())

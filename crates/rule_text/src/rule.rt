@@ -1,12 +1,13 @@
 //! Classes and rules.
-ghost use Rattle.std.specs.Prelude.{◌≡◌, ◌≤◌, IfOk, IfErr, IfSome, OnOk, length};
+ghost use Rattle.std.specs.Prelude.{◌≡◌, ◌≤◌, false, IfErr, IfNone, IfOk, IfSome, OnErr, OnOk, length};
 ghost use Rattle.rule_text.specs.Read.{IsRead, Refuses};
-ghost use Rattle.rule_text.specs.Reading.{Names, Reads};
-ghost use Rattle.rule_text.specs.Rules.{Called, Definition, Members, Member, Rules};
-ghost use Rattle.rule_text.specs.Written.{sort_at};
+ghost use Rattle.rule_text.specs.Reading.{Decides, Gives, IsMissed, of_first};
+ghost use Rattle.rule_text.specs.Rules.{Called, Definition, Head, Member, Members, Rules, Texts};
+ghost use Rattle.rule_text.specs.Written.{is_end, sort_at};
 
 use crate::body::body;
 use crate::error::{ReadError, WordError};
+use crate::expression::becomes;
 use crate::reader::Reader;
 use crate::word::{Sort, words_of};
 use rule_parts::{Name, Part};
@@ -28,9 +29,9 @@ pub fn read(alloc: Global, text: &str) -> Result<Vec<Part<'_>>, ReadError>
     Ok(reader.into_parts())
 }
 
-/// Classes and rules, one after another.
+/// Classes, guards and rules, one after another.
 fn definitions(reader: &mut Reader<'_, '_>) -> Result<(), WordError>
-    ensures reads { OnOk result (Reads Rules reader.old reader.new) }
+    ensures reads { Decides Rules reader.old reader.new result }
     ensures all { OnOk result (length reader.new.words.now ≤ reader.new.at) }
 {
     while !reader.is_done() {
@@ -39,45 +40,67 @@ fn definitions(reader: &mut Reader<'_, '_>) -> Result<(), WordError>
     Ok(())
 }
 
-/// A class or a rule.
+/// A class, a guard or a rule.
 fn definition(reader: &mut Reader<'_, '_>) -> Result<(), WordError>
-    ensures { OnOk result (Reads Definition reader.old reader.new) }
+    ensures { Decides of_first reader.old reader.new result }
 {
     match reader.sort() {
         Sort::ClassOf => class(reader),
+        Sort::WordsOf => words(reader),
+        Sort::GuardOf => guard(reader),
         Sort::Rule => rule(reader),
         _ => Err(reader.expected("a class or a rule, in front of a line")),
     }
 }
 
-/// `class Name = KIND Other -KIND`
-fn class(reader: &mut Reader<'_, '_>) -> Result<(), WordError>
-    requires { sort_at reader.old.words.now reader.old.at ≡ Sort.ClassOf }
-    ensures { OnOk result (Reads Definition reader.old reader.new) }
+/// A name of this sort and `=`, after the first word of a line.
+fn head<'t>(
+    reader: &mut Reader<'_, 't>,
+    sort: Sort,
+    what: &'static str,
+) -> Result<Name<'t>, WordError>
+    requires at { is_end (sort_at reader.old.words.now reader.old.at) ≡ false }
+    requires named { is_end sort ≡ false }
+    ensures read { IfOk result (λ name. Gives (Head sort) name reader.old reader.new) }
+    ensures missed { OnErr result (IsMissed (Head sort) reader.old.words.now reader.old.at) }
 {
     reader.bump();
-    let name = reader.expect(Sort::Class, "the name of a class")?;
+    let name = reader.expect(sort, what)?;
     reader.expect(Sort::Equals, "=")?;
+    Ok(name)
+}
+
+/// `class Name = KIND Other -KIND => KIND`
+fn class(reader: &mut Reader<'_, '_>) -> Result<(), WordError>
+    requires { sort_at reader.old.words.now reader.old.at ≡ Sort.ClassOf }
+    ensures { Decides (Definition Sort.ClassOf) reader.old reader.new result }
+{
+    let name = head(reader, Sort::Class, "the name of a class")?;
     let start = reader.len();
     members(reader)?;
     let size = reader.size_from(start);
     reader.wrap(start, Part::Set { name, size })
 }
 
-/// The members of a class.
+/// The members of a class, and a kind after them.
 fn members(reader: &mut Reader<'_, '_>) -> Result<(), WordError>
-    ensures { OnOk result (Reads Members reader.old reader.new) }
+    ensures { Decides Members reader.old reader.new result }
 {
     while let Some(part) = member(reader) {
         reader.push(part)?;
         reader.bump();
     }
-    Ok(())
+    if reader.is_at(Sort::Equals) {
+        becomes(reader)
+    } else {
+        Ok(())
+    }
 }
 
 /// The member that the next word is.
 fn member<'t>(reader: &Reader<'_, 't>) -> Option<Part<'t>>
-    ensures { IfSome result (λ part. Member reader.now.words.now reader.now.at part) }
+    ensures is { IfSome result (λ part. Member reader.now.words.now reader.now.at part) }
+    ensures no { IfNone result ((part : Part) → Member reader.now.words.now reader.now.at part → ⊥) }
 {
     let name = reader.name();
     match reader.sort() {
@@ -89,10 +112,47 @@ fn member<'t>(reader: &Reader<'_, 't>) -> Option<Part<'t>>
     }
 }
 
+/// `words Name = text text`
+fn words(reader: &mut Reader<'_, '_>) -> Result<(), WordError>
+    requires { sort_at reader.old.words.now reader.old.at ≡ Sort.WordsOf }
+    ensures { Decides (Definition Sort.WordsOf) reader.old reader.new result }
+{
+    let name = head(reader, Sort::Class, "the name of a class")?;
+    let start = reader.len();
+    texts(reader)?;
+    let size = reader.size_from(start);
+    reader.wrap(start, Part::Words { name, size })
+}
+
+/// The texts of a class of words.
+fn texts(reader: &mut Reader<'_, '_>) -> Result<(), WordError>
+    ensures { Decides Texts reader.old reader.new result }
+{
+    while reader.is_at(Sort::Call) {
+        let name = reader.name();
+        reader.push(Part::Token { name })?;
+        reader.bump();
+    }
+    Ok(())
+}
+
+/// `guard name = (First) Next`
+fn guard(reader: &mut Reader<'_, '_>) -> Result<(), WordError>
+    requires { sort_at reader.old.words.now reader.old.at ≡ Sort.GuardOf }
+    ensures { Decides (Definition Sort.GuardOf) reader.old reader.new result }
+{
+    let name = head(reader, Sort::Call, "the name of a guard")?;
+    reader.expect(Sort::OpenParen, "(")?;
+    let first = reader.expect(Sort::Class, "a class")?;
+    reader.expect(Sort::CloseParen, ")")?;
+    let next = reader.expect(Sort::Class, "a class")?;
+    reader.push(Part::Guard { name, first, next })
+}
+
 /// `rule "message" = ..`
 fn rule(reader: &mut Reader<'_, '_>) -> Result<(), WordError>
     requires { sort_at reader.old.words.now reader.old.at ≡ Sort.Rule }
-    ensures { OnOk result (Reads Definition reader.old reader.new) }
+    ensures { Decides (Definition Sort.Rule) reader.old reader.new result }
 {
     let name = reader.name();
     reader.bump();
@@ -111,7 +171,7 @@ fn rule(reader: &mut Reader<'_, '_>) -> Result<(), WordError>
 
 /// What errors call the rule.
 fn message<'t>(reader: &mut Reader<'_, 't>, name: Name<'t>) -> Name<'t>
-    ensures { Names (Called name.entry) result reader.old reader.new }
+    ensures { Gives (Called name.entry) result reader.old reader.new }
 {
     if !reader.is_at(Sort::Message) {
         return name;

@@ -19,6 +19,10 @@ fn line_of(alloc: Global, parts: &[Part<'_>]) -> Result<String, Fail> {
 fn show(line: &mut String, part: &Part<'_>) -> Result<(), AllocError> {
     match part {
         Part::Set { name, size } => write!(line, "Set {} {size}", name.text),
+        Part::Words { name, size } => write!(line, "Words {} {size}", name.text),
+        Part::Guard { name, first, next } => {
+            write!(line, "Guard {} {} {}", name.text, first.text, next.text)
+        }
         Part::Without => write!(line, "Without"),
         Part::Rule {
             name,
@@ -29,6 +33,8 @@ fn show(line: &mut String, part: &Part<'_>) -> Result<(), AllocError> {
         Part::Class { name } => write!(line, "Class {}", name.text),
         Part::Call { name } => write!(line, "Call {}", name.text),
         Part::Becomes { name } => write!(line, "Becomes {}", name.text),
+        Part::Guarded { name } => write!(line, "Guarded {}", name.text),
+        Part::Kind { name } => write!(line, "Kind {}", name.text),
         Part::List { size, separator } => write!(line, "List {size} ({})", separator.text),
         _ => write!(line, "{part:?}"),
     }
@@ -44,7 +50,7 @@ fn shown(alloc: Global, text: &str) -> Result<String, Fail> {
 
 /// Texts, and their parts.
 #[rattlefmt::skip]
-static RULES: [(&str, &str); 16] = [
+static RULES: [(&str, &str); 28] = [
     ("", ""),
     ("name = IDENT\n", "Rule name (name) 1; Token IDENT; "),
     ("name \"a name\" = 'x'", "Rule name (a name) 1; Token x; "),
@@ -53,10 +59,25 @@ static RULES: [(&str, &str); 16] = [
         "class ColId = IDENT Other unreserved -SET -'x'\n",
         "Set ColId 7; Token IDENT; Class Other; Call unreserved; Without; Token SET; Without; Token x; ",
     ),
-    // Signs behind a word or a group.
+    // A kind after the members, which are followed by nothing else of the class.
+    ("class A1b = C -D => E\n", "Set A1b 4; Token C; Without; Token D; Becomes E; "),
+    ("class Ab = => E\na = B", "Set Ab 1; Becomes E; Rule a (a) 1; Token B; "),
+    // Classes of words, and guards. Elsewhere their first words are names as others.
+    ("words Ab = one two\nwords Cd =", "Words Ab 2; Token one; Token two; Words Cd 0; "),
+    ("guard query = (First) Next\na = B", "Guard query First Next; Rule a (a) 1; Token B; "),
+    (
+        "a = words guard class\nwords Ab = words guard class\n",
+        "Rule a (a) 3; Call words; Call guard; Call class; Words Ab 3; Token words; Token guard; Token class; ",
+    ),
+    // Signs after a word or a group.
     (
         "a = B? c* D+\n",
         "Rule a (a) 6; Optional { size: 1, greedy: false }; Token B; Repeat { size: 1, greedy: false }; Call c; Some { size: 1, greedy: false }; Token D; ",
+    ),
+    (
+        "a = B?+ c*+ D++ E+ +\n",
+        "Rule a (a) 8; Optional { size: 1, greedy: true }; Token B; Repeat { size: 1, greedy: true }; Call c; \
+         Some { size: 1, greedy: true }; Token D; Some { size: 1, greedy: true }; Token E; ",
     ),
     ("a = (B Cd)*\n", "Rule a (a) 3; Repeat { size: 2, greedy: false }; Token B; Class Cd; "),
     (
@@ -64,6 +85,28 @@ static RULES: [(&str, &str); 16] = [
         "Rule a (a) 9; Optional { size: 7, greedy: false }; Choice { size: 6, ordered: false }; Arm { size: 1 }; Token B; \
          Arm { size: 2 }; Call c; Call d; Arm { size: 0 }; Token E; ",
     ),
+    // Ordered alternatives, in groups, lists and rules.
+    (
+        "a = (B / c d)? E\n",
+        "Rule a (a) 8; Optional { size: 6, greedy: false }; Choice { size: 5, ordered: true }; Arm { size: 1 }; Token B; \
+         Arm { size: 2 }; Call c; Call d; Token E; ",
+    ),
+    ("a = {b / C}\n", "Rule a (a) 6; List 5 (,); Choice { size: 4, ordered: true }; Arm { size: 1 }; Call b; Arm { size: 1 }; Token C; "),
+    (
+        "a = B => C / (d | E)\n",
+        "Rule a (a) 11; Choice { size: 10, ordered: true }; Arm { size: 3 }; Node { size: 2 }; Token B; Becomes C; \
+         Arm { size: 5 }; Choice { size: 4, ordered: false }; Arm { size: 1 }; Call d; Arm { size: 1 }; Token E; ",
+    ),
+    // Guards of alternatives, and kinds of the node before.
+    (
+        "a = @query B | (@query c)\n",
+        "Rule a (a) 7; Choice { size: 6, ordered: false }; Arm { size: 2 }; Guarded query; Token B; \
+         Arm { size: 2 }; Guarded query; Call c; ",
+    ),
+    ("a = b ~C ~(D) | ~(E | F)\n",
+     "Rule a (a) 11; Choice { size: 10, ordered: false }; Arm { size: 5 }; Call b; Is { size: 1 }; Kind C; Is { size: 1 }; Kind D; \
+      Arm { size: 3 }; Is { size: 2 }; Kind E; Kind F; "),
+    ("a = ~B+", "Rule a (a) 3; Some { size: 2, greedy: false }; Is { size: 1 }; Kind B; "),
     // Lists: with commas, and with other separators.
     ("a = {b}\n", "Rule a (a) 2; List 1 (,); Call b; "),
     (
@@ -115,14 +158,30 @@ fn reads_rules(rt: HostRuntime) -> Result<(), Fail> {
 
 /// Texts that are no rules, and where the first word stands that is none of those that may.
 #[rattlefmt::skip]
-static ERRORS: [(&str, &str); 13] = [
-    ("a = (B\n", "2:1: expected | or )"),
-    ("a = {b\nc = D\n", "2:1: expected |, % or }"),
+static ERRORS: [(&str, &str); 26] = [
+    ("a = (B\n", "2:1: expected )"),
+    ("a = {b\nc = D\n", "2:1: expected % or }"),
     ("a = {b % c}\n", "1:10: expected a separator"),
-    ("a = => b\n", "1:8: expected the kind of a node"),
+    ("a = => b\n", "1:8: expected a kind"),
     ("a = = b\n", "1:7: expected =>"),
     // Operands stand in operators alone.
-    ("a = _\n", "1:5: expected a name, a bracket or =>"),
+    ("a = _\n", "1:5: expected a name or a bracket"),
+    // One group has one kind of bars, and operands and operators have `|`.
+    ("a = (b | c / d)\n", "1:12: expected )"),
+    ("a = {b / c | d}\n", "1:12: expected % or }"),
+    ("a = b | c / d\n", "1:11: expected a class or a rule, in front of a line"),
+    ("a = b / c left _ D\n", "1:11: expected no operators after /"),
+    ("a = b left _ D / E\n", "1:16: expected a class or a rule, in front of a line"),
+    // A guard stands in front of an alternative.
+    ("a = b @c\n", "1:7: expected a class or a rule, in front of a line"),
+    ("a = @B\n", "1:6: expected the name of a guard"),
+    ("a = ~b\n", "1:6: expected the kind of a node"),
+    ("a = ~(B c)\n", "1:9: expected | or )"),
+    ("a = ~(B / C)\n", "1:9: expected | or )"),
+    // Nothing comes after the kind of a class.
+    ("class Ab = C => D E\n", "1:19: expected a class or a rule, in front of a line"),
+    ("words Ab = c D\n", "1:14: expected a class or a rule, in front of a line"),
+    ("guard a = First Next\n", "1:11: expected ("),
     ("a B\n", "1:3: expected ="),
     ("class Ab\n\n  CD\n", "3:3: expected ="),
     ("class = X\n", "1:7: expected the name of a class"),

@@ -16,6 +16,10 @@ pub(crate) enum Sort {
     Rule,
     /// `class`, in front of a line.
     ClassOf,
+    /// `words`, in front of a line.
+    WordsOf,
+    /// `guard`, in front of a line.
+    GuardOf,
     /// `left`
     Left,
     /// `right`
@@ -38,6 +42,12 @@ pub(crate) enum Sort {
     Greater,
     /// `|`
     Or,
+    /// `/`
+    Slash,
+    /// `@`
+    At,
+    /// `~`
+    Tilde,
     /// `?`
     Question,
     /// `*`
@@ -158,6 +168,9 @@ fn sort_of(kind: &TokenKind, text: &str, is_first: bool) -> Sort
         TokenKind::Eq => Sort::Equals,
         TokenKind::Gt => Sort::Greater,
         TokenKind::Or => Sort::Or,
+        TokenKind::Slash => Sort::Slash,
+        TokenKind::At => Sort::At,
+        TokenKind::Tilde => Sort::Tilde,
         TokenKind::Question => Sort::Question,
         TokenKind::Star => Sort::Star,
         TokenKind::Plus => Sort::Plus,
@@ -183,22 +196,27 @@ fn name_sort(name: &str, is_first: bool) -> Sort
         Sort::Right
     } else if name == "none" {
         Sort::Neither
-    } else if name == "class" && is_first {
-        Sort::ClassOf
     } else if is_first {
-        first_sort(case_of(name.as_bytes()))
+        first_sort(name)
     } else {
         case_of(name.as_bytes())
     }
 }
 
-/// In front of a line the name of a rule begins the rule.
-fn first_sort(sort: Sort) -> Sort
-    ensures { result ≡ first_sort sort }
+/// What a name is in front of a line.
+fn first_sort(name: &str) -> Sort
+    ensures { result ≡ first_sort name.now }
 {
-    match sort {
-        Sort::Call => Sort::Rule,
-        sort => sort,
+    if name == "class" {
+        Sort::ClassOf
+    } else if name == "words" {
+        Sort::WordsOf
+    } else if name == "guard" {
+        Sort::GuardOf
+    } else if begins_small(name.as_bytes()) {
+        Sort::Rule
+    } else {
+        case_of(name.as_bytes())
     }
 }
 

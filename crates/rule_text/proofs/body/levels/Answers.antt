@@ -1,36 +1,39 @@
-use Rattle.std.proofs.Common.{arith, ap, sym, refl, ◌∙◌, ◌≡◌, ◌+◌, ◌≤◌, Some, None}
-use Rattle.rule_text.specs.Rules.{association_of}
-use Rattle.rule_text.specs.Rules.Levels.{no_level}
+use Rattle.std.proofs.Common.{arith, ap, sym, ◌∙◌, ◌≡◌, Some, None}
+use Rattle.rule_text.specs.Rules.{next_level}
+use Rattle.rule_text.specs.Rules.MoreOperators.{no_operator}
 use Rattle.rule_text.specs.Written.{is_end, sort_at}
-use Rattle.rule_text.proofs.Bodies.{level_behind, level_goes, level_read, levels_read, nearer}
-use Rattle.rule_text.proofs.Reading.{reads_none}
+use Rattle.rule_text.proofs.Bodies.{level_after, level_lead}
+use Rattle.rule_text.proofs.Goes.{nearer, operator_goes}
+use Rattle.rule_text.proofs.Reading.{behind, leads_end, leads_none, read, reads_none}
 use Rattle.rule_text.proofs.body.levels.Goals as goal
 
-pub loop-association-init : goal.loop-association-init
-loop-association-init c = record { reads = reads_none c.args.reader.now no_level; later = c.requires.later; still = λ _. refl }
+pub loop-next-init : goal.loop-next-init
+loop-next-init c = record { leads = leads_none c.args.reader.now; later = c.requires; fits = omega arith }
 
-pub loop-association-smaller : goal.loop-association-smaller
-loop-association-smaller c =
-    let there = ap is_end (sym c.sort.ensures) ∙ c.in-Some.ensures.begins refl in
-    let r = level_behind (c.bump.ensures there) c.in_ok-one_level.ensures in
-    nearer c.loop-association.reader.at r.words (level_goes r.written) there
+pub loop-next-smaller : goal.loop-next-smaller
+loop-next-smaller c =
+    let there = ap is_end (sym c.sort.ensures) ∙ c.in-Some.ensures.some in
+    let r = behind (c.bump.ensures there) c.in_ok-operator.ensures.reads in
+    let far = operator_goes r.written in
+    nearer c.loop-next.reader.at r.words (omega (arith, far)) there
 
-pub loop-association-preserved : goal.loop-association-preserved
-loop-association-preserved c =
-    let there = ap is_end (sym c.sort.ensures) ∙ c.in-Some.ensures.begins refl in
-    let is : association_of (sort_at c.loop-association.reader.words.now c.loop-association.reader.at) ≡ Some c.in-Some.association
-    = ap association_of (sym c.sort.ensures) ∙ (sym c.association.ensures.is ∙ c.in-Some.is) in
-    let r = level_behind (c.bump.ensures there) c.in_ok-one_level.ensures in
-    let far : c.loop-association.reader.at + 1 ≤ c.one_level.new.reader.at = level_goes r.written in
-    let before = c.loop-association.invariant.later in
+pub loop-next-preserved : goal.loop-next-preserved
+loop-next-preserved c =
+    let there = ap is_end (sym c.sort.ensures) ∙ c.in-Some.ensures.some in
+    let bumps = c.bump.ensures there in
+    let is : next_level (sort_at c.loop-next.reader.words.now c.loop-next.reader.at) c.loop-next.level ≡ Some c.in-Some.next
+    = ap (λ s. next_level s c.loop-next.level) (sym c.sort.ensures) ∙ (sym c.next_level.ensures.is ∙ c.in-Some.is) in
+    let far = operator_goes (behind bumps c.in_ok-operator.ensures.reads).written in
+    let up = level_after (sort_at c.loop-next.reader.words.now c.loop-next.reader.at) c.loop-next.level is in
+    let before = c.loop-next.invariant.later in
     record {
-      reads = level_read c.loop-association.invariant.reads is r;
-      later = omega (arith, far, before);
-      still = λ e. absurd (omega (arith, e));
+      leads = level_lead c.loop-next.invariant.leads is bumps c.in_ok-operator.ensures.reads;
+      later = omega (arith, far, up, before);
+      fits = omega (arith, up, before, bumps.at, bumps.fits);
     }
 
 pub returns : goal.returns
 returns c =
-    let is : association_of (sort_at c.loop-association.reader.words.now c.loop-association.reader.at) ≡ None
-    = ap association_of (sym c.sort.ensures) ∙ (sym c.association.ensures.is ∙ c.in_default.is) in
-    levels_read c.loop-association.invariant.reads c.loop-association.invariant.still c.requires.at is
+    let none : next_level (sort_at c.loop-next.reader.words.now c.loop-next.reader.at) c.loop-next.level ≡ None
+    = ap (λ s. next_level s c.loop-next.level) (sym c.sort.ensures) ∙ (sym c.next_level.ensures.is ∙ c.in_default.is) in
+    read (leads_end c.loop-next.invariant.leads (reads_none c.loop-next.reader (no_operator none)))

@@ -1,15 +1,14 @@
-use Rattle.std.proofs.Common.{◌≡◌, ◌-◌, ◌<◌, length}
-use Rattle.rule_text.specs.Reading.{Reads}
-use Rattle.rule_text.specs.Rules.{Levels}
+use Rattle.std.proofs.Common.{◌+◌, ◌-◌, ◌^◌, ◌<◌, length}
+use Rattle.rule_text.specs.Rules.{MoreOperators, first_level}
+use Rattle.rule_text.proofs.Reading.{Leads}
 use Rattle.rule_text.proofs.body.levels.Given as goal
 
--- without a level nothing is read
-abbrev pub invariant-loop-association : goal.invariant-loop-association
-invariant-loop-association l = record {
-  reads : Reads (λ ws i j ps. Levels ws i l.level j ps) l.fn.reader l.reader;
-  later : l.level < l.reader.at;
-  still : l.level ≡ 0 → l.reader.at ≡ l.fn.reader.at;
+abbrev pub invariant-loop-next : goal.invariant-loop-next
+invariant-loop-next l = record {
+  leads : Leads (MoreOperators l.level) (MoreOperators first_level) l.fn.reader l.reader;
+  later : l.level.number < l.reader.at;
+  fits : l.level.number + 1 < 2 ^ 64;
 }
 
-abbrev pub decreases-loop-association : goal.decreases-loop-association
-decreases-loop-association l = length l.reader.words.now - l.reader.at
+abbrev pub decreases-loop-next : goal.decreases-loop-next
+decreases-loop-next l = length l.reader.words.now - l.reader.at

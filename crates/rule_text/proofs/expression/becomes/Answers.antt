@@ -1,6 +1,9 @@
-use Rattle.std.proofs.Common.{refl}
-use Rattle.rule_text.proofs.Expressions.{becomes_read}
+use Rattle.std.proofs.Common.{ap, refl}
+use Rattle.rule_text.specs.Written.{is_end}
+use Rattle.rule_text.proofs.Expressions.{arrow_read}
+use Rattle.rule_text.proofs.Reading.{decides_by}
 use Rattle.rule_text.proofs.expression.becomes.Goals as goal
 
 pub returns : goal.returns
-returns c = λ floor. becomes_read floor (c.in_ok-expect.ensures refl) (c.in_ok-expect-2.ensures refl) (c.in_ok-name.ensures refl) c.in_ok-push.ensures
+returns c = decides_by c.push.result c.push.ensures.adds c.push.ensures.only
+    (λ adds. arrow_read c.requires (c.bump.ensures (ap is_end c.requires)) (c.in_ok-expect.ensures.takes refl) (c.in_ok-name.ensures.takes refl) adds)

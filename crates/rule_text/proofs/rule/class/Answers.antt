@@ -1,11 +1,16 @@
-use Rattle.std.proofs.Common.{ap, refl}
-use Rattle.rule_text.specs.Written.{is_end}
-use Rattle.rule_text.proofs.Definitions.{class_read}
-use Rattle.rule_text.proofs.Expressions.{on_ok}
+use Rattle.rule_parts.specs.declared.Part.TheVariants as parts
+use Rattle.rule_text.specs.Rules.{Definition as definitions}
+use Rattle.rule_text.proofs.Definitions.{headed, miss_members}
+use Rattle.rule_text.proofs.Reading.{decides_by, exits_as, missed_from}
 use Rattle.rule_text.proofs.rule.class.Goals as goal
 
 pub returns : goal.returns
-returns c = on_ok c.wrap.result
-    (λ w. class_read c.requires (c.bump.ensures (ap is_end c.requires)) (c.in_ok-name.ensures refl) (c.in_ok-expect.ensures refl) c.in_ok-members.ensures
-    c.len-start.ensures c.size_from-size.ensures w)
-    c.wrap.ensures
+returns c =
+    decides_by c.wrap.result c.wrap.ensures.wraps c.wrap.ensures.only
+    (λ w. headed (λ n. parts.Set c.in_ok-name.name n) c.in_ok-name.ensures.read c.in_ok-members.ensures.reads c.len-start.ensures c.size_from-size.ensures w
+    (λ ps h v. definitions.class_of h v))
+
+pub returns-in_err-members : goal.returns-in_err-members
+returns-in_err-members c =
+    let h = c.in_ok-name.ensures.read in
+    exits_as c.in_err-members.ensures c.from_residual-in_err-members.ensures (λ m. miss_members h.given (missed_from h.words m))

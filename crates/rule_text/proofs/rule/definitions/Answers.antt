@@ -1,14 +1,17 @@
-use Rattle.rule_text.specs.Rules.Rules.{no_rule, one_more}
-use Rattle.rule_text.proofs.Definitions.{definition_goes}
-use Rattle.rule_text.proofs.Expressions.{measured}
-use Rattle.rule_text.proofs.Reading.{reads_both, reads_none}
+use Rattle.rule_text.specs.Rules.Rules.{no_rule}
+use Rattle.rule_text.proofs.Definitions.{rule_lead}
+use Rattle.rule_text.proofs.Goes.{definition_goes, measured}
+use Rattle.rule_text.proofs.Reading.{leads_end, read, reads_none}
 use Rattle.rule_text.proofs.rule.definitions.Goals as goal
 
-pub loop-reader-init : goal.loop-reader-init
-loop-reader-init c = reads_none c.args.reader.now no_rule
-
 pub loop-reader-smaller : goal.loop-reader-smaller
-loop-reader-smaller c = measured c.in_ok-definition.ensures.words (definition_goes c.in_ok-definition.ensures.written) (c.is_done.ensures.more c.loop-reader-test.true)
+loop-reader-smaller c =
+    let r = c.in_ok-definition.ensures.reads in
+    measured r.words (definition_goes r.written) (c.is_done.ensures.more c.loop-reader-test.true)
 
 pub loop-reader-preserved : goal.loop-reader-preserved
-loop-reader-preserved c = reads_both c.loop-reader.invariant c.in_ok-definition.ensures (λ ps qs v w. one_more v w)
+loop-reader-preserved c = rule_lead c.loop-reader.invariant (c.is_done.ensures.more c.loop-reader-test.true) c.in_ok-definition.ensures.reads
+
+pub returns-clause-reads : goal.returns-clause-reads
+returns-clause-reads c =
+    read (leads_end c.loop-reader.invariant (reads_none c.loop-reader.reader (no_rule (c.is_done.ensures.done c.loop-reader-test.false))))

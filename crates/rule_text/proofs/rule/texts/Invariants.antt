@@ -1,0 +1,10 @@
+use Rattle.std.proofs.Common.{◌-◌, length}
+use Rattle.rule_text.specs.Rules.{Texts}
+use Rattle.rule_text.proofs.Reading.{Leads}
+use Rattle.rule_text.proofs.rule.texts.Given as goal
+
+abbrev pub invariant-loop-reader : goal.invariant-loop-reader
+invariant-loop-reader l = Leads Texts Texts l.fn.reader l.reader
+
+abbrev pub decreases-loop-reader : goal.decreases-loop-reader
+decreases-loop-reader l = length l.reader.words.now - l.reader.at

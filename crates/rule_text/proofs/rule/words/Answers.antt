@@ -1,0 +1,16 @@
+use Rattle.rule_parts.specs.declared.Part.TheVariants as parts
+use Rattle.rule_text.specs.Rules.{Definition as definitions}
+use Rattle.rule_text.proofs.Definitions.{headed, miss_texts}
+use Rattle.rule_text.proofs.Reading.{decides_by, exits_as, missed_from}
+use Rattle.rule_text.proofs.rule.words.Goals as goal
+
+pub returns : goal.returns
+returns c =
+    decides_by c.wrap.result c.wrap.ensures.wraps c.wrap.ensures.only
+    (λ w. headed (λ n. parts.Words c.in_ok-name.name n) c.in_ok-name.ensures.read c.in_ok-texts.ensures.reads c.len-start.ensures c.size_from-size.ensures w
+    (λ ps h v. definitions.words_of h v))
+
+pub returns-in_err-texts : goal.returns-in_err-texts
+returns-in_err-texts c =
+    let h = c.in_ok-name.ensures.read in
+    exits_as c.in_err-texts.ensures c.from_residual-in_err-texts.ensures (λ m. miss_texts h.given (missed_from h.words m))
