@@ -7,3 +7,5 @@ pub mod Members
 pub mod MoreClasses
 pub mod Longer
 pub mod Words
+pub mod Below
+pub mod Linked

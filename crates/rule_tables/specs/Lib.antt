@@ -5,3 +5,6 @@ pub mod Made
 pub mod Faults
 pub mod Classes
 pub mod Sets
+pub mod Places
+pub mod Maps
+pub mod Walks

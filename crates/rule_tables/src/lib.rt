@@ -7,17 +7,21 @@
 
 mod classes;
 mod definitions;
+mod eats;
 mod error;
 mod follow;
 mod keyword_names;
 mod looks;
 mod map;
 mod messages;
+mod moves;
 mod names;
 mod numbers;
+mod place;
 mod rows;
 mod rules;
 mod sets;
+mod settled;
 mod walk;
 
 pub use error::RulesError;

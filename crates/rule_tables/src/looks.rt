@@ -4,10 +4,11 @@ ghost use Rattle.rule_tables.specs.Faults.{NamesNothing};
 ghost use Rattle.rule_tables.specs.Sets.{Extends};
 
 use crate::error::RulesError;
-use crate::map::{Map, NONE, Place};
+use crate::eats::{kinds_at, kinds_of};
+use crate::map::Map;
+use crate::place::{Place, Way};
 use crate::sets::{Sets, both, first_of, push, without};
-use crate::walk::{Walk, kinds_at};
-use rule_grammar::Part as Row;
+use crate::walk::Walk;
 use squawk_kinds::TokenSet;
 use std::alloc::{AllocError, Global};
 
@@ -25,6 +26,8 @@ pub(crate) type Look = [u16; 5];
 pub(crate) struct Looks<'m> {
     pub(crate) alloc: Global,
     pub(crate) map: &'m Map<'m>,
+    /// Whether the words that don't decide at a row go to its first way.
+    pub(crate) settled: &'m [bool],
     pub(crate) walk: Walk,
     pub(crate) sets: Sets,
     pub(crate) list: Vec<Look>,
@@ -32,28 +35,32 @@ pub(crate) struct Looks<'m> {
 
 impl Looks<'_> {
     /// The places that eat first, from one on.
-    pub(crate) fn from(&mut self, place: Place) -> Result<Vec<Place>, AllocError>
-        ensures { OnOk result (Extends self.old.sets.list.items self.new.sets.list.items) }
+    pub(crate) fn from(&mut self, place: Place) -> Result<Vec<Place>, RulesError>
+        ensures err { IfErr result NamesNothing }
+        ensures keeps { OnOk result (Extends self.old.sets.list.items self.new.sets.list.items) }
     {
-        self.walk.begin();
-        self.walk.push(place)?;
-        self.walk.places(self.alloc, self.map)
+        self.walk.from(self.alloc, self.map, place)
     }
 
-    /// The places that eat first, from the later arms or operators beside one on.
-    pub(crate) fn rivals(&mut self, row: usize) -> Result<Vec<Place>, AllocError>
-        ensures { OnOk result (Extends self.old.sets.list.items self.new.sets.list.items) }
+    /// The number of the look at which an arm or operator is gone into, and no later one beside it.
+    pub(crate) fn apart(&mut self, part: usize, way: Way) -> Result<u16, RulesError>
+        ensures err { IfErr result NamesNothing }
+        ensures keeps { OnOk result (Extends self.old.sets.list.items self.new.sets.list.items) }
     {
-        let mut rivals = Vec::new(self.alloc);
-        let mut at = self.map.next(row);
-        while at < NONE {
-            if is_alike(self.map.row(row), self.map.row(at)) {
-                let places = self.from(Place::Before(at))?;
-                rivals.extend_from_slice(&places)?;
-            }
-            at = self.map.next(at);
+        let mine = self.walk.from(self.alloc, self.map, Place::Before(part))?;
+        let others = self.walk.rivals(self.alloc, self.map, part, way)?;
+        self.decide(part, &mine, &others)
+    }
+
+    /// The number of the look at which a part goes on at its first row, and not after it.
+    pub(crate) fn more_in(&mut self, part: usize) -> Result<u16, RulesError>
+        ensures err { IfErr result NamesNothing }
+        ensures keeps { OnOk result (Extends self.old.sets.list.items self.new.sets.list.items) }
+    {
+        match self.map.first(part) {
+            Some(first) => self.more(part, Place::Before(first)),
+            None => Ok(0),
         }
-        Ok(rivals)
     }
 
     /// The number of the look at which a part goes on at a place, and not after it.
@@ -61,8 +68,8 @@ impl Looks<'_> {
         ensures err { IfErr result NamesNothing }
         ensures keeps { OnOk result (Extends self.old.sets.list.items self.new.sets.list.items) }
     {
-        let mine = self.from(place)?;
-        let others = self.from(Place::After(part))?;
+        let mine = self.walk.from(self.alloc, self.map, place)?;
+        let others = self.walk.from(self.alloc, self.map, Place::After(part))?;
         self.decide(part, &mine, &others)
     }
 
@@ -115,8 +122,13 @@ impl Looks<'_> {
         ensures err { IfErr result NamesNothing }
         ensures keeps { OnOk result (Extends self.old.sets.list.items self.new.sets.list.items) }
     {
+        let is_last = depth + 1 >= LOOK;
         let own = kinds_at(self.map, mine);
-        let shared = both(own, kinds_at(self.map, others));
+        let shared = if is_last && self.is_settled(part) {
+            TokenSet::EMPTY
+        } else {
+            both(own, kinds_at(self.map, others))
+        };
         let alone = without(own, shared);
         if alone != TokenSet::EMPTY {
             self.add(look, depth, alone)?;
@@ -124,7 +136,7 @@ impl Looks<'_> {
         if shared == TokenSet::EMPTY {
             return Ok(());
         }
-        if depth + 1 >= LOOK {
+        if is_last {
             return Err(RulesError::Undecided { part });
         }
         let groups = self.groups(mine, others, shared)?;
@@ -159,6 +171,13 @@ impl Looks<'_> {
         self.decide_after(part, &mine, &others, &look, depth + 1)
     }
 
+    fn is_settled(&self, part: usize) -> bool {
+        match self.settled.get(part) {
+            Some(is_settled) => *is_settled,
+            None => false,
+        }
+    }
+
     fn add(&mut self, look: &Look, depth: usize, set: TokenSet) -> Result<(), RulesError>
         requires { depth < 4 }
         ensures err { IfErr result NamesNothing }
@@ -180,7 +199,7 @@ impl Looks<'_> {
         let mut groups = Vec::new(self.alloc);
         groups.push(set)?;
         for place in mine.iter().chain(others.iter()) {
-            groups = self.cut(&groups, self.map.kinds(*place))?;
+            groups = self.cut(&groups, kinds_of(self.map, *place))?;
         }
         Ok(groups)
     }
@@ -192,14 +211,6 @@ impl Looks<'_> {
             add_some(&mut cut, without(*group, kinds))?;
         }
         Ok(cut)
-    }
-}
-
-/// Whether both are arms, or both operators.
-fn is_alike(one: Row, other: Row) -> bool {
-    match one {
-        Row::Arm { .. } => matches!(other, Row::Arm { .. }),
-        _ => matches!(other, Row::Tail { .. }),
     }
 }
 

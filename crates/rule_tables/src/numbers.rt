@@ -6,13 +6,12 @@ ghost use Rattle.rule_tables.specs.Sets.{Extends};
 ghost use Rattle.rule_tables.specs.Rows.{is_exact, tail_tag};
 
 use crate::error::RulesError;
-use crate::follow::{Ahead, tails};
+use crate::eats::kinds_at;
+use crate::follow::Ahead;
 use crate::looks::Looks;
-use crate::map::{NONE, Place};
-use crate::walk::kinds_at;
+use crate::place::{Place, Way};
 use rule_grammar::Part as Row;
 use squawk_kinds::TokenSet;
-use std::alloc::AllocError;
 
 /// The numbers of a row.
 pub(crate) fn numbers_of(
@@ -36,7 +35,7 @@ pub(crate) fn numbers_of(
     let begins = looks.sets.number(begins)?;
     let follows = looks.sets.number(known.follows)?;
     let later = looks.sets.number(known.later)?;
-    let look = look(looks, ahead, index, row)?;
+    let look = look(looks, &known, index, row)?;
     let part = with_end(part, known.ends);
     Ok([part, end, number, begins, follows, later, look, message])
 }
@@ -55,40 +54,32 @@ fn begins(
     known: &Ahead,
     index: usize,
     row: &Row,
-) -> Result<TokenSet, AllocError>
-    ensures { OnOk result (Extends looks.old.sets.list.items looks.new.sets.list.items) }
+) -> Result<TokenSet, RulesError>
+    ensures err { IfErr result NamesNothing }
+    ensures keeps { OnOk result (Extends looks.old.sets.list.items looks.new.sets.list.items) }
 {
     let is_way = matches!(row, Row::Arm { .. } | Row::Tail { .. } | Row::Choice { .. });
-    if is_way && looks.map.outer(index) != NONE {
+    if is_way && looks.map.outer(index).is_some() {
         let mine = looks.from(Place::Before(index))?;
         Ok(kinds_at(looks.map, &mine))
     } else {
-        Ok(known.begins)
+        Ok(known.begins.kinds)
     }
 }
 
 /// The look of a row, or the set of kinds that one of its operators begins with.
-fn look(looks: &mut Looks<'_>, ahead: &[Ahead], index: usize, row: &Row) -> Result<u16, RulesError>
+fn look(looks: &mut Looks<'_>, known: &Ahead, index: usize, row: &Row) -> Result<u16, RulesError>
     ensures err { IfErr result NamesNothing }
     ensures keeps { OnOk result (Extends looks.old.sets.list.items looks.new.sets.list.items) }
 {
     match row {
-        Row::Arm { .. } | Row::Tail { .. } => {
-            if looks.map.outer(index) == NONE {
-                return Ok(0);
-            }
-            let mine = looks.from(Place::Before(index))?;
-            let others = looks.rivals(index)?;
-            looks.decide(index, &mine, &others)
-        }
-        Row::Optional { .. } | Row::Repeat { .. } | Row::Some { .. } => {
-            looks.more(index, Place::Before(looks.map.first_in(index)))
-        }
+        Row::Arm { .. } => looks.apart(index, Way::Arm),
+        Row::Tail { .. } => looks.apart(index, Way::Tail),
+        Row::Optional { .. } => looks.more_in(index),
+        Row::Repeat { .. } => looks.more_in(index),
+        Row::Some { .. } => looks.more_in(index),
         Row::List { .. } => looks.more(index, Place::Separator(index)),
-        Row::Operators { .. } => {
-            let tails = tails(ahead, looks.map, index);
-            looks.sets.number(tails)
-        }
+        Row::Operators { .. } => looks.sets.number(known.again),
         _ => Ok(0),
     }
 }

@@ -12,12 +12,13 @@ use crate::definitions::refuse_doubled;
 use crate::error::RulesError;
 use crate::follow::{Ahead, ahead_of};
 use crate::looks::{Look, Looks};
-use crate::map::{Map, NONE};
+use crate::map::Map;
 use crate::messages::{Messages, row_of_message};
 use crate::names::Names;
 use crate::numbers::numbers_of;
 use crate::rows::{MOST, Span, file_of, rows_of};
 use crate::sets::{Sets, push};
+use crate::settled::settled_of;
 use crate::walk::Walk;
 use rule_grammar::{DEPTH, Part as Row, RuleGrammar, Table};
 use rule_parts::Part;
@@ -61,7 +62,8 @@ impl Rules {
         let rows = rows_of(alloc, parts, names)?;
         let sets = sets_of(alloc, parts, names)?;
         let messages = Messages::new(alloc, parts)?;
-        rules_of(alloc, &rows, &sets, messages, file_of(parts)?)
+        let settled = settled_of(alloc, parts, &rows)?;
+        rules_of(alloc, &rows, &sets, &settled, messages, file_of(parts)?)
     }
 
     /// The rules as a table.
@@ -125,6 +127,7 @@ fn rules_of(
     alloc: Global,
     rows: &[Row],
     sets: &[TokenSet],
+    settled: &[bool],
     messages: Messages,
     file: Span,
 ) -> Result<Rules, RulesError>
@@ -135,12 +138,13 @@ fn rules_of(
     ensures start { IfOk result (λ rules. rules.start ≡ file.start) }
     ensures end { IfOk result (λ rules. rules.end ≡ file.end) }
 {
-    let map = Map::new(alloc, rows, sets)?;
+    let map = Map::new(alloc, rows, sets, usize::from(file.start).saturating_sub(1))?;
     let ahead = ahead_of(alloc, &map)?;
     let mut looks = Looks {
         alloc,
         map: &map,
-        walk: Walk::new(alloc, rows.len(), usize::from(file.start).saturating_sub(1))?,
+        settled,
+        walk: Walk::new(alloc),
         sets: Sets::new(alloc, sets)?,
         list: Vec::new(alloc),
     };
@@ -170,7 +174,7 @@ fn all_numbers(
     let mut numbers = Vec::new(looks.alloc);
     let mut rule = 0usize;
     for (index, row) in rows.iter().enumerate() {
-        if looks.map.outer(index) == NONE {
+        if looks.map.outer(index).is_none() {
             rule = index;
         }
         let message = to_u16(row_of_message(looks.map, index, rule));

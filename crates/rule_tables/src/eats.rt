@@ -1,0 +1,84 @@
+//! Which tokens are eaten at a place.
+ghost use Rattle.std.specs.Prelude.{◌≡◌, ℕ, Some};
+ghost use Rattle.squawk_kinds.specs.TokenSets.{has};
+ghost use Rattle.rule_tables.specs.Classes.{list_has};
+ghost use Rattle.rule_tables.specs.Places.{does_eat, eats, is_token_row, row_eats, separates};
+ghost use Rattle.rule_tables.specs.Walks.{plan_of};
+
+use crate::map::Map;
+use crate::place::Place;
+use crate::sets::set_of;
+use rule_grammar::Part as Row;
+use squawk_kinds::{SyntaxKind, TokenSet};
+
+/// The kinds of tokens that are eaten at a place.
+pub(crate) fn kinds_of(map: &Map<'_>, place: Place) -> TokenSet
+    ensures { (kind : ℕ) → has result kind ≡ eats (plan_of map.now) place kind }
+{
+    match place {
+        Place::Before(row) => match map.rows.get(row) {
+            Some(part) => kinds_before(map.sets, part),
+            None => TokenSet::EMPTY,
+        },
+        Place::After(_) => TokenSet::EMPTY,
+        Place::Separator(row) => match map.rows.get(row) {
+            Some(part) => separators(part),
+            None => TokenSet::EMPTY,
+        },
+        Place::End => set_of(SyntaxKind::EOF),
+    }
+}
+
+fn kinds_before(sets: &[TokenSet], part: &Row) -> TokenSet
+    ensures { (kind : ℕ) → has result kind ≡ row_eats sets.now (Some part.now) kind }
+{
+    match part {
+        Row::Token { kind } => set_of(*kind),
+        Row::Class { set } => set_at(sets, *set),
+        _ => TokenSet::EMPTY,
+    }
+}
+
+fn set_at(sets: &[TokenSet], number: u16) -> TokenSet
+    ensures { (kind : ℕ) → has result kind ≡ list_has sets.now number kind }
+{
+    match sets.get(usize::from(number)) {
+        Some(set) => *set,
+        None => TokenSet::EMPTY,
+    }
+}
+
+/// The kind of the separators of a list.
+pub(crate) fn separators(part: &Row) -> TokenSet
+    ensures { (kind : ℕ) → has result kind ≡ separates (Some part.now) kind }
+{
+    match part {
+        Row::List { separator, .. } => set_of(*separator),
+        _ => TokenSet::EMPTY,
+    }
+}
+
+/// Whether a token is eaten at a place.
+pub(crate) fn does_eat(map: &Map<'_>, place: Place) -> bool
+    ensures { result ≡ does_eat (plan_of map.now) place }
+{
+    match place {
+        Place::Before(row) => match map.rows.get(row) {
+            Some(Row::Token { .. }) => true,
+            Some(Row::Class { .. }) => true,
+            _ => false,
+        },
+        Place::After(_) => false,
+        Place::Separator(_) => true,
+        Place::End => true,
+    }
+}
+
+/// The kinds that are eaten at some places.
+pub(crate) fn kinds_at(map: &Map<'_>, places: &[Place]) -> TokenSet {
+    let mut kinds = TokenSet::EMPTY;
+    for place in places {
+        kinds = kinds.union(kinds_of(map, *place));
+    }
+    kinds
+}
