@@ -9,3 +9,7 @@ pub mod Longer
 pub mod Words
 pub mod Below
 pub mod Linked
+pub mod Walking
+pub mod Marks
+pub mod Other
+pub mod Leading

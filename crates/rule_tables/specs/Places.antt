@@ -52,13 +52,13 @@ first_in rows k = if nat_lt (k + 1) (end_at rows k) then Some (k + 1) else None
 abbrev pub next_in : List Part → ℕ → ℕ → Option ℕ
 next_in rows k o = if nat_lt (max (end_at rows k) (k + 1)) (end_at rows o) then Some (max (end_at rows k) (k + 1)) else None
 
--- how a row leads to another
-abbrev pub way_of : Option Part → Option Way
-way_of (Some (Arm end)) = Some way.Arm
-way_of (Some (Tail end level top)) = Some way.Tail
-way_of (Some (Call start end)) = Some way.Call
-way_of (Some (Operand operators floor)) = Some way.Call
-way_of row = None
+-- whether a row leads so to another
+abbrev pub leads_as : Way → Option Part → Bool
+leads_as way.Arm (Some (Arm end)) = true
+leads_as way.Tail (Some (Tail end level top)) = true
+leads_as way.Call (Some (Call start end)) = true
+leads_as way.Call (Some (Operand operators floor)) = true
+leads_as way row = false
 
 -- the row that row k leads to, where it is this one: an arm or an operator to the one that it is in, a call or an
 -- operand to the one that it names
@@ -71,7 +71,7 @@ goal_of rows k row = None
 
 -- row k leads so to row h
 pub record Leads (rows : List Part) (way : Way) (h k : ℕ) : Type 0 where
-  pub by : way_of (slice_get rows k) ≡ Some way
+  pub by : leads_as way (slice_get rows k) ≡ true
   pub goal : goal_of rows k (slice_get rows k) ≡ Some h
 
 -- ---- where parsing goes without eating a token

@@ -1,5 +1,5 @@
 -- What a walk over places keeps, and what it finds.
-use Rattle.std.specs.Prelude.{◌≡◌, ℕ, ◌+◌, ◌*◌, ◌<◌, ◌≤◌, ◌==◌, ◌⊎◌, IsTrue, Some, List, ◌∷◌, length, slice_get, slice_index}
+use Rattle.std.specs.Prelude.{◌≡◌, ℕ, ◌+◌, ◌*◌, ◌<◌, ◌≤◌, ◌==◌, ◌⊎◌, IsTrue, Some, List, [], ◌∷◌, length, slice_get, slice_index}
 use Rattle.std.specs.List.{All, count_by}
 use Rattle.rule_tables.specs.Places.{IsOneOf, Leads, Moves, Plan, Sees, SeesFrom, does_eat, led_to}
 use Rattle.rule_tables.specs.declared.place.Place.{Place}
@@ -24,19 +24,18 @@ slot End = 0
 abbrev pub slots : ℕ → ℕ
 slots n = 3 * n + 1
 
--- a walk over n rows: what has its mark was reached, and so many have it
-pub record IsWalking (n : ℕ) (walk : Walk) : Type 0 where
+-- a walk: what has its mark was reached, and so many places have it
+pub record IsWalking (walk : Walk) : Type 0 where
   pub begun : 0 < walk.number
-  pub len : length walk.marks.items ≡ slots n
   pub noted : (p : Place) → slice_index walk.marks.items (slot p) ≡ walk.number → IsOneOf walk.reached.items p
   pub count : count_by (λ mark. mark == walk.number) walk.marks.items ≡ length walk.reached.items
 
--- places are reached after others: all that are such, and no others
-pub record Reaches (n : ℕ) (old new : List Place) (Such : Place → Type 0) : Type 0 where
+-- places are reached after others: all that are such and have a mark, and no others
+pub record Reaches (marks : ℕ) (old new : List Place) (Such : Place → Type 0) : Type 0 where
   pub longer : length old ≤ length new
   pub same : (i : ℕ) → i < length old → slice_get new i ≡ slice_get old i
   pub only : (i : ℕ) (p : Place) → slice_get new i ≡ Some p → (i < length old) ⊎ Such p
-  pub all : (p : Place) → Such p → slot p < slots n → IsOneOf new p
+  pub all : (p : Place) → Such p → slot p < marks → IsOneOf new p
 
 -- the place of a row, from a row on, that leads so to row h of the rows
 pub record IsLedFrom (rows : List Part) (way : Way) (h from : ℕ) (q : Place) : Type 0 where
@@ -47,9 +46,16 @@ pub record IsLedFrom (rows : List Part) (way : Way) (h from : ℕ) (q : Place) :
   pub is : q ≡ led_to way row
 
 -- a step of a walk
-pub record Goes (n : ℕ) (old new : Walk) (Such : Place → Type 0) : Type 0 where
-  pub walks : IsWalking n new
-  pub reaches : Reaches n old.reached.items new.reached.items Such
+pub record Goes (old new : Walk) (Such : Place → Type 0) : Type 0 where
+  pub len : length new.marks.items ≡ length old.marks.items
+  pub walks : IsWalking old → IsWalking new
+  pub reaches : IsWalking old → Reaches (length old.marks.items) old.reached.items new.reached.items Such
+
+-- a walk over these rows has reached what is such, so far
+pub record HasReached (plan : Plan) (walk : Walk) (Such : Place → Type 0) : Type 0 where
+  pub walks : IsWalking walk
+  pub len : length walk.marks.items ≡ slots (length plan.rows)
+  pub reaches : Reaches (slots (length plan.rows)) [] walk.reached.items Such
 
 -- all places are reached that lead on from these
 pub record IsClosed (plan : Plan) (seeds reached : List Place) : Type 0 where

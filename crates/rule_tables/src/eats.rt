@@ -1,5 +1,5 @@
 //! Which tokens are eaten at a place.
-ghost use Rattle.std.specs.Prelude.{◌≡◌, ℕ, Some};
+ghost use Rattle.std.specs.Prelude.{◌≡◌, ℕ, Some, slice_get};
 ghost use Rattle.squawk_kinds.specs.TokenSets.{has};
 ghost use Rattle.rule_tables.specs.Classes.{list_has};
 ghost use Rattle.rule_tables.specs.Places.{does_eat, eats, is_token_row, row_eats, separates};
@@ -16,26 +16,38 @@ pub(crate) fn kinds_of(map: &Map<'_>, place: Place) -> TokenSet
     ensures { (kind : ℕ) → has result kind ≡ eats (plan_of map.now) place kind }
 {
     match place {
-        Place::Before(row) => match map.rows.get(row) {
-            Some(part) => kinds_before(map.sets, part),
-            None => TokenSet::EMPTY,
-        },
+        Place::Before(row) => kinds_before(map, row),
         Place::After(_) => TokenSet::EMPTY,
-        Place::Separator(row) => match map.rows.get(row) {
-            Some(part) => separators(part),
-            None => TokenSet::EMPTY,
-        },
+        Place::Separator(row) => separators_at(map, row),
         Place::End => set_of(SyntaxKind::EOF),
     }
 }
 
-fn kinds_before(sets: &[TokenSet], part: &Row) -> TokenSet
+fn kinds_before(map: &Map<'_>, row: usize) -> TokenSet
+    ensures { (kind : ℕ) → has result kind ≡ row_eats map.now.sets.now (slice_get map.now.rows.now row) kind }
+{
+    match map.rows.get(row) {
+        Some(part) => kinds_in(map.sets, part),
+        None => TokenSet::EMPTY,
+    }
+}
+
+fn kinds_in(sets: &[TokenSet], part: &Row) -> TokenSet
     ensures { (kind : ℕ) → has result kind ≡ row_eats sets.now (Some part.now) kind }
 {
     match part {
         Row::Token { kind } => set_of(*kind),
         Row::Class { set } => set_at(sets, *set),
         _ => TokenSet::EMPTY,
+    }
+}
+
+fn separators_at(map: &Map<'_>, row: usize) -> TokenSet
+    ensures { (kind : ℕ) → has result kind ≡ separates (slice_get map.now.rows.now row) kind }
+{
+    match map.rows.get(row) {
+        Some(part) => separators(part),
+        None => TokenSet::EMPTY,
     }
 }
 
@@ -63,15 +75,26 @@ pub(crate) fn does_eat(map: &Map<'_>, place: Place) -> bool
     ensures { result ≡ does_eat (plan_of map.now) place }
 {
     match place {
-        Place::Before(row) => match map.rows.get(row) {
-            Some(Row::Token { .. }) => true,
-            Some(Row::Class { .. }) => true,
-            _ => false,
-        },
+        Place::Before(row) => is_token_row(map, row),
         Place::After(_) => false,
         Place::Separator(_) => true,
         Place::End => true,
     }
+}
+
+fn is_token_row(map: &Map<'_>, row: usize) -> bool
+    ensures { result ≡ is_token_row (slice_get map.now.rows.now row) }
+{
+    match map.rows.get(row) {
+        Some(part) => is_token(part),
+        None => false,
+    }
+}
+
+fn is_token(part: &Row) -> bool
+    ensures { result ≡ is_token_row (Some part.now) }
+{
+    matches!(part, Row::Token { .. } | Row::Class { .. })
 }
 
 /// The kinds that are eaten at some places.

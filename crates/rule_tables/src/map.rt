@@ -1,5 +1,5 @@
 //! How rows stand in one another, and lead to one another.
-ghost use Rattle.std.specs.Prelude.{◌≡◌, ℕ, ◌+◌, ◌<◌, ◌≤◌, List, None, Some, IfOk, length, slice_get, true};
+ghost use Rattle.std.specs.Prelude.{◌≡◌, ℕ, ◌+◌, ◌<◌, ◌≤◌, List, Some, IfOk, length, slice_get, true};
 ghost use Rattle.std.proofs.Props.{props};
 ghost use Rattle.rule_grammar.specs.declared.part.Part.{Part};
 ghost use Rattle.rule_tables.specs.Places.{end_at, end_in, first_in, goal_of, last_below, next_in, outer_of};
@@ -86,8 +86,7 @@ impl<'m> Map<'m> {
 
     /// The last row that leads to one.
     pub(crate) fn last_to(&self, row: usize) -> Option<usize>
-        ensures within { row < length self.now.rows.now → result ≡ last_below (leads_to self.now.rows.now row) (length self.now.rows.now) }
-        ensures past { length self.now.rows.now ≤ row → result ≡ None }
+        ensures { row < length self.now.rows.now → result ≡ last_below (leads_to self.now.rows.now row) (length self.now.rows.now) }
     {
         read(&self.lasts, row)
     }

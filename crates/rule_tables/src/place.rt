@@ -1,4 +1,6 @@
 //! Places in rules.
+ghost use Rattle.std.specs.Prelude.{◌≡◌, min};
+ghost use Rattle.rule_tables.specs.Walks.{slot};
 
 /// A place in rules.
 #[derive(Clone, Copy)]
@@ -22,4 +24,16 @@ pub(crate) enum Way {
     Tail,
     /// As a call of it.
     Call,
+}
+
+/// The number of the mark of a place.
+pub(crate) fn slot_of(place: Place) -> usize
+    ensures { result ≡ min (slot place) 18446744073709551615 }
+{
+    match place {
+        Place::Before(row) => row.saturating_mul(3).saturating_add(1),
+        Place::After(row) => row.saturating_mul(3).saturating_add(2),
+        Place::Separator(row) => row.saturating_mul(3).saturating_add(3),
+        Place::End => 0,
+    }
 }

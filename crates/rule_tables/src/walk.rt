@@ -5,7 +5,7 @@ ghost use Rattle.rule_tables.specs.Faults.{NamesNothing};
 use crate::eats::{does_eat, kinds_of};
 use crate::error::RulesError;
 use crate::map::Map;
-use crate::place::{Place, Way};
+use crate::place::{Place, Way, slot_of};
 use crate::sets::push;
 use squawk_kinds::SyntaxKind;
 use std::alloc::{AllocError, Global};
@@ -24,7 +24,7 @@ pub(crate) struct Walk {
 
 impl Walk {
     ghost use Rattle.rule_tables.specs.Places.{Sees, SeesFrom, SeesRival, Steps, does_eat, eats};
-    ghost use Rattle.rule_tables.specs.Walks.{AreFirst, Goes, IsClosed, IsWalking, plan_of};
+    ghost use Rattle.rule_tables.specs.Walks.{AreFirst, Goes, HasReached, IsClosed, IsWalking, plan_of, slots};
 
     pub(crate) fn new(alloc: Global) -> Walk {
         Walk {
@@ -89,8 +89,7 @@ impl Walk {
 
     /// Goes over a token of the kind, if it is eaten at a place.
     fn step(&mut self, map: &Map<'_>, place: Place, kind: SyntaxKind) -> Result<(), AllocError>
-        requires { IsWalking (length map.now.rows.now) self.old }
-        ensures { OnOk result (Goes (length map.now.rows.now) self.old self.new (λ q. (eats (plan_of map.now) place kind ≡ true) × Steps (plan_of map.now) place q)) }
+        ensures { OnOk result (Goes self.old self.new (λ q. (eats (plan_of map.now) place kind ≡ true) × Steps (plan_of map.now) place q)) }
     {
         if kinds_of(map, place).contains(kind) {
             self.go_over(map, place)
@@ -102,8 +101,7 @@ impl Walk {
     /// Begins a walk.
     fn begin(&mut self, map: &Map<'_>) -> Result<(), RulesError>
         ensures err { IfErr result NamesNothing }
-        ensures walks { OnOk result (IsWalking (length map.now.rows.now) self.new) }
-        ensures reached { OnOk result (self.new.reached.items ≡ []) }
+        ensures ok { OnOk result (HasReached (plan_of map.now) self.new (λ q. ⊥)) }
     {
         self.reached.clear();
         self.marks.resize(3 * map.rows.len() + 1, 0)?;
@@ -117,7 +115,7 @@ impl Walk {
 
     /// Reaches a place, once.
     pub(crate) fn push(&mut self, place: Place) -> Result<(), AllocError>
-        ensures { OnOk result ((n : ℕ) → IsWalking n self.old → Goes n self.old self.new (λ q. q ≡ place)) }
+        ensures { OnOk result (Goes self.old self.new (λ q. q ≡ place)) }
     {
         let slot = slot_of(place);
         if slot < self.marks.len() && self.marks[slot] != self.number {
@@ -129,7 +127,8 @@ impl Walk {
 
     /// Goes on until nothing is new. Returns the places that eat.
     fn finish(&mut self, alloc: Global, map: &Map<'_>) -> Result<Vec<Place>, RulesError>
-        requires { IsWalking (length map.now.rows.now) self.old }
+        requires walks { IsWalking self.old }
+        requires len { length self.old.marks.items ≡ slots (length map.now.rows.now) }
         ensures err { IfErr result NamesNothing }
         ensures ok { IfOk result (λ places. AreFirst (plan_of map.now) (SeesFrom (plan_of map.now) self.old.reached.items) places.items) }
     {
@@ -145,7 +144,8 @@ impl Walk {
 
     /// Goes on until nothing is new.
     fn go_all(&mut self, map: &Map<'_>) -> Result<(), AllocError>
-        requires { IsWalking (length map.now.rows.now) self.old }
+        requires walks { IsWalking self.old }
+        requires len { length self.old.marks.items ≡ slots (length map.now.rows.now) }
         ensures { OnOk result (IsClosed (plan_of map.now) self.old.reached.items self.new.reached.items) }
     {
         let mut done = 0usize;
@@ -155,15 +155,5 @@ impl Walk {
             done += 1;
         }
         Ok(())
-    }
-}
-
-/// The number of the mark of a place.
-fn slot_of(place: Place) -> usize {
-    match place {
-        Place::Before(row) => row.saturating_mul(3).saturating_add(1),
-        Place::After(row) => row.saturating_mul(3).saturating_add(2),
-        Place::Separator(row) => row.saturating_mul(3).saturating_add(3),
-        Place::End => 0,
     }
 }

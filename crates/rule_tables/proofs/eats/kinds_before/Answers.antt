@@ -1,0 +1,7 @@
+use Rattle.std.proofs.Common.{◌∙◌, ap}
+use Rattle.squawk_kinds.proofs.TokenSetLemmas.{has-no_kinds}
+use Rattle.rule_tables.specs.Places.{row_eats}
+use Rattle.rule_tables.proofs.eats.kinds_before.Goals as goal
+
+pub returns-in-None : goal.returns-in-None
+returns-in-None c kind = has-no_kinds kind ∙ ap (λ row. row_eats c.args.map.now.sets.now row kind) c.in-None.ensures.lookup
