@@ -13,3 +13,6 @@ pub mod Walking
 pub mod Marks
 pub mod Other
 pub mod Leading
+pub mod Closing
+pub mod Over
+pub mod Cuts

@@ -1,5 +1,5 @@
 -- Walks over places, one place after another.
-use Rattle.std.proofs.Common.{◌≡◌, ℕ, zero, suc, ◌+◌, ◌*◌, ◌<◌, ◌≤◌, ◌==◌, ◌⊎◌, inl, inr, List, [], ◌∷◌, ◌++◌, length, Option, Some, None, Result, Ok, Err, OnOk, slice_get, get_or, set, arith, refl, sym, subst, ap, ◌∙◌, length-append, length-set, get_or-set_same, get_or-set_other}
+use Rattle.std.proofs.Common.{◌≡◌, ℕ, zero, suc, ◌+◌, ◌*◌, ◌<◌, ◌≤◌, ◌==◌, ◌⊎◌, inl, inr, List, [], ◌∷◌, ◌++◌, length, Option, Some, None, Result, Ok, Err, IfOk, OnOk, slice_get, get_or, set, arith, refl, sym, subst, ap, ◌∙◌, length-append, length-set, get_or-set_same, get_or-set_other}
 use Rattle.std.proofs.lemmas.Bool.{cases_eq}
 use Rattle.std.proofs.lemmas.Option.{slice_get_within}
 use Rattle.rule_tables.specs.Places.{IsOneOf}
@@ -75,3 +75,7 @@ slot-same (After a) (After b) e = ap After (omega arith)
 slot-same (Separator a) (Separator b) e = ap Separator (omega arith)
 slot-same End End e = refl
 slot-same p q e = absurd (omega arith)
+
+pub if_ok : {T E : Type 0} {P Q : T → Type 0} → ((x : T) → P x → Q x) → (r : Result T E) → IfOk r P → IfOk r Q
+if_ok each (Ok x) p = each x p
+if_ok each (Err e) p = tt

@@ -8,3 +8,4 @@ pub mod Sets
 pub mod Places
 pub mod Maps
 pub mod Walks
+pub mod Looks

@@ -226,7 +226,7 @@ pub record SeesRival (plan : Plan) (way : Way) (k : ℕ) (word : List ℕ) : Typ
   pub inside : outer_of plan.rows k ≡ Some outer
   pub beside : Leads plan.rows way outer rival
   pub later : k < rival
-  pub sees : Sees plan (Before rival) word
+  pub sees : Sees plan (led_to way rival) word
 
 -- so many kinds come both ways
 pub record AreShared (count : ℕ) (one other : List ℕ → Type 0) : Type 0 where

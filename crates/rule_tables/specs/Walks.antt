@@ -1,5 +1,5 @@
 -- What a walk over places keeps, and what it finds.
-use Rattle.std.specs.Prelude.{◌≡◌, ℕ, ◌+◌, ◌*◌, ◌<◌, ◌≤◌, ◌==◌, ◌⊎◌, IsTrue, Some, List, [], ◌∷◌, length, slice_get, slice_index}
+use Rattle.std.specs.Prelude.{◌≡◌, ℕ, ◌+◌, ◌*◌, ◌<◌, ◌≤◌, ◌==◌, ◌⊎◌, true, Some, List, [], ◌∷◌, length, slice_get, slice_index}
 use Rattle.std.specs.List.{All, count_by}
 use Rattle.rule_tables.specs.Places.{IsOneOf, Leads, Moves, Plan, Sees, SeesFrom, does_eat, led_to}
 use Rattle.rule_tables.specs.declared.place.Place.{Place}
@@ -65,6 +65,6 @@ pub record IsClosed (plan : Plan) (seeds reached : List Place) : Type 0 where
 
 -- places that eat, and the words that come from them: such words, and all of them
 pub record AreFirst (plan : Plan) (Such : List ℕ → Type 0) (places : List Place) : Type 0 where
-  pub eat : All (λ p. IsTrue (does_eat plan p)) places
+  pub eat : All (λ p. does_eat plan p ≡ true) places
   pub only : (kind : ℕ) (word : List ℕ) → SeesFrom plan places (kind ∷ word) → Such (kind ∷ word)
   pub all : (kind : ℕ) (word : List ℕ) → Such (kind ∷ word) → SeesFrom plan places (kind ∷ word)

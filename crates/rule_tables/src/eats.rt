@@ -1,5 +1,6 @@
 //! Which tokens are eaten at a place.
-ghost use Rattle.std.specs.Prelude.{◌≡◌, ℕ, Some, slice_get};
+ghost use Rattle.std.specs.Prelude.{◌≡◌, ℕ, IfOk, Some, slice_get};
+ghost use Rattle.std.specs.List.{filter, list_any};
 ghost use Rattle.squawk_kinds.specs.TokenSets.{has};
 ghost use Rattle.rule_tables.specs.Classes.{list_has};
 ghost use Rattle.rule_tables.specs.Places.{does_eat, eats, is_token_row, row_eats, separates};
@@ -10,6 +11,7 @@ use crate::place::Place;
 use crate::sets::set_of;
 use rule_grammar::Part as Row;
 use squawk_kinds::{SyntaxKind, TokenSet};
+use std::alloc::{AllocError, Global};
 
 /// The kinds of tokens that are eaten at a place.
 pub(crate) fn kinds_of(map: &Map<'_>, place: Place) -> TokenSet
@@ -97,8 +99,25 @@ fn is_token(part: &Row) -> bool
     matches!(part, Row::Token { .. } | Row::Class { .. })
 }
 
+/// Those of some places where a token is eaten.
+pub(crate) fn eaters(
+    alloc: Global,
+    map: &Map<'_>,
+    places: &[Place],
+) -> Result<Vec<Place>, AllocError>
+    ensures { IfOk result (λ found. found.items ≡ filter (does_eat (plan_of map.now)) places.now) }
+{
+    places
+        .iter()
+        .filter(|place| does_eat(map, **place))
+        .copied()
+        .collect(alloc)
+}
+
 /// The kinds that are eaten at some places.
-pub(crate) fn kinds_at(map: &Map<'_>, places: &[Place]) -> TokenSet {
+pub(crate) fn kinds_at(map: &Map<'_>, places: &[Place]) -> TokenSet
+    ensures { (kind : ℕ) → has result kind ≡ list_any (λ p. eats (plan_of map.now) p kind) places.now }
+{
     let mut kinds = TokenSet::EMPTY;
     for place in places {
         kinds = kinds.union(kinds_of(map, *place));

@@ -10,6 +10,7 @@ mod definitions;
 mod eats;
 mod error;
 mod follow;
+mod groups;
 mod keyword_names;
 mod looks;
 mod map;

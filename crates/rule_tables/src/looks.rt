@@ -4,7 +4,8 @@ ghost use Rattle.rule_tables.specs.Faults.{NamesNothing};
 ghost use Rattle.rule_tables.specs.Sets.{Extends};
 
 use crate::error::RulesError;
-use crate::eats::{kinds_at, kinds_of};
+use crate::eats::kinds_at;
+use crate::groups::groups;
 use crate::map::Map;
 use crate::place::{Place, Way};
 use crate::sets::{Sets, both, first_of, push, without};
@@ -139,7 +140,7 @@ impl Looks<'_> {
         if is_last {
             return Err(RulesError::Undecided { part });
         }
-        let groups = self.groups(mine, others, shared)?;
+        let groups = groups(self.alloc, self.map, mine, others, shared)?;
         for group in &groups {
             self.decide_group(part, mine, others, look, depth, *group)?;
         }
@@ -188,38 +189,6 @@ impl Looks<'_> {
         push(&mut self.list, look)?;
         Ok(())
     }
-
-    /// The set, cut into kinds that are eaten at the same places.
-    fn groups(
-        &self,
-        mine: &[Place],
-        others: &[Place],
-        set: TokenSet,
-    ) -> Result<Vec<TokenSet>, AllocError> {
-        let mut groups = Vec::new(self.alloc);
-        groups.push(set)?;
-        for place in mine.iter().chain(others.iter()) {
-            groups = self.cut(&groups, kinds_of(self.map, *place))?;
-        }
-        Ok(groups)
-    }
-
-    fn cut(&self, groups: &[TokenSet], kinds: TokenSet) -> Result<Vec<TokenSet>, AllocError> {
-        let mut cut = Vec::new(self.alloc);
-        for group in groups {
-            add_some(&mut cut, both(*group, kinds))?;
-            add_some(&mut cut, without(*group, kinds))?;
-        }
-        Ok(cut)
-    }
-}
-
-/// Adds a set, unless it is empty.
-fn add_some(sets: &mut Vec<TokenSet>, set: TokenSet) -> Result<(), AllocError> {
-    if set != TokenSet::EMPTY {
-        sets.push(set)?;
-    }
-    Ok(())
 }
 
 /// The number of a look, from 1.

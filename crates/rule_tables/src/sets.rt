@@ -1,5 +1,5 @@
 //! Sets of kinds, each once.
-ghost use Rattle.std.specs.Prelude.{◌≡◌, ℕ, ◌&&◌, ◌++◌, ◌∷◌, [], IfErr, IfOk, OnOk, Some, not};
+ghost use Rattle.std.specs.Prelude.{◌≡◌, ℕ, ◌&&◌, ◌++◌, ◌∷◌, [], IfErr, IfOk, IfSome, None, OnOk, Some, not, true, false};
 ghost use Rattle.squawk_kinds.specs.TokenSets.{has};
 ghost use Rattle.rule_tables.specs.Classes.{is_token};
 ghost use Rattle.rule_tables.specs.Faults.{NamesNothing};
@@ -63,21 +63,10 @@ pub(crate) fn set_of(kind: SyntaxKind) -> TokenSet
 }
 
 /// The kinds that are in both sets.
-pub(crate) fn both(one: TokenSet, other: TokenSet) -> TokenSet {
-    let a = one.0;
-    let b = other.0;
-    TokenSet::from_words([
-        a[0] & b[0],
-        a[1] & b[1],
-        a[2] & b[2],
-        a[3] & b[3],
-        a[4] & b[4],
-        a[5] & b[5],
-        a[6] & b[6],
-        a[7] & b[7],
-        a[8] & b[8],
-        a[9] & b[9],
-    ])
+pub(crate) fn both(one: TokenSet, other: TokenSet) -> TokenSet
+    ensures { (kind : ℕ) → has result kind ≡ (has one kind && has other kind) }
+{
+    without(one, without(one, other))
 }
 
 /// The kinds of a set that aren't in another.
@@ -101,7 +90,13 @@ pub(crate) fn without(one: TokenSet, other: TokenSet) -> TokenSet
 }
 
 /// The least kind of a set.
-pub(crate) fn first_of(set: TokenSet) -> Option<SyntaxKind> {
+pub(crate) fn first_of(set: TokenSet) -> Option<SyntaxKind>
+    ensures some { IfSome result (λ kind. has set kind ≡ true) }
+    ensures none { result ≡ None → (kind : ℕ) → has set kind ≡ false }
+{
+    if set == TokenSet::EMPTY {
+        return None;
+    }
     for number in 0..640u16 {
         if set.contains(SyntaxKind(number)) {
             return Some(SyntaxKind(number));

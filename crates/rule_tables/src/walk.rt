@@ -1,8 +1,8 @@
 //! Which places come from a place on, without eating.
-ghost use Rattle.std.specs.Prelude.{◌≡◌, ℕ, ◌<◌, ◌≤◌, All, IfErr, IfOk, IsTrue, OnOk, [], ◌∷◌, length, slice_index, true};
+ghost use Rattle.std.specs.Prelude.{◌≡◌, ℕ, ◌<◌, ◌≤◌, All, IfErr, IfOk, OnOk, [], ◌∷◌, length, slice_index, true};
 ghost use Rattle.rule_tables.specs.Faults.{NamesNothing};
 
-use crate::eats::{does_eat, kinds_of};
+use crate::eats::{eaters, kinds_of};
 use crate::error::RulesError;
 use crate::map::Map;
 use crate::place::{Place, Way, slot_of};
@@ -62,10 +62,13 @@ impl Walk {
         ensures ok { IfOk result (λ places. AreFirst (plan_of map.now) (SeesRival (plan_of map.now) way row) places.items) }
     {
         self.begin(map)?;
-        if let Some(outer) = map.outer(row) {
-            self.lead_from(map, outer, way, row + 1)?;
+        match map.outer(row) {
+            Some(outer) => {
+                self.lead_from(map, outer, way, row + 1)?;
+                self.finish(alloc, map)
+            }
+            None => self.finish(alloc, map),
         }
-        self.finish(alloc, map)
     }
 
     /// The places that eat first after a token of the kind was eaten at one of these.
@@ -76,7 +79,7 @@ impl Walk {
         places: &[Place],
         kind: SyntaxKind,
     ) -> Result<Vec<Place>, RulesError>
-        requires { All (λ p. IsTrue (does_eat (plan_of map.now) p)) places.now }
+        requires { All (λ p. does_eat (plan_of map.now) p ≡ true) places.now }
         ensures err { IfErr result NamesNothing }
         ensures ok { IfOk result (λ found. AreFirst (plan_of map.now) (λ word. SeesFrom (plan_of map.now) places.now (kind ∷ word)) found.items) }
     {
@@ -133,12 +136,7 @@ impl Walk {
         ensures ok { IfOk result (λ places. AreFirst (plan_of map.now) (SeesFrom (plan_of map.now) self.old.reached.items) places.items) }
     {
         self.go_all(map)?;
-        let places = self
-            .reached
-            .iter()
-            .filter(|place| does_eat(map, **place))
-            .copied()
-            .collect(alloc)?;
+        let places = eaters(alloc, map, &self.reached)?;
         Ok(places)
     }
 

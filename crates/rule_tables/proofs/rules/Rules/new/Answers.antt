@@ -1,9 +1,10 @@
-use Rattle.std.proofs.Common.{rules, All, IfOk, Err, List, Ok, Result, length, sym, subst, IsTrue}
+use Rattle.std.proofs.Common.{rules, All, List, length, sym, subst, IsTrue}
 use Rattle.rule_grammar.specs.declared.part.Part as row
 use Rattle.squawk_kinds.specs.declared.token_set.TokenSet.{TokenSet}
 use Rattle.rule_tables.specs.Sets.{HaveSets}
 use Rattle.rule_tables.specs.Faults.{IsFault}
 use Rattle.rule_tables.specs.Rows.{is_exact}
+use Rattle.rule_tables.proofs.Walking.{if_ok}
 use Rattle.rule_tables.proofs.Words.{has_classes}
 use Rattle.rule_tables.proofs.Exact.{rows_exact}
 use Rattle.rule_tables.proofs.rules.Rules.new.Goals as goal
@@ -15,10 +16,6 @@ returns-in_err-refuse_doubled-clause-err g c =
 
 pub rules_of-requires : goal.rules_of-requires
 rules_of-requires g c = subst (λ (rows : List row.Part). All (λ r. IsTrue (is_exact r)) rows) (sym c.deref.ensures.value) (rows_exact (g.N.Names.vocabulary c.args.names.now) c.args.parts.now c.in_ok-rows.rows.items c.in_ok-rows.ensures.len c.in_ok-rows.ensures.are)
-
-if_ok : {T E : Type 0} {P Q : T → Type 0} → ((x : T) → P x → Q x) → (r : Result T E) → IfOk r P → IfOk r Q
-if_ok each (Ok x) p = each x p
-if_ok each (Err e) p = tt
 
 pub returns-clause-classes : goal.returns-clause-classes
 returns-clause-classes g c =
