@@ -79,3 +79,7 @@ slot-same p q e = absurd (omega arith)
 pub if_ok : {T E : Type 0} {P Q : T → Type 0} → ((x : T) → P x → Q x) → (r : Result T E) → IfOk r P → IfOk r Q
 if_ok each (Ok x) p = each x p
 if_ok each (Err e) p = tt
+
+pub on_ok_as : {T E P Q : Type 0} (r : Result T E) → (P → Q) → OnOk r P → OnOk r Q
+on_ok_as (Ok x) to p = to p
+on_ok_as (Err e) to p = tt

@@ -17,6 +17,14 @@ abbrev pub IsUndecidedIf : Type 0 → ℕ → RulesError → Type 0
 IsUndecidedIf Shared part (Undecided j) = (j ≡ part) × Shared
 IsUndecidedIf Shared part reason = NamesNothing reason
 
+-- whether a row is settled
+abbrev pub is_true : Option Bool → Bool
+is_true None = false
+is_true (Some b) = b
+
+abbrev pub settled_at : List Bool → ℕ → Bool
+settled_at settled row = is_true (slice_get settled row)
+
 -- a set has a kind
 pub record HasOne (sets : List TokenSet) (kind : ℕ) : Type 0 where
   pub index : ℕ
@@ -54,3 +62,12 @@ pub record AreGroups (plan : Plan) (mine others : List Place) (set : TokenSet) (
   pub all : (kind : ℕ) → has set kind ≡ true → HasOne groups kind
   pub of_mine : (i : ℕ) (group : TokenSet) → slice_get groups i ≡ Some group → IsAlike plan mine group
   pub of_others : (i : ℕ) (group : TokenSet) → slice_get groups i ≡ Some group → IsAlike plan others group
+
+-- so many kinds come from places of both lists, after one that is in a set
+pub record ShareAfter (plan : Plan) (count : ℕ) (set : TokenSet) (mine others : List Place) : Type 0 where
+  pub kind : ℕ
+  pub holds : has set kind ≡ true
+  pub word : List ℕ
+  pub len : length word ≡ count
+  pub first : SeesFrom plan mine (kind ∷ word)
+  pub second : SeesFrom plan others (kind ∷ word)

@@ -6,7 +6,7 @@ ghost use Rattle.rule_tables.specs.Walks.{plan_of};
 use crate::eats::kinds_of;
 use crate::map::Map;
 use crate::place::Place;
-use crate::sets::{both, push, without};
+use crate::sets::{both, is_empty, push, without};
 use squawk_kinds::TokenSet;
 use std::alloc::{AllocError, Global};
 
@@ -58,7 +58,7 @@ fn cut(alloc: Global, sets: &[TokenSet], kinds: TokenSet) -> Result<Vec<TokenSet
 fn push_some(sets: &mut Vec<TokenSet>, set: TokenSet) -> Result<(), AllocError>
     ensures { OnOk result (AddsSome sets.old.items set sets.new.items) }
 {
-    if set == TokenSet::EMPTY {
+    if is_empty(set) {
         Ok(())
     } else {
         push(sets, set)

@@ -8,16 +8,16 @@ ghost use Rattle.rule_tables.specs.Rows.{is_exact, tail_tag};
 use crate::error::RulesError;
 use crate::eats::kinds_at;
 use crate::follow::Ahead;
-use crate::looks::Looks;
+use crate::looks::{Fork, Looks};
 use crate::place::{Place, Way};
 use rule_grammar::Part as Row;
 use squawk_kinds::TokenSet;
 
 /// The numbers of a row.
 pub(crate) fn numbers_of(
-    looks: &mut Looks<'_>,
+    looks: &mut Looks,
+    fork: &Fork<'_>,
     ahead: &[Ahead],
-    index: usize,
     row: &Row,
     message: u16,
 ) -> Result<[u16; 8], RulesError>
@@ -26,16 +26,16 @@ pub(crate) fn numbers_of(
     ensures keeps { OnOk result (Extends looks.old.sets.list.items looks.new.sets.list.items) }
     ensures ok { IfOk result (λ numbers. part_of numbers ≡ row.now) }
 {
-    let known = match ahead.get(index) {
+    let known = match ahead.get(fork.part) {
         Some(known) => *known,
         None => Ahead::NOTHING,
     };
     let [part, end, number] = part_numbers(row);
-    let begins = begins(looks, &known, index, row)?;
+    let begins = begins(looks, fork, &known, row)?;
     let begins = looks.sets.number(begins)?;
     let follows = looks.sets.number(known.follows)?;
     let later = looks.sets.number(known.later)?;
-    let look = look(looks, &known, index, row)?;
+    let look = look(looks, fork, &known, row)?;
     let part = with_end(part, known.ends);
     Ok([part, end, number, begins, follows, later, look, message])
 }
@@ -50,35 +50,35 @@ fn with_end(part: u16, ends: bool) -> u16
 
 /// The kinds at which a part is gone into.
 fn begins(
-    looks: &mut Looks<'_>,
+    looks: &mut Looks,
+    fork: &Fork<'_>,
     known: &Ahead,
-    index: usize,
     row: &Row,
 ) -> Result<TokenSet, RulesError>
     ensures err { IfErr result NamesNothing }
     ensures keeps { OnOk result (Extends looks.old.sets.list.items looks.new.sets.list.items) }
 {
     let is_way = matches!(row, Row::Arm { .. } | Row::Tail { .. } | Row::Choice { .. });
-    if is_way && looks.map.outer(index).is_some() {
-        let mine = looks.from(Place::Before(index))?;
-        Ok(kinds_at(looks.map, &mine))
+    if is_way && fork.map.outer(fork.part).is_some() {
+        let mine = looks.from(fork.map, Place::Before(fork.part))?;
+        Ok(kinds_at(fork.map, &mine))
     } else {
         Ok(known.begins.kinds)
     }
 }
 
 /// The look of a row, or the set of kinds that one of its operators begins with.
-fn look(looks: &mut Looks<'_>, known: &Ahead, index: usize, row: &Row) -> Result<u16, RulesError>
+fn look(looks: &mut Looks, fork: &Fork<'_>, known: &Ahead, row: &Row) -> Result<u16, RulesError>
     ensures err { IfErr result NamesNothing }
     ensures keeps { OnOk result (Extends looks.old.sets.list.items looks.new.sets.list.items) }
 {
     match row {
-        Row::Arm { .. } => looks.apart(index, Way::Arm),
-        Row::Tail { .. } => looks.apart(index, Way::Tail),
-        Row::Optional { .. } => looks.more_in(index),
-        Row::Repeat { .. } => looks.more_in(index),
-        Row::Some { .. } => looks.more_in(index),
-        Row::List { .. } => looks.more(index, Place::Separator(index)),
+        Row::Arm { .. } => looks.apart(fork, Way::Arm),
+        Row::Tail { .. } => looks.apart(fork, Way::Tail),
+        Row::Optional { .. } => looks.more_in(fork),
+        Row::Repeat { .. } => looks.more_in(fork),
+        Row::Some { .. } => looks.more_in(fork),
+        Row::List { .. } => looks.more(fork, Place::Separator(fork.part)),
         Row::Operators { .. } => looks.sets.number(known.again),
         _ => Ok(0),
     }

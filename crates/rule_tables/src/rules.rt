@@ -4,6 +4,7 @@ ghost use Rattle.squawk_kinds.specs.TokenSets.{has};
 ghost use Rattle.rule_grammar.specs.Parts.{words_have};
 ghost use Rattle.rule_tables.specs.Classes.{HasClasses};
 ghost use Rattle.rule_tables.specs.Faults.{IsFault, NamesNothing};
+ghost use Rattle.rule_tables.specs.Looks.{settled_at};
 ghost use Rattle.rule_tables.specs.Rows.{HasRows, IsFileRule, SayRows, is_exact};
 ghost use Rattle.rule_tables.specs.Sets.{Extends, HaveSets, word_of};
 
@@ -11,7 +12,7 @@ use crate::classes::sets_of;
 use crate::definitions::refuse_doubled;
 use crate::error::RulesError;
 use crate::follow::{Ahead, ahead_of};
-use crate::looks::{Look, Looks};
+use crate::looks::{Fork, Look, Looks};
 use crate::map::Map;
 use crate::messages::{Messages, row_of_message};
 use crate::names::Names;
@@ -142,13 +143,11 @@ fn rules_of(
     let ahead = ahead_of(alloc, &map)?;
     let mut looks = Looks {
         alloc,
-        map: &map,
-        settled,
         walk: Walk::new(alloc),
         sets: Sets::new(alloc, sets)?,
         list: Vec::new(alloc),
     };
-    let numbers = all_numbers(&mut looks, &ahead, rows)?;
+    let numbers = all_numbers(&mut looks, &map, settled, &ahead)?;
     let words = all_words(alloc, &looks.sets.list)?;
     Ok(Rules {
         rows: numbers,
@@ -162,26 +161,41 @@ fn rules_of(
 
 /// The numbers of all rows.
 fn all_numbers(
-    looks: &mut Looks<'_>,
+    looks: &mut Looks,
+    map: &Map<'_>,
+    settled: &[bool],
     ahead: &[Ahead],
-    rows: &[Row],
 ) -> Result<Vec<[u16; 8]>, RulesError>
-    requires { All (λ row. IsTrue (is_exact row)) rows.now }
+    requires { All (λ row. IsTrue (is_exact row)) map.now.rows.now }
     ensures err { IfErr result NamesNothing }
     ensures keeps { OnOk result (Extends looks.old.sets.list.items looks.new.sets.list.items) }
-    ensures ok { IfOk result (λ numbers. SayRows rows.now numbers.items) }
+    ensures ok { IfOk result (λ numbers. SayRows map.now.rows.now numbers.items) }
 {
     let mut numbers = Vec::new(looks.alloc);
     let mut rule = 0usize;
-    for (index, row) in rows.iter().enumerate() {
-        if looks.map.outer(index).is_none() {
+    for (index, row) in map.rows.iter().enumerate() {
+        if map.outer(index).is_none() {
             rule = index;
         }
-        let message = to_u16(row_of_message(looks.map, index, rule));
-        let numbers_of_row = numbers_of(looks, ahead, index, row, message)?;
+        let fork = Fork {
+            map,
+            part: index,
+            is_settled: is_settled(settled, index),
+        };
+        let message = to_u16(row_of_message(map, index, rule));
+        let numbers_of_row = numbers_of(looks, &fork, ahead, row, message)?;
         push(&mut numbers, numbers_of_row)?;
     }
     Ok(numbers)
+}
+
+fn is_settled(settled: &[bool], row: usize) -> bool
+    ensures { result ≡ settled_at settled.now row }
+{
+    match settled.get(row) {
+        Some(is_settled) => *is_settled,
+        None => false,
+    }
 }
 
 fn to_u16(number: usize) -> u16 {

@@ -89,12 +89,19 @@ pub(crate) fn without(one: TokenSet, other: TokenSet) -> TokenSet
     ])
 }
 
+/// Whether a set has no kind, by its words.
+pub(crate) fn is_empty(set: TokenSet) -> bool
+    ensures { result ≡ true → (kind : ℕ) → has set kind ≡ false }
+{
+    set == TokenSet::EMPTY
+}
+
 /// The least kind of a set.
 pub(crate) fn first_of(set: TokenSet) -> Option<SyntaxKind>
     ensures some { IfSome result (λ kind. has set kind ≡ true) }
     ensures none { result ≡ None → (kind : ℕ) → has set kind ≡ false }
 {
-    if set == TokenSet::EMPTY {
+    if is_empty(set) {
         return None;
     }
     for number in 0..640u16 {
