@@ -16,3 +16,5 @@ pub mod Leading
 pub mod Closing
 pub mod Over
 pub mod Cuts
+pub mod Deciding
+pub mod Limited

@@ -49,7 +49,7 @@ over_more plan places kind n old new p here has goes =
 pub all_at : {X : Type 0} (P : X → Type 0) (xs : List X) (i : ℕ) (x : X) → All P xs → slice_get xs i ≡ Some x → P x
 all_at P xs i x all e = subst P (get_or_from_slice_get xs i x x e) (All-get_or P xs i x (slice_get_within xs i x e) all)
 
-over_from : (plan : Plan) (p : Place) (kind : ℕ) (word : List ℕ) → does_eat plan p ≡ true → Sees plan p (kind ∷ word) → (q : Place) × (eats plan p kind ≡ true) × Steps plan p q × Sees plan q word
+pub over_from : (plan : Plan) (p : Place) (kind : ℕ) (word : List ℕ) → does_eat plan p ≡ true → Sees plan p (kind ∷ word) → (q : Place) × (eats plan p kind ≡ true) × Steps plan p q × Sees plan q word
 over_from plan p kind word does (moves {q = q} moved sees) = absurd (does_no_move plan p q does moved)
 over_from plan p kind word does (steps {q = q} eaten stepped sees) = (q, eaten, stepped, sees)
 

@@ -8,4 +8,5 @@ pub mod Sets
 pub mod Places
 pub mod Maps
 pub mod Walks
+pub mod Limits
 pub mod Looks

@@ -2,20 +2,12 @@
 use Rattle.std.specs.Prelude.{◌≡◌, ℕ, ◌<◌, ◌⊎◌, Bool, true, false, Option, Some, None, List, ◌∷◌, length, slice_get}
 use Rattle.squawk_kinds.specs.TokenSets.{has}
 use Rattle.squawk_kinds.specs.declared.token_set.TokenSet.{TokenSet}
-use Rattle.rule_tables.specs.Faults.{NamesNothing}
 use Rattle.rule_tables.specs.Places.{AreShared, IsOneOf, Plan, SeesFrom, eats}
-use Rattle.rule_tables.specs.declared.error.RulesError.{RulesError}
-use Rattle.rule_tables.specs.declared.error.RulesError.TheVariants.{Undecided}
 use Rattle.rule_tables.specs.declared.place.Place.{Place}
 
 -- so many kinds come from places of both lists
 abbrev pub ShareWord : Plan → ℕ → List Place → List Place → Type 0
 ShareWord plan count mine others = AreShared count (SeesFrom plan mine) (SeesFrom plan others)
-
--- an error says that a part is undecided only if that is so, and names nothing else
-abbrev pub IsUndecidedIf : Type 0 → ℕ → RulesError → Type 0
-IsUndecidedIf Shared part (Undecided j) = (j ≡ part) × Shared
-IsUndecidedIf Shared part reason = NamesNothing reason
 
 -- whether a row is settled
 abbrev pub is_true : Option Bool → Bool

@@ -1,8 +1,8 @@
 //! What decides between two ways: the tokens that come.
 ghost use Rattle.std.specs.Prelude.{◌≡◌, ℕ, ◌-◌, ◌<◌, ◌≤◌, ◌&&◌, ◌⊎◌, All, IfErr, IfOk, OnOk, length, true, false};
 ghost use Rattle.squawk_kinds.specs.TokenSets.{has};
-ghost use Rattle.rule_tables.specs.Faults.{NamesNothing};
-ghost use Rattle.rule_tables.specs.Looks.{IsAlike, IsUndecidedIf, ShareWord, ShareAfter};
+ghost use Rattle.rule_tables.specs.Limits.{IsLimit, IsUndecidedIf};
+ghost use Rattle.rule_tables.specs.Looks.{IsAlike, ShareAfter, ShareWord};
 ghost use Rattle.rule_tables.specs.Places.{AreShared, Sees, SeesRival, SharesFirst, does_eat, first_in};
 ghost use Rattle.rule_tables.specs.Sets.{Extends};
 ghost use Rattle.rule_tables.specs.Walks.{plan_of};
@@ -41,10 +41,11 @@ pub(crate) struct Fork<'m> {
     pub(crate) is_settled: bool,
 }
 
+#[tactic(auto, using(crate::proofs::Limited::limit_if))]
 impl Looks {
     /// The places that eat first, from one on.
     pub(crate) fn from(&mut self, map: &Map<'_>, place: Place) -> Result<Vec<Place>, RulesError>
-        ensures err { IfErr result NamesNothing }
+        ensures err { IfErr result IsLimit }
         ensures keeps { OnOk result (Extends self.old.sets.list.items self.new.sets.list.items) }
     {
         self.walk.from(self.alloc, map, place)
@@ -110,7 +111,7 @@ impl Looks {
     /// Links the looks from the one of this number on to one another.
     fn link(&mut self, first: usize) -> Result<(), RulesError>
         requires { 0 < first }
-        ensures err { IfErr result NamesNothing }
+        ensures err { IfErr result IsLimit }
         ensures keeps { OnOk result (Extends self.old.sets.list.items self.new.sets.list.items) }
     {
         for at in first..self.list.len() {
@@ -145,9 +146,9 @@ impl Looks {
         if !is_empty(alone) {
             self.add(look, depth, alone)?;
         }
-        if first_of(shared).is_none() {
+        let Some(_) = first_of(shared) else {
             return Ok(());
-        }
+        };
         if depth + 1 >= 4 {
             return Err(RulesError::Undecided { part: fork.part });
         }
@@ -190,7 +191,7 @@ impl Looks {
 
     fn add(&mut self, look: &Look, depth: usize, set: TokenSet) -> Result<(), RulesError>
         requires { depth < 4 }
-        ensures err { IfErr result NamesNothing }
+        ensures err { IfErr result IsLimit }
         ensures keeps { OnOk result (Extends self.old.sets.list.items self.new.sets.list.items) }
     {
         let mut look = *look;
@@ -215,7 +216,7 @@ fn shared(fork: &Fork<'_>, own: TokenSet, others: TokenSet, depth: usize) -> Tok
 
 /// The number of a look, from 1.
 fn number_of(index: usize) -> Result<u16, RulesError>
-    ensures err { IfErr result NamesNothing }
+    ensures err { IfErr result IsLimit }
     ensures more { IfOk result (λ number. 0 < number) }
 {
     if index < 65535 {

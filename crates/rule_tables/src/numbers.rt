@@ -1,7 +1,6 @@
 //! The numbers of a row.
 ghost use Rattle.std.specs.Prelude.{◌≡◌, ◌<◌, ◌%◌, IfErr, IfOk, IsTrue, OnOk, Some, slice_get, slice_index};
 ghost use Rattle.rule_grammar.specs.Parts.{part_by, part_of};
-ghost use Rattle.rule_tables.specs.Faults.{NamesNothing};
 ghost use Rattle.rule_tables.specs.Sets.{Extends};
 ghost use Rattle.rule_tables.specs.Rows.{is_exact, tail_tag};
 
@@ -22,7 +21,7 @@ pub(crate) fn numbers_of(
     message: u16,
 ) -> Result<[u16; 8], RulesError>
     requires { IsTrue (is_exact row.now) }
-    ensures err { IfErr result NamesNothing }
+    ensures err { IfErr result IsLimit }
     ensures keeps { OnOk result (Extends looks.old.sets.list.items looks.new.sets.list.items) }
     ensures ok { IfOk result (λ numbers. part_of numbers ≡ row.now) }
 {
@@ -55,7 +54,7 @@ fn begins(
     known: &Ahead,
     row: &Row,
 ) -> Result<TokenSet, RulesError>
-    ensures err { IfErr result NamesNothing }
+    ensures err { IfErr result IsLimit }
     ensures keeps { OnOk result (Extends looks.old.sets.list.items looks.new.sets.list.items) }
 {
     let is_way = matches!(row, Row::Arm { .. } | Row::Tail { .. } | Row::Choice { .. });
@@ -69,7 +68,7 @@ fn begins(
 
 /// The look of a row, or the set of kinds that one of its operators begins with.
 fn look(looks: &mut Looks, fork: &Fork<'_>, known: &Ahead, row: &Row) -> Result<u16, RulesError>
-    ensures err { IfErr result NamesNothing }
+    ensures err { IfErr result IsLimit }
     ensures keeps { OnOk result (Extends looks.old.sets.list.items looks.new.sets.list.items) }
 {
     match row {

@@ -2,7 +2,7 @@
 ghost use Rattle.std.specs.Prelude.{◌≡◌, ℕ, ◌&&◌, ◌++◌, ◌∷◌, [], IfErr, IfOk, IfSome, None, OnOk, Some, not, true, false};
 ghost use Rattle.squawk_kinds.specs.TokenSets.{has};
 ghost use Rattle.rule_tables.specs.Classes.{is_token};
-ghost use Rattle.rule_tables.specs.Faults.{NamesNothing};
+ghost use Rattle.rule_tables.specs.Limits.{IsLimit};
 ghost use Rattle.rule_tables.specs.Sets.{Extends};
 
 use crate::error::RulesError;
@@ -26,7 +26,7 @@ impl Sets {
 
     /// The number of a set.
     pub(crate) fn number(&mut self, set: TokenSet) -> Result<u16, RulesError>
-        ensures err { IfErr result NamesNothing }
+        ensures err { IfErr result IsLimit }
         ensures keeps { OnOk result (Extends self.old.list.items self.new.list.items) }
     {
         for (number, one) in self.list.iter().enumerate() {
@@ -42,7 +42,7 @@ impl Sets {
 
 /// The number of a set in a table. The greatest one is no set.
 fn number_of(index: usize) -> Result<u16, RulesError>
-    ensures { IfErr result NamesNothing }
+    ensures { IfErr result IsLimit }
 {
     if index < 65535 {
         Ok(index as u16)

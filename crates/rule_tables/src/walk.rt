@@ -1,6 +1,6 @@
 //! Which places come from a place on, without eating.
 ghost use Rattle.std.specs.Prelude.{◌≡◌, ℕ, ◌<◌, ◌≤◌, All, IfErr, IfOk, OnOk, [], ◌∷◌, length, slice_index, true};
-ghost use Rattle.rule_tables.specs.Faults.{NamesNothing};
+ghost use Rattle.rule_tables.specs.Limits.{IsLimit};
 
 use crate::eats::{eaters, kinds_of};
 use crate::error::RulesError;
@@ -41,7 +41,7 @@ impl Walk {
         map: &Map<'_>,
         place: Place,
     ) -> Result<Vec<Place>, RulesError>
-        ensures err { IfErr result NamesNothing }
+        ensures err { IfErr result IsLimit }
         ensures ok { IfOk result (λ places. AreFirst (plan_of map.now) (Sees (plan_of map.now) place) places.items) }
     {
         self.begin(map)?;
@@ -58,7 +58,7 @@ impl Walk {
         way: Way,
     ) -> Result<Vec<Place>, RulesError>
         requires { row < length map.now.rows.now }
-        ensures err { IfErr result NamesNothing }
+        ensures err { IfErr result IsLimit }
         ensures ok { IfOk result (λ places. AreFirst (plan_of map.now) (SeesRival (plan_of map.now) way row) places.items) }
     {
         self.begin(map)?;
@@ -80,7 +80,7 @@ impl Walk {
         kind: SyntaxKind,
     ) -> Result<Vec<Place>, RulesError>
         requires { All (λ p. does_eat (plan_of map.now) p ≡ true) places.now }
-        ensures err { IfErr result NamesNothing }
+        ensures err { IfErr result IsLimit }
         ensures ok { IfOk result (λ found. AreFirst (plan_of map.now) (λ word. SeesFrom (plan_of map.now) places.now (kind ∷ word)) found.items) }
     {
         self.begin(map)?;
@@ -103,7 +103,7 @@ impl Walk {
 
     /// Begins a walk.
     fn begin(&mut self, map: &Map<'_>) -> Result<(), RulesError>
-        ensures err { IfErr result NamesNothing }
+        ensures err { IfErr result IsLimit }
         ensures ok { OnOk result (HasReached (plan_of map.now) self.new (λ q. ⊥)) }
     {
         self.reached.clear();
@@ -132,7 +132,7 @@ impl Walk {
     fn finish(&mut self, alloc: Global, map: &Map<'_>) -> Result<Vec<Place>, RulesError>
         requires walks { IsWalking self.old }
         requires len { length self.old.marks.items ≡ slots (length map.now.rows.now) }
-        ensures err { IfErr result NamesNothing }
+        ensures err { IfErr result IsLimit }
         ensures ok { IfOk result (λ places. AreFirst (plan_of map.now) (SeesFrom (plan_of map.now) self.old.reached.items) places.items) }
     {
         self.go_all(map)?;
