@@ -8,7 +8,7 @@ use Rattle.squawk_kinds.specs.declared.token_set.TokenSet.{TokenSet}
 use Rattle.rule_grammar.specs.declared.part.Part.{Part}
 use Rattle.rule_grammar.specs.declared.part.Part.TheVariants.{Repeat, List as Items, Some as Once}
 use Rattle.rule_tables.specs.Looks.{AreGroups, HasOne, IsAlike, ShareAfter, ShareWord}
-use Rattle.rule_tables.specs.Places.{Begins, IsOneOf, Leaves, Plan, Sees, SeesFrom, Steps, does_eat, eats, first_in, separates}
+use Rattle.rule_tables.specs.Places.{AreShared, Begins, IsOneOf, Leaves, Plan, Sees, SeesFrom, Steps, does_eat, eats, first_in, separates}
 use Rattle.rule_tables.specs.Places.Sees.{nothing, moves, steps}
 use Rattle.rule_tables.specs.Walks.{AreFirst}
 use Rattle.rule_tables.specs.declared.place.Place.{Place}
@@ -82,6 +82,26 @@ alike_sees plan places group does alike a b in_a in_b word from =
     let over : (q : Place) × (eats plan from.place a ≡ true) × Steps plan from.place q × Sees plan q word = over_from plan from.place a word (all_at (λ p. does_eat plan p ≡ true) places from.one.index from.place does from.one.is) from.sees in
     record { place = from.place; one = from.one; sees = steps (sym (alike a b in_a in_b from.place from.one) ∙ over.1) over.2 over.3 }
 
+-- words that come two ways come from the places of these
+module _ (plan : Plan) (P Q : List ℕ → Type 0) (mine others : List Place) (first_mine : AreFirst plan P mine) (first_others : AreFirst plan Q others) where
+  from_word : (word : List ℕ) → 0 < length word → P word → Q word → SeesFrom plan mine word × SeesFrom plan others word
+  from_word [] some first second = absurd (omega arith)
+  from_word (kind ∷ word) some first second = (first_mine.all kind word first, first_others.all kind word second)
+
+  to_word : (word : List ℕ) → 0 < length word → SeesFrom plan mine word → SeesFrom plan others word → P word × Q word
+  to_word [] some first second = absurd (omega arith)
+  to_word (kind ∷ word) some first second = (first_mine.only kind word first, first_others.only kind word second)
+
+  pub to_places : (count : ℕ) → 0 < count → AreShared count P Q → ShareWord plan count mine others
+  to_places count some share =
+      let from : SeesFrom plan mine share.word × SeesFrom plan others share.word = from_word share.word (omega (arith, share.len)) share.first share.second in
+      record { word = share.word; len = share.len; first = from.0; second = from.1 }
+
+  pub to_words : (count : ℕ) → 0 < count → ShareWord plan count mine others → AreShared count P Q
+  to_words count some share =
+      let both : P share.word × Q share.word = to_word share.word (omega (arith, share.len)) share.first share.second in
+      record { word = share.word; len = share.len; first = both.0; second = both.1 }
+
 module _ (plan : Plan) (mine others : List Place) (does_mine : All (λ p. does_eat plan p ≡ true) mine) (does_others : All (λ p. does_eat plan p ≡ true) others) where
   both_eat : (kind : ℕ) (word : List ℕ) → SeesFrom plan mine (kind ∷ word) → SeesFrom plan others (kind ∷ word) → (any_eats plan mine kind && any_eats plan others kind) ≡ true
   both_eat kind word first second = both_any _ _ (eaten_any plan mine kind word does_mine first) (eaten_any plan others kind word does_others second)
@@ -134,23 +154,18 @@ module _ (plan : Plan) (mine others : List Place) (does_mine : All (λ p. does_e
 
   module _ (group : TokenSet) (kind : ℕ) (holds : has group kind ≡ true) (mine_after others_after : List Place) (first_mine : AreFirst plan (λ word. SeesFrom plan mine (kind ∷ word)) mine_after)
       (first_others : AreFirst plan (λ word. SeesFrom plan others (kind ∷ word)) others_after) where
-    after_word : (word : List ℕ) → 0 < length word → SeesFrom plan mine (kind ∷ word) → SeesFrom plan others (kind ∷ word) → SeesFrom plan mine_after word × SeesFrom plan others_after word
-    after_word [] some first second = absurd (omega arith)
-    after_word (next ∷ word) some first second = (first_mine.all next word first, first_others.all next word second)
-
-    before_word : (word : List ℕ) → 0 < length word → SeesFrom plan mine_after word → SeesFrom plan others_after word → SeesFrom plan mine (kind ∷ word) × SeesFrom plan others (kind ∷ word)
-    before_word [] some first second = absurd (omega arith)
-    before_word (next ∷ word) some first second = (first_mine.only next word first, first_others.only next word second)
-
     -- what comes after a kind of a group comes after its least
     pub after_share : (count : ℕ) → 0 < count → IsAlike plan mine group → IsAlike plan others group → ShareAfter plan count group mine others → ShareWord plan count mine_after others_after
     after_share count some alike_mine alike_others share =
-        let after : SeesFrom plan mine_after share.word × SeesFrom plan others_after share.word =
-        after_word share.word (omega (arith, share.len)) (alike_sees plan mine group does_mine alike_mine share.kind kind share.holds holds share.word share.first)
-        (alike_sees plan others group does_others alike_others share.kind kind share.holds holds share.word share.second) in
-        record { word = share.word; len = share.len; first = after.0; second = after.1 }
+        to_places plan (λ word. SeesFrom plan mine (kind ∷ word)) (λ word. SeesFrom plan others (kind ∷ word)) mine_after others_after first_mine first_others count some
+        (record {
+          word = share.word;
+          len = share.len;
+          first = alike_sees plan mine group does_mine alike_mine share.kind kind share.holds holds share.word share.first;
+          second = alike_sees plan others group does_others alike_others share.kind kind share.holds holds share.word share.second;
+        })
 
     pub before_share : (count more : ℕ) → 0 < count → more ≡ suc count → ShareWord plan count mine_after others_after → ShareWord plan more mine others
     before_share count more some next share =
-        let before : SeesFrom plan mine (kind ∷ share.word) × SeesFrom plan others (kind ∷ share.word) = before_word share.word (omega (arith, share.len)) share.first share.second in
-        record { word = kind ∷ share.word; len = ap suc share.len ∙ sym next; first = before.0; second = before.1 }
+        let before = to_words plan (λ word. SeesFrom plan mine (kind ∷ word)) (λ word. SeesFrom plan others (kind ∷ word)) mine_after others_after first_mine first_others count some share in
+        record { word = kind ∷ before.word; len = ap suc before.len ∙ sym next; first = before.first; second = before.second }

@@ -3,7 +3,7 @@ use Rattle.std.proofs.Common.{◌≡◌, ℕ, Bool, false, true, List, Option, S
 use Rattle.squawk_kinds.specs.declared.token_set.TokenSet.{TokenSet}
 use Rattle.rule_grammar.specs.declared.part.Part.{Part}
 use Rattle.rule_grammar.specs.declared.part.Part.TheVariants.{Nothing, Token, Class, Node, Becomes, Is, Guard, Choice, Arm, Optional, Repeat, List as Items, Call, Operators, Operand, Tail, Some as Once}
-use Rattle.rule_tables.specs.Places.{Leaves, Plan, EndsWay, Exits, GoesOnIn, Returns, Enters, is_token_row, outer_of, row_eats, separates}
+use Rattle.rule_tables.specs.Places.{IsUndecidedRow, Leaves, Plan, EndsWay, Exits, GoesOnIn, Returns, Enters, is_token_row, outer_of, row_eats, separates}
 use Rattle.rule_tables.specs.declared.place.Place.{Place}
 use Rattle.rule_tables.specs.declared.place.Place.TheVariants.{After}
 
@@ -45,3 +45,13 @@ pub ends-other : (plan : Plan) (k o : ℕ) (part : Part) → ((end : ℕ) → pa
 ends-other plan k o (Choice end) no_choice no_operators q = absurd (no_choice end refl)
 ends-other plan k o (Operators end) no_choice no_operators q = absurd (no_operators end refl)
 ends-other plan k o part no_choice no_operators q = (λ e. e, λ e. e)
+
+pub decided-other : (plan : Plan) (k : ℕ) (part : Part) → ((end : ℕ) → part ≡ Arm end → ⊥) → ((end level top : ℕ) → part ≡ Tail end level top → ⊥) → ((end : ℕ) → part ≡ Optional end → ⊥) → ((end : ℕ) → part ≡ Repeat end → ⊥)
+    → ((end : ℕ) → part ≡ Once end → ⊥) → ((end one : ℕ) → part ≡ Items end one → ⊥) → IsUndecidedRow plan k (Some part) → ⊥
+decided-other plan k (Arm end) no_arm no_tail no_optional no_repeat no_some no_list undecided = no_arm end refl
+decided-other plan k (Tail end level top) no_arm no_tail no_optional no_repeat no_some no_list undecided = no_tail end level top refl
+decided-other plan k (Optional end) no_arm no_tail no_optional no_repeat no_some no_list undecided = no_optional end refl
+decided-other plan k (Repeat end) no_arm no_tail no_optional no_repeat no_some no_list undecided = no_repeat end refl
+decided-other plan k (Once end) no_arm no_tail no_optional no_repeat no_some no_list undecided = no_some end refl
+decided-other plan k (Items end one) no_arm no_tail no_optional no_repeat no_some no_list undecided = no_list end one refl
+decided-other plan k part no_arm no_tail no_optional no_repeat no_some no_list undecided = undecided

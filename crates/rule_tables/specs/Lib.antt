@@ -10,3 +10,4 @@ pub mod Maps
 pub mod Walks
 pub mod Limits
 pub mod Looks
+pub mod Forks

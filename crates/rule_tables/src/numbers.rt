@@ -1,11 +1,13 @@
 //! The numbers of a row.
 ghost use Rattle.std.specs.Prelude.{◌≡◌, ◌<◌, ◌%◌, IfErr, IfOk, IsTrue, OnOk, Some, slice_get, slice_index};
 ghost use Rattle.rule_grammar.specs.Parts.{part_by, part_of};
+ghost use Rattle.rule_tables.specs.Forks.{IsOpenAt};
+ghost use Rattle.rule_tables.specs.Limits.{IsLimit, IsUndecidedIf};
 ghost use Rattle.rule_tables.specs.Sets.{Extends};
 ghost use Rattle.rule_tables.specs.Rows.{is_exact, tail_tag};
 
-use crate::error::RulesError;
 use crate::eats::kinds_at;
+use crate::error::RulesError;
 use crate::follow::Ahead;
 use crate::looks::{Fork, Looks};
 use crate::place::{Place, Way};
@@ -13,6 +15,7 @@ use rule_grammar::Part as Row;
 use squawk_kinds::TokenSet;
 
 /// The numbers of a row.
+#[tactic(auto, using(crate::proofs::Limited::limit_if))]
 pub(crate) fn numbers_of(
     looks: &mut Looks,
     fork: &Fork<'_>,
@@ -20,8 +23,10 @@ pub(crate) fn numbers_of(
     row: &Row,
     message: u16,
 ) -> Result<[u16; 8], RulesError>
-    requires { IsTrue (is_exact row.now) }
-    ensures err { IfErr result IsLimit }
+    requires exact { IsTrue (is_exact row.now) }
+    requires row { slice_get fork.now.map.now.rows.now fork.now.part ≡ Some row.now }
+    ensures err { IfErr result (IsUndecidedIf (IsOpenAt fork.now row.now) fork.now.part) }
+    ensures decided { OnOk result (IsOpenAt fork.now row.now → ⊥) }
     ensures keeps { OnOk result (Extends looks.old.sets.list.items looks.new.sets.list.items) }
     ensures ok { IfOk result (λ numbers. part_of numbers ≡ row.now) }
 {
@@ -66,9 +71,12 @@ fn begins(
     }
 }
 
+#[tactic(auto, using(crate::proofs::Limited::limit_if))]
 /// The look of a row, or the set of kinds that one of its operators begins with.
 fn look(looks: &mut Looks, fork: &Fork<'_>, known: &Ahead, row: &Row) -> Result<u16, RulesError>
-    ensures err { IfErr result IsLimit }
+    requires { slice_get fork.now.map.now.rows.now fork.now.part ≡ Some row.now }
+    ensures err { IfErr result (IsUndecidedIf (IsOpenAt fork.now row.now) fork.now.part) }
+    ensures decided { OnOk result (IsOpenAt fork.now row.now → ⊥) }
     ensures keeps { OnOk result (Extends looks.old.sets.list.items looks.new.sets.list.items) }
 {
     match row {

@@ -4,9 +4,11 @@ ghost use Rattle.squawk_kinds.specs.TokenSets.{has};
 ghost use Rattle.rule_grammar.specs.Parts.{words_have};
 ghost use Rattle.rule_tables.specs.Classes.{HasClasses};
 ghost use Rattle.rule_tables.specs.Faults.{IsFault, NamesNothing};
+ghost use Rattle.rule_tables.specs.Forks.{AreDecided, IsFirstOpen, plan_from};
 ghost use Rattle.rule_tables.specs.Looks.{settled_at};
 ghost use Rattle.rule_tables.specs.Rows.{HasRows, IsFileRule, SayRows, is_exact};
 ghost use Rattle.rule_tables.specs.Sets.{Extends, HaveSets, word_of};
+ghost use Rattle.rule_tables.specs.Walks.{plan_of};
 
 use crate::classes::sets_of;
 use crate::definitions::refuse_doubled;
@@ -132,8 +134,10 @@ fn rules_of(
     messages: Messages,
     file: Span,
 ) -> Result<Rules, RulesError>
-    requires { All (λ row. IsTrue (is_exact row)) rows.now }
-    ensures err { IfErr result NamesNothing }
+    requires exact { All (λ row. IsTrue (is_exact row)) rows.now }
+    requires few { length rows.now ≤ 65535 }
+    ensures err { IfErr result (IsFirstOpen (plan_from rows.now sets.now file.start) settled.now) }
+    ensures decided { OnOk result (AreDecided (plan_from rows.now sets.now file.start) settled.now (length rows.now)) }
     ensures rows { IfOk result (λ rules. SayRows rows.now rules.rows) }
     ensures sets { IfOk result (λ rules. HaveSets sets.now rules.sets (length sets.now)) }
     ensures start { IfOk result (λ rules. rules.start ≡ file.start) }
@@ -167,7 +171,8 @@ fn all_numbers(
     ahead: &[Ahead],
 ) -> Result<Vec<[u16; 8]>, RulesError>
     requires { All (λ row. IsTrue (is_exact row)) map.now.rows.now }
-    ensures err { IfErr result NamesNothing }
+    ensures err { IfErr result (IsFirstOpen (plan_of map.now) settled.now) }
+    ensures decided { OnOk result (AreDecided (plan_of map.now) settled.now (length map.now.rows.now)) }
     ensures keeps { OnOk result (Extends looks.old.sets.list.items looks.new.sets.list.items) }
     ensures ok { IfOk result (λ numbers. SayRows map.now.rows.now numbers.items) }
 {

@@ -1,4 +1,4 @@
-use Rattle.std.proofs.Common.{◌≡◌, ◌<◌, ◌≤◌, ◌+◌, ◌-◌, ◌∙◌, ℕ, List, ◌∷◌, Some, inl, inr, true, false, length, slice_get, arith, refl, sym, subst}
+use Rattle.std.proofs.Common.{rules, ◌≡◌, ◌<◌, ◌≤◌, ◌+◌, ◌-◌, ◌∙◌, ℕ, List, ◌∷◌, Some, inl, inr, true, false, length, slice_get, arith, refl, sym, subst}
 use Rattle.std.proofs.lemmas.Bool.{cases_Bool}
 use Rattle.std.proofs.lemmas.Option.{slice_get_read, slice_get_within}
 use Rattle.squawk_kinds.specs.TokenSets.{has}
@@ -41,15 +41,26 @@ decide_after-returns-then-depth-ge4-clause-err t c =
       ),
     )
 
-pub decide_after-decide_group-requires-clause-alike_mine : goal.decide_after-decide_group-requires-clause-alike_mine
-decide_after-decide_group-requires-clause-alike_mine t c =
+pub decide_after-decide_group-requires : goal.decide_after-decide_group-requires
+decide_after-decide_group-requires t c =
     let here : slice_get c.deref-group-items.result.now c.loop-group.group-index ≡ Some c.group-item.result = slice_get_read c.deref-group-items.result.now _ c.loop-group.group-index _ refl c.loop-group-test.true c.group-item.is in
-    c.in_ok-groups.ensures.of_mine c.loop-group.group-index c.group-item.result (rw c.deref-group-items.ensures.value at here)
-
-pub decide_after-decide_group-requires-clause-alike_others : goal.decide_after-decide_group-requires-clause-alike_others
-decide_after-decide_group-requires-clause-alike_others t c =
-    let here : slice_get c.deref-group-items.result.now c.loop-group.group-index ≡ Some c.group-item.result = slice_get_read c.deref-group-items.result.now _ c.loop-group.group-index _ refl c.loop-group-test.true c.group-item.is in
-    c.in_ok-groups.ensures.of_others c.loop-group.group-index c.group-item.result (rw c.deref-group-items.ensures.value at here)
+    let group : slice_get c.in_ok-groups.groups.items c.loop-group.group-index ≡ Some c.group-item.result = rw c.deref-group-items.ensures.value at here in
+    (
+      search rules,
+      (
+        omega (arith, c.requires.depth, c.if-depth-ge4.false),
+        (
+          c.requires.mine,
+          (
+            c.requires.others,
+            (
+              c.in_ok-groups.ensures.of_mine c.loop-group.group-index c.group-item.result group,
+              c.in_ok-groups.ensures.of_others c.loop-group.group-index c.group-item.result group,
+            ),
+          ),
+        ),
+      ),
+    )
 
 pub decide_after-loop-group-preserved : goal.decide_after-loop-group-preserved
 decide_after-loop-group-preserved t c =
