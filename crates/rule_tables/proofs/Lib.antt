@@ -7,3 +7,14 @@ pub mod Members
 pub mod MoreClasses
 pub mod Longer
 pub mod Words
+pub mod Below
+pub mod Linked
+pub mod Walking
+pub mod Marks
+pub mod Other
+pub mod Leading
+pub mod Closing
+pub mod Over
+pub mod Cuts
+pub mod Deciding
+pub mod Limited

@@ -6,3 +6,9 @@ pub mod Rows
 pub mod Made
 pub mod Faults
 pub mod Sets
+pub mod Places
+pub mod Maps
+pub mod Walks
+pub mod Limits
+pub mod Looks
+pub mod Forks

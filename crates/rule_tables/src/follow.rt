@@ -1,5 +1,7 @@
 //! Which kinds come after each part in its rule.
-use crate::map::{Map, NONE, Place};
+use crate::eats::{kinds_of, separators};
+use crate::map::Map;
+use crate::place::Place;
 use rule_grammar::Part as Row;
 use squawk_kinds::TokenSet;
 use std::alloc::{AllocError, Global};
@@ -7,10 +9,10 @@ use std::alloc::{AllocError, Global};
 /// What a part may begin with, and what may come after it in its rule.
 #[derive(Clone, Copy)]
 pub(crate) struct Ahead {
-    /// The kinds that it may begin with.
-    pub(crate) begins: TokenSet,
-    /// Whether it may eat nothing.
-    pub(crate) is_empty: bool,
+    /// What it begins with.
+    pub(crate) begins: Begins,
+    /// The kinds that it begins again with, after it or what is in it.
+    pub(crate) again: TokenSet,
     /// The kinds that may come next.
     pub(crate) follows: TokenSet,
     /// The kinds that later parts of the rule begin with.
@@ -21,212 +23,229 @@ pub(crate) struct Ahead {
 
 impl Ahead {
     pub(crate) const NOTHING: Ahead = Ahead {
-        begins: TokenSet::EMPTY,
-        is_empty: false,
+        begins: Begins::NOTHING,
+        again: TokenSet::EMPTY,
         follows: TokenSet::EMPTY,
         later: TokenSet::EMPTY,
         ends: false,
     };
 }
 
-/// What some rows may begin with, and whether they may eat nothing.
+/// What a part begins with.
 #[derive(Clone, Copy)]
-struct Begins {
-    kinds: TokenSet,
-    is_empty: bool,
+pub(crate) struct Begins {
+    pub(crate) kinds: TokenSet,
+    /// Whether it may eat nothing.
+    pub(crate) is_empty: bool,
+}
+
+impl Begins {
+    /// Of what is never there.
+    const NOTHING: Begins = Begins {
+        kinds: TokenSet::EMPTY,
+        is_empty: false,
+    };
+
+    /// Of what eats nothing.
+    const SILENT: Begins = Begins {
+        kinds: TokenSet::EMPTY,
+        is_empty: true,
+    };
+
+    /// Of one of two.
+    fn or(self, other: Begins) -> Begins {
+        Begins {
+            kinds: self.kinds.union(other.kinds),
+            is_empty: self.is_empty || other.is_empty,
+        }
+    }
+
+    /// Of one and another after it.
+    fn then(self, next: Begins) -> Begins {
+        if self.is_empty {
+            Begins {
+                kinds: self.kinds.union(next.kinds),
+                is_empty: next.is_empty,
+            }
+        } else {
+            self
+        }
+    }
+}
+
+/// What a row and those after it in the same row begin with.
+#[derive(Clone, Copy)]
+struct Rest {
+    own: Begins,
+    /// All of them, one after another.
+    all: Begins,
+    /// One of those that are arms.
+    arms: Begins,
+    /// One of those that are operators.
+    tails: TokenSet,
+    /// Any of them.
+    any: TokenSet,
+}
+
+impl Rest {
+    const UNKNOWN: Rest = Rest {
+        own: Begins::NOTHING,
+        all: Begins::NOTHING,
+        arms: Begins::NOTHING,
+        tails: TokenSet::EMPTY,
+        any: TokenSet::EMPTY,
+    };
+
+    /// Of no rows.
+    const NONE: Rest = Rest {
+        all: Begins::SILENT,
+        ..Rest::UNKNOWN
+    };
 }
 
 /// What comes from each part on, in its rule.
 pub(crate) fn ahead_of(alloc: Global, map: &Map<'_>) -> Result<Vec<Ahead>, AllocError> {
+    let mut rests = Vec::new(alloc);
+    rests.resize(map.rows.len(), Rest::UNKNOWN)?;
+    begin_all(&mut rests, map);
     let mut ahead = Vec::new(alloc);
-    ahead.resize(map.rows.len(), Ahead::NOTHING)?;
-    begin_all(&mut ahead, map);
-    for row in 0..map.rows.len() {
-        follow_in(&mut ahead, map, row);
+    for (row, part) in map.rows.iter().enumerate() {
+        let known = follow(&ahead, &rests, map, row, part);
+        ahead.push(known)?;
     }
     Ok(ahead)
 }
 
 /// Works out what each part begins with: once more, until nothing is new.
-fn begin_all(ahead: &mut [Ahead], map: &Map<'_>) {
+fn begin_all(rests: &mut [Rest], map: &Map<'_>) {
     for _round in 0..map.rows.len() {
-        if !begin_again(ahead, map) {
+        if !begin_again(rests, map) {
             break;
         }
     }
 }
 
 /// Works out once more what each part begins with. Returns whether anything is new.
-fn begin_again(ahead: &mut [Ahead], map: &Map<'_>) -> bool {
+fn begin_again(rests: &mut [Rest], map: &Map<'_>) -> bool {
     let mut is_new = false;
     for row in (0..map.rows.len()).rev() {
-        let begins = begin(ahead, map, row);
-        if note(ahead, row, &begins) {
-            is_new = true;
+        let rest = begin(rests, map, row);
+        if let Some(known) = rests.get_mut(row) {
+            is_new = is_new
+                || known.own.kinds != rest.own.kinds
+                || known.own.is_empty != rest.own.is_empty;
+            *known = rest;
         }
     }
     is_new
 }
 
-/// Notes what a part begins with. Returns whether it is new.
-fn note(ahead: &mut [Ahead], row: usize, begins: &Begins) -> bool {
-    match ahead.get_mut(row) {
-        Some(known) => {
-            let is_new = known.begins != begins.kinds || known.is_empty != begins.is_empty;
-            known.begins = begins.kinds;
-            known.is_empty = begins.is_empty;
-            is_new
-        }
-        None => false,
+/// What a row and those after it begin with, by what is known of others.
+fn begin(rests: &[Rest], map: &Map<'_>, row: usize) -> Rest {
+    let next = match map.outer(row) {
+        Some(outer) => rest_at(rests, map.next(row, outer)),
+        None => Rest::NONE,
+    };
+    let own = own(rests, map, row);
+    let is_arm = matches!(map.rows.get(row), Some(Row::Arm { .. }));
+    let is_tail = matches!(map.rows.get(row), Some(Row::Tail { .. }));
+    Rest {
+        own,
+        all: own.then(next.all),
+        arms: if is_arm { own.or(next.arms) } else { next.arms },
+        tails: if is_tail {
+            own.kinds.union(next.tails)
+        } else {
+            next.tails
+        },
+        any: own.kinds.union(next.any),
     }
 }
 
-/// What a part begins with, by what is known of others.
-fn begin(ahead: &[Ahead], map: &Map<'_>, row: usize) -> Begins {
-    match map.row(row) {
-        Row::Token { .. } | Row::Class { .. } => Begins {
-            kinds: map.kinds(Place::Before(row)),
+fn own(rests: &[Rest], map: &Map<'_>, row: usize) -> Begins {
+    let inner = rest_at(rests, map.first(row));
+    match map.rows.get(row) {
+        Some(Row::Token { .. } | Row::Class { .. }) => Begins {
+            kinds: kinds_of(map, Place::Before(row)),
             is_empty: false,
         },
-        Row::Choice { .. } | Row::Operators { .. } => one_of(ahead, map, row),
-        Row::Optional { .. } | Row::Repeat { .. } => Begins {
-            kinds: block(ahead, map, row).kinds,
-            is_empty: true,
-        },
-        Row::Call { start, .. } => known(ahead, usize::from(start).saturating_sub(1)),
-        Row::Operand { operators, .. } => known(ahead, usize::from(operators)),
-        Row::Becomes { .. } | Row::Is { .. } | Row::Guard { .. } | Row::Nothing => Begins {
-            kinds: TokenSet::EMPTY,
-            is_empty: true,
-        },
-        _ => block(ahead, map, row),
-    }
-}
-
-fn known(ahead: &[Ahead], row: usize) -> Begins {
-    match ahead.get(row) {
-        Some(found) => Begins {
-            kinds: found.begins,
-            is_empty: found.is_empty,
-        },
-        None => Begins {
-            kinds: TokenSet::EMPTY,
-            is_empty: false,
-        },
-    }
-}
-
-/// Of the arms in a row.
-fn one_of(ahead: &[Ahead], map: &Map<'_>, row: usize) -> Begins {
-    let mut kinds = TokenSet::EMPTY;
-    let mut is_empty = false;
-    let mut at = map.first_in(row);
-    while at < NONE {
-        if let Row::Arm { .. } = map.row(at) {
-            let begins = known(ahead, at);
-            kinds = kinds.union(begins.kinds);
-            is_empty = is_empty || begins.is_empty;
+        Some(Row::Choice { .. } | Row::Operators { .. }) => inner.arms,
+        Some(Row::Optional { .. } | Row::Repeat { .. }) => inner.all.or(Begins::SILENT),
+        Some(Row::Call { start, .. }) => known(rests, usize::from(*start).saturating_sub(1)),
+        Some(Row::Operand { operators, .. }) => known(rests, usize::from(*operators)),
+        Some(Row::Becomes { .. } | Row::Is { .. } | Row::Guard { .. } | Row::Nothing) => {
+            Begins::SILENT
         }
-        at = map.next(at);
-    }
-    Begins { kinds, is_empty }
-}
-
-/// Of the rows in one, one after another.
-fn block(ahead: &[Ahead], map: &Map<'_>, row: usize) -> Begins {
-    from(ahead, map, map.first_in(row))
-}
-
-/// Of the rows from one on.
-fn from(ahead: &[Ahead], map: &Map<'_>, first: usize) -> Begins {
-    let mut kinds = TokenSet::EMPTY;
-    let mut at = first;
-    while at < NONE {
-        let begins = known(ahead, at);
-        kinds = kinds.union(begins.kinds);
-        if !begins.is_empty {
-            return Begins {
-                kinds,
-                is_empty: false,
-            };
-        }
-        at = map.next(at);
-    }
-    Begins {
-        kinds,
-        is_empty: true,
+        _ => inner.all,
     }
 }
 
-/// Works out what follows the rows in one.
-fn follow_in(ahead: &mut [Ahead], map: &Map<'_>, row: usize) {
-    let after = after_last(ahead, map, row);
-    let is_choice = matches!(map.row(row), Row::Choice { .. } | Row::Operators { .. });
-    let mut at = map.first_in(row);
-    while at < NONE {
-        let next = if is_choice { NONE } else { map.next(at) };
-        follow(ahead, map, at, next, &after);
-        at = map.next(at);
+fn known(rests: &[Rest], row: usize) -> Begins {
+    match rests.get(row) {
+        Some(rest) => rest.own,
+        None => Begins::NOTHING,
     }
 }
 
-/// What follows the last of the rows in one.
+fn rest_at(rests: &[Rest], row: Option<usize>) -> Rest {
+    match row {
+        Some(row) => match rests.get(row) {
+            Some(rest) => *rest,
+            None => Rest::NONE,
+        },
+        None => Rest::NONE,
+    }
+}
+
+/// What comes from a row on.
+fn follow(ahead: &[Ahead], rests: &[Rest], map: &Map<'_>, row: usize, part: &Row) -> Ahead {
+    let mut found = Ahead {
+        begins: known(rests, row),
+        again: again(rests, map, row, part),
+        ..Ahead::NOTHING
+    };
+    let Some(outer) = map.outer(row) else {
+        return found;
+    };
+    let is_way = matches!(
+        map.rows.get(outer),
+        Some(Row::Choice { .. } | Row::Operators { .. })
+    );
+    let next = if is_way {
+        Rest::NONE
+    } else {
+        rest_at(rests, map.next(row, outer))
+    };
+    let after = after_last(ahead, map, outer);
+    let end = Begins {
+        kinds: after.follows,
+        is_empty: after.ends,
+    };
+    let rest = next.all.then(end);
+    found.follows = rest.kinds;
+    found.ends = rest.is_empty;
+    found.later = next.any.union(after.later).union(after.follows);
+    found
+}
+
+/// What comes after the last of the rows in one.
 fn after_last(ahead: &[Ahead], map: &Map<'_>, row: usize) -> Ahead {
-    if map.outer(row) == NONE {
-        return Ahead {
-            ends: true,
-            ..Ahead::NOTHING
-        };
-    }
     let mut after = match ahead.get(row) {
-        Some(outer) => *outer,
+        Some(found) => *found,
         None => Ahead::NOTHING,
     };
-    let again = match map.row(row) {
-        Row::Repeat { .. } | Row::Some { .. } => block(ahead, map, row).kinds,
-        Row::List { .. } => map.separators(row),
-        Row::Operators { .. } => tails(ahead, map, row),
-        _ => TokenSet::EMPTY,
-    };
-    after.follows = after.follows.union(again);
+    after.ends = after.ends || map.outer(row).is_none();
+    after.follows = after.follows.union(after.again);
     after
 }
 
-/// Works out what follows a row, before others from `next` on.
-fn follow(ahead: &mut [Ahead], map: &Map<'_>, row: usize, next: usize, after: &Ahead) {
-    let begins = from(ahead, map, next);
-    let later = all_from(ahead, map, next);
-    if let Some(found) = ahead.get_mut(row) {
-        found.follows = if begins.is_empty {
-            begins.kinds.union(after.follows)
-        } else {
-            begins.kinds
-        };
-        found.ends = begins.is_empty && after.ends;
-        found.later = later.union(after.later).union(after.follows);
+/// The kinds that a row begins again with, after it or what is in it.
+fn again(rests: &[Rest], map: &Map<'_>, row: usize, part: &Row) -> TokenSet {
+    let inner = rest_at(rests, map.first(row));
+    match part {
+        Row::Repeat { .. } | Row::Some { .. } => inner.all.kinds,
+        Row::List { .. } => separators(part),
+        Row::Operators { .. } => inner.tails,
+        _ => TokenSet::EMPTY,
     }
-}
-
-/// What the rows from one on begin with.
-fn all_from(ahead: &[Ahead], map: &Map<'_>, first: usize) -> TokenSet {
-    let mut kinds = TokenSet::EMPTY;
-    let mut at = first;
-    while at < NONE {
-        kinds = kinds.union(known(ahead, at).kinds);
-        at = map.next(at);
-    }
-    kinds
-}
-
-/// What the operators in a row begin with.
-pub(crate) fn tails(ahead: &[Ahead], map: &Map<'_>, row: usize) -> TokenSet {
-    let mut kinds = TokenSet::EMPTY;
-    let mut at = map.first_in(row);
-    while at < NONE {
-        if let Row::Tail { .. } = map.row(at) {
-            kinds = kinds.union(known(ahead, at).kinds);
-        }
-        at = map.next(at);
-    }
-    kinds
 }

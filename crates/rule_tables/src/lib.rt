@@ -7,23 +7,31 @@
 
 mod classes;
 mod definitions;
+mod eats;
 mod error;
 mod faults;
 mod follow;
+mod groups;
+mod keyword_classes;
 mod keyword_names;
 mod looks;
 mod map;
 mod messages;
+mod moves;
 mod named;
 mod names;
 mod numbers;
 mod outer;
+mod place;
 mod rows;
 mod rules;
 mod sets;
+mod settled;
+mod symbols;
 mod walk;
 
 pub use error::RulesError;
+pub use keyword_classes::keyword_classes;
 pub use keyword_names::KeywordNames;
 pub use names::Names;
 pub use rules::Rules;

@@ -1,18 +1,21 @@
 //! What decides between two ways: the tokens that come.
-ghost use Rattle.std.specs.Prelude.{◌<◌, IfErr, IfOk, OnOk};
-ghost use Rattle.rule_tables.specs.Faults.{NamesNothing};
+ghost use Rattle.std.specs.Prelude.{◌≡◌, ℕ, ◌-◌, ◌<◌, ◌≤◌, ◌&&◌, ◌⊎◌, All, IfErr, IfOk, OnOk, length, true, false};
+ghost use Rattle.squawk_kinds.specs.TokenSets.{has};
+ghost use Rattle.rule_tables.specs.Limits.{IsLimit, IsUndecidedIf};
+ghost use Rattle.rule_tables.specs.Looks.{IsAlike, ShareAfter, ShareWord};
+ghost use Rattle.rule_tables.specs.Places.{AreShared, Sees, SeesRival, SharesFirst, does_eat, first_in};
 ghost use Rattle.rule_tables.specs.Sets.{Extends};
+ghost use Rattle.rule_tables.specs.Walks.{plan_of};
 
+use crate::eats::kinds_at;
 use crate::error::RulesError;
-use crate::map::{Map, NONE, Place};
-use crate::sets::{Sets, both, first_of, push, without};
-use crate::walk::{Walk, kinds_at};
-use rule_grammar::Part as Row;
+use crate::groups::groups;
+use crate::map::Map;
+use crate::place::{Place, Way};
+use crate::sets::{Sets, both, first_of, is_empty, push, without};
+use crate::walk::Walk;
 use squawk_kinds::TokenSet;
-use std::alloc::{AllocError, Global};
-
-/// How many tokens are looked at.
-const LOOK: usize = 4;
+use std::alloc::Global;
 
 /// Any kind, in a look.
 const ANY: u16 = u16::MAX;
@@ -22,66 +25,85 @@ pub(crate) type Look = [u16; 5];
 
 /// Looks, and what they are worked out with.
 #[derive(Drop)]
-pub(crate) struct Looks<'m> {
+pub(crate) struct Looks {
     pub(crate) alloc: Global,
-    pub(crate) map: &'m Map<'m>,
     pub(crate) walk: Walk,
     pub(crate) sets: Sets,
     pub(crate) list: Vec<Look>,
 }
 
-impl Looks<'_> {
+/// A part of rules where there are two ways.
+#[derive(Clone, Copy)]
+pub(crate) struct Fork<'m> {
+    pub(crate) map: &'m Map<'m>,
+    pub(crate) part: usize,
+    /// Whether the words that don't decide go to the first way.
+    pub(crate) is_settled: bool,
+}
+
+#[tactic(auto, using(crate::proofs::Limited::limit_if))]
+impl Looks {
     /// The places that eat first, from one on.
-    pub(crate) fn from(&mut self, place: Place) -> Result<Vec<Place>, AllocError>
-        ensures { OnOk result (Extends self.old.sets.list.items self.new.sets.list.items) }
+    pub(crate) fn from(&mut self, map: &Map<'_>, place: Place) -> Result<Vec<Place>, RulesError>
+        ensures err { IfErr result IsLimit }
+        ensures keeps { OnOk result (Extends self.old.sets.list.items self.new.sets.list.items) }
     {
-        self.walk.begin();
-        self.walk.push(place)?;
-        self.walk.places(self.alloc, self.map)
+        self.walk.from(self.alloc, map, place)
     }
 
-    /// The places that eat first, from the later arms or operators beside one on.
-    pub(crate) fn rivals(&mut self, row: usize) -> Result<Vec<Place>, AllocError>
-        ensures { OnOk result (Extends self.old.sets.list.items self.new.sets.list.items) }
+    /// The number of the look at which an arm or operator is gone into, and no later one beside it.
+    pub(crate) fn apart(&mut self, fork: &Fork<'_>, way: Way) -> Result<u16, RulesError>
+        requires { fork.now.part < length fork.now.map.now.rows.now }
+        ensures err { IfErr result (IsUndecidedIf ((fork.now.is_settled ≡ false) × AreShared 4 (Sees (plan_of fork.now.map.now) (Place.Before fork.now.part)) (SeesRival (plan_of fork.now.map.now) way fork.now.part)) fork.now.part) }
+        ensures ok { OnOk result (fork.now.is_settled ≡ false → AreShared 4 (Sees (plan_of fork.now.map.now) (Place.Before fork.now.part)) (SeesRival (plan_of fork.now.map.now) way fork.now.part) → ⊥) }
+        ensures keeps { OnOk result (Extends self.old.sets.list.items self.new.sets.list.items) }
     {
-        let mut rivals = Vec::new(self.alloc);
-        let mut at = self.map.next(row);
-        while at < NONE {
-            if is_alike(self.map.row(row), self.map.row(at)) {
-                let places = self.from(Place::Before(at))?;
-                rivals.extend_from_slice(&places)?;
-            }
-            at = self.map.next(at);
+        let mine = self.walk.from(self.alloc, fork.map, Place::Before(fork.part))?;
+        let others = self.walk.rivals(self.alloc, fork.map, fork.part, way)?;
+        self.decide(fork, &mine, &others)
+    }
+
+    /// The number of the look at which a part goes on at its first row, and not after it.
+    pub(crate) fn more_in(&mut self, fork: &Fork<'_>) -> Result<u16, RulesError>
+        ensures err { IfErr result (IsUndecidedIf ((fork.now.is_settled ≡ false) × SharesFirst (plan_of fork.now.map.now) fork.now.part (first_in fork.now.map.now.rows.now fork.now.part)) fork.now.part) }
+        ensures ok { OnOk result (fork.now.is_settled ≡ false → SharesFirst (plan_of fork.now.map.now) fork.now.part (first_in fork.now.map.now.rows.now fork.now.part) → ⊥) }
+        ensures keeps { OnOk result (Extends self.old.sets.list.items self.new.sets.list.items) }
+    {
+        match fork.map.first(fork.part) {
+            Some(first) => self.more(fork, Place::Before(first)),
+            None => Ok(0),
         }
-        Ok(rivals)
     }
 
     /// The number of the look at which a part goes on at a place, and not after it.
-    pub(crate) fn more(&mut self, part: usize, place: Place) -> Result<u16, RulesError>
-        ensures err { IfErr result NamesNothing }
+    pub(crate) fn more(&mut self, fork: &Fork<'_>, place: Place) -> Result<u16, RulesError>
+        ensures err { IfErr result (IsUndecidedIf ((fork.now.is_settled ≡ false) × AreShared 4 (Sees (plan_of fork.now.map.now) place) (Sees (plan_of fork.now.map.now) (Place.After fork.now.part))) fork.now.part) }
+        ensures ok { OnOk result (fork.now.is_settled ≡ false → AreShared 4 (Sees (plan_of fork.now.map.now) place) (Sees (plan_of fork.now.map.now) (Place.After fork.now.part)) → ⊥) }
         ensures keeps { OnOk result (Extends self.old.sets.list.items self.new.sets.list.items) }
     {
-        let mine = self.from(place)?;
-        let others = self.from(Place::After(part))?;
-        self.decide(part, &mine, &others)
+        let mine = self.walk.from(self.alloc, fork.map, place)?;
+        let others = self.walk.from(self.alloc, fork.map, Place::After(fork.part))?;
+        self.decide(fork, &mine, &others)
     }
 
     /// The number of the look at which the first way is gone, or 0 if one token decides.
-    pub(crate) fn decide(
+    fn decide(
         &mut self,
-        part: usize,
+        fork: &Fork<'_>,
         mine: &[Place],
         others: &[Place],
     ) -> Result<u16, RulesError>
-        ensures err { IfErr result NamesNothing }
+        requires mine { All (λ p. does_eat (plan_of fork.now.map.now) p ≡ true) mine.now }
+        requires others { All (λ p. does_eat (plan_of fork.now.map.now) p ≡ true) others.now }
+        ensures err { IfErr result (IsUndecidedIf ((fork.now.is_settled ≡ false) × ShareWord (plan_of fork.now.map.now) 4 mine.now others.now) fork.now.part) }
+        ensures ok { OnOk result (fork.now.is_settled ≡ false → ShareWord (plan_of fork.now.map.now) 4 mine.now others.now → ⊥) }
         ensures keeps { OnOk result (Extends self.old.sets.list.items self.new.sets.list.items) }
     {
-        let shared = both(kinds_at(self.map, mine), kinds_at(self.map, others));
-        if shared == TokenSet::EMPTY {
+        if is_empty(both(kinds_at(fork.map, mine), kinds_at(fork.map, others))) {
             return Ok(0);
         }
         let first = number_of(self.list.len())?;
-        self.decide_after(part, mine, others, &[ANY; 5], 0)?;
+        self.decide_after(fork, mine, others, &[ANY; 5], 0)?;
         self.link(usize::from(first))?;
         Ok(first)
     }
@@ -89,7 +111,7 @@ impl Looks<'_> {
     /// Links the looks from the one of this number on to one another.
     fn link(&mut self, first: usize) -> Result<(), RulesError>
         requires { 0 < first }
-        ensures err { IfErr result NamesNothing }
+        ensures err { IfErr result IsLimit }
         ensures keeps { OnOk result (Extends self.old.sets.list.items self.new.sets.list.items) }
     {
         for at in first..self.list.len() {
@@ -105,31 +127,34 @@ impl Looks<'_> {
     #[cycle(decide)]
     fn decide_after(
         &mut self,
-        part: usize,
+        fork: &Fork<'_>,
         mine: &[Place],
         others: &[Place],
         look: &Look,
         depth: usize,
     ) -> Result<(), RulesError>
-        requires { depth < 4 }
-        ensures err { IfErr result NamesNothing }
+        requires depth { depth < 4 }
+        requires mine { All (λ p. does_eat (plan_of fork.now.map.now) p ≡ true) mine.now }
+        requires others { All (λ p. does_eat (plan_of fork.now.map.now) p ≡ true) others.now }
+        ensures err { IfErr result (IsUndecidedIf ((fork.now.is_settled ≡ false) × ShareWord (plan_of fork.now.map.now) (4 - depth) mine.now others.now) fork.now.part) }
+        ensures ok { OnOk result (fork.now.is_settled ≡ false → ShareWord (plan_of fork.now.map.now) (4 - depth) mine.now others.now → ⊥) }
         ensures keeps { OnOk result (Extends self.old.sets.list.items self.new.sets.list.items) }
     {
-        let own = kinds_at(self.map, mine);
-        let shared = both(own, kinds_at(self.map, others));
+        let own = kinds_at(fork.map, mine);
+        let shared = shared(fork, own, kinds_at(fork.map, others), depth);
         let alone = without(own, shared);
-        if alone != TokenSet::EMPTY {
+        if !is_empty(alone) {
             self.add(look, depth, alone)?;
         }
-        if shared == TokenSet::EMPTY {
+        let Some(_) = first_of(shared) else {
             return Ok(());
+        };
+        if depth + 1 >= 4 {
+            return Err(RulesError::Undecided { part: fork.part });
         }
-        if depth + 1 >= LOOK {
-            return Err(RulesError::Undecided { part });
-        }
-        let groups = self.groups(mine, others, shared)?;
+        let groups = groups(self.alloc, fork.map, mine, others, shared)?;
         for group in &groups {
-            self.decide_group(part, mine, others, look, depth, *group)?;
+            self.decide_group(fork, mine, others, look, depth, *group)?;
         }
         Ok(())
     }
@@ -138,15 +163,20 @@ impl Looks<'_> {
     #[cycle(decide)]
     fn decide_group(
         &mut self,
-        part: usize,
+        fork: &Fork<'_>,
         mine: &[Place],
         others: &[Place],
         look: &Look,
         depth: usize,
         group: TokenSet,
     ) -> Result<(), RulesError>
-        requires { depth < 3 }
-        ensures err { IfErr result NamesNothing }
+        requires depth { depth < 3 }
+        requires mine { All (λ p. does_eat (plan_of fork.now.map.now) p ≡ true) mine.now }
+        requires others { All (λ p. does_eat (plan_of fork.now.map.now) p ≡ true) others.now }
+        requires alike_mine { IsAlike (plan_of fork.now.map.now) mine.now group }
+        requires alike_others { IsAlike (plan_of fork.now.map.now) others.now group }
+        ensures err { IfErr result (IsUndecidedIf ((fork.now.is_settled ≡ false) × ShareWord (plan_of fork.now.map.now) (4 - depth) mine.now others.now) fork.now.part) }
+        ensures ok { OnOk result (fork.now.is_settled ≡ false → ShareAfter (plan_of fork.now.map.now) (3 - depth) group mine.now others.now → ⊥) }
         ensures keeps { OnOk result (Extends self.old.sets.list.items self.new.sets.list.items) }
     {
         let Some(kind) = first_of(group) else {
@@ -154,14 +184,14 @@ impl Looks<'_> {
         };
         let mut look = *look;
         look[depth] = self.sets.number(group)?;
-        let mine = self.walk.over(self.alloc, self.map, mine, kind)?;
-        let others = self.walk.over(self.alloc, self.map, others, kind)?;
-        self.decide_after(part, &mine, &others, &look, depth + 1)
+        let mine = self.walk.over(self.alloc, fork.map, mine, kind)?;
+        let others = self.walk.over(self.alloc, fork.map, others, kind)?;
+        self.decide_after(fork, &mine, &others, &look, depth + 1)
     }
 
     fn add(&mut self, look: &Look, depth: usize, set: TokenSet) -> Result<(), RulesError>
         requires { depth < 4 }
-        ensures err { IfErr result NamesNothing }
+        ensures err { IfErr result IsLimit }
         ensures keeps { OnOk result (Extends self.old.sets.list.items self.new.sets.list.items) }
     {
         let mut look = *look;
@@ -169,51 +199,24 @@ impl Looks<'_> {
         push(&mut self.list, look)?;
         Ok(())
     }
-
-    /// The set, cut into kinds that are eaten at the same places.
-    fn groups(
-        &self,
-        mine: &[Place],
-        others: &[Place],
-        set: TokenSet,
-    ) -> Result<Vec<TokenSet>, AllocError> {
-        let mut groups = Vec::new(self.alloc);
-        groups.push(set)?;
-        for place in mine.iter().chain(others.iter()) {
-            groups = self.cut(&groups, self.map.kinds(*place))?;
-        }
-        Ok(groups)
-    }
-
-    fn cut(&self, groups: &[TokenSet], kinds: TokenSet) -> Result<Vec<TokenSet>, AllocError> {
-        let mut cut = Vec::new(self.alloc);
-        for group in groups {
-            add_some(&mut cut, both(*group, kinds))?;
-            add_some(&mut cut, without(*group, kinds))?;
-        }
-        Ok(cut)
-    }
 }
 
-/// Whether both are arms, or both operators.
-fn is_alike(one: Row, other: Row) -> bool {
-    match one {
-        Row::Arm { .. } => matches!(other, Row::Arm { .. }),
-        _ => matches!(other, Row::Tail { .. }),
+/// The kinds that don't decide. If the part is settled, they do after three tokens.
+fn shared(fork: &Fork<'_>, own: TokenSet, others: TokenSet, depth: usize) -> TokenSet
+    ensures some { (kind : ℕ) → has result kind ≡ true → (has own kind && has others kind) ≡ true }
+    ensures all { (kind : ℕ) → (depth < 3) ⊎ (fork.now.is_settled ≡ false) → has result kind ≡ (has own kind && has others kind) }
+    ensures last { 3 ≤ depth → fork.now.is_settled ≡ true → (kind : ℕ) → has result kind ≡ false }
+{
+    if fork.is_settled && depth >= 3 {
+        TokenSet::EMPTY
+    } else {
+        both(own, others)
     }
-}
-
-/// Adds a set, unless it is empty.
-fn add_some(sets: &mut Vec<TokenSet>, set: TokenSet) -> Result<(), AllocError> {
-    if set != TokenSet::EMPTY {
-        sets.push(set)?;
-    }
-    Ok(())
 }
 
 /// The number of a look, from 1.
 fn number_of(index: usize) -> Result<u16, RulesError>
-    ensures err { IfErr result NamesNothing }
+    ensures err { IfErr result IsLimit }
     ensures more { IfOk result (λ number. 0 < number) }
 {
     if index < 65535 {

@@ -1,38 +1,31 @@
-//! Places in rules, and where parsing goes from each.
-ghost use Rattle.std.specs.Prelude.{◌<◌};
+//! How rows stand in one another, and lead to one another.
+ghost use Rattle.std.specs.Prelude.{◌≡◌, ℕ, ◌+◌, ◌<◌, ◌≤◌, List, Some, IfOk, length, slice_get, true};
+ghost use Rattle.std.proofs.Props.{props};
+ghost use Rattle.rule_grammar.specs.declared.part.Part.{Part};
+ghost use Rattle.rule_tables.specs.Places.{end_at, end_in, first_in, goal_of, last_below, next_in, outer_of};
+ghost use Rattle.rule_tables.specs.Maps.{AreLinked, AreOuters, at_goal, known_at, leads_to, with_goal};
 
-use crate::sets::set_of;
+use crate::sets::push;
 use rule_grammar::Part as Row;
-use squawk_kinds::{SyntaxKind, TokenSet};
+use squawk_kinds::TokenSet;
 use std::alloc::{AllocError, Global};
 
-/// No row: it is past any.
-pub(crate) const NONE: usize = usize::MAX;
-
-/// A place in rules.
-#[derive(Clone, Copy)]
-pub(crate) enum Place {
-    /// Before a part.
-    Before(usize),
-    /// After a part.
-    After(usize),
-    /// Before the separator of a list.
-    Separator(usize),
-    /// The end of the text.
-    End,
-}
-
-/// How rows stand in one another.
+/// Rows, and how they stand in one another.
 #[derive(Drop)]
 pub(crate) struct Map<'m> {
     pub(crate) rows: &'m [Row],
-    sets: &'m [TokenSet],
+    pub(crate) sets: &'m [TokenSet],
+    /// The row of the header of the rule of a file.
+    pub(crate) start: usize,
     /// The row that each row is in.
-    outer: Vec<usize>,
-    /// The first call of the rule whose header a row is.
-    first_call: Vec<usize>,
-    /// The call after each call of the same rule.
-    next_call: Vec<usize>,
+    outers: Vec<Option<usize>>,
+    /// The last row that leads to each row.
+    lasts: Vec<Option<usize>>,
+    /// The row before each row that leads to the same row.
+    earlier: Vec<Option<usize>>,
+    ghost few: { length rows.now ≤ 65535 },
+    ghost nested: { AreOuters rows.now outers.items (length rows.now) } by { Prim.hlevel props },
+    ghost linked: { AreLinked rows.now lasts.items earlier.items (length rows.now) } by { Prim.hlevel props },
 }
 
 impl<'m> Map<'m> {
@@ -41,168 +34,188 @@ impl<'m> Map<'m> {
         alloc: Global,
         rows: &'m [Row],
         sets: &'m [TokenSet],
-    ) -> Result<Map<'m>, AllocError> {
-        let mut map = Map {
+        start: usize,
+    ) -> Result<Map<'m>, AllocError>
+        requires { length rows.now ≤ 65535 }
+        ensures rows { IfOk result (λ map. map.rows.now ≡ rows.now) }
+        ensures sets { IfOk result (λ map. map.sets.now ≡ sets.now) }
+        ensures start { IfOk result (λ map. map.start ≡ start) }
+    {
+        let outers = outers_of(alloc, rows)?;
+        let Links { lasts, earlier } = links_of(alloc, rows, &outers)?;
+        Ok(Map {
             rows,
             sets,
-            outer: filled(alloc, rows.len())?,
-            first_call: filled(alloc, rows.len())?,
-            next_call: filled(alloc, rows.len())?,
-        };
-        for index in (0..rows.len()).rev() {
-            map.add(index);
-        }
-        Ok(map)
+            start,
+            outers,
+            lasts,
+            earlier,
+        })
     }
 
-    /// Notes what a row says of others.
-    fn add(&mut self, index: usize) {
-        match self.row(index) {
-            Row::Call { start, .. } => self.add_call(usize::from(start).saturating_sub(1), index),
-            Row::Operand { operators, .. } => self.add_call(usize::from(operators), index),
-            _ => self.add_block(index),
-        }
-    }
-
-    fn add_call(&mut self, header: usize, call: usize) {
-        let next = get(&self.first_call, header);
-        set(&mut self.next_call, call, next);
-        set(&mut self.first_call, header, call);
-    }
-
-    /// Notes which rows are in one.
-    fn add_block(&mut self, outer: usize) {
-        let end = end_of(self.row(outer));
-        let mut at = outer.saturating_add(1);
-        while at < end {
-            set(&mut self.outer, at, outer);
-            at = self.skip(at);
-        }
-    }
-
-    /// The row after one with all that is in it.
-    pub(crate) fn skip(&self, row: usize) -> usize
-        ensures { row < 18446744073709551615 → row < result }
+    /// The row that a row is in.
+    pub(crate) fn outer(&self, row: usize) -> Option<usize>
+        ensures { row < length self.now.rows.now → result ≡ outer_of self.now.rows.now row }
     {
-        end_of(self.row(row)).max(row.saturating_add(1))
+        read(&self.outers, row)
     }
 
-    /// The part in a row.
-    pub(crate) fn row(&self, row: usize) -> Row {
-        match self.rows.get(row) {
-            Some(part) => *part,
-            None => Row::Nothing,
-        }
-    }
-
-    /// The first row in one, or [`NONE`].
-    pub(crate) fn first_in(&self, row: usize) -> usize
-        ensures { row < 18446744073709551615 → row < result }
+    /// The first row in one.
+    pub(crate) fn first(&self, row: usize) -> Option<usize>
+        ensures { result ≡ first_in self.now.rows.now row }
     {
         let first = row.saturating_add(1);
-        if first < end_of(self.row(row)) {
-            first
+        if first < end_at(self.rows, row) {
+            Some(first)
         } else {
-            NONE
+            None
         }
     }
 
-    /// The row that a row is in, or [`NONE`].
-    pub(crate) fn outer(&self, row: usize) -> usize {
-        get(&self.outer, row)
-    }
-
-    /// The row after a row in the same one, or [`NONE`].
-    pub(crate) fn next(&self, row: usize) -> usize
-        ensures { row < 18446744073709551615 → row < result }
+    /// The row after a row in the same one.
+    pub(crate) fn next(&self, row: usize, outer: usize) -> Option<usize>
+        ensures { result ≡ next_in self.now.rows.now row outer }
     {
-        let next = self.skip(row);
-        if next < end_of(self.row(self.outer(row))) {
-            next
+        let next = end_at(self.rows, row).max(row.saturating_add(1));
+        if next < end_at(self.rows, outer) {
+            Some(next)
         } else {
-            NONE
+            None
         }
     }
 
-    /// The first call of the rule whose header a row is, or [`NONE`].
-    pub(crate) fn first_call(&self, header: usize) -> usize {
-        get(&self.first_call, header)
-    }
-
-    /// The call after a call of the same rule, or [`NONE`].
-    pub(crate) fn next_call(&self, call: usize) -> usize
-        ensures { call < 18446744073709551615 → call < result }
+    /// The last row that leads to one.
+    pub(crate) fn last_to(&self, row: usize) -> Option<usize>
+        ensures { row < length self.now.rows.now → result ≡ last_below (leads_to self.now.rows.now row) (length self.now.rows.now) }
     {
-        let next = get(&self.next_call, call);
-        if call < next { next } else { NONE }
+        read(&self.lasts, row)
     }
 
-    /// The kinds of tokens that are eaten at a place.
-    pub(crate) fn kinds(&self, place: Place) -> TokenSet {
-        match place {
-            Place::Before(row) => self.kinds_before(row),
-            Place::Separator(row) => self.separators(row),
-            Place::After(_) => TokenSet::EMPTY,
-            Place::End => set_of(SyntaxKind::EOF),
-        }
+    /// The row before a row that leads to the same one.
+    pub(crate) fn earlier(&self, row: usize) -> Option<usize>
+        ensures { (h : ℕ) → row < length self.now.rows.now → h < length self.now.rows.now → leads_to self.now.rows.now h row ≡ true → result ≡ last_below (leads_to self.now.rows.now h) row }
+    {
+        read(&self.earlier, row)
     }
+}
 
-    fn kinds_before(&self, row: usize) -> TokenSet {
-        match self.row(row) {
-            Row::Token { kind } => set_of(kind),
-            Row::Class { set } => self.set(set),
-            _ => TokenSet::EMPTY,
-        }
-    }
-
-    /// The kind of the separators of a list.
-    pub(crate) fn separators(&self, row: usize) -> TokenSet {
-        match self.row(row) {
-            Row::List { separator, .. } => set_of(separator),
-            _ => TokenSet::EMPTY,
-        }
-    }
-
-    fn set(&self, number: u16) -> TokenSet {
-        match self.sets.get(usize::from(number)) {
-            Some(set) => *set,
-            None => TokenSet::EMPTY,
-        }
+fn read(list: &[Option<usize>], index: usize) -> Option<usize>
+    ensures { result ≡ known_at (slice_get list.now index) }
+{
+    match list.get(index) {
+        Some(found) => *found,
+        None => None,
     }
 }
 
 /// The row after the last one in a row, or 0.
-pub(crate) fn end_of(row: Row) -> usize {
+pub(crate) fn end_at(rows: &[Row], row: usize) -> usize
+    ensures { result ≡ end_at rows.now row }
+{
+    match rows.get(row) {
+        Some(part) => usize::from(end_of(part)),
+        None => 0,
+    }
+}
+
+fn end_of(row: &Row) -> u16
+    ensures { result ≡ end_in (Some row.now) }
+{
     match row {
-        Row::Node { end, .. }
-        | Row::Choice { end }
-        | Row::Arm { end }
-        | Row::Optional { end }
-        | Row::Repeat { end }
-        | Row::Some { end }
-        | Row::List { end, .. }
-        | Row::Operators { end }
-        | Row::Is { end }
-        | Row::Tail { end, .. } => usize::from(end),
+        Row::Node { end, .. } => *end,
+        Row::Choice { end } => *end,
+        Row::Arm { end } => *end,
+        Row::Optional { end } => *end,
+        Row::Repeat { end } => *end,
+        Row::Some { end } => *end,
+        Row::List { end, .. } => *end,
+        Row::Operators { end } => *end,
+        Row::Is { end } => *end,
+        Row::Tail { end, .. } => *end,
         _ => 0,
     }
 }
 
-fn filled(alloc: Global, len: usize) -> Result<Vec<usize>, AllocError> {
-    let mut list = Vec::new(alloc);
-    list.resize(len, NONE)?;
-    Ok(list)
+/// The row that each row is in.
+fn outers_of(alloc: Global, rows: &[Row]) -> Result<Vec<Option<usize>>, AllocError>
+    ensures { IfOk result (λ outers. AreOuters rows.now outers.items (length rows.now)) }
+{
+    let mut outers = Vec::new(alloc);
+    for index in 0..rows.len() {
+        let outer = outer_of(rows, &outers, index);
+        push(&mut outers, outer)?;
+    }
+    Ok(outers)
 }
 
-fn get(list: &[usize], index: usize) -> usize {
-    match list.get(index) {
-        Some(found) => *found,
-        None => NONE,
+/// The row that a row is in, by those that the rows before it are in.
+fn outer_of(rows: &[Row], outers: &[Option<usize>], index: usize) -> Option<usize>
+    requires { AreOuters rows.now outers.now index }
+    ensures { result ≡ outer_of rows.now index }
+{
+    let mut at = index.checked_sub(1);
+    while let Some(row) = at {
+        if index < end_at(rows, row) {
+            return Some(row);
+        }
+        at = outers[row];
+    }
+    None
+}
+
+/// Which rows lead to which.
+#[derive(Drop)]
+struct Links {
+    lasts: Vec<Option<usize>>,
+    earlier: Vec<Option<usize>>,
+}
+
+fn links_of(
+    alloc: Global,
+    rows: &[Row],
+    outers: &[Option<usize>],
+) -> Result<Links, AllocError>
+    requires { AreOuters rows.now outers.now (length rows.now) }
+    ensures { IfOk result (λ links. AreLinked rows.now links.lasts.items links.earlier.items (length rows.now)) }
+{
+    let mut lasts = Vec::new(alloc);
+    lasts.resize(rows.len(), None)?;
+    let mut earlier = Vec::new(alloc);
+    for (index, row) in rows.iter().enumerate() {
+        let before = link(&mut lasts, goal_of(row, outers[index]), index);
+        push(&mut earlier, before)?;
+    }
+    Ok(Links { lasts, earlier })
+}
+
+/// The row that a row leads to, by that which it is in.
+fn goal_of(row: &Row, outer: Option<usize>) -> Option<usize>
+    ensures { (rows : List Part) → (k : ℕ) → outer ≡ outer_of rows k → result ≡ goal_of rows k (Some row.now) }
+{
+    match row {
+        Row::Arm { .. } => outer,
+        Row::Tail { .. } => outer,
+        Row::Call { start, .. } => Some(usize::from(*start).saturating_sub(1)),
+        Row::Operand { operators, .. } => Some(usize::from(*operators)),
+        _ => None,
     }
 }
 
-fn set(list: &mut [usize], index: usize, value: usize) {
-    if let Some(place) = list.get_mut(index) {
-        *place = value;
+/// Notes that a row leads to another. Returns the last one before that leads to the same.
+fn link(lasts: &mut Vec<Option<usize>>, goal: Option<usize>, row: usize) -> Option<usize>
+    ensures new { lasts.new.items ≡ with_goal goal row lasts.old.items }
+    ensures last { result ≡ at_goal goal lasts.old.items }
+{
+    match goal {
+        Some(goal) => {
+            if goal < lasts.len() {
+                let last = lasts[goal];
+                lasts[goal] = Some(row);
+                last
+            } else {
+                None
+            }
+        }
+        None => None,
     }
 }

@@ -1,5 +1,5 @@
 //! What errors say at each row.
-use crate::map::{Map, NONE};
+use crate::map::Map;
 use rule_grammar::Part as Row;
 use rule_parts::Part;
 use std::alloc::{AllocError, Global};
@@ -43,16 +43,19 @@ impl Messages {
 /// The row of the message at a row: a token, the rule that is called first, or the rule that it is in.
 pub(crate) fn row_of_message(map: &Map<'_>, row: usize, rule: usize) -> usize {
     let mut at = row;
-    while at < NONE {
-        match map.row(at) {
+    while let Some(part) = map.rows.get(at) {
+        match part {
             Row::Token { .. } => return at,
-            Row::Call { start, .. } => return usize::from(start).saturating_sub(1),
+            Row::Call { start, .. } => return usize::from(*start).saturating_sub(1),
             Row::Node { .. }
             | Row::Optional { .. }
             | Row::Repeat { .. }
             | Row::Some { .. }
             | Row::List { .. }
-            | Row::Tail { .. } => at = map.first_in(at),
+            | Row::Tail { .. } => match map.first(at) {
+                Some(first) => at = first,
+                None => return rule,
+            },
             _ => return rule,
         }
     }

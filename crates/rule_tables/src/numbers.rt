@@ -1,42 +1,45 @@
 //! The numbers of a row.
 ghost use Rattle.std.specs.Prelude.{◌≡◌, ◌<◌, ◌%◌, IfErr, IfOk, IsTrue, OnOk, Some, slice_get, slice_index};
 ghost use Rattle.rule_grammar.specs.Parts.{part_by, part_of};
-ghost use Rattle.rule_tables.specs.Faults.{NamesNothing};
+ghost use Rattle.rule_tables.specs.Forks.{IsOpenAt};
+ghost use Rattle.rule_tables.specs.Limits.{IsLimit, IsUndecidedIf};
 ghost use Rattle.rule_tables.specs.Sets.{Extends};
 ghost use Rattle.rule_tables.specs.Rows.{is_exact, tail_tag};
 
+use crate::eats::kinds_at;
 use crate::error::RulesError;
-use crate::follow::{Ahead, tails};
-use crate::looks::Looks;
-use crate::map::{NONE, Place};
-use crate::walk::kinds_at;
+use crate::follow::Ahead;
+use crate::looks::{Fork, Looks};
+use crate::place::{Place, Way};
 use rule_grammar::Part as Row;
 use squawk_kinds::TokenSet;
-use std::alloc::AllocError;
 
 /// The numbers of a row.
+#[tactic(auto, using(crate::proofs::Limited::limit_if))]
 pub(crate) fn numbers_of(
-    looks: &mut Looks<'_>,
+    looks: &mut Looks,
+    fork: &Fork<'_>,
     ahead: &[Ahead],
-    index: usize,
     row: &Row,
     message: u16,
 ) -> Result<[u16; 8], RulesError>
-    requires { IsTrue (is_exact row.now) }
-    ensures err { IfErr result NamesNothing }
+    requires exact { IsTrue (is_exact row.now) }
+    requires row { slice_get fork.now.map.now.rows.now fork.now.part ≡ Some row.now }
+    ensures err { IfErr result (IsUndecidedIf (IsOpenAt fork.now row.now) fork.now.part) }
+    ensures decided { OnOk result (IsOpenAt fork.now row.now → ⊥) }
     ensures keeps { OnOk result (Extends looks.old.sets.list.items looks.new.sets.list.items) }
     ensures ok { IfOk result (λ numbers. part_of numbers ≡ row.now) }
 {
-    let known = match ahead.get(index) {
+    let known = match ahead.get(fork.part) {
         Some(known) => *known,
         None => Ahead::NOTHING,
     };
     let [part, end, number] = part_numbers(row);
-    let begins = begins(looks, &known, index, row)?;
+    let begins = begins(looks, fork, &known, row)?;
     let begins = looks.sets.number(begins)?;
     let follows = looks.sets.number(known.follows)?;
     let later = looks.sets.number(known.later)?;
-    let look = look(looks, ahead, index, row)?;
+    let look = look(looks, fork, &known, row)?;
     let part = with_end(part, known.ends);
     Ok([part, end, number, begins, follows, later, look, message])
 }
@@ -51,44 +54,39 @@ fn with_end(part: u16, ends: bool) -> u16
 
 /// The kinds at which a part is gone into.
 fn begins(
-    looks: &mut Looks<'_>,
+    looks: &mut Looks,
+    fork: &Fork<'_>,
     known: &Ahead,
-    index: usize,
     row: &Row,
-) -> Result<TokenSet, AllocError>
-    ensures { OnOk result (Extends looks.old.sets.list.items looks.new.sets.list.items) }
+) -> Result<TokenSet, RulesError>
+    ensures err { IfErr result IsLimit }
+    ensures keeps { OnOk result (Extends looks.old.sets.list.items looks.new.sets.list.items) }
 {
     let is_way = matches!(row, Row::Arm { .. } | Row::Tail { .. } | Row::Choice { .. });
-    if is_way && looks.map.outer(index) != NONE {
-        let mine = looks.from(Place::Before(index))?;
-        Ok(kinds_at(looks.map, &mine))
+    if is_way && fork.map.outer(fork.part).is_some() {
+        let mine = looks.from(fork.map, Place::Before(fork.part))?;
+        Ok(kinds_at(fork.map, &mine))
     } else {
-        Ok(known.begins)
+        Ok(known.begins.kinds)
     }
 }
 
+#[tactic(auto, using(crate::proofs::Limited::limit_if))]
 /// The look of a row, or the set of kinds that one of its operators begins with.
-fn look(looks: &mut Looks<'_>, ahead: &[Ahead], index: usize, row: &Row) -> Result<u16, RulesError>
-    ensures err { IfErr result NamesNothing }
+fn look(looks: &mut Looks, fork: &Fork<'_>, known: &Ahead, row: &Row) -> Result<u16, RulesError>
+    requires { slice_get fork.now.map.now.rows.now fork.now.part ≡ Some row.now }
+    ensures err { IfErr result (IsUndecidedIf (IsOpenAt fork.now row.now) fork.now.part) }
+    ensures decided { OnOk result (IsOpenAt fork.now row.now → ⊥) }
     ensures keeps { OnOk result (Extends looks.old.sets.list.items looks.new.sets.list.items) }
 {
     match row {
-        Row::Arm { .. } | Row::Tail { .. } => {
-            if looks.map.outer(index) == NONE {
-                return Ok(0);
-            }
-            let mine = looks.from(Place::Before(index))?;
-            let others = looks.rivals(index)?;
-            looks.decide(index, &mine, &others)
-        }
-        Row::Optional { .. } | Row::Repeat { .. } | Row::Some { .. } => {
-            looks.more(index, Place::Before(looks.map.first_in(index)))
-        }
-        Row::List { .. } => looks.more(index, Place::Separator(index)),
-        Row::Operators { .. } => {
-            let tails = tails(ahead, looks.map, index);
-            looks.sets.number(tails)
-        }
+        Row::Arm { .. } => looks.apart(fork, Way::Arm),
+        Row::Tail { .. } => looks.apart(fork, Way::Tail),
+        Row::Optional { .. } => looks.more_in(fork),
+        Row::Repeat { .. } => looks.more_in(fork),
+        Row::Some { .. } => looks.more_in(fork),
+        Row::List { .. } => looks.more(fork, Place::Separator(fork.part)),
+        Row::Operators { .. } => looks.sets.number(known.again),
         _ => Ok(0),
     }
 }

@@ -5,22 +5,26 @@ ghost use Rattle.squawk_kinds.specs.TokenSets.{has};
 ghost use Rattle.rule_grammar.specs.Parts.{words_have};
 ghost use Rattle.rule_tables.specs.Classes.{HasClasses};
 ghost use Rattle.rule_tables.specs.Faults.{IsRefusal, NamesNothing, fault_of};
+ghost use Rattle.rule_tables.specs.Forks.{AreDecided, IsFirstOpen, plan_from};
+ghost use Rattle.rule_tables.specs.Looks.{settled_at};
 ghost use Rattle.rule_tables.specs.Rows.{AreSmall, HasRows, IsFileRule, SayRows, is_exact};
 ghost use Rattle.rule_tables.specs.Sets.{Extends, HaveSets, word_of};
+ghost use Rattle.rule_tables.specs.Walks.{plan_of};
 
 use crate::classes::sets_of;
 use crate::definitions::Definitions;
 use crate::error::RulesError;
 use crate::faults::fault_of;
 use crate::follow::{Ahead, ahead_of};
-use crate::looks::{Look, Looks};
-use crate::map::{Map, NONE};
+use crate::looks::{Fork, Look, Looks};
+use crate::map::Map;
 use crate::messages::{Messages, row_of_message};
 use crate::named::{Span, file_of};
 use crate::names::Names;
 use crate::numbers::numbers_of;
 use crate::rows::rows_of;
 use crate::sets::{Sets, push};
+use crate::settled::settled_of;
 use crate::walk::Walk;
 use rule_grammar::{DEPTH, Part as Row, RuleGrammar, Table};
 use rule_parts::Part;
@@ -151,7 +155,8 @@ fn rules_by<N: Names>(
     let sets = sets_of(alloc, definitions, names)?;
     let messages = Messages::new(alloc, definitions.parts)?;
     let file = file_of(definitions.parts);
-    rules_of(alloc, &rows, &sets, messages, file, names.operators())
+    let settled = settled_of(alloc, definitions.parts, &rows)?;
+    rules_of(alloc, &rows, &sets, &settled, messages, file, names.operators())
 }
 
 /// The rules of these rows, of which some are the rule of a file.
@@ -159,29 +164,31 @@ fn rules_of(
     alloc: Global,
     rows: &[Row],
     sets: &[TokenSet],
+    settled: &[bool],
     messages: Messages,
     file: Span,
     operators: TokenSet,
 ) -> Result<Rules, RulesError>
     requires exact { All (λ row. IsTrue (is_exact row)) rows.now }
     requires no_end { has operators EOF ≡ false }
-    ensures err { IfErr result NamesNothing }
+    requires few { length rows.now ≤ 65535 }
+    ensures err { IfErr result (IsFirstOpen (plan_from rows.now sets.now file.start) settled.now) }
+    ensures decided { OnOk result (AreDecided (plan_from rows.now sets.now file.start) settled.now (length rows.now)) }
     ensures rows { IfOk result (λ rules. SayRows rows.now rules.rows) }
     ensures sets { IfOk result (λ rules. HaveSets sets.now rules.sets (length sets.now)) }
     ensures start { IfOk result (λ rules. rules.start ≡ file.start) }
     ensures end { IfOk result (λ rules. rules.end ≡ file.end) }
     ensures operators { IfOk result (λ rules. rules.operators ≡ operators) }
 {
-    let map = Map::new(alloc, rows, sets)?;
+    let map = Map::new(alloc, rows, sets, usize::from(file.start).saturating_sub(1))?;
     let ahead = ahead_of(alloc, &map)?;
     let mut looks = Looks {
         alloc,
-        map: &map,
-        walk: Walk::new(alloc, rows.len(), usize::from(file.start).saturating_sub(1))?,
+        walk: Walk::new(alloc),
         sets: Sets::new(alloc, sets)?,
         list: Vec::new(alloc),
     };
-    let numbers = all_numbers(&mut looks, &ahead, rows)?;
+    let numbers = all_numbers(&mut looks, &map, settled, &ahead)?;
     let words = all_words(alloc, &looks.sets.list)?;
     Ok(Rules {
         rows: numbers,
@@ -196,26 +203,42 @@ fn rules_of(
 
 /// The numbers of all rows.
 fn all_numbers(
-    looks: &mut Looks<'_>,
+    looks: &mut Looks,
+    map: &Map<'_>,
+    settled: &[bool],
     ahead: &[Ahead],
-    rows: &[Row],
 ) -> Result<Vec<[u16; 8]>, RulesError>
-    requires { All (λ row. IsTrue (is_exact row)) rows.now }
-    ensures err { IfErr result NamesNothing }
+    requires { All (λ row. IsTrue (is_exact row)) map.now.rows.now }
+    ensures err { IfErr result (IsFirstOpen (plan_of map.now) settled.now) }
+    ensures decided { OnOk result (AreDecided (plan_of map.now) settled.now (length map.now.rows.now)) }
     ensures keeps { OnOk result (Extends looks.old.sets.list.items looks.new.sets.list.items) }
-    ensures ok { IfOk result (λ numbers. SayRows rows.now numbers.items) }
+    ensures ok { IfOk result (λ numbers. SayRows map.now.rows.now numbers.items) }
 {
     let mut numbers = Vec::new(looks.alloc);
     let mut rule = 0usize;
-    for (index, row) in rows.iter().enumerate() {
-        if looks.map.outer(index) == NONE {
+    for (index, row) in map.rows.iter().enumerate() {
+        if map.outer(index).is_none() {
             rule = index;
         }
-        let message = to_u16(row_of_message(looks.map, index, rule));
-        let numbers_of_row = numbers_of(looks, ahead, index, row, message)?;
+        let fork = Fork {
+            map,
+            part: index,
+            is_settled: is_settled(settled, index),
+        };
+        let message = to_u16(row_of_message(map, index, rule));
+        let numbers_of_row = numbers_of(looks, &fork, ahead, row, message)?;
         push(&mut numbers, numbers_of_row)?;
     }
     Ok(numbers)
+}
+
+fn is_settled(settled: &[bool], row: usize) -> bool
+    ensures { result ≡ settled_at settled.now row }
+{
+    match settled.get(row) {
+        Some(is_settled) => *is_settled,
+        None => false,
+    }
 }
 
 fn to_u16(number: usize) -> u16 {

@@ -1,8 +1,8 @@
 //! Sets of kinds, each once.
-ghost use Rattle.std.specs.Prelude.{◌≡◌, ℕ, ◌&&◌, ◌++◌, ◌∷◌, [], IfErr, IfOk, OnOk, Some, not};
+ghost use Rattle.std.specs.Prelude.{◌≡◌, ℕ, ◌&&◌, ◌++◌, ◌∷◌, [], IfErr, IfOk, IfSome, None, OnOk, Some, not, true, false};
 ghost use Rattle.squawk_kinds.specs.TokenSets.{has};
 ghost use Rattle.rule_tables.specs.Classes.{is_token};
-ghost use Rattle.rule_tables.specs.Faults.{NamesNothing};
+ghost use Rattle.rule_tables.specs.Limits.{IsLimit};
 ghost use Rattle.rule_tables.specs.Sets.{Extends};
 
 use crate::error::RulesError;
@@ -26,7 +26,7 @@ impl Sets {
 
     /// The number of a set.
     pub(crate) fn number(&mut self, set: TokenSet) -> Result<u16, RulesError>
-        ensures err { IfErr result NamesNothing }
+        ensures err { IfErr result IsLimit }
         ensures keeps { OnOk result (Extends self.old.list.items self.new.list.items) }
     {
         for (number, one) in self.list.iter().enumerate() {
@@ -42,7 +42,7 @@ impl Sets {
 
 /// The number of a set in a table. The greatest one is no set.
 fn number_of(index: usize) -> Result<u16, RulesError>
-    ensures { IfErr result NamesNothing }
+    ensures { IfErr result IsLimit }
 {
     if index < 65535 {
         Ok(index as u16)
@@ -63,21 +63,10 @@ pub(crate) fn set_of(kind: SyntaxKind) -> TokenSet
 }
 
 /// The kinds that are in both sets.
-pub(crate) fn both(one: TokenSet, other: TokenSet) -> TokenSet {
-    let a = one.0;
-    let b = other.0;
-    TokenSet::from_words([
-        a[0] & b[0],
-        a[1] & b[1],
-        a[2] & b[2],
-        a[3] & b[3],
-        a[4] & b[4],
-        a[5] & b[5],
-        a[6] & b[6],
-        a[7] & b[7],
-        a[8] & b[8],
-        a[9] & b[9],
-    ])
+pub(crate) fn both(one: TokenSet, other: TokenSet) -> TokenSet
+    ensures { (kind : ℕ) → has result kind ≡ (has one kind && has other kind) }
+{
+    without(one, without(one, other))
 }
 
 /// The kinds of a set that aren't in another.
@@ -100,8 +89,21 @@ pub(crate) fn without(one: TokenSet, other: TokenSet) -> TokenSet
     ])
 }
 
+/// Whether a set has no kind, by its words.
+pub(crate) fn is_empty(set: TokenSet) -> bool
+    ensures { result ≡ true → (kind : ℕ) → has set kind ≡ false }
+{
+    set == TokenSet::EMPTY
+}
+
 /// The least kind of a set.
-pub(crate) fn first_of(set: TokenSet) -> Option<SyntaxKind> {
+pub(crate) fn first_of(set: TokenSet) -> Option<SyntaxKind>
+    ensures some { IfSome result (λ kind. has set kind ≡ true) }
+    ensures none { result ≡ None → (kind : ℕ) → has set kind ≡ false }
+{
+    if is_empty(set) {
+        return None;
+    }
     for number in 0..640u16 {
         if set.contains(SyntaxKind(number)) {
             return Some(SyntaxKind(number));

@@ -1,261 +1,157 @@
-//! Which tokens may come from a place on.
-use crate::map::{Map, NONE, Place};
-use rule_grammar::Part as Row;
-use squawk_kinds::{SyntaxKind, TokenSet};
+//! Which places come from a place on, without eating.
+ghost use Rattle.std.specs.Prelude.{◌≡◌, ℕ, ◌<◌, ◌≤◌, All, IfErr, IfOk, OnOk, [], ◌∷◌, length, slice_index, true};
+ghost use Rattle.rule_tables.specs.Limits.{IsLimit};
+
+use crate::eats::{eaters, kinds_of};
+use crate::error::RulesError;
+use crate::map::Map;
+use crate::place::{Place, Way, slot_of};
+use crate::sets::push;
+use squawk_kinds::SyntaxKind;
 use std::alloc::{AllocError, Global};
 
 /// A walk over places, without eating.
 #[derive(Drop)]
 pub(crate) struct Walk {
+    /// The number of the walk that was last at each place.
+    pub(crate) marks: Vec<u64>,
     /// The number of this walk.
-    walk: u64,
-    /// The number of the walk that was last before each row.
-    before: Vec<u64>,
-    /// The same after each row.
-    after: Vec<u64>,
-    /// The same before the separator of each row.
-    separators: Vec<u64>,
-    /// The number of the walk that was last at the end of the text.
-    end: u64,
-    /// The places where the walk still has to go on.
-    todo: Vec<Place>,
-    /// The row of the header of the rule of a file.
-    start: usize,
+    pub(crate) number: u64,
+    /// The places that this walk reached.
+    pub(crate) reached: Vec<Place>,
+    ghost below: { (i : ℕ) → slice_index marks.items i ≤ number },
 }
 
 impl Walk {
-    pub(crate) fn new(alloc: Global, rows: usize, start: usize) -> Result<Walk, AllocError> {
-        Ok(Walk {
-            walk: 0,
-            before: zeros(alloc, rows)?,
-            after: zeros(alloc, rows)?,
-            separators: zeros(alloc, rows)?,
-            end: 0,
-            todo: Vec::new(alloc),
-            start,
-        })
-    }
+    ghost use Rattle.rule_tables.specs.Places.{Sees, SeesFrom, SeesRival, Steps, does_eat, eats};
+    ghost use Rattle.rule_tables.specs.Walks.{AreFirst, Goes, HasReached, IsClosed, IsWalking, plan_of, slots};
 
-    /// Begins a walk.
-    pub(crate) fn begin(&mut self) {
-        self.walk = self.walk.saturating_add(1);
-        self.todo.clear();
-    }
-
-    /// Adds a place that the walk goes on at, once.
-    pub(crate) fn push(&mut self, place: Place) -> Result<(), AllocError> {
-        if self.is_new(place) {
-            self.todo.push(place)?;
-        }
-        Ok(())
-    }
-
-    /// Notes that the walk was at a place. Returns whether it wasn't before.
-    fn is_new(&mut self, place: Place) -> bool {
-        let walk = self.walk;
-        match place {
-            Place::Before(row) => is_new_in(&mut self.before, row, walk),
-            Place::After(row) => is_new_in(&mut self.after, row, walk),
-            Place::Separator(row) => is_new_in(&mut self.separators, row, walk),
-            Place::End => {
-                let last = self.end;
-                self.end = walk;
-                last != walk
-            }
+    pub(crate) fn new(alloc: Global) -> Walk {
+        Walk {
+            marks: Vec::new(alloc),
+            number: 0,
+            reached: Vec::new(alloc),
         }
     }
 
-    /// The places that eat, of those that the walk reaches.
-    pub(crate) fn places(
+    /// The places that eat first, from one on.
+    pub(crate) fn from(
         &mut self,
         alloc: Global,
         map: &Map<'_>,
-    ) -> Result<Vec<Place>, AllocError> {
-        let mut places = Vec::new(alloc);
-        // Each place is taken out once.
-        let most = self.before.len().saturating_mul(3).saturating_add(1);
-        for _count in 0..most {
-            let Some(place) = self.todo.pop() else {
-                break;
-            };
-            if eats(map, place) {
-                places.push(place)?;
-            } else {
-                self.go_on(map, place)?;
+        place: Place,
+    ) -> Result<Vec<Place>, RulesError>
+        ensures err { IfErr result IsLimit }
+        ensures ok { IfOk result (λ places. AreFirst (plan_of map.now) (Sees (plan_of map.now) place) places.items) }
+    {
+        self.begin(map)?;
+        self.push(place)?;
+        self.finish(alloc, map)
+    }
+
+    /// The places that eat first, from before the later arms or operators beside one on.
+    pub(crate) fn rivals(
+        &mut self,
+        alloc: Global,
+        map: &Map<'_>,
+        row: usize,
+        way: Way,
+    ) -> Result<Vec<Place>, RulesError>
+        requires { row < length map.now.rows.now }
+        ensures err { IfErr result IsLimit }
+        ensures ok { IfOk result (λ places. AreFirst (plan_of map.now) (SeesRival (plan_of map.now) way row) places.items) }
+    {
+        self.begin(map)?;
+        match map.outer(row) {
+            Some(outer) => {
+                self.lead_from(map, outer, way, row + 1)?;
+                self.finish(alloc, map)
             }
-        }
-        Ok(places)
-    }
-
-    /// Goes on from a place that doesn't eat.
-    fn go_on(&mut self, map: &Map<'_>, place: Place) -> Result<(), AllocError> {
-        match place {
-            Place::Before(row) => self.enter(map, row),
-            Place::After(row) => self.after(map, row),
-            Place::Separator(_) | Place::End => Ok(()),
+            None => self.finish(alloc, map),
         }
     }
 
-    /// Goes into a part.
-    fn enter(&mut self, map: &Map<'_>, row: usize) -> Result<(), AllocError> {
-        match map.row(row) {
-            Row::Choice { .. } | Row::Operators { .. } => self.arms(map, row),
-            Row::Optional { .. } | Row::Repeat { .. } => {
-                self.push(Place::After(row))?;
-                self.block(map, row)
-            }
-            Row::Call { start, .. } => self.block(map, usize::from(start).saturating_sub(1)),
-            Row::Operand { operators, .. } => self.arms(map, usize::from(operators)),
-            Row::Becomes { .. } | Row::Is { .. } | Row::Guard { .. } | Row::Nothing => {
-                self.push(Place::After(row))
-            }
-            _ => self.block(map, row),
-        }
-    }
-
-    /// Goes to the first of the rows in one.
-    fn block(&mut self, map: &Map<'_>, row: usize) -> Result<(), AllocError> {
-        let first = map.first_in(row);
-        if first == NONE {
-            self.leave(map, row)
-        } else {
-            self.push(Place::Before(first))
-        }
-    }
-
-    /// Goes to each arm in a row.
-    fn arms(&mut self, map: &Map<'_>, row: usize) -> Result<(), AllocError> {
-        let mut at = map.first_in(row);
-        while at < NONE {
-            if let Row::Arm { .. } = map.row(at) {
-                self.push(Place::Before(at))?;
-            }
-            at = map.next(at);
-        }
-        Ok(())
-    }
-
-    /// Goes on after a part.
-    fn after(&mut self, map: &Map<'_>, row: usize) -> Result<(), AllocError> {
-        if matches!(map.row(row), Row::Arm { .. } | Row::Tail { .. }) {
-            return self.after_arm(map, row);
-        }
-        let next = map.next(row);
-        if next == NONE {
-            self.leave(map, map.outer(row))
-        } else {
-            self.push(Place::Before(next))
-        }
-    }
-
-    /// Goes on after the last part in a row.
-    fn leave(&mut self, map: &Map<'_>, row: usize) -> Result<(), AllocError> {
-        match map.row(row) {
-            Row::Repeat { .. } | Row::Some { .. } => {
-                self.push(Place::Before(map.first_in(row)))?;
-            }
-            Row::List { .. } => self.push(Place::Separator(row))?,
-            _ => {}
-        }
-        self.push(Place::After(row))
-    }
-
-    /// Goes on after an arm, an operator or a rule.
-    fn after_arm(&mut self, map: &Map<'_>, arm: usize) -> Result<(), AllocError> {
-        let outer = map.outer(arm);
-        match map.row(outer) {
-            Row::Choice { .. } => self.push(Place::After(outer)),
-            Row::Operators { .. } => {
-                self.push(Place::After(outer))?;
-                self.tails(map, outer)?;
-                self.callers(map, outer)
-            }
-            _ => self.callers(map, arm),
-        }
-    }
-
-    /// Goes to each operator in a row.
-    fn tails(&mut self, map: &Map<'_>, row: usize) -> Result<(), AllocError> {
-        let mut at = map.first_in(row);
-        while at < NONE {
-            if let Row::Tail { .. } = map.row(at) {
-                self.push(Place::Before(at))?;
-            }
-            at = map.next(at);
-        }
-        Ok(())
-    }
-
-    /// Goes on after each call of a rule.
-    fn callers(&mut self, map: &Map<'_>, header: usize) -> Result<(), AllocError> {
-        if header == self.start {
-            self.push(Place::End)?;
-        }
-        let mut call = map.first_call(header);
-        while call < NONE {
-            self.push(Place::After(call))?;
-            call = map.next_call(call);
-        }
-        Ok(())
-    }
-
-    /// The places that eat after a token of the kind was eaten at one of these.
+    /// The places that eat first after a token of the kind was eaten at one of these.
     pub(crate) fn over(
         &mut self,
         alloc: Global,
         map: &Map<'_>,
         places: &[Place],
         kind: SyntaxKind,
-    ) -> Result<Vec<Place>, AllocError> {
-        self.begin();
+    ) -> Result<Vec<Place>, RulesError>
+        requires { All (λ p. does_eat (plan_of map.now) p ≡ true) places.now }
+        ensures err { IfErr result IsLimit }
+        ensures ok { IfOk result (λ found. AreFirst (plan_of map.now) (λ word. SeesFrom (plan_of map.now) places.now (kind ∷ word)) found.items) }
+    {
+        self.begin(map)?;
         for place in places {
-            if map.kinds(*place).contains(kind) {
-                self.step(map, *place)?;
-            }
+            self.step(map, *place, kind)?;
         }
-        self.places(alloc, map)
+        self.finish(alloc, map)
     }
 
-    fn step(&mut self, map: &Map<'_>, place: Place) -> Result<(), AllocError> {
-        match place {
-            Place::Separator(row) => self.push(Place::Before(map.first_in(row))),
-            Place::Before(row) => self.push(Place::After(row)),
-            Place::After(_) | Place::End => self.push(place),
+    /// Goes over a token of the kind, if it is eaten at a place.
+    fn step(&mut self, map: &Map<'_>, place: Place, kind: SyntaxKind) -> Result<(), AllocError>
+        ensures { OnOk result (Goes self.old self.new (λ q. (eats (plan_of map.now) place kind ≡ true) × Steps (plan_of map.now) place q)) }
+    {
+        if kinds_of(map, place).contains(kind) {
+            self.go_over(map, place)
+        } else {
+            Ok(())
         }
     }
-}
 
-/// Whether a token is eaten at a place.
-fn eats(map: &Map<'_>, place: Place) -> bool {
-    match place {
-        Place::Before(row) => matches!(map.row(row), Row::Token { .. } | Row::Class { .. }),
-        Place::After(_) => false,
-        Place::Separator(_) | Place::End => true,
-    }
-}
-
-/// The kinds that are eaten at some places.
-pub(crate) fn kinds_at(map: &Map<'_>, places: &[Place]) -> TokenSet {
-    let mut kinds = TokenSet::EMPTY;
-    for place in places {
-        kinds = kinds.union(map.kinds(*place));
-    }
-    kinds
-}
-
-fn zeros(alloc: Global, len: usize) -> Result<Vec<u64>, AllocError> {
-    let mut list = Vec::new(alloc);
-    list.resize(len, 0)?;
-    Ok(list)
-}
-
-fn is_new_in(walks: &mut [u64], row: usize, walk: u64) -> bool {
-    match walks.get_mut(row) {
-        Some(last) => {
-            let is_new = *last != walk;
-            *last = walk;
-            is_new
+    /// Begins a walk.
+    fn begin(&mut self, map: &Map<'_>) -> Result<(), RulesError>
+        ensures err { IfErr result IsLimit }
+        ensures ok { OnOk result (HasReached (plan_of map.now) self.new (λ q. ⊥)) }
+    {
+        self.reached.clear();
+        self.marks.resize(3 * map.rows.len() + 1, 0)?;
+        if self.number < u64::MAX {
+            self.number += 1;
+            Ok(())
+        } else {
+            Err(RulesError::TooMany)
         }
-        None => false,
+    }
+
+    /// Reaches a place, once.
+    pub(crate) fn push(&mut self, place: Place) -> Result<(), AllocError>
+        ensures { OnOk result (Goes self.old self.new (λ q. q ≡ place)) }
+    {
+        let slot = slot_of(place);
+        if slot < self.marks.len() && self.marks[slot] != self.number {
+            push(&mut self.reached, place)?;
+            self.marks[slot] = self.number;
+        }
+        Ok(())
+    }
+
+    /// Goes on until nothing is new. Returns the places that eat.
+    fn finish(&mut self, alloc: Global, map: &Map<'_>) -> Result<Vec<Place>, RulesError>
+        requires walks { IsWalking self.old }
+        requires len { length self.old.marks.items ≡ slots (length map.now.rows.now) }
+        ensures err { IfErr result IsLimit }
+        ensures ok { IfOk result (λ places. AreFirst (plan_of map.now) (SeesFrom (plan_of map.now) self.old.reached.items) places.items) }
+    {
+        self.go_all(map)?;
+        let places = eaters(alloc, map, &self.reached)?;
+        Ok(places)
+    }
+
+    /// Goes on until nothing is new.
+    fn go_all(&mut self, map: &Map<'_>) -> Result<(), AllocError>
+        requires walks { IsWalking self.old }
+        requires len { length self.old.marks.items ≡ slots (length map.now.rows.now) }
+        ensures { OnOk result (IsClosed (plan_of map.now) self.old.reached.items self.new.reached.items) }
+    {
+        let mut done = 0usize;
+        while done < self.reached.len() {
+            let place = self.reached[done];
+            self.go_on(map, place)?;
+            done += 1;
+        }
+        Ok(())
     }
 }

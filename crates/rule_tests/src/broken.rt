@@ -290,6 +290,7 @@ fn places_errors(rt: HostRuntime) -> Result<(), Fail> {
         tokens: &TOKENS,
         nodes: &NODES,
         classes: &[],
+        operators: TokenSet::EMPTY,
     };
     let rules = Rules::new(alloc, &parts, &names)?;
     for (text, wanted) in &CASES {

@@ -1,5 +1,8 @@
+use Rattle.std.proofs.Common.{◌≡◌, ◌-◌, ◌*◌, ◌<◌, ℕ, Some, false, slice_get}
+use Rattle.squawk_kinds.specs.declared.token_set.TokenSet.{TokenSet}
+use Rattle.rule_tables.specs.Looks.{ShareAfter}
 use Rattle.rule_tables.specs.Sets.{Extends}
-use Rattle.std.proofs.Common.{◌-◌, ◌*◌}
+use Rattle.rule_tables.specs.Walks.{plan_of}
 use Rattle.rule_tables.proofs.looks.Looks.+decide.Given as goal
 
 abbrev pub decreases-decide_after : goal.decreases-decide_after
@@ -9,4 +12,7 @@ abbrev pub decreases-decide_group : goal.decreases-decide_group
 decreases-decide_group l = 2 * (4 - l.depth) - 1
 
 abbrev pub invariant-decide_after-loop-group : goal.invariant-decide_after-loop-group
-invariant-decide_after-loop-group l = Extends l.fn.self.sets.list.items l.self.sets.list.items
+invariant-decide_after-loop-group l = record {
+  keeps : Extends l.fn.self.sets.list.items l.self.sets.list.items;
+  none : l.fork.is_settled ≡ false → (i : ℕ) → i < l.group-index → (group : TokenSet) → slice_get l.group-items i ≡ Some group → ShareAfter (plan_of l.fork.map.now) (3 - l.depth) group l.mine l.others → ⊥;
+}

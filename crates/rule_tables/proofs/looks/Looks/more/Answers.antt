@@ -1,0 +1,21 @@
+use Rattle.std.proofs.Common.{List, arith, subst, sym}
+use Rattle.rule_tables.specs.Places.{Sees, SeesRival}
+use Rattle.rule_tables.specs.Walks.{AreFirst, plan_of}
+use Rattle.rule_tables.specs.declared.place.Place.{Place}
+use Rattle.rule_tables.specs.declared.place.Place.TheVariants.{After, Before}
+use Rattle.rule_tables.proofs.Deciding.{to_places, to_words}
+use Rattle.rule_tables.proofs.Limited.{if_err_as, undecided_as}
+use Rattle.rule_tables.proofs.Walking.{on_ok_as}
+use Rattle.rule_tables.proofs.looks.Looks.more.Goals as goal
+
+pub returns-clause-err : goal.returns-clause-err
+returns-clause-err c =
+    let first : AreFirst (plan_of c.args.fork.now.map.now) (Sees (plan_of c.args.fork.now.map.now) c.args.place) c.deref.result.now = subst (λ (xs : List Place). AreFirst (plan_of c.args.fork.now.map.now) (Sees (plan_of c.args.fork.now.map.now) c.args.place) xs) (sym c.deref.ensures.value) c.in_ok-mine.ensures.ok in
+    let second : AreFirst (plan_of c.args.fork.now.map.now) (Sees (plan_of c.args.fork.now.map.now) (After c.args.fork.now.part)) c.deref-2.result.now = subst (λ (xs : List Place). AreFirst (plan_of c.args.fork.now.map.now) (Sees (plan_of c.args.fork.now.map.now) (After c.args.fork.now.part)) xs) (sym c.deref-2.ensures.value) c.in_ok-others.ensures.ok in
+    if_err_as _ _ c.decide.result (λ e. undecided_as _ _ c.args.fork.now.part e (λ share. (share.0, to_words (plan_of c.args.fork.now.map.now) (Sees (plan_of c.args.fork.now.map.now) c.args.place) (Sees (plan_of c.args.fork.now.map.now) (After c.args.fork.now.part)) c.deref.result.now c.deref-2.result.now first second 4 (omega arith) share.1))) c.decide.ensures.err
+
+pub returns-clause-ok : goal.returns-clause-ok
+returns-clause-ok c =
+    let first : AreFirst (plan_of c.args.fork.now.map.now) (Sees (plan_of c.args.fork.now.map.now) c.args.place) c.deref.result.now = subst (λ (xs : List Place). AreFirst (plan_of c.args.fork.now.map.now) (Sees (plan_of c.args.fork.now.map.now) c.args.place) xs) (sym c.deref.ensures.value) c.in_ok-mine.ensures.ok in
+    let second : AreFirst (plan_of c.args.fork.now.map.now) (Sees (plan_of c.args.fork.now.map.now) (After c.args.fork.now.part)) c.deref-2.result.now = subst (λ (xs : List Place). AreFirst (plan_of c.args.fork.now.map.now) (Sees (plan_of c.args.fork.now.map.now) (After c.args.fork.now.part)) xs) (sym c.deref-2.ensures.value) c.in_ok-others.ensures.ok in
+    on_ok_as c.decide.result (λ none settled share. none settled (to_places (plan_of c.args.fork.now.map.now) (Sees (plan_of c.args.fork.now.map.now) c.args.place) (Sees (plan_of c.args.fork.now.map.now) (After c.args.fork.now.part)) c.deref.result.now c.deref-2.result.now first second 4 (omega arith) share)) c.decide.ensures.ok

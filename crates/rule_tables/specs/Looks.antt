@@ -1,0 +1,65 @@
+-- What decides between two ways.
+use Rattle.std.specs.Prelude.{◌≡◌, ℕ, ◌<◌, ◌⊎◌, Bool, true, false, Option, Some, None, List, ◌∷◌, length, slice_get}
+use Rattle.squawk_kinds.specs.TokenSets.{has}
+use Rattle.squawk_kinds.specs.declared.token_set.TokenSet.{TokenSet}
+use Rattle.rule_tables.specs.Places.{AreShared, IsOneOf, Plan, SeesFrom, eats}
+use Rattle.rule_tables.specs.declared.place.Place.{Place}
+
+-- so many kinds come from places of both lists
+abbrev pub ShareWord : Plan → ℕ → List Place → List Place → Type 0
+ShareWord plan count mine others = AreShared count (SeesFrom plan mine) (SeesFrom plan others)
+
+-- whether a row is settled
+abbrev pub is_true : Option Bool → Bool
+is_true None = false
+is_true (Some b) = b
+
+abbrev pub settled_at : List Bool → ℕ → Bool
+settled_at settled row = is_true (slice_get settled row)
+
+-- a set has a kind
+pub record HasOne (sets : List TokenSet) (kind : ℕ) : Type 0 where
+  pub index : ℕ
+  pub set : TokenSet
+  pub is : slice_get sets index ≡ Some set
+  pub holds : has set kind ≡ true
+
+-- sets with all kinds of these, and each with kinds of one of these
+pub record IsFiner (sets cut : List TokenSet) : Type 0 where
+  pub keeps : (kind : ℕ) → HasOne sets kind → HasOne cut kind
+  pub within : (i : ℕ) (set : TokenSet) → slice_get cut i ≡ Some set → (j : ℕ) × (old : TokenSet) × (slice_get sets j ≡ Some old) × ((kind : ℕ) → has set kind ≡ true → has old kind ≡ true)
+
+-- and each set with kinds that pass a test, or with kinds that don't
+pub record IsCut (sets : List TokenSet) (kinds : TokenSet) (cut : List TokenSet) : Type 0 where
+  pub finer : IsFiner sets cut
+  pub alike : (i : ℕ) (set : TokenSet) → slice_get cut i ≡ Some set → (a b : ℕ) → has set a ≡ true → has set b ≡ true → has kinds a ≡ has kinds b
+
+-- a set is added, if it has a kind
+pub record AddsSome (sets : List TokenSet) (set : TokenSet) (new : List TokenSet) : Type 0 where
+  pub keeps : (kind : ℕ) → HasOne sets kind → HasOne new kind
+  pub adds : (kind : ℕ) → has set kind ≡ true → HasOne new kind
+  pub only : (i : ℕ) (one : TokenSet) → slice_get new i ≡ Some one → (slice_get sets i ≡ Some one) ⊎ (one ≡ set)
+
+-- the kinds of a set are eaten at the same ones of some places
+abbrev pub IsAlike : Plan → List Place → TokenSet → Type 0
+IsAlike plan places set = (a b : ℕ) → has set a ≡ true → has set b ≡ true → (p : Place) → IsOneOf places p → eats plan p a ≡ eats plan p b
+
+-- and each set with kinds that are eaten at the same ones of the first n places
+pub record AreAlike (plan : Plan) (places : List Place) (n : ℕ) (sets cut : List TokenSet) : Type 0 where
+  pub finer : IsFiner sets cut
+  pub alike : (i : ℕ) (set : TokenSet) → slice_get cut i ≡ Some set → (a b : ℕ) → has set a ≡ true → has set b ≡ true → (k : ℕ) → k < n → (p : Place) → slice_get places k ≡ Some p → eats plan p a ≡ eats plan p b
+
+-- sets that have all kinds of one, and whose kinds are eaten at the same ones of some places
+pub record AreGroups (plan : Plan) (mine others : List Place) (set : TokenSet) (groups : List TokenSet) : Type 0 where
+  pub all : (kind : ℕ) → has set kind ≡ true → HasOne groups kind
+  pub of_mine : (i : ℕ) (group : TokenSet) → slice_get groups i ≡ Some group → IsAlike plan mine group
+  pub of_others : (i : ℕ) (group : TokenSet) → slice_get groups i ≡ Some group → IsAlike plan others group
+
+-- so many kinds come from places of both lists, after one that is in a set
+pub record ShareAfter (plan : Plan) (count : ℕ) (set : TokenSet) (mine others : List Place) : Type 0 where
+  pub kind : ℕ
+  pub holds : has set kind ≡ true
+  pub word : List ℕ
+  pub len : length word ≡ count
+  pub first : SeesFrom plan mine (kind ∷ word)
+  pub second : SeesFrom plan others (kind ∷ word)
