@@ -1,5 +1,6 @@
 -- Rows as parts of rules, and sets of kinds.
 use Rattle.std.specs.Prelude.{ℕ, ◌-◌, ◌/◌, ◌%◌, ◌^◌, ◌==◌, Bool, false, Option, Some, None, List, slice_get, slice_index, if◌then◌else◌}
+use Rattle.squawk_kinds.specs.Kinds.{COLON_COLON, CUSTOM_OP, ERROR, TOMBSTONE}
 use Rattle.rule_grammar.specs.declared.part.Part.{Part}
 use Rattle.rule_grammar.specs.declared.part.Part.TheVariants.{Nothing, Token, Word, Class, Name, Node, Becomes, Is, Guard, Choice, Arm, Optional, Repeat, List as Items, Call, Operators, Operand, Tail, Some as Once}
 
@@ -38,6 +39,10 @@ part_in (Some row) = part_of row
 -- the part in a row
 abbrev pub part_at : List (List ℕ) → ℕ → Part
 part_at rows i = part_in (slice_get rows i)
+
+-- the kind that stands for a kind in sets, which have no kinds above 639: one that no token has
+abbrev pub bit_of : ℕ → ℕ
+bit_of kind = if kind == CUSTOM_OP then TOMBSTONE else if kind == COLON_COLON then ERROR else kind
 
 -- whether a set has a kind: bit kind % 16 of its number kind / 16 is 1
 abbrev pub word_has : Option ℕ → ℕ → Bool

@@ -1,6 +1,6 @@
 //! The symbol of a token: what sets of first kinds and looks are asked for.
-ghost use Rattle.std.specs.Prelude.{◌≡◌, ◌≢◌};
-ghost use Rattle.squawk_kinds.specs.Kinds.{COLON_COLON, CUSTOM_OP, ERROR, TOMBSTONE};
+ghost use Rattle.std.specs.Prelude.{◌≡◌};
+ghost use Rattle.rule_grammar.specs.Parts.{bit_of};
 ghost use Rattle.rule_grammar.specs.Derivations.{operators_of};
 
 use crate::table::Table;
@@ -9,9 +9,7 @@ use squawk_parser::{Parser, SyntaxKind, TokenSet};
 /// The kind that stands for a kind in sets, which have no kinds above 639: one that no token has.
 #[inline(always)]
 pub fn bit_of(kind: SyntaxKind) -> SyntaxKind
-    ensures operator { kind ≡ CUSTOM_OP → result ≡ TOMBSTONE }
-    ensures colons { kind ≡ COLON_COLON → result ≡ ERROR }
-    ensures other { kind ≢ CUSTOM_OP → kind ≢ COLON_COLON → result ≡ kind }
+    ensures { result ≡ bit_of kind }
 {
     match kind {
         SyntaxKind::CUSTOM_OP => SyntaxKind::TOMBSTONE,

@@ -1,9 +1,11 @@
 -- Parts that four tokens don't decide.
-use Rattle.std.specs.Prelude.{◌≡◌, ℕ, ◌-◌, ◌<◌, false, Bool, Some, List}
+use Rattle.std.specs.Prelude.{◌≡◌, ℕ, ◌<◌, false, Option, Some, None, List, position}
+use Rattle.rule_tables.specs.Rows.{is_rule}
 use Rattle.squawk_kinds.specs.declared.token_set.TokenSet.{TokenSet}
 use Rattle.rule_grammar.specs.declared.part.Part.{Part}
+use Rattle.rule_parts.specs.declared.Part as parts
 use Rattle.rule_tables.specs.Limits.{IsLimit}
-use Rattle.rule_tables.specs.Looks.{settled_at}
+use Rattle.rule_tables.specs.Settled.{settles}
 use Rattle.rule_tables.specs.Places.{IsUndecided, IsUndecidedRow, Plan}
 use Rattle.rule_tables.specs.Walks.{plan_of}
 use Rattle.rule_tables.specs.declared.error.RulesError.{RulesError}
@@ -15,18 +17,22 @@ abbrev pub IsOpenAt : Fork → Part → Type 0
 IsOpenAt fork row = (fork.is_settled ≡ false) × IsUndecidedRow (plan_of fork.map.now) fork.part (Some row)
 
 -- row i is undecided, and not settled
-abbrev pub IsOpen : Plan → List Bool → ℕ → Type 0
-IsOpen plan settled i = (settled_at settled i ≡ false) × IsUndecided plan i
+abbrev pub IsOpen : Plan → List parts.Part → ℕ → Type 0
+IsOpen plan parts i = (settles parts plan.rows i ≡ false) × IsUndecided plan i
 
 -- none of the first n rows is
-abbrev pub AreDecided : Plan → List Bool → ℕ → Type 0
-AreDecided plan settled n = (i : ℕ) → i < n → IsOpen plan settled i → ⊥
+abbrev pub AreDecided : Plan → List parts.Part → ℕ → Type 0
+AreDecided plan parts n = (i : ℕ) → i < n → IsOpen plan parts i → ⊥
 
 -- an error says that a row is, and that it is the first one; or it names nothing
-abbrev pub IsFirstOpen : Plan → List Bool → RulesError → Type 0
-IsFirstOpen plan settled (Undecided j) = IsOpen plan settled j × AreDecided plan settled j
-IsFirstOpen plan settled reason = IsLimit reason
+abbrev pub IsFirstOpen : Plan → List parts.Part → RulesError → Type 0
+IsFirstOpen plan parts (Undecided j) = IsOpen plan parts j × AreDecided plan parts j
+IsFirstOpen plan parts reason = IsLimit reason
 
--- rows with the sets of their classes, and the first row in the rule of a file
-abbrev pub plan_from : List Part → List TokenSet → ℕ → Plan
-plan_from rows sets start = record { rows = rows; sets = sets; start = start - 1 }
+-- the rows of parts with the sets of their classes, and the row of the first rule
+abbrev pub start_of : Option ℕ → ℕ
+start_of None = 0
+start_of (Some i) = i
+
+abbrev pub plan_in : List parts.Part → List Part → List TokenSet → Plan
+plan_in parts rows sets = record { rows = rows; sets = sets; start = start_of (position is_rule parts) }

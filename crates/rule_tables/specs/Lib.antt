@@ -11,4 +11,5 @@ pub mod Maps
 pub mod Walks
 pub mod Limits
 pub mod Looks
+pub mod Settled
 pub mod Forks

@@ -9,14 +9,6 @@ use Rattle.rule_tables.specs.declared.place.Place.{Place}
 abbrev pub ShareWord : Plan → ℕ → List Place → List Place → Type 0
 ShareWord plan count mine others = AreShared count (SeesFrom plan mine) (SeesFrom plan others)
 
--- whether a row is settled
-abbrev pub is_true : Option Bool → Bool
-is_true None = false
-is_true (Some b) = b
-
-abbrev pub settled_at : List Bool → ℕ → Bool
-settled_at settled row = is_true (slice_get settled row)
-
 -- a set has a kind
 pub record HasOne (sets : List TokenSet) (kind : ℕ) : Type 0 where
   pub index : ℕ

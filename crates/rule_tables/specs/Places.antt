@@ -1,9 +1,10 @@
 -- Places in rules, where parsing goes from each, and which kinds of tokens may come.
 use Rattle.std.specs.Prelude.{◌≡◌, ℕ, zero, suc, ◌+◌, ◌-◌, ◌<◌, nat_lt, max, Bool, true, false, Option, Some, None, List, [], ◌∷◌, length, slice_get, if◌then◌else◌, ◌⊎◌}
-use Rattle.squawk_kinds.specs.Kinds.{EOF}
+use Rattle.squawk_kinds.specs.Kinds.{EOF, IDENT}
 use Rattle.squawk_kinds.specs.declared.token_set.TokenSet.{TokenSet}
 use Rattle.rule_grammar.specs.declared.part.Part.{Part}
-use Rattle.rule_grammar.specs.declared.part.Part.TheVariants.{Nothing, Token, Class, Node, Becomes, Is, Guard, Choice, Arm, Optional, Repeat, List as Items, Call, Operators, Operand, Tail, Some as Once}
+use Rattle.rule_grammar.specs.declared.part.Part.TheVariants.{Nothing, Token, Word, Class, Name, Node, Becomes, Is, Guard, Choice, Arm, Optional, Repeat, List as Items, Call, Operators, Operand, Tail, Some as Once}
+use Rattle.rule_grammar.specs.Parts.{bit_of}
 use Rattle.rule_tables.specs.Classes.{is_token, list_has}
 use Rattle.rule_tables.specs.declared.place.Place.{Place}
 use Rattle.rule_tables.specs.declared.place.Place.TheVariants.{Before, After, Separator, End}
@@ -113,7 +114,9 @@ Begins rows k (Some first) q = q ≡ Before first
 abbrev pub Enters : List Part → ℕ → Option Part → Place → Type 0
 Enters rows k None q = ⊥
 Enters rows k (Some (Token kind)) q = ⊥
+Enters rows k (Some (Word set)) q = ⊥
 Enters rows k (Some (Class set)) q = ⊥
+Enters rows k (Some (Name renamed set)) q = ⊥
 Enters rows k (Some (Choice end)) q = IsLed rows way.Arm k q
 Enters rows k (Some (Operators end)) q = IsLed rows way.Arm k q
 Enters rows k (Some (Operand operators floor)) q = IsLed rows way.Arm operators q
@@ -164,8 +167,10 @@ Moves plan End q = ⊥
 
 -- whether a row eats a token of a kind
 abbrev pub row_eats : List TokenSet → Option Part → ℕ → Bool
-row_eats sets (Some (Token one)) kind = is_token (Some one) kind
+row_eats sets (Some (Token one)) kind = is_token (Some (bit_of one)) kind
+row_eats sets (Some (Word set)) kind = is_token (Some IDENT) kind
 row_eats sets (Some (Class set)) kind = list_has sets set kind
+row_eats sets (Some (Name renamed set)) kind = list_has sets set kind
 row_eats sets row kind = false
 
 -- whether a row is separated by a token of a kind
@@ -183,7 +188,9 @@ eats plan End kind = is_token (Some EOF) kind
 -- whether it is a row that eats
 abbrev pub is_token_row : Option Part → Bool
 is_token_row (Some (Token one)) = true
+is_token_row (Some (Word set)) = true
 is_token_row (Some (Class set)) = true
+is_token_row (Some (Name renamed set)) = true
 is_token_row row = false
 
 -- whether a token is eaten at a place

@@ -9,7 +9,7 @@ ghost use Rattle.rule_tables.specs.Walks.{plan_of};
 use crate::map::Map;
 use crate::place::Place;
 use crate::sets::set_of;
-use rule_grammar::Part as Row;
+use rule_grammar::{Part as Row, bit_of};
 use squawk_kinds::{SyntaxKind, TokenSet};
 use std::alloc::{AllocError, Global};
 
@@ -38,8 +38,10 @@ fn kinds_in(sets: &[TokenSet], part: &Row) -> TokenSet
     ensures { (kind : ℕ) → has result kind ≡ row_eats sets.now (Some part.now) kind }
 {
     match part {
-        Row::Token { kind } => set_of(*kind),
+        Row::Token { kind } => set_of(bit_of(*kind)),
+        Row::Word { .. } => set_of(SyntaxKind::IDENT),
         Row::Class { set } => set_at(sets, *set),
+        Row::Name { set, .. } => set_at(sets, *set),
         _ => TokenSet::EMPTY,
     }
 }
@@ -96,7 +98,10 @@ fn is_token_row(map: &Map<'_>, row: usize) -> bool
 fn is_token(part: &Row) -> bool
     ensures { result ≡ is_token_row (Some part.now) }
 {
-    matches!(part, Row::Token { .. } | Row::Class { .. })
+    matches!(
+        part,
+        Row::Token { .. } | Row::Word { .. } | Row::Class { .. } | Row::Name { .. }
+    )
 }
 
 /// Those of some places where a token is eaten.

@@ -2,6 +2,7 @@
 use crate::eats::{kinds_of, separators};
 use crate::map::Map;
 use crate::place::Place;
+use crate::sets::both;
 use rule_grammar::Part as Row;
 use squawk_kinds::TokenSet;
 use std::alloc::{AllocError, Global};
@@ -103,14 +104,18 @@ impl Rest {
     };
 }
 
-/// What comes from each part on, in its rule.
-pub(crate) fn ahead_of(alloc: Global, map: &Map<'_>) -> Result<Vec<Ahead>, AllocError> {
+/// What comes from each part on, in its rule. After an error, later parts are gone on with at these kinds alone.
+pub(crate) fn ahead_of(
+    alloc: Global,
+    map: &Map<'_>,
+    resume: TokenSet,
+) -> Result<Vec<Ahead>, AllocError> {
     let mut rests = Vec::new(alloc);
     rests.resize(map.rows.len(), Rest::UNKNOWN)?;
     begin_all(&mut rests, map);
     let mut ahead = Vec::new(alloc);
     for (row, part) in map.rows.iter().enumerate() {
-        let known = follow(&ahead, &rests, map, row, part);
+        let known = follow(&ahead, &rests, map, resume, row, part);
         ahead.push(known)?;
     }
     Ok(ahead)
@@ -165,10 +170,11 @@ fn begin(rests: &[Rest], map: &Map<'_>, row: usize) -> Rest {
 fn own(rests: &[Rest], map: &Map<'_>, row: usize) -> Begins {
     let inner = rest_at(rests, map.first(row));
     match map.rows.get(row) {
-        Some(Row::Token { .. } | Row::Class { .. }) => Begins {
-            kinds: kinds_of(map, Place::Before(row)),
-            is_empty: false,
-        },
+        Some(Row::Token { .. } | Row::Word { .. } | Row::Class { .. } | Row::Name { .. }) =>
+            Begins {
+                kinds: kinds_of(map, Place::Before(row)),
+                is_empty: false,
+            },
         Some(Row::Choice { .. } | Row::Operators { .. }) => inner.arms,
         Some(Row::Optional { .. } | Row::Repeat { .. }) => inner.all.or(Begins::SILENT),
         Some(Row::Call { start, .. }) => known(rests, usize::from(*start).saturating_sub(1)),
@@ -198,7 +204,14 @@ fn rest_at(rests: &[Rest], row: Option<usize>) -> Rest {
 }
 
 /// What comes from a row on.
-fn follow(ahead: &[Ahead], rests: &[Rest], map: &Map<'_>, row: usize, part: &Row) -> Ahead {
+fn follow(
+    ahead: &[Ahead],
+    rests: &[Rest],
+    map: &Map<'_>,
+    resume: TokenSet,
+    row: usize,
+    part: &Row,
+) -> Ahead {
     let mut found = Ahead {
         begins: known(rests, row),
         again: again(rests, map, row, part),
@@ -216,7 +229,7 @@ fn follow(ahead: &[Ahead], rests: &[Rest], map: &Map<'_>, row: usize, part: &Row
     } else {
         rest_at(rests, map.next(row, outer))
     };
-    let after = after_last(ahead, map, outer);
+    let after = after_last(ahead, rests, map, outer);
     let end = Begins {
         kinds: after.follows,
         is_empty: after.ends,
@@ -224,18 +237,23 @@ fn follow(ahead: &[Ahead], rests: &[Rest], map: &Map<'_>, row: usize, part: &Row
     let rest = next.all.then(end);
     found.follows = rest.kinds;
     found.ends = rest.is_empty;
-    found.later = next.any.union(after.later).union(after.follows);
+    found.later = both(next.any.union(after.follows), resume).union(after.later);
     found
 }
 
 /// What comes after the last of the rows in one.
-fn after_last(ahead: &[Ahead], map: &Map<'_>, row: usize) -> Ahead {
+fn after_last(ahead: &[Ahead], rests: &[Rest], map: &Map<'_>, row: usize) -> Ahead {
     let mut after = match ahead.get(row) {
         Some(found) => *found,
         None => Ahead::NOTHING,
     };
     after.ends = after.ends || map.outer(row).is_none();
     after.follows = after.follows.union(after.again);
+    if let Some(Row::List { .. }) = map.rows.get(row) {
+        // Another item may come where a separator is forgotten.
+        let items = rest_at(rests, map.first(row)).all.kinds;
+        after.later = after.later.union(after.again).union(items);
+    }
     after
 }
 

@@ -5,6 +5,7 @@
 //! ```
 #![tactic(auto)]
 
+mod called;
 mod classes;
 mod definitions;
 mod eats;

@@ -63,7 +63,7 @@ fn begins(
     ensures keeps { OnOk result (Extends looks.old.sets.list.items looks.new.sets.list.items) }
 {
     let is_way = matches!(row, Row::Arm { .. } | Row::Tail { .. } | Row::Choice { .. });
-    if is_way && fork.map.outer(fork.part).is_some() {
+    if (is_way || matches!(row, Row::Node { .. })) && fork.map.outer(fork.part).is_some() {
         let mine = looks.from(fork.map, Place::Before(fork.part))?;
         Ok(kinds_at(fork.map, &mine))
     } else {

@@ -5,8 +5,7 @@ ghost use Rattle.squawk_kinds.specs.TokenSets.{has};
 ghost use Rattle.rule_grammar.specs.Parts.{words_have};
 ghost use Rattle.rule_tables.specs.Classes.{HasClasses};
 ghost use Rattle.rule_tables.specs.Faults.{IsRefusal, NamesNothing, fault_of};
-ghost use Rattle.rule_tables.specs.Forks.{AreDecided, IsFirstOpen, plan_from};
-ghost use Rattle.rule_tables.specs.Looks.{settled_at};
+ghost use Rattle.rule_tables.specs.Forks.{AreDecided, IsFirstOpen, plan_in};
 ghost use Rattle.rule_tables.specs.Rows.{AreSmall, HasRows, IsFileRule, SayRows, is_exact};
 ghost use Rattle.rule_tables.specs.Sets.{Extends, HaveSets, word_of};
 ghost use Rattle.rule_tables.specs.Walks.{plan_of};
@@ -19,12 +18,13 @@ use crate::follow::{Ahead, ahead_of};
 use crate::looks::{Fork, Look, Looks};
 use crate::map::Map;
 use crate::messages::{Messages, row_of_message};
-use crate::named::{Span, file_of};
+use crate::named::file_of;
 use crate::names::Names;
 use crate::numbers::numbers_of;
 use crate::rows::rows_of;
 use crate::sets::{Sets, push};
-use crate::settled::settled_of;
+use crate::settled::is_settled;
+use crate::symbols::Symbols;
 use crate::walk::Walk;
 use rule_grammar::{DEPTH, Part as Row, RuleGrammar, Table};
 use rule_parts::Part;
@@ -40,6 +40,7 @@ pub struct Rules {
     sets: Vec<[u16; 40]>,
     looks: Vec<Look>,
     messages: Messages,
+    symbols: Symbols,
     /// The first row of the rule of a file, and the one after its last.
     start: u16,
     end: u16,
@@ -91,9 +92,9 @@ impl Rules {
             messages: self.messages.text.as_str(),
             message_ends: &self.messages.ends,
             operators: self.operators,
-            plain: TokenSet::EMPTY,
-            glued: &[],
-            composed: TokenSet::EMPTY,
+            plain: self.symbols.plain,
+            glued: &self.symbols.glued,
+            composed: self.symbols.composed,
         }
     }
 }
@@ -153,92 +154,87 @@ fn rules_by<N: Names>(
 {
     let rows = rows_of(alloc, definitions, names)?;
     let sets = sets_of(alloc, definitions, names)?;
-    let messages = Messages::new(alloc, definitions.parts)?;
-    let file = file_of(definitions.parts);
-    let settled = settled_of(alloc, definitions.parts, &rows)?;
-    rules_of(alloc, &rows, &sets, &settled, messages, file, names.operators())
+    rules_of(alloc, definitions, &rows, &sets, names.operators())
 }
 
 /// The rules of these rows, of which some are the rule of a file.
 fn rules_of(
     alloc: Global,
+    definitions: &Definitions<'_, '_>,
     rows: &[Row],
     sets: &[TokenSet],
-    settled: &[bool],
-    messages: Messages,
-    file: Span,
     operators: TokenSet,
 ) -> Result<Rules, RulesError>
     requires exact { All (λ row. IsTrue (is_exact row)) rows.now }
     requires no_end { has operators EOF ≡ false }
     requires few { length rows.now ≤ 65535 }
-    ensures err { IfErr result (IsFirstOpen (plan_from rows.now sets.now file.start) settled.now) }
-    ensures decided { OnOk result (AreDecided (plan_from rows.now sets.now file.start) settled.now (length rows.now)) }
+    ensures err { IfErr result (IsFirstOpen (plan_in definitions.now.parts.now rows.now sets.now) definitions.now.parts.now) }
+    ensures decided { OnOk result (AreDecided (plan_in definitions.now.parts.now rows.now sets.now) definitions.now.parts.now (length rows.now)) }
     ensures rows { IfOk result (λ rules. SayRows rows.now rules.rows) }
     ensures sets { IfOk result (λ rules. HaveSets sets.now rules.sets (length sets.now)) }
-    ensures start { IfOk result (λ rules. rules.start ≡ file.start) }
-    ensures end { IfOk result (λ rules. rules.end ≡ file.end) }
+    ensures file { IfOk result (λ rules. IsFileRule definitions.now.parts.now rules.start rules.end) }
     ensures operators { IfOk result (λ rules. rules.operators ≡ operators) }
 {
+    let file = file_of(definitions.parts);
     let map = Map::new(alloc, rows, sets, usize::from(file.start).saturating_sub(1))?;
-    let ahead = ahead_of(alloc, &map)?;
+    let messages = Messages::new(alloc, definitions.parts, &map)?;
+    let ahead = ahead_of(alloc, &map, resume(definitions, sets))?;
     let mut looks = Looks {
         alloc,
         walk: Walk::new(alloc),
         sets: Sets::new(alloc, sets)?,
         list: Vec::new(alloc),
     };
-    let numbers = all_numbers(&mut looks, &map, settled, &ahead)?;
+    let numbers = all_numbers(&mut looks, &map, definitions.parts, &ahead)?;
     let words = all_words(alloc, &looks.sets.list)?;
     Ok(Rules {
         rows: numbers,
         sets: words,
         looks: looks.list,
         messages,
+        symbols: Symbols::new(alloc, rows, sets, operators)?,
         start: file.start,
         end: file.end,
         operators,
     })
 }
 
+/// The kinds at which later parts are gone on with after an error: those of the class `Resume`, or all.
+fn resume(definitions: &Definitions<'_, '_>, sets: &[TokenSet]) -> TokenSet {
+    match definitions.class_number("Resume") {
+        Some(number) => match sets.get(number) {
+            Some(set) => *set,
+            None => TokenSet::EMPTY,
+        },
+        None => TokenSet::from_words([u64::MAX; 10]),
+    }
+}
+
 /// The numbers of all rows.
 fn all_numbers(
     looks: &mut Looks,
     map: &Map<'_>,
-    settled: &[bool],
+    parts: &[Part<'_>],
     ahead: &[Ahead],
 ) -> Result<Vec<[u16; 8]>, RulesError>
     requires { All (λ row. IsTrue (is_exact row)) map.now.rows.now }
-    ensures err { IfErr result (IsFirstOpen (plan_of map.now) settled.now) }
-    ensures decided { OnOk result (AreDecided (plan_of map.now) settled.now (length map.now.rows.now)) }
+    ensures err { IfErr result (IsFirstOpen (plan_of map.now) parts.now) }
+    ensures decided { OnOk result (AreDecided (plan_of map.now) parts.now (length map.now.rows.now)) }
     ensures keeps { OnOk result (Extends looks.old.sets.list.items looks.new.sets.list.items) }
     ensures ok { IfOk result (λ numbers. SayRows map.now.rows.now numbers.items) }
 {
     let mut numbers = Vec::new(looks.alloc);
-    let mut rule = 0usize;
     for (index, row) in map.rows.iter().enumerate() {
-        if map.outer(index).is_none() {
-            rule = index;
-        }
         let fork = Fork {
             map,
             part: index,
-            is_settled: is_settled(settled, index),
+            is_settled: is_settled(parts, map, index),
         };
-        let message = to_u16(row_of_message(map, index, rule));
+        let message = to_u16(row_of_message(parts, map, index));
         let numbers_of_row = numbers_of(looks, &fork, ahead, row, message)?;
         push(&mut numbers, numbers_of_row)?;
     }
     Ok(numbers)
-}
-
-fn is_settled(settled: &[bool], row: usize) -> bool
-    ensures { result ≡ settled_at settled.now row }
-{
-    match settled.get(row) {
-        Some(is_settled) => *is_settled,
-        None => false,
-    }
 }
 
 fn to_u16(number: usize) -> u16 {

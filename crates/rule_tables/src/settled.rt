@@ -1,46 +1,49 @@
-//! Which rows are settled: the words that don't decide there go to the first way.
-use crate::map::end_at;
-use rule_grammar::Part as Row;
+//! Which rows are settled: where tokens don't decide there, the first way is gone.
+ghost use Rattle.std.specs.Prelude.{◌≡◌, ◌+◌, ◌<◌, Some, length, slice_get};
+ghost use Rattle.rule_tables.specs.Settled.{is_greedy, is_guarded, is_ordered, is_ordered_in, settles};
+
+use crate::map::Map;
 use rule_parts::Part;
-use std::alloc::{AllocError, Global};
 
-/// Whether each row of these parts is settled.
-pub(crate) fn settled_of(
-    alloc: Global,
-    parts: &[Part<'_>],
-    rows: &[Row],
-) -> Result<Vec<bool>, AllocError> {
-    let mut settled = Vec::new(alloc);
-    settled.resize(rows.len(), false)?;
-    for (index, part) in parts.iter().enumerate() {
-        match part {
-            Part::Choice { ordered, .. } if *ordered => settle_arms(&mut settled, rows, index),
-            Part::Arm { .. } if is_guard(parts.get(index + 1)) => settle(&mut settled, index),
-            Part::Optional { greedy, .. } if *greedy => settle(&mut settled, index),
-            Part::Repeat { greedy, .. } if *greedy => settle(&mut settled, index),
-            Part::Some { greedy, .. } if *greedy => settle(&mut settled, index),
-            _ => {}
-        }
-    }
-    Ok(settled)
-}
-
-fn is_guard(part: Option<&Part<'_>>) -> bool {
-    matches!(part, Some(Part::Guarded { .. }))
-}
-
-/// Settles the arms in a row.
-fn settle_arms(settled: &mut [bool], rows: &[Row], choice: usize) {
-    let end = end_at(rows, choice);
-    let mut at = choice.saturating_add(1);
-    while at < end {
-        settle(settled, at);
-        at = end_at(rows, at).max(at + 1);
+/// Whether a row is settled.
+pub(crate) fn is_settled(parts: &[Part<'_>], map: &Map<'_>, row: usize) -> bool
+    requires { row < length map.now.rows.now }
+    ensures { result ≡ settles parts.now map.now.rows.now row }
+{
+    match parts.get(row) {
+        Some(Part::Arm { .. }) => is_guarded(parts, row + 1) || is_ordered(parts, map.outer(row)),
+        Some(part) => is_greedy(part),
+        None => false,
     }
 }
 
-fn settle(settled: &mut [bool], row: usize) {
-    if let Some(is_settled) = settled.get_mut(row) {
-        *is_settled = true;
+fn is_greedy(part: &Part<'_>) -> bool
+    ensures { result ≡ is_greedy part.now }
+{
+    match part {
+        Part::Optional { greedy, .. } => *greedy,
+        Part::Repeat { greedy, .. } => *greedy,
+        Part::Some { greedy, .. } => *greedy,
+        _ => false,
+    }
+}
+
+/// Whether a part is a guard.
+fn is_guarded(parts: &[Part<'_>], part: usize) -> bool
+    ensures { result ≡ is_guarded (slice_get parts.now part) }
+{
+    matches!(parts.get(part), Some(Part::Guarded { .. }))
+}
+
+/// Whether a part is an ordered choice.
+fn is_ordered(parts: &[Part<'_>], part: Option<usize>) -> bool
+    ensures { result ≡ is_ordered_in parts.now part }
+{
+    match part {
+        Some(choice) => match parts.get(choice) {
+            Some(Part::Choice { ordered, .. }) => *ordered,
+            _ => false,
+        },
+        None => false,
     }
 }

@@ -4,7 +4,7 @@ use rule_tables::{KeywordNames, Rules};
 use rule_text::read;
 use sql_lexer::tokenize;
 use squawk_keywords::Keywords;
-use squawk_kinds::SyntaxKind;
+use squawk_kinds::{SyntaxKind, TokenSet};
 use squawk_parser::{EntryPoint, StepList, parse_whole_into};
 use std::alloc::Global;
 use std::test::Fail;
