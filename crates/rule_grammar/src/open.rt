@@ -58,9 +58,19 @@ impl<'c> Open<'c> {
         self.chain.may_follow(self.table, row, symbol)
     }
 
+    /// Whether an item of a list that is open can begin with a symbol.
+    pub(crate) fn begins_item(&self, symbol: SyntaxKind) -> bool {
+        self.chain.begins_item(self.table, symbol)
+    }
+
+    /// Whether the rule that was called last goes on at a symbol, after an error in a row.
+    pub(crate) fn resumes_at(&self, row: u16, symbol: SyntaxKind) -> bool {
+        self.table.begins_with(row, symbol) || self.table.goes_on_at(row, symbol)
+    }
+
     /// Whether a rule that is open goes on at a symbol, after an error in a row.
     pub(crate) fn goes_on_at(&self, row: u16, symbol: SyntaxKind) -> bool {
-        self.chain.goes_on_at(self.table, row, symbol)
+        self.resumes_at(row, symbol) || self.chain.goes_on_at(self.table, symbol)
     }
 }
 
@@ -104,11 +114,20 @@ impl Chain<'_> {
         symbol == SyntaxKind::EOF
     }
 
-    /// Whether a rule that is open goes on at a symbol, after an error in a row of the one called last.
-    fn goes_on_at(&self, table: &Table<'_>, row: u16, symbol: SyntaxKind) -> bool {
-        if table.begins_with(row, symbol) || table.goes_on_at(row, symbol) {
-            return true;
+    /// Whether an item of a list around one of the calls can begin with a symbol.
+    fn begins_item(&self, table: &Table<'_>, symbol: SyntaxKind) -> bool {
+        let mut open = Some(self);
+        while let Some(call) = open {
+            if table.begins_item(call.row, symbol) {
+                return true;
+            }
+            open = call.outer;
         }
+        false
+    }
+
+    /// Whether a rule goes on at a symbol after one of the calls.
+    fn goes_on_at(&self, table: &Table<'_>, symbol: SyntaxKind) -> bool {
         let mut open = Some(self);
         while let Some(call) = open {
             if table.goes_on_at(call.row, symbol) {

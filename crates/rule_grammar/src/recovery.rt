@@ -6,7 +6,7 @@ ghost use Rattle.squawk_parser.specs.SomeSteps.{AddsSome, AddsSomeNode};
 ghost use Rattle.squawk_parser.specs.State.{IsSound, kind_at};
 
 use crate::open::Open;
-use crate::skip::{bump_to, goes_on, skip_inside, tell};
+use crate::skip::{bump_to, goes_on, resumes, skip_inside, tell};
 use crate::table::Block;
 use crate::told::Told;
 use squawk_parser::{CompletedMarker, Parser, SyntaxKind};
@@ -67,7 +67,6 @@ pub(crate) fn is_next(rule: &Open<'_>, row: u16, told: &mut Told, p: &mut Parser
 }
 
 /// Whether it stands after tokens that are skipped.
-#[inline(never)]
 fn is_after_others(rule: &Open<'_>, row: u16, told: &mut Told, p: &mut Parser<'_>) -> bool
     requires { IsSound p.old }
     ensures adds { AddsSome p.old p.new }
@@ -82,16 +81,20 @@ fn is_after_others(rule: &Open<'_>, row: u16, told: &mut Told, p: &mut Parser<'_
     }
 }
 
-/// Whether the token at the position stands at a place where no open rule goes on.
+/// Whether the token at the position stands at a place where no open rule goes on, and the one called last goes on after
+/// it: else the error is left to another.
 fn is_unexpected(rule: &Open<'_>, row: u16, told: &mut Told, p: &Parser<'_>) -> bool
     ensures { told.new.place ≡ told.old.place }
 {
-    let place = p.position();
-    if told.is_settled(place) {
+    if told.is_settled(p.position()) {
         return false;
     }
-    told.settle(place);
-    !rule.may_follow(row, rule.table.symbol(p)) && !goes_on(rule, row, p)
+    let symbol = rule.table.symbol(p);
+    if rule.may_follow(row, symbol) || rule.begins_item(symbol) || goes_on(rule, row, p) {
+        told.settle(p.position());
+        return false;
+    }
+    resumes(rule, row, p)
 }
 
 /// Whether a list goes on: its separator stands at the position, also after tokens that are skipped, or is forgotten

@@ -94,6 +94,19 @@ pub(crate) fn goes_on(rule: &Open<'_>, row: u16, p: &Parser<'_>) -> bool {
     p.current() == SyntaxKind::EOF || rule.goes_on_at(row, rule.table.symbol(p))
 }
 
+/// Whether it is the rule that was called last that goes on after the tokens that would be skipped here.
+pub(crate) fn resumes(rule: &Open<'_>, row: u16, p: &Parser<'_>) -> bool {
+    let mut unclosed = unclosed_after(0, p.current());
+    for n in 1..FAR {
+        let kind = p.nth(n);
+        if kind == SyntaxKind::EOF || (unclosed == 0 && rule.goes_on_at(row, kind)) {
+            return rule.resumes_at(row, kind);
+        }
+        unclosed = unclosed_after(unclosed, kind);
+    }
+    true
+}
+
 /// An error, and the tokens at which no open rule goes on.
 fn skip_unexpected(rule: &Open<'_>, row: u16, p: &mut Parser<'_>)
     ensures adds { AddsSome p.old p.new }

@@ -18,7 +18,8 @@ use squawk_parser::{SyntaxKind, TokenSet};
 /// | 3 | the set of kinds that it can begin with |
 /// | 4 | the set of kinds that may come after it in its rule |
 /// | 5 | the set of further kinds at which its rule goes on after an error |
-/// | 6 | its look, or 0; of operators the set of kinds that one begins with |
+/// | 6 | its look, or 0; of operators the set of kinds that one begins with; of a call or an operand 1 more than the set |
+/// |   | of kinds that items of the lists around it in its rule begin with, or 0 |
 /// | 7 | its message: what is expected |
 ///
 /// | part | what it is |
@@ -119,6 +120,14 @@ impl<'r> Table<'r> {
     pub(crate) fn goes_on_at(&self, row: u16, symbol: SyntaxKind) -> bool {
         match self.row(row) {
             Some(numbers) => self.has(numbers[4], symbol) || self.has(numbers[5], symbol),
+            None => false,
+        }
+    }
+
+    /// Whether an item of a list around a call, in its rule, can begin with a symbol.
+    pub(crate) fn begins_item(&self, call: u16, symbol: SyntaxKind) -> bool {
+        match self.row(call) {
+            Some(numbers) => numbers[6] > 0 && self.has(numbers[6] - 1, symbol),
             None => false,
         }
     }

@@ -18,6 +18,8 @@ pub(crate) struct Ahead {
     pub(crate) follows: TokenSet,
     /// The kinds that later parts of the rule begin with.
     pub(crate) later: TokenSet,
+    /// The kinds that items of the lists around it in its rule begin with.
+    pub(crate) items: TokenSet,
     /// Whether the rule may end after it.
     pub(crate) ends: bool,
 }
@@ -28,6 +30,7 @@ impl Ahead {
         again: TokenSet::EMPTY,
         follows: TokenSet::EMPTY,
         later: TokenSet::EMPTY,
+        items: TokenSet::EMPTY,
         ends: false,
     };
 }
@@ -238,6 +241,7 @@ fn follow(
     found.follows = rest.kinds;
     found.ends = rest.is_empty;
     found.later = both(next.any.union(after.follows), resume).union(after.later);
+    found.items = after.items;
     found
 }
 
@@ -250,9 +254,8 @@ fn after_last(ahead: &[Ahead], rests: &[Rest], map: &Map<'_>, row: usize) -> Ahe
     after.ends = after.ends || map.outer(row).is_none();
     after.follows = after.follows.union(after.again);
     if let Some(Row::List { .. }) = map.rows.get(row) {
-        // Another item may come where a separator is forgotten.
-        let items = rest_at(rests, map.first(row)).all.kinds;
-        after.later = after.later.union(after.again).union(items);
+        after.later = after.later.union(after.again);
+        after.items = after.items.union(rest_at(rests, map.first(row)).all.kinds);
     }
     after
 }

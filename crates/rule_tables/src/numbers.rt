@@ -38,18 +38,44 @@ pub(crate) fn numbers_of(
     let begins = begins(looks, fork, &known, row)?;
     let begins = looks.sets.number(begins)?;
     let follows = looks.sets.number(known.follows)?;
-    let later = looks.sets.number(known.later)?;
+    let later = looks.sets.number(later(&known, row))?;
     let look = look(looks, fork, &known, row)?;
-    let part = with_end(part, known.ends);
+    let part = with_end(part, known.ends, has_guard(fork, row));
     Ok([part, end, number, begins, follows, later, look, message])
 }
 
-/// The number 0 of a row: 256 more if the rule may end after it.
-fn with_end(part: u16, ends: bool) -> u16
+/// The number 0 of a row: 256 more if the rule may end after it, and 512 more if it is an arm with a guard.
+fn with_end(part: u16, ends: bool, has_guard: bool) -> u16
     requires { part < 21 }
     ensures { result % 256 ≡ part }
 {
-    if ends { part + 256 } else { part }
+    match (ends, has_guard) {
+        (false, false) => part,
+        (true, false) => part + 256,
+        (false, true) => part + 512,
+        (true, true) => part + 768,
+    }
+}
+
+fn has_guard(fork: &Fork<'_>, row: &Row) -> bool {
+    match row {
+        Row::Arm { .. } => {
+            let first = fork.map.rows.get(fork.part.saturating_add(1));
+            matches!(first, Some(Row::Guard { .. }))
+        }
+        _ => false,
+    }
+}
+
+/// The further kinds at which the rule goes on. Where a part may be left out, an item may come whose separator is
+/// forgotten.
+fn later(known: &Ahead, row: &Row) -> TokenSet {
+    match row {
+        Row::Optional { .. } | Row::Repeat { .. } | Row::Some { .. } => {
+            known.later.union(known.items)
+        }
+        _ => known.later,
+    }
 }
 
 /// The kinds at which a part is gone into.
@@ -87,8 +113,21 @@ fn look(looks: &mut Looks, fork: &Fork<'_>, known: &Ahead, row: &Row) -> Result<
         Row::Some { .. } => looks.more_in(fork),
         Row::List { .. } => looks.more(fork, Place::Separator(fork.part)),
         Row::Operators { .. } => looks.sets.number(known.again),
+        Row::Call { .. } | Row::Operand { .. } => items(looks, known),
         _ => Ok(0),
     }
+}
+
+/// 1 more than the number of the set of the kinds that items of lists around a call begin with, or 0 if there is none.
+fn items(looks: &mut Looks, known: &Ahead) -> Result<u16, RulesError>
+    ensures err { IfErr result IsLimit }
+    ensures keeps { OnOk result (Extends looks.old.sets.list.items looks.new.sets.list.items) }
+{
+    if known.items == TokenSet::EMPTY {
+        return Ok(0);
+    }
+    let number = looks.sets.number(known.items)?;
+    Ok(number.saturating_add(1))
 }
 
 /// The numbers 0, 1 and 2 of a row.
