@@ -2,6 +2,7 @@
 //!
 //! ```text
 //! Table         the rules: rows of parts, sets of kinds, looks at further tokens, messages
+//! bit_of        how sets tell of composite kinds
 //! RuleGrammar   a table with the rule that a file begins with, as a grammar
 //! ```
 #![tactic(auto)]
