@@ -81,8 +81,8 @@ fn is_after_others(rule: &Open<'_>, row: u16, told: &mut Told, p: &mut Parser<'_
     }
 }
 
-/// Whether the token at the position stands at a place where no open rule goes on, and the one called last goes on after
-/// it: else the error is left to another.
+/// Whether the token at the position stands at a place where no open rule goes on, and the one called last has to go on,
+/// or does so after that token: else the error is left to another.
 fn is_unexpected(rule: &Open<'_>, row: u16, told: &mut Told, p: &Parser<'_>) -> bool
     ensures { told.new.place ≡ told.old.place }
 {
@@ -94,7 +94,7 @@ fn is_unexpected(rule: &Open<'_>, row: u16, told: &mut Told, p: &Parser<'_>) -> 
         told.settle(p.position());
         return false;
     }
-    resumes(rule, row, p)
+    !rule.table.may_end_after(row) || resumes(rule, row, p)
 }
 
 /// Whether a list goes on: its separator stands at the position, also after tokens that are skipped, or is forgotten
@@ -132,7 +132,7 @@ fn is_separated_after_others(
     ensures told { IfClean told.old.place told.new.place (IsSeparated separator result p.old p.new) }
     ensures counts { Counts told.old.place told.new.place p.old p.new }
 {
-    if is_forgotten(rule, row, p) {
+    if is_forgotten(rule, row, told, p) {
         forgotten(rule, row, separator, told, p);
         true
     } else if is_unexpected(rule, row, told, p) {
@@ -143,11 +143,12 @@ fn is_separated_after_others(
     }
 }
 
-/// Whether an item of a list stands at the position, where no open rule may go on.
-fn is_forgotten(rule: &Open<'_>, row: u16, p: &Parser<'_>) -> bool {
+/// Whether an item of a list stands at the position, where no open rule may go on, and no error was told of it.
+fn is_forgotten(rule: &Open<'_>, row: u16, told: &Told, p: &Parser<'_>) -> bool {
     let symbol = rule.table.symbol(p);
     symbol != SyntaxKind::EOF
         && rule.table.begins_with(row, symbol)
+        && !told.is_blamed(p.position())
         && !rule.may_follow(row, symbol)
 }
 

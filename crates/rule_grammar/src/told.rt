@@ -11,6 +11,8 @@ use squawk_parser::{Parser, SyntaxKind};
 #[derive(Drop)]
 pub(crate) struct Told {
     place: Option<usize>,
+    /// Whether tokens were skipped up to that place.
+    has_skipped: bool,
     seen: Option<usize>,
     kind: SyntaxKind,
     ended: SyntaxKind,
@@ -24,6 +26,7 @@ impl Told {
     {
         Told {
             place: None,
+            has_skipped: false,
             seen: None,
             kind: root,
             ended: SyntaxKind::EOF,
@@ -41,14 +44,21 @@ impl Told {
             return false;
         }
         self.place = Some(place);
+        self.has_skipped = false;
         true
     }
 
-    /// Notes that a place has an error.
+    /// Notes that a place has an error: up to it tokens were skipped, if it is another than before.
     pub(crate) fn move_to(&mut self, place: usize)
         ensures { self.new.place ≡ Some place }
     {
+        self.has_skipped = self.has_skipped || self.place != Some(place);
         self.place = Some(place);
+    }
+
+    /// Whether an error was told of the token at a place.
+    pub(crate) fn is_blamed(&self, place: usize) -> bool {
+        self.has_error_at(place) && !self.has_skipped
     }
 
     /// Whether the token at a place was judged already, or an error was told at it.
