@@ -1,7 +1,7 @@
 pub mod NoKinds
 pub mod ByName
 pub mod Lists
-pub mod NextRow
+pub mod UpToPart
 pub mod Without
 pub mod Members
 pub mod MoreClasses

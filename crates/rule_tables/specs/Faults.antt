@@ -66,6 +66,7 @@ abbrev pub first_fault : (ℕ → Part → Option RulesError) → List Part → 
 first_fault fault parts zero = None
 first_fault fault parts (suc n) = option_or (first_fault fault parts n) (fault_at fault parts n)
 
+-- that of a name, and that of a kind
 abbrev pub first_name_fault : Vocabulary → List Part → ℕ → Option RulesError
 first_name_fault v parts n = first_fault (λ i. name_fault v parts (outer_at parts i) i) parts n
 

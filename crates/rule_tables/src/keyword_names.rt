@@ -9,7 +9,7 @@ use squawk_kinds::{SyntaxKind, TokenSet, Vocabulary};
 /// Names by a vocabulary and by lists, of which the first pair with a name counts.
 #[derive(Clone, Copy)]
 pub struct KeywordNames<'n, V> {
-    /// Keywords.
+    /// Keywords and contextual keywords.
     pub words: &'n V,
     /// The other tokens, by names or spellings.
     pub tokens: &'n [(&'n str, SyntaxKind)],

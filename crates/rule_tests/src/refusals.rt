@@ -20,7 +20,7 @@ fn refused(alloc: Global, text: &str) -> Result<Option<RulesError>, Fail> {
 }
 
 /// Texts of rules, and why they are refused.
-static REFUSALS: [(&str, Option<RulesError>); 12] = [
+static REFUSALS: [(&str, Option<RulesError>); 15] = [
     ("file = IDENT? ';'", None),
     ("file = item", Some(RulesError::Undefined { part: 1 })),
     ("file = Word", Some(RulesError::Undefined { part: 1 })),
@@ -46,6 +46,16 @@ static REFUSALS: [(&str, Option<RulesError>); 12] = [
     (
         "file = {IDENT % OTHER}",
         Some(RulesError::UnknownKind { part: 1 }),
+    ),
+    // The first fault is told: of a name, and only without one of those that of a kind.
+    ("file = OTHER item", Some(RulesError::Undefined { part: 2 })),
+    (
+        "file = item\nfile = IDENT",
+        Some(RulesError::Undefined { part: 1 }),
+    ),
+    (
+        "file = IDENT OTHER OTHER",
+        Some(RulesError::UnknownKind { part: 2 }),
     ),
     // One more token decides whether there are one or two names; none decides which of two names is left out.
     ("file = IDENT? IDENT", None),

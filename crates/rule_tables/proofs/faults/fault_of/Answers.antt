@@ -1,5 +1,5 @@
 use Rattle.rule_tables.specs.Faults.{kind_fault, name_fault, size_fault}
-use Rattle.rule_tables.proofs.NextRow.{fault_step, outer_step}
+use Rattle.rule_tables.proofs.UpToPart.{fault_step, outer_step}
 use Rattle.rule_tables.proofs.faults.fault_of.Goals as goal
 
 pub loop-index-preserved : goal.loop-index-preserved

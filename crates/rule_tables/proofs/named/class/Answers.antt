@@ -1,5 +1,5 @@
 use Rattle.std.proofs.Common.{arith}
-use Rattle.rule_tables.proofs.NextRow.{few_parts}
+use Rattle.rule_tables.proofs.UpToPart.{few_parts}
 use Rattle.rule_tables.proofs.named.class.Goals as goal
 
 pub class_row-requires-clause-few : goal.class_row-requires-clause-few

@@ -1,6 +1,6 @@
 use Rattle.std.proofs.Common.{arith}
 use Rattle.std.proofs.lemmas.Option.{IfSome_then}
-use Rattle.rule_tables.proofs.NextRow.{few_parts}
+use Rattle.rule_tables.proofs.UpToPart.{few_parts}
 use Rattle.rule_tables.proofs.named.guard.Goals as goal
 
 pub guard_of-requires-clause-first : goal.guard_of-requires-clause-first

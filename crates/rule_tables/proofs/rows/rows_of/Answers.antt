@@ -3,7 +3,7 @@ use Rattle.std.proofs.lemmas.List.Elements.{All-push}
 use Rattle.rule_grammar.specs.declared.part.Part as row
 use Rattle.rule_tables.specs.Rows.{ListsSome, is_exact, row_at}
 use Rattle.rule_tables.proofs.Lists.{lists_more}
-use Rattle.rule_tables.proofs.NextRow.{outer_step, row_here}
+use Rattle.rule_tables.proofs.UpToPart.{outer_step, row_here}
 use Rattle.rule_tables.proofs.rows.rows_of.Goals as goal
 
 pub loop-index-preserved : goal.loop-index-preserved

@@ -1,7 +1,7 @@
 use Rattle.std.proofs.Common.{IfOk, List, ◌∙◌, sym, subst}
 use Rattle.rule_parts.specs.declared.Part.{Part}
 use Rattle.rule_tables.specs.Classes.{HasClasses}
-use Rattle.rule_tables.proofs.NextRow.{are_small}
+use Rattle.rule_tables.proofs.UpToPart.{are_small}
 use Rattle.rule_tables.proofs.rules.Rules.new.Goals as goal
 
 pub rules_by-requires : goal.rules_by-requires
