@@ -183,7 +183,7 @@ fn all_numbers(
             rule = index;
         }
         let fork = Fork {
-            map,
+            map: &*map,
             part: index,
             is_settled: is_settled(settled, index),
         };
