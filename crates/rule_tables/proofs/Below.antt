@@ -45,8 +45,7 @@ last-some p (suc n) r e =
           let same : n ≡ r = let found : Some n ≡ Some r = sym (last_yes p n has) ∙ e in cc in
           (omega arith, rw (← same) has, λ k more less. absurd (omega arith))
       | inr lacks ↦
-          let before : (r < n) × (p r ≡ true) × ((k : ℕ) → r < k → k < n → p k ≡ false) = last-some p n r (sym (last_no p n lacks) ∙ e) in
-          (
+          let before : (r < n) × (p r ≡ true) × ((k : ℕ) → r < k → k < n → p k ≡ false) = last-some p n r (sym (last_no p n lacks) ∙ e) in (
             omega (arith, before.0),
             before.1,
             λ k more less. elim (cases_eq k n) [ inl same ↦ rw same lacks | inr other ↦ before.2 k more (omega arith) ],

@@ -60,6 +60,6 @@ first_over plan places kind walk found does has first =
     first_by plan walk (IsOver plan places kind (length places)) (λ word. SeesFrom plan places (kind ∷ word)) found has first
     (λ p word over sees. record { place = over.place; one = record { index = over.index; is = over.is }; sees = steps over.eaten over.stepped sees })
     (λ next word from.
-      let lt : from.one.index < length places = slice_get_within places from.one.index from.place from.one.is in
-      let step : (q : Place) × (eats plan from.place kind ≡ true) × Steps plan from.place q × Sees plan q (next ∷ word) = over_from plan from.place kind (next ∷ word) (all_at (λ p. does_eat plan p ≡ true) places from.one.index from.place does from.one.is) from.sees in
-      (step.0, record { index = from.one.index; first = lt; place = from.place; is = from.one.is; eaten = step.1; stepped = step.2 }, step.3))
+    let lt : from.one.index < length places = slice_get_within places from.one.index from.place from.one.is in
+    let step : (q : Place) × (eats plan from.place kind ≡ true) × Steps plan from.place q × Sees plan q (next ∷ word) = over_from plan from.place kind (next ∷ word) (all_at (λ p. does_eat plan p ≡ true) places from.one.index from.place does from.one.is) from.sees in
+    (step.0, record { index = from.one.index; first = lt; place = from.place; is = from.one.is; eaten = step.1; stepped = step.2 }, step.3))

@@ -58,7 +58,9 @@ impl Looks {
         ensures ok { OnOk result (fork.now.is_settled ≡ false → AreShared 4 (Sees (plan_of fork.now.map.now) (Place.Before fork.now.part)) (SeesRival (plan_of fork.now.map.now) way fork.now.part) → ⊥) }
         ensures keeps { OnOk result (Extends self.old.sets.list.items self.new.sets.list.items) }
     {
-        let mine = self.walk.from(self.alloc, fork.map, Place::Before(fork.part))?;
+        let mine = self
+            .walk
+            .from(self.alloc, fork.map, Place::Before(fork.part))?;
         let others = self.walk.rivals(self.alloc, fork.map, fork.part, way)?;
         self.decide(fork, &mine, &others)
     }
@@ -82,7 +84,9 @@ impl Looks {
         ensures keeps { OnOk result (Extends self.old.sets.list.items self.new.sets.list.items) }
     {
         let mine = self.walk.from(self.alloc, fork.map, place)?;
-        let others = self.walk.from(self.alloc, fork.map, Place::After(fork.part))?;
+        let others = self
+            .walk
+            .from(self.alloc, fork.map, Place::After(fork.part))?;
         self.decide(fork, &mine, &others)
     }
 

@@ -170,11 +170,7 @@ struct Links {
     earlier: Vec<Option<usize>>,
 }
 
-fn links_of(
-    alloc: Global,
-    rows: &[Row],
-    outers: &[Option<usize>],
-) -> Result<Links, AllocError>
+fn links_of(alloc: Global, rows: &[Row], outers: &[Option<usize>]) -> Result<Links, AllocError>
     requires { AreOuters rows.now outers.now (length rows.now) }
     ensures { IfOk result (λ links. AreLinked rows.now links.lasts.items links.earlier.items (length rows.now)) }
 {

@@ -226,7 +226,13 @@ impl Walk {
     }
 
     /// Goes to the places of the rows from one on that lead so to a row.
-    pub(crate) fn lead_from(&mut self, map: &Map<'_>, row: usize, way: Way, from: usize) -> Result<(), AllocError>
+    pub(crate) fn lead_from(
+        &mut self,
+        map: &Map<'_>,
+        row: usize,
+        way: Way,
+        from: usize,
+    ) -> Result<(), AllocError>
         ensures { OnOk result (Goes self.old self.new (IsLedFrom map.now.rows.now way row from)) }
     {
         if row >= map.rows.len() {

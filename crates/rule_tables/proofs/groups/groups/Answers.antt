@@ -10,7 +10,7 @@ pub returns : goal.returns
 returns c =
     if_ok
     (λ groups alike.
-      groups_of (plan_of c.args.map.now) c.args.mine.now c.args.others.now c.args.set c.push.new.list.items c.in_ok-of_mine.of_mine.items groups.items (rw c.new-whole.ensures.items at c.in_ok-push.ensures)
-      (subst (λ (sets : List TokenSet). AreAlike (plan_of c.args.map.now) c.args.mine.now (length c.args.mine.now) sets c.in_ok-of_mine.of_mine.items) c.deref.ensures.value c.in_ok-of_mine.ensures)
-      (subst (λ (sets : List TokenSet). AreAlike (plan_of c.args.map.now) c.args.others.now (length c.args.others.now) sets groups.items) c.deref-2.ensures.value alike))
+    groups_of (plan_of c.args.map.now) c.args.mine.now c.args.others.now c.args.set c.push.new.list.items c.in_ok-of_mine.of_mine.items groups.items (rw c.new-whole.ensures.items at c.in_ok-push.ensures)
+    (subst (λ (sets : List TokenSet). AreAlike (plan_of c.args.map.now) c.args.mine.now (length c.args.mine.now) sets c.in_ok-of_mine.of_mine.items) c.deref.ensures.value c.in_ok-of_mine.ensures)
+    (subst (λ (sets : List TokenSet). AreAlike (plan_of c.args.map.now) c.args.others.now (length c.args.others.now) sets groups.items) c.deref-2.ensures.value alike))
     c.cut_all-2.result c.cut_all-2.ensures

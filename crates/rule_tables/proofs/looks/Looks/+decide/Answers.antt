@@ -17,9 +17,9 @@ pub decide_after-returns-in_default-clause-ok : goal.decide_after-returns-in_def
 decide_after-returns-in_default-clause-ok t c settled share =
     no_share (plan_of c.args.fork.now.map.now) c.args.mine.now c.args.others.now c.requires.mine c.requires.others (4 - c.args.depth) (omega (arith, c.requires.depth))
     (λ kind both.
-      let none : has c.shared-shared.result kind ≡ false = c.first_of.ensures.none c.in_default.is kind in
-      let some : has c.shared-shared.result kind ≡ true = in_shared (plan_of c.args.fork.now.map.now) c.args.mine.now c.args.others.now c.requires.mine c.requires.others c.kinds_at-own.result c.kinds_at.result c.shared-shared.result c.kinds_at-own.ensures c.kinds_at.ensures (λ k. c.shared-shared.ensures.all k (inr settled)) kind both in
-      cc)
+    let none : has c.shared-shared.result kind ≡ false = c.first_of.ensures.none c.in_default.is kind in
+    let some : has c.shared-shared.result kind ≡ true = in_shared (plan_of c.args.fork.now.map.now) c.args.mine.now c.args.others.now c.requires.mine c.requires.others c.kinds_at-own.result c.kinds_at.result c.shared-shared.result c.kinds_at-own.ensures c.kinds_at.ensures (λ k. c.shared-shared.ensures.all k (inr settled)) kind both in
+    cc)
     share
 
 pub decide_after-returns-then-depth-ge4-clause-err : goal.decide_after-returns-then-depth-ge4-clause-err
@@ -31,21 +31,19 @@ decide_after-returns-then-depth-ge4-clause-err t c =
           let some : has c.shared-shared.result c.in-Some.field-0 ≡ true = c.in-Some.ensures.some in
           absurd cc
       | inr is ↦ is
-    ] in
-    (
+    ] in (
       refl,
       (
         settled,
         share_one (plan_of c.args.fork.now.map.now) c.args.mine.now c.args.others.now c.requires.mine c.requires.others c.kinds_at-own.result c.kinds_at.result c.kinds_at-own.ensures c.kinds_at.ensures c.in-Some.field-0 (4 - c.args.depth)
-        (omega (arith, c.requires.depth, c.if-depth-ge4.true)) (c.shared-shared.ensures.some c.in-Some.field-0 c.in-Some.ensures.some),
+            (omega (arith, c.requires.depth, c.if-depth-ge4.true)) (c.shared-shared.ensures.some c.in-Some.field-0 c.in-Some.ensures.some),
       ),
     )
 
 pub decide_after-decide_group-requires : goal.decide_after-decide_group-requires
 decide_after-decide_group-requires t c =
     let here : slice_get c.deref-group-items.result.now c.loop-group.group-index ≡ Some c.group-item.result = slice_get_read c.deref-group-items.result.now _ c.loop-group.group-index _ refl c.loop-group-test.true c.group-item.is in
-    let group : slice_get c.in_ok-groups.groups.items c.loop-group.group-index ≡ Some c.group-item.result = rw c.deref-group-items.ensures.value at here in
-    (
+    let group : slice_get c.in_ok-groups.groups.items c.loop-group.group-index ≡ Some c.group-item.result = rw c.deref-group-items.ensures.value at here in (
       search rules,
       (
         omega (arith, c.requires.depth, c.if-depth-ge4.false),
@@ -85,11 +83,11 @@ decide_group-returns-clause-err t c =
     subst (λ (xs : List Place). AreFirst (plan_of c.args.fork.now.map.now) (λ word. SeesFrom (plan_of c.args.fork.now.map.now) c.args.others.now (c.in-Some.kind ∷ word)) xs) (sym c.deref-2.ensures.value) c.in_ok-others.ensures.ok in
     if_err_as _ _ c.decide_after.result
     (λ e. undecided_as _ _ c.args.fork.now.part e
-      (λ share. (
-        share.0,
-        before_share (plan_of c.args.fork.now.map.now) c.args.mine.now c.args.others.now c.requires.mine c.requires.others c.args.group c.in-Some.kind c.in-Some.ensures.some c.deref.result.now c.deref-2.result.now first second
-        (4 - (c.args.depth + 1)) (4 - c.args.depth) (omega (arith, c.requires.depth)) (omega (arith, c.requires.depth)) share.1,
-      )))
+    (λ share. (
+      share.0,
+      before_share (plan_of c.args.fork.now.map.now) c.args.mine.now c.args.others.now c.requires.mine c.requires.others c.args.group c.in-Some.kind c.in-Some.ensures.some c.deref.result.now c.deref-2.result.now first second
+          (4 - (c.args.depth + 1)) (4 - c.args.depth) (omega (arith, c.requires.depth)) (omega (arith, c.requires.depth)) share.1,
+    )))
     c.decide_after.ensures.err
 
 pub decide_group-returns-clause-ok : goal.decide_group-returns-clause-ok
@@ -100,8 +98,8 @@ decide_group-returns-clause-ok t c =
     subst (λ (xs : List Place). AreFirst (plan_of c.args.fork.now.map.now) (λ word. SeesFrom (plan_of c.args.fork.now.map.now) c.args.others.now (c.in-Some.kind ∷ word)) xs) (sym c.deref-2.ensures.value) c.in_ok-others.ensures.ok in
     on_ok_as c.decide_after.result
     (λ none settled share.
-      none settled
-      (subst (λ (n : ℕ). ShareWord (plan_of c.args.fork.now.map.now) n c.deref.result.now c.deref-2.result.now) (let e : 3 - c.args.depth ≡ 4 - (c.args.depth + 1) = omega arith in e)
-      (after_share (plan_of c.args.fork.now.map.now) c.args.mine.now c.args.others.now c.requires.mine c.requires.others c.args.group c.in-Some.kind c.in-Some.ensures.some c.deref.result.now c.deref-2.result.now first second
-      (3 - c.args.depth) (omega (arith, c.requires.depth)) c.requires.alike_mine c.requires.alike_others share)))
+    none settled
+    (subst (λ (n : ℕ). ShareWord (plan_of c.args.fork.now.map.now) n c.deref.result.now c.deref-2.result.now) (let e : 3 - c.args.depth ≡ 4 - (c.args.depth + 1) = omega arith in e)
+    (after_share (plan_of c.args.fork.now.map.now) c.args.mine.now c.args.others.now c.requires.mine c.requires.others c.args.group c.in-Some.kind c.in-Some.ensures.some c.deref.result.now c.deref-2.result.now first second
+    (3 - c.args.depth) (omega (arith, c.requires.depth)) c.requires.alike_mine c.requires.alike_others share)))
     c.decide_after.ensures.ok
