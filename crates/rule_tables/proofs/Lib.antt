@@ -18,3 +18,4 @@ pub mod Over
 pub mod Cuts
 pub mod Deciding
 pub mod Limited
+pub mod Opened

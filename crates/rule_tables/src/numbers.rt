@@ -97,8 +97,8 @@ fn begins(
     }
 }
 
-#[tactic(auto, using(crate::proofs::Limited::limit_if))]
 /// The look of a row, or the set of kinds that one of its operators begins with.
+#[tactic(auto, using(crate::proofs::Limited::limit_if))]
 fn look(looks: &mut Looks, fork: &Fork<'_>, known: &Ahead, row: &Row) -> Result<u16, RulesError>
     requires { slice_get fork.now.map.now.rows.now fork.now.part ≡ Some row.now }
     ensures err { IfErr result (IsUndecidedIf (IsOpenAt fork.now row.now) fork.now.part) }

@@ -226,7 +226,7 @@ fn all_numbers(
     let mut numbers = Vec::new(looks.alloc);
     for (index, row) in map.rows.iter().enumerate() {
         let fork = Fork {
-            map,
+            map: &*map,
             part: index,
             is_settled: is_settled(parts, map, index),
         };
