@@ -53,6 +53,11 @@ impl<'c> Open<'c> {
         }
     }
 
+    /// Whether it is the rule of a file.
+    pub(crate) fn is_file(&self) -> bool {
+        self.chain.outer.is_none()
+    }
+
     /// Whether a symbol may come after a row.
     pub(crate) fn may_follow(&self, row: u16, symbol: SyntaxKind) -> bool {
         self.chain.may_follow(self.table, row, symbol)

@@ -99,7 +99,10 @@ pub(crate) fn resumes(rule: &Open<'_>, row: u16, p: &Parser<'_>) -> bool {
     let mut unclosed = unclosed_after(0, p.current());
     for n in 1..FAR {
         let kind = p.nth(n);
-        if kind == SyntaxKind::EOF || (unclosed == 0 && rule.goes_on_at(row, kind)) {
+        if kind == SyntaxKind::EOF {
+            return rule.is_file();
+        }
+        if unclosed == 0 && rule.goes_on_at(row, kind) {
             return rule.resumes_at(row, kind);
         }
         unclosed = unclosed_after(unclosed, kind);
