@@ -6,6 +6,7 @@
 #![tactic(auto)]
 
 mod called;
+mod categories;
 mod classes;
 mod definitions;
 mod eats;
@@ -13,7 +14,7 @@ mod error;
 mod faults;
 mod follow;
 mod groups;
-mod keyword_classes;
+
 mod keyword_names;
 mod looks;
 mod map;
@@ -32,7 +33,7 @@ mod symbols;
 mod walk;
 
 pub use error::RulesError;
-pub use keyword_classes::keyword_classes;
+pub use categories::keyword_classes;
 pub use keyword_names::KeywordNames;
 pub use names::Names;
 pub use rules::Rules;
