@@ -7,7 +7,7 @@ ghost use Rattle.rule_text.specs.Written.{is_end, sort_at};
 
 use crate::body::body;
 use crate::error::{ReadError, WordError};
-use crate::expression::becomes;
+use crate::leaf::becomes;
 use crate::reader::Reader;
 use crate::word::{Sort, words_of};
 use rule_parts::{Name, Part};
