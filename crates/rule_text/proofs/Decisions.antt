@@ -1,16 +1,14 @@
 -- What may come after some words, and what calls decide, one after another.
-use Rattle.std.specs.Prelude.{◌≡◌, ◌≢◌, ℕ, ◌+◌, ◌-◌, ◌<◌, ◌≤◌, false, List, [], ◌∷◌, ◌++◌, length, take, drop, Result, Ok, Err, IfErr, IfOk, IsErr, IsErrAnd, OnErr, OnOk, ⊤}
-use Rattle.std.specs.List.{insert}
-use Rattle.std.proofs.Common.{suc, zero, sym, subst, ap, ◌∙◌, refl, arith, append_assoc, length-append}
+use Rattle.std.specs.Prelude.{◌≡◌, ◌≢◌, ℕ, ◌+◌, List, [], ◌++◌, Result, Ok, Err, IfErr, IfOk, IsErr, IsErrAnd, OnErr, OnOk, ⊤}
+use Rattle.std.proofs.Common.{sym, subst, append_assoc}
 use Rattle.rule_parts.specs.declared.Part.{Part}
-use Rattle.rule_parts.specs.declared.Name.{Name}
 use Rattle.rule_text.specs.declared.reader.Reader.{Reader}
 use Rattle.rule_text.specs.declared.word.Word.{Word}
 use Rattle.rule_text.specs.declared.word.Sort.{Sort}
 use Rattle.rule_text.specs.declared.error.WordError.{WordError}
 use Rattle.rule_text.specs.declared.error.WordError.TheVariants.{Expected, Memory, TooDeep}
-use Rattle.rule_text.specs.Reading.{Adds, Bumps, Caused, Decides, IsMemory, IsMissed, Reads, Wraps}
-use Rattle.rule_text.specs.Written.{IsWord, is_end, sort_at, sort_of_word}
+use Rattle.rule_text.specs.Reading.{Bumps, Caused, Decides, IsMemory, IsMissed, Reads}
+use Rattle.rule_text.specs.Written.{sort_at}
 use Rattle.rule_text.proofs.Reading.{reads_as, reads_behind, reads_both, reads_none}
 
 -- ---- what may come

@@ -1,31 +1,26 @@
 -- What words that hold no others write, from reader to reader.
-use Rattle.std.specs.Prelude.{◌≡◌, ◌≢◌, ℕ, ◌+◌, ◌-◌, Bool, true, false, List, [], ◌∷◌, ◌++◌, drop, length, Result, ⊤}
-use Rattle.std.proofs.Common.{sym, subst, ap, ◌∙◌, refl, arith}
-use Rattle.rule_parts.specs.declared.Part.{Part}
+use Rattle.std.specs.Prelude.{◌≡◌, ◌≢◌, ℕ, ◌+◌, Bool, true, false, List, []}
+use Rattle.std.proofs.Common.{sym, subst, refl, arith}
 use Rattle.rule_parts.specs.declared.Part.TheVariants as parts
 use Rattle.rule_parts.specs.declared.Name.{Name}
-use Rattle.rule_text.specs.declared.error.WordError.{WordError}
 use Rattle.rule_text.specs.declared.reader.Reader.{Reader}
 use Rattle.rule_text.specs.declared.word.Word.{Word}
 use Rattle.rule_text.specs.declared.word.Sort.{Sort}
 use Rattle.rule_text.specs.declared.word.Sort.TheVariants as sorts
-use Rattle.rule_text.specs.Reading.{Adds, Bumps, Decides, Gives, IsMissed, One, Reads, Takes, Wraps, behind_one, of_word, only, written_as}
-use Rattle.rule_text.specs.Reading.One.{one as one_word}
-use Rattle.rule_text.specs.Written.{Arrow, Form, Greedy, Guarding, IsAfterBars, Kinds, MoreKinds, OneKind, Separated, Written, as_node, bar, begins_item, is_end, is_sign, names_kind, sign_part, sort_at}
-use Rattle.rule_text.specs.Written.Form.{alternative, alternatives, arm, arms, atom, item, items, sequence}
+use Rattle.rule_text.specs.Reading.{Adds, Bumps, Gives, IsMissed, Reads, Takes, behind_one}
+use Rattle.rule_text.specs.Written.{Arrow, Guarding, IsAfterBars, Kinds, MoreKinds, OneKind, Separated, begins_item, is_end, is_sign, sort_at}
 use Rattle.rule_text.specs.Written.Arrow.{arrow}
 use Rattle.rule_text.specs.Written.Guarding.{guarded}
 use Rattle.rule_text.specs.Written.Kinds.{one_kind, some_kinds}
 use Rattle.rule_text.specs.Written.MoreKinds.{last_kind, next_kind}
 use Rattle.rule_text.specs.Written.OneKind.{kind}
 use Rattle.rule_text.specs.Written.Separated.{by_comma, by_token}
-use Rattle.rule_text.specs.Written.{Written as forms}
 use Rattle.rule_text.proofs.Decisions.Then.{both}
 use Rattle.rule_text.proofs.Decisions.Sole.{sole}
 use Rattle.rule_text.proofs.Decisions.Stop.{stop}
-use Rattle.rule_text.proofs.Decisions.{Leads, Sole, Splits, Stop, Then, behind, decides_as, leads_more}
-use Rattle.rule_text.proofs.Reading.{Over, drop_all, longer_by, over_more, over_one, reads_around, reads_as, reads_before, reads_both, reads_part, reads_with, sort_from, word_from, word_sort}
-use Rattle.rule_text.proofs.Same.{one_bar, same, same_kind, same_separated, unlike}
+use Rattle.rule_text.proofs.Decisions.{Leads, Sole, Splits, Stop, Then, behind, leads_more}
+use Rattle.rule_text.proofs.Reading.{Over, over_more, over_one, reads_before, reads_both, reads_part, sort_from, word_from, word_sort}
+use Rattle.rule_text.proofs.Same.{same_kind}
 
 -- ---- words
 

@@ -1,5 +1,5 @@
 -- From reader to reader: what is read by calls one after another.
-use Rattle.std.specs.Prelude.{◌≡◌, ◌≢◌, ℕ, ◌+◌, ◌-◌, ◌<◌, ◌≤◌, false, List, [], ◌∷◌, ◌++◌, length, take, drop, Result, Ok, Err, IfErr, IfOk, IsErr, IsErrAnd, OnErr, OnOk, ⊤}
+use Rattle.std.specs.Prelude.{◌≡◌, ◌≢◌, ℕ, ◌+◌, ◌-◌, ◌<◌, ◌≤◌, false, List, [], ◌∷◌, ◌++◌, length, take, drop}
 use Rattle.std.specs.List.{insert}
 use Rattle.std.proofs.Common.{suc, zero, sym, subst, ap, ◌∙◌, refl, arith, append_assoc, length-append}
 use Rattle.rule_parts.specs.declared.Part.{Part}
@@ -7,9 +7,7 @@ use Rattle.rule_parts.specs.declared.Name.{Name}
 use Rattle.rule_text.specs.declared.reader.Reader.{Reader}
 use Rattle.rule_text.specs.declared.word.Word.{Word}
 use Rattle.rule_text.specs.declared.word.Sort.{Sort}
-use Rattle.rule_text.specs.declared.error.WordError.{WordError}
-use Rattle.rule_text.specs.declared.error.WordError.TheVariants.{Expected, Memory, TooDeep}
-use Rattle.rule_text.specs.Reading.{Adds, Bumps, Caused, Decides, IsMemory, IsMissed, Reads, Wraps}
+use Rattle.rule_text.specs.Reading.{Adds, Bumps, Reads, Wraps}
 use Rattle.rule_text.specs.Written.{IsWord, is_end, sort_at, sort_of_word}
 
 -- where a word isn't the end, it is a word
