@@ -74,7 +74,7 @@ leads_more {U} {V} {W} {X} {a} {b} {c} p r join split once =
 pub leads_end : {V W : List Word → ℕ → ℕ → List Part → Type 0} {a b c : Reader} → Leads V W a b → Reads V b c → Reads W a c
 leads_end {c = c} p q = reads_both p q (λ ps qs v w. v.goes c.at qs w)
 
--- what was read behind some words, as it stands in them
+-- what was read after some words, as it stands in them
 pub written_in : {V : List Word → ℕ → ℕ → List Part → Type 0} {a b : Reader} {ws : List Word} → a.words.now ≡ ws → (r : Reads V a b) → V ws a.at b.at r.parts
 written_in {V} {a} {b} e r = subst (λ (x : List Word). V x a.at b.at r.parts) e r.written
 

@@ -103,7 +103,7 @@ no_name {ws} {i} {sort} n = record { no = no }
     no : (j : ℕ) (name : Name) → Head sort ws i j name → ⊥
     no _ name (head w e) = n (word_sort w)
 
--- what is read behind some words, as it stands where they begin
+-- what is read after some words, as it stands where they begin
 pub from_start : {W : List Word → ℕ → ℕ → List Part → Type 0} {a b c : Reader} → b.words.now ≡ a.words.now → b.parts.items ≡ a.parts.items
     → (a.at ≤ length a.words.now → b.at ≤ length b.words.now) → Reads (λ ws i j ps. W a.words.now a.at j ps) b c → Reads W a c
 from_start {W} {a} {b} {c} words same ends r = record {

@@ -77,7 +77,7 @@ module _ {V W : List Word → ℕ → ℕ → List Part → Type 0} where
         (subst (λ (x : List Word). V x b.at c.at r.parts) bumps.words r.written));
   }
 
-  -- a word behind it
+  -- a word after it
   pub reads_before : {a b c : Reader} → Reads V a b → Bumps b c
       → ((ps : List Part) → V a.words.now a.at b.at ps → W a.words.now a.at (b.at + 1) ps) → Reads W a c
   reads_before {a} {b} {c} r bumps f = record {
