@@ -15,10 +15,11 @@ use Rattle.rule_text.specs.Rules.MoreOperators.{no_operator, operator}
 use Rattle.rule_text.specs.Rules.Operator.{prefix, tail}
 use Rattle.rule_text.specs.Written.{IsAfterBars, Written as forms, bar, sort_at}
 use Rattle.rule_text.specs.Written.Form.{alternative, arm, arms, sequence}
-use Rattle.rule_text.proofs.Expressions.{sort_back, still_after_bars, told_back}
-use Rattle.rule_text.proofs.Reading.{Leads, Splits, Stop, behind, decides_as, leads_more, miss_first, reads_around, reads_as, reads_both, reads_none, written_in}
-use Rattle.rule_text.proofs.Reading.Stop.{stop}
-use Rattle.rule_text.proofs.Reading.Then.{both}
+use Rattle.rule_text.proofs.Leaves.{sort_back, still_after_bars, told_back}
+use Rattle.rule_text.proofs.Decisions.{Leads, Splits, Stop, behind, decides_as, leads_more, miss_first, written_in}
+use Rattle.rule_text.proofs.Reading.{reads_around, reads_as, reads_both, reads_none}
+use Rattle.rule_text.proofs.Decisions.Stop.{stop}
+use Rattle.rule_text.proofs.Decisions.Then.{both}
 use Rattle.rule_text.proofs.Same.{bars, differ, one_bar, same, unlike}
 use Rattle.rule_text.proofs.SameRules.{no_choice, no_level, no_operators, no_slash, one_level, same_operator}
 

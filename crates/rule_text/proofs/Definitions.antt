@@ -19,10 +19,11 @@ use Rattle.rule_text.specs.Rules.Rules.{no_rule, one_more}
 use Rattle.rule_text.specs.Rules.Texts.{no_text, text}
 use Rattle.rule_text.specs.Written.{Arrow, IsWord, is_end, sort_at}
 use Rattle.rule_text.specs.Written.Arrow.{arrow}
-use Rattle.rule_text.proofs.Expressions.{gives_over, over_taken, sort_back}
-use Rattle.rule_text.proofs.Reading.{Leads, Splits, Stop, decides_as, leads_more, longer_by, miss_first, over_more, over_one, reads_around, reads_as, reads_one, reads_part, sort_from, word_from, word_sort}
-use Rattle.rule_text.proofs.Reading.Stop.{stop}
-use Rattle.rule_text.proofs.Reading.Then.{both}
+use Rattle.rule_text.proofs.Leaves.{gives_over, over_taken, sort_back}
+use Rattle.rule_text.proofs.Decisions.{Leads, Splits, Stop, decides_as, leads_more, miss_first}
+use Rattle.rule_text.proofs.Reading.{longer_by, over_more, over_one, reads_around, reads_as, reads_one, reads_part, sort_from, word_from, word_sort}
+use Rattle.rule_text.proofs.Decisions.Stop.{stop}
+use Rattle.rule_text.proofs.Decisions.Then.{both}
 use Rattle.rule_text.proofs.SameRules.{no_equals, same_called, same_definition, same_head, same_rule_head}
 
 -- ---- members
@@ -102,13 +103,7 @@ no_name {ws} {i} {sort} n = record { no = no }
     no : (j : ℕ) (name : Name) → Head sort ws i j name → ⊥
     no _ name (head w e) = n (word_sort w)
 
-pub no_equals_sign : {ws : List Word} {i : ℕ} {sort : Sort} → sort_at ws (i + 2) ≢ sorts.Equals → IsMissed (Head sort) ws i
-no_equals_sign {ws} {i} {sort} n = record { no = no }
-  where
-    no : (j : ℕ) (name : Name) → Head sort ws i j name → ⊥
-    no _ name (head w e) = n e
-
--- what is read behind some words, as it stands where they begin
+-- what is read after some words, as it stands where they begin
 pub from_start : {W : List Word → ℕ → ℕ → List Part → Type 0} {a b c : Reader} → b.words.now ≡ a.words.now → b.parts.items ≡ a.parts.items
     → (a.at ≤ length a.words.now → b.at ≤ length b.words.now) → Reads (λ ws i j ps. W a.words.now a.at j ps) b c → Reads W a c
 from_start {W} {a} {b} {c} words same ends r = record {
@@ -130,12 +125,6 @@ headed {V} {W} {N} {a} {b} {c} part g r from sized wraps f =
     from_start g.words g.parts g.ends inner
 
 -- ---- definitions
-
-pub miss_head : {ws : List Word} {i : ℕ} → IsMissed (Head sorts.Class) ws i → IsMissed (definitions sorts.ClassOf) ws i
-miss_head {ws} {i} m = record { no = no }
-  where
-    no : (k : ℕ) (rs : List Part) → definitions sorts.ClassOf ws i k rs → ⊥
-    no k rs (definitions.class_of {j = j} {name = name} h v) = m.no j name h
 
 pub miss_members : {ws : List Word} {i j : ℕ} {name : Name} → Head sorts.Class ws i j name → IsMissed Members ws j → IsMissed (definitions sorts.ClassOf) ws i
 miss_members {ws} {i} {j} h m = record { no = no }

@@ -1,7 +1,9 @@
 pub mod Bodies
+pub mod Decisions
 pub mod Definitions
 pub mod Expressions
 pub mod Goes
+pub mod Leaves
 pub mod Reading
 pub mod Same
 pub mod SameRules

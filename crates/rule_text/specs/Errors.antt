@@ -14,7 +14,7 @@ read_error_of (words.Expected what at) = Expected what at
 read_error_of (words.TooDeep at) = TooDeep at
 read_error_of (words.Memory reason) = Memory reason
 
--- what is printed of a place, with what stands behind it, and of an error
+-- what is printed of a place, with what stands after it, and of an error
 abbrev pub place_line : Place → List ℕ → List ℕ
 place_line at rest = decimal at.line ++ (codes ":" ++ (decimal at.column ++ rest))
 

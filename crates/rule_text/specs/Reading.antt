@@ -27,7 +27,7 @@ pub record Takes (sort : Sort) (name : Name) (old new : Reader) : Type 0 where
   pub sort_is : sort_at old.words.now old.at ≡ sort
   pub word : IsWord old.words.now old.at sort name
 
--- A part is added behind the others, or put in front of those from one on.
+-- A part is added after the others, or put in front of those from one on.
 pub record Adds (part : Part) (old new : Reader) : Type 0 where
   pub words : new.words.now ≡ old.words.now
   pub at : new.at ≡ old.at

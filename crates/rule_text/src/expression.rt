@@ -5,6 +5,7 @@ ghost use Rattle.rule_text.specs.Written.{Arrow, Greedy, Guarding, IsAfterBars, 
 ghost use Rattle.rule_text.specs.Written.Form.{alternative, alternatives, arm, arms, atom, item, items, sequence};
 
 use crate::error::WordError;
+use crate::leaf::{becomes, greedy, guard, node_is, one, operand};
 use crate::reader::Reader;
 use crate::word::Sort;
 use rule_parts::{Name, Part};
@@ -115,18 +116,6 @@ pub(crate) fn sequence(
     items(reader, floor, depth)
 }
 
-/// `@name`, or nothing.
-fn guard(reader: &mut Reader<'_, '_>) -> Result<(), WordError>
-    ensures { Decides Guarding reader.old reader.new result }
-{
-    if !reader.is_at(Sort::At) {
-        return Ok(());
-    }
-    reader.bump();
-    let name = reader.expect(Sort::Call, "the name of a guard")?;
-    reader.push(Part::Guarded { name })
-}
-
 /// Items, one after another.
 #[cycle(expression)]
 fn items(reader: &mut Reader<'_, '_>, floor: usize, depth: u32) -> Result<(), WordError>
@@ -190,17 +179,6 @@ fn sign_part<'t>(sort: Sort, size: usize, greedy: bool) -> Part<'t>
     }
 }
 
-/// Whether the sign before is greedy.
-fn greedy(reader: &mut Reader<'_, '_>) -> bool
-    ensures { Gives Greedy result reader.old reader.new }
-{
-    if !reader.is_at(Sort::Plus) {
-        return false;
-    }
-    reader.bump();
-    true
-}
-
 /// A word or a group.
 #[cycle(expression)]
 fn atom(reader: &mut Reader<'_, '_>, floor: usize, depth: u32) -> Result<(), WordError>
@@ -218,82 +196,6 @@ fn atom(reader: &mut Reader<'_, '_>, floor: usize, depth: u32) -> Result<(), Wor
         Sort::OpenBrace => list(reader, floor, depth),
         _ => Err(reader.expected("a name or a bracket")),
     }
-}
-
-/// A word that is this part.
-fn one<'t>(reader: &mut Reader<'_, 't>, part: Part<'t>) -> Result<(), WordError>
-    ensures { is_end (sort_at reader.old.words.now reader.old.at) ≡ false → Decides (only part.entry) reader.old reader.new result }
-{
-    reader.push(part)?;
-    reader.bump();
-    Ok(())
-}
-
-/// `_`, which stands in operators alone.
-fn operand(reader: &mut Reader<'_, '_>, floor: usize) -> Result<(), WordError>
-    requires { sort_at reader.old.words.now reader.old.at ≡ Sort.Operand }
-    ensures { Decides (written_as (atom Sort.Operand) floor) reader.old reader.new result }
-{
-    if floor == 0 {
-        return Err(reader.expected("a name or a bracket"));
-    }
-    one(reader, Part::Operand { floor })
-}
-
-/// `=> KIND`
-pub(crate) fn becomes(reader: &mut Reader<'_, '_>) -> Result<(), WordError>
-    requires { sort_at reader.old.words.now reader.old.at ≡ Sort.Equals }
-    ensures { Decides Arrow reader.old reader.new result }
-{
-    reader.bump();
-    reader.expect(Sort::Greater, "=>")?;
-    let name = reader.expect(Sort::Kind, "a kind")?;
-    reader.push(Part::Becomes { name })
-}
-
-/// `~KIND` or `~(KIND | KIND)`
-fn node_is(reader: &mut Reader<'_, '_>) -> Result<(), WordError>
-    requires { sort_at reader.old.words.now reader.old.at ≡ Sort.Tilde }
-    ensures { (floor : ℕ) → Decides (written_as (atom Sort.Tilde) floor) reader.old reader.new result }
-{
-    let start = reader.len();
-    reader.bump();
-    kinds(reader)?;
-    let size = reader.size_from(start);
-    reader.wrap(start, Part::Is { size })
-}
-
-/// A kind of node, or some in parentheses.
-fn kinds(reader: &mut Reader<'_, '_>) -> Result<(), WordError>
-    ensures { Decides Kinds reader.old reader.new result }
-{
-    if !reader.is_at(Sort::OpenParen) {
-        return kind(reader);
-    }
-    reader.bump();
-    kind(reader)?;
-    more_kinds(reader)?;
-    reader.expect(Sort::CloseParen, "| or )")?;
-    Ok(())
-}
-
-/// Further kinds of nodes, each after `|`.
-fn more_kinds(reader: &mut Reader<'_, '_>) -> Result<(), WordError>
-    ensures { Decides MoreKinds reader.old reader.new result }
-{
-    while reader.is_at(Sort::Or) {
-        reader.bump();
-        kind(reader)?;
-    }
-    Ok(())
-}
-
-/// A kind of node.
-fn kind(reader: &mut Reader<'_, '_>) -> Result<(), WordError>
-    ensures { Decides OneKind reader.old reader.new result }
-{
-    let name = reader.expect(Sort::Kind, "the kind of a node")?;
-    reader.push(Part::Kind { name })
 }
 
 /// `( .. )`

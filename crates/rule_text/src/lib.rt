@@ -10,6 +10,7 @@
 mod body;
 mod error;
 mod expression;
+mod leaf;
 mod reader;
 mod rule;
 #[cfg(test)]

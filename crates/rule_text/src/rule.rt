@@ -7,7 +7,7 @@ ghost use Rattle.rule_text.specs.Written.{is_end, sort_at};
 
 use crate::body::body;
 use crate::error::{ReadError, WordError};
-use crate::expression::becomes;
+use crate::leaf::becomes;
 use crate::reader::Reader;
 use crate::word::{Sort, words_of};
 use rule_parts::{Name, Part};
@@ -16,8 +16,8 @@ use std::alloc::Global;
 
 /// The parts of the rules that a text is, each in front of what is in it.
 ///
-/// A rule begins with its name in front of a line, and a class with `class` there. White space and comments may stand
-/// between any two words.
+/// A rule begins with its name in front of a line, and a class or a guard with `class`, `words` or `guard` there. White
+/// space and comments may stand between any two words.
 pub fn read(alloc: Global, text: &str) -> Result<Vec<Part<'_>>, ReadError>
     ensures reads { IfOk result (λ parts. IsRead text.now parts.items) }
     ensures refused { IfErr result (Refuses text.now) }

@@ -4,9 +4,10 @@ use Rattle.rule_text.specs.Reading.{Reads, written_as}
 use Rattle.rule_text.specs.Written.{Written as forms}
 use Rattle.rule_text.specs.Written.Form.{arms}
 use Rattle.rule_text.proofs.Bodies.{miss_body_arms, miss_body_levels, miss_body_ordered, no_operand_more, one_of_read, only_one_read, operators_read, rest_read}
-use Rattle.rule_text.proofs.Expressions.{after_bars_at, arm_read, sort_back, still_after_bars, still_sort, told_at, told_back}
+use Rattle.rule_text.proofs.Leaves.{after_bars_at, sort_back, still_after_bars, still_sort, told_at, told_back}
+use Rattle.rule_text.proofs.Expressions.{arm_read}
 use Rattle.rule_text.proofs.Goes.{goes}
-use Rattle.rule_text.proofs.Reading.{decides_by, decides_of, exits_as, missed_at, missed_from, read, refused}
+use Rattle.rule_text.proofs.Decisions.{decides_by, decides_of, exits_as, missed_at, missed_from, read, refused}
 use Rattle.rule_text.proofs.body.body.Goals as goal
 
 pub returns-then-not-is_level : goal.returns-then-not-is_level

@@ -4,7 +4,8 @@ use Rattle.rule_text.specs.Rules.MoreOperators.{no_operator}
 use Rattle.rule_text.specs.Written.{is_end, sort_at}
 use Rattle.rule_text.proofs.Bodies.{level_after, level_lead}
 use Rattle.rule_text.proofs.Goes.{nearer, operator_goes}
-use Rattle.rule_text.proofs.Reading.{behind, leads_end, leads_none, read, reads_none}
+use Rattle.rule_text.proofs.Decisions.{behind, leads_end, leads_none, read}
+use Rattle.rule_text.proofs.Reading.{reads_none}
 use Rattle.rule_text.proofs.body.levels.Goals as goal
 
 pub loop-next-init : goal.loop-next-init

@@ -1,6 +1,6 @@
 use Rattle.std.proofs.Common.{◌+◌, ◌-◌, ◌^◌, ◌<◌, length}
 use Rattle.rule_text.specs.Rules.{MoreOperators, first_level}
-use Rattle.rule_text.proofs.Reading.{Leads}
+use Rattle.rule_text.proofs.Decisions.{Leads}
 use Rattle.rule_text.proofs.body.levels.Given as goal
 
 abbrev pub invariant-loop-next : goal.invariant-loop-next

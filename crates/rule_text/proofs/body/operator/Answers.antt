@@ -1,7 +1,7 @@
 use Rattle.std.proofs.Common.{ap}
 use Rattle.rule_text.specs.Written.{is_end}
 use Rattle.rule_text.proofs.Bodies.{prefix_decided, tail_read}
-use Rattle.rule_text.proofs.Reading.{decides_by}
+use Rattle.rule_text.proofs.Decisions.{decides_by}
 use Rattle.rule_text.proofs.body.operator.Goals as goal
 
 pub returns-then-not-is_at : goal.returns-then-not-is_at

@@ -1,7 +1,7 @@
 use Rattle.std.proofs.Common.{subst, ℕ}
 use Rattle.rule_parts.specs.declared.Part.TheVariants as parts
 use Rattle.rule_text.specs.Reading.{Wraps}
-use Rattle.rule_text.proofs.Reading.{on_ok}
+use Rattle.rule_text.proofs.Decisions.{on_ok}
 use Rattle.rule_text.proofs.body.operators.Goals as goal
 
 pub returns-clause-reads : goal.returns-clause-reads

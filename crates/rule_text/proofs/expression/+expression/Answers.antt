@@ -1,9 +1,11 @@
 use Rattle.std.proofs.Common.{arith, refl, sym, ap, ◌≡◌, ◌∙◌}
 use Rattle.rule_text.specs.declared.word.Sort.TheVariants as sorts
 use Rattle.rule_text.specs.Written.{Written as forms, begins_item, is_end, is_sign, sort_at}
-use Rattle.rule_text.proofs.Expressions.{arm_read, arms_lead, choice_read, group_read_as, node_read, plain_read, told_back, arrow_split, atom_decided, group_read, group_split, items_lead, list_read, list_split, miss_arms, miss_brace, miss_separator, no_atom, one_as, sequence_split, item_is, sign_is, signed_read, sort_back, sort_not_back, still_after_bars, still_sort}
+use Rattle.rule_text.proofs.Leaves.{told_back, item_is, sign_is, sort_back, sort_not_back, still_after_bars, still_sort}
+use Rattle.rule_text.proofs.Expressions.{arm_read, arms_lead, choice_read, group_read_as, node_read, plain_read, arrow_split, atom_decided, group_read, group_split, items_lead, list_read, list_split, miss_arms, miss_brace, miss_separator, no_atom, one_as, sequence_split, signed_read}
 use Rattle.rule_text.proofs.Goes.{goes, nearer}
-use Rattle.rule_text.proofs.Reading.{behind, decides_as, decides_by, decides_then, exits, exits_as, leads_end, miss_first, miss_rest, miss_sole, missed_at, missed_from, read, reads_as, reads_none, refused}
+use Rattle.rule_text.proofs.Decisions.{behind, decides_as, decides_by, decides_then, exits, exits_as, leads_end, miss_first, miss_rest, miss_sole, missed_at, missed_from, read, refused}
+use Rattle.rule_text.proofs.Reading.{reads_as, reads_none}
 use Rattle.rule_text.proofs.Same.{same, same_guarding}
 use Rattle.rule_text.proofs.expression.+expression.Goals as goal
 

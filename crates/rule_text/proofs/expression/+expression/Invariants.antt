@@ -1,7 +1,7 @@
 use Rattle.std.proofs.Common.{◌+◌, ◌-◌, ◌*◌, length}
 use Rattle.rule_text.specs.Reading.{written_as}
 use Rattle.rule_text.specs.Written.Form.{arms, items}
-use Rattle.rule_text.proofs.Reading.{Leads}
+use Rattle.rule_text.proofs.Decisions.{Leads}
 use Rattle.rule_text.proofs.expression.+expression.Given as goal
 
 -- A call has less depth, or as much and a lower rank.

@@ -1,8 +1,9 @@
 use Rattle.std.proofs.Common.{ap, refl}
 use Rattle.rule_text.specs.Written.{is_end}
 use Rattle.rule_text.specs.Written.Separated.{by_comma}
-use Rattle.rule_text.proofs.Expressions.{gives_none, no_separator, separator_read}
-use Rattle.rule_text.proofs.Reading.{if_ok, on_err, over_one, sort_not_from}
+use Rattle.rule_text.proofs.Leaves.{gives_none, no_separator, separator_read}
+use Rattle.rule_text.proofs.Decisions.{if_ok, on_err}
+use Rattle.rule_text.proofs.Reading.{over_one, sort_not_from}
 use Rattle.rule_text.proofs.expression.separator.Goals as goal
 
 pub returns-then-not-is_at-clause-read : goal.returns-then-not-is_at-clause-read

@@ -1,6 +1,6 @@
 use Rattle.std.proofs.Common.{sym, ◌∙◌}
 use Rattle.rule_text.proofs.Definitions.{first_decided, no_definition}
-use Rattle.rule_text.proofs.Reading.{refused}
+use Rattle.rule_text.proofs.Decisions.{refused}
 use Rattle.rule_text.proofs.rule.definition.Goals as goal
 
 pub returns-in-ClassOf : goal.returns-in-ClassOf

@@ -1,7 +1,8 @@
 use Rattle.rule_text.specs.Rules.Rules.{no_rule}
 use Rattle.rule_text.proofs.Definitions.{rule_lead}
 use Rattle.rule_text.proofs.Goes.{definition_goes, measured}
-use Rattle.rule_text.proofs.Reading.{leads_end, read, reads_none}
+use Rattle.rule_text.proofs.Decisions.{leads_end, read}
+use Rattle.rule_text.proofs.Reading.{reads_none}
 use Rattle.rule_text.proofs.rule.definitions.Goals as goal
 
 pub loop-reader-smaller : goal.loop-reader-smaller

@@ -1,6 +1,7 @@
 use Rattle.std.proofs.Common.{refl}
 use Rattle.rule_text.proofs.Definitions.{guard_read, miss_guards}
-use Rattle.rule_text.proofs.Reading.{decides_by, exits, over_more, over_one, sort_not_from, word_sort}
+use Rattle.rule_text.proofs.Decisions.{decides_by, exits}
+use Rattle.rule_text.proofs.Reading.{over_more, over_one, sort_not_from, word_sort}
 use Rattle.rule_text.proofs.rule.guard.Goals as goal
 
 pub returns : goal.returns

@@ -1,6 +1,7 @@
 use Rattle.std.proofs.Common.{refl}
 use Rattle.rule_text.proofs.Definitions.{head_read, no_name}
-use Rattle.rule_text.proofs.Reading.{errs, over_one, sort_not_from}
+use Rattle.rule_text.proofs.Decisions.{errs}
+use Rattle.rule_text.proofs.Reading.{over_one, sort_not_from}
 use Rattle.rule_text.proofs.rule.head.Goals as goal
 
 pub returns-clause-read : goal.returns-clause-read

@@ -1,7 +1,8 @@
 use Rattle.rule_text.specs.Rules.Members.{no_member}
 use Rattle.rule_text.proofs.Definitions.{becomes_decided, member_is, member_lead}
-use Rattle.rule_text.proofs.Expressions.{still_there}
-use Rattle.rule_text.proofs.Reading.{leads_decides, leads_end, read, reads_none}
+use Rattle.rule_text.proofs.Leaves.{still_there}
+use Rattle.rule_text.proofs.Decisions.{leads_decides, leads_end, read}
+use Rattle.rule_text.proofs.Reading.{reads_none}
 use Rattle.rule_text.proofs.rule.members.Goals as goal
 
 pub loop-part-preserved : goal.loop-part-preserved

@@ -1,6 +1,6 @@
 use Rattle.std.proofs.Common.{◌-◌, length}
 use Rattle.rule_text.specs.Rules.{Members}
-use Rattle.rule_text.proofs.Reading.{Leads}
+use Rattle.rule_text.proofs.Decisions.{Leads}
 use Rattle.rule_text.proofs.rule.members.Given as goal
 
 abbrev pub invariant-loop-part : goal.invariant-loop-part

@@ -2,7 +2,7 @@ use Rattle.std.proofs.Common.{ap, refl}
 use Rattle.rule_text.specs.declared.word.Sort.TheVariants as sorts
 use Rattle.rule_text.specs.Rules.Called.{by_message, by_name}
 use Rattle.rule_text.specs.Written.{is_end}
-use Rattle.rule_text.proofs.Expressions.{gives_none, gives_over}
+use Rattle.rule_text.proofs.Leaves.{gives_none, gives_over}
 use Rattle.rule_text.proofs.Reading.{over_one}
 use Rattle.rule_text.proofs.rule.message.Goals as goal
 

@@ -4,7 +4,7 @@ use Rattle.rule_text.specs.declared.word.Sort.TheVariants as sorts
 use Rattle.rule_text.specs.Rules.{Definition as definitions}
 use Rattle.rule_text.specs.Written.{is_end}
 use Rattle.rule_text.proofs.Definitions.{headed, miss_body, miss_rule_equals, rule_head_read}
-use Rattle.rule_text.proofs.Reading.{decides_by, exits, exits_as, missed_from}
+use Rattle.rule_text.proofs.Decisions.{decides_by, exits, exits_as, missed_from}
 use Rattle.rule_text.proofs.rule.rule.Goals as goal
 
 pub returns : goal.returns

@@ -3,8 +3,9 @@ use Rattle.rule_text.specs.declared.word.Sort.TheVariants as sorts
 use Rattle.rule_text.specs.Rules.Texts.{no_text}
 use Rattle.rule_text.specs.Written.{is_end}
 use Rattle.rule_text.proofs.Definitions.{text_lead}
-use Rattle.rule_text.proofs.Expressions.{still_there}
-use Rattle.rule_text.proofs.Reading.{leads_end, read, reads_none}
+use Rattle.rule_text.proofs.Leaves.{still_there}
+use Rattle.rule_text.proofs.Decisions.{leads_end, read}
+use Rattle.rule_text.proofs.Reading.{reads_none}
 use Rattle.rule_text.proofs.rule.texts.Goals as goal
 
 pub loop-reader-preserved : goal.loop-reader-preserved

@@ -1,6 +1,6 @@
 use Rattle.std.proofs.Common.{◌-◌, length}
 use Rattle.rule_text.specs.Rules.{Texts}
-use Rattle.rule_text.proofs.Reading.{Leads}
+use Rattle.rule_text.proofs.Decisions.{Leads}
 use Rattle.rule_text.proofs.rule.texts.Given as goal
 
 abbrev pub invariant-loop-reader : goal.invariant-loop-reader

@@ -1,7 +1,7 @@
 use Rattle.rule_parts.specs.declared.Part.TheVariants as parts
 use Rattle.rule_text.specs.Rules.{Definition as definitions}
 use Rattle.rule_text.proofs.Definitions.{headed, miss_texts}
-use Rattle.rule_text.proofs.Reading.{decides_by, exits_as, missed_from}
+use Rattle.rule_text.proofs.Decisions.{decides_by, exits_as, missed_from}
 use Rattle.rule_text.proofs.rule.words.Goals as goal
 
 pub returns : goal.returns

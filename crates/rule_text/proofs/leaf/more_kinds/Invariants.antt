@@ -1,7 +1,7 @@
 use Rattle.std.proofs.Common.{◌-◌, length}
 use Rattle.rule_text.specs.Written.{MoreKinds}
-use Rattle.rule_text.proofs.Reading.{Leads}
-use Rattle.rule_text.proofs.expression.more_kinds.Given as goal
+use Rattle.rule_text.proofs.Decisions.{Leads}
+use Rattle.rule_text.proofs.leaf.more_kinds.Given as goal
 
 abbrev pub invariant-loop-reader : goal.invariant-loop-reader
 invariant-loop-reader l = Leads MoreKinds MoreKinds l.fn.reader l.reader

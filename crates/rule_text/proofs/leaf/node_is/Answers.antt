@@ -1,8 +1,9 @@
 use Rattle.std.proofs.Common.{ap}
 use Rattle.rule_parts.specs.declared.Part.TheVariants as parts
 use Rattle.rule_text.specs.Written.{is_end, Written as forms}
-use Rattle.rule_text.proofs.Reading.{behind, decides_by, reads_around}
-use Rattle.rule_text.proofs.expression.node_is.Goals as goal
+use Rattle.rule_text.proofs.Decisions.{behind, decides_by}
+use Rattle.rule_text.proofs.Reading.{reads_around}
+use Rattle.rule_text.proofs.leaf.node_is.Goals as goal
 
 pub returns : goal.returns
 returns c = λ floor.

@@ -1,9 +1,10 @@
 use Rattle.std.proofs.Common.{ap, refl}
 use Rattle.rule_text.specs.Written.{is_end}
 use Rattle.rule_text.specs.Written.Guarding.{unguarded}
-use Rattle.rule_text.proofs.Expressions.{guard_read}
-use Rattle.rule_text.proofs.Reading.{decides_by, read, reads_none}
-use Rattle.rule_text.proofs.expression.guard.Goals as goal
+use Rattle.rule_text.proofs.Leaves.{guard_read}
+use Rattle.rule_text.proofs.Decisions.{decides_by, read}
+use Rattle.rule_text.proofs.Reading.{reads_none}
+use Rattle.rule_text.proofs.leaf.guard.Goals as goal
 
 pub returns-then-not-is_at : goal.returns-then-not-is_at
 returns-then-not-is_at c = read (reads_none c.args.reader.now (unguarded (c.is_at.ensures.is_not c.if-not-is_at.true)))

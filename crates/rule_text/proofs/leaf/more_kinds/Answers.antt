@@ -1,9 +1,10 @@
 use Rattle.std.proofs.Common.{ap}
 use Rattle.rule_text.specs.Written.{is_end}
 use Rattle.rule_text.specs.Written.MoreKinds.{last_kind}
-use Rattle.rule_text.proofs.Expressions.{more_kinds_lead}
-use Rattle.rule_text.proofs.Reading.{leads_end, read, reads_none}
-use Rattle.rule_text.proofs.expression.more_kinds.Goals as goal
+use Rattle.rule_text.proofs.Leaves.{more_kinds_lead}
+use Rattle.rule_text.proofs.Decisions.{leads_end, read}
+use Rattle.rule_text.proofs.Reading.{reads_none}
+use Rattle.rule_text.proofs.leaf.more_kinds.Goals as goal
 
 pub loop-reader-preserved : goal.loop-reader-preserved
 loop-reader-preserved c =

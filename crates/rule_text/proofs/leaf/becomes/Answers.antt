@@ -1,8 +1,8 @@
 use Rattle.std.proofs.Common.{ap, refl}
 use Rattle.rule_text.specs.Written.{is_end}
-use Rattle.rule_text.proofs.Expressions.{arrow_read}
-use Rattle.rule_text.proofs.Reading.{decides_by}
-use Rattle.rule_text.proofs.expression.becomes.Goals as goal
+use Rattle.rule_text.proofs.Leaves.{arrow_read}
+use Rattle.rule_text.proofs.Decisions.{decides_by}
+use Rattle.rule_text.proofs.leaf.becomes.Goals as goal
 
 pub returns : goal.returns
 returns c = decides_by c.push.result c.push.ensures.adds c.push.ensures.only

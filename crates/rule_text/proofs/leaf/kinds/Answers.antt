@@ -1,10 +1,11 @@
 use Rattle.std.proofs.Common.{ap, refl, ◌∙◌}
 use Rattle.rule_text.specs.Written.{is_end}
 use Rattle.rule_text.specs.Written.Kinds.{one_kind}
-use Rattle.rule_text.proofs.Expressions.{kinds_read, kinds_split, one_kind_split, sort_not_back}
-use Rattle.rule_text.proofs.Reading.{behind, decides_as, exits, exits_as, miss_first, miss_rest, miss_sole, missed_from, read, reads_as, written_in}
+use Rattle.rule_text.proofs.Leaves.{kinds_read, kinds_split, one_kind_split, sort_not_back}
+use Rattle.rule_text.proofs.Decisions.{behind, decides_as, exits, exits_as, miss_first, miss_rest, miss_sole, missed_from, read, written_in}
+use Rattle.rule_text.proofs.Reading.{reads_as}
 use Rattle.rule_text.proofs.Same.{same_kind, same_more_kinds}
-use Rattle.rule_text.proofs.expression.kinds.Goals as goal
+use Rattle.rule_text.proofs.leaf.kinds.Goals as goal
 
 pub returns-then-not-is_at : goal.returns-then-not-is_at
 returns-then-not-is_at c =
