@@ -15,7 +15,8 @@ use Rattle.std.specs.Str.{bytes_eq}
 use denote.Ref.{Bor}
 use Rattle.rule_parts.specs.declared.Part.{Part}
 use Rattle.rule_tables.specs.declared.definitions.Definition.{Definition}
-use Rattle.rule_tables.specs.Definitions.{HasDefinitions, classes_in, defines, definition_at, definition_in, has_for, is_class}
+use Rattle.rule_tables.specs.ByName.{HasDefinitions, definition_at, definition_in, has_for}
+use Rattle.rule_tables.specs.Definitions.{classes_in, defines, is_class}
 
 or_none : {X : Type 0} (r : Option X) → option_or r None ≡ r
 or_none None = refl

@@ -1,14 +1,9 @@
 -- The rules, classes and guards that names stand for.
-use Rattle.std.specs.Prelude.{◌≡◌, ℕ, nat_lt, Bool, true, false, Option, Some, None, List, take, position, slice_get, is_some, option_map}
-use Rattle.std.specs.BTreeMap.{BTreeMap, get_by}
-use Rattle.std.specs.Cmp.Lexicographic.{slice_cmp}
+use Rattle.std.specs.Prelude.{ℕ, nat_lt, Bool, true, false, Option, Some, None, List, take, position, slice_get, is_some, option_map}
 use Rattle.std.specs.List.{count_by}
-use Rattle.std.specs.Ordering.{nat_cmp}
 use Rattle.std.specs.Str.{bytes_eq}
-use denote.Ref.{Bor}
 use Rattle.rule_parts.specs.declared.Part.{Part}
 use Rattle.rule_parts.specs.declared.Part.TheVariants.{Set, Words, Guard, Rule}
-use Rattle.rule_tables.specs.declared.definitions.Definition.{Definition}
 
 -- the name that a rule, a class or a guard has
 abbrev pub name_of : Part → Option (List ℕ)
@@ -70,24 +65,6 @@ is_class part = is_some (size_of_class part)
 -- how many classes there are in some parts
 abbrev pub classes_in : List Part → ℕ
 classes_in parts = count_by (λ p. is_class (Some p)) parts
-
--- ---- definitions by names
-
--- the index of a definition, and how many classes stand before it
-abbrev pub definition_at : List Part → ℕ → Definition
-definition_at parts i = record { part = i; number = classes_in (take i parts) }
-
--- the first definition of the name in the first n parts
-abbrev pub definition_in : List Part → ℕ → List ℕ → Option Definition
-definition_in parts n name = option_map (definition_at parts) (position (defines name) (take n parts))
-
--- what a map has for a name
-abbrev pub has_for : BTreeMap (Bor (List ℕ)) Definition → List ℕ → Option Definition
-has_for map name = get_by (λ key. slice_cmp nat_cmp name key.now) map
-
--- a map has the definitions of the first n parts
-abbrev pub HasDefinitions : List Part → ℕ → BTreeMap (Bor (List ℕ)) Definition → Type 0
-HasDefinitions parts n map = (name : List ℕ) → has_for map name ≡ definition_in parts n name
 
 -- the number of a class: how many classes stand before it
 abbrev pub number_in : List Part → Option ℕ → Option Part → Option ℕ

@@ -1,5 +1,6 @@
 pub mod Vocabulary
 pub mod Definitions
+pub mod ByName
 pub mod Outer
 pub mod Classes
 pub mod Rows

@@ -2,7 +2,8 @@
 ghost use Rattle.std.specs.Prelude.{◌≡◌, ◌≤◌, ℕ, List, IfOk, IfSome, OnOk, None, Some, length, option_map, slice_get, take, if◌then◌else◌};
 ghost use Rattle.std.specs.Option.{option_copied, option_or};
 ghost use Rattle.std.specs.Str.{bytes_eq};
-ghost use Rattle.rule_tables.specs.Definitions.{HasDefinitions, class_number, classes_in, defined, definition_in, definition_of, defines, has_for, is_before, is_class, is_guard, is_rule, is_set, name_of, size_of_class};
+ghost use Rattle.rule_tables.specs.ByName.{HasDefinitions, definition_in, has_for};
+ghost use Rattle.rule_tables.specs.Definitions.{class_number, classes_in, defined, definition_of, defines, is_before, is_class, is_guard, is_rule, is_set, name_of, size_of_class};
 
 use rule_parts::Part;
 use std::alloc::{AllocError, Global};

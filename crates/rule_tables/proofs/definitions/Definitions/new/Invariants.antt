@@ -1,5 +1,6 @@
 use Rattle.std.proofs.Common.{◌≡◌, ◌≤◌, take}
-use Rattle.rule_tables.specs.Definitions.{HasDefinitions, classes_in}
+use Rattle.rule_tables.specs.ByName.{HasDefinitions}
+use Rattle.rule_tables.specs.Definitions.{classes_in}
 use Rattle.rule_tables.proofs.definitions.Definitions.new.Given as goal
 
 abbrev pub invariant-loop-index : goal.invariant-loop-index
