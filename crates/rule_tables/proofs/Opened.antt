@@ -2,6 +2,7 @@
 use Rattle.std.proofs.Common.{◌≡◌, ◌∙◌, ◌+◌, ◌<◌, ℕ, Bool, false, inl, inr, List, Option, Some, slice_get, arith, sym, subst}
 use Rattle.std.proofs.lemmas.Bool.{cases_eq}
 use Rattle.rule_grammar.specs.declared.part.Part.{Part}
+use Rattle.rule_tables.specs.Faults.{NamesNothing}
 use Rattle.rule_tables.specs.Forks.{AreDecided, IsFirstOpen, IsOpen}
 use Rattle.rule_tables.specs.Limits.{IsUndecidedIf}
 use Rattle.rule_tables.specs.Looks.{settled_at}
@@ -29,3 +30,9 @@ module _ (plan : Plan) (settled : List Bool) (n : ℕ) (row : Part) (flag : Bool
   first_open TooMany fault = fault
   first_open (Memory e) fault = fault
   first_open reason fault = absurd fault
+
+pub names_nothing : (plan : Plan) (settled : List Bool) (reason : RulesError) → IsFirstOpen plan settled reason → NamesNothing reason
+names_nothing plan settled (Undecided j) fault = tt
+names_nothing plan settled TooMany fault = tt
+names_nothing plan settled (Memory e) fault = tt
+names_nothing plan settled reason fault = absurd fault

@@ -126,6 +126,7 @@ impl WholeGrammar for Rules {
 }
 
 /// The rules of these rows, of which some are the rule of a file.
+#[tactic(auto, using(crate::proofs::Opened::names_nothing))]
 fn rules_of(
     alloc: Global,
     rows: &[Row],
@@ -136,7 +137,8 @@ fn rules_of(
 ) -> Result<Rules, RulesError>
     requires exact { All (λ row. IsTrue (is_exact row)) rows.now }
     requires few { length rows.now ≤ 65535 }
-    ensures err { IfErr result (IsFirstOpen (plan_from rows.now sets.now file.start) settled.now) }
+    ensures err { IfErr result NamesNothing }
+    ensures open_row { IfErr result (IsFirstOpen (plan_from rows.now sets.now file.start) settled.now) }
     ensures decided { OnOk result (AreDecided (plan_from rows.now sets.now file.start) settled.now (length rows.now)) }
     ensures rows { IfOk result (λ rules. SayRows rows.now rules.rows) }
     ensures sets { IfOk result (λ rules. HaveSets sets.now rules.sets (length sets.now)) }
