@@ -19,3 +19,4 @@ pub mod Cuts
 pub mod Deciding
 pub mod Limited
 pub mod Opened
+pub mod Refused

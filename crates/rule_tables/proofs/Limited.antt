@@ -1,6 +1,5 @@
 -- Errors that name nothing.
 use Rattle.std.proofs.Common.{◌≡◌, ℕ, Result, Ok, Err, IfErr, OnOk, subst}
-use Rattle.rule_tables.specs.Faults.{NamesNothing}
 use Rattle.rule_tables.specs.Limits.{IsLimit, IsUndecidedIf}
 use Rattle.rule_tables.specs.declared.error.RulesError.{RulesError}
 use Rattle.rule_tables.specs.declared.error.RulesError.TheVariants.{Undefined, Doubled, UnknownKind, Undecided, TooMany, Memory}

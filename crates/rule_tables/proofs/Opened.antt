@@ -1,31 +1,44 @@
 -- Rows that four tokens don't decide, one after another.
-use Rattle.std.proofs.Common.{◌≡◌, ◌∙◌, ◌+◌, ◌<◌, ℕ, Bool, false, inl, inr, List, Option, Some, slice_get, arith, sym, subst}
+use Rattle.std.proofs.Common.{◌≡◌, ◌∙◌, ◌+◌, ◌<◌, ℕ, Bool, false, inl, inr, List, Option, Some, length, slice_get, arith, sym, subst}
 use Rattle.std.proofs.lemmas.Bool.{cases_eq}
 use Rattle.rule_grammar.specs.declared.part.Part.{Part}
-use Rattle.rule_tables.specs.Forks.{AreDecided, IsFirstOpen, IsOpen}
+use Rattle.squawk_kinds.specs.declared.token_set.TokenSet.{TokenSet}
+use Rattle.rule_tables.specs.Forks.{AreDecided, IsFirstOpen, IsOpen, plan_in}
+use Rattle.rule_tables.specs.Rows.{file_row}
+use Rattle.rule_tables.specs.Walks.{plan_of}
+use Rattle.rule_tables.specs.declared.map.Map.{Map}
 use Rattle.rule_tables.specs.Limits.{IsUndecidedIf}
-use Rattle.rule_tables.specs.Looks.{settled_at}
+use Rattle.rule_tables.specs.Settled.{settles}
+use Rattle.rule_parts.specs.declared.Part as parts
 use Rattle.rule_tables.specs.Places.{IsUndecidedRow, Plan}
 use Rattle.rule_tables.specs.declared.error.RulesError.{RulesError}
 use Rattle.rule_tables.specs.declared.error.RulesError.TheVariants.{Undefined, Doubled, UnknownKind, Undecided, TooMany, Memory}
 
-module _ (plan : Plan) (settled : List Bool) (n : ℕ) (row : Part) (flag : Bool) (here : slice_get plan.rows n ≡ Some row) (is : flag ≡ settled_at settled n) (before : AreDecided plan settled n) where
+module _ (plan : Plan) (list : List parts.Part) (n : ℕ) (row : Part) (flag : Bool) (here : slice_get plan.rows n ≡ Some row) (is : flag ≡ settles list plan.rows n) (before : AreDecided plan list n) where
   abbrev pub IsOpenRow : Type 0
   IsOpenRow = (flag ≡ false) × IsUndecidedRow plan n (Some row)
 
-  pub decided_more : (IsOpenRow → ⊥) → AreDecided plan settled (n + 1)
+  pub decided_more : (IsOpenRow → ⊥) → AreDecided plan list (n + 1)
   decided_more none i lt opened =
       elim (cases_eq i n) [
         | inl same ↦
-            let it : IsOpen plan settled n = subst (IsOpen plan settled) same opened in
+            let it : IsOpen plan list n = subst (IsOpen plan list) same opened in
             none (is ∙ it.0, subst (λ (found : Option Part). IsUndecidedRow plan n found) here it.1)
         | inr other ↦ before i (omega arith) opened
       ]
 
-  pub first_open : (reason : RulesError) → IsUndecidedIf IsOpenRow n reason → IsFirstOpen plan settled reason
+  pub first_open : (reason : RulesError) → IsUndecidedIf IsOpenRow n reason → IsFirstOpen plan list reason
   first_open (Undecided j) fault =
-      let it : IsOpen plan settled n = (sym is ∙ fault.1.0, subst (λ (found : Option Part). IsUndecidedRow plan n found) (sym here) fault.1.1) in
+      let it : IsOpen plan list n = (sym is ∙ fault.1.0, subst (λ (found : Option Part). IsUndecidedRow plan n found) (sym here) fault.1.1) in
       rw fault.0 (it, before)
   first_open TooMany fault = fault
   first_open (Memory e) fault = fault
   first_open reason fault = absurd fault
+
+-- the same of the rows and sets that a map was made of
+pub decided_in : (map : Map) (list : List parts.Part) {rows : List Part} {sets : List TokenSet} → map.rows.now ≡ rows → map.sets.now ≡ sets → map.start ≡ file_row list
+    → AreDecided (plan_of map) list (length map.rows.now) → AreDecided (plan_in list rows sets) list (length rows)
+decided_in map list {rows} {sets} same_rows same_sets same_start none =
+    subst (λ (r : List Part). AreDecided (plan_in list r sets) list (length r)) same_rows
+    (subst (λ (s : List TokenSet). AreDecided (plan_in list map.rows.now s) list (length map.rows.now)) same_sets
+    (subst (λ (k : ℕ). AreDecided (record { rows = map.rows.now; sets = map.sets.now; start = k }) list (length map.rows.now)) same_start none))

@@ -3,15 +3,18 @@ use Rattle.std.proofs.Common.{◌≡◌, ℕ, ◌+◌, Bool, false, true, inl, i
 use Rattle.std.proofs.lemmas.Bool.{cases_Bool}
 use Rattle.squawk_kinds.specs.declared.token_set.TokenSet.{TokenSet}
 use Rattle.rule_grammar.specs.declared.part.Part.{Part}
-use Rattle.rule_grammar.specs.declared.part.Part.TheVariants.{Nothing, Token, Class, Node, Becomes, Is, Guard, Choice, Arm, Optional, Repeat, List as Items, Call, Operators, Operand, Tail, Some as Once}
+use Rattle.rule_grammar.specs.declared.part.Part.TheVariants.{Nothing, Token, Word, Class, Name, Node, Becomes, Is, Guard, Choice, Arm, Optional, Repeat, List as Items, Call, Operators, Operand, Tail, Some as Once}
 use Rattle.rule_tables.specs.Places.{IsUndecidedRow, Leaves, Plan, EndsWay, Exits, GoesOnIn, Returns, Enters, end_at, first_in, is_token_row, outer_of, row_eats, separates}
 use Rattle.rule_tables.specs.declared.place.Place.{Place}
 use Rattle.rule_tables.specs.declared.place.Place.TheVariants.{After}
 
-pub row_eats-other : (sets : List TokenSet) (part : Part) (kind : ℕ) → ((k : ℕ) → part ≡ Token k → ⊥) → ((set : ℕ) → part ≡ Class set → ⊥) → row_eats sets (Some part) kind ≡ false
-row_eats-other sets (Token k) kind no_token no_class = absurd (no_token k refl)
-row_eats-other sets (Class set) kind no_token no_class = absurd (no_class set refl)
-row_eats-other sets part kind no_token no_class = refl
+pub row_eats-other : (sets : List TokenSet) (part : Part) (kind : ℕ) → ((k : ℕ) → part ≡ Token k → ⊥) → ((set : ℕ) → part ≡ Word set → ⊥) → ((set : ℕ) → part ≡ Class set → ⊥) → ((renamed set : ℕ) → part ≡ Name renamed set → ⊥)
+    → row_eats sets (Some part) kind ≡ false
+row_eats-other sets (Token k) kind no_token no_word no_class no_name = absurd (no_token k refl)
+row_eats-other sets (Word set) kind no_token no_word no_class no_name = absurd (no_word set refl)
+row_eats-other sets (Class set) kind no_token no_word no_class no_name = absurd (no_class set refl)
+row_eats-other sets (Name renamed set) kind no_token no_word no_class no_name = absurd (no_name renamed set refl)
+row_eats-other sets part kind no_token no_word no_class no_name = refl
 
 pub separates-other : (part : Part) (kind : ℕ) → ((end one : ℕ) → part ≡ Items end one → ⊥) → separates (Some part) kind ≡ false
 separates-other (Items end one) kind no_list = absurd (no_list end one refl)
@@ -20,12 +23,16 @@ separates-other part kind no_list = refl
 -- a row that eats a token goes nowhere without
 pub row_eats-token : (sets : List TokenSet) (row : Option Part) (kind : ℕ) → row_eats sets row kind ≡ true → is_token_row row ≡ true
 row_eats-token sets (Some (Token k)) kind e = refl
+row_eats-token sets (Some (Word set)) kind e = refl
 row_eats-token sets (Some (Class set)) kind e = refl
+row_eats-token sets (Some (Name renamed set)) kind e = refl
 row_eats-token sets row kind e = absurd cc
 
 pub token-no_move : (rows : List Part) (k : ℕ) (row : Option Part) (q : Place) → is_token_row row ≡ true → Enters rows k row q → ⊥
 token-no_move rows k (Some (Token kind)) q e moves = moves
+token-no_move rows k (Some (Word set)) q e moves = moves
 token-no_move rows k (Some (Class set)) q e moves = moves
+token-no_move rows k (Some (Name renamed set)) q e moves = moves
 token-no_move rows k row q e moves = cc
 
 pub leaves-other : (rows : List Part) (k : ℕ) (part : Part) → ((end : ℕ) → part ≡ Repeat end → ⊥) → ((end : ℕ) → part ≡ Once end → ⊥) → ((end one : ℕ) → part ≡ Items end one → ⊥)

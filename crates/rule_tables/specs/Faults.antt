@@ -76,21 +76,3 @@ first_kind_fault v parts n = first_fault (λ i. kind_fault v (outer_at parts i) 
 -- Names come first, then kinds, then sizes.
 abbrev pub fault_of : Vocabulary → List Part → Option RulesError
 fault_of v parts = option_or (option_or (first_name_fault v parts (length parts)) (first_kind_fault v parts (length parts))) (first_fault size_fault parts (length parts))
-
--- ---- refusals
-
--- a fault that is none of a name
-abbrev pub NamesNothing : RulesError → Type 0
-NamesNothing (Undefined j) = ⊥
-NamesNothing (UnknownKind j) = ⊥
-NamesNothing (Doubled j) = ⊥
-NamesNothing reason = Unit {0}
-
--- memory ran out
-abbrev pub IsMemory : RulesError → Type 0
-IsMemory (Memory reason) = Unit {0}
-IsMemory reason = ⊥
-
--- Parts are refused for their first fault; if they have none, for another one than of a name.
-abbrev pub IsRefusal : Vocabulary → List Part → RulesError → Type 0
-IsRefusal v parts reason = (fault_of v parts ≡ Some reason) ⊎ ((fault_of v parts ≡ None) × NamesNothing reason) ⊎ IsMemory reason

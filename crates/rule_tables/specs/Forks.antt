@@ -1,6 +1,6 @@
 -- Parts that four tokens don't decide.
-use Rattle.std.specs.Prelude.{◌≡◌, ℕ, ◌<◌, false, Option, Some, None, List, position}
-use Rattle.rule_tables.specs.Rows.{is_rule}
+use Rattle.std.specs.Prelude.{◌≡◌, ℕ, ◌<◌, false, Some, List}
+use Rattle.rule_tables.specs.Rows.{file_row}
 use Rattle.squawk_kinds.specs.declared.token_set.TokenSet.{TokenSet}
 use Rattle.rule_grammar.specs.declared.part.Part.{Part}
 use Rattle.rule_parts.specs.declared.Part as parts
@@ -30,9 +30,5 @@ IsFirstOpen plan parts (Undecided j) = IsOpen plan parts j × AreDecided plan pa
 IsFirstOpen plan parts reason = IsLimit reason
 
 -- the rows of parts with the sets of their classes, and the row of the first rule
-abbrev pub start_of : Option ℕ → ℕ
-start_of None = 0
-start_of (Some i) = i
-
 abbrev pub plan_in : List parts.Part → List Part → List TokenSet → Plan
-plan_in parts rows sets = record { rows = rows; sets = sets; start = start_of (position is_rule parts) }
+plan_in parts rows sets = record { rows = rows; sets = sets; start = file_row parts }

@@ -14,3 +14,4 @@ pub mod Limits
 pub mod Looks
 pub mod Settled
 pub mod Forks
+pub mod Refusals

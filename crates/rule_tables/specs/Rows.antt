@@ -56,6 +56,10 @@ abbrev pub call_of : List Part → Option ℕ → Option row.Part
 call_of parts None = None
 call_of parts (Some i) = call_of_rule i (slice_get parts i)
 
+-- the row of the first rule, or 0
+abbrev pub file_row : List Part → ℕ
+file_row parts = unwrap_or (position (λ p. is_rule (Some p)) parts) 0
+
 -- The rule of a file is the first one, if there is one.
 abbrev pub IsFileRule : List Part → ℕ → ℕ → Type 0
 IsFileRule parts start end = IfSome (call_of parts (position (λ p. is_rule (Some p)) parts)) (λ call. call ≡ Call start end)

@@ -14,7 +14,6 @@ mod error;
 mod faults;
 mod follow;
 mod groups;
-
 mod keyword_names;
 mod looks;
 mod map;
@@ -32,8 +31,8 @@ mod settled;
 mod symbols;
 mod walk;
 
-pub use error::RulesError;
 pub use categories::keyword_classes;
+pub use error::RulesError;
 pub use keyword_names::KeywordNames;
 pub use names::Names;
 pub use rules::Rules;

@@ -46,7 +46,9 @@ impl Walk {
     {
         match part {
             Row::Token { .. } => Ok(()),
+            Row::Word { .. } => Ok(()),
             Row::Class { .. } => Ok(()),
+            Row::Name { .. } => Ok(()),
             Row::Choice { .. } => self.arms(map, row),
             Row::Operators { .. } => self.arms(map, row),
             Row::Operand { operators, .. } => self.arms(map, usize::from(*operators)),
@@ -57,8 +59,6 @@ impl Walk {
             Row::Is { .. } => self.push(Place::After(row)),
             Row::Guard { .. } => self.push(Place::After(row)),
             Row::Nothing => self.push(Place::After(row)),
-            Row::Word { .. } => self.go_in(map, row),
-            Row::Name { .. } => self.go_in(map, row),
             Row::Node { .. } => self.go_in(map, row),
             Row::Arm { .. } => self.go_in(map, row),
             Row::Some { .. } => self.go_in(map, row),

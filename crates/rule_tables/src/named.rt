@@ -3,7 +3,7 @@ ghost use Rattle.std.specs.Prelude.{◌≡◌, ◌≤◌, IfSome, IsTrue, option
 ghost use Rattle.std.specs.Option.{option_and_then};
 ghost use Rattle.rule_grammar.specs.declared.part.Part.TheVariants.{Becomes, Call, List as Items, Token};
 ghost use Rattle.rule_tables.specs.Definitions.{classes_in, defined, definition_of, is_rule};
-ghost use Rattle.rule_tables.specs.Rows.{AreSmall, IsFileRule, call_of, call_of_rule, class_of, class_row, guard_of, guard_row, is_exact, named_kind, or_nothing, token_row};
+ghost use Rattle.rule_tables.specs.Rows.{AreSmall, IsFileRule, call_of, call_of_rule, class_of, class_row, file_row, guard_of, guard_row, is_exact, named_kind, or_nothing, token_row};
 
 use crate::classes::{members_of, named_kind};
 use crate::definitions::{Definitions, part_at};
@@ -153,6 +153,16 @@ fn first_rule(parts: &[Part<'_>]) -> Option<usize>
     parts
         .iter()
         .position(|part| matches!(part, Part::Rule { .. }))
+}
+
+/// The row of the first rule, or 0.
+pub(crate) fn file_row(parts: &[Part<'_>]) -> usize
+    ensures { result ≡ file_row parts.now }
+{
+    match first_rule(parts) {
+        Some(rule) => rule,
+        None => 0,
+    }
 }
 
 /// The rows of the rule of a file: the first rule, if there is one.

@@ -4,8 +4,11 @@ ghost use Rattle.squawk_kinds.specs.Kinds.{EOF};
 ghost use Rattle.squawk_kinds.specs.TokenSets.{has};
 ghost use Rattle.rule_grammar.specs.Parts.{words_have};
 ghost use Rattle.rule_tables.specs.Classes.{HasClasses};
-ghost use Rattle.rule_tables.specs.Faults.{IsRefusal, NamesNothing, fault_of};
+ghost use Rattle.rule_tables.specs.Faults.{fault_of};
 ghost use Rattle.rule_tables.specs.Forks.{AreDecided, IsFirstOpen, plan_in};
+ghost use Rattle.rule_checks.specs.Rules.{IsUnreached};
+ghost use Rattle.rule_checks.specs.Sets.{IsFirst};
+ghost use Rattle.rule_tables.specs.Refusals.{AreSound, IsEndless, IsLost, IsRefusal, IsRefused, NotEndless};
 ghost use Rattle.rule_tables.specs.Rows.{AreSmall, HasRows, IsFileRule, SayRows, is_exact};
 ghost use Rattle.rule_tables.specs.Sets.{Extends, HaveSets, word_of};
 ghost use Rattle.rule_tables.specs.Walks.{plan_of};
@@ -18,7 +21,7 @@ use crate::follow::{Ahead, ahead_of};
 use crate::looks::{Fork, Look, Looks};
 use crate::map::Map;
 use crate::messages::{Messages, row_of_message};
-use crate::named::file_of;
+use crate::named::{file_of, file_row};
 use crate::names::Names;
 use crate::numbers::numbers_of;
 use crate::rows::rows_of;
@@ -26,6 +29,7 @@ use crate::sets::{Sets, push};
 use crate::settled::is_settled;
 use crate::symbols::Symbols;
 use crate::walk::Walk;
+use rule_checks::{empty_repeat, left_recursive, unreached};
 use rule_grammar::{DEPTH, Part as Row, RuleGrammar, Table};
 use rule_parts::Part;
 use squawk_kinds::{SyntaxKind, TokenSet};
@@ -66,6 +70,7 @@ impl Rules {
     pub fn new<N: Names>(alloc: Global, parts: &[Part<'_>], names: &N) -> Result<Rules, RulesError>
         ensures err { IfErr result (IsRefusal (N.vocabulary names.now) parts.now) }
         ensures named { IfOk result (λ _. fault_of (N.vocabulary names.now) parts.now ≡ None) }
+        ensures sound { OnOk result (AreSound (N.vocabulary names.now) parts.now) }
         ensures file { IfOk result (λ rules. IsFileRule parts.now rules.start rules.end) }
         ensures classes { IfOk result (λ rules. HasClasses (N.vocabulary names.now) parts.now rules.sets) }
         ensures rows { IfOk result (λ rules. HasRows (N.vocabulary names.now) parts.now rules.rows) }
@@ -146,7 +151,8 @@ fn rules_by<N: Names>(
     names: &N,
 ) -> Result<Rules, RulesError>
     requires { AreSmall definitions.now.parts.now }
-    ensures err { IfErr result NamesNothing }
+    ensures err { IfErr result (IsRefused (N.vocabulary names.now) definitions.now.parts.now) }
+    ensures sound { OnOk result (AreSound (N.vocabulary names.now) definitions.now.parts.now) }
     ensures file { IfOk result (λ rules. IsFileRule definitions.now.parts.now rules.start rules.end) }
     ensures classes { IfOk result (λ rules. HasClasses (N.vocabulary names.now) definitions.now.parts.now rules.sets) }
     ensures rows { IfOk result (λ rules. HasRows (N.vocabulary names.now) definitions.now.parts.now rules.rows) }
@@ -154,7 +160,35 @@ fn rules_by<N: Names>(
 {
     let rows = rows_of(alloc, definitions, names)?;
     let sets = sets_of(alloc, definitions, names)?;
-    rules_of(alloc, definitions, &rows, &sets, names.operators())
+    refuse_endless(alloc, &rows)?;
+    let rules = rules_of(alloc, definitions, &rows, &sets, names.operators())?;
+    refuse_unreached(alloc, &rows, file_row(definitions.parts))?;
+    Ok(rules)
+}
+
+/// Refuses rows that call themselves first, then those that repeat nothing.
+fn refuse_endless(alloc: Global, rows: &[Row]) -> Result<(), RulesError>
+    ensures err { IfErr result (IsEndless rows.now) }
+    ensures ok { OnOk result (NotEndless rows.now) }
+{
+    if let Some(part) = left_recursive(alloc, rows)? {
+        return Err(RulesError::LeftRecursive { part });
+    }
+    match empty_repeat(alloc, rows)? {
+        Some(part) => Err(RulesError::Empty { part }),
+        None => Ok(()),
+    }
+}
+
+/// Refuses rules that aren't called from the file's.
+fn refuse_unreached(alloc: Global, rows: &[Row], file: usize) -> Result<(), RulesError>
+    ensures err { IfErr result (IsLost rows.now file) }
+    ensures ok { OnOk result (IsFirst (length rows.now) (IsUnreached rows.now file) None) }
+{
+    match unreached(alloc, rows, file)? {
+        Some(part) => Err(RulesError::Unreached { part }),
+        None => Ok(()),
+    }
 }
 
 /// The rules of these rows, of which some are the rule of a file.
@@ -168,6 +202,7 @@ fn rules_of(
     requires exact { All (λ row. IsTrue (is_exact row)) rows.now }
     requires no_end { has operators EOF ≡ false }
     requires few { length rows.now ≤ 65535 }
+    requires small { AreSmall definitions.now.parts.now }
     ensures err { IfErr result (IsFirstOpen (plan_in definitions.now.parts.now rows.now sets.now) definitions.now.parts.now) }
     ensures decided { OnOk result (AreDecided (plan_in definitions.now.parts.now rows.now sets.now) definitions.now.parts.now (length rows.now)) }
     ensures rows { IfOk result (λ rules. SayRows rows.now rules.rows) }
@@ -176,7 +211,7 @@ fn rules_of(
     ensures operators { IfOk result (λ rules. rules.operators ≡ operators) }
 {
     let file = file_of(definitions.parts);
-    let map = Map::new(alloc, rows, sets, usize::from(file.start).saturating_sub(1))?;
+    let map = Map::new(alloc, rows, sets, file_row(definitions.parts))?;
     let messages = Messages::new(alloc, definitions.parts, &map)?;
     let ahead = ahead_of(alloc, &map, resume(definitions, sets))?;
     let mut looks = Looks {

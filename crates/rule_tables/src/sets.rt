@@ -8,11 +8,14 @@ ghost use Rattle.rule_tables.specs.Sets.{Extends};
 use crate::error::RulesError;
 use squawk_kinds::{SyntaxKind, TokenSet};
 use std::alloc::{AllocError, Global};
+use std::collections::BTreeMap;
 
-/// Sets of kinds, each once.
+/// Sets of kinds. Those that are added are there once.
 #[derive(Drop)]
 pub(crate) struct Sets {
     pub(crate) list: Vec<TokenSet>,
+    /// The number of each set, by its words.
+    numbers: BTreeMap<[u64; 10], u16>,
 }
 
 impl Sets {
@@ -21,7 +24,10 @@ impl Sets {
         ensures { IfOk result (λ made. made.list.items ≡ sets.now) }
     {
         let list = Vec::from_slice(alloc, sets)?;
-        Ok(Sets { list })
+        Ok(Sets {
+            list,
+            numbers: BTreeMap::new(alloc),
+        })
     }
 
     /// The number of a set.
@@ -29,12 +35,13 @@ impl Sets {
         ensures err { IfErr result IsLimit }
         ensures keeps { OnOk result (Extends self.old.list.items self.new.list.items) }
     {
-        for (number, one) in self.list.iter().enumerate() {
-            if *one == set {
-                return number_of(number);
-            }
+        if let Some(number) = self.numbers.get(&set.0) {
+            return Ok(*number);
         }
         let number = number_of(self.list.len())?;
+        if self.numbers.insert(set.0, number).is_err() {
+            return Err(RulesError::Memory(AllocError));
+        }
         push(&mut self.list, set)?;
         Ok(number)
     }

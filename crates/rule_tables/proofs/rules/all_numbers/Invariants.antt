@@ -10,6 +10,6 @@ abbrev pub invariant-loop-index : goal.invariant-loop-index
 invariant-loop-index l = record {
   keeps : Extends l.fn.looks.sets.list.items l.looks.sets.list.items;
   len : length l.numbers.items ≡ l.index;
-  decided : AreDecided (plan_of l.map) l.settled l.index;
+  decided : AreDecided (plan_of l.map) l.parts l.index;
   say : ListsSome (λ i. Some (part_at l.numbers.items i)) l.index l.map.rows.now;
 }

@@ -1,14 +1,55 @@
-use Rattle.std.proofs.Common.{IfOk, List, Ok, Err, Result, length, subst}
+use Rattle.std.proofs.Common.{rules, arith, ap, ℕ, None, List, length, subst}
 use Rattle.squawk_kinds.specs.declared.token_set.TokenSet.{TokenSet}
+use Rattle.rule_checks.specs.Rules.{IsUnreached}
+use Rattle.rule_checks.specs.Sets.{IsFirst}
+use Rattle.rule_grammar.specs.declared.part.Part as row
+use Rattle.rule_tables.specs.Forks.{AreDecided, plan_in}
+use Rattle.rule_tables.specs.Refusals.{AreOf, IsLost, IsRefused, NotEndless}
+use Rattle.rule_tables.specs.Rows.{file_row}
 use Rattle.rule_tables.specs.Sets.{HaveSets}
+use Rattle.rule_tables.proofs.Refused.{lost_rule}
+use Rattle.rule_tables.proofs.UpToPart.{few_parts}
 use Rattle.rule_tables.proofs.Words.{has_classes}
 use Rattle.rule_tables.proofs.rules.rules_by.Goals as goal
 
-if_ok : {T E : Type 0} {P Q : T → Type 0} → ((x : T) → P x → Q x) → (r : Result T E) → IfOk r P → IfOk r Q
-if_ok each (Ok x) p = each x p
-if_ok each (Err e) p = tt
+pub rules_of-requires-clause-few : goal.rules_of-requires-clause-few
+rules_of-requires-clause-few g c =
+    omega (arith, few_parts c.args.definitions.now.parts.now c.requires, c.in_ok-rows.ensures.len, ap length c.deref-2.ensures.value)
+
+pub returns-in_err-refuse_unreached-clause-err : goal.returns-in_err-refuse_unreached-clause-err
+returns-in_err-refuse_unreached-clause-err g c =
+    let parts = c.args.definitions.now.parts.now in
+    let list : List row.Part = c.in_ok-rows.rows.items in
+    let sets : List TokenSet = c.in_ok-sets.sets.items in
+    let are : AreOf (g.N.Names.vocabulary c.args.names.now) parts list sets = record { are = c.in_ok-rows.ensures.are; len = c.in_ok-rows.ensures.len; classes = c.in_ok-sets.ensures.are } in
+    let endless : NotEndless list = subst NotEndless c.deref.ensures.value c.in_ok-refuse_endless.ensures.ok in
+    let decided : AreDecided (plan_in parts list sets) parts (length list) =
+    subst (λ (s : List TokenSet). AreDecided (plan_in parts list s) parts (length list)) c.deref-3.ensures.value
+    (subst (λ (r : List row.Part). AreDecided (plan_in parts r c.deref-3.result.now) parts (length r)) c.deref-2.ensures.value c.in_ok-rules.ensures.decided) in
+    let lost : IsLost list (file_row parts) c.in_err-refuse_unreached.field-0.0 =
+    subst (λ (k : ℕ). IsLost list k c.in_err-refuse_unreached.field-0.0) c.file_row.ensures
+    (subst (λ (r : List row.Part). IsLost r c.file_row.result c.in_err-refuse_unreached.field-0.0) c.deref-4.ensures.value c.in_err-refuse_unreached.ensures.err) in
+    let fault : IsRefused (g.N.Names.vocabulary c.args.names.now) parts c.in_err-refuse_unreached.field-0.0 =
+    lost_rule (g.N.Names.vocabulary c.args.names.now) parts list sets are endless decided c.in_err-refuse_unreached.field-0.0 lost in
+    search rules
+
+pub returns-clause-sound : goal.returns-clause-sound
+returns-clause-sound g c =
+    let parts = c.args.definitions.now.parts.now in
+    let list : List row.Part = c.in_ok-rows.rows.items in
+    let sets : List TokenSet = c.in_ok-sets.sets.items in
+    record {
+      rows = list;
+      sets = sets;
+      are = record { are = c.in_ok-rows.ensures.are; len = c.in_ok-rows.ensures.len; classes = c.in_ok-sets.ensures.are };
+      endless = subst NotEndless c.deref.ensures.value c.in_ok-refuse_endless.ensures.ok;
+      decided = subst (λ (s : List TokenSet). AreDecided (plan_in parts list s) parts (length list)) c.deref-3.ensures.value
+          (subst (λ (r : List row.Part). AreDecided (plan_in parts r c.deref-3.result.now) parts (length r)) c.deref-2.ensures.value c.in_ok-rules.ensures.decided);
+      reached = subst (λ (k : ℕ). IsFirst (length list) (IsUnreached list k) None) c.file_row.ensures
+          (subst (λ (r : List row.Part). IsFirst (length r) (IsUnreached r c.file_row.result) None) c.deref-4.ensures.value c.in_ok-refuse_unreached.ensures.ok);
+    }
 
 pub returns-clause-classes : goal.returns-clause-classes
 returns-clause-classes g c =
-    if_ok (λ rules have. has_classes (g.N.Names.vocabulary c.args.names.now) c.args.definitions.now.parts.now c.in_ok-sets.sets.items rules.sets c.in_ok-sets.ensures.len c.in_ok-sets.ensures.are
-    (subst (λ (sets : List TokenSet). HaveSets sets rules.sets (length sets)) c.deref-2.ensures.value have)) c.rules_of.result c.rules_of.ensures.sets
+    has_classes (g.N.Names.vocabulary c.args.names.now) c.args.definitions.now.parts.now c.in_ok-sets.sets.items c.in_ok-rules.rules.sets c.in_ok-sets.ensures.len c.in_ok-sets.ensures.are
+    (subst (λ (sets : List TokenSet). HaveSets sets c.in_ok-rules.rules.sets (length sets)) c.deref-3.ensures.value c.in_ok-rules.ensures.sets)
