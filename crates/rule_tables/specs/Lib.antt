@@ -15,3 +15,4 @@ pub mod Looks
 pub mod Settled
 pub mod Forks
 pub mod Refusals
+pub mod Texts

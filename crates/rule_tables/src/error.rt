@@ -28,20 +28,39 @@ pub enum RulesError {
     Memory(AllocError),
 }
 
+impl RulesError {
+    /// The part that is at fault; 0 if none is.
+    pub fn part(&self) -> usize {
+        match self {
+            RulesError::Undefined { part } | RulesError::Doubled { part } => *part,
+            RulesError::UnknownKind { part } | RulesError::LeftRecursive { part } => *part,
+            RulesError::Empty { part } | RulesError::Undecided { part } => *part,
+            RulesError::Unreached { part } => *part,
+            RulesError::TooMany | RulesError::Memory(_) => 0,
+        }
+    }
+
+    /// What is wrong, in a few words.
+    pub fn message(&self) -> &'static str {
+        match self {
+            RulesError::Undefined { .. } => "no rule has this name",
+            RulesError::Doubled { .. } => "two rules have this name",
+            RulesError::UnknownKind { .. } => "no kind has this name",
+            RulesError::LeftRecursive { .. } => "it calls itself first",
+            RulesError::Empty { .. } => "what is repeated may be empty",
+            RulesError::Undecided { .. } => "four tokens don't decide between two ways",
+            RulesError::Unreached { .. } => "no rule leads to this one",
+            RulesError::TooMany => "too many rules",
+            RulesError::Memory(_) => "out of memory",
+        }
+    }
+}
+
 impl fmt::Display for RulesError {
     fn fmt<W: fmt::Write>(&self, f: &mut fmt::Formatter<W>) -> fmt::Result {
         match self {
-            RulesError::Undefined { part } => write!(f, "part {part}: no rule has this name"),
-            RulesError::Doubled { part } => write!(f, "part {part}: two rules have this name"),
-            RulesError::UnknownKind { part } => write!(f, "part {part}: no kind has this name"),
-            RulesError::LeftRecursive { part } => write!(f, "part {part}: it calls itself first"),
-            RulesError::Empty { part } => write!(f, "part {part}: what is repeated may be empty"),
-            RulesError::Undecided { part } => {
-                write!(f, "part {part}: four tokens don't decide between two ways")
-            }
-            RulesError::Unreached { part } => write!(f, "part {part}: no rule leads to this one"),
-            RulesError::TooMany => write!(f, "too many rules"),
-            RulesError::Memory(reason) => write!(f, "{reason}"),
+            RulesError::TooMany | RulesError::Memory(_) => write!(f, "{}", self.message()),
+            _ => write!(f, "part {}: {}", self.part(), self.message()),
         }
     }
 }

@@ -100,8 +100,17 @@ impl<T: Drop> From<AllocFailed<T>> for WordError {
 }
 
 impl Place {
+    /// The place of a byte of a text.
+    pub fn of(text: &str, byte: usize) -> Place {
+        let mut place = Place { line: 1, column: 1 };
+        for one in text.as_bytes().iter().take(byte) {
+            place = place.after(*one);
+        }
+        place
+    }
+
     /// The place after this byte.
-    pub(crate) fn after(self, byte: u8) -> Place {
+    fn after(self, byte: u8) -> Place {
         if byte == b'\n' {
             Place {
                 line: self.line.saturating_add(1),

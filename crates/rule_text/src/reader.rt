@@ -153,15 +153,6 @@ impl<'w, 't> Reader<'w, 't> {
 
     /// The place of the next word.
     pub(crate) fn place(&self) -> Place {
-        place_of(self.text.as_bytes(), self.name().at)
+        Place::of(self.text, self.name().at)
     }
-}
-
-/// The place of a byte.
-fn place_of(text: &[u8], at: usize) -> Place {
-    let mut place = Place { line: 1, column: 1 };
-    for byte in text.iter().take(at) {
-        place = place.after(*byte);
-    }
-    place
 }
