@@ -16,7 +16,7 @@ use rule_parts::Part;
 use rule_tables::{KeywordNames, Rules};
 use rule_text::read;
 use sql_lexer::tokenize;
-use squawk_kinds::NoKeywords;
+use squawk_kinds::{NoKeywords, TokenSet};
 use squawk_parser::{EntryPoint, LexedStr};
 use std::alloc::{AllocError, Global};
 use std::fmt::Write;
@@ -44,6 +44,7 @@ pub fn compare(
             tokens: &TOKENS,
             nodes: &NODES,
             classes: &[],
+            operators: TokenSet::EMPTY,
         };
         let Ok(rules) = Rules::new(alloc, &parts, &names) else {
             return refused(alloc, text);

@@ -20,7 +20,7 @@ fn refused(alloc: Global, text: &str) -> Result<Option<RulesError>, Fail> {
 }
 
 /// Texts of rules, and why they are refused.
-static REFUSALS: [(&str, Option<RulesError>); 15] = [
+static REFUSALS: [(&str, Option<RulesError>); 26] = [
     ("file = IDENT? ';'", None),
     ("file = item", Some(RulesError::Undefined { part: 1 })),
     ("file = Word", Some(RulesError::Undefined { part: 1 })),
@@ -62,6 +62,40 @@ static REFUSALS: [(&str, Option<RulesError>); 15] = [
     (
         "file = IDENT? IDENT?",
         Some(RulesError::Undecided { part: 1 }),
+    ),
+    // The first arm of an ordered choice is gone, and what is greedy.
+    ("file = IDENT / IDENT", None),
+    ("file = IDENT?+ IDENT?", None),
+    // A rule that begins with itself, also after what may be left out, and after a token.
+    (
+        "file = file IDENT",
+        Some(RulesError::LeftRecursive { part: 1 }),
+    ),
+    (
+        "file = INT? other\nother = file ';'",
+        Some(RulesError::LeftRecursive { part: 3 }),
+    ),
+    ("file = '(' file ')' | IDENT", None),
+    // What is repeated has a token at least.
+    ("file = (IDENT?)*", Some(RulesError::Empty { part: 1 })),
+    ("file = {IDENT*}", Some(RulesError::Empty { part: 1 })),
+    // A rule that isn't called from the first one.
+    (
+        "file = IDENT\nother = INT",
+        Some(RulesError::Unreached { part: 2 }),
+    ),
+    (
+        "file = IDENT\nother = INT third\nthird = '(' other ')'",
+        Some(RulesError::Unreached { part: 2 }),
+    ),
+    // Names come first, then what never ends, then what tokens don't decide.
+    (
+        "file = IDENT? IDENT? file2\nfile2 = (INT?)*",
+        Some(RulesError::Empty { part: 7 }),
+    ),
+    (
+        "file = (INT?)* other",
+        Some(RulesError::Undefined { part: 4 }),
     ),
 ];
 

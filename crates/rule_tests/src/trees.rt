@@ -68,10 +68,7 @@ static CASES: [(&str, &str); 12] = [
     ),
     // What is missing is told where it should stand. An error stands before the end of the node before it.
     ("a", "STATEMENT{NAME{a!expected ;!}}"),
-    (
-        "a+;",
-        "STATEMENT{SUM{NAME{a}+!expected an expression!};}",
-    ),
+    ("a+;", "STATEMENT{SUM{NAME{a}+!expected an expression!};}"),
     ("(a;", "STATEMENT{PAREN{(NAME{a!expected )!}};}"),
 ];
 

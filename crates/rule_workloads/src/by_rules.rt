@@ -1,13 +1,12 @@
 //! Texts parsed by rules.
 use crate::by_code::parsed;
 use rule_tables::{KeywordNames, Rules};
-use rule_text::read;
 use select_grammar::kinds::{
     BIN_EXPR, FROM_CLAUSE, ITEM, LIST, LITERAL, NAME_REF, NOT_EXPR, SELECT, SOURCE_FILE,
     WHERE_CLAUSE,
 };
 use squawk_keywords::Keywords;
-use squawk_kinds::SyntaxKind;
+use squawk_kinds::{SyntaxKind, TokenSet};
 use std::alloc::{AllocError, Global};
 
 /// SELECT statements.
@@ -53,16 +52,14 @@ const NODES: [(&str, SyntaxKind); 10] = [
 
 /// The rules of SELECT. A refusal counts as want of memory.
 fn made(alloc: Global, words: &Keywords<'_>) -> Result<Rules, AllocError> {
-    let Ok(parts) = read(alloc, RULES) else {
-        return Err(AllocError);
-    };
     let names = KeywordNames {
         words,
         tokens: &TOKENS,
         nodes: &NODES,
         classes: &[],
+        operators: TokenSet::EMPTY,
     };
-    match Rules::new(alloc, &parts, &names) {
+    match Rules::read(alloc, RULES, &names) {
         Ok(rules) => Ok(rules),
         Err(_refusal) => Err(AllocError),
     }

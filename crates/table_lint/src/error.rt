@@ -1,6 +1,5 @@
 //! Why nothing is told.
-use rule_tables::RulesError;
-use rule_text::ReadError;
+use rule_tables::TextError;
 use sql_lexer::TokenizeError;
 use std::alloc::AllocError;
 use std::{fmt, io};
@@ -11,10 +10,8 @@ use syntax_tree::ParseTreeError;
 pub enum LintError {
     /// The text can't be read, or the report can't be written.
     Io(io::Error),
-    /// The text of the rules isn't one of rules.
-    Read(ReadError),
     /// The rules can't be run.
-    Rules(RulesError),
+    Rules(TextError),
     /// The text has no raw tokens.
     Tokens(TokenizeError),
     /// The text has no tree.
@@ -27,7 +24,6 @@ impl fmt::Display for LintError {
     fn fmt<W: fmt::Write>(&self, f: &mut fmt::Formatter<W>) -> fmt::Result {
         match self {
             LintError::Io(reason) => write!(f, "{reason}"),
-            LintError::Read(reason) => write!(f, "rules: {reason}"),
             LintError::Rules(reason) => write!(f, "rules: {reason}"),
             LintError::Tokens(reason) => write!(f, "{reason}"),
             LintError::Tree(reason) => write!(f, "{reason}"),
@@ -42,14 +38,8 @@ impl From<io::Error> for LintError {
     }
 }
 
-impl From<ReadError> for LintError {
-    fn from(reason: ReadError) -> LintError {
-        LintError::Read(reason)
-    }
-}
-
-impl From<RulesError> for LintError {
-    fn from(reason: RulesError) -> LintError {
+impl From<TextError> for LintError {
+    fn from(reason: TextError) -> LintError {
         LintError::Rules(reason)
     }
 }

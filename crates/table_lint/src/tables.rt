@@ -1,20 +1,22 @@
 //! Rules of CREATE TABLE, and the tokens and nodes that they name.
-use crate::error::LintError;
-use rule_tables::{KeywordNames, Rules};
-use rule_text::read;
+use rule_tables::{KeywordNames, Rules, TextError, keyword_classes};
 use squawk_keywords::Keywords;
-use squawk_parser::SyntaxKind;
+use squawk_parser::{SyntaxKind, TokenSet};
 use std::alloc::Global;
 
 /// The rules.
 const RULES: &str = "
+-- A keyword that stands as a name is an identifier.
+class Word = IDENT unreserved => IDENT
+class Resume = reserved ',' ')' ';'
+
 file = statement* => FILE
 statement \"CREATE TABLE\" = CREATE TABLE (IF NOT EXISTS)? name '(' {element}? ')' ';' => CREATE_TABLE
-name \"a name\" = IDENT => NAME
+name \"a name\" = Word => NAME
 
 element \"a column or a constraint\" = column | constraint
 column = name type column_constraint* => COLUMN
-type \"a type\" = (IDENT | INTEGER | NUMERIC | TEXT | TIMESTAMP) ('(' {INT} ')')? => TYPE
+type \"a type\" = (Word | INTEGER | NUMERIC | TIMESTAMP) ('(' {INT} ')')? => TYPE
 
 -- One word more tells the key of a column from that of a table.
 column_constraint = NOT NULL => NOT_NULL | PRIMARY KEY => PRIMARY_KEY | UNIQUE => UNIQUE
@@ -69,13 +71,13 @@ pub const NODES: [(&str, SyntaxKind); 14] = [
 ];
 
 /// The rules, ready to be run. The keywords are PostgreSQL's.
-pub fn rules(alloc: Global, words: &Keywords<'_>) -> Result<Rules, LintError> {
-    let parts = read(alloc, RULES)?;
+pub fn rules(alloc: Global, words: &Keywords<'_>) -> Result<Rules, TextError> {
     let names = KeywordNames {
         words,
         tokens: &TOKENS,
         nodes: &NODES,
-        classes: &[],
+        classes: &keyword_classes(words),
+        operators: TokenSet::EMPTY,
     };
-    Ok(Rules::new(alloc, &parts, &names)?)
+    Rules::read(alloc, RULES, &names)
 }
