@@ -6,7 +6,7 @@ use select_grammar::kinds::{
     WHERE_CLAUSE,
 };
 use squawk_keywords::Keywords;
-use squawk_kinds::{SyntaxKind, TokenSet};
+use squawk_kinds::{SyntaxKind, TokenSet, Vocabulary};
 use std::alloc::{AllocError, Global};
 
 /// SELECT statements.
@@ -51,7 +51,7 @@ const NODES: [(&str, SyntaxKind); 10] = [
 ];
 
 /// The rules of SELECT. A refusal counts as want of memory.
-fn made(alloc: Global, words: &Keywords<'_>) -> Result<Rules, AllocError> {
+fn made<V: Vocabulary>(alloc: Global, words: &V) -> Result<Rules, AllocError> {
     let names = KeywordNames {
         words,
         tokens: &TOKENS,

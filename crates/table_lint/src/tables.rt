@@ -1,7 +1,6 @@
 //! Rules of CREATE TABLE, and the tokens and nodes that they name.
 use rule_tables::{KeywordNames, Rules, TextError, keyword_classes};
-use squawk_keywords::Keywords;
-use squawk_parser::{SyntaxKind, TokenSet};
+use squawk_parser::{SyntaxKind, TokenSet, Vocabulary};
 use std::alloc::Global;
 
 /// The rules.
@@ -71,7 +70,7 @@ pub const NODES: [(&str, SyntaxKind); 14] = [
 ];
 
 /// The rules, ready to be run. The keywords are PostgreSQL's.
-pub fn rules(alloc: Global, words: &Keywords<'_>) -> Result<Rules, TextError> {
+pub fn rules<V: Vocabulary>(alloc: Global, words: &V) -> Result<Rules, TextError> {
     let names = KeywordNames {
         words,
         tokens: &TOKENS,
