@@ -3,7 +3,7 @@ use crate::error::LintError;
 use crate::tables::{CREATE_TABLE, NAME, NODES, PRIMARY_KEY, rules};
 use sql_lexer::tokenize;
 use sql_words::{names, vocabulary};
-use squawk_parser::{EntryPoint, StepSink};
+use squawk_parser::{EntryPoint, StepSink, SyntaxKind};
 use squawk_tree::TreeText;
 use std::alloc::{AllocError, Global};
 use std::fmt::Write;
@@ -30,12 +30,21 @@ fn drawn(alloc: Global, tree: &SyntaxTree<'_>) -> Result<String, AllocError> {
     for step in tree.steps() {
         drawing.step(step)?;
     }
-    let mut kinds = Vec::new(alloc);
-    for (name, kind) in &NODES {
-        kinds.push((*kind, *name))?;
-    }
-    kinds.extend_from_slice(&names(alloc)?)?;
-    drawing.finish(alloc, &kinds)
+    drawing.finish(alloc, &kinds(alloc, &NODES, &names(alloc)?)?)
+}
+
+/// The names of nodes and of other kinds.
+fn kinds<'n>(
+    alloc: Global,
+    nodes: &[(&'n str, SyntaxKind)],
+    others: &[(SyntaxKind, &'n str)],
+) -> Result<Vec<(SyntaxKind, &'n str)>, AllocError> {
+    let mut kinds: Vec<(SyntaxKind, &'n str)> = nodes
+        .iter()
+        .map(|pair| (pair.1, pair.0))
+        .collect(alloc)?;
+    kinds.extend_from_slice(others)?;
+    Ok(kinds)
 }
 
 /// Whether a statement or one of its columns has a primary key.
