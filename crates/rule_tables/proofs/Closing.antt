@@ -1,13 +1,13 @@
 -- Walks that go on until nothing is new.
-use Rattle.std.proofs.Common.{◌≡◌, ◌⊎◌, ℕ, zero, suc, ◌+◌, ◌<◌, ◌≤◌, ◌==◌, inl, inr, List, [], ◌∷◌, length, Option, Some, None, Bool, true, false, IsTrue, slice_get, arith, refl, sym, subst, ap, ◌∙◌}
-use Rattle.std.specs.List.{All, filter}
+use Rattle.std.proofs.Common.{◌≡◌, ◌⊎◌, ℕ, zero, suc, ◌+◌, ◌<◌, ◌≤◌, ◌==◌, inl, inr, List, [], ◌∷◌, length, Option, Some, None, Bool, true, false, slice_get, arith, refl, sym, subst, ◌∙◌}
+use Rattle.std.specs.List.{filter}
 use Rattle.std.proofs.lemmas.Bool.{cases_Bool, cases_eq}
 use Rattle.std.proofs.lemmas.List.Elements.{filter_passes}
 use Rattle.std.proofs.lemmas.List.Sums.{count_by-le-length}
 use Rattle.std.proofs.lemmas.Option.{slice_get_within}
 use Rattle.rule_grammar.specs.declared.part.Part.{Part}
-use Rattle.rule_tables.specs.Places.{Enters, Exits, IsOneOf, Moves, Plan, Sees, SeesFrom, Steps, does_eat, eats, is_token_row, row_eats, separates}
-use Rattle.rule_tables.specs.Places.Sees.{nothing, moves, steps}
+use Rattle.rule_tables.specs.Places.{Enters, Exits, IsOneOf, Moves, Plan, Sees, SeesFrom, does_eat, eats, row_eats, separates}
+use Rattle.rule_tables.specs.Places.Sees.{moves, steps}
 use Rattle.rule_tables.specs.Walks.{AreFirst, Goes, HasReached, IsClosed, IsWalking, Reaches, slot, slots}
 use Rattle.rule_tables.specs.declared.place.Place.{Place}
 use Rattle.rule_tables.specs.declared.place.Place.TheVariants.{Before, After, Separator, End}

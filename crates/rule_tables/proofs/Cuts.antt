@@ -1,16 +1,13 @@
 -- Sets that are cut by others.
-use Rattle.std.proofs.Common.{◌≡◌, ℕ, zero, suc, ◌+◌, ◌<◌, ◌≤◌, ◌&&◌, ◌⊎◌, not, Bool, true, false, inl, inr, List, [], ◌∷◌, ◌++◌, length, Some, slice_get, arith, refl, sym, subst, ap, ◌∙◌, length-append}
+use Rattle.std.proofs.Common.{◌≡◌, ℕ, ◌+◌, ◌<◌, ◌≤◌, ◌&&◌, not, Bool, true, false, inl, inr, List, [], ◌∷◌, ◌++◌, length, Some, slice_get, arith, refl, sym, subst, ◌∙◌, length-append}
 use Rattle.std.proofs.lemmas.Bool.{cases_Bool, cases_eq}
 use Rattle.std.proofs.lemmas.Option.{slice_get_within}
 use Rattle.squawk_kinds.specs.TokenSets.{has}
 use Rattle.squawk_kinds.specs.declared.token_set.TokenSet.{TokenSet}
-use Rattle.rule_tables.specs.Looks.{AddsSome, AreAlike, AreGroups, HasOne, IsAlike, IsCut, IsFiner}
-use Rattle.rule_tables.specs.Places.{IsOneOf, Plan, eats}
+use Rattle.rule_tables.specs.Looks.{AddsSome, AreAlike, AreGroups, HasOne, IsCut, IsFiner}
+use Rattle.rule_tables.specs.Places.{Plan, eats}
 use Rattle.rule_tables.specs.declared.place.Place.{Place}
 use Rattle.rule_tables.proofs.Lists.{slice_get-front, slice_get-seam}
-
-both_true : (a b : Bool) → a ≡ true → b ≡ true → (a && b) ≡ true
-both_true a b e f = rw (e, f) refl
 
 first_true : (a b : Bool) → (a && b) ≡ true → a ≡ true
 first_true true b e = refl
@@ -53,13 +50,6 @@ pub record IsCutting (sets : List TokenSet) (kinds : TokenSet) (n : ℕ) (cut : 
   pub keeps : (kind i : ℕ) → i < n → (set : TokenSet) → slice_get sets i ≡ Some set → has set kind ≡ true → HasOne cut kind
   pub within : (i : ℕ) (set : TokenSet) → slice_get cut i ≡ Some set → (j : ℕ) × (old : TokenSet) × (slice_get sets j ≡ Some old) × ((kind : ℕ) → has set kind ≡ true → has old kind ≡ true)
   pub alike : (i : ℕ) (set : TokenSet) → slice_get cut i ≡ Some set → (a b : ℕ) → has set a ≡ true → has set b ≡ true → has kinds a ≡ has kinds b
-
-pub cutting_none : (sets : List TokenSet) (kinds : TokenSet) → IsCutting sets kinds 0 []
-cutting_none sets kinds = record {
-  keeps = λ kind i lt. absurd (omega arith);
-  within = λ i set none. absurd cc;
-  alike = λ i set none. absurd cc;
-}
 
 module _ (sets : List TokenSet) (kinds : TokenSet) (n : ℕ) (before between after : List TokenSet) (set in_both in_one : TokenSet) (here : slice_get sets n ≡ Some set)
     (both : (kind : ℕ) → has in_both kind ≡ (has set kind && has kinds kind)) (without : (kind : ℕ) → has in_one kind ≡ (has set kind && not (has kinds kind)))
@@ -114,12 +104,6 @@ cutting_done sets kinds n cut all cutting = record {
     within = cutting.within;
   };
   alike = cutting.alike;
-}
-
-pub alike_none : (plan : Plan) (places : List Place) (sets : List TokenSet) → AreAlike plan places 0 sets sets
-alike_none plan places sets = record {
-  finer = record { keeps = λ kind one. one; within = λ i set is. (i, set, is, λ kind holds. holds) };
-  alike = λ i set is a b in_a in_b k lt. absurd (omega arith);
 }
 
 pub finer_then : {a b c : List TokenSet} → IsFiner a b → IsFiner b c → IsFiner a c

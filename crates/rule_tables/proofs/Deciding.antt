@@ -1,15 +1,14 @@
 -- Whether some kinds come both ways, one token after another.
-use Rattle.std.proofs.Common.{◌≡◌, ℕ, zero, suc, ◌+◌, ◌-◌, ◌<◌, ◌≤◌, ◌&&◌, ◌||◌, Bool, true, false, inl, inr, List, [], ◌∷◌, length, Option, Some, None, slice_get, arith, refl, sym, subst, ap, ◌∙◌}
+use Rattle.std.proofs.Common.{◌≡◌, ℕ, zero, suc, ◌+◌, ◌<◌, ◌&&◌, ◌||◌, Bool, true, false, inl, inr, List, [], ◌∷◌, length, Option, Some, None, slice_get, arith, refl, sym, subst, ap, ◌∙◌}
 use Rattle.std.specs.List.{All, list_any}
 use Rattle.std.proofs.lemmas.Bool.{cases_Bool, cases_eq}
-use Rattle.std.proofs.lemmas.Option.{slice_get_within}
 use Rattle.squawk_kinds.specs.TokenSets.{has}
 use Rattle.squawk_kinds.specs.declared.token_set.TokenSet.{TokenSet}
 use Rattle.rule_grammar.specs.declared.part.Part.{Part}
 use Rattle.rule_grammar.specs.declared.part.Part.TheVariants.{Repeat, List as Items, Some as Once}
 use Rattle.rule_tables.specs.Looks.{AreGroups, HasOne, IsAlike, ShareAfter, ShareWord}
 use Rattle.rule_tables.specs.Places.{AreShared, Begins, IsOneOf, Leaves, Plan, Sees, SeesFrom, Steps, does_eat, eats, first_in, separates}
-use Rattle.rule_tables.specs.Places.Sees.{nothing, moves, steps}
+use Rattle.rule_tables.specs.Places.Sees.{nothing, steps}
 use Rattle.rule_tables.specs.Walks.{AreFirst}
 use Rattle.rule_tables.specs.declared.place.Place.{Place}
 use Rattle.rule_tables.specs.declared.place.Place.TheVariants.{Before, After, Separator, End}

@@ -1,17 +1,17 @@
 -- The rows that lead to one, from the last on.
-use Rattle.std.proofs.Common.{◌≡◌, ℕ, suc, ◌+◌, ◌<◌, ◌≤◌, ◌==◌, ◌⊎◌, Bool, true, false, inl, inr, List, length, Option, Some, None, slice_get, arith, refl, sym, subst, ap, ◌∙◌}
+use Rattle.std.proofs.Common.{◌≡◌, ℕ, ◌<◌, ◌≤◌, ◌⊎◌, true, false, inl, inr, List, length, Option, Some, None, slice_get, arith, refl, sym, subst, ap, ◌∙◌}
 use Rattle.std.proofs.lemmas.Bool.{cases_eq, cases_lt, eq-eqb, eqb-true}
 use Rattle.std.proofs.lemmas.Option.{slice_get_within}
 use Rattle.rule_grammar.specs.declared.part.Part.{Part}
 use Rattle.rule_grammar.specs.declared.part.Part.TheVariants.{Arm}
 use Rattle.rule_tables.specs.Maps.{is_number, leads_to}
 use Rattle.rule_tables.specs.Places.{IsLed, Leads, goal_of, last_below, leads_as, led_to, outer_of}
-use Rattle.rule_tables.specs.Walks.{Goes, IsLedFrom, slot}
+use Rattle.rule_tables.specs.Walks.{Goes, IsLedFrom}
 use Rattle.rule_tables.specs.declared.place.Place.{Place}
 use Rattle.rule_tables.specs.declared.place.Way.{Way}
 use Rattle.rule_tables.specs.declared.place.Way.TheVariants as way
 use Rattle.rule_tables.specs.declared.walk.Walk.{Walk}
-use Rattle.rule_tables.proofs.Below.{last-none, last-some, rank, rank-below}
+use Rattle.rule_tables.proofs.Below.{last-none, last-some}
 use Rattle.rule_tables.proofs.Walking.{goes_as, goes_none, goes_then}
 
 leads_there : (h : ℕ) (goal : Option ℕ) → goal ≡ Some h → is_number h goal ≡ true

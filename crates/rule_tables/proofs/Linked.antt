@@ -1,11 +1,11 @@
 -- A map of rows, one row after another.
-use Rattle.std.proofs.Common.{◌≡◌, ℕ, zero, suc, ◌+◌, ◌<◌, ◌≤◌, ◌==◌, Bool, true, false, inl, inr, List, [], ◌∷◌, ◌++◌, length, Option, Some, None, slice_get, set, add-one, arith, refl, sym, subst, ap, length-append, length-set, eq-eqb, ◌∙◌}
+use Rattle.std.proofs.Common.{◌≡◌, ℕ, zero, suc, ◌+◌, ◌<◌, true, false, inl, inr, List, [], ◌∷◌, ◌++◌, length, Option, Some, None, slice_get, set, add-one, arith, refl, sym, subst, ap, length-append, length-set, eq-eqb, ◌∙◌}
 use Rattle.std.proofs.lemmas.Bool.{cases_eq, eqb-true, ne_eqb}
 use Rattle.rule_grammar.specs.declared.part.Part.{Part}
-use Rattle.rule_tables.specs.Places.{end_at, goal_of, last_below, outer_of}
-use Rattle.rule_tables.specs.Maps.{AreLinked, AreOuters, at_goal, is_number, known_at, leads_to, with_goal}
+use Rattle.rule_tables.specs.Places.{goal_of, last_below}
+use Rattle.rule_tables.specs.Maps.{AreLinked, at_goal, is_number, known_at, leads_to, with_goal}
 use Rattle.rule_tables.proofs.Below.{last_no, last_yes}
-use Rattle.rule_tables.proofs.Lists.{lists_more, slice_get-front, slice_get-seam}
+use Rattle.rule_tables.proofs.Lists.{slice_get-front, slice_get-seam}
 
 pub slice_get-set_same : {X : Type 0} (xs : List X) (i : ℕ) (x : X) → i < length xs → slice_get (set xs i x) i ≡ Some x
 slice_get-set_same [] i x lt = absurd (omega (arith, lt))
@@ -18,13 +18,6 @@ slice_get-set_other (y ∷ xs) zero zero x other = absurd (other refl)
 slice_get-set_other (y ∷ xs) zero (suc j) x other = refl
 slice_get-set_other (y ∷ xs) (suc i) zero x other = refl
 slice_get-set_other (y ∷ xs) (suc i) (suc j) x other = slice_get-set_other xs i j x (λ e. other (ap suc e))
-
--- one row more
-pub outers_more : (rows : List Part) (outers : List (Option ℕ)) (n : ℕ) → AreOuters rows outers n → AreOuters rows (outers ++ outer_of rows n ∷ []) (n + 1)
-outers_more rows outers n before = record {
-  len = length-append outers (outer_of rows n ∷ []) ∙ ap (λ (k : ℕ). k + 1) before.len;
-  are = lists_more (λ k. Some (outer_of rows k)) outers n (outer_of rows n) (sym before.len) before.are refl;
-}
 
 -- no row leads to another than its goal
 last_stays : (rows : List Part) (lasts : List (Option ℕ)) (n h : ℕ) → is_number h (goal_of rows n (slice_get rows n)) ≡ false

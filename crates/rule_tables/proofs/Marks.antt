@@ -1,5 +1,5 @@
 -- The marks of a walk.
-use Rattle.std.proofs.Common.{◌≡◌, ℕ, zero, suc, ◌+◌, ◌-◌, ◌<◌, ◌≤◌, ◌==◌, cond, Bool, true, false, inl, inr, List, [], ◌∷◌, ◌++◌, length, Some, take, replicate, slice_get, get_or, set, arith, refl, sym, subst, ap, ◌∙◌, length-append, length-set, get_or-set_same, get_or-set_other}
+use Rattle.std.proofs.Common.{◌≡◌, ℕ, zero, suc, ◌+◌, ◌-◌, ◌<◌, ◌≤◌, ◌==◌, cond, true, false, inl, inr, List, [], ◌∷◌, ◌++◌, length, Some, take, replicate, slice_get, get_or, set, arith, refl, sym, subst, ap, ◌∙◌, length-append, length-set, get_or-set_other}
 use Rattle.std.specs.List.{count_by, sum_by}
 use Rattle.std.proofs.lemmas.Bool.{cases_eq, cases_lt, eq-eqb, ne_eqb}
 use Rattle.std.proofs.lemmas.List.{get_or-append_right, get_or_append_left}

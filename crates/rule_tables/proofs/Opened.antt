@@ -1,5 +1,5 @@
 -- Rows that four tokens don't decide, one after another.
-use Rattle.std.proofs.Common.{◌≡◌, ◌∙◌, ◌+◌, ◌<◌, ℕ, Bool, false, inl, inr, List, Option, Some, length, slice_get, arith, sym, subst}
+use Rattle.std.proofs.Common.{◌≡◌, ◌∙◌, ◌+◌, ℕ, Bool, false, inl, inr, List, Option, Some, length, slice_get, arith, sym, subst}
 use Rattle.std.proofs.lemmas.Bool.{cases_eq}
 use Rattle.rule_grammar.specs.declared.part.Part.{Part}
 use Rattle.squawk_kinds.specs.declared.token_set.TokenSet.{TokenSet}
@@ -12,7 +12,7 @@ use Rattle.rule_tables.specs.Settled.{settles}
 use Rattle.rule_parts.specs.declared.Part as parts
 use Rattle.rule_tables.specs.Places.{IsUndecidedRow, Plan}
 use Rattle.rule_tables.specs.declared.error.RulesError.{RulesError}
-use Rattle.rule_tables.specs.declared.error.RulesError.TheVariants.{Undefined, Doubled, UnknownKind, Undecided, TooMany, Memory}
+use Rattle.rule_tables.specs.declared.error.RulesError.TheVariants.{Undecided, TooMany, Memory}
 
 module _ (plan : Plan) (list : List parts.Part) (n : ℕ) (row : Part) (flag : Bool) (here : slice_get plan.rows n ≡ Some row) (is : flag ≡ settles list plan.rows n) (before : AreDecided plan list n) where
   abbrev pub IsOpenRow : Type 0

@@ -1,10 +1,9 @@
 -- What holds of a row by what it isn't.
-use Rattle.std.proofs.Common.{◌≡◌, ℕ, ◌+◌, Bool, false, true, inl, inr, nat_lt, List, Option, Some, None, refl}
-use Rattle.std.proofs.lemmas.Bool.{cases_Bool}
+use Rattle.std.proofs.Common.{◌≡◌, ℕ, false, true, List, Option, Some, refl}
 use Rattle.squawk_kinds.specs.declared.token_set.TokenSet.{TokenSet}
 use Rattle.rule_grammar.specs.declared.part.Part.{Part}
-use Rattle.rule_grammar.specs.declared.part.Part.TheVariants.{Nothing, Token, Word, Class, Name, Node, Becomes, Is, Guard, Choice, Arm, Optional, Repeat, List as Items, Call, Operators, Operand, Tail, Some as Once}
-use Rattle.rule_tables.specs.Places.{IsUndecidedRow, Leaves, Plan, EndsWay, Exits, GoesOnIn, Returns, Enters, end_at, first_in, is_token_row, outer_of, row_eats, separates}
+use Rattle.rule_grammar.specs.declared.part.Part.TheVariants.{Token, Word, Class, Name, Choice, Arm, Optional, Repeat, List as Items, Operators, Tail, Some as Once}
+use Rattle.rule_tables.specs.Places.{IsUndecidedRow, Leaves, Plan, EndsWay, Exits, GoesOnIn, Returns, Enters, is_token_row, outer_of, row_eats, separates}
 use Rattle.rule_tables.specs.declared.place.Place.{Place}
 use Rattle.rule_tables.specs.declared.place.Place.TheVariants.{After}
 
@@ -63,10 +62,3 @@ decided-other plan k (Repeat end) no_arm no_tail no_optional no_repeat no_some n
 decided-other plan k (Once end) no_arm no_tail no_optional no_repeat no_some no_list undecided = no_some end refl
 decided-other plan k (Items end one) no_arm no_tail no_optional no_repeat no_some no_list undecided = no_list end one refl
 decided-other plan k part no_arm no_tail no_optional no_repeat no_some no_list undecided = undecided
-
-pub first-next : (rows : List Part) (k first : ℕ) → Some first ≡ first_in rows k → first ≡ k + 1
-first-next rows k first e =
-    elim (cases_Bool (nat_lt (k + 1) (end_at rows k))) [
-      | inl has ↦ let found : Some first ≡ Some (k + 1) = rw has at e in cc
-      | inr lacks ↦ let none : Some first ≡ None = rw lacks at e in absurd cc
-    ]

@@ -1,11 +1,11 @@
 -- Places over a token.
-use Rattle.std.proofs.Common.{◌≡◌, ◌⊎◌, ℕ, zero, suc, ◌+◌, ◌<◌, inl, inr, List, [], ◌∷◌, length, Some, true, slice_get, arith, refl, subst, sym, ◌∙◌}
+use Rattle.std.proofs.Common.{◌≡◌, ◌⊎◌, ℕ, ◌+◌, ◌<◌, inl, inr, List, ◌∷◌, length, Some, true, slice_get, arith, subst, sym, ◌∙◌}
 use Rattle.std.specs.List.{All}
 use Rattle.std.proofs.lemmas.Bool.{cases_lt}
 use Rattle.std.proofs.lemmas.List.Elements.{All-get_or}
 use Rattle.std.proofs.lemmas.Option.{get_or_from_slice_get, slice_get_within}
-use Rattle.rule_tables.specs.Places.{Moves, Plan, Sees, SeesFrom, Steps, does_eat, eats}
-use Rattle.rule_tables.specs.Places.Sees.{nothing, moves, steps}
+use Rattle.rule_tables.specs.Places.{Plan, Sees, SeesFrom, Steps, does_eat, eats}
+use Rattle.rule_tables.specs.Places.Sees.{moves, steps}
 use Rattle.rule_tables.specs.Walks.{AreFirst, Goes, HasReached}
 use Rattle.rule_tables.specs.declared.place.Place.{Place}
 use Rattle.rule_tables.specs.declared.walk.Walk.{Walk}

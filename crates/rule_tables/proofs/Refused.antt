@@ -1,8 +1,6 @@
 -- Why parts are refused whose names, kinds and sizes have no fault.
-use Rattle.std.proofs.Common.{ℕ, None, List, length, inl, inr}
+use Rattle.std.proofs.Common.{List, length, inl, inr}
 use Rattle.squawk_kinds.specs.declared.token_set.TokenSet.{TokenSet}
-use Rattle.rule_checks.specs.Rules.{IsUnreached}
-use Rattle.rule_checks.specs.Sets.{IsFirst}
 use Rattle.rule_grammar.specs.declared.part.Part as row
 use Rattle.rule_parts.specs.declared.Part.{Part}
 use Rattle.rule_tables.specs.Forks.{AreDecided, plan_in}

@@ -1,13 +1,11 @@
 -- Walks over places, one place after another.
-use Rattle.std.proofs.Common.{◌≡◌, ℕ, zero, suc, ◌+◌, ◌*◌, ◌<◌, ◌≤◌, ◌==◌, ◌⊎◌, inl, inr, List, [], ◌∷◌, ◌++◌, length, Option, Some, None, Result, Ok, Err, IfOk, OnOk, slice_get, get_or, set, arith, refl, sym, subst, ap, ◌∙◌, length-append, length-set, get_or-set_same, get_or-set_other}
-use Rattle.std.proofs.lemmas.Bool.{cases_eq}
+use Rattle.std.proofs.Common.{◌≡◌, ℕ, ◌<◌, ◌⊎◌, inl, inr, List, length, Result, Ok, Err, IfOk, OnOk, arith, refl, sym, subst, ap, ◌∙◌}
 use Rattle.std.proofs.lemmas.Option.{slice_get_within}
 use Rattle.rule_tables.specs.Places.{IsOneOf}
-use Rattle.rule_tables.specs.Walks.{Goes, IsWalking, Reaches, slot}
+use Rattle.rule_tables.specs.Walks.{Goes, Reaches, slot}
 use Rattle.rule_tables.specs.declared.place.Place.{Place}
 use Rattle.rule_tables.specs.declared.place.Place.TheVariants.{Before, After, Separator, End}
 use Rattle.rule_tables.specs.declared.walk.Walk.{Walk}
-use Rattle.rule_tables.proofs.Lists.{slice_get-front, slice_get-seam}
 
 pub one_kept : {n : ℕ} {old new : List Place} {P : Place → Type 0} → Reaches n old new P → (p : Place) → IsOneOf old p → IsOneOf new p
 one_kept {old = old} r p one = record { index = one.index; is = r.same one.index (slice_get_within old one.index p one.is) ∙ one.is }

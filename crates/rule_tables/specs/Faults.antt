@@ -1,10 +1,10 @@
 -- What is wrong with parts that are refused.
-use Rattle.std.specs.Prelude.{◌≡◌, ℕ, zero, suc, ◌&&◌, ◌||◌, not, nat_lt, Bool, false, Option, Some, None, List, length, slice_get, is_some, is_none, if◌then◌else◌, ◌⊎◌}
+use Rattle.std.specs.Prelude.{ℕ, zero, suc, ◌&&◌, ◌||◌, not, nat_lt, Bool, false, Option, Some, None, List, length, slice_get, is_some, is_none, if◌then◌else◌}
 use Rattle.std.specs.Option.{option_and_then, option_or}
 use Rattle.rule_parts.specs.declared.Part.{Part}
 use Rattle.rule_parts.specs.declared.Part.TheVariants as part
 use Rattle.rule_tables.specs.declared.error.RulesError.{RulesError}
-use Rattle.rule_tables.specs.declared.error.RulesError.TheVariants.{Undefined, Doubled, UnknownKind, TooMany, Memory}
+use Rattle.rule_tables.specs.declared.error.RulesError.TheVariants.{Undefined, Doubled, UnknownKind, TooMany}
 use Rattle.rule_tables.specs.declared.outer.Outer.{Outer}
 use Rattle.rule_tables.specs.Definitions.{defined, definition_of, is_before, is_class, is_guard, is_rule, is_set, name_of}
 use Rattle.rule_tables.specs.Outer.{is_member, outer_at}

@@ -29,11 +29,6 @@ prefix_split : {ws : List Word} {level : Level} {i : ℕ} → sort_at ws i ≢ s
 prefix_split n k rs (prefix m v) = both v stop
 prefix_split n k rs (tail e v) = absurd (n e)
 
-pub tail_split : {ws : List Word} {level : Level} {i : ℕ} → sort_at ws i ≡ sorts.Operand
-    → Splits (behind_one (written_as sequence (floor_of level))) Stop (Operator level) ws i
-tail_split e k rs (prefix n v) = absurd (n e)
-tail_split e k rs (tail f v) = both v stop
-
 pub prefix_decided : {a b : Reader} {r : Result ⊤ WordError} {floor : ℕ} {level : Level} → floor ≡ floor_of level → sort_at a.words.now a.at ≢ sorts.Operand
     → Decides (written_as (arm true) floor) a b r → Decides (Operator level) a b r
 prefix_decided {a} {b} {r} e n d =
@@ -65,11 +60,6 @@ pub level_after : (s : Sort) (level : Level) {next : Level} → next_level s lev
 level_after s level e = grind arith
 
 -- ---- bodies
-
-pub body_split : {ws : List Word} {i : ℕ} → Splits (written_as (alternative true) 0) Stop bodies ws i
-body_split k rs (bodies.only_one v n l) = both v stop
-body_split k rs (bodies.one_of (forms.one v) e w l) = both v stop
-body_split k rs (bodies.operators (forms.one v) w e x) = both v stop
 
 no_arms : {ws : List Word} {j k : ℕ} {ps : List Part} (ordered : Bool) → sort_at ws j ≡ bar ordered → IsMissed (written_as (arms true ordered) 0) ws j
     → forms ws 0 (arms true false) j k ps → is_level (sort_at ws k) ≡ true → ⊥

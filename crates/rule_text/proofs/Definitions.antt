@@ -62,13 +62,6 @@ arrow_split e k rs (becomes v) = both v stop
 pub becomes_decided : {a b : Reader} {r : Result ⊤ WordError} → sort_at a.words.now a.at ≡ sorts.Equals → Decides Arrow a b r → Decides Members a b r
 becomes_decided there d = decides_as d (λ r. reads_as r (λ ps v. becomes v)) (λ m. miss_first (arrow_split there) m)
 
-pub no_member_of : {ws : List Word} {i : ℕ} {s : Sort} {part : Part} → s ≡ sort_at ws i → s ≢ sorts.Kind → s ≢ sorts.Class → s ≢ sorts.Call → s ≢ sorts.Minus
-    → Member ws i part → ⊥
-no_member_of e n1 n2 n3 n4 (kind w) = n1 (e ∙ word_sort w)
-no_member_of e n1 n2 n3 n4 (other w) = n2 (e ∙ word_sort w)
-no_member_of e n1 n2 n3 n4 (given w) = n3 (e ∙ word_sort w)
-no_member_of e n1 n2 n3 n4 (without f) = n4 (e ∙ f)
-
 -- ---- texts
 
 pub data OneText (ws : List Word) (i : ℕ) : ℕ → List Part → Type 0 where

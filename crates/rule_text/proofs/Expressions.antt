@@ -107,10 +107,6 @@ no_atom n1 n2 n3 n4 n5 n6 n7 n8 (forms.list v s e) = n8 refl
 
 -- ---- items
 
-pub item_split : {ws : List Word} {floor i : ℕ} → Splits (of_word floor) Stop (written_as item floor) ws i
-item_split k rs (forms.once v e) = both v stop
-item_split k rs (forms.signed v e g) = both v stop
-
 pub signed_read : {a b c d e : Reader} {start size floor : ℕ} {sign : Sort} {greedy : Bool} → Reads (of_word floor) a b → sort_at b.words.now b.at ≡ sign
     → is_sign sign ≡ true → Bumps b c → Gives Greedy greedy c d → start ≡ length a.parts.items → size ≡ length b.parts.items - start
     → Wraps start (sign_part sign size greedy) d e → Reads (written_as item floor) a e
@@ -193,10 +189,6 @@ choice_read {a} {b} {c} {d} {start} {size} {floor} {ordered} first there rest fr
     reads_both first rest (λ ps qs v w. forms.choice v (sort_back b.at first.words there) w) in
     reads_around (λ n. parts.Choice n ordered) joined from sized wraps (λ ps v. v)
 
-pub no_bar : {s : Sort} → s ≢ sorts.Or → s ≢ sorts.Slash → (ordered : Bool) → s ≢ bar ordered
-no_bar n m false e = n e
-no_bar n m true e = m e
-
 pub arms_split : {ws : List Word} {floor i : ℕ} {of_rule ordered : Bool} → sort_at ws i ≡ bar ordered
     → Splits (behind_one (written_as (arm of_rule) floor)) (written_as (arms of_rule ordered) floor) (written_as (arms of_rule ordered) floor) ws i
 arms_split e k rs (forms.last n) = absurd (n e)
@@ -206,10 +198,6 @@ pub arms_lead : {a b c d : Reader} {floor : ℕ} {of_rule ordered : Bool}
     → Leads (written_as (arms of_rule ordered) floor) (written_as (arms of_rule ordered) floor) a b → sort_at b.words.now b.at ≡ bar ordered → Bumps b c
     → Reads (written_as (arm of_rule) floor) c d → Leads (written_as (arms of_rule ordered) floor) (written_as (arms of_rule ordered) floor) a d
 arms_lead p there bumps r = leads_more p (behind bumps r) (λ k ps qs u v. forms.next there u v) (arms_split there) (λ j k ps qs v w. same v w)
-
-pub alternatives_split : {ws : List Word} {floor i : ℕ} → Splits (written_as (alternative false) floor) Stop (written_as alternatives floor) ws i
-alternatives_split k rs (forms.alone v e) = both v stop
-alternatives_split k rs (forms.choice (forms.one v) e w) = both v stop
 
 pub miss_arms : {ws : List Word} {floor i j : ℕ} {ps : List Part} (ordered : Bool) → Written ws floor (alternative false) i j ps → sort_at ws j ≡ bar ordered
     → IsMissed (written_as (arms false ordered) floor) ws j → IsMissed (written_as alternatives floor) ws i

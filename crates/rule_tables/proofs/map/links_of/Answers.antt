@@ -1,7 +1,7 @@
-use Rattle.std.proofs.Common.{◌≡◌, ◌+◌, ◌<◌, ◌∙◌, ℕ, List, [], ◌∷◌, ◌++◌, Option, Some, length, slice_get, slice_index_or, None, refl, sym, ap}
+use Rattle.std.proofs.Common.{◌≡◌, ◌+◌, ◌∙◌, ℕ, List, [], ◌∷◌, ◌++◌, Option, Some, slice_get, slice_index_or, None, refl, sym, ap}
 use Rattle.std.proofs.lemmas.Option.{get_or_from_slice_get, slice_get_read}
 use Rattle.rule_grammar.specs.declared.part.Part.{Part}
-use Rattle.rule_tables.specs.Maps.{AreLinked, AreOuters, at_goal, with_goal}
+use Rattle.rule_tables.specs.Maps.{AreLinked, at_goal, with_goal}
 use Rattle.rule_tables.specs.Places.{goal_of, outer_of}
 use Rattle.rule_tables.proofs.Linked.{linked_more}
 use Rattle.rule_tables.proofs.map.links_of.Goals as goal

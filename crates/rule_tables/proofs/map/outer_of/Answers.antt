@@ -1,4 +1,4 @@
-use Rattle.std.proofs.Common.{◌≡◌, ℕ, List, ◌<◌, ◌≤◌, ◌∙◌, false, true, suc, arith, nat_lt, None, Option, Some, sym, ap, refl, subst, slice_index_or}
+use Rattle.std.proofs.Common.{◌≡◌, ℕ, List, ◌<◌, ◌≤◌, ◌∙◌, suc, arith, nat_lt, None, Option, Some, sym, ap, subst, slice_index_or}
 use Rattle.std.proofs.lemmas.Bool.{le-ltb, lt-ltb, ltb-true}
 use Rattle.std.proofs.lemmas.Option.{get_or_from_slice_get}
 use Rattle.rule_grammar.specs.declared.part.Part.{Part}

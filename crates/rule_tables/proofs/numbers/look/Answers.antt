@@ -1,5 +1,4 @@
-use Rattle.std.proofs.Common.{Some, sym, arith}
-use Rattle.std.proofs.lemmas.Option.{slice_get_within}
+use Rattle.std.proofs.Common.{Some, sym}
 use Rattle.rule_tables.specs.Places.{IsUndecidedRow}
 use Rattle.rule_tables.specs.Walks.{plan_of}
 use Rattle.rule_tables.proofs.Limited.{err_at, ok_at}

@@ -1,6 +1,5 @@
-use Rattle.std.proofs.Common.{◌<◌, inl, inr, arith}
+use Rattle.std.proofs.Common.{inl, inr, arith}
 use Rattle.std.proofs.lemmas.Bool.{cases_lt}
-use Rattle.squawk_kinds.specs.Kinds.{WHITESPACE}
 use Rattle.squawk_kinds.proofs.TokenSetLemmas.{has-other}
 use Rattle.rule_tables.proofs.sets.first_of.Goals as goal
 

@@ -2,7 +2,7 @@ use Rattle.std.proofs.Common.{List, arith, subst, sym}
 use Rattle.rule_tables.specs.Places.{Sees, SeesRival}
 use Rattle.rule_tables.specs.Walks.{AreFirst, plan_of}
 use Rattle.rule_tables.specs.declared.place.Place.{Place}
-use Rattle.rule_tables.specs.declared.place.Place.TheVariants.{After, Before}
+use Rattle.rule_tables.specs.declared.place.Place.TheVariants.{Before}
 use Rattle.rule_tables.proofs.Deciding.{to_places, to_words}
 use Rattle.rule_tables.proofs.Limited.{if_err_as, undecided_as}
 use Rattle.rule_tables.proofs.Walking.{on_ok_as}

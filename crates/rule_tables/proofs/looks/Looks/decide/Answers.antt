@@ -1,4 +1,4 @@
-use Rattle.std.proofs.Common.{◌≡◌, ◌∙◌, false, true, sym, arith}
+use Rattle.std.proofs.Common.{◌≡◌, ◌∙◌, false, true, arith}
 use Rattle.squawk_kinds.specs.TokenSets.{has}
 use Rattle.rule_tables.specs.Walks.{plan_of}
 use Rattle.rule_tables.proofs.Deciding.{no_share}

@@ -1,7 +1,6 @@
 use Rattle.std.proofs.Common.{◌≡◌, ◌⊎◌, inl, inr}
 use Rattle.rule_tables.specs.Places.{IsBefore}
-use Rattle.rule_tables.specs.declared.place.Place.{Place}
-use Rattle.rule_tables.specs.declared.place.Place.TheVariants.{Before, After, Separator, End}
+use Rattle.rule_tables.specs.declared.place.Place.TheVariants.{Before, After}
 use Rattle.rule_tables.proofs.Walking.{went_as, went_then, went_to}
 use Rattle.rule_tables.proofs.walk.Walk.again.Goals as goal
 

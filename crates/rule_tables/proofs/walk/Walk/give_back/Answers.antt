@@ -1,8 +1,7 @@
-use Rattle.std.proofs.Common.{◌≡◌, ◌⊎◌, inl, inr}
+use Rattle.std.proofs.Common.{◌≡◌, inl, inr}
 use Rattle.rule_tables.specs.Places.{IsLed}
 use Rattle.rule_tables.specs.declared.place.Way.TheVariants as way
-use Rattle.rule_tables.specs.declared.place.Place.{Place}
-use Rattle.rule_tables.specs.declared.place.Place.TheVariants.{Before, After, Separator, End}
+use Rattle.rule_tables.specs.declared.place.Place.TheVariants.{End}
 use Rattle.rule_tables.proofs.Walking.{goes_as, went_as, went_then}
 use Rattle.rule_tables.proofs.walk.Walk.give_back.Goals as goal
 

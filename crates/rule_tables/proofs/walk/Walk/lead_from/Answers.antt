@@ -1,9 +1,8 @@
-use Rattle.std.proofs.Common.{◌≡◌, ◌<◌, ◌≤◌, ◌∙◌, length, suc, arith, refl}
+use Rattle.std.proofs.Common.{◌≡◌, ◌<◌, ◌≤◌, length, suc, arith, refl}
 use Rattle.rule_tables.specs.Maps.{leads_to}
 use Rattle.rule_tables.specs.Places.{last_below}
 use Rattle.rule_tables.proofs.Below.{rank, rank-below}
 use Rattle.rule_tables.proofs.Leading.{goal_within, leading_done, leading_first, leading_next, leading_none, leading_row}
-use Rattle.rule_tables.proofs.Walking.{goes_as, goes_none}
 use Rattle.rule_tables.proofs.walk.Walk.lead_from.Goals as goal
 
 pub returns-then-led-from : goal.returns-then-led-from

@@ -1,8 +1,7 @@
 use Rattle.std.proofs.Common.{◌≡◌, sym, Some}
 use Rattle.rule_tables.specs.Places.{Leaves}
 use Rattle.rule_tables.proofs.Other.{leaves-other}
-use Rattle.rule_tables.specs.declared.place.Place.{Place}
-use Rattle.rule_tables.specs.declared.place.Place.TheVariants.{Before, After, Separator, End}
+use Rattle.rule_tables.specs.declared.place.Place.TheVariants.{After, Separator}
 use Rattle.rule_tables.proofs.Walking.{went_as, went_then, went_to}
 use Rattle.rule_tables.proofs.walk.Walk.leave_part.Goals as goal
 

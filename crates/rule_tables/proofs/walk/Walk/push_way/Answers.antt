@@ -1,8 +1,6 @@
 use Rattle.std.proofs.Common.{◌≡◌, ◌∙◌, true, false, Some, slice_get, get_or, sym}
 use Rattle.std.proofs.lemmas.Option.{slice_get-get_or}
-use Rattle.rule_tables.specs.Places.{leads_as, led_to}
-use Rattle.rule_tables.specs.declared.place.Place.{Place}
-use Rattle.rule_tables.specs.declared.place.Place.TheVariants.{Before, After, Separator, End}
+use Rattle.rule_tables.specs.Places.{leads_as}
 use Rattle.rule_tables.proofs.Walking.{goes_as, goes_none, went_as}
 use Rattle.rule_tables.proofs.walk.Walk.push_way.Goals as goal
 

@@ -1,4 +1,4 @@
-use Rattle.std.proofs.Common.{◌≡◌, ◌<◌, ◌≤◌, ◌∙◌, ◌+◌, ℕ, None, Some, inl, inr, length, refl, subst, arith, sym, ap}
+use Rattle.std.proofs.Common.{◌≡◌, ◌<◌, ◌≤◌, ◌∙◌, ◌+◌, None, Some, inl, inr, refl, subst, arith, sym}
 use Rattle.rule_tables.specs.Places.{Sees, led_to, outer_of}
 use Rattle.rule_tables.specs.Walks.{IsLedFrom, plan_of}
 use Rattle.rule_tables.specs.declared.place.Place.{Place}
