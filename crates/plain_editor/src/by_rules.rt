@@ -82,8 +82,8 @@ fn judge(
         tokens: &sentence,
     }
     .reads_all();
-    judged.sentences += 1;
-    judged.read += u64::from(is_read);
+    judged.sentences = judged.sentences.saturating_add(1);
+    judged.read = judged.read.saturating_add(u64::from(is_read));
     if has_no_error(alloc, rules, text.as_str())? == is_read {
         return Ok(None);
     }

@@ -74,7 +74,7 @@ pair = INT INT '+' | INT INT '-' | STRING ('*' STRING)* '*' '+'
     "
 class Word = IDENT STRING
 class Sign = '+' '-' '*' '='
-class Plus = Sign -'-' -'*' -'='
+class Plus = '+'
 class Rest = Sign -Plus
 file = term (Rest term | Plus '(' term ')')* => FILE
 term = Word (',' Word)* => ITEM | INT => ONE

@@ -24,27 +24,17 @@ impl<'r> Parts<'r> {
 
     /// The index of the first rule.
     pub(crate) fn file(&self) -> usize {
-        self.index(|part| matches!(part, Part::Rule { .. }))
+        let first = self
+            .list
+            .iter()
+            .position(|part| matches!(part, Part::Rule { .. }));
+        first.unwrap_or(usize::MAX)
     }
 
     /// The index of the rule or class with this name.
     pub(crate) fn definition(&self, name: &str) -> usize {
-        self.index(|part| match part {
-            Part::Rule { name: own, .. } => own.text == name,
-            Part::Set { name: own, .. } => own.text == name,
-            _ => false,
-        })
-    }
-
-    fn index<F: Fn(&Part<'_>) -> bool>(&self, is_it: F) -> usize {
-        let mut index = 0usize;
-        for part in self.list {
-            if is_it(part) {
-                return index;
-            }
-            index = index.saturating_add(1);
-        }
-        index
+        let first = self.list.iter().position(|part| defines(part, name));
+        first.unwrap_or(usize::MAX)
     }
 
     /// The index of the operators before an operand of them.
@@ -58,7 +48,7 @@ impl<'r> Parts<'r> {
         last
     }
 
-    /// Whether a class has a token.
+    /// Whether a class has a token. Its members are tokens, or classes of tokens alone.
     pub(crate) fn is_in(&self, class: &str, token: &str) -> bool {
         let class = self.definition(class);
         let mut is_in = false;
@@ -66,6 +56,7 @@ impl<'r> Parts<'r> {
         for index in class.saturating_add(1)..self.after(class) {
             let is_one = match self.part(index) {
                 Part::Token { name } => name.text == token,
+                Part::Class { name } => self.has_token(name.text, token),
                 _ => false,
             };
             is_in = if is_without {
@@ -76,6 +67,13 @@ impl<'r> Parts<'r> {
             is_without = matches!(self.part(index), Part::Without);
         }
         is_in
+    }
+
+    /// Whether a class of tokens alone has a token.
+    fn has_token(&self, class: &str, token: &str) -> bool {
+        let class = self.definition(class);
+        let mut members = class.saturating_add(1)..self.after(class);
+        members.any(|index| matches!(self.part(index), Part::Token { name } if name.text == token))
     }
 }
 
@@ -88,5 +86,13 @@ fn size(part: &Part<'_>) -> usize {
         Part::Repeat { size, .. } | Part::Some { size, .. } => *size,
         Part::List { size, .. } | Part::Operators { size } | Part::Tail { size, .. } => *size,
         _ => 0,
+    }
+}
+
+/// Whether a part is the rule or class with this name.
+fn defines(part: &Part<'_>, name: &str) -> bool {
+    match part {
+        Part::Rule { name: own, .. } | Part::Set { name: own, .. } => own.text == name,
+        _ => false,
     }
 }

@@ -14,6 +14,13 @@ const LEVELS: usize = 16;
 /// How deep parts may be called in one another.
 const DEPTH: u32 = 4000;
 
+/// A token by its name, or one of a class.
+#[derive(Clone, Copy)]
+enum Wanted<'w> {
+    Token(&'w str),
+    Class(&'w str),
+}
+
 /// Rules, and the names of tokens that are read by them.
 #[derive(Clone, Copy)]
 pub(crate) struct Reader<'r> {
@@ -36,8 +43,8 @@ impl<'r> Reader<'r> {
         }
         let depth = depth - 1;
         match self.parts.part(index) {
-            Part::Token { name } => self.over(from, |token| token == name.text),
-            Part::Class { name } => self.over(from, |token| self.parts.is_in(name.text, token)),
+            Part::Token { name } => self.over(from, Wanted::Token(name.text)),
+            Part::Class { name } => self.over(from, Wanted::Class(name.text)),
             Part::Call { name } => self.inside(self.parts.definition(name.text), from, depth),
             Part::Choice { .. } => self.one_of(index, from, depth),
             Part::Optional { .. } => from | self.inside(index, from, depth),
@@ -59,15 +66,22 @@ impl<'r> Reader<'r> {
         }
     }
 
-    /// The positions after a token of a kind at one of these.
-    fn over<F: Fn(&str) -> bool>(&self, from: u64, is_one: F) -> u64 {
+    /// The positions after a wanted token at one of these.
+    fn over(&self, from: u64, wanted: Wanted<'_>) -> u64 {
         let mut after = 0u64;
         for (position, token) in self.tokens.iter().enumerate() {
-            if has(from, position) && is_one(token) {
-                after |= set_of(position + 1);
+            if has(from, position) && self.is(wanted, token) {
+                after |= set_of(position.saturating_add(1));
             }
         }
         after
+    }
+
+    fn is(&self, wanted: Wanted<'_>, token: &str) -> bool {
+        match wanted {
+            Wanted::Token(name) => name == token,
+            Wanted::Class(name) => self.parts.is_in(name, token),
+        }
     }
 
     /// What is in a part, one after another.
@@ -118,7 +132,7 @@ impl<'r> Reader<'r> {
         let mut positions = self.inside(index, from, depth);
         let mut new = positions;
         for _ in 0..MOST {
-            let next = self.over(new, |token| token == separator);
+            let next = self.over(new, Wanted::Token(separator));
             new = self.inside(index, next, depth) & !positions;
             positions |= new;
         }
@@ -166,7 +180,7 @@ fn has(positions: u64, position: usize) -> bool {
 }
 
 fn set_of(position: usize) -> u64 {
-    1u64.wrapping_shl(position as u32)
+    1u64 << (position % 64)
 }
 
 /// The ends after which an operator of a level may come.

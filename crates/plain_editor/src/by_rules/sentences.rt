@@ -1,9 +1,11 @@
 //! Sentences of rules at random.
+use crate::by_rules::grammars::TOKENS;
 use crate::by_rules::parts::Parts;
 use crate::generator::Random;
 use rule_parts::Part;
 use squawk_kinds::SyntaxKind;
 use std::alloc::{AllocError, Global};
+use std::ops::Range;
 
 /// From how many tokens on a sentence takes the shortest way to its end.
 const LONG: usize = 24;
@@ -174,22 +176,25 @@ impl<'r> Sentences<'r> {
 
     /// Adds a token of a class.
     fn member(&self, class: &str, made: &mut Made<'r, '_>) -> Result<(), AllocError> {
-        let definition = self.parts.definition(class);
-        let members = definition.saturating_add(1)..self.parts.after(definition);
-        let number = made.random.below(members.end.saturating_sub(members.start));
-        let mut token = "IDENT";
-        for index in members {
-            if let Part::Token { name } = self.parts.part(index) {
-                let is_it = index >= definition.saturating_add(1).saturating_add(number);
-                if self.parts.is_in(class, name.text) {
-                    token = name.text;
-                    if is_it {
-                        break;
-                    }
-                }
+        let number = made.random.below(TOKENS.len());
+        match self.first_member(class, number..TOKENS.len()) {
+            Some(token) => made.push(token),
+            None => match self.first_member(class, 0..TOKENS.len()) {
+                Some(token) => made.push(token),
+                None => Ok(()),
+            },
+        }
+    }
+
+    /// The first of some tokens that is in a class.
+    fn first_member(&self, class: &str, tokens: Range<usize>) -> Option<&'static str> {
+        for index in tokens {
+            match TOKENS.get(index) {
+                Some((name, _)) if self.parts.is_in(class, name) => return Some(*name),
+                _ => {}
             }
         }
-        made.push(token)
+        None
     }
 }
 
@@ -218,16 +223,23 @@ pub(crate) fn change<'r>(
         1 => sentence.insert(place, token)?,
         2 => {
             let other = random.below(sentence.len());
-            sentence.swap(place, other);
+            if let Some(moved) = sentence.get(other).copied() {
+                put(sentence, place, moved);
+                put(sentence, other, token);
+            }
         }
         _ => {
-            if let (Some(slot), Some(name)) = (
-                sentence.get_mut(place),
-                names.get(random.below(names.len())),
-            ) {
-                *slot = name.0;
+            if let Some(name) = names.get(random.below(names.len())) {
+                put(sentence, place, name.0);
             }
         }
     }
     Ok(())
+}
+
+/// Replaces a token.
+fn put<'r>(sentence: &mut [&'r str], place: usize, token: &'r str) {
+    if let Some(slot) = sentence.get_mut(place) {
+        *slot = token;
+    }
 }
