@@ -29,7 +29,7 @@ fn parsed(alloc: Global, rules: &str, text: &str) -> Result<String, Fail> {
 }
 
 /// Statements of expressions.
-const EXPRESSIONS: &str = "
+pub(crate) const EXPRESSIONS: &str = "
 file = statement* => FILE
 statement \"a statement\" = expression ';' => STATEMENT
 expression \"an expression\"
