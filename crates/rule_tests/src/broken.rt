@@ -1,10 +1,9 @@
 //! Broken texts, with the trees and errors that they have.
 use crate::lines::line_of;
-use rule_tables::{KeywordNames, Rules};
-use rule_text::read;
+use rule_tables::{KeywordNames, Rules, TextError};
 use sql_lexer::tokenize;
 use squawk_keywords::Keywords;
-use squawk_kinds::{SyntaxKind, TokenSet};
+use squawk_kinds::{SyntaxKind, TokenSet, Vocabulary};
 use squawk_parser::{EntryPoint, StepList, parse_whole_into};
 use std::alloc::Global;
 use std::test::Fail;
@@ -280,26 +279,39 @@ static CASES: [(&str, &str); 36] = [
     ),
 ];
 
-#[test]
-fn places_errors(rt: HostRuntime) -> Result<(), Fail> {
-    let alloc = rt.alloc();
-    let words = Keywords::ignoring_case(alloc, &WORDS, &[])?;
-    let parts = read(alloc, RULES)?;
+/// The rules, ready to be run.
+fn made<V: Vocabulary>(alloc: Global, words: &V) -> Result<Rules, TextError> {
     let names = KeywordNames {
-        words: &words,
+        words,
         tokens: &TOKENS,
         nodes: &NODES,
         classes: &[],
         operators: TokenSet::EMPTY,
     };
-    let rules = Rules::new(alloc, &parts, &names)?;
+    Rules::read(alloc, RULES, &names)
+}
+
+/// The line of a text's tree.
+fn parsed<V: Vocabulary>(
+    alloc: Global,
+    words: &V,
+    rules: &Rules,
+    text: &str,
+) -> Result<String, Fail> {
+    let tokens = tokenize(alloc, text)?;
+    let mut list = StepList::new(alloc);
+    let entry = EntryPoint::SourceFile;
+    parse_whole_into(alloc, text, &tokens, words, rules, entry, &mut list)?;
+    Ok(line_of(alloc, &NODES, list.steps())?)
+}
+
+#[test]
+fn places_errors(rt: HostRuntime) -> Result<(), Fail> {
+    let words = Keywords::ignoring_case(rt.alloc(), &WORDS, &[])?;
+    let rules = made(rt.alloc(), &words)?;
     for (text, wanted) in &CASES {
-        let tokens = tokenize(alloc, text)?;
-        let mut list = StepList::new(alloc);
-        let entry = EntryPoint::SourceFile;
-        parse_whole_into(alloc, text, &tokens, &words, &rules, entry, &mut list)?;
-        let line = line_of(alloc, &NODES, list.steps())?;
-        let wanted = format!(in alloc; "FILE{{{wanted}}}")?;
+        let line = parsed(rt.alloc(), &words, &rules, text)?;
+        let wanted = format!(in rt.alloc(); "FILE{{{wanted}}}")?;
         assert_eq!(rt; line.as_str(), wanted.as_str(), "{text}");
     }
     Ok(())
