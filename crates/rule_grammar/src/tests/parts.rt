@@ -201,7 +201,8 @@ static CASES: [(&str, &str); 24] = [
         "+a:b,c;",
         "STATEMENT{+NAME{a}:!expected a comma!NAME{b},NAME{c}};",
     ),
-    ("+a=;", "STATEMENT{+NAME{a}ERROR{!expected a colon!=}};"),
+    // What nobody expects is told where parsing goes on after it.
+    ("+a);", "STATEMENT{+NAME{a}}ERROR{!expected ;!)};"),
     // Operators of one token and more, and a glued kind that is a node.
     ("+a<b;", "STATEMENT{+LESS{NAME{a}<NAME{b}}};"),
     (
