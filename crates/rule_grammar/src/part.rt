@@ -49,31 +49,21 @@ pub enum Part {
     Tail { end: u16, level: u16, ceiling: u16 },
 }
 
-impl Part {
-    /// The row after this part of a row, with all that is in it.
-    #[inline(always)]
-    pub(crate) fn beyond(&self, row: u16) -> u16
-        requires { row < 65535 }
-        ensures later { row < result }
-        ensures is { result ≡ next_of row self.now }
-    {
-        match self {
-            Part::Node { end, .. }
-            | Part::Choice { end }
-            | Part::Arm { end }
-            | Part::Optional { end }
-            | Part::Repeat { end }
-            | Part::Some { end }
-            | Part::List { end, .. }
-            | Part::Operators { end }
-            | Part::Is { end }
-            | Part::Tail { end, .. } => after(row, *end),
-            _ => row + 1,
-        }
+/// The row after the part that these numbers of a row are, with all that is in it.
+#[inline(always)]
+pub(crate) fn beyond(numbers: &[u16; 8], row: u16) -> u16
+    requires { row < 65535 }
+    ensures later { row < result }
+    ensures is { result ≡ next_of row (part_of numbers.now) }
+{
+    match numbers[0] % 256 {
+        5 | 7 | 8 | 9 | 10 | 11 | 13 | 15 | 16 | 17 | 18 | 19 => after(row, numbers[1]),
+        _ => row + 1,
     }
 }
 
 /// The row after one that ends there.
+#[inline(always)]
 fn after(row: u16, end: u16) -> u16
     requires { row < 65535 }
     ensures later { row < result }

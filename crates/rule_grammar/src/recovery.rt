@@ -41,9 +41,27 @@ pub(crate) fn can_begin(rule: &Open<'_>, row: u16, told: &mut Told, p: &mut Pars
     ensures tells { result ≡ false → IsSome told.new.place }
     ensures counts { Counts told.old.place told.new.place p.old p.new }
 {
-    if rule.table.begins_with(row, rule.table.symbol(p)) {
-        return true;
+    if rule.table.begins_with(row, told.symbol(rule.table, p)) {
+        true
+    } else {
+        can_begin_after_others(rule, row, told, p)
     }
+}
+
+/// Whether it can begin after tokens that are skipped.
+#[cold]
+#[inline(never)]
+fn can_begin_after_others(
+    rule: &Open<'_>,
+    row: u16,
+    told: &mut Told,
+    p: &mut Parser<'_>,
+) -> bool
+    requires { IsSound p.old }
+    ensures adds { AddsSome p.old p.new }
+    ensures tells { IsSome told.new.place }
+    ensures counts { Counts told.old.place told.new.place p.old p.new }
+{
     missing(rule, row, told, p);
     rule.table.begins_with(row, rule.table.symbol(p))
 }
@@ -57,7 +75,7 @@ pub(crate) fn is_next(rule: &Open<'_>, row: u16, told: &mut Told, p: &mut Parser
     ensures told { IfClean told.old.place told.new.place (p.new.position ≡ p.old.position) }
     ensures counts { Counts told.old.place told.new.place p.old p.new }
 {
-    if rule.table.stands(row, rule.table.symbol(p), p) {
+    if rule.table.stands(row, told.symbol(rule.table, p), p) {
         true
     } else if told.is_settled(p.position()) {
         false
@@ -67,6 +85,7 @@ pub(crate) fn is_next(rule: &Open<'_>, row: u16, told: &mut Told, p: &mut Parser
 }
 
 /// Whether it stands after tokens that are skipped.
+#[inline(never)]
 fn is_after_others(rule: &Open<'_>, row: u16, told: &mut Told, p: &mut Parser<'_>) -> bool
     requires { IsSound p.old }
     ensures adds { AddsSome p.old p.new }
@@ -89,7 +108,7 @@ fn is_unexpected(rule: &Open<'_>, row: u16, told: &mut Told, p: &Parser<'_>) -> 
     if told.is_settled(p.position()) {
         return false;
     }
-    let symbol = rule.table.symbol(p);
+    let symbol = told.symbol(rule.table, p);
     if rule.may_follow(row, symbol) || rule.begins_item(symbol) || goes_on(rule, row, p) {
         told.settle(p.position());
         return false;

@@ -1,6 +1,6 @@
 //! The interpreter: one for all rules.
 ghost use Rattle.std.specs.Prelude.{◌≡◌, ◌+◌, ◌≤◌, ◌<◌, ℕ, None, true};
-ghost use Rattle.rule_grammar.specs.Derivations.{Counts, Derived, text_of};
+ghost use Rattle.rule_grammar.specs.Derivations.{Counts, Derived, IsArm, text_of};
 ghost use Rattle.rule_grammar.specs.Derivations.Span.{block, choice, items, operation, single, turns};
 ghost use Rattle.rule_grammar.specs.Parts.{part_at};
 ghost use Rattle.squawk_parser.specs.SomeSteps.{AddsSome, AddsSomeNode};
@@ -57,7 +57,7 @@ fn step(rule: &Open<'_>, row: u16, part: Part, told: &mut Told, p: &mut Parser<'
         Part::Some { end } => some(rule, row, end, told, p),
         Part::List { end, separator } => list(rule, row, end, separator, told, p),
         Part::Call { start, end } => call(rule, row, Block { start, end }, told, p),
-        Part::Operators { end } => whole(rule, row, end, told, p),
+        Part::Operators { end } => operators(rule, row, end, 0, told, p),
         Part::Operand { operators, floor } => inner_operand(rule, row, operators, floor, told, p),
         Part::Nothing => {}
         Part::Is { end } => expect_kind(rule, row, end, told, p),
@@ -271,63 +271,104 @@ fn inner_operand(
     if rule.is_deepest() {
         let _ = too_deep(rule, row, told, p);
     } else {
-        operators(&rule.called(row), operators_row, floor, told, p);
+        called_operators(&rule.called(row), operators_row, floor, told, p);
     }
 }
 
-/// An operand, and the operators after it whose level is `floor` at least.
+#[inline(always)]
 #[cycle(run)]
-fn operators(rule: &Open<'_>, row: u16, floor: u16, told: &mut Told, p: &mut Parser<'_>)
+fn called_operators(rule: &Open<'_>, row: u16, floor: u16, told: &mut Told, p: &mut Parser<'_>)
     requires { IsSound p.old }
     ensures adds { AddsSome p.old p.new }
     ensures derives { (ceiling : ℕ) × Derived (text_of rule.now.table.now p.old) (operation row floor ceiling) told.old.place told.new.place p.old.position p.new.position }
     ensures counts { Counts told.old.place told.new.place p.old p.new }
 {
     match rule.table.part(row) {
-        Part::Operators { end } if row < u16::MAX => {
-            if can_begin(rule, row, told, p) {
-                let _ = climb(rule, row, end, floor, told, p);
-            }
-        }
+        Part::Operators { end } if row < u16::MAX => operators(rule, row, end, floor, told, p),
         _ => missing(rule, row, told, p),
     }
 }
 
-/// The same, where these rows are its arms and operators, of any level.
-#[inline(always)]
+/// An operand, and the operators after it whose level is `floor` at least, where the operators are these.
 #[cycle(run)]
-fn whole(rule: &Open<'_>, row: u16, end: u16, told: &mut Told, p: &mut Parser<'_>)
-    requires room { row < 65535 }
-    requires sound { IsSound p.old }
-    ensures adds { AddsSome p.old p.new }
-    ensures derives { part_at rule.now.table.now.rows.now row ≡ Part.Operators end
-        → Derived (text_of rule.now.table.now p.old) (single row) told.old.place told.new.place p.old.position p.new.position }
-    ensures counts { Counts told.old.place told.new.place p.old p.new }
-{
-    if can_begin(rule, row, told, p) {
-        let _ = climb(rule, row, end, 0, told, p);
-    }
-}
-
-/// The same, where the operators are these.
-#[cycle(run)]
-fn climb(
+fn operators(
     rule: &Open<'_>,
     row: u16,
     end: u16,
     floor: u16,
     told: &mut Told,
     p: &mut Parser<'_>,
+)
+    requires room { row < 65535 }
+    requires sound { IsSound p.old }
+    ensures adds { AddsSome p.old p.new }
+    ensures derives { part_at rule.now.table.now.rows.now row ≡ Part.Operators end
+        → (ceiling : ℕ) × Derived (text_of rule.now.table.now p.old) (operation row floor ceiling) told.old.place told.new.place p.old.position p.new.position }
+    ensures counts { Counts told.old.place told.new.place p.old p.new }
+{
+    let arms = Block {
+        start: row + 1,
+        end,
+    };
+    match rule.table.arm(arms, told, p) {
+        Some(arm) => {
+            let _ = climb(rule, row, end, floor, arm, told, p);
+        }
+        None => operators_after_others(rule, row, end, floor, told, p),
+    }
+}
+
+/// The error that no operand stands at the position, and the one that stands after tokens that are skipped.
+#[cold]
+#[inline(never)]
+#[cycle(run)]
+fn operators_after_others(
+    rule: &Open<'_>,
+    row: u16,
+    end: u16,
+    floor: u16,
+    told: &mut Told,
+    p: &mut Parser<'_>,
+)
+    requires room { row < 65535 }
+    requires sound { IsSound p.old }
+    ensures adds { AddsSome p.old p.new }
+    ensures derives { part_at rule.now.table.now.rows.now row ≡ Part.Operators end
+        → (ceiling : ℕ) × Derived (text_of rule.now.table.now p.old) (operation row floor ceiling) told.old.place told.new.place p.old.position p.new.position }
+    ensures counts { Counts told.old.place told.new.place p.old p.new }
+{
+    missing(rule, row, told, p);
+    let arms = Block {
+        start: row + 1,
+        end,
+    };
+    if let Some(arm) = rule.table.arm(arms, told, p) {
+        let _ = climb(rule, row, end, floor, arm, told, p);
+    }
+}
+
+/// The operand in some rows, and the operators after it whose level is `floor` at least, where the operators are these.
+#[cycle(run)]
+fn climb(
+    rule: &Open<'_>,
+    row: u16,
+    end: u16,
+    floor: u16,
+    arm: Block,
+    told: &mut Told,
+    p: &mut Parser<'_>,
 ) -> CompletedMarker
-    requires { row < 65535 }
+    requires room { row < 65535 }
+    requires later { row + 1 < arm.start }
+    requires is { IsArm rule.now.table.now.rows.now (row + 1) end arm.start arm.end }
     ensures adds { AddsSomeNode result p.old p.new }
     ensures derives { part_at rule.now.table.now.rows.now row ≡ Part.Operators end
         → (ceiling : ℕ) × Derived (text_of rule.now.table.now p.old) (operation row floor ceiling) told.old.place told.new.place p.old.position p.new.position }
     ensures counts { Counts told.old.place told.new.place p.old p.new }
 {
-    let mut left = operand(rule, row, end, told, p);
+    let mut left = one_node(rule, arm, told, p);
     let mut ceiling = u16::MAX;
-    while let Some(operator) = rule.table.operator(row, end, floor, p) {
+    while let Some(operator) = rule.table.operator(row, end, floor, told, p) {
         let place = p.position();
         let fits = operator.level <= ceiling;
         left = operation(left, rule, operator.block, fits, told, p);
@@ -396,8 +437,33 @@ fn node_in(rule: &Open<'_>, row: u16, told: &mut Told, p: &mut Parser<'_>) -> Co
         }
         Part::Call { start, end } => called_node(rule, row, Block { start, end }, told, p),
         Part::Choice { end } => operand(rule, row, end, told, p),
-        Part::Operators { end } => climb(rule, row, end, 0, told, p),
+        Part::Operators { end } => operators_node(rule, row, end, told, p),
         _ => no_operand(rule, row, told, p),
+    }
+}
+
+/// An operand and the operators after it: a node, of kind ERROR where no operand stands.
+#[cycle(run)]
+fn operators_node(
+    rule: &Open<'_>,
+    row: u16,
+    end: u16,
+    told: &mut Told,
+    p: &mut Parser<'_>,
+) -> CompletedMarker
+    requires { row < 65535 }
+    ensures adds { AddsSomeNode result p.old p.new }
+    ensures derives { part_at rule.now.table.now.rows.now row ≡ Part.Operators end
+        → (ceiling : ℕ) × Derived (text_of rule.now.table.now p.old) (operation row 0 ceiling) told.old.place told.new.place p.old.position p.new.position }
+    ensures counts { Counts told.old.place told.new.place p.old p.new }
+{
+    let arms = Block {
+        start: row + 1,
+        end,
+    };
+    match rule.table.arm(arms, told, p) {
+        Some(arm) => climb(rule, row, end, 0, arm, told, p),
+        None => no_operand(rule, row, told, p),
     }
 }
 

@@ -1,9 +1,9 @@
 //! Rules as numbers.
-ghost use Rattle.std.specs.Prelude.{◌≡◌, ◌<◌};
+ghost use Rattle.std.specs.Prelude.{◌≡◌, ◌<◌, option_map, slice_get};
 ghost use Rattle.rule_grammar.specs.Derivations.{next_of};
 ghost use Rattle.rule_grammar.specs.Parts.{part_at, set_has};
 
-use crate::part::{Part, part_of};
+use crate::part::{Part, beyond, part_of};
 use squawk_parser::{SyntaxKind, TokenSet};
 
 /// Rules as numbers. Any numbers can be run.
@@ -96,8 +96,10 @@ impl<'r> Table<'r> {
         ensures later { row < result }
         ensures is { result ≡ next_of row (part_at self.now.rows.now row) }
     {
-        let part = self.part(row);
-        part.beyond(row)
+        match self.row(row) {
+            Some(numbers) => beyond(numbers, row),
+            None => row + 1,
+        }
     }
 
     /// Whether the rule of a row may end after it.
@@ -142,7 +144,9 @@ impl<'r> Table<'r> {
     }
 
     #[inline(always)]
-    pub(crate) fn row(&self, row: u16) -> Option<&'r [u16; 8]> {
+    pub(crate) fn row(&self, row: u16) -> Option<&'r [u16; 8]>
+        ensures { option_map (λ numbers. numbers.now) result ≡ slice_get self.now.rows.now row }
+    {
         self.rows.get(usize::from(row))
     }
 

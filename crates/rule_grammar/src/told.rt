@@ -17,6 +17,9 @@ pub(crate) struct Told {
     kind: SyntaxKind,
     ended: SyntaxKind,
     guarded: Guarded,
+    /// The symbol of the token at a place.
+    symbol: SyntaxKind,
+    symbol_at: usize,
 }
 
 impl Told {
@@ -31,7 +34,22 @@ impl Told {
             kind: root,
             ended: SyntaxKind::EOF,
             guarded: Guarded::NOTHING,
+            symbol: SyntaxKind::EOF,
+            symbol_at: usize::MAX,
         }
+    }
+
+    /// The symbol at the position, which is worked out once for each place.
+    #[inline(always)]
+    pub(crate) fn symbol(&mut self, table: &Table<'_>, p: &Parser<'_>) -> SyntaxKind
+        ensures { self.new.place ≡ self.old.place }
+    {
+        let place = p.position();
+        if self.symbol_at != place {
+            self.symbol = table.symbol(p);
+            self.symbol_at = place;
+        }
+        self.symbol
     }
 
     /// Whether a place has no error yet. From now on it has one.

@@ -24,7 +24,7 @@ impl Table<'_> {
         ensures is { IfSome result (λ block. IsArm self.now.rows.now rows.start rows.end block.start block.end) }
         ensures told { told.new.place ≡ told.old.place }
     {
-        let symbol = self.symbol(p);
+        let symbol = told.symbol(self, p);
         let mut at = rows.start;
         while at < rows.end {
             let beyond = self.beyond(at);
@@ -76,7 +76,21 @@ impl Table<'_> {
     }
 
     /// The row of the part that is alone in some rows, or after a guard.
+    #[inline(always)]
     pub(crate) fn only(&self, rows: Block) -> Option<u16>
+        ensures later { IfSome result (λ row. rows.start ≤ row) }
+        ensures room { IfSome result (λ row. row < 65535) }
+        ensures is { IfSome result (λ row. IsOnly self.now.rows.now rows.start rows.end row) }
+    {
+        if self.is_one(rows) {
+            Some(rows.start)
+        } else {
+            self.only_after_guard(rows)
+        }
+    }
+
+    #[inline(never)]
+    fn only_after_guard(&self, rows: Block) -> Option<u16>
         ensures later { IfSome result (λ row. rows.start ≤ row) }
         ensures room { IfSome result (λ row. row < 65535) }
         ensures is { IfSome result (λ row. IsOnly self.now.rows.now rows.start rows.end row) }
@@ -93,15 +107,12 @@ impl Table<'_> {
                     None
                 }
             }
-            _ => if self.is_one(rows) {
-                Some(rows.start)
-            } else {
-                None
-            },
+            _ => None,
         }
     }
 
     /// Whether there is one part in some rows.
+    #[inline(always)]
     pub(crate) fn is_one(&self, rows: Block) -> bool
         ensures room { result ≡ true → rows.start < 65535 }
         ensures only { result ≡ true → rows.end ≤ next_of rows.start (part_at self.now.rows.now rows.start) }
@@ -117,14 +128,16 @@ impl Table<'_> {
         row: u16,
         end: u16,
         floor: u16,
+        told: &mut Told,
         p: &Parser<'_>,
     ) -> Option<Operator>
         requires { row < 65535 }
         ensures later { IfSome result (λ operator. row + 1 < operator.block.start) }
         ensures is { IfSome result (λ operator. IsTail self.now.rows.now (row + 1) end operator.block.start operator.block.end operator.level operator.ceiling) }
         ensures floor { IfSome result (λ operator. floor ≤ operator.level) }
+        ensures told { told.new.place ≡ told.old.place }
     {
-        let symbol = self.symbol(p);
+        let symbol = told.symbol(self, p);
         if self.has_operator(row, symbol) {
             let rows = Block {
                 start: row + 1,

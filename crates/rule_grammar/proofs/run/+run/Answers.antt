@@ -1,4 +1,4 @@
-use Rattle.std.proofs.Common.{arith, sym, subst, ap, ◌≡◌, ◌∙◌, ℕ}
+use Rattle.std.proofs.Common.{arith, sym, subst, ap, ◌≡◌, ◌∙◌, ℕ, IsSome}
 use Rattle.std.proofs.lemmas.Bool.Decides.{nat_tests}
 use Rattle.squawk_parser.proofs.SomeSteps.{none_some}
 use Rattle.rule_grammar.specs.Derivations.{Counts, Derived, Derives, is_silent, text_of}
@@ -7,7 +7,7 @@ use Rattle.rule_grammar.specs.Derivations.Span.{rows, single}
 use Rattle.rule_grammar.specs.Parts.{part_at}
 use Rattle.rule_grammar.specs.declared.part.Part.TheVariants as parts
 use Rattle.rule_grammar.proofs.Counted.{counts_added, counts_completed, counts_preceded, counts_some, counts_then}
-use Rattle.rule_grammar.proofs.Derived.{after_error, as_part, both_parts, from_place, known, moved, of_kind, one_more, only_in, quiet, some_then, still, still_before}
+use Rattle.rule_grammar.proofs.Derived.{after_error, as_part, both_parts, from_place, known, moved, of_kind, one_more, only_in, quiet, some_then, still, still_before, told}
 use Rattle.rule_grammar.proofs.run.+run.Goals as goal
 
 -- ---- rows
@@ -106,12 +106,7 @@ step-returns-in-List-clause-derives t c =
 pub step-returns-in-Operators-clause-derives : goal.step-returns-in-Operators-clause-derives
 step-returns-in-Operators-clause-derives t c =
     let is : part_at c.args.rule.now.table.now.rows.now c.args.row ≡ parts.Operators c.in-Operators.end = sym c.requires.is ∙ c.in-Operators.is in
-    c.whole.ensures.derives is
-
-pub whole-returns-then-can_begin-clause-derives : goal.whole-returns-then-can_begin-clause-derives
-whole-returns-then-can_begin-clause-derives t c = λ is.
-    let before = c.can_begin.ensures in
-    still_before before.told (as_part (moved c.args.rule.now.table.now before.adds.some.keeps (c.climb.ensures.derives is).1) (λ d. operators is d))
+    as_part (c.operators.ensures.derives is).1 (λ d. operators is d)
 
 pub step-returns-in-Nothing-clause-derives : goal.step-returns-in-Nothing-clause-derives
 step-returns-in-Nothing-clause-derives t c =
@@ -212,15 +207,15 @@ operation-returns-clause-counts t c =
 
 pub climb-loop-operator-init : goal.climb-loop-operator-init
 climb-loop-operator-init t c =
-    let first = c.operand-left.ensures in
-    record { adds = first.adds; derives = λ is. as_part first.derives (λ d. stands is d); counts = first.counts }
+    let first = c.one_node-left.ensures in
+    record { adds = first.adds; derives = λ is. as_part first.derives (λ d. stands is (arm c.requires.is d)); counts = first.counts }
 
 pub climb-loop-operator-preserved : goal.climb-loop-operator-preserved
 climb-loop-operator-preserved t c =
     let table = c.args.rule.now.table.now in
     let so_far = c.loop-operator.invariant in
     let took = c.operation-left.ensures in
-    let on = moved table so_far.adds.adds.some.keeps took.derives in
+    let on = from_place c.operator.ensures.told (moved table so_far.adds.adds.some.keeps took.derives) in
     record {
       adds = took.adds c.args.p.now so_far.adds;
       derives = λ is. record {
@@ -229,8 +224,17 @@ climb-loop-operator-preserved t c =
             let fits = took.fits n in
             operates ((so_far.derives is).derives (on.clean n)) is c.in-Some.ensures.is c.in-Some.ensures.floor (grind (arith, fits, nat_tests)) (on.derives n);
       };
-      counts = counts_then so_far.counts took.counts;
+      counts = counts_then so_far.counts (subst (λ v. Counts v c.operation-left.new.told.place c.loop-operator.p c.operation-left.new.p) c.operator.ensures.told took.counts);
     }
+
+pub operators_after_others-returns-in-Some-clause-derives : goal.operators_after_others-returns-in-Some-clause-derives
+operators_after_others-returns-in-Some-clause-derives t c = λ is.
+    let took = c.climb.ensures.derives is in
+    (took.0, after_error c.missing.ensures.tells (from_place c.arm.ensures.told took.1))
+
+pub operators_after_others-returns-in_default-clause-derives : goal.operators_after_others-returns-in_default-clause-derives
+operators_after_others-returns-in_default-clause-derives t c = λ is.
+    (0, told (subst IsSome (sym c.arm.ensures.told) c.missing.ensures.tells))
 
 pub some-returns-clause-derives : goal.some-returns-clause-derives
 some-returns-clause-derives t c = λ is.
@@ -260,4 +264,4 @@ node_in-returns-in-Choice-clause-derives t c =
 pub node_in-returns-in-Operators-clause-derives : goal.node_in-returns-in-Operators-clause-derives
 node_in-returns-in-Operators-clause-derives t c =
     let is : part_at c.args.rule.now.table.now.rows.now c.args.row ≡ parts.Operators c.in-Operators.end = cc in
-    as_part (c.climb.ensures.derives is).1 (λ d. operators is d)
+    as_part (c.operators_node.ensures.derives is).1 (λ d. operators is d)

@@ -34,11 +34,20 @@ decreases-call l = 16 * (65536 * l.rule.now.depth) + 11
 abbrev pub decreases-inner_operand : goal.decreases-inner_operand
 decreases-inner_operand l = 16 * (65536 * l.rule.now.depth) + 12
 
+abbrev pub decreases-called_operators : goal.decreases-called_operators
+decreases-called_operators l = 16 * (65536 * l.rule.now.depth + (65536 - l.row)) + 10
+
 abbrev pub decreases-operators : goal.decreases-operators
 decreases-operators l = 16 * (65536 * l.rule.now.depth + (65536 - l.row)) + 7
 
+abbrev pub decreases-operators_after_others : goal.decreases-operators_after_others
+decreases-operators_after_others l = 16 * (65536 * l.rule.now.depth + (65536 - l.row)) + 6
+
+abbrev pub decreases-operators_node : goal.decreases-operators_node
+decreases-operators_node l = 16 * (65536 * l.rule.now.depth + (65536 - l.row)) + 7
+
 abbrev pub decreases-climb : goal.decreases-climb
-decreases-climb l = 16 * (65536 * l.rule.now.depth + (65536 - l.row)) + 6
+decreases-climb l = 16 * (65536 * l.rule.now.depth + (65536 - l.row)) + 5
 
 abbrev pub decreases-operand : goal.decreases-operand
 decreases-operand l = 16 * (65536 * l.rule.now.depth + (65536 - l.row)) + 5
@@ -106,9 +115,6 @@ decreases-inner_node l = 16 * (65536 * l.rule.now.depth + (65536 - l.row)) + 8
 
 abbrev pub decreases-node_in : goal.decreases-node_in
 decreases-node_in l = 16 * (65536 * l.rule.now.depth + (65536 - l.row)) + 8
-
-abbrev pub decreases-whole : goal.decreases-whole
-decreases-whole l = 16 * (65536 * l.rule.now.depth + (65536 - l.row)) + 7
 
 abbrev pub decreases-choice_after_others : goal.decreases-choice_after_others
 decreases-choice_after_others l = 16 * (65536 * l.rule.now.depth + (65536 - l.arms.start)) + 15

@@ -21,7 +21,7 @@ loop-at-preserved-else-takes c = (
 )
 
 pub returns-then-takes-clause-told : goal.returns-then-takes-clause-told
-returns-then-takes-clause-told c = c.takes.ensures ∙ c.loop-at.invariant.2
+returns-then-takes-clause-told c = c.takes.ensures ∙ (c.loop-at.invariant.2 ∙ c.symbol-symbol.ensures)
 
 pub returns-clause-told : goal.returns-clause-told
-returns-clause-told c = c.loop-at.invariant.2
+returns-clause-told c = c.loop-at.invariant.2 ∙ c.symbol-symbol.ensures
