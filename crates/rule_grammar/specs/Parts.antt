@@ -11,22 +11,22 @@ part_by tag end number =
     else if tag == 2 then Word number
     else if tag == 3 then Class number
     else if tag == 4 then Name end number
-    else if tag == 5 then Node end number
-    else if tag == 6 then Becomes number
-    else if tag == 7 then Choice end
-    else if tag == 8 then Arm end
-    else if tag == 9 then Optional end
-    else if tag == 10 then Repeat end
-    else if tag == 11 then Items end number
-    else if tag == 12 then Call number end
-    else if tag == 13 then Operators end
-    else if tag == 14 then Operand end number
-    else if tag == 15 then Tail end number number
-    else if tag == 16 then Tail end number (number - 1)
-    else if tag == 17 then Tail end number 65535
-    else if tag == 18 then Once end
-    else if tag == 19 then Is end
-    else if tag == 20 then Guard end number
+    else if tag == 5 then Becomes number
+    else if tag == 6 then Call number end
+    else if tag == 7 then Operand end number
+    else if tag == 8 then Guard end number
+    else if tag == 9 then Node end number
+    else if tag == 10 then Choice end
+    else if tag == 11 then Arm end
+    else if tag == 12 then Optional end
+    else if tag == 13 then Repeat end
+    else if tag == 14 then Once end
+    else if tag == 15 then Items end number
+    else if tag == 16 then Operators end
+    else if tag == 17 then Tail end number number
+    else if tag == 18 then Tail end number (number - 1)
+    else if tag == 19 then Tail end number 65535
+    else if tag == 20 then Is end
     else Nothing
 
 abbrev pub part_of : List ℕ → Part

@@ -57,7 +57,7 @@ pub(crate) fn beyond(numbers: &[u16; 8], row: u16) -> u16
     ensures is { result ≡ next_of row (part_of numbers.now) }
 {
     match numbers[0] % 256 {
-        5 | 7 | 8 | 9 | 10 | 11 | 13 | 15 | 16 | 17 | 18 | 19 => after(row, numbers[1]),
+        9 | 10 | 11 | 12 | 13 | 14 | 15 | 16 | 17 | 18 | 19 | 20 => after(row, numbers[1]),
         _ => row + 1,
     }
 }
@@ -88,32 +88,32 @@ pub(crate) fn part_of(row: &[u16; 8]) -> Part
             kind: SyntaxKind(end),
             set: number,
         },
-        5 => Part::Node { end, kind },
-        6 => Part::Becomes { kind },
-        7 => Part::Choice { end },
-        8 => Part::Arm { end },
-        9 => Part::Optional { end },
-        10 => Part::Repeat { end },
-        11 => Part::List {
-            end,
-            separator: kind,
-        },
-        12 => Part::Call { start: number, end },
-        13 => Part::Operators { end },
-        14 => Part::Operand {
+        5 => Part::Becomes { kind },
+        6 => Part::Call { start: number, end },
+        7 => Part::Operand {
             operators: end,
             floor: number,
         },
-        // An operator that associates, one that doesn't, and one that nothing stands on the right of.
-        15 => tail(end, number, number),
-        16 => tail(end, number, number.saturating_sub(1)),
-        17 => tail(end, number, u16::MAX),
-        18 => Part::Some { end },
-        19 => Part::Is { end },
-        20 => Part::Guard {
+        8 => Part::Guard {
             first: end,
             next: number,
         },
+        9 => Part::Node { end, kind },
+        10 => Part::Choice { end },
+        11 => Part::Arm { end },
+        12 => Part::Optional { end },
+        13 => Part::Repeat { end },
+        14 => Part::Some { end },
+        15 => Part::List {
+            end,
+            separator: kind,
+        },
+        16 => Part::Operators { end },
+        // An operator that associates, one that doesn't, and one that nothing stands on the right of.
+        17 => tail(end, number, number),
+        18 => tail(end, number, number.saturating_sub(1)),
+        19 => tail(end, number, u16::MAX),
+        20 => Part::Is { end },
         _ => Part::Nothing,
     }
 }

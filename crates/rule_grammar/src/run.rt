@@ -68,6 +68,7 @@ fn step(rule: &Open<'_>, row: u16, part: Part, told: &mut Told, p: &mut Parser<'
 }
 
 /// A node around what is in a row, unless that can't begin at the position.
+#[inline(always)]
 #[cycle(run)]
 fn inner_node(
     rule: &Open<'_>,
@@ -93,6 +94,7 @@ fn inner_node(
 }
 
 /// A node around some rows.
+#[inline(always)]
 #[cycle(run)]
 fn node(
     rule: &Open<'_>,
@@ -146,7 +148,7 @@ fn choice_after_others(rule: &Open<'_>, row: u16, arms: Block, told: &mut Told, 
     }
 }
 
-/// What is in a row.
+/// What is in a row. Often it is one call.
 #[inline(always)]
 #[cycle(run)]
 fn inner(rule: &Open<'_>, row: u16, end: u16, told: &mut Told, p: &mut Parser<'_>)
@@ -160,7 +162,12 @@ fn inner(rule: &Open<'_>, row: u16, end: u16, told: &mut Told, p: &mut Parser<'_
         start: row + 1,
         end,
     };
-    block(rule, rows, told, p);
+    match rule.table.part(rows.start) {
+        Part::Call { start, end } if rule.table.is_one(rows) => {
+            call(rule, rows.start, Block { start, end }, told, p)
+        }
+        _ => block(rule, rows, told, p),
+    }
 }
 
 /// What is in a row, if it stands at the position.
@@ -249,7 +256,24 @@ fn call(rule: &Open<'_>, row: u16, rows: Block, told: &mut Told, p: &mut Parser<
     if rule.is_deepest() {
         let _ = too_deep(rule, row, told, p);
     } else {
-        block(&rule.called(row), rows, told, p);
+        called(&rule.called(row), rows, told, p);
+    }
+}
+
+/// The same, where it is called. Mostly it is one node.
+#[inline(always)]
+#[cycle(run)]
+fn called(rule: &Open<'_>, rows: Block, told: &mut Told, p: &mut Parser<'_>)
+    requires { IsSound p.old }
+    ensures adds { AddsSome p.old p.new }
+    ensures derives { Derived (text_of rule.now.table.now p.old) (block rows.start rows.end) told.old.place told.new.place p.old.position p.new.position }
+    ensures counts { Counts told.old.place told.new.place p.old p.new }
+{
+    match rule.table.part(rows.start) {
+        Part::Node { end, kind } if rule.table.is_one(rows) => {
+            inner_node(rule, rows.start, end, kind, told, p)
+        }
+        _ => block(rule, rows, told, p),
     }
 }
 

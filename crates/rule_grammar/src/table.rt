@@ -27,17 +27,17 @@ use squawk_parser::{SyntaxKind, TokenSet};
 /// | 1 | a token of a kind, or the tokens of a composite one |
 /// | 2 | an identifier whose contextual kind is in a set |
 /// | 3, 4 | a token whose kind is in a set; the same, which gets the kind of number 1 |
-/// | 5, 6 | a node of a kind; the kind that the node around it gets |
-/// | 7, 8 | a choice of the arms in it; an arm |
-/// | 9, 10 | what is in it, or nothing; any number of times |
-/// | 11 | what is in it, once or more, with a separator |
-/// | 12 | a call of the rule from the row of number 2 up to that of number 1 |
-/// | 13 | an operand, one of its arms, each a node, and the operators after it, which stand in it, too |
-/// | 14 | an operand of an operator: the row of the operators in number 1, their least level in number 2 |
-/// | 15, 16, 17 | an operator of a level: one that associates, one that doesn't, one without a right operand |
-/// | 18 | what is in it, once or more |
-/// | 19 | the node before has one of the kinds that the rows in it name, each as the part 6 does |
-/// | 20 | a guard, with the sets of the numbers 1 and 2 |
+/// | 5 | the kind that the node around it gets |
+/// | 6 | a call of the rule from the row of number 2 up to that of number 1 |
+/// | 7 | an operand of an operator: the row of the operators in number 1, their least level in number 2 |
+/// | 8 | a guard, with the sets of the numbers 1 and 2 |
+/// | 9 | a node of a kind |
+/// | 10, 11 | a choice of the arms in it; an arm |
+/// | 12, 13, 14 | what is in it, or nothing; any number of times; once or more |
+/// | 15 | what is in it, once or more, with a separator |
+/// | 16 | an operand, one of its arms, each a node, and the operators after it, which stand in it, too |
+/// | 17, 18, 19 | an operator of a level: one that associates, one that doesn't, one without a right operand |
+/// | 20 | the node before has one of the kinds that the rows in it name, each as the part 5 does |
 ///
 /// Any other part is nothing.
 ///

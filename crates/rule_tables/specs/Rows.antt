@@ -158,7 +158,7 @@ AreRows v parts rows = ListsSome (row_at v parts) (length parts) rows
 
 -- the number 0 of an operator
 abbrev pub tail_tag : ℕ → ℕ → ℕ
-tail_tag level top = if top == level then 15 else if nat_lt top level then 16 else 17
+tail_tag level top = if top == level then 17 else if nat_lt top level then 18 else 19
 
 -- whether the numbers of a row can say all of it
 abbrev pub is_exact : row.Part → Bool

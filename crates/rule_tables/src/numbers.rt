@@ -141,24 +141,24 @@ fn part_numbers(row: &Row) -> [u16; 3]
         Row::Word { set } => [2, 0, *set],
         Row::Class { set } => [3, 0, *set],
         Row::Name { kind, set } => [4, kind.0, *set],
-        Row::Node { end, kind } => [5, *end, kind.0],
-        Row::Becomes { kind } => [6, 0, kind.0],
-        Row::Choice { end } => [7, *end, 0],
-        Row::Arm { end } => [8, *end, 0],
-        Row::Optional { end } => [9, *end, 0],
-        Row::Repeat { end } => [10, *end, 0],
-        Row::List { end, separator } => [11, *end, separator.0],
-        Row::Call { start, end } => [12, *end, *start],
-        Row::Operators { end } => [13, *end, 0],
-        Row::Operand { operators, floor } => [14, *operators, *floor],
+        Row::Becomes { kind } => [5, 0, kind.0],
+        Row::Call { start, end } => [6, *end, *start],
+        Row::Operand { operators, floor } => [7, *operators, *floor],
+        Row::Guard { first, next } => [8, *first, *next],
+        Row::Node { end, kind } => [9, *end, kind.0],
+        Row::Choice { end } => [10, *end, 0],
+        Row::Arm { end } => [11, *end, 0],
+        Row::Optional { end } => [12, *end, 0],
+        Row::Repeat { end } => [13, *end, 0],
+        Row::Some { end } => [14, *end, 0],
+        Row::List { end, separator } => [15, *end, separator.0],
+        Row::Operators { end } => [16, *end, 0],
         Row::Tail {
             end,
             level,
             ceiling,
         } => [tail_number(*level, *ceiling), *end, *level],
-        Row::Some { end } => [18, *end, 0],
-        Row::Is { end } => [19, *end, 0],
-        Row::Guard { first, next } => [20, *first, *next],
+        Row::Is { end } => [20, *end, 0],
     }
 }
 
@@ -166,10 +166,10 @@ fn tail_number(level: u16, ceiling: u16) -> u16
     ensures { result ≡ tail_tag level ceiling }
 {
     if ceiling == level {
-        15
-    } else if ceiling < level {
-        16
-    } else {
         17
+    } else if ceiling < level {
+        18
+    } else {
+        19
     }
 }

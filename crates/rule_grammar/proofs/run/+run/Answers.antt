@@ -1,4 +1,4 @@
-use Rattle.std.proofs.Common.{arith, sym, subst, ap, ◌≡◌, ◌∙◌, ℕ, IsSome}
+use Rattle.std.proofs.Common.{arith, sym, subst, ap, ◌≡◌, ◌+◌, ◌∙◌, ℕ, IsSome}
 use Rattle.std.proofs.lemmas.Bool.Decides.{nat_tests}
 use Rattle.squawk_parser.proofs.SomeSteps.{none_some}
 use Rattle.rule_grammar.specs.Derivations.{Counts, Derived, Derives, is_silent, text_of}
@@ -7,7 +7,7 @@ use Rattle.rule_grammar.specs.Derivations.Span.{rows, single}
 use Rattle.rule_grammar.specs.Parts.{part_at}
 use Rattle.rule_grammar.specs.declared.part.Part.TheVariants as parts
 use Rattle.rule_grammar.proofs.Counted.{counts_added, counts_completed, counts_preceded, counts_some, counts_then}
-use Rattle.rule_grammar.proofs.Derived.{after_error, as_part, both_parts, from_place, known, moved, of_kind, one_more, only_in, quiet, some_then, still, still_before, told}
+use Rattle.rule_grammar.proofs.Derived.{after_error, alone_in, as_part, both_parts, from_place, known, moved, of_kind, one_more, only_in, quiet, some_then, still, still_before, told}
 use Rattle.rule_grammar.proofs.run.+run.Goals as goal
 
 -- ---- rows
@@ -146,6 +146,16 @@ choice-returns-in-Some-clause-derives t c = from_place c.arm.ensures.told (as_pa
 
 pub choice_after_others-returns-in-Some-clause-derives : goal.choice_after_others-returns-in-Some-clause-derives
 choice_after_others-returns-in-Some-clause-derives t c = after_error c.missing.ensures.tells (from_place c.arm.ensures.told c.block.ensures.derives)
+
+pub called-returns-in-Node-clause-derives : goal.called-returns-in-Node-clause-derives
+called-returns-in-Node-clause-derives t c =
+    let is : part_at c.args.rule.now.table.now.rows.now c.args.rows.start ≡ parts.Node c.in-Node.end c.in-Node.kind = cc in
+    alone_in (as_part c.inner_node.ensures.derives (λ d. node is d)) (c.is_one.ensures.only cc)
+
+pub inner-returns-in-Call-clause-derives : goal.inner-returns-in-Call-clause-derives
+inner-returns-in-Call-clause-derives t c =
+    let is : part_at c.args.rule.now.table.now.rows.now (c.args.row + 1) ≡ parts.Call c.in-Call.start c.in-Call.end = cc in
+    alone_in (as_part c.call.ensures.derives (λ d. call is d)) (c.is_one.ensures.only cc)
 
 pub repeat-loop-p-init : goal.repeat-loop-p-init
 repeat-loop-p-init t c =

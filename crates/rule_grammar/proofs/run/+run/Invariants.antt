@@ -29,7 +29,10 @@ abbrev pub decreases-list : goal.decreases-list
 decreases-list l = 16 * (65536 * l.rule.now.depth + (65536 - l.row)) + 7
 
 abbrev pub decreases-call : goal.decreases-call
-decreases-call l = 16 * (65536 * l.rule.now.depth) + 11
+decreases-call l = 16 * (65536 * l.rule.now.depth) + 12
+
+abbrev pub decreases-called : goal.decreases-called
+decreases-called l = 16 * (65536 * l.rule.now.depth + (65536 - l.rows.start)) + 11
 
 abbrev pub decreases-inner_operand : goal.decreases-inner_operand
 decreases-inner_operand l = 16 * (65536 * l.rule.now.depth) + 12
