@@ -2,10 +2,13 @@
 use Rattle.std.specs.Prelude.{◌≡◌, ◌≢◌, ℕ, ◌+◌, ◌≤◌, Bool, true, false, Option, None, [], IsSome}
 use Rattle.squawk_kinds.specs.Kinds.{EOF}
 use Rattle.squawk_parser.specs.SomeSteps.{AddsSome}
-use Rattle.std.proofs.Common.{sym, subst, ap, inl, inr, ◌∙◌}
+use Rattle.std.proofs.Common.{arith, sym, subst, ap, inl, inr, ◌∙◌, ◌⊎◌}
+use Rattle.std.proofs.Math.Dec.{eqb}
+use Rattle.std.proofs.lemmas.Bool.Decides.{eqb_tells}
 use Rattle.squawk_parser.specs.State.{State, Keeps, kind_at}
 use Rattle.rule_grammar.specs.declared.table.Table.{Table}
-use Rattle.rule_grammar.specs.Derivations.{Text, text_of, Span, Derives, Derived, EatsKind, IfClean, IsOnly, IsSeparated, is_silent, kind_of, next_of}
+use Rattle.rule_grammar.specs.Derivations.{Text, text_of, Span, Derives, Derived, EatsKind, IfClean, IsEnd, IsOnly, IsSeparated, is_silent, kind_of, next_of}
+use Rattle.rule_grammar.specs.Derivations.IsEnd.{itself, before_kind}
 use Rattle.rule_grammar.specs.Derivations.IsOnly.{alone, guarded}
 use Rattle.rule_grammar.specs.Derivations.Derives.{none, more, all, silent, token, composite, next}
 use Rattle.rule_grammar.specs.Derivations.Span.{block, items, rows, single}
@@ -102,6 +105,20 @@ module _ {x : Text} where
   -- one part is all that is in some rows
   pub alone_in : {k end : ℕ} {t u : Option ℕ} {i j : ℕ} → Derived x (single k) t u i j → end ≤ next_of k (part_at x.rows k) → Derived x (block k end) t u i j
   alone_in d to = as_part d (λ one. all to (more none one))
+
+  -- also without a part at the end that names a kind
+  up_to : {start to end i j : ℕ} → IsEnd x.rows to end → Derives x (block start to) i j → Derives x (block start end) i j
+  up_to itself d = d
+  up_to {start} {to} {i = i} {j = j} (before_kind is) (all {k = k} le d) = at_end (eqb_tells to k)
+    where
+      at_end : ((eqb to k ≡ true) × (to ≡ k)) ⊎ ((eqb to k ≡ false) × (to ≢ k)) → Derives x (block start (to + 1)) i j
+      at_end (inl here) =
+          let n : next_of to (part_at x.rows to) ≡ to + 1 = ap (next_of to) is in
+          all (omega (arith, n)) (more (subst (λ (m : ℕ). Derives x (rows start m) i j) (sym here.1) d) (silent (ap is_silent is)))
+      at_end (inr later) = all (omega (arith, le, later.1)) d
+
+  pub to_end : {k to end : ℕ} {t u : Option ℕ} {i j : ℕ} → IsEnd x.rows to end → Derived x (block k to) t u i j → Derived x (block k end) t u i j
+  to_end is d = as_part d (λ e. up_to is e)
 
   -- also after a guard
   pub only_in : {start end k i j : ℕ} → IsOnly x.rows start end k → Derives x (single k) i j → Derives x (block start end) i j

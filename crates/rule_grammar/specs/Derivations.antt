@@ -96,6 +96,11 @@ pub data IsOnly (list : List (List ℕ)) (start end : ℕ) : ℕ → Type 0 wher
   alone : end ≤ next_of start (part_at list start) → IsOnly list start end start
   guarded : {first next : ℕ} → part_at list start ≡ Guard first next → end ≤ next_of (start + 1) (part_at list (start + 1)) → IsOnly list start end (start + 1)
 
+-- a row that some rows are parsed up to, in place of another: the same, or the one before it, which names a kind
+pub data IsEnd (list : List (List ℕ)) : ℕ → ℕ → Type 0 where
+  itself : {end : ℕ} → IsEnd list end end
+  before_kind : {k kind : ℕ} → part_at list k ≡ Becomes kind → IsEnd list k (k + 1)
+
 -- ---- derivations
 
 -- what derives tokens: rows one after another up to one; a part; a block of rows; an arm of those in a block; a block any

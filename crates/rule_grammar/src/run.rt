@@ -1,6 +1,6 @@
 //! The interpreter: one for all rules.
 ghost use Rattle.std.specs.Prelude.{◌≡◌, ◌+◌, ◌≤◌, ◌<◌, ℕ, None, true};
-ghost use Rattle.rule_grammar.specs.Derivations.{Counts, Derived, IsArm, text_of};
+ghost use Rattle.rule_grammar.specs.Derivations.{Counts, Derived, IsArm, IsEnd, text_of};
 ghost use Rattle.rule_grammar.specs.Derivations.Span.{block, choice, items, operation, single, turns};
 ghost use Rattle.rule_grammar.specs.Parts.{part_at};
 ghost use Rattle.squawk_parser.specs.SomeSteps.{AddsSome, AddsSomeNode};
@@ -85,32 +85,53 @@ fn inner_node(
     ensures counts { Counts told.old.place told.new.place p.old p.new }
 {
     if can_begin(rule, row, told, p) {
-        let rows = Block {
-            start: row + 1,
-            end,
-        };
-        let _ = node(rule, rows, kind, told, p);
+        let _ = node(rule, row, end, kind, told, p);
     }
 }
 
-/// A node around some rows.
+/// A node around what is in a row.
 #[inline(always)]
 #[cycle(run)]
 fn node(
     rule: &Open<'_>,
-    rows: Block,
+    row: u16,
+    end: u16,
     kind: SyntaxKind,
     told: &mut Told,
     p: &mut Parser<'_>,
 ) -> CompletedMarker
+    requires { row < 65535 }
     ensures adds { AddsSomeNode result p.old p.new }
-    ensures derives { Derived (text_of rule.now.table.now p.old) (block rows.start rows.end) told.old.place told.new.place p.old.position p.new.position }
+    ensures derives { Derived (text_of rule.now.table.now p.old) (block (row + 1) end) told.old.place told.new.place p.old.position p.new.position }
     ensures counts { Counts told.old.place told.new.place p.old p.new }
 {
-    let outer = told.enter(kind);
+    let inside = rule.table.inside(row, end, kind);
+    let outer = told.enter(inside.kind);
     let node = p.start();
-    block(rule, rows, told, p);
+    let rows = Block {
+        start: row + 1,
+        end: inside.end,
+    };
+    parts(rule, rows, end, told, p);
     node.complete(p, told.leave(outer))
+}
+
+/// The parts in some rows, which are all of those up to `end` that have to be parsed. Often it is one token.
+#[inline(always)]
+#[cycle(run)]
+fn parts(rule: &Open<'_>, rows: Block, end: u16, told: &mut Told, p: &mut Parser<'_>)
+    requires sound { IsSound p.old }
+    requires all { IsEnd rule.now.table.now.rows.now rows.end end }
+    ensures adds { AddsSome p.old p.new }
+    ensures derives { Derived (text_of rule.now.table.now p.old) (block rows.start end) told.old.place told.new.place p.old.position p.new.position }
+    ensures counts { Counts told.old.place told.new.place p.old p.new }
+{
+    match rule.table.part(rows.start) {
+        Part::Token { kind } if rule.table.is_one(rows) => {
+            token(rule, rows.start, kind, told, p)
+        }
+        _ => block(rule, rows, told, p),
+    }
 }
 
 /// The arm that stands at the position, also after an error.
@@ -452,13 +473,7 @@ fn node_in(rule: &Open<'_>, row: u16, told: &mut Told, p: &mut Parser<'_>) -> Co
     ensures counts { Counts told.old.place told.new.place p.old p.new }
 {
     match rule.table.part(row) {
-        Part::Node { end, kind } => {
-            let inner = Block {
-                start: row + 1,
-                end,
-            };
-            node(rule, inner, kind, told, p)
-        }
+        Part::Node { end, kind } => node(rule, row, end, kind, told, p),
         Part::Call { start, end } => called_node(rule, row, Block { start, end }, told, p),
         Part::Choice { end } => operand(rule, row, end, told, p),
         Part::Operators { end } => operators_node(rule, row, end, told, p),
@@ -508,7 +523,28 @@ fn called_node(
     if rule.is_deepest() {
         too_deep(rule, row, told, p)
     } else {
-        one_node(&rule.called(row), rows, told, p)
+        node_called(&rule.called(row), rows, told, p)
+    }
+}
+
+/// The same, where it is called. Mostly the node stands there.
+#[inline(always)]
+#[cycle(run)]
+fn node_called(
+    rule: &Open<'_>,
+    rows: Block,
+    told: &mut Told,
+    p: &mut Parser<'_>,
+) -> CompletedMarker
+    ensures adds { AddsSomeNode result p.old p.new }
+    ensures derives { Derived (text_of rule.now.table.now p.old) (block rows.start rows.end) told.old.place told.new.place p.old.position p.new.position }
+    ensures counts { Counts told.old.place told.new.place p.old p.new }
+{
+    match rule.table.part(rows.start) {
+        Part::Node { end, kind } if rule.table.is_one(rows) => {
+            node(rule, rows.start, end, kind, told, p)
+        }
+        _ => one_node(rule, rows, told, p),
     }
 }
 

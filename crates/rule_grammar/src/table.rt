@@ -12,7 +12,8 @@ use squawk_parser::{SyntaxKind, TokenSet};
 ///
 /// | number of a row | meaning |
 /// |---|---|
-/// | 0 | which part it is, as below, 256 more if its rule may end after it, 512 more if it is an arm with a guard |
+/// | 0 | which part it is, as below, 256 more if its rule may end after it, 512 more if it is an arm with a guard, 1024 |
+/// |   | more if it is a node and the last part in it is one of number 5 |
 /// | 1 | the row after the last one in it |
 /// | 2 | its kind, set or level, or the row of the rule that it calls |
 /// | 3 | the set of kinds that it can begin with |

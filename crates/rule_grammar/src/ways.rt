@@ -1,6 +1,6 @@
 //! Ways to go on: the arms of a choice, and operators.
 ghost use Rattle.std.specs.Prelude.{◌≡◌, ◌<◌, ◌≤◌, ◌+◌, IfSome, true};
-ghost use Rattle.rule_grammar.specs.Derivations.{IsArm, IsOnly, IsTail, next_of};
+ghost use Rattle.rule_grammar.specs.Derivations.{IsArm, IsEnd, IsOnly, IsTail, next_of};
 ghost use Rattle.rule_grammar.specs.Parts.{part_at};
 
 use crate::guard::Guard;
@@ -15,6 +15,13 @@ pub(crate) struct Operator {
     pub(crate) block: Block,
     pub(crate) level: u16,
     pub(crate) ceiling: u16,
+}
+
+/// What is in a node: the row that it is parsed up to, and the kind of the node, unless a part before names another.
+#[derive(Clone, Copy)]
+pub(crate) struct Inside {
+    pub(crate) end: u16,
+    pub(crate) kind: SyntaxKind,
 }
 
 impl Table<'_> {
@@ -50,7 +57,7 @@ impl Table<'_> {
     #[inline(always)]
     fn has_guard(&self, arm: u16) -> bool {
         match self.row(arm) {
-            Some(numbers) => numbers[0] >= 512,
+            Some(numbers) => numbers[0] % 1024 >= 512,
             None => false,
         }
     }
@@ -73,6 +80,29 @@ impl Table<'_> {
             }
         }
         false
+    }
+
+    /// What is in a node. Where the last part in it names its kind, that part needs no turn.
+    #[inline(always)]
+    pub(crate) fn inside(&self, row: u16, end: u16, kind: SyntaxKind) -> Inside
+        ensures { IsEnd self.now.rows.now result.end end }
+    {
+        if end > 0 && self.is_named(row) {
+            let last = end - 1;
+            if let Part::Becomes { kind } = self.part(last) {
+                return Inside { end: last, kind };
+            }
+        }
+        Inside { end, kind }
+    }
+
+    /// Whether the last part in a node names its kind.
+    #[inline(always)]
+    fn is_named(&self, node: u16) -> bool {
+        match self.row(node) {
+            Some(numbers) => numbers[0] >= 1024,
+            None => false,
+        }
     }
 
     /// The row of the part that is alone in some rows, or after a guard.

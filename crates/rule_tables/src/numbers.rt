@@ -40,21 +40,23 @@ pub(crate) fn numbers_of(
     let follows = looks.sets.number(known.follows)?;
     let later = looks.sets.number(later(&known, row))?;
     let look = look(looks, fork, &known, row)?;
-    let part = with_end(part, known.ends, has_guard(fork, row));
+    let part = flagged(part, known.ends, has_guard(fork, row), is_named(fork, row));
     Ok([part, end, number, begins, follows, later, look, message])
 }
 
-/// The number 0 of a row: 256 more if the rule may end after it, and 512 more if it is an arm with a guard.
-fn with_end(part: u16, ends: bool, has_guard: bool) -> u16
+/// The number 0 of a row: 256 more if the rule may end after it, 512 more if it is an arm with a guard, and 1024 more
+/// if it is a node and the last part in it names its kind.
+fn flagged(part: u16, ends: bool, has_guard: bool, is_named: bool) -> u16
     requires { part < 21 }
     ensures { result % 256 ≡ part }
 {
-    match (ends, has_guard) {
-        (false, false) => part,
-        (true, false) => part + 256,
-        (false, true) => part + 512,
-        (true, true) => part + 768,
-    }
+    let ends = if ends { 256 } else { 0 };
+    let kept = match (has_guard, is_named) {
+        (false, false) => 0,
+        (true, false) => 512,
+        (_, true) => 1024,
+    };
+    part + ends + kept
 }
 
 fn has_guard(fork: &Fork<'_>, row: &Row) -> bool {
@@ -62,6 +64,18 @@ fn has_guard(fork: &Fork<'_>, row: &Row) -> bool {
         Row::Arm { .. } => {
             let first = fork.map.rows.get(fork.part.saturating_add(1));
             matches!(first, Some(Row::Guard { .. }))
+        }
+        _ => false,
+    }
+}
+
+/// Whether the last part in a node names its kind.
+fn is_named(fork: &Fork<'_>, row: &Row) -> bool {
+    match row {
+        Row::Node { end, .. } => {
+            let last = usize::from(*end).saturating_sub(1);
+            matches!(fork.map.rows.get(last), Some(Row::Becomes { .. }))
+                && fork.map.outer(last) == Some(fork.part)
         }
         _ => false,
     }

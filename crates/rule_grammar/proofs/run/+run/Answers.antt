@@ -7,7 +7,7 @@ use Rattle.rule_grammar.specs.Derivations.Span.{rows, single}
 use Rattle.rule_grammar.specs.Parts.{part_at}
 use Rattle.rule_grammar.specs.declared.part.Part.TheVariants as parts
 use Rattle.rule_grammar.proofs.Counted.{counts_added, counts_completed, counts_preceded, counts_some, counts_then}
-use Rattle.rule_grammar.proofs.Derived.{after_error, alone_in, as_part, both_parts, from_place, known, moved, of_kind, one_more, only_in, quiet, some_then, still, still_before, told}
+use Rattle.rule_grammar.proofs.Derived.{after_error, alone_in, as_part, both_parts, from_place, known, moved, of_kind, one_more, only_in, quiet, some_then, still, still_before, to_end, told}
 use Rattle.rule_grammar.proofs.run.+run.Goals as goal
 
 -- ---- rows
@@ -137,9 +137,22 @@ step-returns-in-Tail-clause-derives t c =
 
 pub node-returns-clause-counts : goal.node-returns-clause-counts
 node-returns-clause-counts t c =
-    let inner = subst (λ v. Counts v c.block.new.told.place c.start-node.new.self c.block.new.p) c.enter-outer.ensures c.block.ensures.counts in
+    let inner = subst (λ v. Counts v c.parts.new.told.place c.start-node.new.self c.parts.new.p) c.enter-outer.ensures c.parts.ensures.counts in
     let whole = counts_then (counts_added c.start-node.ensures.opens.some) (counts_then inner (counts_completed c.complete.ensures.completes)) in
     subst (λ v. Counts c.args.told.now.place v c.args.p.now c.complete.new.p) (sym c.leave.ensures.place) whole
+
+pub parts-returns-in-Token-clause-derives : goal.parts-returns-in-Token-clause-derives
+parts-returns-in-Token-clause-derives t c =
+    let is : part_at c.args.rule.now.table.now.rows.now c.args.rows.start ≡ parts.Token c.in-Token.kind = cc in
+    to_end c.requires.all (alone_in (known c.token.ensures.told (λ f. of_kind c.args.rule.now.table.now c.args.p.now c.token.new.p is f)) (c.is_one.ensures.only cc))
+
+pub parts-returns-in_default-clause-derives : goal.parts-returns-in_default-clause-derives
+parts-returns-in_default-clause-derives t c = to_end c.requires.all c.block.ensures.derives
+
+pub node_called-returns-in-Node-clause-derives : goal.node_called-returns-in-Node-clause-derives
+node_called-returns-in-Node-clause-derives t c =
+    let is : part_at c.args.rule.now.table.now.rows.now c.args.rows.start ≡ parts.Node c.in-Node.end c.in-Node.kind = cc in
+    alone_in (as_part c.node.ensures.derives (λ d. node is d)) (c.is_one.ensures.only cc)
 
 pub choice-returns-in-Some-clause-derives : goal.choice-returns-in-Some-clause-derives
 choice-returns-in-Some-clause-derives t c = from_place c.arm.ensures.told (as_part c.block.ensures.derives (λ d. arm c.in-Some.ensures.is d))

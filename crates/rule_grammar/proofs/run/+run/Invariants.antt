@@ -14,7 +14,13 @@ abbrev pub decreases-step : goal.decreases-step
 decreases-step l = 16 * (65536 * l.rule.now.depth + (65536 - l.row)) + 9
 
 abbrev pub decreases-node : goal.decreases-node
-decreases-node l = 16 * (65536 * l.rule.now.depth + (65536 - l.rows.start)) + 11
+decreases-node l = 16 * (65536 * l.rule.now.depth + (65536 - l.row)) + 7
+
+abbrev pub decreases-parts : goal.decreases-parts
+decreases-parts l = 16 * (65536 * l.rule.now.depth + (65536 - l.rows.start)) + 11
+
+abbrev pub decreases-node_called : goal.decreases-node_called
+decreases-node_called l = 16 * (65536 * l.rule.now.depth + (65536 - l.rows.start)) + 10
 
 abbrev pub decreases-choice : goal.decreases-choice
 decreases-choice l = 16 * (65536 * l.rule.now.depth + (65536 - l.row)) + 7
@@ -59,7 +65,7 @@ abbrev pub decreases-one_node : goal.decreases-one_node
 decreases-one_node l = 16 * (65536 * l.rule.now.depth + (65536 - l.rows.start)) + 9
 
 abbrev pub decreases-called_node : goal.decreases-called_node
-decreases-called_node l = 16 * (65536 * l.rule.now.depth) + 10
+decreases-called_node l = 16 * (65536 * l.rule.now.depth) + 11
 
 abbrev pub decreases-some : goal.decreases-some
 decreases-some l = 16 * (65536 * l.rule.now.depth + (65536 - l.row)) + 7
