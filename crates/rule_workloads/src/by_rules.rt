@@ -50,8 +50,8 @@ const NODES: [(&str, SyntaxKind); 10] = [
     ("NOT_EXPR", NOT_EXPR),
 ];
 
-/// The rules of SELECT. A refusal counts as want of memory.
-fn made<V: Vocabulary>(alloc: Global, words: &V) -> Result<Rules, AllocError> {
+/// The rules of a text. A refusal counts as want of memory.
+fn made<V: Vocabulary>(alloc: Global, words: &V, text: &str) -> Result<Rules, AllocError> {
     let names = KeywordNames {
         words,
         tokens: &TOKENS,
@@ -59,7 +59,7 @@ fn made<V: Vocabulary>(alloc: Global, words: &V) -> Result<Rules, AllocError> {
         classes: &[],
         operators: TokenSet::EMPTY,
     };
-    match Rules::read(alloc, RULES, &names) {
+    match Rules::read(alloc, text, &names) {
         Ok(rules) => Ok(rules),
         Err(_refusal) => Err(AllocError),
     }
@@ -72,16 +72,26 @@ pub(crate) fn rules(
     text: &str,
     rounds: usize,
 ) -> Result<u64, AllocError> {
-    let rules = made(alloc, words)?;
+    let rules = made(alloc, words, RULES)?;
     parsed(alloc, words, text, &rules, rounds)
 }
 
-/// Makes the rules so many times.
+/// Makes the rules of SELECT so many times. Returns how many rows they have together.
 pub(crate) fn making(alloc: Global, words: &Keywords<'_>, count: usize) -> Result<u64, AllocError> {
-    let mut made_rules = 0u64;
+    made_often(alloc, words, RULES, count)
+}
+
+/// Makes the rules of a text so many times. Returns how many rows they have together.
+pub(crate) fn made_often(
+    alloc: Global,
+    words: &Keywords<'_>,
+    text: &str,
+    count: usize,
+) -> Result<u64, AllocError> {
+    let mut rows = 0u64;
     for _ in 0..count {
-        let rules = made(alloc, words)?;
-        made_rules = made_rules.wrapping_add(rules.table().rows.len() as u64);
+        let rules = made(alloc, words, text)?;
+        rows = rows.wrapping_add(rules.table().rows.len() as u64);
     }
-    Ok(made_rules)
+    Ok(rows)
 }

@@ -1,14 +1,18 @@
 //! SELECT statements at random, parsed by a grammar in code and by rules: `rule_workloads JOB SEED COUNT [ROUNDS]`.
 //!
 //! `code` and `rules` take one text of COUNT statements to the parse's output ROUNDS times, and print how many events
-//! were recorded, which is the same. `making` reads the rules COUNT times and makes tables of them.
+//! were recorded, which is the same. `making` reads the rules COUNT times and makes tables of them. `brackets` and
+//! `unexpected` parse COUNT opening and COUNT closing parentheses by rules; `many` and `wide` make COUNT rules, and a
+//! rule of COUNT alternatives.
 #![tactic(auto)]
 
 mod by_code;
 mod by_rules;
+mod hostile;
 mod texts;
 
-use crate::by_rules::{making, rules};
+use crate::by_rules::{made_often, making, rules};
+use crate::hostile::{many, repeated, wide};
 use crate::texts::text;
 use select_grammar::kinds::KEYWORDS;
 use squawk_keywords::Keywords;
@@ -62,6 +66,27 @@ fn do_job(alloc: Global, order: Order<'_>) -> Result<Option<u64>, AllocError> {
         "code" => Ok(Some(by_code::events(alloc, &words, text.as_str(), order.rounds)?)),
         "rules" => Ok(Some(rules(alloc, &words, text.as_str(), order.rounds)?)),
         "making" => Ok(Some(making(alloc, &words, order.count)?)),
+        "brackets" => Ok(Some(broken(alloc, &words, "(", order)?)),
+        "unexpected" => Ok(Some(broken(alloc, &words, ") ", order)?)),
+        "wide" => {
+            let text = wide(alloc, order.count)?;
+            Ok(Some(made_often(alloc, &words, text.as_str(), order.rounds)?))
+        }
+        "many" => {
+            let text = many(alloc, order.count)?;
+            Ok(Some(made_often(alloc, &words, text.as_str(), order.rounds)?))
+        }
         _ => Ok(None),
     }
+}
+
+/// How many events are recorded where a sign that often stands after SELECT.
+fn broken(
+    alloc: Global,
+    words: &Keywords<'_>,
+    sign: &str,
+    order: Order<'_>,
+) -> Result<u64, AllocError> {
+    let text = repeated(alloc, "select ", sign, order.count)?;
+    rules(alloc, words, text.as_str(), order.rounds)
 }
