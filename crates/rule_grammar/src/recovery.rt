@@ -51,12 +51,7 @@ pub(crate) fn can_begin(rule: &Open<'_>, row: u16, told: &mut Told, p: &mut Pars
 /// Whether it can begin after tokens that are skipped.
 #[cold]
 #[inline(never)]
-fn can_begin_after_others(
-    rule: &Open<'_>,
-    row: u16,
-    told: &mut Told,
-    p: &mut Parser<'_>,
-) -> bool
+fn can_begin_after_others(rule: &Open<'_>, row: u16, told: &mut Told, p: &mut Parser<'_>) -> bool
     requires { IsSound p.old }
     ensures adds { AddsSome p.old p.new }
     ensures tells { IsSome told.new.place }

@@ -135,65 +135,65 @@ step-returns-in-Tail-clause-derives t c =
 
 -- ---- nodes, choices and loops
 
-pub node-returns-clause-counts : goal.node-returns-clause-counts
-node-returns-clause-counts t c =
+pub node::node-returns-clause-counts : goal.node::node-returns-clause-counts
+node::node-returns-clause-counts t c =
     let inner = subst (λ v. Counts v c.parts.new.told.place c.start-node.new.self c.parts.new.p) c.enter-outer.ensures c.parts.ensures.counts in
     let whole = counts_then (counts_added c.start-node.ensures.opens.some) (counts_then inner (counts_completed c.complete.ensures.completes)) in
     subst (λ v. Counts c.args.told.now.place v c.args.p.now c.complete.new.p) (sym c.leave.ensures.place) whole
 
-pub parts-returns-in-Token-clause-derives : goal.parts-returns-in-Token-clause-derives
-parts-returns-in-Token-clause-derives t c =
+pub node::parts-returns-in-Token-clause-derives : goal.node::parts-returns-in-Token-clause-derives
+node::parts-returns-in-Token-clause-derives t c =
     let is : part_at c.args.rule.now.table.now.rows.now c.args.rows.start ≡ parts.Token c.in-Token.kind = cc in
     to_end c.requires.all (alone_in (known c.token.ensures.told (λ f. of_kind c.args.rule.now.table.now c.args.p.now c.token.new.p is f)) (c.is_one.ensures.only cc))
 
-pub parts-returns-in_default-clause-derives : goal.parts-returns-in_default-clause-derives
-parts-returns-in_default-clause-derives t c = to_end c.requires.all c.block.ensures.derives
+pub node::parts-returns-in_default-clause-derives : goal.node::parts-returns-in_default-clause-derives
+node::parts-returns-in_default-clause-derives t c = to_end c.requires.all c.block.ensures.derives
 
-pub node_called-returns-in-Node-clause-derives : goal.node_called-returns-in-Node-clause-derives
-node_called-returns-in-Node-clause-derives t c =
+pub node::node_called-returns-in-Node-clause-derives : goal.node::node_called-returns-in-Node-clause-derives
+node::node_called-returns-in-Node-clause-derives t c =
     let is : part_at c.args.rule.now.table.now.rows.now c.args.rows.start ≡ parts.Node c.in-Node.end c.in-Node.kind = cc in
     alone_in (as_part c.node.ensures.derives (λ d. node is d)) (c.is_one.ensures.only cc)
 
-pub choice-returns-in-Some-clause-derives : goal.choice-returns-in-Some-clause-derives
-choice-returns-in-Some-clause-derives t c = from_place c.arm.ensures.told (as_part c.block.ensures.derives (λ d. arm c.in-Some.ensures.is d))
+pub groups::choice-returns-in-Some-clause-derives : goal.groups::choice-returns-in-Some-clause-derives
+groups::choice-returns-in-Some-clause-derives t c = from_place c.arm.ensures.told (as_part c.block.ensures.derives (λ d. arm c.in-Some.ensures.is d))
 
-pub choice_after_others-returns-in-Some-clause-derives : goal.choice_after_others-returns-in-Some-clause-derives
-choice_after_others-returns-in-Some-clause-derives t c = after_error c.missing.ensures.tells (from_place c.arm.ensures.told c.block.ensures.derives)
+pub groups::choice_after_others-returns-in-Some-clause-derives : goal.groups::choice_after_others-returns-in-Some-clause-derives
+groups::choice_after_others-returns-in-Some-clause-derives t c = after_error c.missing.ensures.tells (from_place c.arm.ensures.told c.block.ensures.derives)
 
 pub called-returns-in-Node-clause-derives : goal.called-returns-in-Node-clause-derives
 called-returns-in-Node-clause-derives t c =
     let is : part_at c.args.rule.now.table.now.rows.now c.args.rows.start ≡ parts.Node c.in-Node.end c.in-Node.kind = cc in
     alone_in (as_part c.inner_node.ensures.derives (λ d. node is d)) (c.is_one.ensures.only cc)
 
-pub inner-returns-in-Call-clause-derives : goal.inner-returns-in-Call-clause-derives
-inner-returns-in-Call-clause-derives t c =
+pub groups::inner-returns-in-Call-clause-derives : goal.groups::inner-returns-in-Call-clause-derives
+groups::inner-returns-in-Call-clause-derives t c =
     let is : part_at c.args.rule.now.table.now.rows.now (c.args.row + 1) ≡ parts.Call c.in-Call.start c.in-Call.end = cc in
     alone_in (as_part c.call.ensures.derives (λ d. call is d)) (c.is_one.ensures.only cc)
 
-pub repeat-loop-p-init : goal.repeat-loop-p-init
-repeat-loop-p-init t c =
+pub groups::repeat-loop-p-init : goal.groups::repeat-loop-p-init
+groups::repeat-loop-p-init t c =
     let nothing = none_some c.args.p.now c.requires.sound in
     record { adds = nothing; derives = quiet no_turn; counts = counts_some nothing }
 
-pub list-loop-separator-init : goal.list-loop-separator-init
-list-loop-separator-init t c = record {
+pub groups::list-loop-separator-init : goal.groups::list-loop-separator-init
+groups::list-loop-separator-init t c = record {
   adds = c.inner.ensures.adds;
   derives = as_part c.inner.ensures.derives (λ d. first d);
   counts = c.inner.ensures.counts;
 }
 
-pub optional-returns-then-is_next-clause-derives : goal.optional-returns-then-is_next-clause-derives
-optional-returns-then-is_next-clause-derives t c = λ is.
+pub groups::optional-returns-then-is_next-clause-derives : goal.groups::optional-returns-then-is_next-clause-derives
+groups::optional-returns-then-is_next-clause-derives t c = λ is.
     let before = c.is_next.ensures in
     still_before before.told (as_part (moved c.args.rule.now.table.now before.adds.some.keeps c.inner.ensures.derives) (λ d. taken is d))
 
-pub optional-returns-else-is_next-clause-derives : goal.optional-returns-else-is_next-clause-derives
-optional-returns-else-is_next-clause-derives t c = λ is.
+pub groups::optional-returns-else-is_next-clause-derives : goal.groups::optional-returns-else-is_next-clause-derives
+groups::optional-returns-else-is_next-clause-derives t c = λ is.
     known c.is_next.ensures.told
     (λ f. subst (λ (m : ℕ). Derives (text_of c.args.rule.now.table.now c.args.p.now) (single c.args.row) c.args.p.now.position m) (sym f) (left_out is))
 
-pub repeat-loop-p-preserved : goal.repeat-loop-p-preserved
-repeat-loop-p-preserved t c =
+pub groups::repeat-loop-p-preserved : goal.groups::repeat-loop-p-preserved
+groups::repeat-loop-p-preserved t c =
     let so_far = c.loop-p.invariant in
     let seen = c.is_next.ensures in
     let before = some_then so_far.adds seen.adds in
@@ -203,8 +203,8 @@ repeat-loop-p-preserved t c =
       counts = counts_then so_far.counts (counts_then seen.counts c.inner.ensures.counts);
     }
 
-pub list-loop-separator-preserved : goal.list-loop-separator-preserved
-list-loop-separator-preserved t c =
+pub groups::list-loop-separator-preserved : goal.groups::list-loop-separator-preserved
+groups::list-loop-separator-preserved t c =
     let so_far = c.loop-separator.invariant in
     let seen = c.is_separated.ensures in
     let reached = some_then so_far.adds seen.adds in
@@ -218,23 +218,23 @@ list-loop-separator-preserved t c =
 
 -- ---- operators
 
-pub operand-returns-in-Some-clause-derives : goal.operand-returns-in-Some-clause-derives
-operand-returns-in-Some-clause-derives t c = from_place c.arm.ensures.told (as_part c.one_node.ensures.derives (λ d. arm c.in-Some.ensures.is d))
+pub operators::operand-returns-in-Some-clause-derives : goal.operators::operand-returns-in-Some-clause-derives
+operators::operand-returns-in-Some-clause-derives t c = from_place c.arm.ensures.told (as_part c.one_node.ensures.derives (λ d. arm c.in-Some.ensures.is d))
 
-pub operation-returns-clause-counts : goal.operation-returns-clause-counts
-operation-returns-clause-counts t c =
+pub operators::operation-returns-clause-counts : goal.operators::operation-returns-clause-counts
+operators::operation-returns-clause-counts t c =
     let judged = subst (λ v. Counts v c.associate.new.told.place c.precede-node.new.p c.associate.new.p) c.enter-outer.ensures c.associate.ensures.counts in
     let whole = counts_then (counts_preceded c.precede-node.ensures.precedes)
     (counts_then judged (counts_then c.block.ensures.counts (counts_completed c.complete.ensures.completes))) in
     subst (λ v. Counts c.args.told.now.place v c.args.p.now c.complete.new.p) (sym c.leave.ensures.place) whole
 
-pub climb-loop-operator-init : goal.climb-loop-operator-init
-climb-loop-operator-init t c =
+pub operators::climb-loop-operator-init : goal.operators::climb-loop-operator-init
+operators::climb-loop-operator-init t c =
     let first = c.one_node-left.ensures in
     record { adds = first.adds; derives = λ is. as_part first.derives (λ d. stands is (arm c.requires.is d)); counts = first.counts }
 
-pub climb-loop-operator-preserved : goal.climb-loop-operator-preserved
-climb-loop-operator-preserved t c =
+pub operators::climb-loop-operator-preserved : goal.operators::climb-loop-operator-preserved
+operators::climb-loop-operator-preserved t c =
     let table = c.args.rule.now.table.now in
     let so_far = c.loop-operator.invariant in
     let took = c.operation-left.ensures in
@@ -250,41 +250,41 @@ climb-loop-operator-preserved t c =
       counts = counts_then so_far.counts (subst (λ v. Counts v c.operation-left.new.told.place c.loop-operator.p c.operation-left.new.p) c.operator.ensures.told took.counts);
     }
 
-pub operators_after_others-returns-in-Some-clause-derives : goal.operators_after_others-returns-in-Some-clause-derives
-operators_after_others-returns-in-Some-clause-derives t c = λ is.
+pub operators::operators_after_others-returns-in-Some-clause-derives : goal.operators::operators_after_others-returns-in-Some-clause-derives
+operators::operators_after_others-returns-in-Some-clause-derives t c = λ is.
     let took = c.climb.ensures.derives is in
     (took.0, after_error c.missing.ensures.tells (from_place c.arm.ensures.told took.1))
 
-pub operators_after_others-returns-in_default-clause-derives : goal.operators_after_others-returns-in_default-clause-derives
-operators_after_others-returns-in_default-clause-derives t c = λ is.
+pub operators::operators_after_others-returns-in_default-clause-derives : goal.operators::operators_after_others-returns-in_default-clause-derives
+operators::operators_after_others-returns-in_default-clause-derives t c = λ is.
     (0, told (subst IsSome (sym c.arm.ensures.told) c.missing.ensures.tells))
 
-pub some-returns-clause-derives : goal.some-returns-clause-derives
-some-returns-clause-derives t c = λ is.
+pub groups::some-returns-clause-derives : goal.groups::some-returns-clause-derives
+groups::some-returns-clause-derives t c = λ is.
     let before = c.inner.ensures in
     both_parts before.derives (moved c.args.rule.now.table.now before.adds.some.keeps c.repeat.ensures.derives) (λ a b. some is a b)
 
 -- ---- one node
 
-pub one_node-returns-in-Some-clause-derives : goal.one_node-returns-in-Some-clause-derives
-one_node-returns-in-Some-clause-derives t c = as_part c.node_in.ensures.derives (λ d. only_in c.in-Some.ensures.is d)
+pub node::one_node-returns-in-Some-clause-derives : goal.node::one_node-returns-in-Some-clause-derives
+node::one_node-returns-in-Some-clause-derives t c = as_part c.node_in.ensures.derives (λ d. only_in c.in-Some.ensures.is d)
 
-pub node_in-returns-in-Node-clause-derives : goal.node_in-returns-in-Node-clause-derives
-node_in-returns-in-Node-clause-derives t c =
+pub node::node_in-returns-in-Node-clause-derives : goal.node::node_in-returns-in-Node-clause-derives
+node::node_in-returns-in-Node-clause-derives t c =
     let is : part_at c.args.rule.now.table.now.rows.now c.args.row ≡ parts.Node c.in-Node.end c.in-Node.kind = cc in
     as_part c.node.ensures.derives (λ d. node is d)
 
-pub node_in-returns-in-Call-clause-derives : goal.node_in-returns-in-Call-clause-derives
-node_in-returns-in-Call-clause-derives t c =
+pub node::node_in-returns-in-Call-clause-derives : goal.node::node_in-returns-in-Call-clause-derives
+node::node_in-returns-in-Call-clause-derives t c =
     let is : part_at c.args.rule.now.table.now.rows.now c.args.row ≡ parts.Call c.in-Call.start c.in-Call.end = cc in
     as_part c.called_node.ensures.derives (λ d. call is d)
 
-pub node_in-returns-in-Choice-clause-derives : goal.node_in-returns-in-Choice-clause-derives
-node_in-returns-in-Choice-clause-derives t c =
+pub node::node_in-returns-in-Choice-clause-derives : goal.node::node_in-returns-in-Choice-clause-derives
+node::node_in-returns-in-Choice-clause-derives t c =
     let is : part_at c.args.rule.now.table.now.rows.now c.args.row ≡ parts.Choice c.in-Choice.end = cc in
     as_part c.operand.ensures.derives (λ d. one is d)
 
-pub node_in-returns-in-Operators-clause-derives : goal.node_in-returns-in-Operators-clause-derives
-node_in-returns-in-Operators-clause-derives t c =
+pub node::node_in-returns-in-Operators-clause-derives : goal.node::node_in-returns-in-Operators-clause-derives
+node::node_in-returns-in-Operators-clause-derives t c =
     let is : part_at c.args.rule.now.table.now.rows.now c.args.row ≡ parts.Operators c.in-Operators.end = cc in
     as_part (c.operators_node.ensures.derives is).1 (λ d. operators is d)

@@ -13,26 +13,26 @@ decreases-block l = 16 * (65536 * l.rule.now.depth + (65536 - l.rows.start)) + 1
 abbrev pub decreases-step : goal.decreases-step
 decreases-step l = 16 * (65536 * l.rule.now.depth + (65536 - l.row)) + 9
 
-abbrev pub decreases-node : goal.decreases-node
-decreases-node l = 16 * (65536 * l.rule.now.depth + (65536 - l.row)) + 7
+abbrev pub decreases-node::node : goal.decreases-node::node
+decreases-node::node l = 16 * (65536 * l.rule.now.depth + (65536 - l.row)) + 7
 
-abbrev pub decreases-parts : goal.decreases-parts
-decreases-parts l = 16 * (65536 * l.rule.now.depth + (65536 - l.rows.start)) + 11
+abbrev pub decreases-node::parts : goal.decreases-node::parts
+decreases-node::parts l = 16 * (65536 * l.rule.now.depth + (65536 - l.rows.start)) + 11
 
-abbrev pub decreases-node_called : goal.decreases-node_called
-decreases-node_called l = 16 * (65536 * l.rule.now.depth + (65536 - l.rows.start)) + 10
+abbrev pub decreases-node::node_called : goal.decreases-node::node_called
+decreases-node::node_called l = 16 * (65536 * l.rule.now.depth + (65536 - l.rows.start)) + 10
 
-abbrev pub decreases-choice : goal.decreases-choice
-decreases-choice l = 16 * (65536 * l.rule.now.depth + (65536 - l.row)) + 7
+abbrev pub decreases-groups::choice : goal.decreases-groups::choice
+decreases-groups::choice l = 16 * (65536 * l.rule.now.depth + (65536 - l.row)) + 7
 
-abbrev pub decreases-optional : goal.decreases-optional
-decreases-optional l = 16 * (65536 * l.rule.now.depth + (65536 - l.row)) + 7
+abbrev pub decreases-groups::optional : goal.decreases-groups::optional
+decreases-groups::optional l = 16 * (65536 * l.rule.now.depth + (65536 - l.row)) + 7
 
-abbrev pub decreases-repeat : goal.decreases-repeat
-decreases-repeat l = 16 * (65536 * l.rule.now.depth + (65536 - l.row)) + 6
+abbrev pub decreases-groups::repeat : goal.decreases-groups::repeat
+decreases-groups::repeat l = 16 * (65536 * l.rule.now.depth + (65536 - l.row)) + 6
 
-abbrev pub decreases-list : goal.decreases-list
-decreases-list l = 16 * (65536 * l.rule.now.depth + (65536 - l.row)) + 7
+abbrev pub decreases-groups::list : goal.decreases-groups::list
+decreases-groups::list l = 16 * (65536 * l.rule.now.depth + (65536 - l.row)) + 7
 
 abbrev pub decreases-call : goal.decreases-call
 decreases-call l = 16 * (65536 * l.rule.now.depth) + 12
@@ -40,38 +40,38 @@ decreases-call l = 16 * (65536 * l.rule.now.depth) + 12
 abbrev pub decreases-called : goal.decreases-called
 decreases-called l = 16 * (65536 * l.rule.now.depth + (65536 - l.rows.start)) + 11
 
-abbrev pub decreases-inner_operand : goal.decreases-inner_operand
-decreases-inner_operand l = 16 * (65536 * l.rule.now.depth) + 12
+abbrev pub decreases-operators::inner_operand : goal.decreases-operators::inner_operand
+decreases-operators::inner_operand l = 16 * (65536 * l.rule.now.depth) + 12
 
-abbrev pub decreases-called_operators : goal.decreases-called_operators
-decreases-called_operators l = 16 * (65536 * l.rule.now.depth + (65536 - l.row)) + 10
+abbrev pub decreases-operators::called_operators : goal.decreases-operators::called_operators
+decreases-operators::called_operators l = 16 * (65536 * l.rule.now.depth + (65536 - l.row)) + 10
 
-abbrev pub decreases-operators : goal.decreases-operators
-decreases-operators l = 16 * (65536 * l.rule.now.depth + (65536 - l.row)) + 7
+abbrev pub decreases-operators::operators : goal.decreases-operators::operators
+decreases-operators::operators l = 16 * (65536 * l.rule.now.depth + (65536 - l.row)) + 7
 
-abbrev pub decreases-operators_after_others : goal.decreases-operators_after_others
-decreases-operators_after_others l = 16 * (65536 * l.rule.now.depth + (65536 - l.row)) + 6
+abbrev pub decreases-operators::operators_after_others : goal.decreases-operators::operators_after_others
+decreases-operators::operators_after_others l = 16 * (65536 * l.rule.now.depth + (65536 - l.row)) + 6
 
-abbrev pub decreases-operators_node : goal.decreases-operators_node
-decreases-operators_node l = 16 * (65536 * l.rule.now.depth + (65536 - l.row)) + 7
+abbrev pub decreases-operators::operators_node : goal.decreases-operators::operators_node
+decreases-operators::operators_node l = 16 * (65536 * l.rule.now.depth + (65536 - l.row)) + 7
 
-abbrev pub decreases-climb : goal.decreases-climb
-decreases-climb l = 16 * (65536 * l.rule.now.depth + (65536 - l.row)) + 5
+abbrev pub decreases-operators::climb : goal.decreases-operators::climb
+decreases-operators::climb l = 16 * (65536 * l.rule.now.depth + (65536 - l.row)) + 5
 
-abbrev pub decreases-operand : goal.decreases-operand
-decreases-operand l = 16 * (65536 * l.rule.now.depth + (65536 - l.row)) + 5
+abbrev pub decreases-operators::operand : goal.decreases-operators::operand
+decreases-operators::operand l = 16 * (65536 * l.rule.now.depth + (65536 - l.row)) + 5
 
-abbrev pub decreases-one_node : goal.decreases-one_node
-decreases-one_node l = 16 * (65536 * l.rule.now.depth + (65536 - l.rows.start)) + 9
+abbrev pub decreases-node::one_node : goal.decreases-node::one_node
+decreases-node::one_node l = 16 * (65536 * l.rule.now.depth + (65536 - l.rows.start)) + 9
 
-abbrev pub decreases-called_node : goal.decreases-called_node
-decreases-called_node l = 16 * (65536 * l.rule.now.depth) + 11
+abbrev pub decreases-node::called_node : goal.decreases-node::called_node
+decreases-node::called_node l = 16 * (65536 * l.rule.now.depth) + 11
 
-abbrev pub decreases-some : goal.decreases-some
-decreases-some l = 16 * (65536 * l.rule.now.depth + (65536 - l.row)) + 7
+abbrev pub decreases-groups::some : goal.decreases-groups::some
+decreases-groups::some l = 16 * (65536 * l.rule.now.depth + (65536 - l.row)) + 7
 
-abbrev pub decreases-operation : goal.decreases-operation
-decreases-operation l = 16 * (65536 * l.rule.now.depth + (65536 - l.rows.start)) + 11
+abbrev pub decreases-operators::operation : goal.decreases-operators::operation
+decreases-operators::operation l = 16 * (65536 * l.rule.now.depth + (65536 - l.rows.start)) + 11
 
 -- some steps were added, and if no error was told, what was run derives what was eaten
 abbrev pub invariant-block-loop-row : goal.invariant-block-loop-row
@@ -85,45 +85,45 @@ invariant-block-loop-row l = record {
 abbrev pub decreases-block-loop-row : goal.decreases-block-loop-row
 decreases-block-loop-row l = l.rows.end - l.row
 
-abbrev pub invariant-repeat-loop-p : goal.invariant-repeat-loop-p
-invariant-repeat-loop-p l = record {
+abbrev pub invariant-groups::repeat-loop-p : goal.invariant-groups::repeat-loop-p
+invariant-groups::repeat-loop-p l = record {
   adds : AddsSome l.fn.p l.p;
   derives : Derived (text_of l.rule.table.now l.fn.p) (turns (l.fn.row + 1) l.fn.end) l.fn.told.place l.told.place l.fn.p.position l.p.position;
   counts : Counts l.fn.told.place l.told.place l.fn.p l.p;
 }
 
-abbrev pub decreases-repeat-loop-p : goal.decreases-repeat-loop-p
-decreases-repeat-loop-p l = l.p.limit - l.p.position
+abbrev pub decreases-groups::repeat-loop-p : goal.decreases-groups::repeat-loop-p
+decreases-groups::repeat-loop-p l = l.p.limit - l.p.position
 
-abbrev pub invariant-list-loop-separator : goal.invariant-list-loop-separator
-invariant-list-loop-separator l = record {
+abbrev pub invariant-groups::list-loop-separator : goal.invariant-groups::list-loop-separator
+invariant-groups::list-loop-separator l = record {
   adds : AddsSome l.fn.p l.p;
   derives : Derived (text_of l.rule.table.now l.fn.p) (items (l.fn.row + 1) l.fn.end l.fn.separator) l.fn.told.place l.told.place l.fn.p.position l.p.position;
   counts : Counts l.fn.told.place l.told.place l.fn.p l.p;
 }
 
-abbrev pub decreases-list-loop-separator : goal.decreases-list-loop-separator
-decreases-list-loop-separator l = l.p.limit - l.p.position
+abbrev pub decreases-groups::list-loop-separator : goal.decreases-groups::list-loop-separator
+decreases-groups::list-loop-separator l = l.p.limit - l.p.position
 
-abbrev pub invariant-climb-loop-operator : goal.invariant-climb-loop-operator
-invariant-climb-loop-operator l = record {
+abbrev pub invariant-operators::climb-loop-operator : goal.invariant-operators::climb-loop-operator
+invariant-operators::climb-loop-operator l = record {
   adds : AddsSomeNode l.left l.fn.p l.p;
   derives : part_at l.rule.table.now.rows.now l.fn.row ≡ Operators l.fn.end
       → Derived (text_of l.rule.table.now l.fn.p) (operation l.fn.row l.fn.floor l.ceiling) l.fn.told.place l.told.place l.fn.p.position l.p.position;
   counts : Counts l.fn.told.place l.told.place l.fn.p l.p;
 }
 
-abbrev pub decreases-climb-loop-operator : goal.decreases-climb-loop-operator
-decreases-climb-loop-operator l = l.p.limit - l.p.position
+abbrev pub decreases-operators::climb-loop-operator : goal.decreases-operators::climb-loop-operator
+decreases-operators::climb-loop-operator l = l.p.limit - l.p.position
 
-abbrev pub decreases-inner : goal.decreases-inner
-decreases-inner l = 16 * (65536 * l.rule.now.depth + (65536 - l.row)) + 5
+abbrev pub decreases-groups::inner : goal.decreases-groups::inner
+decreases-groups::inner l = 16 * (65536 * l.rule.now.depth + (65536 - l.row)) + 5
 
-abbrev pub decreases-inner_node : goal.decreases-inner_node
-decreases-inner_node l = 16 * (65536 * l.rule.now.depth + (65536 - l.row)) + 8
+abbrev pub decreases-node::inner_node : goal.decreases-node::inner_node
+decreases-node::inner_node l = 16 * (65536 * l.rule.now.depth + (65536 - l.row)) + 8
 
-abbrev pub decreases-node_in : goal.decreases-node_in
-decreases-node_in l = 16 * (65536 * l.rule.now.depth + (65536 - l.row)) + 8
+abbrev pub decreases-node::node_in : goal.decreases-node::node_in
+decreases-node::node_in l = 16 * (65536 * l.rule.now.depth + (65536 - l.row)) + 8
 
-abbrev pub decreases-choice_after_others : goal.decreases-choice_after_others
-decreases-choice_after_others l = 16 * (65536 * l.rule.now.depth + (65536 - l.arms.start)) + 15
+abbrev pub decreases-groups::choice_after_others : goal.decreases-groups::choice_after_others
+decreases-groups::choice_after_others l = 16 * (65536 * l.rule.now.depth + (65536 - l.arms.start)) + 15

@@ -1,4 +1,4 @@
-use Rattle.std.proofs.Common.{arith, ap, subst, sym, ◌≡◌, ◌+◌, ◌-◌, ℕ}
+use Rattle.std.proofs.Common.{arith, subst, ◌≡◌, ◌+◌, ◌-◌, ℕ}
 use Rattle.rule_grammar.specs.Derivations.{IsEnd}
 use Rattle.rule_grammar.specs.Derivations.IsEnd.{before_kind, itself}
 use Rattle.rule_grammar.specs.Parts.{part_at}
