@@ -56,7 +56,7 @@ pub record AreSound (v : Vocabulary) (parts : List Part) : Type 0 where
 abbrev pub IsFaultOf : List Part → List row.Part → List TokenSet → RulesError → Type 0
 IsFaultOf parts rows sets (LeftRecursive j) = IsEndless rows (LeftRecursive j)
 IsFaultOf parts rows sets (Empty j) = IsEndless rows (Empty j)
-IsFaultOf parts rows sets (Undecided j) = NotEndless rows × IsFirstOpen (plan_in parts rows sets) parts (Undecided j)
+IsFaultOf parts rows sets (Undecided j kinds) = NotEndless rows × IsFirstOpen (plan_in parts rows sets) parts (Undecided j kinds)
 IsFaultOf parts rows sets (Unreached j) = NotEndless rows × AreDecided (plan_in parts rows sets) parts (length rows) × IsLost rows (file_row parts) (Unreached j)
 IsFaultOf parts rows sets TooMany = NotEndless rows
 IsFaultOf parts rows sets reason = ⊥

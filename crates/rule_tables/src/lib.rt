@@ -29,7 +29,9 @@ mod rows;
 mod rules;
 mod sets;
 mod settled;
+mod shown;
 mod symbols;
+mod trail;
 mod walk;
 
 pub use categories::keyword_classes;

@@ -1,7 +1,7 @@
 //! The numbers of a row.
 ghost use Rattle.std.specs.Prelude.{◌≡◌, ◌<◌, ◌%◌, IfErr, IfOk, IsTrue, OnOk, Some, slice_get, slice_index};
 ghost use Rattle.rule_grammar.specs.Parts.{part_by, part_of};
-ghost use Rattle.rule_tables.specs.Forks.{IsOpenAt};
+ghost use Rattle.rule_tables.specs.Forks.{IsOpenAt, IsOpenBy};
 ghost use Rattle.rule_tables.specs.Limits.{IsLimit, IsUndecidedIf};
 ghost use Rattle.rule_tables.specs.Sets.{Extends};
 ghost use Rattle.rule_tables.specs.Rows.{is_exact, tail_tag};
@@ -25,7 +25,7 @@ pub(crate) fn numbers_of(
 ) -> Result<[u16; 8], RulesError>
     requires exact { IsTrue (is_exact row.now) }
     requires row { slice_get fork.now.map.now.rows.now fork.now.part ≡ Some row.now }
-    ensures err { IfErr result (IsUndecidedIf (IsOpenAt fork.now row.now) fork.now.part) }
+    ensures err { IfErr result (IsUndecidedIf (IsOpenBy fork.now row.now) fork.now.part) }
     ensures decided { OnOk result (IsOpenAt fork.now row.now → ⊥) }
     ensures keeps { OnOk result (Extends looks.old.sets.list.items looks.new.sets.list.items) }
     ensures ok { IfOk result (λ numbers. part_of numbers ≡ row.now) }
@@ -101,7 +101,7 @@ fn begins(
 #[tactic(auto, using(crate::proofs::Limited::limit_if))]
 fn look(looks: &mut Looks, fork: &Fork<'_>, known: &Ahead, row: &Row) -> Result<u16, RulesError>
     requires { slice_get fork.now.map.now.rows.now fork.now.part ≡ Some row.now }
-    ensures err { IfErr result (IsUndecidedIf (IsOpenAt fork.now row.now) fork.now.part) }
+    ensures err { IfErr result (IsUndecidedIf (IsOpenBy fork.now row.now) fork.now.part) }
     ensures decided { OnOk result (IsOpenAt fork.now row.now → ⊥) }
     ensures keeps { OnOk result (Extends looks.old.sets.list.items looks.new.sets.list.items) }
 {
