@@ -9,7 +9,7 @@ use Rattle.rule_grammar.specs.declared.part.Part.TheVariants.{Repeat, List as It
 use Rattle.rule_tables.specs.Looks.{AreGroups, HasOne, IsAlike, ShareAfter, ShareWord}
 use Rattle.rule_tables.specs.Places.{AreShared, Begins, ComeBoth, IsOneOf, Leaves, Plan, Sees, SeesFrom, Steps, does_eat, eats, first_in, separates}
 use Rattle.rule_tables.specs.Places.Sees.{nothing, steps}
-use Rattle.rule_tables.specs.Walks.{AreFirst}
+use Rattle.rule_tables.specs.Walks.{AreFirst, AreNext}
 use Rattle.rule_tables.specs.declared.place.Place.{Place}
 use Rattle.rule_tables.specs.declared.place.Place.TheVariants.{Before, After, Separator, End}
 use Rattle.rule_tables.proofs.Over.{all_at, over_from}
@@ -80,6 +80,13 @@ alike_sees : (plan : Plan) (places : List Place) (group : TokenSet) → All (λ 
 alike_sees plan places group does alike a b in_a in_b word from =
     let over : (q : Place) × (eats plan from.place a ≡ true) × Steps plan from.place q × Sees plan q word = over_from plan from.place a word (all_at (λ p. does_eat plan p ≡ true) places from.one.index from.place does from.one.is) from.sees in
     record { place = from.place; one = from.one; sees = steps (sym (alike a b in_a in_b from.place from.one) ∙ over.1) over.2 over.3 }
+
+-- the kinds that some places eat are those that come next where these are first
+pub next_kinds : (plan : Plan) (p : Place) (places : List Place) (kinds : TokenSet) → AreFirst plan (Sees plan p) places → ((kind : ℕ) → has kinds kind ≡ any_eats plan places kind) → AreNext plan p kinds
+next_kinds plan p places kinds first are kind = (
+  λ holds. first.only kind [] (any_eaten plan places kind (sym (are kind) ∙ holds)),
+  λ sees. are kind ∙ eaten_any plan places kind [] first.eat (first.all kind [] sees),
+)
 
 -- words that come two ways come from the places of these
 module _ (plan : Plan) (P Q : List ℕ → Type 0) (mine others : List Place) (first_mine : AreFirst plan P mine) (first_others : AreFirst plan Q others) where

@@ -1,5 +1,5 @@
 -- Rows that four tokens don't decide, one after another.
-use Rattle.std.proofs.Common.{◌≡◌, ◌∙◌, ◌+◌, ℕ, Bool, false, inl, inr, List, Option, Some, length, slice_get, arith, sym, subst}
+use Rattle.std.proofs.Common.{◌≡◌, ◌∙◌, ◌+◌, ℕ, Bool, false, inl, inr, List, Option, Some, length, slice_get, arith, refl, sym, subst}
 use Rattle.std.proofs.lemmas.Bool.{cases_eq}
 use Rattle.rule_grammar.specs.declared.part.Part.{Part}
 use Rattle.squawk_kinds.specs.declared.token_set.TokenSet.{TokenSet}
@@ -45,3 +45,6 @@ decided_in map list {rows} {sets} same_rows same_sets same_start none =
     subst (λ (r : List Part). AreDecided (plan_in list r sets) list (length r)) same_rows
     (subst (λ (s : List TokenSet). AreDecided (plan_in list map.rows.now s) list (length map.rows.now)) same_sets
     (subst (λ (k : ℕ). AreDecided (record { rows = map.rows.now; sets = map.sets.now; start = k }) list (length map.rows.now)) same_start none))
+
+pub plan_is : (map : Map) {rows : List Part} {sets : List TokenSet} {start : ℕ} → map.rows.now ≡ rows → map.sets.now ≡ sets → map.start ≡ start → plan_of map ≡ record { rows = rows; sets = sets; start = start }
+plan_is map same_rows same_sets same_start = rw (same_rows, same_sets, same_start) refl
