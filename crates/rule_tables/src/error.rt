@@ -1,5 +1,6 @@
 //! Why rules can't be run.
 ghost use Rattle.std.specs.Prelude.{◌≡◌};
+ghost use Rattle.rule_tables.specs.ErrorLines.{message_of};
 ghost use Rattle.rule_tables.specs.Faults.{part_at_fault};
 
 use std::alloc::AllocError;
@@ -45,7 +46,9 @@ impl RulesError {
     }
 
     /// What is wrong, in a few words.
-    pub fn message(&self) -> &'static str {
+    pub fn message(&self) -> &'static str
+        ensures { result.now ≡ message_of self.now }
+    {
         match self {
             RulesError::Undefined { .. } => "no rule has this name",
             RulesError::Doubled { .. } => "two rules have this name",
@@ -61,6 +64,11 @@ impl RulesError {
 }
 
 impl fmt::Display for RulesError {
+    ghost use Rattle.std.specs.Prelude.{Some};
+    ghost use Rattle.rule_tables.specs.ErrorLines.{rules_error_line};
+
+    ghost output = { λ error. Some (rules_error_line error) };
+
     fn fmt<W: fmt::Write>(&self, f: &mut fmt::Formatter<W>) -> fmt::Result {
         match self {
             RulesError::TooMany | RulesError::Memory(_) => write!(f, "{}", self.message()),

@@ -27,6 +27,11 @@ pub enum TextError {
 }
 
 impl fmt::Display for TextError {
+    ghost use Rattle.std.specs.Prelude.{Some};
+    ghost use Rattle.rule_tables.specs.ErrorLines.{text_error_line};
+
+    ghost output = { λ error. Some (text_error_line error) };
+
     fn fmt<W: fmt::Write>(&self, f: &mut fmt::Formatter<W>) -> fmt::Result {
         match self {
             TextError::Read(reason) => write!(f, "{reason}"),

@@ -36,7 +36,7 @@ pub(crate) fn rules(alloc: Global, text: &str) -> Result<Rules, TextError> {
 }
 
 /// The line of a text's tree by rules. A refusal counts as want of memory.
-fn line(alloc: Global, rules: &Rules, text: &str) -> Result<String, AllocError> {
+pub(crate) fn line(alloc: Global, rules: &Rules, text: &str) -> Result<String, AllocError> {
     let Ok(tokens) = tokenize(alloc, text) else {
         return Err(AllocError);
     };
