@@ -7,9 +7,9 @@ use Rattle.squawk_kinds.specs.declared.token_set.TokenSet.{TokenSet}
 use Rattle.rule_grammar.specs.declared.part.Part.{Part}
 use Rattle.rule_grammar.specs.declared.part.Part.TheVariants.{Repeat, List as Items, Some as Once}
 use Rattle.rule_tables.specs.Looks.{AreGroups, HasOne, IsAlike, ShareAfter, ShareWord}
-use Rattle.rule_tables.specs.Places.{AreShared, Begins, IsOneOf, Leaves, Plan, Sees, SeesFrom, Steps, does_eat, eats, first_in, separates}
+use Rattle.rule_tables.specs.Places.{AreShared, Begins, ComeBoth, IsOneOf, Leaves, Plan, Sees, SeesFrom, Steps, does_eat, eats, first_in, separates}
 use Rattle.rule_tables.specs.Places.Sees.{nothing, steps}
-use Rattle.rule_tables.specs.Walks.{AreFirst}
+use Rattle.rule_tables.specs.Walks.{AreFirst, AreNext}
 use Rattle.rule_tables.specs.declared.place.Place.{Place}
 use Rattle.rule_tables.specs.declared.place.Place.TheVariants.{Before, After, Separator, End}
 use Rattle.rule_tables.proofs.Over.{all_at, over_from}
@@ -61,7 +61,7 @@ eaten_any : (plan : Plan) (places : List Place) (kind : ℕ) (word : List ℕ) �
 eaten_any plan places kind word does from =
     any_at (λ p. eats plan p kind) places from.one.index from.place from.one.is (over_from plan from.place kind word (all_at (λ p. does_eat plan p ≡ true) places from.one.index from.place does from.one.is) from.sees).1
 
-any_eaten : (plan : Plan) (places : List Place) (kind : ℕ) → any_eats plan places kind ≡ true → SeesFrom plan places (kind ∷ [])
+pub any_eaten : (plan : Plan) (places : List Place) (kind : ℕ) → any_eats plan places kind ≡ true → SeesFrom plan places (kind ∷ [])
 any_eaten plan places kind e =
     let found : (x : Place) × IsOneOf places x × (eats plan x kind ≡ true) = at_any (λ p. eats plan p kind) places e in
     record { place = found.0; one = found.1; sees = steps found.2 (step_some plan found.0 kind found.2).1 nothing }
@@ -69,7 +69,7 @@ any_eaten plan places kind e =
 both_any : (a b : Bool) → a ≡ true → b ≡ true → (a && b) ≡ true
 both_any a b e f = rw (e, f) refl
 
-one_any : (a b : Bool) → (a && b) ≡ true → (a ≡ true) × (b ≡ true)
+pub one_any : (a b : Bool) → (a && b) ≡ true → (a ≡ true) × (b ≡ true)
 one_any true true e = (refl, refl)
 one_any true false e = absurd cc
 one_any false b e = absurd cc
@@ -81,25 +81,26 @@ alike_sees plan places group does alike a b in_a in_b word from =
     let over : (q : Place) × (eats plan from.place a ≡ true) × Steps plan from.place q × Sees plan q word = over_from plan from.place a word (all_at (λ p. does_eat plan p ≡ true) places from.one.index from.place does from.one.is) from.sees in
     record { place = from.place; one = from.one; sees = steps (sym (alike a b in_a in_b from.place from.one) ∙ over.1) over.2 over.3 }
 
+-- the kinds that some places eat are those that come next where these are first
+pub next_kinds : (plan : Plan) (p : Place) (places : List Place) (kinds : TokenSet) → AreFirst plan (Sees plan p) places → ((kind : ℕ) → has kinds kind ≡ any_eats plan places kind) → AreNext plan p kinds
+next_kinds plan p places kinds first are kind = (
+  λ holds. first.only kind [] (any_eaten plan places kind (sym (are kind) ∙ holds)),
+  λ sees. are kind ∙ eaten_any plan places kind [] first.eat (first.all kind [] sees),
+)
+
 -- words that come two ways come from the places of these
 module _ (plan : Plan) (P Q : List ℕ → Type 0) (mine others : List Place) (first_mine : AreFirst plan P mine) (first_others : AreFirst plan Q others) where
   from_word : (word : List ℕ) → 0 < length word → P word → Q word → SeesFrom plan mine word × SeesFrom plan others word
   from_word [] some first second = absurd (omega arith)
   from_word (kind ∷ word) some first second = (first_mine.all kind word first, first_others.all kind word second)
 
-  to_word : (word : List ℕ) → 0 < length word → SeesFrom plan mine word → SeesFrom plan others word → P word × Q word
+  pub to_word : (word : List ℕ) → 0 < length word → SeesFrom plan mine word → SeesFrom plan others word → P word × Q word
   to_word [] some first second = absurd (omega arith)
   to_word (kind ∷ word) some first second = (first_mine.only kind word first, first_others.only kind word second)
 
-  pub to_places : (count : ℕ) → 0 < count → AreShared count P Q → ShareWord plan count mine others
+  pub to_places : (count : ℕ) → 0 < count → AreShared count (ComeBoth P Q) → ShareWord plan count mine others
   to_places count some share =
-      let from : SeesFrom plan mine share.word × SeesFrom plan others share.word = from_word share.word (omega (arith, share.len)) share.first share.second in
-      record { word = share.word; len = share.len; first = from.0; second = from.1 }
-
-  pub to_words : (count : ℕ) → 0 < count → ShareWord plan count mine others → AreShared count P Q
-  to_words count some share =
-      let both : P share.word × Q share.word = to_word share.word (omega (arith, share.len)) share.first share.second in
-      record { word = share.word; len = share.len; first = both.0; second = both.1 }
+      record { word = share.word; len = share.len; such = from_word share.word (omega (arith, share.len)) share.such.0 share.such.1 }
 
 module _ (plan : Plan) (mine others : List Place) (does_mine : All (λ p. does_eat plan p ≡ true) mine) (does_others : All (λ p. does_eat plan p ≡ true) others) where
   both_eat : (kind : ℕ) (word : List ℕ) → SeesFrom plan mine (kind ∷ word) → SeesFrom plan others (kind ∷ word) → (any_eats plan mine kind && any_eats plan others kind) ≡ true
@@ -109,18 +110,9 @@ module _ (plan : Plan) (mine others : List Place) (does_mine : All (λ p. does_e
   no_word none [] some first second = omega arith
   no_word none (kind ∷ word) some first second = none kind (both_eat kind word first second)
 
-  -- one kind is eaten at both
-  pub one_share : (kind : ℕ) → (any_eats plan mine kind && any_eats plan others kind) ≡ true → ShareWord plan 1 mine others
-  one_share kind e =
-      let both : (any_eats plan mine kind ≡ true) × (any_eats plan others kind ≡ true) = one_any _ _ e in
-      record { word = kind ∷ []; len = refl; first = any_eaten plan mine kind both.0; second = any_eaten plan others kind both.1 }
-
   pub in_shared : (own theirs shared : TokenSet) → ((kind : ℕ) → has own kind ≡ any_eats plan mine kind) → ((kind : ℕ) → has theirs kind ≡ any_eats plan others kind) → ((kind : ℕ) → has shared kind ≡ (has own kind && has theirs kind))
       → (kind : ℕ) → (any_eats plan mine kind && any_eats plan others kind) ≡ true → has shared kind ≡ true
   in_shared own theirs shared own_is theirs_is all kind e = all kind ∙ rw (own_is kind, theirs_is kind) e
-
-  pub share_one : (own theirs : TokenSet) → ((kind : ℕ) → has own kind ≡ any_eats plan mine kind) → ((kind : ℕ) → has theirs kind ≡ any_eats plan others kind) → (kind count : ℕ) → count ≡ 1 → (has own kind && has theirs kind) ≡ true → ShareWord plan count mine others
-  share_one own theirs own_is theirs_is kind count is e = rw is (one_share kind (rw (own_is kind, theirs_is kind) at e))
 
   pub none_more : (count : ℕ) (groups : List TokenSet) (n : ℕ) (item : TokenSet) → slice_get groups n ≡ Some item → (ShareAfter plan count item mine others → ⊥)
       → ((i : ℕ) → i < n → (group : TokenSet) → slice_get groups i ≡ Some group → ShareAfter plan count group mine others → ⊥)
@@ -136,7 +128,7 @@ module _ (plan : Plan) (mine others : List Place) (does_mine : All (λ p. does_e
 
   -- none is
   pub no_share : (count : ℕ) → 0 < count → ((kind : ℕ) → (any_eats plan mine kind && any_eats plan others kind) ≡ true → ⊥) → ShareWord plan count mine others → ⊥
-  no_share count some none share = no_word none share.word (omega (arith, share.len)) share.first share.second
+  no_share count some none share = no_word none share.word (omega (arith, share.len)) share.such.0 share.such.1
 
   -- none after a kind of any group
   group_word : (shared : TokenSet) (groups : List TokenSet) (count : ℕ) → AreGroups plan mine others shared groups → ((kind : ℕ) → (any_eats plan mine kind && any_eats plan others kind) ≡ true → has shared kind ≡ true)
@@ -149,7 +141,7 @@ module _ (plan : Plan) (mine others : List Place) (does_mine : All (λ p. does_e
 
   pub group_share : (shared : TokenSet) (groups : List TokenSet) (count more : ℕ) → more ≡ suc count → AreGroups plan mine others shared groups → ((kind : ℕ) → (any_eats plan mine kind && any_eats plan others kind) ≡ true → has shared kind ≡ true)
       → ((i : ℕ) (group : TokenSet) → slice_get groups i ≡ Some group → ShareAfter plan count group mine others → ⊥) → ShareWord plan more mine others → ⊥
-  group_share shared groups count more next are inside none share = group_word shared groups count are inside none share.word (share.len ∙ next) share.first share.second
+  group_share shared groups count more next are inside none share = group_word shared groups count are inside none share.word (share.len ∙ next) share.such.0 share.such.1
 
   module _ (group : TokenSet) (kind : ℕ) (holds : has group kind ≡ true) (mine_after others_after : List Place) (first_mine : AreFirst plan (λ word. SeesFrom plan mine (kind ∷ word)) mine_after)
       (first_others : AreFirst plan (λ word. SeesFrom plan others (kind ∷ word)) others_after) where
@@ -160,11 +152,8 @@ module _ (plan : Plan) (mine others : List Place) (does_mine : All (λ p. does_e
         (record {
           word = share.word;
           len = share.len;
-          first = alike_sees plan mine group does_mine alike_mine share.kind kind share.holds holds share.word share.first;
-          second = alike_sees plan others group does_others alike_others share.kind kind share.holds holds share.word share.second;
+          such = (
+            alike_sees plan mine group does_mine alike_mine share.kind kind share.holds holds share.word share.first,
+            alike_sees plan others group does_others alike_others share.kind kind share.holds holds share.word share.second,
+          );
         })
-
-    pub before_share : (count more : ℕ) → 0 < count → more ≡ suc count → ShareWord plan count mine_after others_after → ShareWord plan more mine others
-    before_share count more some next share =
-        let before = to_words plan (λ word. SeesFrom plan mine (kind ∷ word)) (λ word. SeesFrom plan others (kind ∷ word)) mine_after others_after first_mine first_others count some share in
-        record { word = kind ∷ before.word; len = ap suc before.len ∙ sym next; first = before.first; second = before.second }

@@ -17,6 +17,7 @@ pub mod Closing
 pub mod Over
 pub mod Cuts
 pub mod Deciding
+pub mod Telling
 pub mod Limited
 pub mod Opened
 pub mod Refused

@@ -1,16 +1,16 @@
 -- Errors that name nothing.
-use Rattle.std.proofs.Common.{◌≡◌, ℕ, Result, Ok, Err, IfErr, OnOk, subst}
+use Rattle.std.proofs.Common.{◌≡◌, ℕ, List, Result, Ok, Err, IfErr, OnOk, subst}
 use Rattle.rule_tables.specs.Limits.{IsLimit, IsUndecidedIf}
 use Rattle.rule_tables.specs.declared.error.RulesError.{RulesError}
 use Rattle.rule_tables.specs.declared.error.RulesError.TheVariants.{Undecided, TooMany, Memory}
 
-pub limit_if : (Shared : Type 0) (part : ℕ) (reason : RulesError) → IsLimit reason → IsUndecidedIf Shared part reason
+pub limit_if : (Shared : List ℕ → Type 0) (part : ℕ) (reason : RulesError) → IsLimit reason → IsUndecidedIf Shared part reason
 limit_if Shared part TooMany limit = limit
 limit_if Shared part (Memory e) limit = limit
 limit_if Shared part reason limit = absurd limit
 
-pub undecided_as : (P Q : Type 0) (part : ℕ) (reason : RulesError) → (P → Q) → IsUndecidedIf P part reason → IsUndecidedIf Q part reason
-undecided_as P Q part (Undecided j) to is = (is.0, to is.1)
+pub undecided_as : (P Q : List ℕ → Type 0) (part : ℕ) (reason : RulesError) → ((kinds : List ℕ) → P kinds → Q kinds) → IsUndecidedIf P part reason → IsUndecidedIf Q part reason
+undecided_as P Q part (Undecided j kinds) to is = (is.0, to kinds is.1)
 undecided_as P Q part TooMany to is = is
 undecided_as P Q part (Memory e) to is = is
 undecided_as P Q part reason to is = absurd is
@@ -20,8 +20,8 @@ if_err_as P Q (Ok x) to p = tt
 if_err_as P Q (Err e) to p = to e p
 
 -- what is said of one row is said of another
-pub err_at : {T X : Type 0} (F : X → Type 0) (S : Type 0) (part : ℕ) (r : Result T RulesError) {x y : X} → x ≡ y → IfErr r (IsUndecidedIf (S × F x) part) → IfErr r (IsUndecidedIf (S × F y) part)
-err_at {T} {X} F S part r e = subst (λ (z : X). IfErr r (IsUndecidedIf (S × F z) part)) e
+pub err_at : {T X : Type 0} (F : X → List ℕ → Type 0) (S : Type 0) (part : ℕ) (r : Result T RulesError) {x y : X} → x ≡ y → IfErr r (IsUndecidedIf (λ kinds. S × F x kinds) part) → IfErr r (IsUndecidedIf (λ kinds. S × F y kinds) part)
+err_at {T} {X} F S part r e = subst (λ (z : X). IfErr r (IsUndecidedIf (λ kinds. S × F z kinds) part)) e
 
 open_at : {T X : Type 0} (F : X → Type 0) (S : Type 0) (r : Result T RulesError) (y : X) → OnOk r (S → F y → ⊥) → OnOk r (S × F y → ⊥)
 open_at F S (Ok x) y none = λ both. none both.0 both.1

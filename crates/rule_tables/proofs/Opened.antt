@@ -1,22 +1,25 @@
 -- Rows that four tokens don't decide, one after another.
-use Rattle.std.proofs.Common.{◌≡◌, ◌∙◌, ◌+◌, ℕ, Bool, false, inl, inr, List, Option, Some, length, slice_get, arith, sym, subst}
+use Rattle.std.proofs.Common.{◌≡◌, ◌∙◌, ◌+◌, ℕ, Bool, false, inl, inr, List, Option, Some, length, slice_get, arith, refl, sym, subst}
 use Rattle.std.proofs.lemmas.Bool.{cases_eq}
 use Rattle.rule_grammar.specs.declared.part.Part.{Part}
 use Rattle.squawk_kinds.specs.declared.token_set.TokenSet.{TokenSet}
-use Rattle.rule_tables.specs.Forks.{AreDecided, IsFirstOpen, IsOpen, plan_in}
+use Rattle.rule_tables.specs.Forks.{AreDecided, IsFirstOpen, IsOpen, IsUndecidedBy, plan_in}
 use Rattle.rule_tables.specs.Rows.{file_row}
 use Rattle.rule_tables.specs.Walks.{plan_of}
 use Rattle.rule_tables.specs.declared.map.Map.{Map}
 use Rattle.rule_tables.specs.Limits.{IsUndecidedIf}
 use Rattle.rule_tables.specs.Settled.{settles}
 use Rattle.rule_parts.specs.declared.Part as parts
-use Rattle.rule_tables.specs.Places.{IsUndecidedRow, Plan}
+use Rattle.rule_tables.specs.Places.{AreTold, ComesTwoWays, IsUndecidedRow, Plan}
 use Rattle.rule_tables.specs.declared.error.RulesError.{RulesError}
 use Rattle.rule_tables.specs.declared.error.RulesError.TheVariants.{Undecided, TooMany, Memory}
 
 module _ (plan : Plan) (list : List parts.Part) (n : ℕ) (row : Part) (flag : Bool) (here : slice_get plan.rows n ≡ Some row) (is : flag ≡ settles list plan.rows n) (before : AreDecided plan list n) where
   abbrev pub IsOpenRow : Type 0
   IsOpenRow = (flag ≡ false) × IsUndecidedRow plan n (Some row)
+
+  abbrev pub IsOpenBy : List ℕ → Type 0
+  IsOpenBy kinds = (flag ≡ false) × AreTold (ComesTwoWays plan n (Some row)) kinds
 
   pub decided_more : (IsOpenRow → ⊥) → AreDecided plan list (n + 1)
   decided_more none i lt opened =
@@ -27,9 +30,9 @@ module _ (plan : Plan) (list : List parts.Part) (n : ℕ) (row : Part) (flag : B
         | inr other ↦ before i (omega arith) opened
       ]
 
-  pub first_open : (reason : RulesError) → IsUndecidedIf IsOpenRow n reason → IsFirstOpen plan list reason
-  first_open (Undecided j) fault =
-      let it : IsOpen plan list n = (sym is ∙ fault.1.0, subst (λ (found : Option Part). IsUndecidedRow plan n found) (sym here) fault.1.1) in
+  pub first_open : (reason : RulesError) → IsUndecidedIf IsOpenBy n reason → IsFirstOpen plan list reason
+  first_open (Undecided j kinds) fault =
+      let it : IsUndecidedBy plan list n kinds = (sym is ∙ fault.1.0, subst (λ (found : Option Part). AreTold (ComesTwoWays plan n found) kinds) (sym here) fault.1.1) in
       rw fault.0 (it, before)
   first_open TooMany fault = fault
   first_open (Memory e) fault = fault
@@ -42,3 +45,6 @@ decided_in map list {rows} {sets} same_rows same_sets same_start none =
     subst (λ (r : List Part). AreDecided (plan_in list r sets) list (length r)) same_rows
     (subst (λ (s : List TokenSet). AreDecided (plan_in list map.rows.now s) list (length map.rows.now)) same_sets
     (subst (λ (k : ℕ). AreDecided (record { rows = map.rows.now; sets = map.sets.now; start = k }) list (length map.rows.now)) same_start none))
+
+pub plan_is : (map : Map) {rows : List Part} {sets : List TokenSet} {start : ℕ} → map.rows.now ≡ rows → map.sets.now ≡ sets → map.start ≡ start → plan_of map ≡ record { rows = rows; sets = sets; start = start }
+plan_is map same_rows same_sets same_start = rw (same_rows, same_sets, same_start) refl

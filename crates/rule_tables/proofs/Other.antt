@@ -61,4 +61,4 @@ decided-other plan k (Optional end) no_arm no_tail no_optional no_repeat no_some
 decided-other plan k (Repeat end) no_arm no_tail no_optional no_repeat no_some no_list undecided = no_repeat end refl
 decided-other plan k (Once end) no_arm no_tail no_optional no_repeat no_some no_list undecided = no_some end refl
 decided-other plan k (Items end one) no_arm no_tail no_optional no_repeat no_some no_list undecided = no_list end one refl
-decided-other plan k part no_arm no_tail no_optional no_repeat no_some no_list undecided = undecided
+decided-other plan k part no_arm no_tail no_optional no_repeat no_some no_list undecided = undecided.such

@@ -4,12 +4,23 @@ use Rattle.std.specs.Option.{option_and_then, option_or}
 use Rattle.rule_parts.specs.declared.Part.{Part}
 use Rattle.rule_parts.specs.declared.Part.TheVariants as part
 use Rattle.rule_tables.specs.declared.error.RulesError.{RulesError}
-use Rattle.rule_tables.specs.declared.error.RulesError.TheVariants.{Undefined, Doubled, UnknownKind, TooMany}
+use Rattle.rule_tables.specs.declared.error.RulesError.TheVariants.{Undefined, Doubled, UnknownKind, LeftRecursive, Empty, Undecided, Unreached, TooMany}
 use Rattle.rule_tables.specs.declared.outer.Outer.{Outer}
 use Rattle.rule_tables.specs.Definitions.{defined, definition_of, is_before, is_class, is_guard, is_rule, is_set, name_of}
 use Rattle.rule_tables.specs.Outer.{is_member, outer_at}
 use Rattle.rule_tables.specs.Rows.{end_of, level_of, size_of}
 use Rattle.rule_tables.specs.Vocabulary.{Vocabulary, kind_in}
+
+-- the part that is at fault, or 0
+abbrev pub part_at_fault : RulesError → ℕ
+part_at_fault (Undefined i) = i
+part_at_fault (Doubled i) = i
+part_at_fault (UnknownKind i) = i
+part_at_fault (LeftRecursive i) = i
+part_at_fault (Empty i) = i
+part_at_fault (Undecided i kinds) = i
+part_at_fault (Unreached i) = i
+part_at_fault reason = 0
 
 -- ---- names
 

@@ -1,12 +1,12 @@
 -- Parts that four tokens don't decide.
-use Rattle.std.specs.Prelude.{◌≡◌, ℕ, ◌<◌, false, Some, List}
+use Rattle.std.specs.Prelude.{◌≡◌, ℕ, ◌<◌, false, Some, List, slice_get}
 use Rattle.rule_tables.specs.Rows.{file_row}
 use Rattle.squawk_kinds.specs.declared.token_set.TokenSet.{TokenSet}
 use Rattle.rule_grammar.specs.declared.part.Part.{Part}
 use Rattle.rule_parts.specs.declared.Part as parts
 use Rattle.rule_tables.specs.Limits.{IsLimit}
 use Rattle.rule_tables.specs.Settled.{settles}
-use Rattle.rule_tables.specs.Places.{IsUndecided, IsUndecidedRow, Plan}
+use Rattle.rule_tables.specs.Places.{AreTold, ComesTwoWays, IsUndecided, IsUndecidedRow, Plan}
 use Rattle.rule_tables.specs.Walks.{plan_of}
 use Rattle.rule_tables.specs.declared.error.RulesError.{RulesError}
 use Rattle.rule_tables.specs.declared.error.RulesError.TheVariants.{Undecided}
@@ -16,6 +16,10 @@ use Rattle.rule_tables.specs.declared.looks.Fork.{Fork}
 abbrev pub IsOpenAt : Fork → Part → Type 0
 IsOpenAt fork row = (fork.is_settled ≡ false) × IsUndecidedRow (plan_of fork.map.now) fork.part (Some row)
 
+-- and these kinds come two ways there
+abbrev pub IsOpenBy : Fork → Part → List ℕ → Type 0
+IsOpenBy fork row kinds = (fork.is_settled ≡ false) × AreTold (ComesTwoWays (plan_of fork.map.now) fork.part (Some row)) kinds
+
 -- row i is undecided, and not settled
 abbrev pub IsOpen : Plan → List parts.Part → ℕ → Type 0
 IsOpen plan parts i = (settles parts plan.rows i ≡ false) × IsUndecided plan i
@@ -24,9 +28,13 @@ IsOpen plan parts i = (settles parts plan.rows i ≡ false) × IsUndecided plan 
 abbrev pub AreDecided : Plan → List parts.Part → ℕ → Type 0
 AreDecided plan parts n = (i : ℕ) → i < n → IsOpen plan parts i → ⊥
 
--- an error says that a row is, and that it is the first one; or it names nothing
+-- row i is not settled, and these kinds come two ways there
+abbrev pub IsUndecidedBy : Plan → List parts.Part → ℕ → List ℕ → Type 0
+IsUndecidedBy plan parts i kinds = (settles parts plan.rows i ≡ false) × AreTold (ComesTwoWays plan i (slice_get plan.rows i)) kinds
+
+-- an error says that a row is, by which kinds, and that it is the first one; or it names nothing
 abbrev pub IsFirstOpen : Plan → List parts.Part → RulesError → Type 0
-IsFirstOpen plan parts (Undecided j) = IsOpen plan parts j × AreDecided plan parts j
+IsFirstOpen plan parts (Undecided j kinds) = IsUndecidedBy plan parts j kinds × AreDecided plan parts j
 IsFirstOpen plan parts reason = IsLimit reason
 
 -- the rows of parts with the sets of their classes, and the row of the first rule

@@ -16,3 +16,4 @@ pub mod Settled
 pub mod Forks
 pub mod Refusals
 pub mod Texts
+pub mod ErrorLines

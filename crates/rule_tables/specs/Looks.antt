@@ -1,13 +1,20 @@
 -- What decides between two ways.
-use Rattle.std.specs.Prelude.{◌≡◌, ℕ, ◌<◌, ◌⊎◌, true, Some, List, ◌∷◌, length, slice_get}
+use Rattle.std.specs.Prelude.{◌≡◌, ℕ, ◌<◌, ◌⊎◌, true, Some, List, ◌∷◌, drop, length, map, slice_get, take}
 use Rattle.squawk_kinds.specs.TokenSets.{has}
 use Rattle.squawk_kinds.specs.declared.token_set.TokenSet.{TokenSet}
-use Rattle.rule_tables.specs.Places.{AreShared, IsOneOf, Plan, SeesFrom, eats}
+use Rattle.rule_tables.specs.Places.{AreShared, ComeBoth, IsOneOf, Plan, SeesFrom, eats}
+use Rattle.rule_grammar.specs.Parts.{bit_of}
 use Rattle.rule_tables.specs.declared.place.Place.{Place}
+use Rattle.rule_tables.specs.declared.trail.Trail.{Trail}
 
 -- so many kinds come from places of both lists
 abbrev pub ShareWord : Plan → ℕ → List Place → List Place → Type 0
-ShareWord plan count mine others = AreShared count (SeesFrom plan mine) (SeesFrom plan others)
+ShareWord plan count mine others = AreShared count (ComeBoth (SeesFrom plan mine) (SeesFrom plan others))
+
+-- these kinds come both ways, where the first were those of a trail, and the others come from places of both lists
+pub record GoOnBoth (plan : Plan) (mine others : List Place) (trail : Trail) (word : List ℕ) : Type 0 where
+  pub front : take trail.depth word ≡ take trail.depth (map bit_of trail.kinds)
+  pub back : ComeBoth (SeesFrom plan mine) (SeesFrom plan others) (drop trail.depth word)
 
 -- a set has a kind
 pub record HasOne (sets : List TokenSet) (kind : ℕ) : Type 0 where

@@ -1,5 +1,5 @@
 -- Places in rules, where parsing goes from each, and which kinds of tokens may come.
-use Rattle.std.specs.Prelude.{◌≡◌, ℕ, zero, suc, ◌+◌, ◌-◌, ◌<◌, nat_lt, max, Bool, true, false, Option, Some, None, List, [], ◌∷◌, length, slice_get, if◌then◌else◌, ◌⊎◌}
+use Rattle.std.specs.Prelude.{◌≡◌, ℕ, zero, suc, ◌+◌, ◌-◌, ◌<◌, nat_lt, max, Bool, true, false, Option, Some, None, List, [], ◌∷◌, length, map, slice_get, if◌then◌else◌, ◌⊎◌}
 use Rattle.squawk_kinds.specs.Kinds.{EOF, IDENT}
 use Rattle.squawk_kinds.specs.declared.token_set.TokenSet.{TokenSet}
 use Rattle.rule_grammar.specs.declared.part.Part.{Part}
@@ -235,26 +235,37 @@ pub record SeesRival (plan : Plan) (way : Way) (k : ℕ) (word : List ℕ) : Typ
   pub later : k < rival
   pub sees : Sees plan (led_to way rival) word
 
--- so many kinds come both ways
-pub record AreShared (count : ℕ) (one other : List ℕ → Type 0) : Type 0 where
+-- these kinds come both ways
+abbrev pub ComeBoth : (List ℕ → Type 0) → (List ℕ → Type 0) → List ℕ → Type 0
+ComeBoth one other word = one word × other word
+
+-- from before the first row in row k, and from after row k
+abbrev pub ComesFirst : Plan → ℕ → Option ℕ → List ℕ → Type 0
+ComesFirst plan k None = λ word. ⊥
+ComesFirst plan k (Some first) = ComeBoth (Sees plan (Before first)) (Sees plan (After k))
+
+-- these kinds come two ways at row k, which is this one
+abbrev pub ComesTwoWays : Plan → ℕ → Option Part → List ℕ → Type 0
+ComesTwoWays plan k (Some (Arm end)) = ComeBoth (Sees plan (Before k)) (SeesRival plan way.Arm k)
+ComesTwoWays plan k (Some (Tail end level top)) = ComeBoth (Sees plan (Before k)) (SeesRival plan way.Tail k)
+ComesTwoWays plan k (Some (Optional end)) = ComesFirst plan k (first_in plan.rows k)
+ComesTwoWays plan k (Some (Repeat end)) = ComesFirst plan k (first_in plan.rows k)
+ComesTwoWays plan k (Some (Once end)) = ComesFirst plan k (first_in plan.rows k)
+ComesTwoWays plan k (Some (Items end separator)) = ComeBoth (Sees plan (Separator k)) (Sees plan (After k))
+ComesTwoWays plan k row = λ word. ⊥
+
+-- some kinds are such, so many
+pub record AreShared (count : ℕ) (Such : List ℕ → Type 0) : Type 0 where
   pub word : List ℕ
   pub len : length word ≡ count
-  pub first : one word
-  pub second : other word
+  pub such : Such word
 
--- four come from before the first row in row k, and from after row k
-abbrev pub SharesFirst : Plan → ℕ → Option ℕ → Type 0
-SharesFirst plan k None = ⊥
-SharesFirst plan k (Some first) = AreShared 4 (Sees plan (Before first)) (Sees plan (After k))
+-- four kinds that are told are such, where sets have composite kinds by those that stand for them
+abbrev pub AreTold : (List ℕ → Type 0) → List ℕ → Type 0
+AreTold Such kinds = (length kinds ≡ 4) × Such (map bit_of kinds)
 
 abbrev pub IsUndecidedRow : Plan → ℕ → Option Part → Type 0
-IsUndecidedRow plan k (Some (Arm end)) = AreShared 4 (Sees plan (Before k)) (SeesRival plan way.Arm k)
-IsUndecidedRow plan k (Some (Tail end level top)) = AreShared 4 (Sees plan (Before k)) (SeesRival plan way.Tail k)
-IsUndecidedRow plan k (Some (Optional end)) = SharesFirst plan k (first_in plan.rows k)
-IsUndecidedRow plan k (Some (Repeat end)) = SharesFirst plan k (first_in plan.rows k)
-IsUndecidedRow plan k (Some (Once end)) = SharesFirst plan k (first_in plan.rows k)
-IsUndecidedRow plan k (Some (Items end separator)) = AreShared 4 (Sees plan (Separator k)) (Sees plan (After k))
-IsUndecidedRow plan k row = ⊥
+IsUndecidedRow plan k row = AreShared 4 (ComesTwoWays plan k row)
 
 -- four tokens don't decide between two ways at row k
 abbrev pub IsUndecided : Plan → ℕ → Type 0

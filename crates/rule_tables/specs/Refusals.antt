@@ -10,6 +10,7 @@ use Rattle.rule_parts.specs.declared.Part.{Part}
 use Rattle.rule_tables.specs.Classes.{AreClasses, list_has}
 use Rattle.rule_tables.specs.Faults.{fault_of}
 use Rattle.rule_tables.specs.Forks.{AreDecided, IsFirstOpen, plan_in}
+use Rattle.rule_tables.specs.Places.{Plan}
 use Rattle.rule_tables.specs.Rows.{AreRows, file_row}
 use Rattle.rule_tables.specs.Vocabulary.{Vocabulary}
 use Rattle.rule_tables.specs.declared.error.RulesError.{RulesError}
@@ -43,6 +44,11 @@ pub record AreOf (v : Vocabulary) (parts : List Part) (rows : List row.Part) (se
   pub len : length rows ≡ length parts
   pub classes : AreClasses v parts (list_has sets) (length parts)
 
+-- a plan has the rows and the sets of parts, and begins with the first rule
+pub record IsPlanOf (v : Vocabulary) (parts : List Part) (plan : Plan) : Type 0 where
+  pub are : AreOf v parts plan.rows plan.sets
+  pub start : plan.start ≡ file_row parts
+
 -- Parts without faults: none leads back to itself, repeats nothing, is undecided, or is never reached.
 pub record AreSound (v : Vocabulary) (parts : List Part) : Type 0 where
   pub rows : List row.Part
@@ -56,7 +62,7 @@ pub record AreSound (v : Vocabulary) (parts : List Part) : Type 0 where
 abbrev pub IsFaultOf : List Part → List row.Part → List TokenSet → RulesError → Type 0
 IsFaultOf parts rows sets (LeftRecursive j) = IsEndless rows (LeftRecursive j)
 IsFaultOf parts rows sets (Empty j) = IsEndless rows (Empty j)
-IsFaultOf parts rows sets (Undecided j) = NotEndless rows × IsFirstOpen (plan_in parts rows sets) parts (Undecided j)
+IsFaultOf parts rows sets (Undecided j kinds) = NotEndless rows × IsFirstOpen (plan_in parts rows sets) parts (Undecided j kinds)
 IsFaultOf parts rows sets (Unreached j) = NotEndless rows × AreDecided (plan_in parts rows sets) parts (length rows) × IsLost rows (file_row parts) (Unreached j)
 IsFaultOf parts rows sets TooMany = NotEndless rows
 IsFaultOf parts rows sets reason = ⊥

@@ -1,6 +1,8 @@
 -- What a walk over places keeps, and what it finds.
-use Rattle.std.specs.Prelude.{◌≡◌, ℕ, ◌+◌, ◌*◌, ◌<◌, ◌≤◌, ◌==◌, ◌⊎◌, true, Some, List, [], ◌∷◌, length, slice_get, slice_index}
+use Rattle.std.specs.Prelude.{◌≡◌, ℕ, ◌+◌, ◌*◌, ◌<◌, ◌≤◌, ◌==◌, ◌⊎◌, ◌↔◌, true, Some, List, [], ◌∷◌, length, slice_get, slice_index}
 use Rattle.std.specs.List.{All, count_by}
+use Rattle.squawk_kinds.specs.TokenSets.{has}
+use Rattle.squawk_kinds.specs.declared.token_set.TokenSet.{TokenSet}
 use Rattle.rule_tables.specs.Places.{IsOneOf, Leads, Moves, Plan, Sees, SeesFrom, does_eat, led_to}
 use Rattle.rule_tables.specs.declared.place.Place.{Place}
 use Rattle.rule_tables.specs.declared.place.Place.TheVariants.{Before, After, Separator, End}
@@ -68,3 +70,7 @@ pub record AreFirst (plan : Plan) (Such : List ℕ → Type 0) (places : List Pl
   pub eat : All (λ p. does_eat plan p ≡ true) places
   pub only : (kind : ℕ) (word : List ℕ) → SeesFrom plan places (kind ∷ word) → Such (kind ∷ word)
   pub all : (kind : ℕ) (word : List ℕ) → Such (kind ∷ word) → SeesFrom plan places (kind ∷ word)
+
+-- the kinds that may come next at a place
+abbrev pub AreNext : Plan → Place → TokenSet → Type 0
+AreNext plan p kinds = (kind : ℕ) → (has kinds kind ≡ true) ↔ Sees plan p (kind ∷ [])

@@ -1,5 +1,7 @@
 //! Why rules can't be run.
 ghost use Rattle.std.specs.Prelude.{◌≡◌};
+ghost use Rattle.rule_tables.specs.ErrorLines.{message_of};
+ghost use Rattle.rule_tables.specs.Faults.{part_at_fault};
 
 use std::alloc::AllocError;
 use std::error::Error;
@@ -18,8 +20,9 @@ pub enum RulesError {
     LeftRecursive { part: usize },
     /// What the part repeats, or an item of the list, may be empty.
     Empty { part: usize },
-    /// Some tokens fit two ways at the part, also after four tokens.
-    Undecided { part: usize },
+    /// Four tokens of these kinds fit two ways at the part. The kinds are told by their numbers; where a text may end
+    /// before the fourth token, EOF stands after it.
+    Undecided { part: usize, kinds: [u16; 4] },
     /// The rule isn't called from the first one, also through others.
     Unreached { part: usize },
     /// There are more than 65,000 parts, also by their sizes, a level above 65,000, or more than 65,535 sets or looks.
@@ -30,18 +33,22 @@ pub enum RulesError {
 
 impl RulesError {
     /// The part that is at fault; 0 if none is.
-    pub fn part(&self) -> usize {
+    pub fn part(&self) -> usize
+        ensures { result ≡ part_at_fault self.now }
+    {
         match self {
             RulesError::Undefined { part } | RulesError::Doubled { part } => *part,
             RulesError::UnknownKind { part } | RulesError::LeftRecursive { part } => *part,
-            RulesError::Empty { part } | RulesError::Undecided { part } => *part,
-            RulesError::Unreached { part } => *part,
+            RulesError::Empty { part } | RulesError::Unreached { part } => *part,
+            RulesError::Undecided { part, .. } => *part,
             RulesError::TooMany | RulesError::Memory(_) => 0,
         }
     }
 
     /// What is wrong, in a few words.
-    pub fn message(&self) -> &'static str {
+    pub fn message(&self) -> &'static str
+        ensures { result.now ≡ message_of self.now }
+    {
         match self {
             RulesError::Undefined { .. } => "no rule has this name",
             RulesError::Doubled { .. } => "two rules have this name",
@@ -57,6 +64,11 @@ impl RulesError {
 }
 
 impl fmt::Display for RulesError {
+    ghost use Rattle.std.specs.Prelude.{Some};
+    ghost use Rattle.rule_tables.specs.ErrorLines.{rules_error_line};
+
+    ghost output = { λ error. Some (rules_error_line error) };
+
     fn fmt<W: fmt::Write>(&self, f: &mut fmt::Formatter<W>) -> fmt::Result {
         match self {
             RulesError::TooMany | RulesError::Memory(_) => write!(f, "{}", self.message()),

@@ -25,11 +25,15 @@ mod numbers;
 mod outer;
 mod place;
 mod read;
+mod refuse;
 mod rows;
 mod rules;
+mod set_words;
 mod sets;
 mod settled;
+mod shown;
 mod symbols;
+mod trail;
 mod walk;
 
 pub use categories::keyword_classes;

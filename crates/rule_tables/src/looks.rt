@@ -2,8 +2,8 @@
 ghost use Rattle.std.specs.Prelude.{◌≡◌, ℕ, ◌-◌, ◌<◌, ◌≤◌, ◌&&◌, ◌⊎◌, All, IfErr, IfOk, OnOk, length, true, false};
 ghost use Rattle.squawk_kinds.specs.TokenSets.{has};
 ghost use Rattle.rule_tables.specs.Limits.{IsLimit, IsUndecidedIf};
-ghost use Rattle.rule_tables.specs.Looks.{IsAlike, ShareAfter, ShareWord};
-ghost use Rattle.rule_tables.specs.Places.{AreShared, Sees, SeesRival, SharesFirst, does_eat, first_in};
+ghost use Rattle.rule_tables.specs.Looks.{GoOnBoth, IsAlike, ShareAfter, ShareWord};
+ghost use Rattle.rule_tables.specs.Places.{AreShared, AreTold, ComeBoth, ComesFirst, Sees, SeesFrom, SeesRival, does_eat, first_in};
 ghost use Rattle.rule_tables.specs.Sets.{Extends};
 ghost use Rattle.rule_tables.specs.Walks.{plan_of};
 
@@ -13,12 +13,13 @@ use crate::groups::groups;
 use crate::map::Map;
 use crate::place::{Place, Way};
 use crate::sets::{Sets, both, first_of, is_empty, push, without};
+use crate::trail::Trail;
 use crate::walk::Walk;
 use squawk_kinds::TokenSet;
 use std::alloc::Global;
 
 /// Any kind, in a look.
-const ANY: u16 = u16::MAX;
+pub(crate) const ANY: u16 = u16::MAX;
 
 /// A look: the sets that the tokens are in, or [`ANY`], and the number of the look that is tried next, or 0.
 pub(crate) type Look = [u16; 5];
@@ -54,8 +55,8 @@ impl Looks {
     /// The number of the look at which an arm or operator is gone into, and no later one beside it.
     pub(crate) fn apart(&mut self, fork: &Fork<'_>, way: Way) -> Result<u16, RulesError>
         requires { fork.now.part < length fork.now.map.now.rows.now }
-        ensures err { IfErr result (IsUndecidedIf ((fork.now.is_settled ≡ false) × AreShared 4 (Sees (plan_of fork.now.map.now) (Place.Before fork.now.part)) (SeesRival (plan_of fork.now.map.now) way fork.now.part)) fork.now.part) }
-        ensures ok { OnOk result (fork.now.is_settled ≡ false → AreShared 4 (Sees (plan_of fork.now.map.now) (Place.Before fork.now.part)) (SeesRival (plan_of fork.now.map.now) way fork.now.part) → ⊥) }
+        ensures err { IfErr result (IsUndecidedIf (λ kinds. (fork.now.is_settled ≡ false) × AreTold (ComeBoth (Sees (plan_of fork.now.map.now) (Place.Before fork.now.part)) (SeesRival (plan_of fork.now.map.now) way fork.now.part)) kinds) fork.now.part) }
+        ensures ok { OnOk result (fork.now.is_settled ≡ false → AreShared 4 (ComeBoth (Sees (plan_of fork.now.map.now) (Place.Before fork.now.part)) (SeesRival (plan_of fork.now.map.now) way fork.now.part)) → ⊥) }
         ensures keeps { OnOk result (Extends self.old.sets.list.items self.new.sets.list.items) }
     {
         let mine = self
@@ -67,8 +68,8 @@ impl Looks {
 
     /// The number of the look at which a part goes on at its first row, and not after it.
     pub(crate) fn more_in(&mut self, fork: &Fork<'_>) -> Result<u16, RulesError>
-        ensures err { IfErr result (IsUndecidedIf ((fork.now.is_settled ≡ false) × SharesFirst (plan_of fork.now.map.now) fork.now.part (first_in fork.now.map.now.rows.now fork.now.part)) fork.now.part) }
-        ensures ok { OnOk result (fork.now.is_settled ≡ false → SharesFirst (plan_of fork.now.map.now) fork.now.part (first_in fork.now.map.now.rows.now fork.now.part) → ⊥) }
+        ensures err { IfErr result (IsUndecidedIf (λ kinds. (fork.now.is_settled ≡ false) × AreTold (ComesFirst (plan_of fork.now.map.now) fork.now.part (first_in fork.now.map.now.rows.now fork.now.part)) kinds) fork.now.part) }
+        ensures ok { OnOk result (fork.now.is_settled ≡ false → AreShared 4 (ComesFirst (plan_of fork.now.map.now) fork.now.part (first_in fork.now.map.now.rows.now fork.now.part)) → ⊥) }
         ensures keeps { OnOk result (Extends self.old.sets.list.items self.new.sets.list.items) }
     {
         match fork.map.first(fork.part) {
@@ -79,8 +80,8 @@ impl Looks {
 
     /// The number of the look at which a part goes on at a place, and not after it.
     pub(crate) fn more(&mut self, fork: &Fork<'_>, place: Place) -> Result<u16, RulesError>
-        ensures err { IfErr result (IsUndecidedIf ((fork.now.is_settled ≡ false) × AreShared 4 (Sees (plan_of fork.now.map.now) place) (Sees (plan_of fork.now.map.now) (Place.After fork.now.part))) fork.now.part) }
-        ensures ok { OnOk result (fork.now.is_settled ≡ false → AreShared 4 (Sees (plan_of fork.now.map.now) place) (Sees (plan_of fork.now.map.now) (Place.After fork.now.part)) → ⊥) }
+        ensures err { IfErr result (IsUndecidedIf (λ kinds. (fork.now.is_settled ≡ false) × AreTold (ComeBoth (Sees (plan_of fork.now.map.now) place) (Sees (plan_of fork.now.map.now) (Place.After fork.now.part))) kinds) fork.now.part) }
+        ensures ok { OnOk result (fork.now.is_settled ≡ false → AreShared 4 (ComeBoth (Sees (plan_of fork.now.map.now) place) (Sees (plan_of fork.now.map.now) (Place.After fork.now.part))) → ⊥) }
         ensures keeps { OnOk result (Extends self.old.sets.list.items self.new.sets.list.items) }
     {
         let mine = self.walk.from(self.alloc, fork.map, place)?;
@@ -99,7 +100,7 @@ impl Looks {
     ) -> Result<u16, RulesError>
         requires mine { All (λ p. does_eat (plan_of fork.now.map.now) p ≡ true) mine.now }
         requires others { All (λ p. does_eat (plan_of fork.now.map.now) p ≡ true) others.now }
-        ensures err { IfErr result (IsUndecidedIf ((fork.now.is_settled ≡ false) × ShareWord (plan_of fork.now.map.now) 4 mine.now others.now) fork.now.part) }
+        ensures err { IfErr result (IsUndecidedIf (λ kinds. (fork.now.is_settled ≡ false) × AreTold (ComeBoth (SeesFrom (plan_of fork.now.map.now) mine.now) (SeesFrom (plan_of fork.now.map.now) others.now)) kinds) fork.now.part) }
         ensures ok { OnOk result (fork.now.is_settled ≡ false → ShareWord (plan_of fork.now.map.now) 4 mine.now others.now → ⊥) }
         ensures keeps { OnOk result (Extends self.old.sets.list.items self.new.sets.list.items) }
     {
@@ -107,7 +108,7 @@ impl Looks {
             return Ok(0);
         }
         let first = number_of(self.list.len())?;
-        self.decide_after(fork, mine, others, &[ANY; 5], 0)?;
+        self.decide_after(fork, mine, others, &Trail::none())?;
         self.link(usize::from(first))?;
         Ok(first)
     }
@@ -127,38 +128,40 @@ impl Looks {
         Ok(())
     }
 
-    /// Adds the looks that begin so, where `depth` tokens came.
+    /// Adds the looks at more tokens after some that came.
     #[cycle(decide)]
     fn decide_after(
         &mut self,
         fork: &Fork<'_>,
         mine: &[Place],
         others: &[Place],
-        look: &Look,
-        depth: usize,
+        trail: &Trail,
     ) -> Result<(), RulesError>
-        requires depth { depth < 4 }
+        requires depth { trail.now.depth < 4 }
         requires mine { All (λ p. does_eat (plan_of fork.now.map.now) p ≡ true) mine.now }
         requires others { All (λ p. does_eat (plan_of fork.now.map.now) p ≡ true) others.now }
-        ensures err { IfErr result (IsUndecidedIf ((fork.now.is_settled ≡ false) × ShareWord (plan_of fork.now.map.now) (4 - depth) mine.now others.now) fork.now.part) }
-        ensures ok { OnOk result (fork.now.is_settled ≡ false → ShareWord (plan_of fork.now.map.now) (4 - depth) mine.now others.now → ⊥) }
+        ensures err { IfErr result (IsUndecidedIf (λ kinds. (fork.now.is_settled ≡ false) × AreTold (GoOnBoth (plan_of fork.now.map.now) mine.now others.now trail.now) kinds) fork.now.part) }
+        ensures ok { OnOk result (fork.now.is_settled ≡ false → ShareWord (plan_of fork.now.map.now) (4 - trail.now.depth) mine.now others.now → ⊥) }
         ensures keeps { OnOk result (Extends self.old.sets.list.items self.new.sets.list.items) }
     {
         let own = kinds_at(fork.map, mine);
-        let shared = shared(fork, own, kinds_at(fork.map, others), depth);
+        let shared = shared(fork, own, kinds_at(fork.map, others), trail.depth);
         let alone = without(own, shared);
         if !is_empty(alone) {
-            self.add(look, depth, alone)?;
+            self.add(trail, alone)?;
         }
-        let Some(_) = first_of(shared) else {
+        let Some(kind) = first_of(shared) else {
             return Ok(());
         };
-        if depth + 1 >= 4 {
-            return Err(RulesError::Undecided { part: fork.part });
+        if trail.depth + 1 >= 4 {
+            return Err(RulesError::Undecided {
+                part: fork.part,
+                kinds: trail.told(kind),
+            });
         }
         let groups = groups(self.alloc, fork.map, mine, others, shared)?;
         for group in &groups {
-            self.decide_group(fork, mine, others, look, depth, *group)?;
+            self.decide_group(fork, mine, others, trail, *group)?;
         }
         Ok(())
     }
@@ -170,37 +173,34 @@ impl Looks {
         fork: &Fork<'_>,
         mine: &[Place],
         others: &[Place],
-        look: &Look,
-        depth: usize,
+        trail: &Trail,
         group: TokenSet,
     ) -> Result<(), RulesError>
-        requires depth { depth < 3 }
+        requires depth { trail.now.depth < 3 }
         requires mine { All (λ p. does_eat (plan_of fork.now.map.now) p ≡ true) mine.now }
         requires others { All (λ p. does_eat (plan_of fork.now.map.now) p ≡ true) others.now }
         requires alike_mine { IsAlike (plan_of fork.now.map.now) mine.now group }
         requires alike_others { IsAlike (plan_of fork.now.map.now) others.now group }
-        ensures err { IfErr result (IsUndecidedIf ((fork.now.is_settled ≡ false) × ShareWord (plan_of fork.now.map.now) (4 - depth) mine.now others.now) fork.now.part) }
-        ensures ok { OnOk result (fork.now.is_settled ≡ false → ShareAfter (plan_of fork.now.map.now) (3 - depth) group mine.now others.now → ⊥) }
+        ensures err { IfErr result (IsUndecidedIf (λ kinds. (fork.now.is_settled ≡ false) × AreTold (GoOnBoth (plan_of fork.now.map.now) mine.now others.now trail.now) kinds) fork.now.part) }
+        ensures ok { OnOk result (fork.now.is_settled ≡ false → ShareAfter (plan_of fork.now.map.now) (3 - trail.now.depth) group mine.now others.now → ⊥) }
         ensures keeps { OnOk result (Extends self.old.sets.list.items self.new.sets.list.items) }
     {
         let Some(kind) = first_of(group) else {
             return Ok(());
         };
-        let mut look = *look;
-        look[depth] = self.sets.number(group)?;
+        let set = self.sets.number(group)?;
         let mine = self.walk.over(self.alloc, fork.map, mine, kind)?;
         let others = self.walk.over(self.alloc, fork.map, others, kind)?;
-        self.decide_after(fork, &mine, &others, &look, depth + 1)
+        self.decide_after(fork, &mine, &others, &trail.then(set, kind))
     }
 
-    fn add(&mut self, look: &Look, depth: usize, set: TokenSet) -> Result<(), RulesError>
-        requires { depth < 4 }
+    fn add(&mut self, trail: &Trail, set: TokenSet) -> Result<(), RulesError>
+        requires { trail.now.depth < 4 }
         ensures err { IfErr result IsLimit }
         ensures keeps { OnOk result (Extends self.old.sets.list.items self.new.sets.list.items) }
     {
-        let mut look = *look;
-        look[depth] = self.sets.number(set)?;
-        push(&mut self.list, look)?;
+        let set = self.sets.number(set)?;
+        push(&mut self.list, trail.look_at(set))?;
         Ok(())
     }
 }

@@ -1,22 +1,59 @@
-//! The numbers of a row.
-ghost use Rattle.std.specs.Prelude.{◌≡◌, ◌<◌, ◌%◌, IfErr, IfOk, IsTrue, OnOk, Some, slice_get, slice_index};
+//! The numbers of rows.
+ghost use Rattle.std.specs.Prelude.{◌≡◌, ◌<◌, ◌%◌, All, IfErr, IfOk, IsTrue, OnOk, Some, length, slice_get, slice_index};
 ghost use Rattle.rule_grammar.specs.Parts.{part_by, part_of};
-ghost use Rattle.rule_tables.specs.Forks.{IsOpenAt};
+ghost use Rattle.rule_tables.specs.Forks.{AreDecided, IsFirstOpen, IsOpenAt, IsOpenBy};
 ghost use Rattle.rule_tables.specs.Limits.{IsLimit, IsUndecidedIf};
 ghost use Rattle.rule_tables.specs.Sets.{Extends};
-ghost use Rattle.rule_tables.specs.Rows.{is_exact, tail_tag};
+ghost use Rattle.rule_tables.specs.Rows.{SayRows, is_exact, tail_tag};
+ghost use Rattle.rule_tables.specs.Walks.{plan_of};
 
 use crate::eats::kinds_at;
 use crate::error::RulesError;
 use crate::follow::Ahead;
 use crate::looks::{Fork, Looks};
+use crate::map::Map;
+use crate::messages::row_of_message;
 use crate::place::{Place, Way};
+use crate::sets::push;
+use crate::settled::is_settled;
 use rule_grammar::Part as Row;
+use rule_parts::Part;
 use squawk_kinds::TokenSet;
+
+/// The numbers of all rows.
+pub(crate) fn all_numbers(
+    looks: &mut Looks,
+    map: &Map<'_>,
+    parts: &[Part<'_>],
+    ahead: &[Ahead],
+) -> Result<Vec<[u16; 8]>, RulesError>
+    requires { All (λ row. IsTrue (is_exact row)) map.now.rows.now }
+    ensures err { IfErr result (IsFirstOpen (plan_of map.now) parts.now) }
+    ensures decided { OnOk result (AreDecided (plan_of map.now) parts.now (length map.now.rows.now)) }
+    ensures keeps { OnOk result (Extends looks.old.sets.list.items looks.new.sets.list.items) }
+    ensures ok { IfOk result (λ numbers. SayRows map.now.rows.now numbers.items) }
+{
+    let mut numbers = Vec::new(looks.alloc);
+    for (index, row) in map.rows.iter().enumerate() {
+        let fork = Fork {
+            map: &*map,
+            part: index,
+            is_settled: is_settled(parts, map, index),
+        };
+        let message = to_u16(row_of_message(parts, map, index));
+        let numbers_of_row = numbers_of(looks, &fork, ahead, row, message)?;
+        push(&mut numbers, numbers_of_row)?;
+    }
+    Ok(numbers)
+}
+
+fn to_u16(number: usize) -> u16 {
+    u16::try_from(number).unwrap_or(u16::MAX)
+}
 
 /// The numbers of a row.
 #[tactic(auto, using(crate::proofs::Limited::limit_if))]
-pub(crate) fn numbers_of(
+fn numbers_of(
     looks: &mut Looks,
     fork: &Fork<'_>,
     ahead: &[Ahead],
@@ -25,7 +62,7 @@ pub(crate) fn numbers_of(
 ) -> Result<[u16; 8], RulesError>
     requires exact { IsTrue (is_exact row.now) }
     requires row { slice_get fork.now.map.now.rows.now fork.now.part ≡ Some row.now }
-    ensures err { IfErr result (IsUndecidedIf (IsOpenAt fork.now row.now) fork.now.part) }
+    ensures err { IfErr result (IsUndecidedIf (IsOpenBy fork.now row.now) fork.now.part) }
     ensures decided { OnOk result (IsOpenAt fork.now row.now → ⊥) }
     ensures keeps { OnOk result (Extends looks.old.sets.list.items looks.new.sets.list.items) }
     ensures ok { IfOk result (λ numbers. part_of numbers ≡ row.now) }
@@ -115,7 +152,7 @@ fn begins(
 #[tactic(auto, using(crate::proofs::Limited::limit_if))]
 fn look(looks: &mut Looks, fork: &Fork<'_>, known: &Ahead, row: &Row) -> Result<u16, RulesError>
     requires { slice_get fork.now.map.now.rows.now fork.now.part ≡ Some row.now }
-    ensures err { IfErr result (IsUndecidedIf (IsOpenAt fork.now row.now) fork.now.part) }
+    ensures err { IfErr result (IsUndecidedIf (IsOpenBy fork.now row.now) fork.now.part) }
     ensures decided { OnOk result (IsOpenAt fork.now row.now → ⊥) }
     ensures keeps { OnOk result (Extends looks.old.sets.list.items looks.new.sets.list.items) }
 {

@@ -1,35 +1,34 @@
 //! Rules that are ready to be run.
-ghost use Rattle.std.specs.Prelude.{◌≡◌, ℕ, false, ◌<◌, ◌≤◌, All, IfErr, IfOk, IsTrue, None, OnOk, Some, length, slice_get};
+ghost use Rattle.std.specs.Prelude.{◌≡◌, ℕ, false, ◌≤◌, All, IfErr, IfOk, IsTrue, None, OnOk, length};
 ghost use Rattle.squawk_kinds.specs.Kinds.{EOF};
 ghost use Rattle.squawk_kinds.specs.TokenSets.{has};
-ghost use Rattle.rule_grammar.specs.Parts.{words_have};
 ghost use Rattle.rule_tables.specs.Classes.{HasClasses};
 ghost use Rattle.rule_tables.specs.Faults.{fault_of};
 ghost use Rattle.rule_tables.specs.Forks.{AreDecided, IsFirstOpen, plan_in};
-ghost use Rattle.rule_checks.specs.Rules.{IsUnreached};
-ghost use Rattle.rule_checks.specs.Sets.{IsFirst};
-ghost use Rattle.rule_tables.specs.Refusals.{AreSound, IsEndless, IsLost, IsRefusal, IsRefused, NotEndless};
+ghost use Rattle.rule_tables.specs.Refusals.{AreSound, IsPlanOf, IsRefusal, IsRefused};
 ghost use Rattle.rule_tables.specs.Rows.{AreSmall, HasRows, IsFileRule, SayRows, is_exact};
-ghost use Rattle.rule_tables.specs.Sets.{Extends, HaveSets, word_of};
-ghost use Rattle.rule_tables.specs.Walks.{plan_of};
+ghost use Rattle.rule_tables.specs.Sets.{HaveSets};
+ghost use Rattle.rule_tables.specs.Walks.{AreNext};
 
 use crate::classes::sets_of;
 use crate::definitions::Definitions;
+use crate::eats::kinds_at;
 use crate::error::RulesError;
 use crate::faults::fault_of;
-use crate::follow::{Ahead, ahead_of};
-use crate::looks::{Fork, Look, Looks};
+use crate::follow::ahead_of;
+use crate::looks::{Look, Looks};
 use crate::map::Map;
-use crate::messages::{Messages, row_of_message};
+use crate::messages::Messages;
 use crate::named::{file_of, file_row};
 use crate::names::Names;
-use crate::numbers::numbers_of;
+use crate::numbers::all_numbers;
+use crate::place::Place;
+use crate::refuse::{refuse_endless, refuse_unreached};
 use crate::rows::rows_of;
-use crate::sets::{Sets, push};
-use crate::settled::is_settled;
+use crate::set_words::all_words;
+use crate::sets::Sets;
 use crate::symbols::Symbols;
 use crate::walk::Walk;
-use rule_checks::{empty_repeat, left_recursive, unreached};
 use rule_grammar::{DEPTH, Part as Row, RuleGrammar, Table};
 use rule_parts::Part;
 use squawk_kinds::{SyntaxKind, TokenSet};
@@ -50,19 +49,33 @@ pub struct Rules {
     end: u16,
     /// The kinds that operators are made of.
     operators: TokenSet,
+    /// How many calls of rules may stand in one another.
+    depth: u32,
+    /// The rows and the sets of their classes, and the row of the header of the rule of a file.
+    parts: Vec<Row>,
+    classes: Vec<TokenSet>,
+    file: usize,
 }
 
 impl Model for Rules {
-    ghost use Rattle.std.specs.Prelude.{◌≡◌, false};
+    ghost use Rattle.std.specs.Prelude.{◌≡◌, ◌≤◌, false, length};
     ghost use Rattle.squawk_kinds.specs.Kinds.{EOF};
     ghost use Rattle.squawk_kinds.specs.TokenSets.{has};
     ghost use Rattle.rule_tables.specs.Made.{Made};
 
     ghost Value = { Made };
 
-    ghost view = { λ rules. record { rows = rules.rows.items; sets = rules.sets.items; start = rules.start; end = rules.end; operators = rules.operators } };
+    ghost view = { λ rules. record {
+      rows = rules.rows.items;
+      sets = rules.sets.items;
+      start = rules.start;
+      end = rules.end;
+      operators = rules.operators;
+      depth = rules.depth;
+      plan = record { rows = rules.parts.items; sets = rules.classes.items; start = rules.file };
+    } };
 
-    ghost invariant = { λ rules. has rules.operators EOF ≡ false };
+    ghost invariant = { λ rules. (has rules.operators EOF ≡ false) × (length rules.parts.items ≤ 65535) };
 }
 
 impl Rules {
@@ -75,11 +88,48 @@ impl Rules {
         ensures classes { IfOk result (λ rules. HasClasses (N.vocabulary names.now) parts.now rules.sets) }
         ensures rows { IfOk result (λ rules. HasRows (N.vocabulary names.now) parts.now rules.rows) }
         ensures operators { IfOk result (λ rules. (kind : ℕ) → has rules.operators kind ≡ (N.vocabulary names.now).operators kind) }
+        ensures plan { IfOk result (λ rules. IsPlanOf (N.vocabulary names.now) parts.now rules.plan) }
+        ensures depth { IfOk result (λ rules. rules.depth ≡ DEPTH) }
     {
         let definitions = Definitions::new(alloc, parts)?;
         match fault_of(&definitions, names) {
             Some(fault) => Err(fault),
             None => rules_by(alloc, &definitions, names),
+        }
+    }
+
+    /// These rules, where so many calls of rules may stand in one another, and not [`DEPTH`]. A call takes stack.
+    pub fn with_depth(mut self, depth: u32) -> Rules
+        ensures { result ≡ record self { depth = depth } }
+    {
+        self.depth = depth;
+        self
+    }
+
+    /// The kinds of the tokens that may come where a part stands: what it begins with and, if it may be empty, what may
+    /// come after it, also after its rule. EOF is the end of the text; composite kinds are told as by
+    /// [`bit_of`](rule_grammar::bit_of). `part` is the index of the part; a rule's is that of its [`Part::Rule`].
+    pub fn kinds_at(&self, alloc: Global, part: usize) -> Result<TokenSet, AllocError>
+        ensures { IfOk result (AreNext self.now.plan (Place.Before part)) }
+    {
+        self.next_kinds(alloc, Place::Before(part))
+    }
+
+    /// The kinds of the tokens that may come after a part, also after its rule, in the same way.
+    pub fn kinds_after(&self, alloc: Global, part: usize) -> Result<TokenSet, AllocError>
+        ensures { IfOk result (AreNext self.now.plan (Place.After part)) }
+    {
+        self.next_kinds(alloc, Place::After(part))
+    }
+
+    fn next_kinds(&self, alloc: Global, place: Place) -> Result<TokenSet, AllocError>
+        ensures { IfOk result (AreNext self.now.plan place) }
+    {
+        let map = Map::new(alloc, &self.parts, &self.classes, self.file)?;
+        let mut walk = Walk::new(alloc);
+        match walk.from(alloc, &map, place) {
+            Ok(places) => Ok(kinds_at(&map, &places)),
+            Err(_reason) => Err(AllocError),
         }
     }
 
@@ -129,7 +179,7 @@ impl Grammar for Rules {
             start: self.start,
             end: self.end,
             root: SyntaxKind::ERROR,
-            depth: DEPTH,
+            depth: self.depth,
             names: &[],
         };
         grammar.entry_point(p)
@@ -157,6 +207,8 @@ fn rules_by<N: Names>(
     ensures classes { IfOk result (λ rules. HasClasses (N.vocabulary names.now) definitions.now.parts.now rules.sets) }
     ensures rows { IfOk result (λ rules. HasRows (N.vocabulary names.now) definitions.now.parts.now rules.rows) }
     ensures operators { IfOk result (λ rules. (kind : ℕ) → has rules.operators kind ≡ (N.vocabulary names.now).operators kind) }
+    ensures plan { IfOk result (λ rules. IsPlanOf (N.vocabulary names.now) definitions.now.parts.now rules.plan) }
+    ensures depth { IfOk result (λ rules. rules.depth ≡ DEPTH) }
 {
     let rows = rows_of(alloc, definitions, names)?;
     let sets = sets_of(alloc, definitions, names)?;
@@ -164,31 +216,6 @@ fn rules_by<N: Names>(
     let rules = rules_of(alloc, definitions, &rows, &sets, names.operators())?;
     refuse_unreached(alloc, &rows, file_row(definitions.parts))?;
     Ok(rules)
-}
-
-/// Refuses rows that call themselves first, then those that repeat nothing.
-fn refuse_endless(alloc: Global, rows: &[Row]) -> Result<(), RulesError>
-    ensures err { IfErr result (IsEndless rows.now) }
-    ensures ok { OnOk result (NotEndless rows.now) }
-{
-    if let Some(part) = left_recursive(alloc, rows)? {
-        return Err(RulesError::LeftRecursive { part });
-    }
-    match empty_repeat(alloc, rows)? {
-        Some(part) => Err(RulesError::Empty { part }),
-        None => Ok(()),
-    }
-}
-
-/// Refuses rules that aren't called from the file's.
-fn refuse_unreached(alloc: Global, rows: &[Row], file: usize) -> Result<(), RulesError>
-    ensures err { IfErr result (IsLost rows.now file) }
-    ensures ok { OnOk result (IsFirst (length rows.now) (IsUnreached rows.now file) None) }
-{
-    match unreached(alloc, rows, file)? {
-        Some(part) => Err(RulesError::Unreached { part }),
-        None => Ok(()),
-    }
 }
 
 /// The rules of these rows, of which some are the rule of a file.
@@ -209,9 +236,12 @@ fn rules_of(
     ensures sets { IfOk result (λ rules. HaveSets sets.now rules.sets (length sets.now)) }
     ensures file { IfOk result (λ rules. IsFileRule definitions.now.parts.now rules.start rules.end) }
     ensures operators { IfOk result (λ rules. rules.operators ≡ operators) }
+    ensures plan { IfOk result (λ rules. rules.plan ≡ plan_in definitions.now.parts.now rows.now sets.now) }
+    ensures depth { IfOk result (λ rules. rules.depth ≡ DEPTH) }
 {
     let file = file_of(definitions.parts);
-    let map = Map::new(alloc, rows, sets, file_row(definitions.parts))?;
+    let header = file_row(definitions.parts);
+    let map = Map::new(alloc, rows, sets, header)?;
     let messages = Messages::new(alloc, definitions.parts, &map)?;
     let ahead = ahead_of(alloc, &map, resume(definitions, sets))?;
     let mut looks = Looks {
@@ -231,6 +261,10 @@ fn rules_of(
         start: file.start,
         end: file.end,
         operators,
+        depth: DEPTH,
+        parts: Vec::from_slice(alloc, rows)?,
+        classes: Vec::from_slice(alloc, sets)?,
+        file: header,
     })
 }
 
@@ -243,65 +277,4 @@ fn resume(definitions: &Definitions<'_, '_>, sets: &[TokenSet]) -> TokenSet {
         },
         None => TokenSet::from_words([u64::MAX; 10]),
     }
-}
-
-/// The numbers of all rows.
-fn all_numbers(
-    looks: &mut Looks,
-    map: &Map<'_>,
-    parts: &[Part<'_>],
-    ahead: &[Ahead],
-) -> Result<Vec<[u16; 8]>, RulesError>
-    requires { All (λ row. IsTrue (is_exact row)) map.now.rows.now }
-    ensures err { IfErr result (IsFirstOpen (plan_of map.now) parts.now) }
-    ensures decided { OnOk result (AreDecided (plan_of map.now) parts.now (length map.now.rows.now)) }
-    ensures keeps { OnOk result (Extends looks.old.sets.list.items looks.new.sets.list.items) }
-    ensures ok { IfOk result (λ numbers. SayRows map.now.rows.now numbers.items) }
-{
-    let mut numbers = Vec::new(looks.alloc);
-    for (index, row) in map.rows.iter().enumerate() {
-        let fork = Fork {
-            map: &*map,
-            part: index,
-            is_settled: is_settled(parts, map, index),
-        };
-        let message = to_u16(row_of_message(parts, map, index));
-        let numbers_of_row = numbers_of(looks, &fork, ahead, row, message)?;
-        push(&mut numbers, numbers_of_row)?;
-    }
-    Ok(numbers)
-}
-
-fn to_u16(number: usize) -> u16 {
-    u16::try_from(number).unwrap_or(u16::MAX)
-}
-
-/// The words of all sets.
-fn all_words(alloc: Global, sets: &[TokenSet]) -> Result<Vec<[u16; 40]>, AllocError>
-    ensures { IfOk result (λ words. HaveSets sets.now words.items (length sets.now)) }
-{
-    let mut words = Vec::new(alloc);
-    for set in sets {
-        push(&mut words, words_of(set))?;
-    }
-    Ok(words)
-}
-
-/// The words of a set: four of 16 bits for each of its words.
-fn words_of(set: &TokenSet) -> [u16; 40]
-    ensures { (kind : ℕ) → words_have (Some result) kind ≡ has set.now kind }
-{
-    let mut words = [0u16; 40];
-    for index in 0..40usize {
-        words[index] = word_of(set, index);
-    }
-    words
-}
-
-fn word_of(set: &TokenSet, index: usize) -> u16
-    requires { index < 40 }
-    ensures { result ≡ word_of set.now index }
-{
-    let word = set.0[index / 4];
-    ((word >> (16 * (index % 4))) % 65536) as u16
 }

@@ -24,7 +24,7 @@ fn is_memory(error: &TextError) -> bool {
 }
 
 /// The rules of a text.
-fn rules(alloc: Global, text: &str) -> Result<Rules, TextError> {
+pub(crate) fn rules(alloc: Global, text: &str) -> Result<Rules, TextError> {
     let names = KeywordNames {
         words: &NoKeywords,
         tokens: &TOKENS,
@@ -36,7 +36,7 @@ fn rules(alloc: Global, text: &str) -> Result<Rules, TextError> {
 }
 
 /// The line of a text's tree by rules. A refusal counts as want of memory.
-fn line(alloc: Global, rules: &Rules, text: &str) -> Result<String, AllocError> {
+pub(crate) fn line(alloc: Global, rules: &Rules, text: &str) -> Result<String, AllocError> {
     let Ok(tokens) = tokenize(alloc, text) else {
         return Err(AllocError);
     };
@@ -72,11 +72,12 @@ fn faults_are_told_or_want_memory(rt: HostRuntime) -> Result<(), Fail> {
     for _ in 0..2 {
         match rules(rt.alloc(), "file = IDENT\n    other ';'\n") {
             Ok(_rules) => return Err(Fail::from("rules with a fault")),
-            Err(TextError::Rules { reason, at }) if !matches!(reason, RulesError::Memory(_)) => {
-                assert_eq!(rt; reason, RulesError::Undefined { part: 2 });
-                assert_eq!(rt; (at.line, at.column), (2, 5));
-                return Ok(());
-            }
+            Err(TextError::Rules { reason, at, .. }) if !matches!(reason, RulesError::Memory(_)) =>
+                {
+                    assert_eq!(rt; reason, RulesError::Undefined { part: 2 });
+                    assert_eq!(rt; (at.line, at.column), (2, 5));
+                    return Ok(());
+                }
             Err(error) => assert!(rt; is_memory(&error)),
         }
     }

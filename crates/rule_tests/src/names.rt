@@ -2,7 +2,7 @@
 use squawk_kinds::{SyntaxKind, TokenSet, token_set};
 
 /// Tokens.
-pub(crate) const TOKENS: [(&str, SyntaxKind); 11] = [
+pub(crate) const TOKENS: [(&str, SyntaxKind); 12] = [
     ("IDENT", SyntaxKind::IDENT),
     ("INT", SyntaxKind::INT_NUMBER),
     ("(", SyntaxKind::L_PAREN),
@@ -14,6 +14,7 @@ pub(crate) const TOKENS: [(&str, SyntaxKind); 11] = [
     ("-", SyntaxKind::MINUS),
     ("*", SyntaxKind::STAR),
     ("=", SyntaxKind::EQ),
+    ("::", SyntaxKind::COLON_COLON),
 ];
 
 /// Nodes.

@@ -1,8 +1,9 @@
 //! Rules that are refused, with the parts that are at fault.
+use crate::memory::rules;
 use crate::names::{CLASSES, NODES, TOKENS};
 use rule_tables::{KeywordNames, Rules, RulesError};
 use rule_text::read;
-use squawk_kinds::{NoKeywords, TokenSet};
+use squawk_kinds::{NoKeywords, SyntaxKind, TokenSet};
 use std::alloc::Global;
 use std::test::Fail;
 
@@ -20,7 +21,7 @@ fn refused(alloc: Global, text: &str) -> Result<Option<RulesError>, Fail> {
 }
 
 /// Texts of rules, and why they are refused.
-static REFUSALS: [(&str, Option<RulesError>); 26] = [
+const REFUSALS: [(&str, Option<RulesError>); 25] = [
     ("file = IDENT? ';'", None),
     ("file = item", Some(RulesError::Undefined { part: 1 })),
     ("file = Word", Some(RulesError::Undefined { part: 1 })),
@@ -57,12 +58,8 @@ static REFUSALS: [(&str, Option<RulesError>); 26] = [
         "file = IDENT OTHER OTHER",
         Some(RulesError::UnknownKind { part: 2 }),
     ),
-    // One more token decides whether there are one or two names; none decides which of two names is left out.
+    // One more token decides whether there are one or two names.
     ("file = IDENT? IDENT", None),
-    (
-        "file = IDENT? IDENT?",
-        Some(RulesError::Undecided { part: 1 }),
-    ),
     // The first arm of an ordered choice is gone, and what is greedy.
     ("file = IDENT / IDENT", None),
     ("file = IDENT?+ IDENT?", None),
@@ -104,6 +101,89 @@ fn refuses(rt: HostRuntime) -> Result<(), Fail> {
     for (text, wanted) in &REFUSALS {
         let found = refused(rt.alloc(), text)?;
         assert_eq!(rt; found, *wanted, "{text}");
+    }
+    Ok(())
+}
+
+const COMMA: SyntaxKind = SyntaxKind::COMMA;
+
+const CLOSE: SyntaxKind = SyntaxKind::R_PAREN;
+
+const END: SyntaxKind = SyntaxKind::EOF;
+
+/// Texts of rules that four tokens don't decide, the parts where they don't, and the tokens.
+const UNDECIDED: [(&str, usize, [SyntaxKind; 4]); 4] = [
+    // A name is the first one or the second.
+    (
+        "file = IDENT? IDENT?",
+        1,
+        [SyntaxKind::IDENT, END, END, END],
+    ),
+    // Tokens that stand together are told as one.
+    (
+        "file = '::'? INT? '::'?",
+        1,
+        [SyntaxKind::COLON_COLON, END, END, END],
+    ),
+    // Commas and names are in the list or after it.
+    (
+        "file = {IDENT} ',' IDENT ',' IDENT ','",
+        1,
+        [COMMA, SyntaxKind::IDENT, COMMA, SyntaxKind::IDENT],
+    ),
+    // Only the fifth token tells one alternative from the other.
+    (
+        "file = '(' ')' INT ')' ')' | '(' ')' INT ')' ';'",
+        2,
+        [SyntaxKind::L_PAREN, CLOSE, SyntaxKind::INT_NUMBER, CLOSE],
+    ),
+];
+
+#[test]
+fn tells_what_tokens_do_not_decide(rt: HostRuntime) -> Result<(), Fail> {
+    for (text, part, kinds) in &UNDECIDED {
+        let found = refused(rt.alloc(), text)?;
+        let wanted = RulesError::Undecided {
+            part: *part,
+            kinds: [kinds[0].0, kinds[1].0, kinds[2].0, kinds[3].0],
+        };
+        assert_eq!(rt; found, Some(wanted), "{text}");
+    }
+    Ok(())
+}
+
+/// Texts of rules, and what is printed of their errors.
+const PRINTED: [(&str, &str); 5] = [
+    ("file = item", "1:8: no rule has this name"),
+    (
+        "file = IDENT? IDENT?",
+        "1:8: four tokens don't decide between two ways: IDENT, the end",
+    ),
+    (
+        "file =\n  '(' {IDENT} ',' IDENT ',' IDENT ','",
+        "2:8: four tokens don't decide between two ways: ',', IDENT, ',', IDENT",
+    ),
+    (
+        "file = '::'? INT? '::'?",
+        "1:8: four tokens don't decide between two ways: '::', the end",
+    ),
+    // A kind that no token in the text has is called by its class.
+    (
+        "class Number = literal\nfile = Number? Number?",
+        "2:8: four tokens don't decide between two ways: literal, the end",
+    ),
+];
+
+#[test]
+fn prints_places_and_tokens(rt: HostRuntime) -> Result<(), Fail> {
+    for (text, wanted) in &PRINTED {
+        match rules(rt.alloc(), text) {
+            Ok(_rules) => return Err(Fail::from("rules with a fault")),
+            Err(error) => {
+                let line = format!(in rt.alloc(); "{error}")?;
+                assert_eq!(rt; line.as_str(), *wanted);
+            }
+        }
     }
     Ok(())
 }

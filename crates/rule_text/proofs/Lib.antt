@@ -4,6 +4,7 @@ pub mod Definitions
 pub mod Expressions
 pub mod Goes
 pub mod Leaves
+pub mod Places
 pub mod Reading
 pub mod Same
 pub mod SameRules

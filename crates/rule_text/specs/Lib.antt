@@ -1,4 +1,5 @@
 pub mod Errors
+pub mod Places
 pub mod Read
 pub mod Reading
 pub mod Rules

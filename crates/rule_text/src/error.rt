@@ -1,5 +1,6 @@
 //! Errors of texts of rules.
-ghost use Rattle.std.specs.Prelude.{◌≡◌};
+ghost use Rattle.std.specs.Prelude.{◌≡◌, ◌+◌, ◌==◌, min, if◌then◌else◌};
+ghost use Rattle.rule_text.specs.Places.{place_behind, place_of};
 
 use sql_lexer::TokenizeError;
 use std::alloc::{AllocError, AllocFailed};
@@ -101,16 +102,18 @@ impl<T: Drop> From<AllocFailed<T>> for WordError {
 
 impl Place {
     /// The place of a byte of a text.
-    pub fn of(text: &str, byte: usize) -> Place {
-        let mut place = Place { line: 1, column: 1 };
-        for one in text.as_bytes().iter().take(byte) {
-            place = place.after(*one);
-        }
-        place
+    pub fn of(text: &str, byte: usize) -> Place
+        ensures { result ≡ place_of text.now byte }
+    {
+        let bytes = text.as_bytes();
+        place_behind(&bytes[..byte.min(bytes.len())])
     }
 
     /// The place after this byte.
-    fn after(self, byte: u8) -> Place {
+    fn after(self, byte: u8) -> Place
+        ensures line { result.line ≡ (if byte == 10 then min (self.line + 1) usize.MAX else self.line) }
+        ensures column { result.column ≡ (if byte == 10 then 1 else min (self.column + 1) usize.MAX) }
+    {
         if byte == b'\n' {
             Place {
                 line: self.line.saturating_add(1),
@@ -123,4 +126,15 @@ impl Place {
             }
         }
     }
+}
+
+/// The place behind a text.
+fn place_behind(before: &[u8]) -> Place
+    ensures { result ≡ place_behind before.now }
+{
+    let mut place = Place { line: 1, column: 1 };
+    for one in before {
+        place = place.after(*one);
+    }
+    place
 }

@@ -1,6 +1,6 @@
 use Rattle.std.proofs.Common.{◌∙◌, arith, length-set}
 use Rattle.rule_tables.proofs.Words.{word_more, words_have_set}
-use Rattle.rule_tables.proofs.rules.words_of.Goals as goal
+use Rattle.rule_tables.proofs.set_words.words_of.Goals as goal
 
 pub loop-index-preserved : goal.loop-index-preserved
 loop-index-preserved c = record {

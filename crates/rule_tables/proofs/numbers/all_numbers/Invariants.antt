@@ -4,7 +4,7 @@ use Rattle.rule_tables.specs.Forks.{AreDecided}
 use Rattle.rule_tables.specs.Sets.{Extends}
 use Rattle.rule_tables.specs.Walks.{plan_of}
 use Rattle.rule_tables.specs.Rows.{ListsSome}
-use Rattle.rule_tables.proofs.rules.all_numbers.Given as goal
+use Rattle.rule_tables.proofs.numbers.all_numbers.Given as goal
 
 abbrev pub invariant-loop-index : goal.invariant-loop-index
 invariant-loop-index l = record {

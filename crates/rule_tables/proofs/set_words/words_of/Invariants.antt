@@ -1,6 +1,6 @@
 use Rattle.std.proofs.Common.{◌≡◌, ℕ, ◌<◌, length, get_or}
 use Rattle.rule_tables.specs.Sets.{word_of}
-use Rattle.rule_tables.proofs.rules.words_of.Given as goal
+use Rattle.rule_tables.proofs.set_words.words_of.Given as goal
 
 abbrev pub invariant-loop-index : goal.invariant-loop-index
 invariant-loop-index l = record {

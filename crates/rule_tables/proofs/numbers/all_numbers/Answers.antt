@@ -7,7 +7,7 @@ use Rattle.rule_tables.specs.Walks.{plan_of}
 use Rattle.rule_tables.proofs.Longer.{extends_then}
 use Rattle.rule_tables.proofs.Lists.{say_more}
 use Rattle.rule_tables.proofs.Opened.{decided_more, first_open}
-use Rattle.rule_tables.proofs.rules.all_numbers.Goals as goal
+use Rattle.rule_tables.proofs.numbers.all_numbers.Goals as goal
 
 pub loop-index-preserved : goal.loop-index-preserved
 loop-index-preserved c =
