@@ -1,5 +1,5 @@
 -- Places, one byte after another.
-use Rattle.std.proofs.Common.{◌≡◌, ◌∙◌, ◌==◌, ◌+◌, ◌<◌, ℕ, not, min, Bool, true, false, inl, inr, List, [], ◌∷◌, ◌++◌, count_by, get_or, length, reverse, take, arith, ap, refl, sym, if◌then◌else◌}
+use Rattle.std.proofs.Common.{◌≡◌, ◌∙◌, ◌==◌, ◌+◌, ◌<◌, ℕ, not, min, inl, inr, List, [], ◌∷◌, count_by, get_or, length, reverse, take, arith, ap, refl, sym, if◌then◌else◌}
 use Rattle.std.specs.List.{prefix_len}
 use Rattle.std.proofs.lemmas.Bool.{cases_Bool}
 use Rattle.std.proofs.lemmas.List.{reverse-append, take_more}
