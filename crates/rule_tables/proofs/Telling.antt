@@ -1,12 +1,11 @@
 -- The kinds that are told where four tokens don't decide.
 use Rattle.std.proofs.Common.{◌≡◌, ◌∙◌, ℕ, zero, suc, ◌+◌, ◌<◌, ◌&&◌, true, List, [], ◌∷◌, drop, length, map, slice_set, take, arith, ap, refl, subst, sym}
-use Rattle.std.specs.List.{All}
 use Rattle.std.proofs.lemmas.List.{drop-set, length-drop, length-map, take-set}
 use Rattle.squawk_kinds.specs.TokenSets.{has}
 use Rattle.squawk_kinds.specs.declared.token_set.TokenSet.{TokenSet}
 use Rattle.rule_grammar.specs.Parts.{bit_of}
 use Rattle.rule_tables.specs.Looks.{GoOnBoth}
-use Rattle.rule_tables.specs.Places.{AreTold, ComeBoth, Plan, SeesFrom, does_eat}
+use Rattle.rule_tables.specs.Places.{AreTold, ComeBoth, Plan, SeesFrom}
 use Rattle.rule_tables.specs.Walks.{AreFirst}
 use Rattle.rule_tables.specs.declared.place.Place.{Place}
 use Rattle.rule_tables.specs.declared.trail.Trail.{Trail}

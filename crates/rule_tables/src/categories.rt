@@ -1,13 +1,19 @@
 //! Classes of keywords by a vocabulary.
-ghost use Rattle.std.specs.Prelude.{◌≡◌, ℕ, ◌&&◌, not};
-ghost use Rattle.squawk_kinds.specs.TokenSets.{has};
+ghost use Rattle.std.specs.Prelude.{◌≡◌, IsSomeAnd, codes};
+ghost use Rattle.rule_tables.specs.Vocabulary.{IsUnreserved, named};
 
 use crate::sets::without;
 use squawk_kinds::{TokenSet, Vocabulary};
 
 /// Classes of keywords by the categories of a vocabulary, with the names that PostgreSQL has for them: `keyword`, which
 /// has all, `reserved`, `col_name`, `type_func_name`, and `unreserved`, which has those that are in no other category.
-pub fn keyword_classes<V: Vocabulary>(words: &V) -> [(&'static str, TokenSet); 5] {
+pub fn keyword_classes<V: Vocabulary>(words: &V) -> [(&'static str, TokenSet); 5]
+    ensures keyword { named result (codes "keyword") ≡ Some (V.all_keywords words.now) }
+    ensures reserved { named result (codes "reserved") ≡ Some (V.reserved_keywords words.now) }
+    ensures col_name { named result (codes "col_name") ≡ Some (V.col_name_keyword_first words.now) }
+    ensures type_func_name { named result (codes "type_func_name") ≡ Some (V.type_func_name_keywords words.now) }
+    ensures unreserved { IsSomeAnd (named result (codes "unreserved")) (IsUnreserved (V.all_keywords words.now) (V.reserved_keywords words.now) (V.col_name_keyword_first words.now) (V.type_func_name_keywords words.now)) }
+{
     [
         ("keyword", words.all_keywords()),
         ("reserved", words.reserved_keywords()),
@@ -19,8 +25,7 @@ pub fn keyword_classes<V: Vocabulary>(words: &V) -> [(&'static str, TokenSet); 5
 
 /// The keywords that are in no category.
 fn unreserved<V: Vocabulary>(words: &V) -> TokenSet
-    ensures { (kind : ℕ) → has result kind ≡ (has (V.all_keywords words.now) kind && not (has (V.reserved_keywords words.now) kind)
-        && not (has (V.col_name_keyword_first words.now) kind) && not (has (V.type_func_name_keywords words.now) kind)) }
+    ensures { IsUnreserved (V.all_keywords words.now) (V.reserved_keywords words.now) (V.col_name_keyword_first words.now) (V.type_func_name_keywords words.now) result }
 {
     let all = without(words.all_keywords(), words.reserved_keywords());
     let others = without(all, words.col_name_keyword_first());

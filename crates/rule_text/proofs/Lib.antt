@@ -4,7 +4,6 @@ pub mod Definitions
 pub mod Expressions
 pub mod Goes
 pub mod Leaves
-pub mod Places
 pub mod Reading
 pub mod Same
 pub mod SameRules

@@ -1,4 +1,4 @@
-use Rattle.std.proofs.Common.{rules, ◌≡◌, ◌<◌, ◌+◌, ◌-◌, ℕ, List, ◌∷◌, Some, inl, inr, true, false, length, slice_get, arith, refl, sym, subst}
+use Rattle.std.proofs.Common.{rules, ◌≡◌, ◌<◌, ◌-◌, ℕ, List, ◌∷◌, Some, inl, inr, true, false, length, slice_get, arith, refl, sym, subst}
 use Rattle.std.proofs.lemmas.Bool.{cases_Bool}
 use Rattle.std.proofs.lemmas.Option.{slice_get_read, slice_get_within}
 use Rattle.squawk_kinds.specs.TokenSets.{has}
