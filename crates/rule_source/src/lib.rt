@@ -2,7 +2,7 @@
 //!
 //! ```text
 //! source    a table as a module
-//! is_same   whether a table is that of a text
+//! is_same   whether two tables are the same
 //! ```
 #![tactic(auto)]
 

@@ -12,11 +12,11 @@ use rule_grammar::{RuleGrammar, Table};
 use squawk_parser::{SyntaxKind, TokenSet};
 ";
 
-/// The grammar, up to its numbers.
+/// The table and the grammar, up to its numbers.
 const GRAMMAR: &str = "
-/// The rules as a grammar, where `glued` is [`GLUED`].
-pub fn grammar(glued: &[SyntaxKind]) -> RuleGrammar<'_> {
-    let table = Table {
+/// The rules as a table, where `glued` is [`GLUED`].
+pub fn table(glued: &[SyntaxKind]) -> Table<'_> {
+    Table {
         rows: &ROWS,
         sets: &SETS,
         looks: &LOOKS,
@@ -26,7 +26,12 @@ pub fn grammar(glued: &[SyntaxKind]) -> RuleGrammar<'_> {
         plain: TokenSet(PLAIN),
         glued,
         composed: TokenSet(COMPOSED),
-    };
+    }
+}
+
+/// The same as a grammar.
+pub fn grammar(glued: &[SyntaxKind]) -> RuleGrammar<'_> {
+    let table = table(glued);
     RuleGrammar {
         table,
 ";

@@ -1,6 +1,6 @@
 //! Tests of what is printed, and of how it is laid out.
 use crate::layout::list;
-use crate::{is_same, source};
+use crate::source;
 use rule_grammar::{RuleGrammar, Table};
 use squawk_parser::{SyntaxKind, TokenSet};
 use std::alloc::{AllocError, Global};
@@ -40,9 +40,9 @@ const COMPOSED: [u64; 10] = [0, 0, 0, 0, 0, 0, 0, 0, 0, 9223372036854775808];
 /// The composite kinds that are symbols.
 pub const GLUED: [SyntaxKind; 1] = [SyntaxKind(650)];
 
-/// The rules as a grammar, where `glued` is [`GLUED`].
-pub fn grammar(glued: &[SyntaxKind]) -> RuleGrammar<'_> {
-    let table = Table {
+/// The rules as a table, where `glued` is [`GLUED`].
+pub fn table(glued: &[SyntaxKind]) -> Table<'_> {
+    Table {
         rows: &ROWS,
         sets: &SETS,
         looks: &LOOKS,
@@ -52,7 +52,12 @@ pub fn grammar(glued: &[SyntaxKind]) -> RuleGrammar<'_> {
         plain: TokenSet(PLAIN),
         glued,
         composed: TokenSet(COMPOSED),
-    };
+    }
+}
+
+/// The same as a grammar.
+pub fn grammar(glued: &[SyntaxKind]) -> RuleGrammar<'_> {
+    let table = table(glued);
     RuleGrammar {
         table,
         start: 0,
@@ -67,15 +72,8 @@ pub fn grammar(glued: &[SyntaxKind]) -> RuleGrammar<'_> {
 /// The kinds of signs that the table names.
 const GLUED: [SyntaxKind; 1] = [SyntaxKind(650)];
 
-/// What errors of it call kinds.
-const NAMES: [(SyntaxKind, &str); 1] = [(SyntaxKind(200), "SELECT")];
-
-fn grammar<'r>(
-    glued: &'r [SyntaxKind],
-    names: &'r [(SyntaxKind, &'r str)],
-    messages: &'r str,
-) -> RuleGrammar<'r> {
-    let table = Table {
+fn table(glued: &[SyntaxKind]) -> Table<'_> {
+    Table {
         rows: &[
             [13, 2, 3, 4, 5, 6, 7, 8],
             [300, 65535, 0, 0, 0, 0, 0, 0],
@@ -83,48 +81,28 @@ fn grammar<'r>(
         ],
         sets: &[[0; 40]],
         looks: &[[1, 65535, 65535, 65535, 0]],
-        messages,
+        messages: "expected a nameexpected '\"'",
         message_ends: &[15, 15, 27],
         operators: TokenSet([16777216, 0, 0, 0, 0, 0, 0, 0, 0, 0]),
         plain: TokenSet::EMPTY,
         glued,
         composed: TokenSet([0, 0, 0, 0, 0, 0, 0, 0, 0, 9223372036854775808]),
-    };
-    RuleGrammar {
-        table,
-        start: 0,
-        end: 3,
-        root: SyntaxKind::ERROR,
-        depth: 500,
-        names,
     }
 }
 
 #[test]
 fn prints_a_module(rt: HostRuntime) -> Result<(), Fail> {
-    let grammar = grammar(&GLUED, &[], "expected a nameexpected '\"'");
+    let table = table(&GLUED);
+    let grammar = RuleGrammar {
+        table,
+        start: 0,
+        end: 3,
+        root: SyntaxKind::ERROR,
+        depth: 500,
+        names: &[],
+    };
     let printed = source(rt.alloc(), &grammar)?;
     assert_eq!(rt; printed.as_str(), PRINTED);
-    Ok(())
-}
-
-#[test]
-fn tells_grammars_apart(rt: HostRuntime) -> Result<(), Fail> {
-    let one = grammar(&GLUED, &NAMES, "expected a nameexpected '\"'");
-    assert!(rt;
-        is_same(
-            &one,
-            &grammar(&GLUED, &NAMES, "expected a nameexpected '\"'")
-        )
-    );
-    assert!(rt;
-        !is_same(
-            &one,
-            &grammar(&GLUED, &NAMES, "expected a nameexpected '('")
-        )
-    );
-    assert!(rt; !is_same(&one, &grammar(&[], &NAMES, "expected a nameexpected '\"'")));
-    assert!(rt; !is_same(&one, &grammar(&GLUED, &[], "expected a nameexpected '\"'")));
     Ok(())
 }
 
