@@ -1,14 +1,15 @@
 //! SELECT statements at random, parsed by a grammar in code and by rules: `rule_workloads JOB SEED COUNT [ROUNDS]`.
 //!
-//! `code` and `rules` take one text of COUNT statements to the parse's output ROUNDS times, and print how many events
-//! were recorded, which is the same. `making` reads the rules COUNT times and makes tables of them.
+//! `code`, `rules` and `ready` take one text of COUNT statements to the parse's output ROUNDS times, and print how many
+//! events were recorded, which is the same: by code, by rules that are read first, and by rules that stand ready.
+//! `making` reads the rules COUNT times and makes tables of them.
 #![tactic(auto)]
 
 mod by_code;
 mod by_rules;
 mod texts;
 
-use crate::by_rules::{making, rules};
+use crate::by_rules::{making, ready_rules, rules};
 use crate::texts::text;
 use select_grammar::kinds::KEYWORDS;
 use squawk_keywords::Keywords;
@@ -61,6 +62,7 @@ fn do_job(alloc: Global, order: Order<'_>) -> Result<Option<u64>, AllocError> {
     match order.job {
         "code" => Ok(Some(by_code::events(alloc, &words, text.as_str(), order.rounds)?)),
         "rules" => Ok(Some(rules(alloc, &words, text.as_str(), order.rounds)?)),
+        "ready" => Ok(Some(ready_rules(alloc, &words, text.as_str(), order.rounds)?)),
         "making" => Ok(Some(making(alloc, &words, order.count)?)),
         _ => Ok(None),
     }
