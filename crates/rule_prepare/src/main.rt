@@ -1,4 +1,4 @@
-//! A program to copy: prints rules as a module, here `src/ready.rt` of `select_rules`. The file `stdout` is a copy of it.
+//! A program to copy: prints rules as a module, here `src/ready.rt` of `select_rules`, of which `stdout` is a copy.
 #![tactic(auto)]
 
 use rule_source::source;
