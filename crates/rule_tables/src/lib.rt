@@ -13,6 +13,7 @@ mod eats;
 mod error;
 mod faults;
 mod follow;
+mod grammar;
 mod groups;
 mod keyword_names;
 mod looks;

@@ -45,8 +45,8 @@ pub struct Rules {
     messages: Messages,
     symbols: Symbols,
     /// The first row of the rule of a file, and the one after its last.
-    start: u16,
-    end: u16,
+    pub(crate) start: u16,
+    pub(crate) end: u16,
     /// The kinds that operators are made of.
     operators: TokenSet,
     /// How many calls of rules may stand in one another.

@@ -1,9 +1,9 @@
 //! SELECT statements at random, parsed by a grammar in code and by rules: `rule_workloads JOB SEED COUNT [ROUNDS]`.
 //!
-//! `code` and `rules` take one text of COUNT statements to the parse's output ROUNDS times, and print how many events
-//! were recorded, which is the same. `making` reads the rules COUNT times and makes tables of them. `brackets` and
-//! `unexpected` parse COUNT opening and COUNT closing parentheses by rules; `many` and `wide` make COUNT rules, and a
-//! rule of COUNT alternatives.
+//! `code`, `rules` and `ready` take one text of COUNT statements to the parse's output ROUNDS times, and print how many
+//! events were recorded, which is the same: by code, by rules that are read first, and by rules that stand ready.
+//! `brackets` and `unexpected` parse COUNT opening and COUNT closing parentheses by rules. `making` reads the rules COUNT
+//! times and makes tables of them; `many` and `wide` make COUNT rules and a rule of COUNT alternatives, ROUNDS times.
 #![tactic(auto)]
 
 mod by_code;
@@ -11,7 +11,7 @@ mod by_rules;
 mod hostile;
 mod texts;
 
-use crate::by_rules::{made_often, making, rules};
+use crate::by_rules::{making, ready_rules, rules};
 use crate::hostile::{many, repeated, wide};
 use crate::texts::text;
 use select_grammar::kinds::KEYWORDS;
@@ -65,16 +65,17 @@ fn do_job(alloc: Global, order: Order<'_>) -> Result<Option<u64>, AllocError> {
     match order.job {
         "code" => Ok(Some(by_code::events(alloc, &words, text.as_str(), order.rounds)?)),
         "rules" => Ok(Some(rules(alloc, &words, text.as_str(), order.rounds)?)),
-        "making" => Ok(Some(making(alloc, &words, order.count)?)),
+        "ready" => Ok(Some(ready_rules(alloc, &words, text.as_str(), order.rounds)?)),
+        "making" => Ok(Some(making(alloc, &words, select_rules::RULES, order.count)?)),
         "brackets" => Ok(Some(broken(alloc, &words, "(", order)?)),
         "unexpected" => Ok(Some(broken(alloc, &words, ") ", order)?)),
         "wide" => {
             let text = wide(alloc, order.count)?;
-            Ok(Some(made_often(alloc, &words, text.as_str(), order.rounds)?))
+            Ok(Some(making(alloc, &words, text.as_str(), order.rounds)?))
         }
         "many" => {
             let text = many(alloc, order.count)?;
-            Ok(Some(made_often(alloc, &words, text.as_str(), order.rounds)?))
+            Ok(Some(making(alloc, &words, text.as_str(), order.rounds)?))
         }
         _ => Ok(None),
     }
