@@ -1,3 +1,6 @@
+//! Queries, tables of FROM, and statements that change rows.
+
+pub(crate) const QUERIES: &str = r#"
 -- Queries, and statements that change rows.
 
 -- A statement that may stand behind EXPLAIN, PREPARE, WITH and COPY.
@@ -16,7 +19,9 @@ targets = {target} => TARGET_LIST
 target "an expression" = expression target_label? => TARGET | '*' => TARGET
 target_label = AS label | bare_label
 bare_label = BareLabel => NAME
-into = INTO (TEMPORARY | TEMP | (LOCAL | GLOBAL) (TEMPORARY | TEMP) | UNLOGGED)?+ TABLE? new_path => INTO_CLAUSE
+into = INTO (TEMPORARY | TEMP | (LOCAL | GLOBAL) (TEMPORARY | TEMP) | UNLOGGED)?+ TABLE? into_path => INTO_CLAUSE
+into_path "a table name" = into_name => PATH | schema_ref '.' (middle_ref '.')* label => PATH
+into_name "a table name" = Name => NAME
 from_clause = FROM {from_item} => FROM_CLAUSE
 where = WHERE expression => WHERE_CLAUSE
 group_by = GROUP BY (ALL | DISTINCT)? {group_item} => GROUP_BY_CLAUSE
@@ -25,9 +30,10 @@ group_item "an expression" = expression / '(' ')' => EMPTY_GROUP
 having = HAVING expression => HAVING_CLAUSE
 windows = WINDOW {window} => WINDOW_CLAUSE
 window = name AS window_spec => WINDOW_DEF
-window_spec "a window" = '(' name_ref?+ partition? order_by? frame? ')' => WINDOW_SPEC
+window_spec "a window" = '(' window_ref?+ partition? order_by? frame? ')' => WINDOW_SPEC
+window_ref "a window" = Name => NAME_REF
 partition = PARTITION BY {expression} => PARTITION_BY
-frame = (RANGE | ROWS | GROUPS) (BETWEEN frame_bound AND frame_bound / frame_bound) (EXCLUDE (CURRENT ROW | GROUP | TIES | NO OTHERS))? => FRAME_CLAUSE
+frame = (RANGE | ROWS | GROUPS) (BETWEEN frame_bound AND frame_bound | frame_bound) (EXCLUDE (CURRENT ROW | GROUP | TIES | NO OTHERS))? => FRAME_CLAUSE
 frame_bound "a frame bound" = UNBOUNDED (PRECEDING | FOLLOWING) => FRAME_BOUND / CURRENT ROW => FRAME_BOUND / expression (PRECEDING | FOLLOWING) => FRAME_BOUND
 order_by = ORDER BY {sort_item} => ORDER_BY_CLAUSE
 sort_item "an expression" = expression (USING any_sign | ASC | DESC)? nulls_order? => SORT_ITEM
@@ -35,14 +41,15 @@ nulls_order = NULLS (FIRST | LAST)
 
 limit = LIMIT (ALL | expression) => LIMIT_CLAUSE | FETCH (FIRST | NEXT) fetch_count?+ (ROW | ROWS) (ONLY | WITH TIES) => FETCH_CLAUSE
 offset = OFFSET expression (ROW | ROWS)?+ => OFFSET_CLAUSE
-fetch_count "a number of rows" = number / primary
+fetch_count "a number of rows" = ('+' | '-') (INT_NUMBER | NUMERIC_NUMBER) => LITERAL | primary
 locking_clauses = locking_clause locking_clause*+ | FOR READ ONLY => LOCKING_CLAUSE
 locking_clause = FOR (UPDATE | NO KEY UPDATE | SHARE | KEY SHARE) (OF {table})? (NOWAIT | SKIP LOCKED)?+ => LOCKING_CLAUSE
 values = VALUES {row_values} => VALUES_CLAUSE
 row_values "a row of values" = '(' {expression} ')' => ROW_VALUES
 
 with_clause = WITH RECURSIVE?+ {with_table} => WITH_CLAUSE
-with_table "a WITH query" = name new_columns? AS (NOT? MATERIALIZED)? '(' row_statement ')' search?+ cycle?+ => WITH_TABLE
+with_table "a WITH query" = with_name new_columns? AS (NOT? MATERIALIZED)? '(' row_statement ')' search?+ cycle?+ => WITH_TABLE
+with_name "a name" = Name => NAME
 search = SEARCH (DEPTH | BREADTH) FIRST BY names SET new_column => SEARCH_CLAUSE
 cycle = CYCLE names SET new_column (TO constant DEFAULT constant)? USING new_column => CYCLE_CLAUSE
 constant "a constant" = primary ~(LITERAL | CAST_EXPR)
@@ -52,17 +59,20 @@ from_item "a table" = from_table
     left _ (CROSS JOIN from_table | NATURAL join_type? JOIN from_table | join_type? JOIN from_item join_condition) => JOIN_EXPR
 join_type = (FULL | LEFT | RIGHT) OUTER? | INNER
 join_condition "ON or USING" = USING columns (AS name)?+ => JOIN_USING | ON expression => JOIN_ON
-from_table "a table" = @query '(' query ')' alias?+ => FROM_SUBQUERY
+from_table "a table" = @begins_query '(' query ')' alias?+ => FROM_SUBQUERY
     / '(' from_item ~(JOIN_EXPR | PAREN_JOIN) ')' alias?+ => PAREN_JOIN
-    / LATERAL ('(' query ')' alias?+ => FROM_SUBQUERY | table_function)
+    / LATERAL ('(' query ')' alias?+ => FROM_SUBQUERY | lateral_function => LATERAL_FUNCTION)
     / ONLY (table | '(' table ')') alias?+ sample?+ => FROM_TABLE
-    / table_function
-    / table '*'?+ alias?+ sample?+ => FROM_TABLE
-table_function = xml_table alias?+ => TABLE_FUNCTION
+    / keyword_function
+    / from_path (arg_list ordinality?+ function_alias?+ => TABLE_FUNCTION | '*'?+ alias?+ sample?+ => FROM_TABLE)
+lateral_function = keyword_function / from_path arg_list ordinality?+ function_alias?+ => TABLE_FUNCTION
+from_path "a table name" = from_ref ('.' label_ref)* => PATH
+from_ref "a table name" = Name => NAME_REF
+keyword_function = xml_table alias?+ => TABLE_FUNCTION
     / ROWS FROM '(' {rows_from} ')' ordinality?+ function_alias?+ => TABLE_FUNCTION
     / special_call ordinality?+ function_alias?+ => TABLE_FUNCTION
+    / function_word arg_list ordinality?+ function_alias?+ => TABLE_FUNCTION
     / CurrentValue ordinality?+ function_alias?+ => TABLE_FUNCTION
-    / function_path arg_list ordinality?+ function_alias?+ => TABLE_FUNCTION
 rows_from = function_call (AS '(' {function_column} ')')? => TABLE_FUNCTION
 function_call "a function call" = special_call / CurrentValue => CALL_EXPR / function_path arg_list => CALL_EXPR
 ordinality = WITH ORDINALITY
@@ -93,3 +103,4 @@ merge_body = MERGE INTO target_table USING from_item ON expression merge_when+
 merge_when = WHEN (MATCHED (AND expression)? THEN (UPDATE set_clause | DELETE | DO NOTHING)
     | NOT MATCHED (AND expression)? THEN (merge_insert | DO NOTHING)) => MERGE_WHEN
 merge_insert = INSERT (DEFAULT VALUES | insert_columns? overriding? VALUES row_values) => MERGE_INSERT
+"#;

@@ -1,3 +1,6 @@
+//! Names, operators, strings and numbers.
+
+pub(crate) const NAMES: &str = r#"
 -- Names, and the small words of many statements.
 
 name "a name" = Name => NAME
@@ -35,7 +38,8 @@ called_sign "an operator" = '+' | '-' | '*' | '/' | '%' | '^' | '<' | '>' | '=' 
 sign "an operator" = '+' | '-' | '*' | '/' | '%' | '^' | '<' | '>' | '=' | '<=' | '>=' | '<>' | '!=' | CUSTOM_OP
 
 -- Strings that continue one another are one.
-string "a string" = String String*+ (UESCAPE STRING)?+ => LITERAL
+string "a string" = String => LITERAL
+    left _ String => LITERAL | _ UESCAPE STRING => LITERAL
 integer "an integer" = INT_NUMBER => LITERAL
 signed_integer "an integer" = ('+' | '-')? INT_NUMBER => LITERAL
 number "a number" = ('+' | '-')? (INT_NUMBER | NUMERIC_NUMBER) => LITERAL
@@ -43,3 +47,4 @@ word_or_string "a name or a string" = OptionName => NAME_REF | string
 word "a value" = OptionName | TRUE | FALSE | ON
 
 behavior = CASCADE | RESTRICT
+"#;

@@ -1,3 +1,6 @@
+//! Expressions, calls and XML.
+
+pub(crate) const EXPRESSIONS: &str = r#"
 -- Expressions.
 
 expression "an expression" = primary | DEFAULT => DEFAULT_EXPR
@@ -33,8 +36,8 @@ other_sign "an operator" = CUSTOM_OP | OPERATOR '(' called_operator ')'
 any_sign "an operator" = sign | OPERATOR '(' called_operator ')'
 test "NULL, TRUE, FALSE, UNKNOWN or DISTINCT FROM" = NULL | TRUE | FALSE | UNKNOWN | DOCUMENT | normal_form? NORMALIZED
 normal_form "a normal form" = NFC | NFD | NFKC | NFKD
-some_of "an expression" = (ANY | SOME | ALL) (@query '(' query ')' | '(' expression ')') => SOME_OF
-in_list "a list of values" = @query '(' query ')' => SUBQUERY | '(' {expression} ')' => ROW_VALUES
+some_of "an expression" = (ANY | SOME | ALL) (@begins_query '(' query ')' | '(' expression ')') => SOME_OF
+in_list "a list of values" = @begins_query '(' query ')' => SUBQUERY | '(' {expression} ')' => ROW_VALUES
 
 -- What stands between operators: operands, with fields, elements, arguments and strings behind them.
 primary "an expression" = operand
@@ -44,7 +47,7 @@ primary "an expression" = operand
         | _ ~(NAME_REF | FIELD_EXPR | CALL_EXPR) string => CAST_EXPR
 
 -- A keyword that is no function is a name where nothing else fits.
-operand "an expression" = @query '(' query ')' => SUBQUERY
+operand "an expression" = @begins_query '(' query ')' => SUBQUERY
     / '(' expression (')' => PAREN_EXPR | ',' {expression} ')' => ROW_EXPR)
     / Constant => LITERAL
     / string
@@ -56,7 +59,7 @@ operand "an expression" = @query '(' query ')' => SUBQUERY
     / interval_literal
     / typed_literal
     / special_call
-    / function_word arg_list (string => CAST_EXPR / call_tail => CALL_EXPR)
+    / function_word arg_list call_tail => CALL_EXPR
     / function_word string => CAST_EXPR
     / CurrentValue => CALL_EXPR
     / OperandName => NAME_REF
@@ -65,7 +68,10 @@ when "WHEN" = WHEN expression THEN expression => WHEN_CLAUSE
 else = ELSE expression => ELSE_CLAUSE
 array_items = '[' ({array_items} | {expression})? ']' => ARRAY_ITEMS
 interval_literal = INTERVAL (string interval_fields?+ | '(' INT_NUMBER ')' string) => CAST_EXPR
-typed_literal = builtin_type string => CAST_EXPR
+typed_literal = literal_type string => CAST_EXPR
+literal_type "a type" = DOUBLE PRECISION | (BIT | CHARACTER | CHAR | NCHAR) VARYING literal_size? | NATIONAL (CHARACTER | CHAR) VARYING? literal_size?
+    | (TIME | TIMESTAMP) literal_size? (WITH | WITHOUT) TIME ZONE
+literal_size = '(' INT_NUMBER ')' => TYPE_ARGS
 
 -- Calls.
 arg_list "arguments" = '(' ('*' | (ALL | DISTINCT)? {arg} (',' VARIADIC arg)? order_by? | VARIADIC arg order_by?)? ')' => ARG_LIST
@@ -85,7 +91,7 @@ special_call "a function call" = CurrentTime precision?+ => CALL_EXPR
     | NORMALIZE '(' expression (',' normal_form)? ')' => CALL_EXPR
     | OVERLAY '(' (arg (PLACING expression FROM expression (FOR expression)? | (',' arg)*))? ')' => CALL_EXPR
     | POSITION '(' plain_expression IN plain_expression ')' => CALL_EXPR
-    | SUBSTRING '(' (arg (FROM expression (FOR expression)? | FOR expression (FROM expression)? | SIMILAR expression ESCAPE expression | (',' arg)*))? ')' => CALL_EXPR
+    | SUBSTRING '(' (arg (FROM expression (FOR expression)? | FOR expression (FROM expression)? | SIMILAR plain_expression ESCAPE expression | (',' arg)*))? ')' => CALL_EXPR
     | TRIM '(' (BOTH | LEADING | TRAILING)? (FROM {expression} | expression (FROM {expression} | (',' expression)*)) ')' => CALL_EXPR
     | NULLIF '(' expression ',' expression ')' => CALL_EXPR
     | (COALESCE | GREATEST | LEAST) '(' {expression} ')' => CALL_EXPR
@@ -107,3 +113,4 @@ xml_mechanism = BY (REF | VALUE)
 xml_table = XMLTABLE '(' (XMLNAMESPACES '(' {xml_namespace} ')' ',')?+ primary xml_passing COLUMNS {xml_column} ')'
 xml_namespace = plain_expression AS label => XML_NAMESPACE | DEFAULT plain_expression => XML_NAMESPACE
 xml_column "a column" = new_column (FOR ORDINALITY | type (IDENT plain_expression | DEFAULT plain_expression | NOT NULL | NULL)*) => XML_COLUMN
+"#;

@@ -1,3 +1,6 @@
+//! Sessions, transactions, cursors, COPY and maintenance.
+
+pub(crate) const SESSIONS: &str = r#"
 -- Sessions, transactions, cursors, prepared statements and maintenance.
 
 set = SET (LOCAL | SESSION)?+ set_rest => SET
@@ -21,21 +24,25 @@ alter_system = ALTER SYSTEM (SET setting (TO | '=') ({set_value} / DEFAULT) | RE
 begin = BEGIN (WORK | TRANSACTION)? transaction_modes? => BEGIN | START TRANSACTION transaction_modes? => BEGIN
 commit = COMMIT (WORK | TRANSACTION)? chain? => COMMIT | COMMIT PREPARED string => COMMIT_PREPARED
 end = END (WORK | TRANSACTION)? chain? => COMMIT
-rollback = ROLLBACK PREPARED string => ROLLBACK_PREPARED | (ROLLBACK | ABORT) (WORK | TRANSACTION)? (chain | TO SAVEPOINT?+ name_ref)? => ROLLBACK
+rollback = ROLLBACK PREPARED string => ROLLBACK_PREPARED | (ROLLBACK | ABORT) (WORK | TRANSACTION)? (chain | TO SAVEPOINT?+ savepoint_ref)? => ROLLBACK
 chain = AND NO? CHAIN
 savepoint = SAVEPOINT name => SAVEPOINT
-release = RELEASE SAVEPOINT?+ name_ref => RELEASE_SAVEPOINT
+savepoint_ref "a savepoint" = Name => NAME_REF
+release = RELEASE SAVEPOINT?+ savepoint_ref => RELEASE_SAVEPOINT
 prepare_transaction = PREPARE TRANSACTION string => PREPARE_TRANSACTION
 
 declare = DECLARE name (BINARY | INSENSITIVE | ASENSITIVE | NO? SCROLL)* CURSOR ((WITH | WITHOUT) HOLD)? FOR query => DECLARE
 fetch = FETCH cursor_move => FETCH
 move = MOVE cursor_move => MOVE
-cursor_move "a cursor" = name_ref / cursor_steps (FROM | IN)?+ name_ref / (FROM | IN) name_ref
+cursor_move "a cursor" = cursor / cursor_steps (FROM | IN)?+ cursor / (FROM | IN) cursor
+cursor "a cursor" = Name => NAME_REF
 cursor_steps = NEXT | PRIOR | FIRST | LAST | ALL | (ABSOLUTE | RELATIVE) signed_integer | (FORWARD | BACKWARD) (signed_integer | ALL)? | signed_integer
 close = CLOSE (ALL | name_ref) => CLOSE
 prepare = PREPARE name ('(' {type} ')')? AS row_statement => PREPARE
 execute = EXECUTE name_ref ('(' {expression} ')')? => EXECUTE
-deallocate = DEALLOCATE PREPARE?+ (ALL | name_ref) => DEALLOCATE
+deallocate = DEALLOCATE PREPARE?+ (ALL | prepared) => DEALLOCATE
+
+prepared "a prepared statement" = Name => NAME_REF
 
 discard = DISCARD (ALL | TEMP | TEMPORARY | PLANS | SEQUENCES) => DISCARD
 checkpoint = CHECKPOINT => CHECKPOINT
@@ -62,3 +69,4 @@ utility_option "an option" = (OptionName | ANALYZE | ANALYSE) (word | string | n
 vacuum = VACUUM (utility_options | FULL?+ FREEZE?+ VERBOSE?+ (ANALYZE | ANALYSE)?) {vacuum_table}? => VACUUM
 vacuum_table = table columns?
 analyze = (ANALYZE | ANALYSE) (utility_options | VERBOSE?+) {vacuum_table}? => ANALYZE
+"#;

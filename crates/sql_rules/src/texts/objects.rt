@@ -1,3 +1,6 @@
+//! Types, schemas, extensions, foreign data, publications and databases.
+
+pub(crate) const OBJECTS: &str = r#"
 -- Types, schemas, extensions and what else is made with a name.
 
 create_schema = CREATE SCHEMA (IF NOT EXISTS)? (AUTHORIZATION role | name (AUTHORIZATION role)?) schema_element* => CREATE_SCHEMA
@@ -57,3 +60,4 @@ database_option "a database option" = database_word '='?+ (word | string | numbe
 database_word "a database option" = IDENT | CONNECTION LIMIT | ENCODING | LOCATION | OWNER | TABLESPACE | TEMPLATE
 alter_database = ALTER DATABASE name_ref (SET (tablespace / set_rest) | RESET reset_what | WITH? database_option+ | REFRESH COLLATION VERSION | rename | owner_to)? => ALTER_DATABASE
 alter_large_object = ALTER LARGE OBJECT number owner_to => ALTER_LARGE_OBJECT
+"#;

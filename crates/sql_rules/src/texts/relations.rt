@@ -1,3 +1,6 @@
+//! Indexes, views, sequences and statistics.
+
+pub(crate) const RELATIONS: &str = r#"
 -- Indexes, views, sequences, and statistics.
 
 create_index = CREATE UNIQUE? INDEX CONCURRENTLY? ((IF NOT EXISTS)? name)? ON relation access_method? '(' {index_item} ')'
@@ -5,13 +8,16 @@ create_index = CREATE UNIQUE? INDEX CONCURRENTLY? ((IF NOT EXISTS)? name)? ON re
 index_item "a column or an expression" = index_key collate? operator_class? (ASC | DESC)? nulls_order? => INDEX_ITEM
 index_key "a column or an expression" = primary ~(NAME_REF | CALL_EXPR | CAST_EXPR | PAREN_EXPR)
 operator_class = class_ref ('.' label_ref)* options?+ => OPERATOR_CLASS
-class_ref "an operator class" = Name => NAME_REF
+class_ref "an operator class" = ClassName => NAME_REF
 include = INCLUDE '(' {index_item} ')' => INCLUDE_CLAUSE
 alter_index = ALTER INDEX ((IF EXISTS)?+ table ({table_action} | rename | attach_index | depends)) => ALTER_INDEX
 attach_index = ATTACH PARTITION table => ATTACH_PARTITION
 depends = NO? DEPENDS ON EXTENSION name_ref => DEPENDS_ON
 reindex = REINDEX utility_options? ((INDEX | TABLE) CONCURRENTLY?+ table | (SCHEMA | SYSTEM | DATABASE) CONCURRENTLY?+ name_ref) => REINDEX
-cluster = CLUSTER (utility_options table (USING name_ref)? | VERBOSE?+ (name_ref ON table / table (USING name_ref)?)?) => CLUSTER
+cluster = CLUSTER (utility_options table (USING name_ref)? | VERBOSE?+ (clustered ON table | cluster_table (USING name_ref)?)?) => CLUSTER
+clustered "an index" = Name => NAME_REF
+cluster_table "a table name" = cluster_ref ('.' label_ref)* => PATH
+cluster_ref "a table name" = Name => NAME_REF
 
 create_view = CREATE (OR REPLACE)? (TEMPORARY | TEMP | (LOCAL | GLOBAL) (TEMPORARY | TEMP) | UNLOGGED)? (VIEW new_path new_columns? (WITH options)? AS query (WITH (CASCADED | LOCAL)? CHECK OPTION)?
     | RECURSIVE VIEW new_path new_columns (WITH options)? AS query (WITH (CASCADED | LOCAL)? CHECK OPTION)?) => CREATE_VIEW
@@ -29,3 +35,4 @@ alter_sequence = ALTER SEQUENCE (IF EXISTS)?+ table (sequence_option+ | {table_a
 create_statistics = CREATE STATISTICS ((IF NOT EXISTS)? new_path)? ('(' names ')')? ON {statistics_item} FROM {from_item} => CREATE_STATISTICS
 statistics_item "a column or an expression" = primary ~(NAME_REF | CALL_EXPR | CAST_EXPR | PAREN_EXPR)
 alter_statistics = ALTER STATISTICS (IF EXISTS)?+ path (set_statistics | rename | owner_to | set_schema) => ALTER_STATISTICS
+"#;

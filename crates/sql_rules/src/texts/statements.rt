@@ -1,3 +1,6 @@
+//! The file and its statements.
+
+pub(crate) const STATEMENTS: &str = r#"
 -- Statements.
 
 file = file_statement? (';' file_statement?)* => SOURCE_FILE
@@ -21,3 +24,4 @@ statement "a statement" = row_statement
     | (set_constraints / set) | reset | show | commit | rollback | savepoint | release | prepare_transaction
     | declare | fetch | move | close | prepare | execute | deallocate
     | discard | checkpoint | load | listen | unlisten | notify | explain
+"#;

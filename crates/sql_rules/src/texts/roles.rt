@@ -1,3 +1,6 @@
+//! Roles, rights, and statements about any object.
+
+pub(crate) const ROLES: &str = r#"
 -- Roles, rights, and statements about any object.
 
 create_role = CREATE (ROLE | USER | GROUP) new_role WITH? role_option* => CREATE_ROLE
@@ -16,11 +19,18 @@ granted_by = GRANTED BY role => GRANTED_BY
 all_privileges = ALL PRIVILEGES? columns? => PRIVILEGE_LIST
 privileges "a privilege" = {privilege} => PRIVILEGE_LIST
 privilege "a privilege" = (SELECT | REFERENCES | CREATE | Name) columns? => PRIVILEGE / ALTER SYSTEM => PRIVILEGE
-grant_target "an object" = FOREIGN DATA WRAPPER names => GRANT_TARGET / FOREIGN SERVER names => GRANT_TARGET
-    / (FUNCTION | PROCEDURE | ROUTINE) {signature} => GRANT_TARGET / (DATABASE | LANGUAGE | SCHEMA | TABLESPACE) names => GRANT_TARGET
-    / LARGE OBJECT {number} => GRANT_TARGET / PARAMETER {setting} => GRANT_TARGET / (DOMAIN | TYPE) {path} => GRANT_TARGET
-    / SEQUENCE {table} => GRANT_TARGET / ALL (TABLES | SEQUENCES | FUNCTIONS | PROCEDURES | ROUTINES) IN SCHEMA names => GRANT_TARGET
-    / TABLE {table} => GRANT_TARGET / {table} => GRANT_TARGET
+grant_target "an object" = FOREIGN (DATA WRAPPER | SERVER) names => GRANT_TARGET
+    | (FUNCTION | PROCEDURE | ROUTINE) {signature} => GRANT_TARGET
+    | (DATABASE | LANGUAGE | SCHEMA | TABLESPACE) names => GRANT_TARGET
+    | LARGE OBJECT {number} => GRANT_TARGET
+    | PARAMETER {setting} => GRANT_TARGET
+    | (DOMAIN | TYPE) {path} => GRANT_TARGET
+    | SEQUENCE {path} => GRANT_TARGET
+    | ALL (TABLES | SEQUENCES | FUNCTIONS | PROCEDURES | ROUTINES) IN SCHEMA names => GRANT_TARGET
+    | TABLE {path} => GRANT_TARGET
+    | {granted_table} => GRANT_TARGET
+granted_table "a table name" = granted_ref ('.' label_ref)* => PATH
+granted_ref "a table name" = Name => NAME_REF
 grantee "a role" = GROUP? role
 alter_default_privileges = ALTER DEFAULT PRIVILEGES default_scope* (GRANT (all_privileges | privileges) ON default_target TO {grantee} (WITH GRANT OPTION)?
     | REVOKE (GRANT OPTION FOR)?+ (all_privileges | privileges) ON default_target FROM {grantee} behavior?) => ALTER_DEFAULT_PRIVILEGES
@@ -50,7 +60,9 @@ drop_owned = DROP OWNED BY roles behavior? => DROP_OWNED
 reassign = REASSIGN OWNED BY roles TO role => REASSIGN
 
 comment = COMMENT ON described IS (string | NULL) => COMMENT_ON
-described "an object" = (CONSTRAINT name_ref ON (DOMAIN path / path) | (POLICY | RULE | TRIGGER) name_ref ON path) => OBJECT | object
+described "an object" = (CONSTRAINT name_ref ON (DOMAIN path / described_path) | (POLICY | RULE | TRIGGER) name_ref ON path) => OBJECT | object
+described_path "a name" = described_ref ('.' label_ref)* => PATH
+described_ref "a name" = Name => NAME_REF
 security_label = SECURITY LABEL (FOR word_or_string)? ON object IS (string | NULL) => SECURITY_LABEL
 object "an object" = relation_kind path => OBJECT / named_kind name_ref => OBJECT
     / (DATABASE | ROLE | SUBSCRIPTION | TABLESPACE) name_ref => OBJECT
@@ -63,3 +75,4 @@ object "an object" = relation_kind path => OBJECT / named_kind name_ref => OBJEC
     / CAST '(' type AS type ')' => OBJECT
     / TRANSFORM FOR type LANGUAGE name_ref => OBJECT
     / LARGE OBJECT number => OBJECT
+"#;

@@ -1,3 +1,6 @@
+//! Functions, aggregates, operators, casts, languages, triggers, rules and policies.
+
+pub(crate) const FUNCTIONS: &str = r#"
 -- Functions, procedures, aggregates, operators, casts and languages.
 
 create_function = CREATE (OR REPLACE)? (FUNCTION new_function parameters returns? => CREATE_FUNCTION | PROCEDURE new_function parameters => CREATE_PROCEDURE)
@@ -7,7 +10,7 @@ parameter_name "a name" = TypeName => NAME
 parameter "a parameter" = parameter_body ((DEFAULT | '=') expression)? => PARAM
 parameter_body "a parameter" = (parameter_mode (parameter_name parameter_type / parameter_type) / parameter_name parameter_mode? parameter_type / parameter_type)
 parameter_mode = IN OUT?+ | OUT | INOUT | VARIADIC
-returns = RETURNS (TABLE '(' {table_parameter} ')' | parameter_type) => RETURNS_CLAUSE
+returns = RETURNS (TABLE '(' {table_parameter} ')' | result_type) => RETURNS_CLAUSE
 table_parameter "a column" = parameter_name parameter_type => PARAM
 function_option "a function option" = AS string (',' string)? => FUNCTION_OPTION | LANGUAGE word_or_string => FUNCTION_OPTION
     | TRANSFORM {for_type} => FUNCTION_OPTION | WINDOW => FUNCTION_OPTION | common_option
@@ -83,3 +86,4 @@ create_policy = CREATE POLICY name ON table (AS IDENT)? (FOR (ALL | SELECT | INS
 policy_using = USING '(' expression ')' => POLICY_USING
 policy_check = WITH CHECK '(' expression ')' => POLICY_CHECK
 alter_policy = ALTER POLICY (IF EXISTS)?+ name_ref ON table (rename | (TO roles)? policy_using? policy_check?) => ALTER_POLICY
+"#;

@@ -1,3 +1,6 @@
+//! CREATE TABLE, ALTER TABLE, columns, constraints and options.
+
+pub(crate) const TABLES: &str = r#"
 -- Tables.
 
 create_table = CREATE (TEMPORARY | TEMP | (LOCAL | GLOBAL) (TEMPORARY | TEMP) | UNLOGGED)? TABLE (IF NOT EXISTS)? new_path (
@@ -14,7 +17,7 @@ tablespace = TABLESPACE name_ref => TABLESPACE
 with_data = WITH NO? DATA => WITH_DATA
 inherits = INHERITS '(' {table} ')' => INHERITS
 partition_by = PARTITION BY Name '(' {partition_item} ')' => PARTITION_BY
-partition_item "a column or an expression" = index_key collate? path? => PARTITION_ITEM
+partition_item "a column or an expression" = index_key collate? (class_ref ('.' label_ref)*)? => PARTITION_ITEM
 partition_bound "FOR VALUES or DEFAULT" = FOR VALUES (WITH '(' {hash_bound} ')' | IN '(' {expression} ')'
     | FROM '(' {expression} ')' TO '(' {expression} ')') => PARTITION_BOUND | DEFAULT => PARTITION_BOUND
 hash_bound = OptionName INT_NUMBER
@@ -66,11 +69,12 @@ options "options" = '(' {option} ')' => OPTION_LIST
 option "an option" = label_ref ('.' label_ref)? ('=' option_value)? => OPTION
 definition "options" = '(' {definition_item} ')' => OPTION_LIST
 definition_item "an option" = label_ref ('=' option_value)? => OPTION
-option_value "a value" = number / string / NONE / any_operator / parameter_type / Reserved
+option_value "a value" = number / string / NONE / any_operator / result_type / Reserved
 foreign_options = OPTIONS '(' {foreign_option} ')' => FOREIGN_OPTIONS
 foreign_option "an option" = label_ref string => OPTION
 alter_options = OPTIONS '(' {alter_option} ')' => FOREIGN_OPTIONS
-alter_option "an option" = (ADD | SET) label_ref string => OPTION / DROP label_ref => OPTION / label_ref string => OPTION
+alter_option "an option" = (ADD | SET) label_ref string => OPTION | DROP label_ref => OPTION | option_name string => OPTION
+option_name "an option" = Label => NAME_REF
 
 -- ALTER TABLE.
 alter_table = ALTER TABLE (IF EXISTS)?+ relation (alter_relation | rename_constraint | attach | detach) => ALTER_TABLE
@@ -123,3 +127,4 @@ set_statistics = SET STATISTICS signed_integer => SET_STATISTICS
 identity_option = RESTART (WITH? number)? => SEQUENCE_OPTION | SET (sequence_option | GENERATED (ALWAYS | BY DEFAULT)) => SEQUENCE_OPTION
 alter_all = ALTER (TABLE | INDEX | MATERIALIZED VIEW) ALL IN TABLESPACE name_ref (OWNED BY roles)? SET tablespace NOWAIT? => ALTER_ALL
 truncate = TRUNCATE TABLE? {relation} ((CONTINUE | RESTART) IDENTITY)? behavior? => TRUNCATE
+"#;

@@ -1,0 +1,43 @@
+//! The tokens that are no keywords.
+
+use squawk_kinds::SyntaxKind;
+
+/// Tokens by the names and spellings that the rules have for them. Those of several signs are composite.
+pub const TOKENS: [(&str, SyntaxKind); 36] = [
+    ("IDENT", SyntaxKind::IDENT),
+    ("INT_NUMBER", SyntaxKind::INT_NUMBER),
+    ("NUMERIC_NUMBER", SyntaxKind::NUMERIC_NUMBER),
+    ("STRING", SyntaxKind::STRING),
+    ("NATIONAL_STRING", SyntaxKind::NATIONAL_STRING),
+    ("BYTE_STRING", SyntaxKind::BYTE_STRING),
+    ("BIT_STRING", SyntaxKind::BIT_STRING),
+    ("DOLLAR_QUOTED_STRING", SyntaxKind::DOLLAR_QUOTED_STRING),
+    ("UNICODE_ESC_STRING", SyntaxKind::UNICODE_ESC_STRING),
+    ("ESC_STRING", SyntaxKind::ESC_STRING),
+    ("POSITIONAL_PARAM", SyntaxKind::POSITIONAL_PARAM),
+    ("CUSTOM_OP", SyntaxKind::CUSTOM_OP),
+    (";", SyntaxKind::SEMICOLON),
+    (",", SyntaxKind::COMMA),
+    (".", SyntaxKind::DOT),
+    ("(", SyntaxKind::L_PAREN),
+    (")", SyntaxKind::R_PAREN),
+    ("[", SyntaxKind::L_BRACK),
+    ("]", SyntaxKind::R_BRACK),
+    (":", SyntaxKind::COLON),
+    ("=", SyntaxKind::EQ),
+    ("<", SyntaxKind::L_ANGLE),
+    (">", SyntaxKind::R_ANGLE),
+    ("-", SyntaxKind::MINUS),
+    ("+", SyntaxKind::PLUS),
+    ("*", SyntaxKind::STAR),
+    ("/", SyntaxKind::SLASH),
+    ("^", SyntaxKind::CARET),
+    ("%", SyntaxKind::PERCENT),
+    (":=", SyntaxKind::COLON_EQ),
+    ("=>", SyntaxKind::FAT_ARROW),
+    ("::", SyntaxKind::COLON_COLON),
+    ("<>", SyntaxKind::NEQB),
+    ("!=", SyntaxKind::NEQ),
+    ("<=", SyntaxKind::LTEQ),
+    (">=", SyntaxKind::GTEQ),
+];
