@@ -37,18 +37,17 @@ any_sign "an operator" = sign | OPERATOR '(' called_operator ')'
 test "NULL, TRUE, FALSE, UNKNOWN or DISTINCT FROM" = NULL | TRUE | FALSE | UNKNOWN | DOCUMENT | normal_form? NORMALIZED
 normal_form "a normal form" = NFC | NFD | NFKC | NFKD
 some_of "an expression" = (ANY | SOME | ALL) (@begins_query '(' query ')' | '(' expression ')') => SOME_OF
-in_list "a list of values" = @begins_query '(' query ')' => SUBQUERY | '(' {expression} ')' => ROW_VALUES
+in_list "a list of values" = (@begins_query '(' query ')' => SUBQUERY | '(' {expression} ')' => ROW_VALUES)
 
 -- What stands between operators: operands, with fields, elements, arguments and strings behind them.
 primary "an expression" = operand
-    left  _ '.' (label_ref | '*') => FIELD_EXPR
-        | _ '[' (expression (':' expression? => SLICE_EXPR | => INDEX_EXPR) | ':' expression? => SLICE_EXPR) ']'
+    left  _ ~(NAME_REF | FIELD_EXPR | INDEX_EXPR | SLICE_EXPR | PAREN_EXPR | SUBQUERY | PARAM_REF) '.' (label_ref | '*') => FIELD_EXPR
+        | _ ~(NAME_REF | FIELD_EXPR | INDEX_EXPR | SLICE_EXPR | PAREN_EXPR | SUBQUERY | PARAM_REF) '[' (expression (':' expression? => SLICE_EXPR | => INDEX_EXPR) | ':' expression? => SLICE_EXPR) ']'
         | _ ~(NAME_REF | FIELD_EXPR) arg_list call_tail => CALL_EXPR
         | _ ~(NAME_REF | FIELD_EXPR | CALL_EXPR) string => CAST_EXPR
 
 -- A keyword that is no function is a name where nothing else fits.
-operand "an expression" = @begins_query '(' query ')' => SUBQUERY
-    / '(' expression (')' => PAREN_EXPR | ',' {expression} ')' => ROW_EXPR)
+operand "an expression" = paren
     / Constant => LITERAL
     / string
     / POSITIONAL_PARAM => PARAM_REF
@@ -64,13 +63,15 @@ operand "an expression" = @begins_query '(' query ')' => SUBQUERY
     / CurrentValue => CALL_EXPR
     / OperandName => NAME_REF
 
+paren "an expression" = (@begins_query '(' query ')' => SUBQUERY
+    | '(' expression (')' => PAREN_EXPR | ',' {expression} ')' => ROW_EXPR))
 when "WHEN" = WHEN expression THEN expression => WHEN_CLAUSE
 else = ELSE expression => ELSE_CLAUSE
 array_items = '[' ({array_items} | {expression})? ']' => ARRAY_ITEMS
 interval_literal = INTERVAL (string interval_fields?+ | '(' INT_NUMBER ')' string) => CAST_EXPR
 typed_literal = literal_type string => CAST_EXPR
-literal_type "a type" = DOUBLE PRECISION | (BIT | CHARACTER | CHAR | NCHAR) VARYING literal_size? | NATIONAL (CHARACTER | CHAR) VARYING? literal_size?
-    | (TIME | TIMESTAMP) literal_size? (WITH | WITHOUT) TIME ZONE
+literal_type "a type" = DOUBLE PRECISION => TYPE | (BIT | CHARACTER | CHAR | NCHAR) VARYING literal_size? => TYPE
+    | NATIONAL (CHARACTER | CHAR) VARYING? literal_size? => TYPE | (TIME | TIMESTAMP) literal_size? (WITH | WITHOUT) TIME ZONE => TYPE
 literal_size = '(' INT_NUMBER ')' => TYPE_ARGS
 
 -- Calls.

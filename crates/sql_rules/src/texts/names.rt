@@ -37,9 +37,10 @@ called_operator "an operator" = (schema_ref '.')* called_sign => OP
 called_sign "an operator" = '+' | '-' | '*' | '/' | '%' | '^' | '<' | '>' | '=' | '<=' | '>=' | '<>' | '!=' | CUSTOM_OP
 sign "an operator" = '+' | '-' | '*' | '/' | '%' | '^' | '<' | '>' | '=' | '<=' | '>=' | '<>' | '!=' | CUSTOM_OP
 
--- Strings that continue one another are one.
-string "a string" = String => LITERAL
-    left _ String => LITERAL | _ UESCAPE STRING => LITERAL
+-- Quoted strings that continue one another are one.
+string "a string" = DOLLAR_QUOTED_STRING => LITERAL | quoted_string
+quoted_string "a string" = (STRING | ESC_STRING | UNICODE_ESC_STRING) => LITERAL
+    left _ STRING => LITERAL | _ UESCAPE STRING => LITERAL
 integer "an integer" = INT_NUMBER => LITERAL
 signed_integer "an integer" = ('+' | '-')? INT_NUMBER => LITERAL
 number "a number" = ('+' | '-')? (INT_NUMBER | NUMERIC_NUMBER) => LITERAL

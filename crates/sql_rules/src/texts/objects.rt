@@ -49,9 +49,9 @@ publication_item "a table" = TABLE published_table => PUBLICATION_ITEM
     / (CURRENT_SCHEMA / published_table) => PUBLICATION_ITEM
 published_table = relation columns? (WHERE '(' expression ')')?
 alter_publication = ALTER PUBLICATION name_ref (SET definition | (ADD | SET | DROP) {publication_item} | rename | owner_to) => ALTER_PUBLICATION
-create_subscription = CREATE SUBSCRIPTION name CONNECTION string PUBLICATION {label_ref} (WITH definition)? => CREATE_SUBSCRIPTION
+create_subscription = CREATE SUBSCRIPTION name CONNECTION string PUBLICATION names (WITH definition)? => CREATE_SUBSCRIPTION
 alter_subscription = ALTER SUBSCRIPTION name_ref (SET definition | CONNECTION string | REFRESH PUBLICATION (WITH definition)?
-    | (ADD | DROP | SET) PUBLICATION {label_ref} (WITH definition)? | ENABLE | DISABLE | SKIP definition | rename | owner_to) => ALTER_SUBSCRIPTION
+    | (ADD | DROP | SET) PUBLICATION names (WITH definition)? | ENABLE | DISABLE | SKIP definition | rename | owner_to) => ALTER_SUBSCRIPTION
 
 create_tablespace = CREATE TABLESPACE name (OWNER role)? LOCATION string (WITH options)? => CREATE_TABLESPACE
 alter_tablespace = ALTER TABLESPACE name_ref ((SET | RESET) options | rename | owner_to) => ALTER_TABLESPACE

@@ -25,13 +25,13 @@ into_name "a table name" = Name => NAME
 from_clause = FROM {from_item} => FROM_CLAUSE
 where = WHERE expression => WHERE_CLAUSE
 group_by = GROUP BY (ALL | DISTINCT)? {group_item} => GROUP_BY_CLAUSE
-group_item "an expression" = expression / '(' ')' => EMPTY_GROUP
-    / (CUBE | ROLLUP) '(' {expression} ')' => GROUP_CALL / GROUPING SETS '(' {group_item} ')' => GROUPING_SETS
+group_item "an expression" = '(' ')' => EMPTY_GROUP / (CUBE | ROLLUP) '(' {expression} ')' => GROUP_CALL
+    / GROUPING SETS '(' {group_item} ')' => GROUPING_SETS / expression
 having = HAVING expression => HAVING_CLAUSE
 windows = WINDOW {window} => WINDOW_CLAUSE
 window = name AS window_spec => WINDOW_DEF
 window_spec "a window" = '(' window_ref?+ partition? order_by? frame? ')' => WINDOW_SPEC
-window_ref "a window" = Name => NAME_REF
+window_ref "a window" = WindowName => NAME_REF
 partition = PARTITION BY {expression} => PARTITION_BY
 frame = (RANGE | ROWS | GROUPS) (BETWEEN frame_bound AND frame_bound | frame_bound) (EXCLUDE (CURRENT ROW | GROUP | TIES | NO OTHERS))? => FRAME_CLAUSE
 frame_bound "a frame bound" = UNBOUNDED (PRECEDING | FOLLOWING) => FRAME_BOUND / CURRENT ROW => FRAME_BOUND / expression (PRECEDING | FOLLOWING) => FRAME_BOUND
@@ -59,12 +59,13 @@ from_item "a table" = from_table
     left _ (CROSS JOIN from_table | NATURAL join_type? JOIN from_table | join_type? JOIN from_item join_condition) => JOIN_EXPR
 join_type = (FULL | LEFT | RIGHT) OUTER? | INNER
 join_condition "ON or USING" = USING columns (AS name)?+ => JOIN_USING | ON expression => JOIN_ON
-from_table "a table" = @begins_query '(' query ')' alias?+ => FROM_SUBQUERY
-    / '(' from_item ~(JOIN_EXPR | PAREN_JOIN) ')' alias?+ => PAREN_JOIN
+from_table "a table" = paren_table
     / LATERAL ('(' query ')' alias?+ => FROM_SUBQUERY | lateral_function => LATERAL_FUNCTION)
     / ONLY (table | '(' table ')') alias?+ sample?+ => FROM_TABLE
     / keyword_function
     / from_path (arg_list ordinality?+ function_alias?+ => TABLE_FUNCTION | '*'?+ alias?+ sample?+ => FROM_TABLE)
+paren_table "a table" = (@begins_query '(' query ')' alias?+ => FROM_SUBQUERY
+    | '(' from_item ~(JOIN_EXPR | PAREN_JOIN) ')' alias?+ => PAREN_JOIN)
 lateral_function = keyword_function / from_path arg_list ordinality?+ function_alias?+ => TABLE_FUNCTION
 from_path "a table name" = from_ref ('.' label_ref)* => PATH
 from_ref "a table name" = Name => NAME_REF
