@@ -6,13 +6,13 @@
 #![tactic(auto)]
 
 mod nodes;
-mod rules;
+mod read;
 #[cfg(test)]
 mod tests;
 mod texts;
 mod tokens;
 
 pub use nodes::{NODES, NodeKind};
-pub use rules::rules;
+pub use read::rules;
 pub use texts::text;
 pub use tokens::TOKENS;

@@ -1,12 +1,71 @@
-//! Tests of the rules.
-use crate::rules::rules;
+//! Statements with the trees that they have, worked out from the rules.
+use crate::nodes::NODES;
+use crate::read::rules;
+use sql_lexer::tokenize;
 use sql_words::vocabulary;
+use squawk_keywords::Keywords;
+use squawk_kinds::SyntaxKind;
+use squawk_parser::{EntryPoint, OwnedStep, StepList, parse_whole_into};
+use rule_tables::Rules;
+use std::alloc::{AllocError, Global};
+use std::fmt::Write;
 use std::test::Fail;
 
-#[test]
-fn rules_are_taken(rt: HostRuntime) -> Result<(), Fail> {
-    let words = vocabulary(rt.alloc())?;
-    let rules = rules(rt.alloc(), &words)?;
-    assert!(rt; rules.table().rows.len() > 5000);
+mod queries;
+mod statements;
+
+/// What a node of the kind is called.
+fn called(kind: SyntaxKind) -> &'static str {
+    let nodes = NODES;
+    for (name, node) in &nodes {
+        if *node == kind {
+            return *name;
+        }
+    }
+    "ERROR"
+}
+
+/// The line of steps: `NAME{a}` is a node with a token in it, and `!expected ;!` an error.
+fn line_of(alloc: Global, steps: &[OwnedStep]) -> Result<String, AllocError> {
+    let mut line = String::new(alloc);
+    for step in steps {
+        match step {
+            OwnedStep::Enter { kind } => write!(line, "{}{{", called(*kind))?,
+            OwnedStep::Token { kind: _, text } => line.push_str(text.as_str())?,
+            OwnedStep::Error { msg, pos: _ } => write!(line, "!{}!", msg.as_str())?,
+            OwnedStep::Exit => line.push('}')?,
+        }
+    }
+    Ok(line)
+}
+
+/// The line of a text's tree.
+fn parsed(alloc: Global, words: &Keywords<'_>, rules: &Rules, text: &str) -> Result<String, Fail> {
+    let tokens = tokenize(alloc, text)?;
+    let mut list = StepList::new(alloc);
+    let entry = EntryPoint::SourceFile;
+    parse_whole_into(alloc, text, &tokens, words, rules, entry, &mut list)?;
+    Ok(line_of(alloc, list.steps())?)
+}
+
+/// Texts, and what is in their files.
+type Cases = &'static [(&'static str, &'static str)];
+
+/// Parses each text, and compares its line.
+fn compare(rt: &HostRuntime, cases: Cases) -> Result<(), Fail> {
+    let alloc = rt.alloc();
+    let words = vocabulary(alloc)?;
+    let rules = rules(alloc, &words)?;
+    for (text, wanted) in cases {
+        let line = parsed(alloc, &words, &rules, text)?;
+        let wanted = format!(in alloc; "SOURCE_FILE{{{wanted}}}")?;
+        assert_eq!(rt; line.as_str(), wanted.as_str(), "{text}");
+    }
     Ok(())
+}
+
+#[test]
+fn statements_have_trees(rt: HostRuntime) -> Result<(), Fail> {
+    compare(&rt, &queries::CASES)?;
+    compare(&rt, &statements::CASES)
 }

@@ -16,7 +16,7 @@ expression "an expression" = primary | DEFAULT => DEFAULT_EXPR
     left  _ ('+' | '-') (some_of | _) => BIN_EXPR
     left  _ ('*' | '/' | '%') (some_of | _) => BIN_EXPR
     left  _ '^' (some_of | _) => BIN_EXPR
-    left  _ AT TIME ZONE _ => BIN_EXPR
+    left  _ AT (TIME ZONE _ => BIN_EXPR | LOCAL => AT_LOCAL_EXPR)
     left  _ COLLATE path => COLLATE_EXPR
     right ('+' | '-') _ => PREFIX_EXPR
     left  _ '::' type => CAST_EXPR

@@ -93,15 +93,19 @@ subscript = '[' (expression (':' expression?)? | ':' expression?) ']'
 overriding = OVERRIDING (USER | SYSTEM) VALUE
 on_conflict = ON CONFLICT (conflict_target where? | ON CONSTRAINT name_ref)? DO (NOTHING | UPDATE set_clause where?) => ON_CONFLICT_CLAUSE
 conflict_target = '(' {index_item} ')' => CONFLICT_TARGET
-returning = RETURNING targets => RETURNING_CLAUSE
+-- PostgreSQL 18: names of the old row and the new one.
+returning = RETURNING returning_names? targets => RETURNING_CLAUSE
+returning_names = WITH '(' {returning_name} ')' => RETURNING_NAMES
+returning_name "OLD or NEW" = (OLD | NEW) AS name => ALIAS
 update_body = UPDATE target_table set_clause from_clause? where_current? returning?
 set_clause = SET {set_item} => SET_CLAUSE
 set_item "a column name" = (set_column | insert_columns) '=' expression => SET_ITEM
 where_current = WHERE (CURRENT OF name_ref / expression) => WHERE_CLAUSE
 delete_body = DELETE FROM target_table using_clause? where_current? returning?
 using_clause = USING {from_item} => USING_CLAUSE
-merge_body = MERGE INTO target_table USING from_item ON expression merge_when+
+merge_body = MERGE INTO target_table USING from_item ON expression merge_when+ returning?
+-- PostgreSQL 17: BY SOURCE, BY TARGET and RETURNING.
 merge_when = WHEN (MATCHED (AND expression)? THEN (UPDATE set_clause | DELETE | DO NOTHING)
-    | NOT MATCHED (AND expression)? THEN (merge_insert | DO NOTHING)) => MERGE_WHEN
+    | NOT MATCHED (BY IDENT)? (AND expression)? THEN (merge_insert | UPDATE set_clause | DELETE | DO NOTHING)) => MERGE_WHEN
 merge_insert = INSERT (DEFAULT VALUES | insert_columns? overriding? VALUES row_values) => MERGE_INSERT
 "#;

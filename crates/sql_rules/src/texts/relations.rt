@@ -13,7 +13,8 @@ include = INCLUDE '(' {index_item} ')' => INCLUDE_CLAUSE
 alter_index = ALTER INDEX ((IF EXISTS)?+ table ({table_action} | rename | attach_index | depends)) => ALTER_INDEX
 attach_index = ATTACH PARTITION table => ATTACH_PARTITION
 depends = NO? DEPENDS ON EXTENSION name_ref => DEPENDS_ON
-reindex = REINDEX utility_options? ((INDEX | TABLE) CONCURRENTLY?+ table | (SCHEMA | SYSTEM | DATABASE) CONCURRENTLY?+ name_ref) => REINDEX
+-- PostgreSQL 16: without the name of a database.
+reindex = REINDEX utility_options? ((INDEX | TABLE) CONCURRENTLY?+ table | (SCHEMA | SYSTEM | DATABASE) CONCURRENTLY?+ name_ref?) => REINDEX
 cluster = CLUSTER (utility_options table (USING name_ref)? | VERBOSE?+ (clustered ON table | cluster_table (USING name_ref)?)?) => CLUSTER
 clustered "an index" = Name => NAME_REF
 cluster_table "a table name" = cluster_ref ('.' label_ref)* => PATH

@@ -10,9 +10,12 @@ alter_role = ALTER (ROLE | USER) (role (role_settings | RENAME TO new_role | WIT
     | ALTER GROUP role ((ADD | DROP) USER roles | RENAME TO new_role) => ALTER_ROLE
 role_settings = (IN DATABASE name_ref)? (SET set_rest | RESET reset_what)
 
-grant = GRANT (all_privileges grant_on | privileges (grant_on | TO roles (WITH ADMIN OPTION)?+ granted_by?)) => GRANT
+grant = GRANT (all_privileges grant_on | privileges (grant_on | TO roles member_options?+ granted_by?)) => GRANT
+-- PostgreSQL 16: more than ADMIN OPTION.
+member_options = WITH {member_option}
+member_option "ADMIN, INHERIT or SET" = (ADMIN | INHERIT | SET) (OPTION | TRUE | FALSE) => MEMBER_OPTION
 grant_on = ON grant_target TO {grantee} (WITH GRANT OPTION)?+ granted_by?
-revoke = REVOKE (GRANT OPTION FOR (all_privileges | privileges) revoke_on / ADMIN OPTION FOR privileges FROM roles granted_by? behavior?
+revoke = REVOKE (GRANT OPTION FOR (all_privileges | privileges) revoke_on / (ADMIN | INHERIT | SET) OPTION FOR privileges FROM roles granted_by? behavior?
     / all_privileges revoke_on / privileges (revoke_on | FROM roles granted_by? behavior?)) => REVOKE
 revoke_on = ON grant_target FROM {grantee} granted_by? behavior?
 granted_by = GRANTED BY role => GRANTED_BY
@@ -35,7 +38,8 @@ grantee "a role" = GROUP? role
 alter_default_privileges = ALTER DEFAULT PRIVILEGES default_scope* (GRANT (all_privileges | privileges) ON default_target TO {grantee} (WITH GRANT OPTION)?
     | REVOKE (GRANT OPTION FOR)?+ (all_privileges | privileges) ON default_target FROM {grantee} behavior?) => ALTER_DEFAULT_PRIVILEGES
 default_scope = IN SCHEMA names | FOR (ROLE | USER) roles
-default_target "TABLES, SEQUENCES, FUNCTIONS, TYPES or SCHEMAS" = TABLES | FUNCTIONS | ROUTINES | SEQUENCES | TYPES | SCHEMAS
+-- PostgreSQL 18: LARGE OBJECTS.
+default_target "TABLES, SEQUENCES, FUNCTIONS, TYPES or SCHEMAS" = LARGE IDENT | TABLES | FUNCTIONS | ROUTINES | SEQUENCES | TYPES | SCHEMAS
 
 drop "an object" = DROP (relation_kind (IF EXISTS)?+ {path} behavior?
     / INDEX CONCURRENTLY (IF EXISTS)?+ {path} behavior?

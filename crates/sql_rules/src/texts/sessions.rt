@@ -67,6 +67,7 @@ explained "a statement" = row_statement | declare | create_table_as | create_mat
 utility_options "options" = '(' {utility_option} ')' => OPTION_LIST
 utility_option "an option" = (OptionName | ANALYZE | ANALYSE) (word | string | number)? => OPTION
 vacuum = VACUUM (utility_options | FULL?+ FREEZE?+ VERBOSE?+ (ANALYZE | ANALYSE)?) {vacuum_table}? => VACUUM
-vacuum_table = table columns?
+-- PostgreSQL 18: ONLY.
+vacuum_table = relation columns?
 analyze = (ANALYZE | ANALYSE) (utility_options | VERBOSE?+) {vacuum_table}? => ANALYZE
 "#;

@@ -24,8 +24,10 @@ hash_bound = OptionName INT_NUMBER
 
 -- Columns and constraints.
 table_element "a column or a constraint" = column | like_clause | table_constraint
-column "a column" = column_name type compression? foreign_options? column_constraint* => COLUMN_DEF
+-- PostgreSQL 16: STORAGE.
+column "a column" = column_name type column_storage? compression? foreign_options? column_constraint* => COLUMN_DEF
 column_name "a column name" = Name => NAME
+column_storage = STORAGE (Name | DEFAULT) => STORAGE
 compression = COMPRESSION (Name | DEFAULT) => COMPRESSION
 typed_elements "column options" = '(' {typed_element} ')'
 typed_element "a column or a constraint" = table_constraint | column_ref (WITH OPTIONS)? column_constraint* => COLUMN_OPTIONS
@@ -33,7 +35,7 @@ like_clause = LIKE table like_option* => LIKE_CLAUSE
 like_option = (INCLUDING | EXCLUDING) (COMMENTS | COMPRESSION | CONSTRAINTS | DEFAULTS | IDENTITY | GENERATED | INDEXES | STATISTICS | STORAGE | ALL) => LIKE_OPTION
 constraint_name = CONSTRAINT name => CONSTRAINT_NAME
 
-column_constraint "a column constraint" = constraint_name? (NOT NULL => NOT_NULL_CONSTRAINT
+column_constraint "a column constraint" = constraint_name? (NOT NULL (NO INHERIT)? => NOT_NULL_CONSTRAINT
         | NULL => NULL_CONSTRAINT
         | UNIQUE nulls_distinct? index_parameters => UNIQUE_CONSTRAINT
         | PRIMARY KEY index_parameters => PRIMARY_KEY_CONSTRAINT
@@ -52,13 +54,16 @@ on_update = ON UPDATE key_action => ON_UPDATE
 on_delete = ON DELETE key_action columns? => ON_DELETE
 key_action "an action" = NO ACTION | RESTRICT | CASCADE | SET (NULL | DEFAULT)
 
-table_constraint "a constraint" = constraint_name? (CHECK '(' expression ')' constraint_flag* => CHECK_CONSTRAINT
+-- PostgreSQL 18: NOT NULL, and WITHOUT OVERLAPS.
+table_constraint "a constraint" = constraint_name? (NOT NULL column_ref constraint_flag* => NOT_NULL_CONSTRAINT
+        | CHECK '(' expression ')' constraint_flag* => CHECK_CONSTRAINT
         | UNIQUE (USING INDEX name_ref | nulls_distinct? key_columns) constraint_flag* => UNIQUE_CONSTRAINT
         | PRIMARY KEY (USING INDEX name_ref | key_columns) constraint_flag* => PRIMARY_KEY_CONSTRAINT
         | EXCLUDE (USING name_ref)? '(' {exclude_item} ')' include_columns? index_parameters (WHERE '(' expression ')')? constraint_flag* => EXCLUDE_CONSTRAINT
         | FOREIGN KEY columns references constraint_flag* => FOREIGN_KEY_CONSTRAINT)
 constraint_flag = constraint_time | NOT VALID => NOT_VALID | NO INHERIT => NO_INHERIT
-key_columns = columns include_columns? index_parameters
+key_columns = key_list include_columns? index_parameters
+key_list "column names" = '(' {column_ref} (WITHOUT OVERLAPS)? ')' => COLUMN_LIST
 include_columns = INCLUDE columns => INCLUDE_CLAUSE
 exclude_item = index_item WITH any_operator => EXCLUDE_ITEM
 any_operator "an operator" = operator | OPERATOR '(' called_operator ')'
@@ -90,13 +95,13 @@ table_action "an action" = ADD COLUMN (IF NOT EXISTS)? column => ADD_COLUMN
     / ADD IF NOT EXISTS column => ADD_COLUMN
     / ADD table_constraint => ADD_CONSTRAINT
     / ADD column => ADD_COLUMN
-    / ALTER CONSTRAINT name_ref constraint_flag* => ALTER_CONSTRAINT
+    / ALTER CONSTRAINT name_ref (constraint_flag | INHERIT)* => ALTER_CONSTRAINT
     / ALTER COLUMN? (name_ref column_action | INT_NUMBER set_statistics) => ALTER_COLUMN
     / VALIDATE CONSTRAINT name_ref => VALIDATE_CONSTRAINT
     / DROP CONSTRAINT (IF EXISTS)?+ name_ref behavior? => DROP_CONSTRAINT
     / DROP COLUMN (IF EXISTS)?+ name_ref behavior? => DROP_COLUMN
     / DROP (IF EXISTS)?+ name_ref behavior? => DROP_COLUMN
-    / SET (WITHOUT (OIDS | CLUSTER) => SET_WITHOUT | (LOGGED | UNLOGGED) => SET_LOGGED | ACCESS METHOD name_ref => SET_ACCESS_METHOD
+    / SET (WITHOUT (OIDS | CLUSTER) => SET_WITHOUT | (LOGGED | UNLOGGED) => SET_LOGGED | ACCESS METHOD (name_ref | DEFAULT) => SET_ACCESS_METHOD
         | tablespace => SET_TABLESPACE | options => SET_OPTIONS)
     / RESET options => RESET_OPTIONS
     / CLUSTER ON name_ref => CLUSTER_ON
@@ -111,11 +116,13 @@ table_action "an action" = ADD COLUMN (IF NOT EXISTS)? column => ADD_COLUMN
     / owner_to
     / REPLICA IDENTITY (NOTHING | FULL | DEFAULT | USING INDEX name_ref) => REPLICA_IDENTITY
     / alter_options
+-- PostgreSQL 17: SET EXPRESSION.
 column_action "a column action" = SET DEFAULT expression => SET_DEFAULT
     | SET NOT NULL => SET_NOT_NULL
     | set_statistics
     | SET options => SET_OPTIONS
-    | SET STORAGE Name => SET_STORAGE
+    | SET column_storage => SET_STORAGE
+    | SET EXPRESSION AS '(' expression ')' => SET_EXPRESSION
     | SET compression => SET_COMPRESSION
     | RESET options => RESET_OPTIONS
     | DROP (DEFAULT => DROP_DEFAULT | NOT NULL => DROP_NOT_NULL | EXPRESSION (IF EXISTS)?+ => DROP_EXPRESSION | IDENTITY (IF EXISTS)?+ => DROP_IDENTITY)
@@ -123,7 +130,7 @@ column_action "a column action" = SET DEFAULT expression => SET_DEFAULT
     | identity_option+ => ALTER_IDENTITY
     | (SET DATA)? TYPE type collate? (USING expression)? => SET_TYPE
     | alter_options
-set_statistics = SET STATISTICS signed_integer => SET_STATISTICS
+set_statistics = SET STATISTICS (signed_integer | DEFAULT) => SET_STATISTICS
 identity_option = RESTART (WITH? number)? => SEQUENCE_OPTION | SET (sequence_option | GENERATED (ALWAYS | BY DEFAULT)) => SEQUENCE_OPTION
 alter_all = ALTER (TABLE | INDEX | MATERIALIZED VIEW) ALL IN TABLESPACE name_ref (OWNED BY roles)? SET tablespace NOWAIT? => ALTER_ALL
 truncate = TRUNCATE TABLE? {relation} ((CONTINUE | RESTART) IDENTITY)? behavior? => TRUNCATE
