@@ -1,5 +1,5 @@
 //! Statements with the trees that they have, worked out from the rules.
-use crate::nodes::NODES;
+use crate::names::nodes;
 use crate::read::rules;
 use sql_lexer::tokenize;
 use sql_words::vocabulary;
@@ -15,9 +15,8 @@ mod queries;
 mod statements;
 
 /// What a node of the kind is called.
-fn called(kind: SyntaxKind) -> &'static str {
-    let nodes = NODES;
-    for (name, node) in &nodes {
+fn called<'n>(nodes: &[(&'n str, SyntaxKind)], kind: SyntaxKind) -> &'n str {
+    for (name, node) in nodes {
         if *node == kind {
             return *name;
         }
@@ -26,11 +25,15 @@ fn called(kind: SyntaxKind) -> &'static str {
 }
 
 /// The line of steps: `NAME{a}` is a node with a token in it, and `!expected ;!` an error.
-fn line_of(alloc: Global, steps: &[OwnedStep]) -> Result<String, AllocError> {
+fn line_of(
+    alloc: Global,
+    nodes: &[(&str, SyntaxKind)],
+    steps: &[OwnedStep],
+) -> Result<String, AllocError> {
     let mut line = String::new(alloc);
     for step in steps {
         match step {
-            OwnedStep::Enter { kind } => write!(line, "{}{{", called(*kind))?,
+            OwnedStep::Enter { kind } => write!(line, "{}{{", called(nodes, *kind))?,
             OwnedStep::Token { kind: _, text } => line.push_str(text.as_str())?,
             OwnedStep::Error { msg, pos: _ } => write!(line, "!{}!", msg.as_str())?,
             OwnedStep::Exit => line.push('}')?,
@@ -45,7 +48,8 @@ fn parsed(alloc: Global, words: &Keywords<'_>, rules: &Rules, text: &str) -> Res
     let mut list = StepList::new(alloc);
     let entry = EntryPoint::SourceFile;
     parse_whole_into(alloc, text, &tokens, words, rules, entry, &mut list)?;
-    Ok(line_of(alloc, list.steps())?)
+    let nodes = nodes(alloc)?;
+    Ok(line_of(alloc, &nodes, list.steps())?)
 }
 
 /// Texts, and what is in their files.

@@ -1,43 +1,26 @@
 //! The tokens that are no keywords.
 
+use crate::named_kind::NamedKind;
 use squawk_kinds::SyntaxKind;
 
-/// Tokens by the names and spellings that the rules have for them. Those of several signs are composite.
-pub const TOKENS: [(&str, SyntaxKind); 36] = [
-    ("IDENT", SyntaxKind::IDENT),
-    ("INT_NUMBER", SyntaxKind::INT_NUMBER),
-    ("NUMERIC_NUMBER", SyntaxKind::NUMERIC_NUMBER),
-    ("STRING", SyntaxKind::STRING),
-    ("NATIONAL_STRING", SyntaxKind::NATIONAL_STRING),
-    ("BYTE_STRING", SyntaxKind::BYTE_STRING),
-    ("BIT_STRING", SyntaxKind::BIT_STRING),
-    ("DOLLAR_QUOTED_STRING", SyntaxKind::DOLLAR_QUOTED_STRING),
-    ("UNICODE_ESC_STRING", SyntaxKind::UNICODE_ESC_STRING),
-    ("ESC_STRING", SyntaxKind::ESC_STRING),
-    ("POSITIONAL_PARAM", SyntaxKind::POSITIONAL_PARAM),
-    ("CUSTOM_OP", SyntaxKind::CUSTOM_OP),
-    (";", SyntaxKind::SEMICOLON),
-    (",", SyntaxKind::COMMA),
-    (".", SyntaxKind::DOT),
-    ("(", SyntaxKind::L_PAREN),
-    (")", SyntaxKind::R_PAREN),
-    ("[", SyntaxKind::L_BRACK),
-    ("]", SyntaxKind::R_BRACK),
-    (":", SyntaxKind::COLON),
-    ("=", SyntaxKind::EQ),
-    ("<", SyntaxKind::L_ANGLE),
-    (">", SyntaxKind::R_ANGLE),
-    ("-", SyntaxKind::MINUS),
-    ("+", SyntaxKind::PLUS),
-    ("*", SyntaxKind::STAR),
-    ("/", SyntaxKind::SLASH),
-    ("^", SyntaxKind::CARET),
-    ("%", SyntaxKind::PERCENT),
-    (":=", SyntaxKind::COLON_EQ),
-    ("=>", SyntaxKind::FAT_ARROW),
-    ("::", SyntaxKind::COLON_COLON),
-    ("<>", SyntaxKind::NEQB),
-    ("!=", SyntaxKind::NEQ),
-    ("<=", SyntaxKind::LTEQ),
-    (">=", SyntaxKind::GTEQ),
+/// An array of tokens: their kinds, each with the name or the spelling that the rules have for it.
+#[rattlefmt::skip]
+macro_rules! tokens {
+    ($($name:literal $kind:ident),*) => {
+        [$(NamedKind { kind: SyntaxKind::$kind.0, name: $name }),*]
+    };
+}
+
+/// The tokens. Those of several signs are composite.
+#[rattlefmt::skip]
+pub(crate) static TOKENS: [NamedKind; 36] = tokens![
+    "IDENT" IDENT, "INT_NUMBER" INT_NUMBER, "NUMERIC_NUMBER" NUMERIC_NUMBER, "STRING" STRING,
+    "NATIONAL_STRING" NATIONAL_STRING, "BYTE_STRING" BYTE_STRING, "BIT_STRING" BIT_STRING, "DOLLAR_QUOTED_STRING" DOLLAR_QUOTED_STRING,
+    "UNICODE_ESC_STRING" UNICODE_ESC_STRING, "ESC_STRING" ESC_STRING, "POSITIONAL_PARAM" POSITIONAL_PARAM, "CUSTOM_OP" CUSTOM_OP,
+    ";" SEMICOLON, "," COMMA, "." DOT, "(" L_PAREN,
+    ")" R_PAREN, "[" L_BRACK, "]" R_BRACK, ":" COLON,
+    "=" EQ, "<" L_ANGLE, ">" R_ANGLE, "-" MINUS,
+    "+" PLUS, "*" STAR, "/" SLASH, "^" CARET,
+    "%" PERCENT, ":=" COLON_EQ, "=>" FAT_ARROW, "::" COLON_COLON,
+    "<>" NEQB, "!=" NEQ, "<=" LTEQ, ">=" GTEQ
 ];

@@ -1,7 +1,7 @@
 //! Expressions, calls and XML.
 
 pub(crate) const EXPRESSIONS: &str = r#"
--- Expressions.
+-- Expressions. SIMILAR without TO stands in SUBSTRING.
 
 expression "an expression" = primary | DEFAULT => DEFAULT_EXPR
     left  _ OR _ => BIN_EXPR
@@ -10,7 +10,7 @@ expression "an expression" = primary | DEFAULT => DEFAULT_EXPR
     none  _ IS NOT? (test | DISTINCT FROM _) => IS_EXPR | _ ISNULL => IS_EXPR | _ NOTNULL => IS_EXPR
     none  _ ('<' | '>' | '=' | '<=' | '>=' | '<>' | '!=') (some_of | _) => BIN_EXPR
     none  _ NOT? (BETWEEN (ASYMMETRIC | SYMMETRIC)? plain_expression AND _ => BETWEEN_EXPR | IN in_list => IN_EXPR
-            | (LIKE | ILIKE) (some_of | _ (ESCAPE _)?+) => LIKE_EXPR | SIMILAR TO _ (ESCAPE _)?+ => LIKE_EXPR)
+            | (LIKE | ILIKE) (some_of | _ (ESCAPE _)?+) => LIKE_EXPR | SIMILAR (TO _ (ESCAPE _)?+ | _ ESCAPE _) => LIKE_EXPR)
         | _ ~ROW_EXPR OVERLAPS _ ~ROW_EXPR => OVERLAPS_EXPR
     left  _ other_sign (some_of | _) => BIN_EXPR | other_sign _ => PREFIX_EXPR
     left  _ ('+' | '-') (some_of | _) => BIN_EXPR
@@ -92,7 +92,7 @@ special_call "a function call" = CurrentTime precision?+ => CALL_EXPR
     | NORMALIZE '(' expression (',' normal_form)? ')' => CALL_EXPR
     | OVERLAY '(' (arg (PLACING expression FROM expression (FOR expression)? | (',' arg)*))? ')' => CALL_EXPR
     | POSITION '(' plain_expression IN plain_expression ')' => CALL_EXPR
-    | SUBSTRING '(' (arg (FROM expression (FOR expression)? | FOR expression (FROM expression)? | SIMILAR plain_expression ESCAPE expression | (',' arg)*))? ')' => CALL_EXPR
+    | SUBSTRING '(' (arg (FROM expression (FOR expression)? | FOR expression (FROM expression)? | (',' arg)*))? ')' => CALL_EXPR
     | TRIM '(' (BOTH | LEADING | TRAILING)? (FROM {expression} | expression (FROM {expression} | (',' expression)*)) ')' => CALL_EXPR
     | NULLIF '(' expression ',' expression ')' => CALL_EXPR
     | (COALESCE | GREATEST | LEAST) '(' {expression} ')' => CALL_EXPR

@@ -1,21 +1,23 @@
 //! The kinds of the nodes of a tree by the rules.
 
+use crate::named_kind::NamedKind;
 use squawk_kinds::SyntaxKind;
 
-/// The kinds of nodes: constants under the names that the rules have for them. Nodes that `sql_words` has kinds for have
-/// those; the others are numbered from 774.
+/// The kinds of nodes: constants under the names that the rules have for them.
+///
+/// Nodes that `sql_words` has kinds for have those; the others are numbered from 774.
 pub struct NodeKind;
 
 #[rattlefmt::skip]
-macro_rules! nodes {
+macro_rules! node_kinds {
     (@constants $($name:ident $number:literal),*) => {
         impl NodeKind { $(pub const $name: SyntaxKind = SyntaxKind($number);)* }
     };
-    (@pairs $($name:ident $number:literal),*) => {
-        [$((stringify!($name), SyntaxKind($number))),*]
+    (@named $($name:ident $number:literal),*) => {
+        [$(NamedKind { kind: $number, name: stringify!($name) }),*]
     };
     ($form:ident) => {
-        nodes! { @$form
+        node_kinds! { @$form
         SOURCE_FILE 700, SELECT 703, INSERT 704, UPDATE 705, DELETE 706, MERGE 707, DROP 710, TRUNCATE 711,
         COMMENT_ON 712, SECURITY_LABEL 713, IMPORT_FOREIGN_SCHEMA 714, REASSIGN 715, REFRESH 716, REINDEX 717,
         CLUSTER 718, VACUUM 719, ANALYZE 720, GRANT 721, REVOKE 722, BEGIN 723, COMMIT 724, ROLLBACK 725,
@@ -82,7 +84,7 @@ macro_rules! nodes {
     };
 }
 
-nodes!(constants);
+node_kinds!(constants);
 
 /// The kinds of nodes with their names.
-pub const NODES: [(&str, SyntaxKind); 337] = nodes!(pairs);
+pub(crate) static NODES: [NamedKind; 337] = node_kinds!(named);
