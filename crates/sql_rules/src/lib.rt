@@ -21,7 +21,7 @@ mod read;
 #[cfg(test)]
 mod tests;
 mod texts;
-mod tokens;
+mod token_kinds;
 
 pub use names::{nodes, tokens};
 pub use node_kinds::NodeKind;

@@ -2,7 +2,7 @@
 
 use crate::named_kind::pairs;
 use crate::node_kinds::NODES;
-use crate::tokens::TOKENS;
+use crate::token_kinds::TOKENS;
 use squawk_kinds::SyntaxKind;
 use std::alloc::{AllocError, Global};
 

@@ -8,6 +8,7 @@ use squawk_kinds::{SyntaxKind, Vocabulary};
 use std::alloc::{AllocError, Global};
 
 /// The text of the rules, and what names in it stand for.
+#[derive(Drop)]
 struct Written {
     text: String,
     tokens: Vec<(&'static str, SyntaxKind)>,
@@ -16,13 +17,13 @@ struct Written {
 
 /// The rules for the keywords of a vocabulary, which has PostgreSQL's.
 pub fn rules<V: Vocabulary>(alloc: Global, words: &V) -> Result<Rules, TextError> {
-    match written(alloc) {
+    match all_written(alloc) {
         Ok(written) => of_written(alloc, words, &written),
         Err(reason) => Err(TextError::Read(ReadError::Memory(reason))),
     }
 }
 
-fn written(alloc: Global) -> Result<Written, AllocError> {
+fn all_written(alloc: Global) -> Result<Written, AllocError> {
     let text = text(alloc)?;
     let tokens = tokens(alloc)?;
     let nodes = nodes(alloc)?;

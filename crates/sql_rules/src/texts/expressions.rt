@@ -9,8 +9,9 @@ expression "an expression" = primary | DEFAULT => DEFAULT_EXPR
     right NOT _ => PREFIX_EXPR
     none  _ IS NOT? (test | DISTINCT FROM _) => IS_EXPR | _ ISNULL => IS_EXPR | _ NOTNULL => IS_EXPR
     none  _ ('<' | '>' | '=' | '<=' | '>=' | '<>' | '!=') (some_of | _) => BIN_EXPR
+    left  _ ~LIKE_EXPR ESCAPE _ => LIKE_EXPR
     none  _ NOT? (BETWEEN (ASYMMETRIC | SYMMETRIC)? plain_expression AND _ => BETWEEN_EXPR | IN in_list => IN_EXPR
-            | (LIKE | ILIKE) (some_of | _ (ESCAPE _)?+) => LIKE_EXPR | SIMILAR (TO _ (ESCAPE _)?+ | _ ESCAPE _) => LIKE_EXPR)
+            | (LIKE | ILIKE) (some_of | _) => LIKE_EXPR | SIMILAR TO? _ => LIKE_EXPR)
         | _ ~ROW_EXPR OVERLAPS _ ~ROW_EXPR => OVERLAPS_EXPR
     left  _ other_sign (some_of | _) => BIN_EXPR | other_sign _ => PREFIX_EXPR
     left  _ ('+' | '-') (some_of | _) => BIN_EXPR
@@ -58,8 +59,7 @@ operand "an expression" = paren
     / interval_literal
     / typed_literal
     / special_call
-    / function_word arg_list call_tail => CALL_EXPR
-    / function_word string => CAST_EXPR
+    / function_word (arg_list call_tail => CALL_EXPR | string => CAST_EXPR)
     / CurrentValue => CALL_EXPR
     / OperandName => NAME_REF
 

@@ -68,7 +68,7 @@ paren_table "a table" = (@begins_query '(' query ')' alias?+ => FROM_SUBQUERY
     | '(' from_item ~(JOIN_EXPR | PAREN_JOIN) ')' alias?+ => PAREN_JOIN)
 lateral_function = keyword_function / from_path arg_list ordinality?+ function_alias?+ => TABLE_FUNCTION
 from_path "a table name" = from_ref ('.' label_ref)* => PATH
-from_ref "a table name" = Name => NAME_REF
+from_ref "a table name" = FromName => NAME_REF
 keyword_function = xml_table alias?+ => TABLE_FUNCTION
     / ROWS FROM '(' {rows_from} ')' ordinality?+ function_alias?+ => TABLE_FUNCTION
     / special_call ordinality?+ function_alias?+ => TABLE_FUNCTION

@@ -7,7 +7,9 @@ set = SET (LOCAL | SESSION)?+ set_rest => SET
 set_rest "a parameter" = TRANSACTION transaction_modes / SESSION CHARACTERISTICS AS TRANSACTION transaction_modes / set_more
 set_more "a parameter" = TRANSACTION SNAPSHOT string / TIME ZONE zone / CATALOG string / SCHEMA string / NAMES (string | DEFAULT)?
     / ROLE word_or_string / SESSION AUTHORIZATION (DEFAULT / word_or_string) / XML OPTION (DOCUMENT | CONTENT)
-    / setting ((TO | '=') ({set_value} / DEFAULT) | FROM CURRENT)
+    / new_setting ((TO | '=') ({set_value} / DEFAULT) | FROM CURRENT)
+new_setting "a parameter" = new_ref ('.' setting_ref)* => PATH
+new_ref "a parameter" = Name => NAME_REF
 setting "a parameter" = setting_ref ('.' setting_ref)* => PATH
 setting_ref "a parameter" = Name => NAME_REF
 set_value "a value" = word => NAME_REF | string | number

@@ -6,11 +6,12 @@ pub(crate) const WORDS: &str = r#"
 -- A column, a table, and what else has no arguments.
 class Name = IDENT unreserved col_name => IDENT
 -- OPERATOR ( begins an operator, BETWEEN the bounds of a frame.
-class OperandName = IDENT unreserved col_name -OPERATOR -BETWEEN => IDENT
+class FromName = IDENT unreserved col_name CURRENT_SCHEMA => IDENT
+class OperandName = IDENT unreserved col_name CURRENT_SCHEMA -OPERATOR -BETWEEN => IDENT
 class ColumnWord = col_name => IDENT
 -- A function or a type.
 class TypeName = IDENT unreserved type_func_name => IDENT
-class FunctionWord = type_func_name => IDENT
+class FunctionWord = type_func_name -CURRENT_SCHEMA => IDENT
 -- The alias of a table that SET follows.
 class NotSet = IDENT unreserved col_name -SET => IDENT
 -- A role, an option, a label after AS, and one without AS.
@@ -28,7 +29,7 @@ class WindowName = IDENT unreserved col_name -PARTITION -RANGE -ROWS -GROUPS => 
 class Reserved = reserved
 
 class Constant = INT_NUMBER NUMERIC_NUMBER NATIONAL_STRING BIT_STRING BYTE_STRING TRUE FALSE NULL
-class CurrentValue = CURRENT_DATE CURRENT_ROLE CURRENT_USER SESSION_USER USER CURRENT_CATALOG CURRENT_SCHEMA
+class CurrentValue = CURRENT_DATE CURRENT_ROLE CURRENT_USER SESSION_USER USER CURRENT_CATALOG
 class CurrentTime = CURRENT_TIME CURRENT_TIMESTAMP LOCALTIME LOCALTIMESTAMP
 
 -- A query in parentheses: what it begins with, and what may stand behind those inside.
