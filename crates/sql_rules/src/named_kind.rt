@@ -14,9 +14,7 @@ pub(crate) fn pairs(
     alloc: Global,
     rows: &'static [NamedKind],
 ) -> Result<Vec<(&'static str, SyntaxKind)>, AllocError> {
-    let mut pairs = Vec::with_capacity(alloc, rows.len())?;
-    for row in rows {
-        pairs.push_reserved((row.name, SyntaxKind(row.kind)));
-    }
-    Ok(pairs)
+    rows.iter()
+        .map(|row| (row.name, SyntaxKind(row.kind)))
+        .collect(alloc)
 }
