@@ -3,7 +3,7 @@
 pub(crate) const EXPRESSIONS: &str = r#"
 -- Expressions. SIMILAR without TO stands in SUBSTRING.
 
-expression "an expression" = primary | DEFAULT => DEFAULT_EXPR
+expression "an expression" = primary | special | DEFAULT => DEFAULT_EXPR
     left  _ OR _ => BIN_EXPR
     left  _ AND _ => BIN_EXPR
     right NOT _ => PREFIX_EXPR
@@ -23,7 +23,7 @@ expression "an expression" = primary | DEFAULT => DEFAULT_EXPR
     left  _ '::' type => CAST_EXPR
 
 -- An expression without what also goes on after it: NOT, AND, IN, LIKE and the like.
-plain_expression "an expression" = primary
+plain_expression "an expression" = primary | special
     none  _ IS NOT? (DOCUMENT | DISTINCT FROM _) => IS_EXPR
     none  _ ('<' | '>' | '=' | '<=' | '>=' | '<>' | '!=') _ => BIN_EXPR
     left  _ other_sign _ => BIN_EXPR | other_sign _ => PREFIX_EXPR
@@ -53,12 +53,10 @@ operand "an expression" = paren
     / string
     / POSITIONAL_PARAM => PARAM_REF
     / CASE expression? when+ else? END => CASE_EXPR
-    / EXISTS '(' query ')' => EXISTS_EXPR
     / ARRAY ('(' query ')' | array_items) => ARRAY_EXPR
-    / ROW '(' {expression}? ')' => ROW_EXPR
     / interval_literal
     / typed_literal
-    / special_call
+    / keyword_call
     / function_word (arg_list call_tail => CALL_EXPR | string => CAST_EXPR)
     / CurrentValue => CALL_EXPR
     / OperandName => NAME_REF
@@ -76,17 +74,22 @@ literal_size = '(' INT_NUMBER ')' => TYPE_ARGS
 
 -- Calls.
 arg_list "arguments" = '(' ('*' | (ALL | DISTINCT)? {arg} (',' VARIADIC arg)? order_by? | VARIADIC arg order_by?)? ')' => ARG_LIST
-arg "an argument" = arg_name (':=' | '=>') expression => NAMED_ARG | expression
-arg_name "a name" = TypeName => NAME_REF
+arg "an argument" = expression
+    none  _ ~NAME_REF (':=' | '=>') _ => NAMED_ARG
 call_tail = within_group?+ filter?+ over?+
 within_group = WITHIN GROUP '(' order_by ')' => WITHIN_CLAUSE
 filter = FILTER '(' where ')' => FILTER_CLAUSE
 over = OVER (window_spec | name_ref) => OVER_CLAUSE
 
-special_call "a function call" = CurrentTime precision?+ => CALL_EXPR
+keyword_call "a function call" = CurrentTime precision?+ => CALL_EXPR
     | COLLATION FOR '(' expression ')' => CALL_EXPR
     | CAST '(' expression AS type ')' => CAST_EXPR
-    | TREAT '(' expression AS type ')' => CALL_EXPR
+
+-- Keywords with arguments of their own kind. Without a parenthesis they are names.
+special "an expression" = special_call | EXISTS '(' query ')' => EXISTS_EXPR | ROW '(' {expression}? ')' => ROW_EXPR
+    | SpecialWord => NAME_REF | special_ref ('.' (label_ref | '*'))+ => FIELD_EXPR
+special_ref "a name" = SpecialWord => NAME_REF
+special_call "a function call" = TREAT '(' expression AS type ')' => CALL_EXPR
     | EXTRACT '(' (Name | string) FROM expression ')' => CALL_EXPR
     | GROUPING '(' {expression} ')' => CALL_EXPR
     | NORMALIZE '(' expression (',' normal_form)? ')' => CALL_EXPR
@@ -101,7 +104,7 @@ special_call "a function call" = CurrentTime precision?+ => CALL_EXPR
 -- XML.
 xml_call = XMLCONCAT '(' {expression} ')' => CALL_EXPR
     | XMLELEMENT '(' NAME label (',' (xml_attributes (',' {expression})? / {expression}))? ')' => CALL_EXPR
-    | XMLEXISTS '(' primary xml_passing ')' => CALL_EXPR
+    | XMLEXISTS '(' passed xml_passing ')' => CALL_EXPR
     | XMLFOREST '(' {xml_attribute} ')' => CALL_EXPR
     | XMLPARSE '(' (DOCUMENT | CONTENT) expression ((PRESERVE | STRIP) WHITESPACE)? ')' => CALL_EXPR
     | XMLPI '(' NAME label (',' expression)? ')' => CALL_EXPR
@@ -109,9 +112,10 @@ xml_call = XMLCONCAT '(' {expression} ')' => CALL_EXPR
     | XMLSERIALIZE '(' (DOCUMENT | CONTENT) expression AS simple_type ')' => CALL_EXPR
 xml_attributes = XMLATTRIBUTES '(' {xml_attribute} ')' => XML_ATTRIBUTES
 xml_attribute = expression (AS label)? => XML_ATTRIBUTE
-xml_passing = PASSING xml_mechanism?+ primary xml_mechanism?+ => XML_PASSING
+xml_passing = PASSING xml_mechanism?+ passed xml_mechanism?+ => XML_PASSING
+passed "an expression" = primary | special
 xml_mechanism = BY (REF | VALUE)
-xml_table = XMLTABLE '(' (XMLNAMESPACES '(' {xml_namespace} ')' ',')?+ primary xml_passing COLUMNS {xml_column} ')'
+xml_table = XMLTABLE '(' (XMLNAMESPACES '(' {xml_namespace} ')' ',')?+ passed xml_passing COLUMNS {xml_column} ')'
 xml_namespace = plain_expression AS label => XML_NAMESPACE | DEFAULT plain_expression => XML_NAMESPACE
 xml_column "a column" = new_column (FOR ORDINALITY | type (IDENT plain_expression | DEFAULT plain_expression | NOT NULL | NULL)*) => XML_COLUMN
 "#;

@@ -27,7 +27,7 @@ signature "a function" = function_path argument_types? => FUNCTION_SIGNATURE | C
 argument_types = '(' {argument_type}? ')' => PARAM_LIST
 argument_type "a parameter" = parameter_body => PARAM
 
-create_aggregate = CREATE (OR REPLACE)? AGGREGATE new_function (aggregate_types definition / old_definition) => CREATE_AGGREGATE
+create_aggregate = CREATE (OR REPLACE)? AGGREGATE new_function (old_definition / aggregate_types definition) => CREATE_AGGREGATE
 aggregate_signature "an aggregate" = function_path aggregate_types => FUNCTION_SIGNATURE
 aggregate_types = '(' ('*' | ORDER BY {argument_type} | {argument_type} (ORDER BY {argument_type})?) ')' => PARAM_LIST
 old_definition = '(' {old_item} ')' => OPTION_LIST

@@ -25,7 +25,8 @@ middle_ref "a name" = Label => NAME_REF
 names "a name" = {name_ref}
 columns "column names" = '(' {column_ref} ')' => COLUMN_LIST
 column_ref "a column name" = Name => NAME_REF
-new_columns "column names" = '(' {new_column} ')' => COLUMN_LIST
+new_columns "column names" = '(' {listed_column} ')' => COLUMN_LIST
+listed_column "a column name" = Name => NAME
 new_column "a column name" = Name => NAME
 
 role "a role" = (RoleName | CURRENT_ROLE | CURRENT_USER | SESSION_USER) => ROLE_REF

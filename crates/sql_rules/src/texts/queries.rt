@@ -63,19 +63,22 @@ from_table "a table" = paren_table
     / LATERAL ('(' query ')' alias?+ => FROM_SUBQUERY | lateral_function => LATERAL_FUNCTION)
     / ONLY (table | '(' table ')') alias?+ sample?+ => FROM_TABLE
     / keyword_function
+    / special_table '*'?+ alias?+ sample?+ => FROM_TABLE
     / from_path (arg_list ordinality?+ function_alias?+ => TABLE_FUNCTION | '*'?+ alias?+ sample?+ => FROM_TABLE)
 paren_table "a table" = (@begins_query '(' query ')' alias?+ => FROM_SUBQUERY
     | '(' from_item ~(JOIN_EXPR | PAREN_JOIN) ')' alias?+ => PAREN_JOIN)
 lateral_function = keyword_function / from_path arg_list ordinality?+ function_alias?+ => TABLE_FUNCTION
+special_table "a table name" = table_word ('.' label_ref)* => PATH
+table_word "a table name" = SpecialWord => NAME_REF
 from_path "a table name" = from_ref ('.' label_ref)* => PATH
 from_ref "a table name" = FromName => NAME_REF
 keyword_function = xml_table alias?+ => TABLE_FUNCTION
     / ROWS FROM '(' {rows_from} ')' ordinality?+ function_alias?+ => TABLE_FUNCTION
-    / special_call ordinality?+ function_alias?+ => TABLE_FUNCTION
+    / (special_call | keyword_call) ordinality?+ function_alias?+ => TABLE_FUNCTION
     / function_word arg_list ordinality?+ function_alias?+ => TABLE_FUNCTION
     / CurrentValue ordinality?+ function_alias?+ => TABLE_FUNCTION
 rows_from = function_call (AS '(' {function_column} ')')? => TABLE_FUNCTION
-function_call "a function call" = special_call / CurrentValue => CALL_EXPR / function_path arg_list => CALL_EXPR
+function_call "a function call" = special_call / keyword_call / CurrentValue => CALL_EXPR / function_path arg_list => CALL_EXPR
 ordinality = WITH ORDINALITY
 alias "an alias" = AS? name new_columns?+ => ALIAS
 function_alias "an alias" = (AS? name (new_columns / '(' {function_column} ')')?+ | AS '(' {function_column} ')') => ALIAS

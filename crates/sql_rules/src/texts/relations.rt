@@ -6,7 +6,7 @@ pub(crate) const RELATIONS: &str = r#"
 create_index = CREATE UNIQUE? INDEX CONCURRENTLY? ((IF NOT EXISTS)? name)? ON relation access_method? '(' {index_item} ')'
     include? nulls_distinct? (WITH options)? tablespace? where? => CREATE_INDEX
 index_item "a column or an expression" = index_key collate? operator_class? (ASC | DESC)? nulls_order? => INDEX_ITEM
-index_key "a column or an expression" = primary ~(NAME_REF | CALL_EXPR | CAST_EXPR | PAREN_EXPR)
+index_key "a column or an expression" = (primary | special) ~(NAME_REF | CALL_EXPR | CAST_EXPR | PAREN_EXPR)
 operator_class = class_ref ('.' label_ref)* options?+ => OPERATOR_CLASS
 class_ref "an operator class" = ClassName => NAME_REF
 include = INCLUDE '(' {index_item} ')' => INCLUDE_CLAUSE
@@ -34,6 +34,6 @@ sequence_option "a sequence option" = (AS simple_type | CACHE number | CYCLE | N
 alter_sequence = ALTER SEQUENCE (IF EXISTS)?+ table (sequence_option+ | {table_action} | rename | set_schema) => ALTER_SEQUENCE
 
 create_statistics = CREATE STATISTICS ((IF NOT EXISTS)? new_path)? ('(' names ')')? ON {statistics_item} FROM {from_item} => CREATE_STATISTICS
-statistics_item "a column or an expression" = primary ~(NAME_REF | CALL_EXPR | CAST_EXPR | PAREN_EXPR)
+statistics_item "a column or an expression" = (primary | special) ~(NAME_REF | CALL_EXPR | CAST_EXPR | PAREN_EXPR)
 alter_statistics = ALTER STATISTICS (IF EXISTS)?+ path (set_statistics | rename | owner_to | set_schema) => ALTER_STATISTICS
 "#;

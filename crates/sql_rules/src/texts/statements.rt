@@ -14,7 +14,7 @@ statement "a statement" = row_statement
     | create_text_search | create_extension | create_access_method | create_wrapper | create_server | create_foreign_table
     | create_user_mapping | create_publication | create_subscription | create_tablespace | create_database | create_role
     | alter_table | alter_all | alter_index | alter_view | alter_materialized_view | alter_sequence | alter_statistics
-    | alter_function | alter_aggregate | alter_operator | alter_operator_class | alter_operator_family | alter_conversion
+    | alter_function | alter_aggregate | alter_operator_class | alter_operator_family | alter_operator | alter_conversion
     | alter_language | alter_trigger | alter_event_trigger | alter_rule | alter_policy | alter_schema | alter_type
     | alter_domain | alter_collation | alter_text_search | alter_extension | alter_wrapper | alter_server
     | alter_foreign_table | alter_publication | alter_subscription | alter_tablespace

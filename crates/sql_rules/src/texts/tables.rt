@@ -74,7 +74,7 @@ options "options" = '(' {option} ')' => OPTION_LIST
 option "an option" = label_ref ('.' label_ref)? ('=' option_value)? => OPTION
 definition "options" = '(' {definition_item} ')' => OPTION_LIST
 definition_item "an option" = label_ref ('=' option_value)? => OPTION
-option_value "a value" = number / string / NONE / any_operator / result_type / Reserved
+option_value "a value" = number / string / NONE / OPERATOR '(' called_operator ')' / result_type / operator / Reserved
 foreign_options = OPTIONS '(' {foreign_option} ')' => FOREIGN_OPTIONS
 foreign_option "an option" = label_ref string => OPTION
 alter_options = OPTIONS '(' {alter_option} ')' => FOREIGN_OPTIONS

@@ -26,5 +26,5 @@ seconds = SECOND precision?+
 parameter_type "a type" = SETOF? (parameter_ref ('.' label_ref)* ('%' TYPE / type_args?+ bounds?+) | builtin_type bounds?+ | interval_type bounds?+) => TYPE
 parameter_ref "a type" = TypeName => NAME_REF
 result_type "a type" = SETOF? (result_ref ('.' label_ref)* ('%' TYPE / type_args?+ bounds?+) | builtin_type bounds?+ | interval_type bounds?+) => TYPE
-result_ref "a type" = TypeName => NAME_REF
+result_ref "a type" = ResultName => NAME_REF
 "#;

@@ -6,13 +6,17 @@ pub(crate) const WORDS: &str = r#"
 -- A column, a table, and what else has no arguments.
 class Name = IDENT unreserved col_name => IDENT
 -- OPERATOR ( begins an operator, BETWEEN the bounds of a frame.
-class FromName = IDENT unreserved col_name CURRENT_SCHEMA => IDENT
-class OperandName = IDENT unreserved col_name CURRENT_SCHEMA -OPERATOR -BETWEEN => IDENT
+-- Keywords that have arguments of their own kind.
+class SpecialWord = COALESCE EXISTS EXTRACT GREATEST GROUPING LEAST NORMALIZE NULLIF OVERLAY POSITION ROW SUBSTRING TREAT TRIM
+    XMLATTRIBUTES XMLCONCAT XMLELEMENT XMLEXISTS XMLFOREST XMLNAMESPACES XMLPARSE XMLPI XMLROOT XMLSERIALIZE XMLTABLE => IDENT
+class FromName = IDENT unreserved col_name CURRENT_SCHEMA -SpecialWord => IDENT
+class OperandName = IDENT unreserved col_name CURRENT_SCHEMA -OPERATOR -BETWEEN -SpecialWord => IDENT
 class ColumnWord = col_name => IDENT
 -- A function or a type.
 class TypeName = IDENT unreserved type_func_name => IDENT
 class FunctionWord = type_func_name -CURRENT_SCHEMA => IDENT
 -- The alias of a table that SET follows.
+class ResultName = IDENT unreserved type_func_name -OPERATOR => IDENT
 class NotSet = IDENT unreserved col_name -SET => IDENT
 -- A role, an option, a label after AS, and one without AS.
 class RoleName = IDENT unreserved col_name type_func_name -NONE => IDENT
