@@ -16,7 +16,7 @@ pub(crate) static CASES: [(&str, &str); 20] = [
     ),
     (
         "select a || b <= c, !! d",
-        "QUERY{SELECT{select TARGET_LIST{TARGET{BIN_EXPR{BIN_EXPR{NAME_REF{a} || NAME_REF{b}} <= NAME_REF{c}}}, TARGET{PREFIX_EXPR{!! NAME_REF{d}}}}}}",
+        "QUERY{SELECT{select TARGET_LIST{TARGET{BIN_EXPR{BIN_EXPR{NAME_REF{a} CUSTOM_OP{||} NAME_REF{b}} <= NAME_REF{c}}}, TARGET{PREFIX_EXPR{CUSTOM_OP{!!} NAME_REF{d}}}}}}",
     ),
     (
         "select count(*) filter (where x) over w n",
@@ -24,7 +24,7 @@ pub(crate) static CASES: [(&str, &str); 20] = [
     ),
     (
         "select x::int[], 'a' collate \"C\"",
-        "QUERY{SELECT{select TARGET_LIST{TARGET{CAST_EXPR{NAME_REF{x}::TYPE{int[]}}}, TARGET{COLLATE_EXPR{LITERAL{'a'} collate PATH{NAME_REF{\"C\"}}}}}}}",
+        "QUERY{SELECT{select TARGET_LIST{TARGET{CAST_EXPR{NAME_REF{x}COLON_COLON{::}TYPE{int[]}}}, TARGET{COLLATE_EXPR{LITERAL{'a'} collate PATH{NAME_REF{\"C\"}}}}}}}",
     ),
     (
         "select date 'd', double precision '1', interval '1' day",
