@@ -1,12 +1,12 @@
 //! Statements with the trees that they have, worked out from the rules.
 use crate::names::nodes;
 use crate::read::rules;
+use rule_tables::Rules;
 use sql_lexer::tokenize;
 use sql_words::vocabulary;
 use squawk_keywords::Keywords;
 use squawk_kinds::SyntaxKind;
 use squawk_parser::{EntryPoint, OwnedStep, StepList, parse_whole_into};
-use rule_tables::Rules;
 use std::alloc::{AllocError, Global};
 use std::fmt::Write;
 use std::process::Abort;

@@ -29,7 +29,18 @@ use std::alloc::{AllocError, Global};
 
 /// The areas. The classes of words come first; the first rule is that of a file.
 const AREAS: [&str; 12] = [
-    WORDS, STATEMENTS, NAMES, TYPES, EXPRESSIONS, QUERIES, TABLES, RELATIONS, FUNCTIONS, OBJECTS, ROLES, SESSIONS,
+    WORDS,
+    STATEMENTS,
+    NAMES,
+    TYPES,
+    EXPRESSIONS,
+    QUERIES,
+    TABLES,
+    RELATIONS,
+    FUNCTIONS,
+    OBJECTS,
+    ROLES,
+    SESSIONS,
 ];
 
 /// All rules, as `Rules::read` of `rule_tables` takes them.
