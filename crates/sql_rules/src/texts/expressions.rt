@@ -1,0 +1,121 @@
+//! Expressions, calls and XML.
+
+pub(crate) const EXPRESSIONS: &str = r#"
+-- Expressions. SIMILAR without TO stands in SUBSTRING.
+
+expression "an expression" = primary | special | DEFAULT => DEFAULT_EXPR
+    left  _ OR _ => BIN_EXPR
+    left  _ AND _ => BIN_EXPR
+    right NOT _ => PREFIX_EXPR
+    none  _ IS NOT? (test | DISTINCT FROM _) => IS_EXPR | _ ISNULL => IS_EXPR | _ NOTNULL => IS_EXPR
+    none  _ ('<' | '>' | '=' | '<=' | '>=' | '<>' | '!=') (some_of | _) => BIN_EXPR
+    left  _ ~LIKE_EXPR ESCAPE _ => LIKE_EXPR
+    none  _ NOT? (BETWEEN (ASYMMETRIC | SYMMETRIC)? plain_expression AND _ => BETWEEN_EXPR | IN in_list => IN_EXPR
+            | (LIKE | ILIKE) (some_of | _) => LIKE_EXPR | SIMILAR TO? _ => LIKE_EXPR)
+        | _ ~ROW_EXPR OVERLAPS _ ~ROW_EXPR => OVERLAPS_EXPR
+    left  _ other_sign (some_of | _) => BIN_EXPR | other_sign _ => PREFIX_EXPR
+    left  _ ('+' | '-') (some_of | _) => BIN_EXPR
+    left  _ ('*' | '/' | '%') (some_of | _) => BIN_EXPR
+    left  _ '^' (some_of | _) => BIN_EXPR
+    left  _ AT (TIME ZONE _ => BIN_EXPR | LOCAL => AT_LOCAL_EXPR)
+    left  _ COLLATE path => COLLATE_EXPR
+    right ('+' | '-') _ => PREFIX_EXPR
+    left  _ '::' type => CAST_EXPR
+
+-- An expression without what also goes on after it: NOT, AND, IN, LIKE and the like.
+plain_expression "an expression" = primary | special
+    none  _ IS NOT? (DOCUMENT | DISTINCT FROM _) => IS_EXPR
+    none  _ ('<' | '>' | '=' | '<=' | '>=' | '<>' | '!=') _ => BIN_EXPR
+    left  _ other_sign _ => BIN_EXPR | other_sign _ => PREFIX_EXPR
+    left  _ ('+' | '-') _ => BIN_EXPR
+    left  _ ('*' | '/' | '%') _ => BIN_EXPR
+    left  _ '^' _ => BIN_EXPR
+    right ('+' | '-') _ => PREFIX_EXPR
+    left  _ '::' type => CAST_EXPR
+
+other_sign "an operator" = CUSTOM_OP | OPERATOR '(' called_operator ')'
+any_sign "an operator" = sign | OPERATOR '(' called_operator ')'
+test "NULL, TRUE, FALSE, UNKNOWN or DISTINCT FROM" = NULL | TRUE | FALSE | UNKNOWN | DOCUMENT | normal_form? NORMALIZED
+normal_form "a normal form" = NFC | NFD | NFKC | NFKD
+some_of "an expression" = (ANY | SOME | ALL) (@begins_query '(' query ')' | '(' expression ')') => SOME_OF
+in_list "a list of values" = (@begins_query '(' query ')' => SUBQUERY | '(' {expression} ')' => ROW_VALUES)
+
+-- What stands between operators: operands, with fields, elements, arguments and strings behind them.
+primary "an expression" = operand
+    left  _ ~(NAME_REF | FIELD_EXPR | INDEX_EXPR | SLICE_EXPR | PAREN_EXPR | SUBQUERY | PARAM_REF) '.' (label_ref | '*') => FIELD_EXPR
+        | _ ~(NAME_REF | FIELD_EXPR | INDEX_EXPR | SLICE_EXPR | PAREN_EXPR | SUBQUERY | PARAM_REF) '[' (expression (':' expression? => SLICE_EXPR | => INDEX_EXPR) | ':' expression? => SLICE_EXPR) ']'
+        | _ ~(NAME_REF | FIELD_EXPR) arg_list call_tail => CALL_EXPR
+        | _ ~(NAME_REF | FIELD_EXPR | CALL_EXPR) string => CAST_EXPR
+
+-- A keyword that is no function is a name where nothing else fits.
+operand "an expression" = paren
+    / Constant => LITERAL
+    / string
+    / POSITIONAL_PARAM => PARAM_REF
+    / CASE expression? when+ else? END => CASE_EXPR
+    / ARRAY ('(' query ')' | array_items) => ARRAY_EXPR
+    / interval_literal
+    / typed_literal
+    / keyword_call
+    / function_word (arg_list call_tail => CALL_EXPR | string => CAST_EXPR)
+    / CurrentValue => CALL_EXPR
+    / OperandName => NAME_REF
+
+paren "an expression" = (@begins_query '(' query ')' => SUBQUERY
+    | '(' expression (')' => PAREN_EXPR | ',' {expression} ')' => ROW_EXPR))
+when "WHEN" = WHEN expression THEN expression => WHEN_CLAUSE
+else = ELSE expression => ELSE_CLAUSE
+array_items = '[' ({array_items} | {expression})? ']' => ARRAY_ITEMS
+interval_literal = INTERVAL (string interval_fields?+ | '(' INT_NUMBER ')' string) => CAST_EXPR
+typed_literal = literal_type string => CAST_EXPR
+literal_type "a type" = DOUBLE PRECISION => TYPE | (BIT | CHARACTER | CHAR | NCHAR) VARYING literal_size? => TYPE
+    | NATIONAL (CHARACTER | CHAR) VARYING? literal_size? => TYPE | (TIME | TIMESTAMP) literal_size? (WITH | WITHOUT) TIME ZONE => TYPE
+literal_size = '(' INT_NUMBER ')' => TYPE_ARGS
+
+-- Calls.
+arg_list "arguments" = '(' ('*' | (ALL | DISTINCT)? {arg} (',' VARIADIC arg)? order_by? | VARIADIC arg order_by?)? ')' => ARG_LIST
+arg "an argument" = expression
+    none  _ ~NAME_REF (':=' | '=>') _ => NAMED_ARG
+call_tail = within_group?+ filter?+ over?+
+within_group = WITHIN GROUP '(' order_by ')' => WITHIN_CLAUSE
+filter = FILTER '(' where ')' => FILTER_CLAUSE
+over = OVER (window_spec | name_ref) => OVER_CLAUSE
+
+keyword_call "a function call" = CurrentTime precision?+ => CALL_EXPR
+    | COLLATION FOR '(' expression ')' => CALL_EXPR
+    | CAST '(' expression AS type ')' => CAST_EXPR
+
+-- Keywords with arguments of their own kind. Without a parenthesis they are names.
+special "an expression" = special_call | EXISTS '(' query ')' => EXISTS_EXPR | ROW '(' {expression}? ')' => ROW_EXPR
+    | SpecialWord => NAME_REF | special_ref ('.' (label_ref | '*'))+ => FIELD_EXPR
+special_ref "a name" = SpecialWord => NAME_REF
+special_call "a function call" = TREAT '(' expression AS type ')' => CALL_EXPR
+    | EXTRACT '(' (Name | string) FROM expression ')' => CALL_EXPR
+    | GROUPING '(' {expression} ')' => CALL_EXPR
+    | NORMALIZE '(' expression (',' normal_form)? ')' => CALL_EXPR
+    | OVERLAY '(' (arg (PLACING expression FROM expression (FOR expression)? | (',' arg)*))? ')' => CALL_EXPR
+    | POSITION '(' plain_expression IN plain_expression ')' => CALL_EXPR
+    | SUBSTRING '(' (arg (FROM expression (FOR expression)? | FOR expression (FROM expression)? | (',' arg)*))? ')' => CALL_EXPR
+    | TRIM '(' (BOTH | LEADING | TRAILING)? (FROM {expression} | expression (FROM {expression} | (',' expression)*)) ')' => CALL_EXPR
+    | NULLIF '(' expression ',' expression ')' => CALL_EXPR
+    | (COALESCE | GREATEST | LEAST) '(' {expression} ')' => CALL_EXPR
+    | xml_call
+
+-- XML.
+xml_call = XMLCONCAT '(' {expression} ')' => CALL_EXPR
+    | XMLELEMENT '(' NAME label (',' (xml_attributes (',' {expression})? / {expression}))? ')' => CALL_EXPR
+    | XMLEXISTS '(' passed xml_passing ')' => CALL_EXPR
+    | XMLFOREST '(' {xml_attribute} ')' => CALL_EXPR
+    | XMLPARSE '(' (DOCUMENT | CONTENT) expression ((PRESERVE | STRIP) WHITESPACE)? ')' => CALL_EXPR
+    | XMLPI '(' NAME label (',' expression)? ')' => CALL_EXPR
+    | XMLROOT '(' expression ',' VERSION (NO VALUE / expression) (',' STANDALONE (YES | NO VALUE?))? ')' => CALL_EXPR
+    | XMLSERIALIZE '(' (DOCUMENT | CONTENT) expression AS simple_type ')' => CALL_EXPR
+xml_attributes = XMLATTRIBUTES '(' {xml_attribute} ')' => XML_ATTRIBUTES
+xml_attribute = expression (AS label)? => XML_ATTRIBUTE
+xml_passing = PASSING xml_mechanism?+ passed xml_mechanism?+ => XML_PASSING
+passed "an expression" = primary | special
+xml_mechanism = BY (REF | VALUE)
+xml_table = XMLTABLE '(' (XMLNAMESPACES '(' {xml_namespace} ')' ',')?+ passed xml_passing COLUMNS {xml_column} ')'
+xml_namespace = plain_expression AS label => XML_NAMESPACE | DEFAULT plain_expression => XML_NAMESPACE
+xml_column "a column" = new_column (FOR ORDINALITY | type (IDENT plain_expression | DEFAULT plain_expression | NOT NULL | NULL)*) => XML_COLUMN
+"#;

@@ -1,0 +1,46 @@
+//! The words that stand as names, and classes of tokens.
+
+pub(crate) const WORDS: &str = r#"
+-- Words: which may stand as a name. A keyword that stands as one is an identifier.
+
+-- A column, a table, and what else has no arguments.
+class Name = IDENT unreserved col_name => IDENT
+-- OPERATOR ( begins an operator, BETWEEN the bounds of a frame.
+-- Keywords that have arguments of their own kind.
+class SpecialWord = COALESCE EXISTS EXTRACT GREATEST GROUPING LEAST NORMALIZE NULLIF OVERLAY POSITION ROW SUBSTRING TREAT TRIM
+    XMLATTRIBUTES XMLCONCAT XMLELEMENT XMLEXISTS XMLFOREST XMLNAMESPACES XMLPARSE XMLPI XMLROOT XMLSERIALIZE XMLTABLE => IDENT
+class FromName = IDENT unreserved col_name CURRENT_SCHEMA -SpecialWord => IDENT
+class OperandName = IDENT unreserved col_name CURRENT_SCHEMA -OPERATOR -BETWEEN -SpecialWord => IDENT
+class ColumnWord = col_name => IDENT
+-- A function or a type.
+class TypeName = IDENT unreserved type_func_name => IDENT
+class FunctionWord = type_func_name -CURRENT_SCHEMA => IDENT
+-- The alias of a table that SET follows.
+class ResultName = IDENT unreserved type_func_name -OPERATOR => IDENT
+class NotSet = IDENT unreserved col_name -SET => IDENT
+-- A role, an option, a label after AS, and one without AS.
+class RoleName = IDENT unreserved col_name type_func_name -NONE => IDENT
+class OptionName = IDENT unreserved col_name type_func_name => IDENT
+class BehindExpression = NULLS FILTER OVER WITHIN ESCAPE UESCAPE YEAR MONTH DAY HOUR MINUTE SECOND PRECISION VARYING
+class Label = IDENT keyword => IDENT
+class NeedsAs = ARRAY AS CHAR CHARACTER CREATE DAY ESCAPE EXCEPT FETCH FILTER FOR FROM GRANT GROUP HAVING HOUR INTERSECT INTO
+    ISNULL LIMIT MINUTE MONTH NOTNULL OFFSET ON ORDER OVER OVERLAPS PRECISION RETURNING SECOND TO UNION VARYING WHERE
+    WINDOW WITH WITHIN WITHOUT YEAR
+class BareLabel = IDENT keyword -NeedsAs => IDENT
+-- An operator class, behind an expression.
+class ClassName = IDENT unreserved col_name -BehindExpression => IDENT
+class WindowName = IDENT unreserved col_name -PARTITION -RANGE -ROWS -GROUPS => IDENT
+class Reserved = reserved
+
+class Constant = INT_NUMBER NUMERIC_NUMBER NATIONAL_STRING BIT_STRING BYTE_STRING TRUE FALSE NULL
+class CurrentValue = CURRENT_DATE CURRENT_ROLE CURRENT_USER SESSION_USER USER CURRENT_CATALOG
+class CurrentTime = CURRENT_TIME CURRENT_TIMESTAMP LOCALTIME LOCALTIMESTAMP
+
+-- A query in parentheses: what it begins with, and what may stand behind those inside.
+class QueryFirst = SELECT WITH TABLE VALUES
+class QueryNext = ')' UNION INTERSECT EXCEPT ORDER LIMIT OFFSET FETCH FOR
+guard begins_query = (QueryFirst) QueryNext
+
+-- Where parsing goes on after an error.
+class Resume = reserved type_func_name ',' ')' ']' ';' SET VALUES BY
+"#;
