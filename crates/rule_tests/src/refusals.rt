@@ -20,8 +20,22 @@ fn refused(alloc: Global, text: &str) -> Result<Option<RulesError>, Fail> {
     Ok(Rules::new(alloc, &parts, &names).err())
 }
 
+const IDENT: u16 = SyntaxKind::IDENT.0;
+
+const COMMA: u16 = SyntaxKind::COMMA.0;
+
+const OPEN: u16 = SyntaxKind::L_PAREN.0;
+
+const CLOSE: u16 = SyntaxKind::R_PAREN.0;
+
+const INT: u16 = SyntaxKind::INT_NUMBER.0;
+
+const COLON_COLON: u16 = SyntaxKind::COLON_COLON.0;
+
+const END: u16 = SyntaxKind::EOF.0;
+
 /// Texts of rules, and why they are refused.
-const REFUSALS: [(&str, Option<RulesError>); 25] = [
+static REFUSALS: [(&str, Option<RulesError>); 29] = [
     ("file = IDENT? ';'", None),
     ("file = item", Some(RulesError::Undefined { part: 1 })),
     ("file = Word", Some(RulesError::Undefined { part: 1 })),
@@ -58,8 +72,39 @@ const REFUSALS: [(&str, Option<RulesError>); 25] = [
         "file = IDENT OTHER OTHER",
         Some(RulesError::UnknownKind { part: 2 }),
     ),
-    // One more token decides whether there are one or two names.
+    // One more token decides whether there are one or two names; none decides which of two names is left out.
     ("file = IDENT? IDENT", None),
+    (
+        "file = IDENT? IDENT?",
+        Some(RulesError::Undecided {
+            part: 1,
+            kinds: [IDENT, END, END, END],
+        }),
+    ),
+    // Tokens that stand together are told as one.
+    (
+        "file = '::'? INT? '::'?",
+        Some(RulesError::Undecided {
+            part: 1,
+            kinds: [COLON_COLON, END, END, END],
+        }),
+    ),
+    // Commas and names are in the list or after it.
+    (
+        "file = {IDENT} ',' IDENT ',' IDENT ','",
+        Some(RulesError::Undecided {
+            part: 1,
+            kinds: [COMMA, IDENT, COMMA, IDENT],
+        }),
+    ),
+    // Only the fifth token tells one alternative from the other.
+    (
+        "file = '(' ')' INT ')' ')' | '(' ')' INT ')' ';'",
+        Some(RulesError::Undecided {
+            part: 2,
+            kinds: [OPEN, CLOSE, INT, CLOSE],
+        }),
+    ),
     // The first arm of an ordered choice is gone, and what is greedy.
     ("file = IDENT / IDENT", None),
     ("file = IDENT?+ IDENT?", None),
@@ -101,53 +146,6 @@ fn refuses(rt: HostRuntime) -> Result<(), Fail> {
     for (text, wanted) in &REFUSALS {
         let found = refused(rt.alloc(), text)?;
         assert_eq!(rt; found, *wanted, "{text}");
-    }
-    Ok(())
-}
-
-const COMMA: SyntaxKind = SyntaxKind::COMMA;
-
-const CLOSE: SyntaxKind = SyntaxKind::R_PAREN;
-
-const END: SyntaxKind = SyntaxKind::EOF;
-
-/// Texts of rules that four tokens don't decide, the parts where they don't, and the tokens.
-const UNDECIDED: [(&str, usize, [SyntaxKind; 4]); 4] = [
-    // A name is the first one or the second.
-    (
-        "file = IDENT? IDENT?",
-        1,
-        [SyntaxKind::IDENT, END, END, END],
-    ),
-    // Tokens that stand together are told as one.
-    (
-        "file = '::'? INT? '::'?",
-        1,
-        [SyntaxKind::COLON_COLON, END, END, END],
-    ),
-    // Commas and names are in the list or after it.
-    (
-        "file = {IDENT} ',' IDENT ',' IDENT ','",
-        1,
-        [COMMA, SyntaxKind::IDENT, COMMA, SyntaxKind::IDENT],
-    ),
-    // Only the fifth token tells one alternative from the other.
-    (
-        "file = '(' ')' INT ')' ')' | '(' ')' INT ')' ';'",
-        2,
-        [SyntaxKind::L_PAREN, CLOSE, SyntaxKind::INT_NUMBER, CLOSE],
-    ),
-];
-
-#[test]
-fn tells_what_tokens_do_not_decide(rt: HostRuntime) -> Result<(), Fail> {
-    for (text, part, kinds) in &UNDECIDED {
-        let found = refused(rt.alloc(), text)?;
-        let wanted = RulesError::Undecided {
-            part: *part,
-            kinds: [kinds[0].0, kinds[1].0, kinds[2].0, kinds[3].0],
-        };
-        assert_eq!(rt; found, Some(wanted), "{text}");
     }
     Ok(())
 }
