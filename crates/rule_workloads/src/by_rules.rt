@@ -1,9 +1,9 @@
 //! Texts parsed by rules, and rules made.
 use crate::by_code::parsed;
+use rule_tables::Rules;
 use select_rules::{ready, rules_of};
 use squawk_keywords::Keywords;
 use squawk_kinds::Vocabulary;
-use rule_tables::Rules;
 use std::alloc::{AllocError, Global};
 
 /// The rules of a text. A refusal counts as want of memory.

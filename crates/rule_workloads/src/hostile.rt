@@ -63,8 +63,12 @@ fn push_rule(text: &mut String, index: usize) -> Result<(), AllocError> {
     push_name(text, index.saturating_sub(1))?;
     text.push_str(" \"a rule\" = SELECT DISTINCT? {")?;
     push_name(text, index)?;
-    text.push_str("} (FROM IDENT => FROM_CLAUSE | WHERE INT (AND | OR) STRING => WHERE_CLAUSE)? ';' => SELECT\n")?;
-    text.push_str("    | '(' {IDENT (AS IDENT)?} ')' => LIST | NOT+ IDENT => NOT_EXPR | IDENT => ITEM\n")
+    text.push_str(
+        "} (FROM IDENT => FROM_CLAUSE | WHERE INT (AND | OR) STRING => WHERE_CLAUSE)? ';' => SELECT\n",
+    )?;
+    text.push_str(
+        "    | '(' {IDENT (AS IDENT)?} ')' => LIST | NOT+ IDENT => NOT_EXPR | IDENT => ITEM\n",
+    )
 }
 
 /// The name of a rule: letters.
