@@ -25,6 +25,5 @@ mod texts;
 mod token_kinds;
 
 pub use names::{nodes, tokens};
-pub use node_kinds::NodeKind;
 pub use read::rules;
 pub use texts::text;
