@@ -99,7 +99,15 @@ impl Parser<'_> {
         ensures length { result ≡ operator_length (has self.now.words.operator_first) (ahead self.now 0) }
         ensures some { has self.now.words.operator_first (kind_at self.now 0) ≡ true → 0 < result }
     {
-        self.view(0).operator_len(&self.operator_first)
+        self.nth_op_len(0)
+    }
+
+    /// The number of tokens of the operator that begins `n` tokens after the position; 0 if none does.
+    pub fn nth_op_len(&self, n: usize) -> usize
+        ensures length { result ≡ operator_length (has self.now.words.operator_first) (ahead self.now n) }
+        ensures some { has self.now.words.operator_first (kind_at self.now n) ≡ true → 0 < result }
+    {
+        self.view(n).operator_len(&self.operator_first)
     }
 
     /// Whether the current token and the next aren't joined by an operator.
