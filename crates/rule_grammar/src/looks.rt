@@ -2,7 +2,7 @@
 use crate::table::Table;
 use squawk_parser::{Parser, SyntaxKind};
 
-/// No set of kinds.
+/// Stands after the last set of a look.
 const NO_SET: u16 = u16::MAX;
 
 impl Table<'_> {
@@ -49,13 +49,22 @@ impl Table<'_> {
     }
 
     fn sees_row(&self, row: &[u16; 5], symbol: SyntaxKind, p: &Parser<'_>) -> bool {
-        (row[0] == NO_SET || self.has(row[0], symbol))
-            && self.sees_set(row[1], 1, p)
-            && self.sees_set(row[2], 2, p)
-            && self.sees_set(row[3], 3, p)
+        self.has(row[0], symbol) && self.sees_after(row, p)
     }
 
-    fn sees_set(&self, set: u16, n: usize, p: &Parser<'_>) -> bool {
-        set == NO_SET || self.has(set, p.nth(n))
+    /// Whether the symbols after the first one are in the other sets of a look.
+    fn sees_after(&self, row: &[u16; 5], p: &Parser<'_>) -> bool {
+        let mut n = self.symbol_after(0, p).len;
+        for set in [row[1], row[2], row[3]] {
+            if set == NO_SET {
+                return true;
+            }
+            let symbol = self.symbol_after(n, p);
+            if !self.has(set, symbol.kind) {
+                return false;
+            }
+            n = n.saturating_add(symbol.len);
+        }
+        true
     }
 }

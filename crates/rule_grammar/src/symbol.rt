@@ -1,4 +1,4 @@
-//! The symbol of a token: what sets of first kinds and looks are asked for.
+//! Symbols: what sets of first kinds and looks are asked for.
 ghost use Rattle.std.specs.Prelude.{◌≡◌};
 ghost use Rattle.rule_grammar.specs.Parts.{bit_of};
 ghost use Rattle.rule_grammar.specs.Derivations.{operators_of};
@@ -18,34 +18,52 @@ pub fn bit_of(kind: SyntaxKind) -> SyntaxKind
     }
 }
 
+/// A symbol, and how many tokens it has.
+#[derive(Clone, Copy)]
+pub(crate) struct Symbol {
+    pub(crate) kind: SyntaxKind,
+    pub(crate) len: usize,
+}
+
 impl Table<'_> {
     /// The symbol at the position: the kind of its token, or the composite kind that it begins.
     #[inline(always)]
     pub(crate) fn symbol(&self, p: &Parser<'_>) -> SyntaxKind {
-        let kind = p.current();
+        self.symbol_after(0, p).kind
+    }
+
+    /// The symbol that begins `n` tokens after the position.
+    #[inline(always)]
+    pub(crate) fn symbol_after(&self, n: usize, p: &Parser<'_>) -> Symbol {
+        let kind = p.nth(n);
         if self.composed.contains(kind) {
-            bit_of(self.composite(kind, p))
+            self.composite(kind, n, p)
         } else {
-            kind
+            Symbol { kind, len: 1 }
         }
     }
 
     #[inline(never)]
-    fn composite(&self, kind: SyntaxKind, p: &Parser<'_>) -> SyntaxKind {
+    fn composite(&self, kind: SyntaxKind, n: usize, p: &Parser<'_>) -> Symbol {
+        let single = Symbol { kind, len: 1 };
         if !self.operators.contains(kind) {
-            return self.glued_or(kind, 2, p);
+            return self.glued_or(single, 2, n, p);
         }
-        match p.op_len() {
-            1 if self.plain.contains(kind) => kind,
-            len => self.glued_or(SyntaxKind::CUSTOM_OP, len, p),
+        match p.nth_op_len(n) {
+            1 if self.plain.contains(kind) => single,
+            len => {
+                let kind = bit_of(SyntaxKind::CUSTOM_OP);
+                self.glued_or(Symbol { kind, len }, len, n, p)
+            }
         }
     }
 
-    /// The first composite kind of so many tokens that stands at the position, or the other.
-    fn glued_or(&self, other: SyntaxKind, len: usize, p: &Parser<'_>) -> SyntaxKind {
-        for kind in self.glued {
-            if len_of(*kind) == len && p.at(*kind) {
-                return *kind;
+    /// The first composite kind of so many tokens that stands `n` tokens after the position, or the other symbol.
+    fn glued_or(&self, other: Symbol, len: usize, n: usize, p: &Parser<'_>) -> Symbol {
+        for glued in self.glued {
+            if len_of(*glued) == len && p.nth_at(n, *glued) {
+                let kind = bit_of(*glued);
+                return Symbol { kind, len };
             }
         }
         other

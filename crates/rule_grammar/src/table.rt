@@ -46,16 +46,16 @@ use squawk_parser::{SyntaxKind, TokenSet};
 /// then a token of the set of number 1, and after each that closes one of them, but the first of the run, a token of the
 /// set of number 2. A parenthesis that isn't closed before a semicolon or the end needs none.
 ///
-/// The sets of the numbers 3 to 5, that of operators and the first of a look have *symbols*: a symbol is the kind of the
-/// token at the position, or the composite kind that it begins ([`Table::glued`]), as [`bit_of`](crate::bit_of) tells it.
-/// The other sets have kinds of tokens.
+/// The sets of the numbers 3 to 5, those of operators and of looks have *symbols*: a symbol is the kind of the token that
+/// stands there, or the composite kind that it begins ([`Table::glued`]), as [`bit_of`](crate::bit_of) tells it. The other
+/// sets have kinds of tokens.
 #[derive(Clone, Copy)]
 pub struct Table<'r> {
     pub rows: &'r [[u16; 8]],
     /// Sets of token kinds: a set has kind `k` if bit `k % 16` of its number `k / 16` is 1.
     pub sets: &'r [[u16; 40]],
-    /// Looks, counted from 1: the sets that the next four tokens are in, where 65535 is any kind, and the look that is
-    /// tried next, or 0.
+    /// Looks, counted from 1: the sets that the next symbols are in, one to four, then 65535, and the look that is tried
+    /// next, or 0, in the last number.
     pub looks: &'r [[u16; 5]],
     /// The messages, one after another.
     pub messages: &'r str,

@@ -18,7 +18,7 @@ pub(crate) const TOKENS: [(&str, SyntaxKind); 12] = [
 ];
 
 /// Nodes.
-pub(crate) const NODES: [(&str, SyntaxKind); 10] = [
+pub(crate) const NODES: [(&str, SyntaxKind); 11] = [
     ("FILE", SyntaxKind(700)),
     ("STATEMENT", SyntaxKind(701)),
     ("NAME", SyntaxKind(702)),
@@ -29,6 +29,7 @@ pub(crate) const NODES: [(&str, SyntaxKind); 10] = [
     ("CALL", SyntaxKind(707)),
     ("NEGATION", SyntaxKind(708)),
     ("LIST", SyntaxKind(709)),
+    ("CAST", SyntaxKind::COLON_COLON),
 ];
 
 /// A class of tokens.

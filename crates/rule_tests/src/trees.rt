@@ -118,3 +118,55 @@ fn parses_items(rt: HostRuntime) -> Result<(), Fail> {
     }
     Ok(())
 }
+
+/// Items that a composite kind tells apart, or what stands after it.
+const CASTS: &str = "
+file = item+ => FILE
+item \"an item\" = IDENT '::' IDENT '.' => SUM | IDENT '::' IDENT => CALL | IDENT IDENT => LIST
+";
+
+/// Texts, and what is in their files.
+static CAST_CASES: [(&str, &str); 4] = [
+    ("a::b", "CALL{aCAST{::}b}"),
+    ("a::b.", "SUM{aCAST{::}b.}"),
+    ("a b", "LIST{a b}"),
+    ("a::b.c::d e f", "SUM{aCAST{::}b.}CALL{cCAST{::}d} LIST{e f}"),
+];
+
+#[test]
+fn composite_kinds_decide(rt: HostRuntime) -> Result<(), Fail> {
+    for (text, wanted) in &CAST_CASES {
+        let line = parsed(rt.alloc(), CASTS, text)?;
+        let wanted = format!(in rt.alloc(); "FILE{{{wanted}}}")?;
+        assert_eq!(rt; line.as_str(), wanted.as_str(), "{text}");
+    }
+    Ok(())
+}
+
+/// Values in parentheses: a guard tells which are numbers.
+const GUARDED: &str = "
+class First = INT
+class After = ')' ';'
+guard begins_number = (First) After
+file = value+ => FILE
+value \"a value\" = @begins_number number => LIST | '(' value ')' => PAREN | IDENT => NAME
+number = '(' number ')' | INT
+";
+
+/// Texts, and what is in their files.
+static GUARDED_CASES: [(&str, &str); 4] = [
+    ("((1))", "LIST{((1))}"),
+    ("((a))", "PAREN{(PAREN{(NAME{a})})}"),
+    ("(1)a", "LIST{(1)}NAME{a}"),
+    ("((a))(1)", "PAREN{(PAREN{(NAME{a})})}LIST{(1)}"),
+];
+
+#[test]
+fn guards_decide(rt: HostRuntime) -> Result<(), Fail> {
+    for (text, wanted) in &GUARDED_CASES {
+        let line = parsed(rt.alloc(), GUARDED, text)?;
+        let wanted = format!(in rt.alloc(); "FILE{{{wanted}}}")?;
+        assert_eq!(rt; line.as_str(), wanted.as_str(), "{text}");
+    }
+    Ok(())
+}

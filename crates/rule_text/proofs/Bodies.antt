@@ -14,7 +14,7 @@ use Rattle.rule_text.specs.Rules.{Body as bodies, MoreOperators, Operator, first
 use Rattle.rule_text.specs.Rules.MoreOperators.{no_operator, operator}
 use Rattle.rule_text.specs.Rules.Operator.{prefix, tail}
 use Rattle.rule_text.specs.Written.{IsAfterBars, Written as forms, bar, sort_at}
-use Rattle.rule_text.specs.Written.Form.{alternative, arm, arms, sequence}
+use Rattle.rule_text.specs.Written.Form.{alternative, arm, arms, items}
 use Rattle.rule_text.proofs.Leaves.{sort_back, still_after_bars, told_back}
 use Rattle.rule_text.proofs.Decisions.{Leads, Splits, Stop, behind, decides_as, leads_more, miss_first, written_in}
 use Rattle.rule_text.proofs.Reading.{reads_around, reads_as, reads_both, reads_none}
@@ -35,11 +35,11 @@ prefix_decided {a} {b} {r} e n d =
     decides_as (subst (λ (f : ℕ). Decides (written_as (arm true) f) a b r) e d) (λ q. reads_as q (λ ps v. prefix n v)) (λ m. miss_first (prefix_split n) m)
 
 pub tail_read : {a b c d : Reader} {floor start size : ℕ} {level : Level} → floor ≡ floor_of level → sort_at a.words.now a.at ≡ sorts.Operand → Bumps a b
-    → Reads (written_as sequence floor) b c → start ≡ length b.parts.items → size ≡ length c.parts.items - start
+    → Reads (written_as items floor) b c → start ≡ length b.parts.items → size ≡ length c.parts.items - start
     → Wraps start (parts.Tail level.number level.association size) c d → Reads (Operator level) a d
 tail_read {a} {b} {c} {level = level} e there bumps r from sized wraps =
-    let inner : Reads (behind_one (written_as sequence (floor_of level))) a c =
-    behind bumps (subst (λ (f : ℕ). Reads (written_as sequence f) b c) e r) in
+    let inner : Reads (behind_one (written_as items (floor_of level))) a c =
+    behind bumps (subst (λ (f : ℕ). Reads (written_as items f) b c) e r) in
     reads_around (λ n. parts.Tail level.number level.association n) inner (from ∙ ap (λ (l : List Part). length l) bumps.parts) sized wraps
     (λ ps v. tail there v)
 

@@ -135,8 +135,9 @@ pub items_lead : {a b c : Reader} {floor : ℕ} → Leads (written_as items floo
     → Reads (written_as item floor) b c → Leads (written_as items floor) (written_as items floor) a c
 items_lead p begins r = leads_more p r (λ k ps qs u v. forms.more u v) (items_split begins) (λ j k ps qs v w. same v w)
 
-pub sequence_split : {ws : List Word} {floor i : ℕ} → Splits Guarding (written_as items floor) (written_as sequence floor) ws i
-sequence_split k rs (forms.sequenced g v) = both g v
+pub guard_split : {ws : List Word} {floor i : ℕ} {of_rule : Bool}
+    → Splits Guarding (written_as (sequence of_rule) floor) (written_as (alternative of_rule) floor) ws i
+guard_split k rs (forms.guarded g v) = both g v
 
 -- ---- alternatives
 
@@ -158,23 +159,23 @@ named xs ys {zs} {start} {flag} {v} e from told is =
     let rest : drop start zs ≡ ys = ap (λ (n : ℕ). drop n zs) from ∙ (ap (λ (l : List Part). drop (length xs) l) e ∙ drop_all xs ys) in
     sym (ap names_kind rest) ∙ (sym told ∙ is)
 
-pub group_read_as : {a b : Reader} {floor : ℕ} {of_rule : Bool} → Reads (written_as sequence floor) a b → of_rule ≡ false
-    → Reads (written_as (alternative of_rule) floor) a b
+pub group_read_as : {a b : Reader} {floor : ℕ} {of_rule : Bool} → Reads (written_as items floor) a b → of_rule ≡ false
+    → Reads (written_as (sequence of_rule) floor) a b
 group_read_as {a} {b} {floor} {of_rule} r e =
-    reads_as r (λ ps v. subst (λ (l : List Part). Written a.words.now floor (alternative of_rule) a.at b.at l) (unnoded of_rule e ps) (forms.all v))
+    reads_as r (λ ps v. subst (λ (l : List Part). Written a.words.now floor (sequence of_rule) a.at b.at l) (unnoded of_rule e ps) (forms.all v))
 
-pub plain_read : {a b : Reader} {start floor : ℕ} {of_rule flag : Bool} → Reads (written_as sequence floor) a b → start ≡ length a.parts.items
-    → flag ≡ names_kind (drop start b.parts.items) → flag ≡ false → Reads (written_as (alternative of_rule) floor) a b
+pub plain_read : {a b : Reader} {start floor : ℕ} {of_rule flag : Bool} → Reads (written_as items floor) a b → start ≡ length a.parts.items
+    → flag ≡ names_kind (drop start b.parts.items) → flag ≡ false → Reads (written_as (sequence of_rule) floor) a b
 plain_read {a} {b} {start} {floor} {of_rule} r from told is =
     reads_as (reads_with (λ ps. names_kind ps ≡ false) r (named a.parts.items r.parts r.added from told is))
-    (λ ps v. subst (λ (l : List Part). Written a.words.now floor (alternative of_rule) a.at b.at l) (unnamed of_rule ps v.1) (forms.all v.0))
+    (λ ps v. subst (λ (l : List Part). Written a.words.now floor (sequence of_rule) a.at b.at l) (unnamed of_rule ps v.1) (forms.all v.0))
 
-pub node_read : {a b c : Reader} {start size floor : ℕ} {of_rule flag : Bool} → Reads (written_as sequence floor) a b → start ≡ length a.parts.items
+pub node_read : {a b c : Reader} {start size floor : ℕ} {of_rule flag : Bool} → Reads (written_as items floor) a b → start ≡ length a.parts.items
     → of_rule ≡ true → flag ≡ names_kind (drop start b.parts.items) → flag ≡ true → size ≡ length b.parts.items - start
-    → Wraps start (parts.Node size) b c → Reads (written_as (alternative of_rule) floor) a c
+    → Wraps start (parts.Node size) b c → Reads (written_as (sequence of_rule) floor) a c
 node_read {a} {b} {c} {start} {size} {floor} {of_rule} r from rules told is sized wraps =
     reads_around (λ n. parts.Node n) (reads_with (λ ps. names_kind ps ≡ true) r (named a.parts.items r.parts r.added from told is)) from sized wraps
-    (λ ps v. subst (λ (l : List Part). Written a.words.now floor (alternative of_rule) a.at b.at l) (noded of_rule rules ps v.1) (forms.all v.0))
+    (λ ps v. subst (λ (l : List Part). Written a.words.now floor (sequence of_rule) a.at b.at l) (noded of_rule rules ps v.1) (forms.all v.0))
 
 pub arm_read : {a b c : Reader} {start size floor : ℕ} {of_rule : Bool} → Reads (written_as (alternative of_rule) floor) a b
     → start ≡ length a.parts.items → size ≡ length b.parts.items - start → Wraps start (parts.Arm size) b c → Reads (written_as (arm of_rule) floor) a c

@@ -69,8 +69,8 @@ goes (forms.once v n) = goes v
 goes (forms.signed v e g) = let h = goes v in let k = greedy_goes g in omega (arith, h, k)
 goes (forms.none e) = omega arith
 goes (forms.more v w) = let h = goes v in let k = goes w in omega (arith, h, k)
-goes (forms.sequenced g v) = let h = guarding_goes g in let k = goes v in omega (arith, h, k)
 goes (forms.all v) = goes v
+goes (forms.guarded g v) = let h = guarding_goes g in let k = goes v in omega (arith, h, k)
 goes (forms.one v) = goes v
 goes (forms.last n) = omega arith
 goes (forms.next e v w) = let h = goes v in let k = goes w in omega (arith, h, k)

@@ -7,14 +7,14 @@ use Rattle.rule_text.specs.declared.word.Word.{Word}
 use Rattle.rule_text.specs.declared.word.Sort.{Sort}
 use Rattle.rule_text.specs.Written.{Arrow, Form, Greedy, Guarding, Kinds, MoreKinds, OneKind, Separated, Written, bar, begins_item, is_sign, sort_at}
 use Rattle.rule_text.specs.Written.Arrow.{arrow}
-use Rattle.rule_text.specs.Written.Form.{arms, atom, item, items}
+use Rattle.rule_text.specs.Written.Form.{arms, atom, item, items, sequence}
 use Rattle.rule_text.specs.Written.Greedy.{greedy, not_greedy}
 use Rattle.rule_text.specs.Written.Guarding.{guarded, unguarded}
 use Rattle.rule_text.specs.Written.Kinds.{one_kind, some_kinds}
 use Rattle.rule_text.specs.Written.MoreKinds.{last_kind, next_kind}
 use Rattle.rule_text.specs.Written.OneKind.{kind}
 use Rattle.rule_text.specs.Written.Separated.{by_comma, by_token}
-use Rattle.rule_text.specs.Written.Written.{all, alone, becomes, call, choice, class, group, is, last, list, more, next, none, once, one, operand, sequenced, signed, token}
+use Rattle.rule_text.specs.Written.Written.{all, alone, becomes, call, choice, class, group, guarded, is, last, list, more, next, none, once, one, operand, signed, token}
 
 -- a test doesn't hold and fail at one place
 pub differ : (P : ℕ → Bool) {j k : ℕ} → j ≡ k → P j ≡ true → P k ≡ false → ⊥
@@ -108,9 +108,9 @@ same (none e) (none f) = refl
 same (none e) (more v w) = absurd (begun v e)
 same (more v w) (none e) = absurd (begun v e)
 same {ws} {floor} (more v w) (more {k = k} {qs = qs} x y) = same w (subst (λ (n : ℕ). Written ws floor items n k qs) (sym (same v x)) y)
-same {ws} {floor} (sequenced g v) (sequenced {k = k} {qs = qs} h w) =
-    same v (subst (λ (n : ℕ). Written ws floor items n k qs) (sym (same_guarding g h)) w)
 same (all v) (all w) = same v w
+same {ws} {floor} (guarded {of_rule = of_rule} g v) (guarded {k = k} {qs = qs} h w) =
+    same v (subst (λ (n : ℕ). Written ws floor (sequence of_rule) n k qs) (sym (same_guarding g h)) w)
 same (one v) (one w) = same v w
 same (last n) (last m) = refl
 same (last n) (next e v w) = absurd (n e)

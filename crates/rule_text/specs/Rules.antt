@@ -10,7 +10,7 @@ use Rattle.rule_text.specs.declared.word.Word.{Word}
 use Rattle.rule_text.specs.declared.word.Sort.{Sort}
 use Rattle.rule_text.specs.declared.word.Sort.TheVariants as sorts
 use Rattle.rule_text.specs.Written.{Arrow, IsWord, IsAfterBars, Written, bar, sort_at}
-use Rattle.rule_text.specs.Written.Form.{alternative, arm, arms, sequence}
+use Rattle.rule_text.specs.Written.Form.{alternative, arm, arms, items}
 
 -- whether a word begins a level of operators
 abbrev pub is_level : Sort → Bool
@@ -42,7 +42,7 @@ floor_of level = if nests_right level.association then level.number else level.n
 -- an operator: after its first operand, or in front of it
 pub data Operator (level : Level) (ws : List Word) (i j : ℕ) : List Part → Type 0 where
   prefix : {ps : List Part} → sort_at ws i ≢ sorts.Operand → Written ws (floor_of level) (arm true) i j ps → Operator level ws i j ps
-  tail : {ps : List Part} → sort_at ws i ≡ sorts.Operand → Written ws (floor_of level) sequence (i + 1) j ps
+  tail : {ps : List Part} → sort_at ws i ≡ sorts.Operand → Written ws (floor_of level) items (i + 1) j ps
       → Operator level ws i j (Tail level.number level.association (length ps) ∷ ps)
 
 -- operators after one of a level, each after a word that says its own

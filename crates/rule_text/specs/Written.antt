@@ -74,7 +74,7 @@ becomes_kind part = false
 abbrev pub names_kind : List Part → Bool
 names_kind ps = list_any becomes_kind ps
 
--- an alternative: of a rule it is a node, if the kind of one is named in it
+-- the items of an alternative: of a rule they are a node, if the kind of one is named in them
 abbrev pub as_node : Bool → List Part → List Part
 as_node true ps = if names_kind ps then Node (length ps) ∷ ps else ps
 as_node false ps = ps
@@ -85,8 +85,8 @@ pub data Form : Type 0 where
   atom : Sort → Form
   item : Form
   items : Form
-  -- a guard and items; an alternative: of a rule, or of a group; the same as an arm; further arms, each after |, or after / if ordered
-  sequence : Form
+  -- items of a rule or a group; an alternative: a guard, if there is one, and these; the same as an arm; further arms, each after |, or after / if ordered
+  sequence : Bool → Form
   alternative : Bool → Form
   arm : Bool → Form
   arms : Bool → Bool → Form
@@ -149,8 +149,9 @@ pub data Written (ws : List Word) (floor : ℕ) : Form → ℕ → ℕ → List 
       → Greedy ws (j + 1) k greedy → Written ws floor item i k (sign_part (sort_at ws j) (length ps) greedy ∷ ps)
   none : {i : ℕ} → begins_item (sort_at ws i) ≡ false → Written ws floor items i i []
   more : {i j k : ℕ} {ps qs : List Part} → Written ws floor item i j ps → Written ws floor items j k qs → Written ws floor items i k (ps ++ qs)
-  sequenced : {i j k : ℕ} {ps qs : List Part} → Guarding ws i j ps → Written ws floor items j k qs → Written ws floor sequence i k (ps ++ qs)
-  all : {i j : ℕ} {ps : List Part} {of_rule : Bool} → Written ws floor sequence i j ps → Written ws floor (alternative of_rule) i j (as_node of_rule ps)
+  all : {i j : ℕ} {ps : List Part} {of_rule : Bool} → Written ws floor items i j ps → Written ws floor (sequence of_rule) i j (as_node of_rule ps)
+  guarded : {i j k : ℕ} {ps qs : List Part} {of_rule : Bool} → Guarding ws i j ps → Written ws floor (sequence of_rule) j k qs
+      → Written ws floor (alternative of_rule) i k (ps ++ qs)
   one : {i j : ℕ} {ps : List Part} {of_rule : Bool} → Written ws floor (alternative of_rule) i j ps
       → Written ws floor (arm of_rule) i j (Arm (length ps) ∷ ps)
   last : {i : ℕ} {of_rule ordered : Bool} → sort_at ws i ≢ bar ordered → Written ws floor (arms of_rule ordered) i i []

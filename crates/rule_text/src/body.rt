@@ -5,7 +5,7 @@ ghost use Rattle.rule_text.specs.Rules.{Body, MoreOperators, Operator, first_lev
 ghost use Rattle.rule_text.specs.Written.{is_end};
 
 use crate::error::WordError;
-use crate::expression::{alternative, arm, arms, ordered_by, sequence};
+use crate::expression::{alternative, arm, arms, items, ordered_by};
 use crate::reader::Reader;
 use crate::word::Sort;
 use rule_parts::{Association, Part};
@@ -114,7 +114,7 @@ fn operator(reader: &mut Reader<'_, '_>, level: Level) -> Result<(), WordError>
     }
     reader.bump();
     let start = reader.len();
-    sequence(reader, floor, NESTED)?;
+    items(reader, floor, NESTED)?;
     let size = reader.size_from(start);
     let tail = Part::Tail {
         level: level.number,

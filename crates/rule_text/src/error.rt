@@ -1,6 +1,6 @@
 //! Errors of texts of rules.
 ghost use Rattle.std.specs.Prelude.{◌≡◌, ◌+◌, ◌==◌, min, if◌then◌else◌};
-ghost use Rattle.rule_text.specs.Places.{place_behind, place_of};
+ghost use Rattle.rule_text.specs.Places.{place_after, place_of};
 
 use sql_lexer::TokenizeError;
 use std::alloc::{AllocError, AllocFailed};
@@ -106,7 +106,7 @@ impl Place {
         ensures { result ≡ place_of text.now byte }
     {
         let bytes = text.as_bytes();
-        place_behind(&bytes[..byte.min(bytes.len())])
+        place_after(&bytes[..byte.min(bytes.len())])
     }
 
     /// The place after this byte.
@@ -128,9 +128,9 @@ impl Place {
     }
 }
 
-/// The place behind a text.
-fn place_behind(before: &[u8]) -> Place
-    ensures { result ≡ place_behind before.now }
+/// The place after a text.
+fn place_after(before: &[u8]) -> Place
+    ensures { result ≡ place_after before.now }
 {
     let mut place = Place { line: 1, column: 1 };
     for one in before {

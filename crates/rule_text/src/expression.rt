@@ -81,7 +81,7 @@ pub(crate) fn arm(
     reader.wrap(start, Part::Arm { size })
 }
 
-/// An alternative. That of a rule is a node, if the kind of one is named in it.
+/// An alternative: a guard, if there is one, and items.
 #[cycle(expression)]
 pub(crate) fn alternative(
     reader: &mut Reader<'_, '_>,
@@ -91,8 +91,22 @@ pub(crate) fn alternative(
 ) -> Result<(), WordError>
     ensures { Decides (written_as (alternative of_rule) floor) reader.old reader.new result }
 {
+    guard(reader)?;
+    sequence(reader, floor, depth, of_rule)
+}
+
+/// The items of an alternative. Those of a rule are a node, if the kind of one is named in them.
+#[cycle(expression)]
+fn sequence(
+    reader: &mut Reader<'_, '_>,
+    floor: usize,
+    depth: u32,
+    of_rule: bool,
+) -> Result<(), WordError>
+    ensures { Decides (written_as (sequence of_rule) floor) reader.old reader.new result }
+{
     let start = reader.len();
-    sequence(reader, floor, depth)?;
+    items(reader, floor, depth)?;
     if !of_rule {
         return Ok(());
     }
@@ -103,22 +117,13 @@ pub(crate) fn alternative(
     reader.wrap(start, Part::Node { size })
 }
 
-/// A guard, if there is one, and items.
+/// Items, one after another.
 #[cycle(expression)]
-pub(crate) fn sequence(
+pub(crate) fn items(
     reader: &mut Reader<'_, '_>,
     floor: usize,
     depth: u32,
 ) -> Result<(), WordError>
-    ensures { Decides (written_as sequence floor) reader.old reader.new result }
-{
-    guard(reader)?;
-    items(reader, floor, depth)
-}
-
-/// Items, one after another.
-#[cycle(expression)]
-fn items(reader: &mut Reader<'_, '_>, floor: usize, depth: u32) -> Result<(), WordError>
     ensures { Decides (written_as items floor) reader.old reader.new result }
 {
     while begins_item(reader.sort()) {

@@ -11,4 +11,4 @@ pub returns : goal.returns
 returns c =
     let there = c.is_at.ensures.is c.if-not-is_at.false in
     decides_by c.wrap.result c.wrap.ensures.wraps c.wrap.ensures.only
-    (λ w. tail_read c.floor_of-floor.ensures there (c.bump.ensures (ap is_end there)) c.in_ok-sequence.ensures.reads c.len-start.ensures c.size_from-size.ensures w)
+    (λ w. tail_read c.floor_of-floor.ensures there (c.bump.ensures (ap is_end there)) c.in_ok-items.ensures.reads c.len-start.ensures c.size_from-size.ensures w)

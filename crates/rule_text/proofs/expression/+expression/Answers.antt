@@ -2,7 +2,7 @@ use Rattle.std.proofs.Common.{arith, refl, sym, ap, ◌≡◌, ◌∙◌}
 use Rattle.rule_text.specs.declared.word.Sort.TheVariants as sorts
 use Rattle.rule_text.specs.Written.{Written as forms, begins_item, is_end, is_sign, sort_at}
 use Rattle.rule_text.proofs.Leaves.{told_back, item_is, sign_is, sort_back, sort_not_back, still_after_bars, still_sort}
-use Rattle.rule_text.proofs.Expressions.{arm_read, arms_lead, choice_read, group_read_as, node_read, plain_read, arrow_split, atom_decided, group_read, group_split, items_lead, list_read, list_split, miss_arms, miss_brace, miss_separator, no_atom, one_as, sequence_split, signed_read}
+use Rattle.rule_text.proofs.Expressions.{arm_read, arms_lead, choice_read, group_read_as, node_read, plain_read, arrow_split, atom_decided, group_read, group_split, items_lead, list_read, list_split, miss_arms, miss_brace, miss_separator, no_atom, one_as, guard_split, signed_read}
 use Rattle.rule_text.proofs.Goes.{goes, nearer}
 use Rattle.rule_text.proofs.Decisions.{behind, decides_as, decides_by, decides_then, exits, exits_as, leads_end, miss_first, miss_rest, miss_sole, missed_at, missed_from, read, refused}
 use Rattle.rule_text.proofs.Reading.{reads_as, reads_none}
@@ -109,24 +109,24 @@ items-returns t c =
     let ends = ap begins_item (sym c.sort.ensures) ∙ (sym c.begins_item.ensures ∙ c.loop-reader-test.false) in
     read (leads_end c.loop-reader.invariant (reads_none c.loop-reader.reader (forms.none ends)))
 
+pub sequence-returns-then-not-of_rule : goal.sequence-returns-then-not-of_rule
+sequence-returns-then-not-of_rule t c = read (group_read_as c.in_ok-items.ensures.reads c.if-not-of_rule.true)
+
+pub sequence-returns-then-not-names_a_kind : goal.sequence-returns-then-not-names_a_kind
+sequence-returns-then-not-names_a_kind t c =
+    read (plain_read c.in_ok-items.ensures.reads c.len-start.ensures c.names_a_kind.ensures c.if-not-names_a_kind.true)
+
 pub sequence-returns : goal.sequence-returns
 sequence-returns t c =
-    decides_then c.in_ok-guard.ensures.reads c.items.ensures (λ ps qs g v. forms.sequenced g v) sequence_split (λ j k ps qs v w. same_guarding v w)
+    decides_by c.wrap.result c.wrap.ensures.wraps c.wrap.ensures.only
+    (λ w. node_read c.in_ok-items.ensures.reads c.len-start.ensures c.if-not-of_rule.false c.names_a_kind.ensures c.if-not-names_a_kind.false
+    c.size_from-size.ensures w)
 
 -- ---- alternatives
 
-pub alternative-returns-then-not-of_rule : goal.alternative-returns-then-not-of_rule
-alternative-returns-then-not-of_rule t c = read (group_read_as c.in_ok-sequence.ensures.reads c.if-not-of_rule.true)
-
-pub alternative-returns-then-not-names_a_kind : goal.alternative-returns-then-not-names_a_kind
-alternative-returns-then-not-names_a_kind t c =
-    read (plain_read c.in_ok-sequence.ensures.reads c.len-start.ensures c.names_a_kind.ensures c.if-not-names_a_kind.true)
-
 pub alternative-returns : goal.alternative-returns
 alternative-returns t c =
-    decides_by c.wrap.result c.wrap.ensures.wraps c.wrap.ensures.only
-    (λ w. node_read c.in_ok-sequence.ensures.reads c.len-start.ensures c.if-not-of_rule.false c.names_a_kind.ensures c.if-not-names_a_kind.false
-    c.size_from-size.ensures w)
+    decides_then c.in_ok-guard.ensures.reads c.sequence.ensures (λ ps qs g v. forms.guarded g v) guard_split (λ j k ps qs v w. same_guarding v w)
 
 pub arm-returns : goal.arm-returns
 arm-returns t c =

@@ -1,6 +1,0 @@
-use Rattle.std.proofs.Common.{◌≡◌, take}
-use Rattle.rule_text.specs.Places.{place_behind}
-use Rattle.rule_text.proofs.error.place_behind.Given as goal
-
-abbrev pub invariant-loop-one : goal.invariant-loop-one
-invariant-loop-one l = l.place ≡ place_behind (take l.one-index l.before)
