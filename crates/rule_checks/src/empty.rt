@@ -47,6 +47,7 @@ fn eats_nothing(rows: &[Row], empties: &[bool], k: usize) -> bool
         | Row::Becomes { .. }
         | Row::Is { .. }
         | Row::Guard { .. }
+        | Row::Look { .. }
         | Row::Optional { .. }
         | Row::Repeat { .. } => true,
         Row::Node { end, .. }

@@ -32,6 +32,7 @@ pub(crate) fn next_at(rows: &[Row], k: usize) -> usize
         | Row::List { end, .. }
         | Row::Operators { end }
         | Row::Is { end }
+        | Row::Look { end }
         | Row::Tail { end, .. } => after(k, usize::from(end)),
         _ => k + 1,
     }

@@ -9,7 +9,7 @@ use Rattle.squawk_parser.specs.State.{State, Keeps, kind_at}
 use Rattle.rule_grammar.specs.declared.table.Table.{Table}
 use Rattle.rule_grammar.specs.Derivations.{Text, text_of, Span, Derives, Derived, EatsKind, IfClean, IsEnd, IsOnly, IsSeparated, is_silent, kind_of, next_of}
 use Rattle.rule_grammar.specs.Derivations.IsEnd.{itself, before_kind}
-use Rattle.rule_grammar.specs.Derivations.IsOnly.{alone, guarded}
+use Rattle.rule_grammar.specs.Derivations.IsOnly.{after_silent, alone}
 use Rattle.rule_grammar.specs.Derivations.Derives.{none, more, all, silent, token, composite, next}
 use Rattle.rule_grammar.specs.Derivations.Span.{block, items, rows, single}
 use Rattle.rule_grammar.specs.Parts.{part_at}
@@ -120,8 +120,7 @@ module _ {x : Text} where
   pub to_end : {k to end : ℕ} {t u : Option ℕ} {i j : ℕ} → IsEnd x.rows to end → Derived x (block k to) t u i j → Derived x (block k end) t u i j
   to_end is d = as_part d (λ e. up_to is e)
 
-  -- also after a guard
+  -- also after a part that eats nothing
   pub only_in : {start end k i j : ℕ} → IsOnly x.rows start end k → Derives x (single k) i j → Derives x (block start end) i j
   only_in (alone to) d = all to (more none d)
-  only_in {start} {end} {k} {i} (guarded is to) d =
-      all to (more (subst (λ (m : ℕ). Derives x (rows start m) i i) (ap (next_of start) is) (more none (silent (ap is_silent is)))) d)
+  only_in (after_silent is to) d = all to (more (more none (silent is)) d)

@@ -14,7 +14,7 @@ use Rattle.squawk_parser.specs.Whole.{IsWholeFile}
 use Rattle.squawk_parser.specs.Words.{Words}
 use Rattle.rule_grammar.specs.Parts.{part_at, set_has}
 use Rattle.rule_grammar.specs.declared.part.Part as part
-use Rattle.rule_grammar.specs.declared.part.Part.TheVariants.{Nothing, Token, Word, Class, Name, Node, Becomes, Is, Guard, Choice, Arm, Optional, Repeat, List as Items, Call, Operators, Operand, Tail, Some as Once}
+use Rattle.rule_grammar.specs.declared.part.Part.TheVariants.{Nothing, Token, Word, Class, Name, Node, Becomes, Is, Guard, Look, Choice, Arm, Optional, Repeat, List as Items, Call, Operators, Operand, Tail, Some as Once}
 use Rattle.rule_grammar.specs.declared.table.Table.{Table}
 
 -- rules, and the tokens that are parsed by them
@@ -58,6 +58,7 @@ next_of k (Once end) = row_after k end
 next_of k (Arm end) = row_after k end
 next_of k (Tail end level ceiling) = row_after k end
 next_of k (Is end) = row_after k end
+next_of k (Look end) = row_after k end
 next_of k part = k + 1
 
 -- parts that eat nothing
@@ -66,6 +67,7 @@ is_silent Nothing = true
 is_silent (Becomes kind) = true
 is_silent (Is end) = true
 is_silent (Guard first next) = true
+is_silent (Look end) = true
 is_silent (Arm end) = true
 is_silent (Tail end level ceiling) = true
 is_silent part = false
@@ -91,10 +93,14 @@ pub record IsTail (list : List (List ℕ)) (start end first last level ceiling :
   pub is : part_at list at ≡ Tail last level ceiling
   pub first_is : first ≡ at + 1
 
--- the only part in some rows, also after a guard
+-- the row after one
+abbrev pub next_row : List (List ℕ) → ℕ → ℕ
+next_row list k = next_of k (part_at list k)
+
+-- the only part in some rows, also after one that eats nothing
 pub data IsOnly (list : List (List ℕ)) (start end : ℕ) : ℕ → Type 0 where
-  alone : end ≤ next_of start (part_at list start) → IsOnly list start end start
-  guarded : {first next : ℕ} → part_at list start ≡ Guard first next → end ≤ next_of (start + 1) (part_at list (start + 1)) → IsOnly list start end (start + 1)
+  alone : end ≤ next_row list start → IsOnly list start end start
+  after_silent : is_silent (part_at list start) ≡ true → end ≤ next_row list (next_row list start) → IsOnly list start end (next_row list start)
 
 -- a row that some rows are parsed up to, in place of another: the same, or the one before it, which names a kind
 pub data IsEnd (list : List (List ℕ)) : ℕ → ℕ → Type 0 where

@@ -2,7 +2,7 @@
 use Rattle.std.specs.Prelude.{ℕ, ◌-◌, ◌/◌, ◌%◌, ◌^◌, ◌==◌, Bool, false, Option, Some, None, List, slice_get, slice_index, if◌then◌else◌}
 use Rattle.squawk_kinds.specs.Kinds.{COLON_COLON, CUSTOM_OP, ERROR, TOMBSTONE}
 use Rattle.rule_grammar.specs.declared.part.Part.{Part}
-use Rattle.rule_grammar.specs.declared.part.Part.TheVariants.{Nothing, Token, Word, Class, Name, Node, Becomes, Is, Guard, Choice, Arm, Optional, Repeat, List as Items, Call, Operators, Operand, Tail, Some as Once}
+use Rattle.rule_grammar.specs.declared.part.Part.TheVariants.{Nothing, Token, Word, Class, Name, Node, Becomes, Is, Guard, Look, Choice, Arm, Optional, Repeat, List as Items, Call, Operators, Operand, Tail, Some as Once}
 
 -- the part by the numbers 0, 1 and 2 of a row
 abbrev pub part_by : ℕ → ℕ → ℕ → Part
@@ -27,6 +27,7 @@ part_by tag end number =
     else if tag == 18 then Tail end number (number - 1)
     else if tag == 19 then Tail end number 65535
     else if tag == 20 then Is end
+    else if tag == 21 then Look end
     else Nothing
 
 abbrev pub part_of : List ℕ → Part

@@ -1,5 +1,6 @@
 //! What stands at the position, as far as sets and looks tell.
-use crate::table::Table;
+use crate::part::Part;
+use crate::table::{Block, Table};
 use squawk_parser::{Parser, SyntaxKind};
 
 /// Stands after the last set of a look.
@@ -21,6 +22,27 @@ impl Table<'_> {
         match self.row(row) {
             Some(numbers) => numbers[6] == 0 || self.sees_some(numbers[6], self.symbol(p), p),
             None => true,
+        }
+    }
+
+    /// Whether the tokens in some rows stand at the position, one after another.
+    pub(crate) fn sees_tokens(&self, rows: Block, p: &Parser<'_>) -> bool {
+        let mut n = 0usize;
+        for row in rows.start..rows.end {
+            let symbol = self.symbol_after(n, p);
+            if !self.is_token(row, symbol.kind, p.nth_contextual_kind(n)) {
+                return false;
+            }
+            n = n.saturating_add(symbol.len);
+        }
+        true
+    }
+
+    /// Whether the token in a row has this symbol, or this contextual kind if it is a word.
+    fn is_token(&self, row: u16, symbol: SyntaxKind, contextual: SyntaxKind) -> bool {
+        match self.part(row) {
+            Part::Word { set } => self.has(set, contextual),
+            _ => self.begins_with(row, symbol),
         }
     }
 

@@ -27,6 +27,8 @@ pub enum Part {
     /// The arm that it stands in is parsed only where a run of opening parentheses stands, then a token of the set
     /// `first`, and after each parenthesis that closes one of them, but the first of the run, one of the set `next`.
     Guard { first: u16, next: u16 },
+    /// The arm that it stands in is parsed only where the tokens in it stand, one after another.
+    Look { end: u16 },
     /// One of the arms in it.
     Choice { end: u16 },
     /// An arm of a choice, or an operand: a node.
@@ -57,7 +59,9 @@ pub(crate) fn beyond(numbers: &[u16; 8], row: u16) -> u16
     ensures is { result ≡ next_of row (part_of numbers.now) }
 {
     match numbers[0] % 256 {
-        9 | 10 | 11 | 12 | 13 | 14 | 15 | 16 | 17 | 18 | 19 | 20 => after(row, numbers[1]),
+        9 | 10 | 11 | 12 | 13 | 14 | 15 | 16 | 17 | 18 | 19 | 20 | 21 => {
+            after(row, numbers[1])
+        }
         _ => row + 1,
     }
 }
@@ -114,6 +118,7 @@ pub(crate) fn part_of(row: &[u16; 8]) -> Part
         18 => tail(end, number, number.saturating_sub(1)),
         19 => tail(end, number, u16::MAX),
         20 => Part::Is { end },
+        21 => Part::Look { end },
         _ => Part::Nothing,
     }
 }

@@ -66,6 +66,7 @@ fn step(rule: &Open<'_>, row: u16, part: Part, told: &mut Told, p: &mut Parser<'
         Part::Nothing => {}
         Part::Is { end } => expect_kind(rule, row, end, told, p),
         Part::Guard { .. } => {}
+        Part::Look { .. } => {}
         Part::Arm { .. } => {}
         Part::Tail { .. } => {}
     }

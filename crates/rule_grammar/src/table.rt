@@ -12,7 +12,7 @@ use squawk_parser::{SyntaxKind, TokenSet};
 ///
 /// | number of a row | meaning |
 /// |---|---|
-/// | 0 | which part it is, as below, 256 more if its rule may end after it, 512 more if it is an arm with a guard, 1024 |
+/// | 0 | which part it is, as below, 256 more if its rule may end after it, 512 more if it is an arm with a look or guard, 1024 |
 /// |   | more if it is a node and the last part in it is one of number 5 |
 /// | 1 | the row after the last one in it |
 /// | 2 | its kind, set or level, or the row of the rule that it calls |
@@ -39,12 +39,13 @@ use squawk_parser::{SyntaxKind, TokenSet};
 /// | 16 | an operand, one of its arms, each a node, and the operators after it, which stand in it, too |
 /// | 17, 18, 19 | an operator of a level: one that associates, one that doesn't, one without a right operand |
 /// | 20 | the node before has one of the kinds that the rows in it name, each as the part 5 does |
+/// | 21 | a look: the tokens in it stand there, one after another |
 ///
 /// Any other part is nothing.
 ///
-/// A guard is the first part of its arm, which is parsed only where it holds: a run of opening parentheses stands there,
-/// then a token of the set of number 1, and after each that closes one of them, but the first of the run, a token of the
-/// set of number 2. A parenthesis that isn't closed before a semicolon or the end needs none.
+/// A guard or a look is the first part of its arm, which is parsed only where it holds. A guard holds where a run of
+/// opening parentheses stands, then a token of the set of number 1, and after each that closes one of them, but the first
+/// of the run, a token of the set of number 2. A parenthesis that isn't closed before a semicolon or the end needs none.
 ///
 /// The sets of the numbers 3 to 5, those of operators and of looks have *symbols*: a symbol is the kind of the token that
 /// stands there, or the composite kind that it begins ([`Table::glued`]), as [`bit_of`](crate::bit_of) tells it. The other

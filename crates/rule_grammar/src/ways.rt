@@ -45,7 +45,7 @@ impl Table<'_> {
         None
     }
 
-    /// Whether an arm stands at the position, where this symbol is, and its guard holds, if it has one.
+    /// Whether an arm stands at the position, where this symbol is, and its guard or look holds, if it has one.
     #[inline(always)]
     fn takes(&self, arm: u16, symbol: SyntaxKind, told: &mut Told, p: &Parser<'_>) -> bool
         requires { arm < 65535 }
@@ -68,6 +68,10 @@ impl Table<'_> {
     {
         match self.part(row) {
             Part::Guard { first, next } => told.holds(self, Guard { first, next }, p),
+            Part::Look { end } => {
+                let start = row.saturating_add(1);
+                self.sees_tokens(Block { start, end }, p)
+            }
             _ => true,
         }
     }
@@ -105,7 +109,7 @@ impl Table<'_> {
         }
     }
 
-    /// The row of the part that is alone in some rows, or after a guard.
+    /// The row of the part that is alone in some rows, or after a guard or look.
     #[inline(always)]
     pub(crate) fn only(&self, rows: Block) -> Option<u16>
         ensures later { IfSome result (λ row. rows.start ≤ row) }
@@ -126,9 +130,9 @@ impl Table<'_> {
         ensures is { IfSome result (λ row. IsOnly self.now.rows.now rows.start rows.end row) }
     {
         match self.part(rows.start) {
-            Part::Guard { .. } if rows.start < u16::MAX => {
+            Part::Guard { .. } | Part::Look { .. } if rows.start < u16::MAX => {
                 let inner = Block {
-                    start: rows.start + 1,
+                    start: self.beyond(rows.start),
                     end: rows.end,
                 };
                 if self.is_one(inner) {

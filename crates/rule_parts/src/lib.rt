@@ -58,9 +58,13 @@ pub enum Part<'t> {
     Becomes {
         name: Name<'t>,
     },
-    /// The arm that it stands in is parsed only where the guard holds.
+    /// The alternative that it stands in is parsed only where the guard holds.
     Guarded {
         name: Name<'t>,
+    },
+    /// The alternative that it stands in is parsed only where the tokens in it stand, one after another.
+    Look {
+        size: usize,
     },
     /// The node before it has one of the kinds in it.
     Is {

@@ -3,7 +3,7 @@ use Rattle.std.specs.Prelude.{◌≡◌, ℕ, zero, suc, ◌+◌, ◌-◌, ◌<�
 use Rattle.squawk_kinds.specs.Kinds.{EOF, IDENT}
 use Rattle.squawk_kinds.specs.declared.token_set.TokenSet.{TokenSet}
 use Rattle.rule_grammar.specs.declared.part.Part.{Part}
-use Rattle.rule_grammar.specs.declared.part.Part.TheVariants.{Nothing, Token, Word, Class, Name, Node, Becomes, Is, Guard, Choice, Arm, Optional, Repeat, List as Items, Call, Operators, Operand, Tail, Some as Once}
+use Rattle.rule_grammar.specs.declared.part.Part.TheVariants.{Nothing, Token, Word, Class, Name, Node, Becomes, Is, Guard, Look, Choice, Arm, Optional, Repeat, List as Items, Call, Operators, Operand, Tail, Some as Once}
 use Rattle.rule_grammar.specs.Parts.{bit_of}
 use Rattle.rule_tables.specs.Classes.{is_token, list_has}
 use Rattle.rule_tables.specs.declared.place.Place.{Place}
@@ -30,6 +30,7 @@ end_in (Some (Once end)) = end
 end_in (Some (Items end separator)) = end
 end_in (Some (Operators end)) = end
 end_in (Some (Is end)) = end
+end_in (Some (Look end)) = end
 end_in (Some (Tail end level top)) = end
 end_in row = 0
 
@@ -126,6 +127,7 @@ Enters rows k (Some (Call start end)) q = Begins rows (start - 1) (first_in rows
 Enters rows k (Some (Becomes kind)) q = q ≡ After k
 Enters rows k (Some (Is end)) q = q ≡ After k
 Enters rows k (Some (Guard first next)) q = q ≡ After k
+Enters rows k (Some (Look end)) q = q ≡ After k
 Enters rows k (Some Nothing) q = q ≡ After k
 Enters rows k (Some row) q = Begins rows k (first_in rows k) q
 

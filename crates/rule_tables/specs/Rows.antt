@@ -6,7 +6,7 @@ use Rattle.rule_parts.specs.declared.Part.TheVariants as part
 use Rattle.rule_parts.specs.declared.Association.{Association}
 use Rattle.rule_parts.specs.declared.Association.TheVariants.{Neither}
 use Rattle.rule_grammar.specs.declared.part.Part as row
-use Rattle.rule_grammar.specs.declared.part.Part.TheVariants.{Nothing, Token, Word, Class, Name, Node, Becomes, Is, Guard, Choice, Arm, Optional, Repeat, List as Items, Call, Operators, Operand, Tail, Some as Once}
+use Rattle.rule_grammar.specs.declared.part.Part.TheVariants.{Nothing, Token, Word, Class, Name, Node, Becomes, Is, Guard, Look, Choice, Arm, Optional, Repeat, List as Items, Call, Operators, Operand, Tail, Some as Once}
 use Rattle.rule_grammar.specs.Parts.{part_at}
 use Rattle.squawk_kinds.specs.Kinds.{ERROR}
 use Rattle.rule_tables.specs.declared.outer.Outer.{Outer}
@@ -22,6 +22,7 @@ size_of (part.Words own size) = size
 size_of (part.Rule own message size) = size
 size_of (part.Node size) = size
 size_of (part.Is size) = size
+size_of (part.Look size) = size
 size_of (part.Choice size ordered) = size
 size_of (part.Arm size) = size
 size_of (part.Optional size greedy) = size
@@ -129,6 +130,7 @@ row_of v parts operators i (part.Guarded name) = guard_row parts (defined parts 
 -- the others
 row_of v parts operators i (part.Node size) = Node (end_of i size) ERROR
 row_of v parts operators i (part.Is size) = Is (end_of i size)
+row_of v parts operators i (part.Look size) = Look (end_of i size)
 row_of v parts operators i (part.Choice size ordered) = Choice (end_of i size)
 row_of v parts operators i (part.Arm size) = Arm (end_of i size)
 row_of v parts operators i (part.Optional size greedy) = Optional (end_of i size)

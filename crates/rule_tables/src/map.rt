@@ -131,6 +131,7 @@ fn end_of(row: &Row) -> u16
         Row::List { end, .. } => *end,
         Row::Operators { end } => *end,
         Row::Is { end } => *end,
+        Row::Look { end } => *end,
         Row::Tail { end, .. } => *end,
         _ => 0,
     }

@@ -58,6 +58,7 @@ impl Walk {
             Row::Becomes { .. } => self.push(Place::After(row)),
             Row::Is { .. } => self.push(Place::After(row)),
             Row::Guard { .. } => self.push(Place::After(row)),
+            Row::Look { .. } => self.push(Place::After(row)),
             Row::Nothing => self.push(Place::After(row)),
             Row::Node { .. } => self.go_in(map, row),
             Row::Arm { .. } => self.go_in(map, row),

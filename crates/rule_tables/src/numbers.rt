@@ -81,10 +81,10 @@ fn numbers_of(
     Ok([part, end, number, begins, follows, later, look, message])
 }
 
-/// The number 0 of a row: 256 more if the rule may end after it, 512 more if it is an arm with a guard, and 1024 more
+/// The number 0 of a row: 256 more if the rule may end after it, 512 more if it is an arm with a look or guard, and 1024 more
 /// if it is a node and the last part in it names its kind.
 fn flagged(part: u16, ends: bool, has_guard: bool, is_named: bool) -> u16
-    requires { part < 21 }
+    requires { part < 22 }
     ensures { result % 256 ≡ part }
 {
     let ends = if ends { 256 } else { 0 };
@@ -100,7 +100,7 @@ fn has_guard(fork: &Fork<'_>, row: &Row) -> bool {
     match row {
         Row::Arm { .. } => {
             let first = fork.map.rows.get(fork.part.saturating_add(1));
-            matches!(first, Some(Row::Guard { .. }))
+            matches!(first, Some(Row::Guard { .. } | Row::Look { .. }))
         }
         _ => false,
     }
@@ -183,7 +183,7 @@ fn items(looks: &mut Looks, known: &Ahead) -> Result<u16, RulesError>
 
 /// The numbers 0, 1 and 2 of a row.
 fn part_numbers(row: &Row) -> [u16; 3]
-    ensures small { slice_index result 0 < 21 }
+    ensures small { slice_index result 0 < 22 }
     ensures is { IsTrue (is_exact row.now) → part_by (slice_index result 0) (slice_index result 1) (slice_index result 2) ≡ row.now }
 {
     match row {
@@ -210,6 +210,7 @@ fn part_numbers(row: &Row) -> [u16; 3]
             ceiling,
         } => [tail_number(*level, *ceiling), *end, *level],
         Row::Is { end } => [20, *end, 0],
+        Row::Look { end } => [21, *end, 0],
     }
 }
 

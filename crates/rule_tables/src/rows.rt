@@ -88,6 +88,7 @@ fn row_of<N: Names>(
             kind: SyntaxKind::ERROR,
         },
         Part::Is { .. } => Row::Is { end },
+        Part::Look { .. } => Row::Look { end },
         Part::Choice { .. } => Row::Choice { end },
         Part::Optional { .. } => Row::Optional { end },
         Part::Repeat { .. } => Row::Repeat { end },
@@ -110,7 +111,7 @@ pub(crate) fn size_of(part: &Part<'_>) -> usize
         Part::Node { size } | Part::Choice { size, .. } | Part::Arm { size } => *size,
         Part::Optional { size, .. } | Part::Repeat { size, .. } | Part::Some { size, .. } => *size,
         Part::List { size, .. } | Part::Operators { size } | Part::Tail { size, .. } => *size,
-        Part::Is { size } => *size,
+        Part::Is { size } | Part::Look { size } => *size,
         _ => 0,
     }
 }

@@ -28,11 +28,14 @@ fn is_greedy(part: &Part<'_>) -> bool
     }
 }
 
-/// Whether a part is a guard.
+/// Whether a part is a guard or a look.
 fn is_guarded(parts: &[Part<'_>], part: usize) -> bool
     ensures { result ≡ is_guarded (slice_get parts.now part) }
 {
-    matches!(parts.get(part), Some(Part::Guarded { .. }))
+    matches!(
+        parts.get(part),
+        Some(Part::Guarded { .. } | Part::Look { .. })
+    )
 }
 
 /// Whether a part is an ordered choice.

@@ -170,3 +170,31 @@ fn guards_decide(rt: HostRuntime) -> Result<(), Fail> {
     }
     Ok(())
 }
+
+/// Values in parentheses: a look tells which have two around them, and which are casts.
+const LOOKED: &str = "
+class Word = IDENT INT
+file = item+ => FILE
+item \"an item\" = &('(' '(') value => LIST | &(Word '::' Word) word '::' word => CALL | value ('::' value)? => PAREN
+value = '(' value ')' | word
+word = Word
+";
+
+/// Texts, and what is in their files.
+static LOOKED_CASES: [(&str, &str); 5] = [
+    ("((a))", "LIST{((a))}"),
+    ("(a)", "PAREN{(a)}"),
+    ("a::1", "CALL{aCAST{::}1}"),
+    ("a::(1)", "PAREN{aCAST{::}(1)}"),
+    ("a((b))(c)::d", "PAREN{a}LIST{((b))}PAREN{(c)CAST{::}d}"),
+];
+
+#[test]
+fn looks_decide(rt: HostRuntime) -> Result<(), Fail> {
+    for (text, wanted) in &LOOKED_CASES {
+        let line = parsed(rt.alloc(), LOOKED, text)?;
+        let wanted = format!(in rt.alloc(); "FILE{{{wanted}}}")?;
+        assert_eq!(rt; line.as_str(), wanted.as_str(), "{text}");
+    }
+    Ok(())
+}

@@ -18,11 +18,12 @@ use Rattle.rule_text.specs.Written.{Arrow, Form, Greedy, Guarding, Kinds, MoreKi
 use Rattle.rule_text.specs.Written.Arrow.{arrow}
 use Rattle.rule_text.specs.Written.Form.{atom, item}
 use Rattle.rule_text.specs.Written.Greedy.{greedy, not_greedy}
-use Rattle.rule_text.specs.Written.Guarding.{guarded, unguarded}
+use Rattle.rule_text.specs.Written.Guarding.{guarded, looks, unguarded}
 use Rattle.rule_text.specs.Written.Kinds.{one_kind, some_kinds}
 use Rattle.rule_text.specs.Written.MoreKinds.{last_kind, next_kind}
 use Rattle.rule_text.specs.Written.OneKind.{kind}
 use Rattle.rule_text.specs.Written.Separated.{by_comma, by_token}
+use Rattle.rule_text.proofs.LookEnds.{tokens_go}
 use Rattle.rule_text.proofs.Reading.{within}
 
 abbrev pub Goes : Form → ℕ → ℕ → Type 0
@@ -39,8 +40,9 @@ greedy_goes (greedy e) = omega arith
 greedy_goes (not_greedy n) = omega arith
 
 guarding_goes : {ws : List Word} {i j : ℕ} {ps : List Part} → Guarding ws i j ps → i ≤ j
-guarding_goes (unguarded n) = omega arith
+guarding_goes (unguarded n m) = omega arith
 guarding_goes (guarded e w) = omega arith
+guarding_goes (looks e v) = let h = tokens_go v in omega (arith, h)
 
 arrow_goes : {ws : List Word} {i j : ℕ} {ps : List Part} → Arrow ws i j ps → i < j
 arrow_goes (arrow e f w) = omega arith

@@ -4,6 +4,8 @@ pub mod Definitions
 pub mod Expressions
 pub mod Goes
 pub mod Leaves
+pub mod LookEnds
+pub mod Looks
 pub mod Reading
 pub mod Same
 pub mod SameRules

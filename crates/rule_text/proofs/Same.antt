@@ -9,12 +9,13 @@ use Rattle.rule_text.specs.Written.{Arrow, Form, Greedy, Guarding, Kinds, MoreKi
 use Rattle.rule_text.specs.Written.Arrow.{arrow}
 use Rattle.rule_text.specs.Written.Form.{arms, atom, item, items, sequence}
 use Rattle.rule_text.specs.Written.Greedy.{greedy, not_greedy}
-use Rattle.rule_text.specs.Written.Guarding.{guarded, unguarded}
+use Rattle.rule_text.specs.Written.Guarding.{guarded, looks, unguarded}
 use Rattle.rule_text.specs.Written.Kinds.{one_kind, some_kinds}
 use Rattle.rule_text.specs.Written.MoreKinds.{last_kind, next_kind}
 use Rattle.rule_text.specs.Written.OneKind.{kind}
 use Rattle.rule_text.specs.Written.Separated.{by_comma, by_token}
 use Rattle.rule_text.specs.Written.Written.{all, alone, becomes, call, choice, class, group, guarded, is, last, list, more, next, none, once, one, operand, signed, token}
+use Rattle.rule_text.proofs.LookEnds.{same_tokens}
 
 -- a test doesn't hold and fail at one place
 pub differ : (P : ℕ → Bool) {j k : ℕ} → j ≡ k → P j ≡ true → P k ≡ false → ⊥
@@ -31,9 +32,14 @@ same_greedy (not_greedy n) (not_greedy m) = refl
 
 pub same_guarding : {ws : List Word} {i j k : ℕ} {ps qs : List Part} → Guarding ws i j ps → Guarding ws i k qs → j ≡ k
 same_guarding (guarded e w) (guarded f v) = refl
-same_guarding (guarded e w) (unguarded n) = absurd (n e)
-same_guarding (unguarded n) (guarded e w) = absurd (n e)
-same_guarding (unguarded n) (unguarded m) = refl
+same_guarding (guarded e w) (unguarded n m) = absurd (n e)
+same_guarding (guarded e w) (looks f v) = cc
+same_guarding (looks f v) (guarded e w) = cc
+same_guarding (looks e v) (looks f w) = same_tokens v w
+same_guarding (looks e v) (unguarded n m) = absurd (m e)
+same_guarding (unguarded n m) (guarded e w) = absurd (n e)
+same_guarding (unguarded n m) (looks e v) = absurd (m e)
+same_guarding (unguarded n m) (unguarded o p) = refl
 
 pub same_separated : {ws : List Word} {i j k : ℕ} {x y : Name} → Separated ws i j x → Separated ws i k y → j ≡ k
 same_separated (by_token e w) (by_token f v) = refl

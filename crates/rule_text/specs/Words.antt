@@ -55,6 +55,7 @@ sort_of kinds.Gt text first = sorts.Greater
 sort_of kinds.Or text first = sorts.Or
 sort_of kinds.Slash text first = sorts.Slash
 sort_of kinds.At text first = sorts.At
+sort_of kinds.And text first = sorts.And
 sort_of kinds.Tilde text first = sorts.Tilde
 sort_of kinds.Question text first = sorts.Question
 sort_of kinds.Star text first = sorts.Star

@@ -2,7 +2,7 @@
 use Rattle.std.specs.Prelude.{◌≡◌, ◌≢◌, ℕ, ◌+◌, ◌<◌, Bool, true, false, if◌then◌else◌, Option, Some, None, List, [], ◌∷◌, ◌++◌, length, slice_get}
 use Rattle.std.specs.List.{list_any}
 use Rattle.rule_parts.specs.declared.Part.{Part}
-use Rattle.rule_parts.specs.declared.Part.TheVariants.{Token, Class, Call, Node, Becomes, Guarded, Is, Kind, Choice, Arm, Optional, Repeat, Some as Once, List as Items, Operand}
+use Rattle.rule_parts.specs.declared.Part.TheVariants.{Token, Class, Call, Node, Becomes, Guarded, Look, Is, Kind, Choice, Arm, Optional, Repeat, Some as Once, List as Items, Operand}
 use Rattle.rule_parts.specs.declared.Name.{Name}
 use Rattle.rule_text.specs.declared.word.Word.{Word}
 use Rattle.rule_text.specs.declared.word.Sort.{Sort}
@@ -109,10 +109,31 @@ pub data Arrow (ws : List Word) (i : ℕ) : ℕ → List Part → Type 0 where
   arrow : {name : Name} → sort_at ws i ≡ sorts.Equals → sort_at ws (i + 1) ≡ sorts.Greater → IsWord ws (i + 2) sorts.Kind name
       → Arrow ws i (i + 3) (Becomes name ∷ [])
 
--- @name, or nothing
+-- whether a word is a token, or a class of them
+abbrev pub is_token : Sort → Bool
+is_token sorts.Kind = true
+is_token sorts.Class = true
+is_token sort = false
+
+-- a token, or one of a class; further ones
+pub data OneToken (ws : List Word) (i : ℕ) : ℕ → List Part → Type 0 where
+  of_kind : {name : Name} → IsWord ws i sorts.Kind name → OneToken ws i (i + 1) (Token name ∷ [])
+  of_class : {name : Name} → IsWord ws i sorts.Class name → OneToken ws i (i + 1) (Class name ∷ [])
+
+pub data MoreTokens (ws : List Word) : ℕ → ℕ → List Part → Type 0 where
+  no_token : {i : ℕ} → is_token (sort_at ws i) ≡ false → MoreTokens ws i i []
+  next_token : {i j k : ℕ} {ps qs : List Part} → OneToken ws i j ps → MoreTokens ws j k qs → MoreTokens ws i k (ps ++ qs)
+
+-- after &: tokens in parentheses
+pub data Tokens (ws : List Word) (i : ℕ) : ℕ → List Part → Type 0 where
+  some_tokens : {j k : ℕ} {ps qs : List Part} → sort_at ws i ≡ sorts.OpenParen → OneToken ws (i + 1) j ps → MoreTokens ws j k qs
+      → sort_at ws k ≡ sorts.CloseParen → Tokens ws i (k + 1) (ps ++ qs)
+
+-- @name, &(A B), or nothing
 pub data Guarding (ws : List Word) (i : ℕ) : ℕ → List Part → Type 0 where
-  unguarded : sort_at ws i ≢ sorts.At → Guarding ws i i []
+  unguarded : sort_at ws i ≢ sorts.At → sort_at ws i ≢ sorts.And → Guarding ws i i []
   guarded : {name : Name} → sort_at ws i ≡ sorts.At → IsWord ws (i + 1) sorts.Call name → Guarding ws i (i + 2) (Guarded name ∷ [])
+  looks : {j : ℕ} {ps : List Part} → sort_at ws i ≡ sorts.And → Tokens ws (i + 1) j ps → Guarding ws i j (Look (length ps) ∷ ps)
 
 -- a kind of node; further ones, each after |
 pub data OneKind (ws : List Word) (i : ℕ) : ℕ → List Part → Type 0 where

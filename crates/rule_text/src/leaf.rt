@@ -5,6 +5,7 @@ ghost use Rattle.rule_text.specs.Written.{Arrow, Greedy, Guarding, Kinds, MoreKi
 ghost use Rattle.rule_text.specs.Written.Form.{atom};
 
 use crate::error::WordError;
+use crate::look::look;
 use crate::reader::Reader;
 use crate::word::Sort;
 use rule_parts::Part;
@@ -85,13 +86,22 @@ fn kind(reader: &mut Reader<'_, '_>) -> Result<(), WordError>
     reader.push(Part::Kind { name })
 }
 
-/// `@name`, or nothing.
+/// `@name`, `&(A B)`, or nothing.
 pub(crate) fn guard(reader: &mut Reader<'_, '_>) -> Result<(), WordError>
     ensures { Decides Guarding reader.old reader.new result }
 {
-    if !reader.is_at(Sort::At) {
-        return Ok(());
+    match reader.sort() {
+        Sort::At => named_guard(reader),
+        Sort::And => look(reader),
+        _ => Ok(()),
     }
+}
+
+/// `@name`
+fn named_guard(reader: &mut Reader<'_, '_>) -> Result<(), WordError>
+    requires { sort_at reader.old.words.now reader.old.at ≡ Sort.At }
+    ensures { Decides Guarding reader.old reader.new result }
+{
     reader.bump();
     let name = reader.expect(Sort::Call, "the name of a guard")?;
     reader.push(Part::Guarded { name })

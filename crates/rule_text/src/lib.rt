@@ -11,6 +11,7 @@ mod body;
 mod error;
 mod expression;
 mod leaf;
+mod look;
 mod reader;
 mod rule;
 #[cfg(test)]

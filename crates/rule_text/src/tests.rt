@@ -50,7 +50,7 @@ fn shown(alloc: Global, text: &str) -> Result<String, Fail> {
 
 /// Texts, and their parts.
 #[rattlefmt::skip]
-static RULES: [(&str, &str); 28] = [
+static RULES: [(&str, &str); 29] = [
     ("", ""),
     ("name = IDENT\n", "Rule name (name) 1; Token IDENT; "),
     ("name \"a name\" = 'x'", "Rule name (a name) 1; Token x; "),
@@ -102,6 +102,13 @@ static RULES: [(&str, &str); 28] = [
         "a = @query B | (@query c)\n",
         "Rule a (a) 7; Choice { size: 6, ordered: false }; Arm { size: 2 }; Guarded query; Token B; \
          Arm { size: 2 }; Guarded query; Call c; ",
+    ),
+    // The node of an alternative stands after its guard or look.
+    (
+        "a = @query B => C | &(D Ab '<=') e => F | (&(G) h)\n",
+        "Rule a (a) 18; Choice { size: 17, ordered: false }; Arm { size: 4 }; Guarded query; Node { size: 2 }; Token B; Becomes C; \
+         Arm { size: 7 }; Look { size: 3 }; Token D; Class Ab; Token <=; Node { size: 2 }; Call e; Becomes F; \
+         Arm { size: 3 }; Look { size: 1 }; Token G; Call h; ",
     ),
     ("a = b ~C ~(D) | ~(E | F)\n",
      "Rule a (a) 11; Choice { size: 10, ordered: false }; Arm { size: 5 }; Call b; Is { size: 1 }; Kind C; Is { size: 1 }; Kind D; \
@@ -158,7 +165,7 @@ fn reads_rules(rt: HostRuntime) -> Result<(), Fail> {
 
 /// Texts that are no rules, and where the first word stands that is none of those that may.
 #[rattlefmt::skip]
-static ERRORS: [(&str, &str); 26] = [
+static ERRORS: [(&str, &str); 30] = [
     ("a = (B\n", "2:1: expected )"),
     ("a = {b\nc = D\n", "2:1: expected % or }"),
     ("a = {b % c}\n", "1:10: expected a separator"),
@@ -175,6 +182,11 @@ static ERRORS: [(&str, &str); 26] = [
     // A guard stands in front of an alternative.
     ("a = b @c\n", "1:7: expected a class or a rule, in front of a line"),
     ("a = @B\n", "1:6: expected the name of a guard"),
+    // A look has tokens. Operators have neither.
+    ("a = &B c\n", "1:6: expected ("),
+    ("a = &() c\n", "1:7: expected a token"),
+    ("a = &(B c) d\n", "1:9: expected a token or )"),
+    ("a = b left _ @c D\n", "1:14: expected a class or a rule, in front of a line"),
     ("a = ~b\n", "1:6: expected the kind of a node"),
     ("a = ~(B c)\n", "1:9: expected | or )"),
     ("a = ~(B / C)\n", "1:9: expected | or )"),

@@ -46,6 +46,8 @@ pub(crate) enum Sort {
     Slash,
     /// `@`
     At,
+    /// `&`
+    And,
     /// `~`
     Tilde,
     /// `?`
@@ -170,6 +172,7 @@ fn sort_of(kind: &TokenKind, text: &str, is_first: bool) -> Sort
         TokenKind::Or => Sort::Or,
         TokenKind::Slash => Sort::Slash,
         TokenKind::At => Sort::At,
+        TokenKind::And => Sort::And,
         TokenKind::Tilde => Sort::Tilde,
         TokenKind::Question => Sort::Question,
         TokenKind::Star => Sort::Star,

@@ -81,7 +81,7 @@ impl<'r> Parts<'r> {
 fn size(part: &Part<'_>) -> usize {
     match part {
         Part::Set { size, .. } | Part::Words { size, .. } | Part::Rule { size, .. } => *size,
-        Part::Node { size } | Part::Arm { size } | Part::Is { size } => *size,
+        Part::Node { size } | Part::Arm { size } | Part::Is { size } | Part::Look { size } => *size,
         Part::Choice { size, .. } | Part::Optional { size, .. } => *size,
         Part::Repeat { size, .. } | Part::Some { size, .. } => *size,
         Part::List { size, .. } | Part::Operators { size } | Part::Tail { size, .. } => *size,

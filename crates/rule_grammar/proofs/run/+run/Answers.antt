@@ -123,6 +123,11 @@ step-returns-in-Guard-clause-derives t c =
     let is : part_at c.args.rule.now.table.now.rows.now c.args.row ≡ parts.Guard c.in-Guard.first c.in-Guard.next = sym c.requires.is ∙ c.in-Guard.is in
     quiet (silent (ap is_silent is))
 
+pub step-returns-in-Look-clause-derives : goal.step-returns-in-Look-clause-derives
+step-returns-in-Look-clause-derives t c =
+    let is : part_at c.args.rule.now.table.now.rows.now c.args.row ≡ parts.Look c.in-Look.end = sym c.requires.is ∙ c.in-Look.is in
+    quiet (silent (ap is_silent is))
+
 pub step-returns-in-Arm-clause-derives : goal.step-returns-in-Arm-clause-derives
 step-returns-in-Arm-clause-derives t c =
     let is : part_at c.args.rule.now.table.now.rows.now c.args.row ≡ parts.Arm c.in-Arm.end = sym c.requires.is ∙ c.in-Arm.is in

@@ -22,6 +22,9 @@ returns-in-Is c = went_to _ _ (λ part. Enters c.args.map.now.rows.now c.args.ro
 pub returns-in-Guard : goal.returns-in-Guard
 returns-in-Guard c = went_to _ _ (λ part. Enters c.args.map.now.rows.now c.args.row (Some part)) _ (sym c.in-Guard.is) c.push-in-Guard.ensures
 
+pub returns-in-Look : goal.returns-in-Look
+returns-in-Look c = went_to _ _ (λ part. Enters c.args.map.now.rows.now c.args.row (Some part)) _ (sym c.in-Look.is) c.push-in-Look.ensures
+
 pub returns-in-Nothing : goal.returns-in-Nothing
 returns-in-Nothing c = went_to _ _ (λ part. Enters c.args.map.now.rows.now c.args.row (Some part)) _ (sym c.in-Nothing.is) c.push-in-Nothing.ensures
 
