@@ -57,7 +57,7 @@ impl<'r> Grammar for RuleGrammar<'r> {
 
     fn entry_point(&self, p: &mut Parser<'_>) -> Result<(), AllocError> {
         let file = p.start();
-        let kind = content(self, p);
+        let kind = self.content(p);
         file.complete(p, kind);
         Ok(())
     }
@@ -71,24 +71,29 @@ impl<'r> WholeGrammar for RuleGrammar<'r> {
     ghost leaves_whole = { λ _ _ _ _ _ left. left.whole };
 }
 
-/// The rule of a file, and the tokens after it. Returns the kind of the root.
-fn content(rules: &RuleGrammar<'_>, p: &mut Parser<'_>) -> SyntaxKind
-    requires { IsSound p.old }
-    ensures kind { result ≢ TOMBSTONE }
-    ensures adds { AddsSome p.old p.new }
-    ensures all { kind_at p.new 0 ≡ EOF }
-    // If no error is recorded, the rule derives the tokens.
-    ensures derives { HasNotFailed p.new → errors_of p.new.draft.items ≡ errors_of p.old.draft.items
-        → Derives (text_of rules.now.table p.old) (block rules.now.start rules.now.end) p.old.position p.new.position }
-{
-    let rows = Block {
-        start: rules.start,
-        end: rules.end,
-    };
-    let mut told = Told::new(rules.root);
-    root(&Open::file(&rules.table, rules.depth), rows, &mut told, p);
-    left_over(&mut told, p);
-    told.leave(SyntaxKind::ERROR)
+impl RuleGrammar<'_> {
+    /// The rule of a file from the position on, and the tokens after it up to the limit, without the node around them.
+    /// Returns the kind of that node.
+    ///
+    /// A grammar in code parses a part of a text so, under [`Parser::with_limit`].
+    pub fn content(&self, p: &mut Parser<'_>) -> SyntaxKind
+        requires { IsSound p.old }
+        ensures kind { result ≢ TOMBSTONE }
+        ensures adds { AddsSome p.old p.new }
+        ensures all { kind_at p.new 0 ≡ EOF }
+        // If no error is recorded, the rule derives the tokens.
+        ensures derives { HasNotFailed p.new → errors_of p.new.draft.items ≡ errors_of p.old.draft.items
+            → Derives (text_of self.now.table p.old) (block self.now.start self.now.end) p.old.position p.new.position }
+    {
+        let rows = Block {
+            start: self.start,
+            end: self.end,
+        };
+        let mut told = Told::new(self.root);
+        root(&Open::file(&self.table, self.depth), rows, &mut told, p);
+        left_over(&mut told, p);
+        told.leave(SyntaxKind::ERROR)
+    }
 }
 
 /// The rule of a file. Where it is a node, that is the root.

@@ -4,7 +4,7 @@ use Rattle.rule_grammar.specs.Derivations.Span.{block}
 use Rattle.rule_grammar.specs.declared.table.Table.{Table}
 use Rattle.rule_grammar.proofs.Counted.{counts_then, untold}
 use Rattle.rule_grammar.proofs.Derived.{still}
-use Rattle.rule_grammar.proofs.rules.content.Goals as goal
+use Rattle.rule_grammar.proofs.rules.RuleGrammar.content.Goals as goal
 
 pub returns-clause-derives : goal.returns-clause-derives
 returns-clause-derives c = λ goes same.
@@ -13,5 +13,5 @@ returns-clause-derives c = λ goes same.
     let begun = ap weight c.new-told.ensures in
     let counted = (counts_then ran.counts rest.counts).errors goes in
     let clean = untold c.left_over.new.told.place (omega (arith, begun, counted, same)) in
-    subst (λ (x : Table). Derives (text_of x c.args.p.now) (block c.args.rules.now.start c.args.rules.now.end) c.args.p.now.position c.left_over.new.p.position)
+    subst (λ (x : Table). Derives (text_of x c.args.p.now) (block c.args.self.now.start c.args.self.now.end) c.args.p.now.position c.left_over.new.p.position)
     c.file.ensures ((still ran.derives rest.told).derives clean)
