@@ -8,7 +8,7 @@ use Rattle.rule_text.specs.declared.reader.Reader.{Reader}
 use Rattle.rule_text.specs.declared.word.Word.{Word}
 use Rattle.rule_text.specs.declared.word.Sort.{Sort}
 use Rattle.rule_text.specs.declared.word.Sort.TheVariants as sorts
-use Rattle.rule_text.specs.Reading.{Decides, IsMissed, One, Reads, Takes, behind_one, only}
+use Rattle.rule_text.specs.Reading.{Decides, One, Reads, Takes, behind_one, only}
 use Rattle.rule_text.specs.Reading.One.{one}
 use Rattle.rule_text.specs.Written.{MoreTokens, OneToken, Tokens, is_end, is_token, sort_at}
 use Rattle.rule_text.specs.Written.MoreTokens.{next_token, no_token}
@@ -16,8 +16,8 @@ use Rattle.rule_text.specs.Written.Tokens.{some_tokens}
 use Rattle.rule_text.proofs.Decisions.Then.{both}
 use Rattle.rule_text.proofs.Decisions.Sole.{sole}
 use Rattle.rule_text.proofs.Decisions.{Leads, Sole, Splits, Then, behind, decides_as, leads_more}
-use Rattle.rule_text.proofs.Leaves.{sort_back, sort_not_back}
-use Rattle.rule_text.proofs.LookEnds.{same_more_tokens, same_token}
+use Rattle.rule_text.proofs.Leaves.{sort_back}
+use Rattle.rule_text.proofs.LookEnds.{same_token}
 use Rattle.rule_text.proofs.Reading.{reads_as, reads_before, reads_both}
 
 -- a word that is a token
