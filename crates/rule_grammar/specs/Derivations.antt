@@ -154,6 +154,11 @@ pub data Derives (t : Text) : Span → ℕ → ℕ → Type 0 where
       → part_at t.rows k ≡ Operators end → IsTail t.rows (k + 1) end first last level next_ceiling → floor ≤ level → level ≤ ceiling
       → Derives t (block first last) j m → Derives t (operation k floor next_ceiling) i m
 
+-- What some rows derive, those around them do.
+abbrev pub AreInside : List (List ℕ) → ℕ → ℕ → ℕ → ℕ → Type 0
+AreInside list start end outer_start outer_end =
+    (t : Text) → t.rows ≡ list → (i j : ℕ) → Derives t (block start end) i j → Derives t (block outer_start outer_end) i j
+
 -- ---- runs
 
 -- A token of a kind is eaten, or the tokens of a composite one.

@@ -12,6 +12,7 @@ mod looks;
 mod open;
 mod part;
 mod recovery;
+mod root;
 mod rules;
 mod run;
 mod skip;

@@ -59,9 +59,7 @@ pub(crate) fn beyond(numbers: &[u16; 8], row: u16) -> u16
     ensures is { result ≡ next_of row (part_of numbers.now) }
 {
     match numbers[0] % 256 {
-        9 | 10 | 11 | 12 | 13 | 14 | 15 | 16 | 17 | 18 | 19 | 20 | 21 => {
-            after(row, numbers[1])
-        }
+        9 | 10 | 11 | 12 | 13 | 14 | 15 | 16 | 17 | 18 | 19 | 20 | 21 => { after(row, numbers[1]) }
         _ => row + 1,
     }
 }

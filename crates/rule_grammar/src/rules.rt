@@ -8,8 +8,7 @@ ghost use Rattle.rule_grammar.specs.Derivations.{Counts, Derived, Derives, IfCle
 ghost use Rattle.rule_grammar.specs.Derivations.Span.{block};
 
 use crate::open::Open;
-use crate::part::Part;
-use crate::run::block;
+use crate::root::root;
 use crate::table::{Block, Table};
 use crate::told::Told;
 use squawk_parser::{Grammar, Parser, SyntaxKind, WholeGrammar, Words};
@@ -26,7 +25,8 @@ pub struct RuleGrammar<'r> {
     pub start: u16,
     /// The row after its last one.
     pub end: u16,
-    /// The kind of the root, unless the rule names another. Where the rule is a node, that is the root.
+    /// The kind of the root, unless the rule names another. Where the rule is one node, also by calls and choices, that
+    /// is the root.
     pub root: SyntaxKind,
     /// How many rules may be called in one another. A call takes stack, and so does each part inside of another.
     pub depth: u32,
@@ -93,22 +93,6 @@ impl RuleGrammar<'_> {
         root(&Open::file(&self.table, self.depth), rows, &mut told, p);
         left_over(&mut told, p);
         told.leave(SyntaxKind::ERROR)
-    }
-}
-
-/// The rule of a file. Where it is a node, that is the root.
-fn root(rule: &Open<'_>, rows: Block, told: &mut Told, p: &mut Parser<'_>)
-    requires { IsSound p.old }
-    ensures adds { AddsSome p.old p.new }
-    ensures derives { Derived (text_of rule.now.table.now p.old) (block rows.start rows.end) told.old.place told.new.place p.old.position p.new.position }
-    ensures counts { Counts told.old.place told.new.place p.old p.new }
-{
-    match rule.table.part(rows.start) {
-        Part::Node { end, .. } if rule.table.is_one(rows) => {
-            let start = rows.start + 1;
-            block(rule, Block { start, end }, told, p);
-        }
-        _ => block(rule, rows, told, p),
     }
 }
 

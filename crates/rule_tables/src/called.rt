@@ -87,7 +87,10 @@ fn is_first(map: &Map<'_>, row: usize, rule: usize) -> bool {
 fn first_eating(map: &Map<'_>, row: usize) -> Option<usize> {
     let mut at = map.first(row)?;
     for _ in 0..map.rows.len() {
-        if !matches!(part(map, at), Row::Becomes { .. } | Row::Guard { .. } | Row::Look { .. }) {
+        if !matches!(
+            part(map, at),
+            Row::Becomes { .. } | Row::Guard { .. } | Row::Look { .. }
+        ) {
             break;
         }
         at = map.next(at, row)?;

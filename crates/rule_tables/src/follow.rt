@@ -182,9 +182,13 @@ fn own(rests: &[Rest], map: &Map<'_>, row: usize) -> Begins {
         Some(Row::Optional { .. } | Row::Repeat { .. }) => inner.all.or(Begins::SILENT),
         Some(Row::Call { start, .. }) => known(rests, usize::from(*start).saturating_sub(1)),
         Some(Row::Operand { operators, .. }) => known(rests, usize::from(*operators)),
-        Some(Row::Becomes { .. } | Row::Is { .. } | Row::Guard { .. } | Row::Look { .. } | Row::Nothing) => {
-            Begins::SILENT
-        }
+        Some(
+            Row::Becomes { .. }
+            | Row::Is { .. }
+            | Row::Guard { .. }
+            | Row::Look { .. }
+            | Row::Nothing,
+        ) => { Begins::SILENT }
         _ => inner.all,
     }
 }

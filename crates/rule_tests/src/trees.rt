@@ -130,7 +130,10 @@ static CAST_CASES: [(&str, &str); 4] = [
     ("a::b", "CALL{aCAST{::}b}"),
     ("a::b.", "SUM{aCAST{::}b.}"),
     ("a b", "LIST{a b}"),
-    ("a::b.c::d e f", "SUM{aCAST{::}b.}CALL{cCAST{::}d} LIST{e f}"),
+    (
+        "a::b.c::d e f",
+        "SUM{aCAST{::}b.}CALL{cCAST{::}d} LIST{e f}",
+    ),
 ];
 
 #[test]

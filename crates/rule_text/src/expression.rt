@@ -119,11 +119,7 @@ fn sequence(
 
 /// Items, one after another.
 #[cycle(expression)]
-pub(crate) fn items(
-    reader: &mut Reader<'_, '_>,
-    floor: usize,
-    depth: u32,
-) -> Result<(), WordError>
+pub(crate) fn items(reader: &mut Reader<'_, '_>, floor: usize, depth: u32) -> Result<(), WordError>
     ensures { Decides (written_as items floor) reader.old reader.new result }
 {
     while begins_item(reader.sort()) {
