@@ -60,9 +60,10 @@ impl Table<'_> {
 
     /// The first composite kind of so many tokens that stands `n` tokens after the position, or the other symbol.
     fn glued_or(&self, other: Symbol, len: usize, n: usize, p: &Parser<'_>) -> Symbol {
-        for glued in self.glued {
-            if len_of(*glued) == len && p.nth_at(n, *glued) {
-                let kind = bit_of(*glued);
+        for number in self.glued {
+            let glued = SyntaxKind(*number);
+            if len_of(glued) == len && p.nth_at(n, glued) {
+                let kind = bit_of(glued);
                 return Symbol { kind, len };
             }
         }

@@ -66,8 +66,9 @@ pub struct Table<'r> {
     pub operators: TokenSet,
     /// The kinds of operators of one token that are symbols by themselves.
     pub plain: TokenSet,
-    /// The composite kinds that are symbols. Any other operator's symbol is CUSTOM_OP, and any other token's its kind.
-    pub glued: &'r [SyntaxKind],
+    /// The numbers of the composite kinds that are symbols. Any other operator's symbol is CUSTOM_OP, and any other
+    /// token's its kind.
+    pub glued: &'r [u16],
     /// The kinds that `operators` has and that those in `glued` begin with.
     pub composed: TokenSet,
 }

@@ -1,6 +1,5 @@
 //! What a table holds, as items of Rust.
 use crate::layout::list;
-use squawk_parser::SyntaxKind;
 use std::alloc::{AllocError, Global};
 use std::fmt;
 
@@ -25,15 +24,6 @@ pub(crate) fn arrays<const N: usize>(
     for array in arrays {
         let numbers = list(alloc, &numbers(alloc, array)?, 4)?;
         push(&mut items, format!(in alloc; "[{numbers}]")?)?;
-    }
-    Ok(items)
-}
-
-/// Kinds.
-pub(crate) fn kinds(alloc: Global, kinds: &[SyntaxKind]) -> Result<Vec<String>, AllocError> {
-    let mut items = Vec::new(alloc);
-    for kind in kinds {
-        push(&mut items, format!(in alloc; "SyntaxKind({})", kind.0)?)?;
     }
     Ok(items)
 }

@@ -1,5 +1,5 @@
 //! A table as the source of a module.
-use crate::items::{arrays, kinds, numbers, pieces};
+use crate::items::{arrays, numbers, pieces};
 use crate::layout::list;
 use rule_grammar::{RuleGrammar, Table};
 use std::alloc::{AllocError, Global};
@@ -14,8 +14,8 @@ use squawk_parser::{SyntaxKind, TokenSet};
 
 /// The table and the grammar, up to its numbers.
 const GRAMMAR: &str = "
-/// The rules as a table, where `glued` is [`GLUED`].
-pub fn table(glued: &[SyntaxKind]) -> Table<'_> {
+/// The rules as a table.
+pub fn table() -> Table<'static> {
     Table {
         rows: &ROWS,
         sets: &SETS,
@@ -24,21 +24,20 @@ pub fn table(glued: &[SyntaxKind]) -> Table<'_> {
         message_ends: &MESSAGE_ENDS,
         operators: TokenSet(OPERATORS),
         plain: TokenSet(PLAIN),
-        glued,
+        glued: &GLUED,
         composed: TokenSet(COMPOSED),
     }
 }
 
 /// The same as a grammar.
-pub fn grammar(glued: &[SyntaxKind]) -> RuleGrammar<'_> {
-    let table = table(glued);
+pub fn grammar() -> RuleGrammar<'static> {
     RuleGrammar {
-        table,
+        table: table(),
 ";
 
 /// The source of a module with this grammar as a constant, as `rt fmt` lays it out.
 ///
-/// The module's `grammar(&GLUED)` is to be the same, but that it has no `names`: a test with
+/// The module's `grammar()` is to be the same, but that it has no `names`: a test with
 /// [`is_same`](crate::is_same) says so. A module has room for 15,000 rows and 3,000 sets.
 pub fn source(alloc: Global, grammar: &RuleGrammar<'_>) -> Result<String, AllocError> {
     let mut text = String::from_str(alloc, HEAD)?;
@@ -74,9 +73,8 @@ fn push_kinds(alloc: Global, text: &mut String, table: &Table<'_>) -> Result<(),
     push_array(alloc, text, "const PLAIN: [u64", &plain)?;
     let composed = numbers(alloc, &table.composed.0)?;
     push_array(alloc, text, "const COMPOSED: [u64", &composed)?;
-    let glued = kinds(alloc, table.glued)?;
-    text.push_str("\n/// The composite kinds that are symbols.")?;
-    push_array(alloc, text, "pub const GLUED: [SyntaxKind", &glued)
+    let glued = numbers(alloc, table.glued)?;
+    push_array(alloc, text, "static GLUED: [u16", &glued)
 }
 
 /// An array, whose declaration begins so, with these items.

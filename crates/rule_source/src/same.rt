@@ -42,13 +42,7 @@ fn have_same_kinds(one: &Table<'_>, other: &Table<'_>) -> bool
     one.operators == other.operators
         && one.plain == other.plain
         && one.composed == other.composed
-        && are_same_kinds(one.glued, other.glued)
-}
-
-fn are_same_kinds(one: &[SyntaxKind], other: &[SyntaxKind]) -> bool
-    ensures { IsTrue result ↔ one.now ≡ other.now }
-{
-    one == other
+        && one.glued == other.glued
 }
 
 fn are_same_names(one: &[(SyntaxKind, &str)], other: &[(SyntaxKind, &str)]) -> bool

@@ -37,11 +37,10 @@ const PLAIN: [u64; 10] = [0, 0, 0, 0, 0, 0, 0, 0, 0, 0];
 
 const COMPOSED: [u64; 10] = [0, 0, 0, 0, 0, 0, 0, 0, 0, 9223372036854775808];
 
-/// The composite kinds that are symbols.
-pub const GLUED: [SyntaxKind; 1] = [SyntaxKind(650)];
+static GLUED: [u16; 1] = [650];
 
-/// The rules as a table, where `glued` is [`GLUED`].
-pub fn table(glued: &[SyntaxKind]) -> Table<'_> {
+/// The rules as a table.
+pub fn table() -> Table<'static> {
     Table {
         rows: &ROWS,
         sets: &SETS,
@@ -50,16 +49,15 @@ pub fn table(glued: &[SyntaxKind]) -> Table<'_> {
         message_ends: &MESSAGE_ENDS,
         operators: TokenSet(OPERATORS),
         plain: TokenSet(PLAIN),
-        glued,
+        glued: &GLUED,
         composed: TokenSet(COMPOSED),
     }
 }
 
 /// The same as a grammar.
-pub fn grammar(glued: &[SyntaxKind]) -> RuleGrammar<'_> {
-    let table = table(glued);
+pub fn grammar() -> RuleGrammar<'static> {
     RuleGrammar {
-        table,
+        table: table(),
         start: 0,
         end: 3,
         root: SyntaxKind(2),
@@ -69,10 +67,7 @@ pub fn grammar(glued: &[SyntaxKind]) -> RuleGrammar<'_> {
 }
 ";
 
-/// The kinds of signs that the table names.
-const GLUED: [SyntaxKind; 1] = [SyntaxKind(650)];
-
-fn table(glued: &[SyntaxKind]) -> Table<'_> {
+fn table() -> Table<'static> {
     Table {
         rows: &[
             [13, 2, 3, 4, 5, 6, 7, 8],
@@ -85,16 +80,15 @@ fn table(glued: &[SyntaxKind]) -> Table<'_> {
         message_ends: &[15, 15, 27],
         operators: TokenSet([16777216, 0, 0, 0, 0, 0, 0, 0, 0, 0]),
         plain: TokenSet::EMPTY,
-        glued,
+        glued: &[650],
         composed: TokenSet([0, 0, 0, 0, 0, 0, 0, 0, 0, 9223372036854775808]),
     }
 }
 
 #[test]
 fn prints_a_module(rt: HostRuntime) -> Result<(), Fail> {
-    let table = table(&GLUED);
     let grammar = RuleGrammar {
-        table,
+        table: table(),
         start: 0,
         end: 3,
         root: SyntaxKind::ERROR,

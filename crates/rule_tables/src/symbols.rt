@@ -9,8 +9,8 @@ use std::alloc::{AllocError, Global};
 pub(crate) struct Symbols {
     /// The operators of one token that rules name.
     pub(crate) plain: TokenSet,
-    /// The composite kinds that rules name.
-    pub(crate) glued: Vec<SyntaxKind>,
+    /// The numbers of the composite kinds that rules name.
+    pub(crate) glued: Vec<u16>,
     /// The kinds that operators are made of, and those that composite kinds begin with.
     pub(crate) composed: TokenSet,
 }
@@ -45,8 +45,8 @@ impl Symbols {
         match first_in(kind) {
             Some(first) => {
                 self.composed = self.composed.union(set_of(first));
-                if !self.glued.iter().any(|one| *one == kind) {
-                    self.glued.push(kind)?;
+                if !self.glued.iter().any(|number| *number == kind.0) {
+                    self.glued.push(kind.0)?;
                 }
             }
             None => self.plain = self.plain.union(both(set_of(kind), operators)),

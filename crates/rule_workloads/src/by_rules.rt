@@ -22,8 +22,8 @@ pub(crate) fn ready_rules(
     rounds: usize,
 ) -> Result<u64, AllocError> {
     // The check wants a variable of this type.
-    let _table = ready::table(&ready::GLUED);
-    let rules = ready::grammar(&ready::GLUED);
+    let _table = ready::table();
+    let rules = ready::grammar();
     parsed(alloc, words, text, &rules, rounds)
 }
 

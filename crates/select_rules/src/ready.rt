@@ -281,11 +281,10 @@ const PLAIN: [u64; 10] = [0, 0, 0, 0, 0, 0, 0, 0, 0, 0];
 
 const COMPOSED: [u64; 10] = [0, 0, 0, 0, 0, 0, 0, 0, 0, 0];
 
-/// The composite kinds that are symbols.
-pub const GLUED: [SyntaxKind; 0] = [];
+static GLUED: [u16; 0] = [];
 
-/// The rules as a table, where `glued` is [`GLUED`].
-pub fn table(glued: &[SyntaxKind]) -> Table<'_> {
+/// The rules as a table.
+pub fn table() -> Table<'static> {
     Table {
         rows: &ROWS,
         sets: &SETS,
@@ -294,16 +293,15 @@ pub fn table(glued: &[SyntaxKind]) -> Table<'_> {
         message_ends: &MESSAGE_ENDS,
         operators: TokenSet(OPERATORS),
         plain: TokenSet(PLAIN),
-        glued,
+        glued: &GLUED,
         composed: TokenSet(COMPOSED),
     }
 }
 
 /// The same as a grammar.
-pub fn grammar(glued: &[SyntaxKind]) -> RuleGrammar<'_> {
-    let table = table(glued);
+pub fn grammar() -> RuleGrammar<'static> {
     RuleGrammar {
-        table,
+        table: table(),
         start: 5,
         end: 9,
         root: SyntaxKind(2),

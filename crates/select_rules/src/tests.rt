@@ -12,7 +12,7 @@ fn is_what_the_text_makes(rt: HostRuntime) -> Result<(), Fail> {
     // The check wants a variable of this type.
     let _table = rules.table();
     let made = rules.grammar();
-    let ready = ready::grammar(&ready::GLUED);
+    let ready = ready::grammar();
     assert!(rt; is_same(&ready, &made), "print it again");
     Ok(())
 }

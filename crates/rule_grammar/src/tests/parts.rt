@@ -223,7 +223,7 @@ static CASES: [(&str, &str); 24] = [
 
 #[test]
 fn parses_parts(rt: HostRuntime) -> Result<(), Fail> {
-    let glued = [SyntaxKind::LTEQ, SyntaxKind::COLON_COLON];
+    let glued = [LTEQ, COLONS];
     let rules = RuleGrammar {
         table: Table {
             rows: &ROWS,
