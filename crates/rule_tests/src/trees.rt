@@ -8,6 +8,7 @@ use squawk_kinds::{NoKeywords, SyntaxKind, TokenSet};
 use squawk_parser::{EntryPoint, OwnedStep, StepList, parse_whole_into};
 use std::alloc::{AllocError, Global};
 use std::fmt::Write;
+use std::process::Abort;
 use std::test::Fail;
 
 /// The line of a text's tree by rules.
@@ -26,6 +27,20 @@ fn parsed(alloc: Global, rules: &str, text: &str) -> Result<String, Fail> {
     let entry = EntryPoint::SourceFile;
     parse_whole_into(alloc, text, &tokens, &NoKeywords, &rules, entry, &mut list)?;
     Ok(line_of(alloc, &NODES, list.steps())?)
+}
+
+/// Parses texts by rules, and says what is to be in their files.
+fn parse_all(
+    rt: &(impl Abort + AllocGlobal),
+    rules: &str,
+    cases: &[(&str, &str)],
+) -> Result<(), Fail> {
+    for (text, wanted) in cases {
+        let line = parsed(rt.alloc(), rules, text)?;
+        let wanted = format!(in rt.alloc(); "FILE{{{wanted}}}")?;
+        assert_eq!(rt; line.as_str(), wanted.as_str(), "{text}");
+    }
+    Ok(())
 }
 
 /// Statements of expressions.
@@ -74,12 +89,7 @@ static CASES: [(&str, &str); 12] = [
 
 #[test]
 fn parses_expressions(rt: HostRuntime) -> Result<(), Fail> {
-    for (text, wanted) in &CASES {
-        let line = parsed(rt.alloc(), EXPRESSIONS, text)?;
-        let wanted = format!(in rt.alloc(); "FILE{{{wanted}}}")?;
-        assert_eq!(rt; line.as_str(), wanted.as_str(), "{text}");
-    }
-    Ok(())
+    parse_all(&rt, EXPRESSIONS, &CASES)
 }
 
 /// Items that two tokens tell apart, and lists of pairs between semicolons.
@@ -111,12 +121,7 @@ static ITEM_CASES: [(&str, &str); 10] = [
 
 #[test]
 fn parses_items(rt: HostRuntime) -> Result<(), Fail> {
-    for (text, wanted) in &ITEM_CASES {
-        let line = parsed(rt.alloc(), ITEMS, text)?;
-        let wanted = format!(in rt.alloc(); "FILE{{{wanted}}}")?;
-        assert_eq!(rt; line.as_str(), wanted.as_str(), "{text}");
-    }
-    Ok(())
+    parse_all(&rt, ITEMS, &ITEM_CASES)
 }
 
 /// Items that a composite kind tells apart, or what stands after it.
@@ -138,12 +143,7 @@ static CAST_CASES: [(&str, &str); 4] = [
 
 #[test]
 fn composite_kinds_decide(rt: HostRuntime) -> Result<(), Fail> {
-    for (text, wanted) in &CAST_CASES {
-        let line = parsed(rt.alloc(), CASTS, text)?;
-        let wanted = format!(in rt.alloc(); "FILE{{{wanted}}}")?;
-        assert_eq!(rt; line.as_str(), wanted.as_str(), "{text}");
-    }
-    Ok(())
+    parse_all(&rt, CASTS, &CAST_CASES)
 }
 
 /// Values in parentheses: a guard tells which are numbers.
@@ -166,12 +166,7 @@ static GUARDED_CASES: [(&str, &str); 4] = [
 
 #[test]
 fn guards_decide(rt: HostRuntime) -> Result<(), Fail> {
-    for (text, wanted) in &GUARDED_CASES {
-        let line = parsed(rt.alloc(), GUARDED, text)?;
-        let wanted = format!(in rt.alloc(); "FILE{{{wanted}}}")?;
-        assert_eq!(rt; line.as_str(), wanted.as_str(), "{text}");
-    }
-    Ok(())
+    parse_all(&rt, GUARDED, &GUARDED_CASES)
 }
 
 /// Values in parentheses: a look tells which have two around them, and which are casts.
@@ -194,10 +189,5 @@ static LOOKED_CASES: [(&str, &str); 5] = [
 
 #[test]
 fn looks_decide(rt: HostRuntime) -> Result<(), Fail> {
-    for (text, wanted) in &LOOKED_CASES {
-        let line = parsed(rt.alloc(), LOOKED, text)?;
-        let wanted = format!(in rt.alloc(); "FILE{{{wanted}}}")?;
-        assert_eq!(rt; line.as_str(), wanted.as_str(), "{text}");
-    }
-    Ok(())
+    parse_all(&rt, LOOKED, &LOOKED_CASES)
 }
