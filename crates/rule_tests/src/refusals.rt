@@ -35,7 +35,7 @@ const COLON_COLON: u16 = SyntaxKind::COLON_COLON.0;
 const END: u16 = SyntaxKind::EOF.0;
 
 /// Texts of rules, and why they are refused.
-static REFUSALS: [(&str, Option<RulesError>); 29] = [
+static REFUSALS: [(&str, Option<RulesError>); 33] = [
     ("file = IDENT? ';'", None),
     ("file = item", Some(RulesError::Undefined { part: 1 })),
     ("file = Word", Some(RulesError::Undefined { part: 1 })),
@@ -108,6 +108,23 @@ static REFUSALS: [(&str, Option<RulesError>); 29] = [
     // The first arm of an ordered choice is gone, and what is greedy.
     ("file = IDENT / IDENT", None),
     ("file = IDENT?+ IDENT?", None),
+    // A look decides for its own alternative.
+    ("file = &(IDENT ';') IDENT | IDENT", None),
+    (
+        "file = IDENT | &(IDENT ';') IDENT",
+        Some(RulesError::Undecided {
+            part: 2,
+            kinds: [IDENT, END, END, END],
+        }),
+    ),
+    (
+        "file = &(INT Word) IDENT | INT",
+        Some(RulesError::Undefined { part: 5 }),
+    ),
+    (
+        "file = &(INT OTHER) IDENT | INT",
+        Some(RulesError::UnknownKind { part: 5 }),
+    ),
     // A rule that begins with itself, also after what may be left out, and after a token.
     (
         "file = file IDENT",
