@@ -12,7 +12,7 @@
 //! Where PostgreSQL is stricter, a pass over the tree has to look: doubled options and clauses, options that contradict
 //! one another, words of options that are no keywords, calls named by a keyword that is no function, and quoted strings
 //! that continue one another on the same line. Where the rules are stricter: ESCAPE and words that begin an operator,
-//! as AND and AT, are no aliases without AS, BETWEEN and OPERATOR no columns, and UESCAPE stands behind strings alone.
+//! as AND and AT, are no aliases without AS, BETWEEN and OPERATOR no columns, and UESCAPE stands after strings alone.
 #![tactic(auto)]
 
 mod named_kind;

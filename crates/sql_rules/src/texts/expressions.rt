@@ -40,7 +40,7 @@ normal_form "a normal form" = NFC | NFD | NFKC | NFKD
 some_of "an expression" = (ANY | SOME | ALL) (@begins_query '(' query ')' | '(' expression ')') => SOME_OF
 in_list "a list of values" = (@begins_query '(' query ')' => SUBQUERY | '(' {expression} ')' => ROW_VALUES)
 
--- What stands between operators: operands, with fields, elements, arguments and strings behind them.
+-- What stands between operators: operands, with fields, elements, arguments and strings after them.
 primary "an expression" = operand
     left  _ ~(NAME_REF | FIELD_EXPR | INDEX_EXPR | SLICE_EXPR | PAREN_EXPR | SUBQUERY | PARAM_REF) '.' (label_ref | '*') => FIELD_EXPR
         | _ ~(NAME_REF | FIELD_EXPR | INDEX_EXPR | SLICE_EXPR | PAREN_EXPR | SUBQUERY | PARAM_REF) '[' (expression (':' expression? => SLICE_EXPR | => INDEX_EXPR) | ':' expression? => SLICE_EXPR) ']'

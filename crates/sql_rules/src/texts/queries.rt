@@ -3,7 +3,7 @@
 pub(crate) const QUERIES: &str = r#"
 -- Queries, and statements that change rows.
 
--- A statement that may stand behind EXPLAIN, PREPARE, WITH and COPY.
+-- A statement that may stand after EXPLAIN, PREPARE, WITH and COPY.
 row_statement "a query" = with_clause? (query_body => QUERY | insert_body => INSERT | update_body => UPDATE | delete_body => DELETE | merge_body => MERGE)
 
 query "a query" = with_clause? query_body => QUERY

@@ -21,14 +21,14 @@ class NotSet = IDENT unreserved col_name -SET => IDENT
 -- A role, an option, a label after AS, and one without AS.
 class RoleName = IDENT unreserved col_name type_func_name -NONE => IDENT
 class OptionName = IDENT unreserved col_name type_func_name => IDENT
-class BehindExpression = NULLS FILTER OVER WITHIN ESCAPE UESCAPE YEAR MONTH DAY HOUR MINUTE SECOND PRECISION VARYING
+class AfterExpression = NULLS FILTER OVER WITHIN ESCAPE UESCAPE YEAR MONTH DAY HOUR MINUTE SECOND PRECISION VARYING
 class Label = IDENT keyword => IDENT
 class NeedsAs = ARRAY AS CHAR CHARACTER CREATE DAY ESCAPE EXCEPT FETCH FILTER FOR FROM GRANT GROUP HAVING HOUR INTERSECT INTO
     ISNULL LIMIT MINUTE MONTH NOTNULL OFFSET ON ORDER OVER OVERLAPS PRECISION RETURNING SECOND TO UNION VARYING WHERE
     WINDOW WITH WITHIN WITHOUT YEAR
 class BareLabel = IDENT keyword -NeedsAs => IDENT
--- An operator class, behind an expression.
-class ClassName = IDENT unreserved col_name -BehindExpression => IDENT
+-- An operator class, after an expression.
+class ClassName = IDENT unreserved col_name -AfterExpression => IDENT
 class WindowName = IDENT unreserved col_name -PARTITION -RANGE -ROWS -GROUPS => IDENT
 class Reserved = reserved
 
@@ -36,7 +36,7 @@ class Constant = INT_NUMBER NUMERIC_NUMBER NATIONAL_STRING BIT_STRING BYTE_STRIN
 class CurrentValue = CURRENT_DATE CURRENT_ROLE CURRENT_USER SESSION_USER USER CURRENT_CATALOG
 class CurrentTime = CURRENT_TIME CURRENT_TIMESTAMP LOCALTIME LOCALTIMESTAMP
 
--- A query in parentheses: what it begins with, and what may stand behind those inside.
+-- A query in parentheses: what it begins with, and what may stand after those inside.
 class QueryFirst = SELECT WITH TABLE VALUES
 class QueryNext = ')' UNION INTERSECT EXCEPT ORDER LIMIT OFFSET FETCH FOR
 guard begins_query = (QueryFirst) QueryNext
