@@ -15,6 +15,7 @@ pub mod Other
 pub mod Leading
 pub mod Closing
 pub mod Over
+pub mod Fed
 pub mod Cuts
 pub mod Deciding
 pub mod Telling

@@ -5,6 +5,7 @@
 //! ```
 #![tactic(auto)]
 
+mod bounds;
 mod called;
 mod categories;
 mod classes;

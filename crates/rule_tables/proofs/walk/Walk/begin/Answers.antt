@@ -1,4 +1,5 @@
-use Rattle.rule_tables.specs.Walks.{plan_of, slots}
+use Rattle.rule_tables.specs.Bounds.{slots}
+use Rattle.rule_tables.specs.Walks.{plan_of}
 use Rattle.std.proofs.Common.{◌≡◌, length, arith, refl}
 use Rattle.rule_tables.proofs.Marks.{begun}
 use Rattle.rule_tables.proofs.walk.Walk.begin.Goals as goal
