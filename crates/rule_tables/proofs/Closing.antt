@@ -8,14 +8,66 @@ use Rattle.std.proofs.lemmas.Option.{slice_get_within}
 use Rattle.rule_grammar.specs.declared.part.Part.{Part}
 use Rattle.rule_tables.specs.Places.{Enters, Exits, IsOneOf, Moves, Plan, Sees, SeesFrom, does_eat, eats, row_eats, separates}
 use Rattle.rule_tables.specs.Places.Sees.{moves, steps}
-use Rattle.rule_tables.specs.Bounds.{IsMissed, is_wanted, slot, slots}
-use Rattle.rule_tables.specs.Walks.{AreFirst, Goes, HasReached, IsClosed, IsWalking, Reaches}
-use Rattle.rule_tables.specs.declared.bounds.Wanted.{Wanted}
+use Rattle.rule_tables.specs.Walks.{AreFirst, Goes, HasReached, IsClosed, IsWalking, Reaches, slot, slots}
 use Rattle.rule_tables.specs.declared.place.Place.{Place}
 use Rattle.rule_tables.specs.declared.place.Place.TheVariants.{Before, After, Separator, End}
 use Rattle.rule_tables.specs.declared.walk.Walk.{Walk}
 use Rattle.rule_tables.proofs.Other.{row_eats-token, token-no_move}
 use Rattle.rule_tables.proofs.Walking.{one_kept, reaches_as, reaches_then}
+
+-- the first places that were reached are done with: all that they lead on to was reached
+pub record IsClosing (plan : Plan) (seeds : List Place) (walk : Walk) (done : ℕ) : Type 0 where
+  pub walks : IsWalking walk
+  pub len : length walk.marks.items ≡ slots (length plan.rows)
+  pub within : done ≤ length walk.reached.items
+  pub has : (p : Place) → IsOneOf seeds p → IsOneOf walk.reached.items p
+  pub moved : (i : ℕ) → i < done → (p q : Place) → slice_get walk.reached.items i ≡ Some p → Moves plan p q → slot q < slots (length plan.rows) → IsOneOf walk.reached.items q
+  pub sound : (i : ℕ) (p : Place) → slice_get walk.reached.items i ≡ Some p → (word : List ℕ) → Sees plan p word → SeesFrom plan seeds word
+
+pub few_reached : (walk : Walk) → IsWalking walk → length walk.reached.items ≤ length walk.marks.items
+few_reached walk w = omega (arith, w.count, count_by-le-length (λ mark. mark == walk.number) walk.marks.items)
+
+pub closing_first : (plan : Plan) (walk : Walk) → IsWalking walk → length walk.marks.items ≡ slots (length plan.rows) → IsClosing plan walk.reached.items walk 0
+closing_first plan walk walks len = record {
+  walks = walks;
+  len = len;
+  within = omega arith;
+  has = λ p one. one;
+  moved = λ i lt. absurd (omega arith);
+  sound = λ i p e word sees. record { place = p; one = record { index = i; is = e }; sees = sees };
+}
+
+module _ (plan : Plan) (seeds : List Place) (old new : Walk) (done : ℕ) (closing : IsClosing plan seeds old done) where
+  pub closing_done : length old.reached.items ≤ done → IsClosed plan seeds old.reached.items
+  closing_done all = record {
+    has = closing.has;
+    moved = λ p q one moved. closing.moved one.index (let lt : one.index < length old.reached.items = slice_get_within old.reached.items one.index p one.is in omega arith) p q one.is moved;
+    sound = λ p one. closing.sound one.index p one.is;
+  }
+
+  pub closing_next : (p : Place) → slice_get old.reached.items done ≡ Some p → Goes old new (Moves plan p) → IsClosing plan seeds new (done + 1)
+  closing_next p here goes =
+      let lt : done < length old.reached.items = slice_get_within old.reached.items done p here in
+      let reaches : Reaches (length old.marks.items) old.reached.items new.reached.items (Moves plan p) = goes.reaches closing.walks in
+      record {
+        walks = goes.walks closing.walks;
+        len = goes.len ∙ closing.len;
+        within = omega (arith, reaches.longer);
+        has = λ q one. one_kept reaches q (closing.has q one);
+        moved = λ i below r q is moved within.
+            elim (cases_eq i done) [
+              | inl same ↦
+                  let it : Some p ≡ Some r = sym here ∙ sym (reaches.same done lt) ∙ subst (λ (k : ℕ). slice_get new.reached.items k ≡ Some r) same is in
+                  let name : r ≡ p = cc in
+                  reaches.all q (subst (λ (x : Place). Moves plan x q) name moved) (omega (arith, closing.len))
+              | inr other ↦ one_kept reaches q (closing.moved i (omega arith) r q (sym (reaches.same i (omega arith)) ∙ is) moved within)
+            ];
+        sound = λ i r is word sees.
+            elim (reaches.only i r is) [
+              | inl before ↦ closing.sound i r (sym (reaches.same i before) ∙ is) word sees
+              | inr moved ↦ closing.sound done p here word (moves moved sees)
+            ];
+      }
 
 -- ---- a place from which tokens come is one of the rows
 
@@ -46,83 +98,6 @@ eats_within plan End kind eaten = omega arith
 pub sees_within : (plan : Plan) (p : Place) (kind : ℕ) (word : List ℕ) → Sees plan p (kind ∷ word) → slot p < slots (length plan.rows)
 sees_within plan p kind word (moves {q = q} moved sees) = moves_within plan p q moved
 sees_within plan p kind word (steps eaten stepped sees) = eats_within plan p kind eaten
-
--- ---- places that are done with
-
--- the first places that were reached are done with: all that they lead on to was reached
-pub record IsClosing (plan : Plan) (wanted : Wanted) (seeds : List Place) (walk : Walk) (done : ℕ) : Type 0 where
-  pub walks : IsWalking walk
-  pub len : length walk.marks.items ≡ slots (length plan.rows)
-  pub within : done ≤ length walk.reached.items
-  pub has : (p : Place) → IsOneOf seeds p → IsOneOf walk.reached.items p
-  pub moved : (i : ℕ) → i < done → (p q : Place) → slice_get walk.reached.items i ≡ Some p → Moves plan p q → (kind : ℕ) (word : List ℕ) → is_wanted wanted kind ≡ true → Sees plan q (kind ∷ word) → IsOneOf walk.reached.items q
-  pub sound : (i : ℕ) (p : Place) → slice_get walk.reached.items i ≡ Some p → (word : List ℕ) → Sees plan p word → SeesFrom plan seeds word
-
-pub few_reached : (walk : Walk) → IsWalking walk → length walk.reached.items ≤ length walk.marks.items
-few_reached walk w = omega (arith, w.count, count_by-le-length (λ mark. mark == walk.number) walk.marks.items)
-
-pub closing_first : (plan : Plan) (wanted : Wanted) (walk : Walk) → IsWalking walk → length walk.marks.items ≡ slots (length plan.rows) → IsClosing plan wanted walk.reached.items walk 0
-closing_first plan wanted walk walks len = record {
-  walks = walks;
-  len = len;
-  within = omega arith;
-  has = λ p one. one;
-  moved = λ i lt. absurd (omega arith);
-  sound = λ i p e word sees. record { place = p; one = record { index = i; is = e }; sees = sees };
-}
-
-module _ (plan : Plan) (wanted : Wanted) (seeds : List Place) (old new : Walk) (done : ℕ) (closing : IsClosing plan wanted seeds old done) where
-  pub closing_done : length old.reached.items ≤ done → IsClosed plan wanted seeds old.reached.items
-  closing_done all = record {
-    has = closing.has;
-    moved = λ p q one moved. closing.moved one.index (let lt : one.index < length old.reached.items = slice_get_within old.reached.items one.index p one.is in omega arith) p q one.is moved;
-    sound = λ p one. closing.sound one.index p one.is;
-  }
-
-  closing_gone : (p : Place) → slice_get old.reached.items done ≡ Some p → Goes old new (Moves plan p) → IsClosing plan wanted seeds new (done + 1)
-  closing_gone p here goes =
-      let lt : done < length old.reached.items = slice_get_within old.reached.items done p here in
-      let reaches : Reaches (length old.marks.items) old.reached.items new.reached.items (Moves plan p) = goes.reaches closing.walks in
-      record {
-        walks = goes.walks closing.walks;
-        len = goes.len ∙ closing.len;
-        within = omega (arith, reaches.longer);
-        has = λ q one. one_kept reaches q (closing.has q one);
-        moved = λ i below r q is moved kind word wants sees.
-            elim (cases_eq i done) [
-              | inl same ↦
-                  let it : Some p ≡ Some r = sym here ∙ sym (reaches.same done lt) ∙ subst (λ (k : ℕ). slice_get new.reached.items k ≡ Some r) same is in
-                  let name : r ≡ p = cc in
-                  reaches.all q (subst (λ (x : Place). Moves plan x q) name moved) (omega (arith, closing.len, sees_within plan q kind word sees))
-              | inr other ↦ one_kept reaches q (closing.moved i (omega arith) r q (sym (reaches.same i (omega arith)) ∙ is) moved kind word wants sees)
-            ];
-        sound = λ i r is word sees.
-            elim (reaches.only i r is) [
-              | inl before ↦ closing.sound i r (sym (reaches.same i before) ∙ is) word sees
-              | inr moved ↦ closing.sound done p here word (moves moved sees)
-            ];
-      }
-
-  -- where no wanted kind comes, there is nothing to go on to
-  closing_missed : (p : Place) → slice_get old.reached.items done ≡ Some p → IsMissed plan wanted p → IsClosing plan wanted seeds old (done + 1)
-  closing_missed p here missed = record {
-    walks = closing.walks;
-    len = closing.len;
-    within = let lt : done < length old.reached.items = slice_get_within old.reached.items done p here in omega arith;
-    has = closing.has;
-    moved = λ i below r q is moved kind word wants sees.
-        elim (cases_eq i done) [
-          | inl same ↦
-              let it : Some p ≡ Some r = sym here ∙ subst (λ (k : ℕ). slice_get old.reached.items k ≡ Some r) same is in
-              let name : r ≡ p = cc in
-              absurd (missed kind word wants (moves (subst (λ (x : Place). Moves plan x q) name moved) sees))
-          | inr other ↦ closing.moved i (omega arith) r q is moved kind word wants sees
-        ];
-    sound = closing.sound;
-  }
-
-  pub closing_next : (p : Place) → slice_get old.reached.items done ≡ Some p → Goes old new (Moves plan p) ⊎ ((new ≡ old) × IsMissed plan wanted p) → IsClosing plan wanted seeds new (done + 1)
-  closing_next p here step = elim step [ inl goes ↦ closing_gone p here goes | inr missed ↦ rw missed.0 (closing_missed p here missed.1) ]
 
 -- ---- where tokens are eaten
 
@@ -179,23 +154,23 @@ one_of_kept p (x ∷ xs) y (suc i) e =
       | inr fails ↦ one_later x y xs (one_of_kept p xs y (suc i) (rw (filter-no p x xs fails) at e))
     ]
 
-module _ (plan : Plan) (wanted : Wanted) (seeds reached : List Place) (closed : IsClosed plan wanted seeds reached) where
-  found : {p : Place} {kind : ℕ} {word : List ℕ} → is_wanted wanted kind ≡ true → IsOneOf reached p → Sees plan p (kind ∷ word) → SeesFrom plan (filter (does_eat plan) reached) (kind ∷ word)
-  found {p} {kind} {word} wants one (moves {q = q} moved sees) = found wants (closed.moved p q one moved kind word wants sees) sees
-  found {p} {kind} {word} wants one (steps eaten stepped sees) = record { place = p; one = one_kept_by (does_eat plan) reached p one.index one.is (eats_does plan p kind eaten); sees = steps eaten stepped sees }
+module _ (plan : Plan) (seeds reached : List Place) (closed : IsClosed plan seeds reached) where
+  found : {p : Place} {kind : ℕ} {word : List ℕ} → IsOneOf reached p → Sees plan p (kind ∷ word) → SeesFrom plan (filter (does_eat plan) reached) (kind ∷ word)
+  found {p} {kind} {word} one (moves {q = q} moved sees) = found (closed.moved p q one moved (sees_within plan q kind word sees)) sees
+  found {p} {kind} {word} one (steps eaten stepped sees) = record { place = p; one = one_kept_by (does_eat plan) reached p one.index one.is (eats_does plan p kind eaten); sees = steps eaten stepped sees }
 
   -- the places that eat, of those that were reached
-  pub first_of : AreFirst plan wanted (SeesFrom plan seeds) (filter (does_eat plan) reached)
+  pub first_of : AreFirst plan (SeesFrom plan seeds) (filter (does_eat plan) reached)
   first_of = record {
     eat = filter_passes (does_eat plan) reached;
     only = λ kind word from. closed.sound from.place (one_of_kept (does_eat plan) reached from.place from.one.index from.one.is) (kind ∷ word) from.sees;
-    all = λ kind word wants from. found wants (closed.has from.place from.one) from.sees;
+    all = λ kind word from. found (closed.has from.place from.one) from.sees;
   }
 
 -- what comes from the places of a walk, by what its places are
-pub first_by : (plan : Plan) (wanted : Wanted) (walk : Walk) (P : Place → Type 0) (Such : List ℕ → Type 0) (places : List Place) → HasReached plan walk P → AreFirst plan wanted (SeesFrom plan walk.reached.items) places
-    → ((p : Place) (word : List ℕ) → P p → Sees plan p word → Such word) → ((kind : ℕ) (word : List ℕ) → Such (kind ∷ word) → (p : Place) × P p × Sees plan p (kind ∷ word)) → AreFirst plan wanted Such places
-first_by plan wanted walk P Such places has first to from = record {
+pub first_by : (plan : Plan) (walk : Walk) (P : Place → Type 0) (Such : List ℕ → Type 0) (places : List Place) → HasReached plan walk P → AreFirst plan (SeesFrom plan walk.reached.items) places
+    → ((p : Place) (word : List ℕ) → P p → Sees plan p word → Such word) → ((kind : ℕ) (word : List ℕ) → Such (kind ∷ word) → (p : Place) × P p × Sees plan p (kind ∷ word)) → AreFirst plan Such places
+first_by plan walk P Such places has first to from = record {
   eat = first.eat;
   only = λ kind word sees.
       let seen : SeesFrom plan walk.reached.items (kind ∷ word) = first.only kind word sees in
@@ -203,9 +178,9 @@ first_by plan wanted walk P Such places has first to from = record {
         | inl none ↦ absurd (omega arith)
         | inr such ↦ to seen.place (kind ∷ word) such seen.sees
       ];
-  all = λ kind word wants such.
+  all = λ kind word such.
       let seen : (p : Place) × P p × Sees plan p (kind ∷ word) = from kind word such in
-      first.all kind word wants (record { place = seen.0; one = has.reaches.all seen.0 seen.1 (sees_within plan seen.0 kind word seen.2); sees = seen.2 });
+      first.all kind word (record { place = seen.0; one = has.reaches.all seen.0 seen.1 (sees_within plan seen.0 kind word seen.2); sees = seen.2 });
 }
 
 -- a walk goes on

@@ -2,17 +2,14 @@
 use Rattle.std.proofs.Common.{◌≡◌, ℕ, zero, suc, ◌+◌, ◌<◌, ◌&&◌, ◌||◌, Bool, true, false, inl, inr, List, [], ◌∷◌, length, Option, Some, None, slice_get, arith, refl, sym, subst, ◌∙◌}
 use Rattle.std.specs.List.{All, list_any}
 use Rattle.std.proofs.lemmas.Bool.{cases_Bool, cases_eq}
-use Rattle.std.proofs.lemmas.Option.{slice_get_within}
-use Rattle.squawk_kinds.specs.TokenSets.{has, no_kinds}
+use Rattle.squawk_kinds.specs.TokenSets.{has}
 use Rattle.squawk_kinds.specs.declared.token_set.TokenSet.{TokenSet}
 use Rattle.rule_grammar.specs.declared.part.Part.{Part}
 use Rattle.rule_grammar.specs.declared.part.Part.TheVariants.{Repeat, List as Items, Some as Once}
-use Rattle.rule_tables.specs.Bounds.{is_wanted}
 use Rattle.rule_tables.specs.Looks.{AreGroups, HasOne, IsAlike, ShareAfter, ShareWord}
 use Rattle.rule_tables.specs.Places.{AreShared, Begins, ComeBoth, IsOneOf, Leaves, Plan, Sees, SeesFrom, Steps, does_eat, eats, first_in, separates}
 use Rattle.rule_tables.specs.Places.Sees.{nothing, steps}
 use Rattle.rule_tables.specs.Walks.{AreFirst, AreNext}
-use Rattle.rule_tables.specs.declared.bounds.Wanted.{Wanted}
 use Rattle.rule_tables.specs.declared.place.Place.{Place}
 use Rattle.rule_tables.specs.declared.place.Place.TheVariants.{Before, After, Separator, End}
 use Rattle.rule_tables.proofs.Over.{all_at, over_from}
@@ -85,52 +82,25 @@ alike_sees plan places group does alike a b in_a in_b word from =
     record { place = from.place; one = from.one; sees = steps (sym (alike a b in_a in_b from.place from.one) ∙ over.1) over.2 over.3 }
 
 -- the kinds that some places eat are those that come next where these are first
-pub next_kinds : (plan : Plan) (p : Place) (places : List Place) (kinds : TokenSet) {all : Wanted} → ((kind : ℕ) → is_wanted all kind ≡ true) → AreFirst plan all (Sees plan p) places → ((kind : ℕ) → has kinds kind ≡ any_eats plan places kind) → AreNext plan p kinds
-next_kinds plan p places kinds every first are kind = (
+pub next_kinds : (plan : Plan) (p : Place) (places : List Place) (kinds : TokenSet) → AreFirst plan (Sees plan p) places → ((kind : ℕ) → has kinds kind ≡ any_eats plan places kind) → AreNext plan p kinds
+next_kinds plan p places kinds first are kind = (
   λ holds. first.only kind [] (any_eaten plan places kind (sym (are kind) ∙ holds)),
-  λ sees. are kind ∙ eaten_any plan places kind [] first.eat (first.all kind [] (every kind) sees),
+  λ sees. are kind ∙ eaten_any plan places kind [] first.eat (first.all kind [] sees),
 )
 
-abbrev pub all_kinds : Wanted
-all_kinds = record { kinds = no_kinds; all = true }
-
 -- words that come two ways come from the places of these
-module _ (plan : Plan) (P Q : List ℕ → Type 0) (mine others : List Place) {all wanted : Wanted} (first_mine : AreFirst plan all P mine) (first_others : AreFirst plan wanted Q others) where
-  from_word : ((kind : ℕ) → is_wanted all kind ≡ true) → ((kind : ℕ) (word : List ℕ) → P (kind ∷ word) → is_wanted wanted kind ≡ true) → (word : List ℕ) → 0 < length word → P word → Q word → SeesFrom plan mine word × SeesFrom plan others word
-  from_word every wants [] some first second = absurd (omega arith)
-  from_word every wants (kind ∷ word) some first second = (first_mine.all kind word (every kind) first, first_others.all kind word (wants kind word first) second)
+module _ (plan : Plan) (P Q : List ℕ → Type 0) (mine others : List Place) (first_mine : AreFirst plan P mine) (first_others : AreFirst plan Q others) where
+  from_word : (word : List ℕ) → 0 < length word → P word → Q word → SeesFrom plan mine word × SeesFrom plan others word
+  from_word [] some first second = absurd (omega arith)
+  from_word (kind ∷ word) some first second = (first_mine.all kind word first, first_others.all kind word second)
 
   pub to_word : (word : List ℕ) → 0 < length word → SeesFrom plan mine word → SeesFrom plan others word → P word × Q word
   to_word [] some first second = absurd (omega arith)
   to_word (kind ∷ word) some first second = (first_mine.only kind word first, first_others.only kind word second)
 
-  pub to_places : ((kind : ℕ) → is_wanted all kind ≡ true) → ((kind : ℕ) (word : List ℕ) → P (kind ∷ word) → is_wanted wanted kind ≡ true) → (count : ℕ) → 0 < count → AreShared count (ComeBoth P Q) → ShareWord plan count mine others
-  to_places every wants count some share =
-      record { word = share.word; len = share.len; such = from_word every wants share.word (omega (arith, share.len)) share.such.0 share.such.1 }
-
--- words that come two ways come from places where the wanted kinds come
-module _ (plan : Plan) (P Q : List ℕ → Type 0) (others : List Place) {wanted : Wanted} (wants : (kind : ℕ) (word : List ℕ) → P (kind ∷ word) → is_wanted wanted kind ≡ true) (first : AreFirst plan wanted Q others) where
-  others_word : (word : List ℕ) → 0 < length word → P word → Q word → SeesFrom plan others word
-  others_word [] some one other = absurd (omega arith)
-  others_word (kind ∷ word) some one other = first.all kind word (wants kind word one) other
-
-  pub share_others : (count : ℕ) → 0 < count → AreShared count (ComeBoth P Q) → AreShared count (ComeBoth P (SeesFrom plan others))
-  share_others count some share =
-      record { word = share.word; len = share.len; such = (share.such.0, others_word share.word (omega (arith, share.len)) share.such.0 share.such.1) }
-
-  word_others : (word : List ℕ) → 0 < length word → SeesFrom plan others word → Q word
-  word_others [] some from = absurd (omega arith)
-  word_others (kind ∷ word) some from = first.only kind word from
-
-  pub both_others : (word : List ℕ) → 0 < length word → ComeBoth P (SeesFrom plan others) word → ComeBoth P Q word
-  both_others word some both = (both.0, word_others word some both.1)
-
--- places that eat are those of what comes from them
-pub first_self : (plan : Plan) (wanted : Wanted) (places : List Place) → All (λ p. does_eat plan p ≡ true) places → AreFirst plan wanted (SeesFrom plan places) places
-first_self plan wanted places eat = record { eat = eat; only = λ kind word from. from; all = λ kind word wants from. from }
-
-pub sees_none : (plan : Plan) (places : List Place) (word : List ℕ) → length places ≡ 0 → SeesFrom plan places word → ⊥
-sees_none plan places word none from = let lt : from.one.index < length places = slice_get_within places from.one.index from.place from.one.is in omega arith
+  pub to_places : (count : ℕ) → 0 < count → AreShared count (ComeBoth P Q) → ShareWord plan count mine others
+  to_places count some share =
+      record { word = share.word; len = share.len; such = from_word share.word (omega (arith, share.len)) share.such.0 share.such.1 }
 
 module _ (plan : Plan) (mine others : List Place) (does_mine : All (λ p. does_eat plan p ≡ true) mine) (does_others : All (λ p. does_eat plan p ≡ true) others) where
   both_eat : (kind : ℕ) (word : List ℕ) → SeesFrom plan mine (kind ∷ word) → SeesFrom plan others (kind ∷ word) → (any_eats plan mine kind && any_eats plan others kind) ≡ true
@@ -173,13 +143,12 @@ module _ (plan : Plan) (mine others : List Place) (does_mine : All (λ p. does_e
       → ((i : ℕ) (group : TokenSet) → slice_get groups i ≡ Some group → ShareAfter plan count group mine others → ⊥) → ShareWord plan more mine others → ⊥
   group_share shared groups count more next are inside none share = group_word shared groups count are inside none share.word (share.len ∙ next) share.such.0 share.such.1
 
-  module _ (group : TokenSet) (kind : ℕ) (holds : has group kind ≡ true) (mine_after others_after : List Place) {all own : Wanted} (every : (k : ℕ) → is_wanted all k ≡ true) (own_is : (k : ℕ) → is_wanted own k ≡ any_eats plan mine_after k) (first_mine : AreFirst plan all (λ word. SeesFrom plan mine (kind ∷ word)) mine_after)
-      (first_others : AreFirst plan own (λ word. SeesFrom plan others (kind ∷ word)) others_after) where
+  module _ (group : TokenSet) (kind : ℕ) (holds : has group kind ≡ true) (mine_after others_after : List Place) (first_mine : AreFirst plan (λ word. SeesFrom plan mine (kind ∷ word)) mine_after)
+      (first_others : AreFirst plan (λ word. SeesFrom plan others (kind ∷ word)) others_after) where
     -- what comes after a kind of a group comes after its least
     pub after_share : (count : ℕ) → 0 < count → IsAlike plan mine group → IsAlike plan others group → ShareAfter plan count group mine others → ShareWord plan count mine_after others_after
     after_share count some alike_mine alike_others share =
-        to_places plan (λ word. SeesFrom plan mine (kind ∷ word)) (λ word. SeesFrom plan others (kind ∷ word)) mine_after others_after first_mine first_others every
-        (λ k word from. own_is k ∙ eaten_any plan mine_after k word first_mine.eat (first_mine.all k word (every k) from)) count some
+        to_places plan (λ word. SeesFrom plan mine (kind ∷ word)) (λ word. SeesFrom plan others (kind ∷ word)) mine_after others_after first_mine first_others count some
         (record {
           word = share.word;
           len = share.len;

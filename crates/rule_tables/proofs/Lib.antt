@@ -15,7 +15,6 @@ pub mod Other
 pub mod Leading
 pub mod Closing
 pub mod Over
-pub mod Fed
 pub mod Cuts
 pub mod Deciding
 pub mod Telling

@@ -6,8 +6,7 @@ use Rattle.std.proofs.lemmas.List.{get_or-append_right, get_or_append_left}
 use Rattle.std.proofs.lemmas.List.Sums.{sum_by-cons, sum_by-set}
 use Rattle.std.proofs.lemmas.Option.{slice_get_within}
 use Rattle.rule_tables.specs.Places.{IsOneOf, Plan}
-use Rattle.rule_tables.specs.Bounds.{slot, slots}
-use Rattle.rule_tables.specs.Walks.{Goes, HasReached, IsWalking, Reaches}
+use Rattle.rule_tables.specs.Walks.{Goes, HasReached, IsWalking, Reaches, slot, slots}
 use Rattle.rule_tables.specs.declared.place.Place.{Place}
 use Rattle.rule_tables.specs.declared.walk.Walk.{Walk}
 use Rattle.rule_tables.proofs.Lists.{slice_get-front, slice_get-seam}

@@ -7,7 +7,6 @@ use Rattle.std.proofs.lemmas.Option.{get_or_from_slice_get, slice_get_within}
 use Rattle.rule_tables.specs.Places.{Plan, Sees, SeesFrom, Steps, does_eat, eats}
 use Rattle.rule_tables.specs.Places.Sees.{moves, steps}
 use Rattle.rule_tables.specs.Walks.{AreFirst, Goes, HasReached}
-use Rattle.rule_tables.specs.declared.bounds.Wanted.{Wanted}
 use Rattle.rule_tables.specs.declared.place.Place.{Place}
 use Rattle.rule_tables.specs.declared.walk.Walk.{Walk}
 use Rattle.rule_tables.proofs.Closing.{does_no_move, first_by, reached_as, reached_then}
@@ -55,10 +54,10 @@ over_from plan p kind word does (moves {q = q} moved sees) = absurd (does_no_mov
 over_from plan p kind word does (steps {q = q} eaten stepped sees) = (q, eaten, stepped, sees)
 
 -- what comes after a token of the kind
-pub first_over : (plan : Plan) (wanted : Wanted) (places : List Place) (kind : ℕ) (walk : Walk) (found : List Place) → All (λ p. does_eat plan p ≡ true) places → HasReached plan walk (IsOver plan places kind (length places)) → AreFirst plan wanted (SeesFrom plan walk.reached.items) found
-    → AreFirst plan wanted (λ word. SeesFrom plan places (kind ∷ word)) found
-first_over plan wanted places kind walk found does has first =
-    first_by plan wanted walk (IsOver plan places kind (length places)) (λ word. SeesFrom plan places (kind ∷ word)) found has first
+pub first_over : (plan : Plan) (places : List Place) (kind : ℕ) (walk : Walk) (found : List Place) → All (λ p. does_eat plan p ≡ true) places → HasReached plan walk (IsOver plan places kind (length places)) → AreFirst plan (SeesFrom plan walk.reached.items) found
+    → AreFirst plan (λ word. SeesFrom plan places (kind ∷ word)) found
+first_over plan places kind walk found does has first =
+    first_by plan walk (IsOver plan places kind (length places)) (λ word. SeesFrom plan places (kind ∷ word)) found has first
     (λ p word over sees. record { place = over.place; one = record { index = over.index; is = over.is }; sees = steps over.eaten over.stepped sees })
     (λ next word from.
     let lt : from.one.index < length places = slice_get_within places from.one.index from.place from.one.is in

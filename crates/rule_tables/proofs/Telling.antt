@@ -4,14 +4,12 @@ use Rattle.std.proofs.lemmas.List.{drop-set, length-drop, length-map, take-set}
 use Rattle.squawk_kinds.specs.TokenSets.{has}
 use Rattle.squawk_kinds.specs.declared.token_set.TokenSet.{TokenSet}
 use Rattle.rule_grammar.specs.Parts.{bit_of}
-use Rattle.rule_tables.specs.Bounds.{is_wanted}
 use Rattle.rule_tables.specs.Looks.{GoOnBoth}
 use Rattle.rule_tables.specs.Places.{AreTold, ComeBoth, Plan, SeesFrom}
 use Rattle.rule_tables.specs.Walks.{AreFirst}
-use Rattle.rule_tables.specs.declared.bounds.Wanted.{Wanted}
 use Rattle.rule_tables.specs.declared.place.Place.{Place}
 use Rattle.rule_tables.specs.declared.trail.Trail.{Trail}
-use Rattle.rule_tables.proofs.Deciding.{any_eaten, any_eats, both_others, one_any, to_word}
+use Rattle.rule_tables.proofs.Deciding.{any_eaten, any_eats, one_any, to_word}
 
 -- a word that begins as another does with one item set
 front_step : (d : ℕ) (word path : List ℕ) (kind : ℕ) → d < length path → take (suc d) word ≡ take (suc d) (slice_set path d kind) → (take d word ≡ take d path) × (drop d word ≡ kind ∷ drop (suc d) word)
@@ -55,7 +53,7 @@ module _ (plan : Plan) (mine others : List Place) where
       )
 
   -- a token of the kind came before
-  pub told_before : (kind : ℕ) (mine_after others_after : List Place) {all wanted : Wanted} → AreFirst plan all (λ word. SeesFrom plan mine (kind ∷ word)) mine_after → AreFirst plan wanted (λ word. SeesFrom plan others (kind ∷ word)) others_after → (trail next : Trail)
+  pub told_before : (kind : ℕ) (mine_after others_after : List Place) → AreFirst plan (λ word. SeesFrom plan mine (kind ∷ word)) mine_after → AreFirst plan (λ word. SeesFrom plan others (kind ∷ word)) others_after → (trail next : Trail)
       → trail.depth < 3 → length trail.kinds ≡ 4 → next.depth ≡ trail.depth + 1 → map bit_of next.kinds ≡ slice_set (map bit_of trail.kinds) trail.depth kind → (kinds : List ℕ)
       → AreTold (GoOnBoth plan mine_after others_after next) kinds → AreTold (GoOnBoth plan mine others trail) kinds
   told_before kind mine_after others_after first_mine first_others trail next few four deeper is kinds told =
@@ -77,14 +75,9 @@ module _ (plan : Plan) (mine others : List Place) where
       )
 
 -- words that come two ways come from the places of these
-module _ (plan : Plan) (P Q : List ℕ → Type 0) (mine others : List Place) {all wanted : Wanted} (first_mine : AreFirst plan all P mine) (first_others : AreFirst plan wanted Q others) where
+module _ (plan : Plan) (P Q : List ℕ → Type 0) (mine others : List Place) (first_mine : AreFirst plan P mine) (first_others : AreFirst plan Q others) where
   pub told_as : (kinds : List ℕ) → AreTold (ComeBoth (SeesFrom plan mine) (SeesFrom plan others)) kinds → AreTold (ComeBoth P Q) kinds
   told_as kinds told = (
     told.0,
     to_word plan P Q mine others first_mine first_others (map bit_of kinds) (omega (arith, told.0, length-map kinds bit_of)) told.1.0 told.1.1,
   )
-
--- the same of one way alone
-pub told_others : (plan : Plan) (P Q : List ℕ → Type 0) (others : List Place) {wanted : Wanted} → ((kind : ℕ) (word : List ℕ) → P (kind ∷ word) → is_wanted wanted kind ≡ true) → AreFirst plan wanted Q others → (kinds : List ℕ)
-    → AreTold (ComeBoth P (SeesFrom plan others)) kinds → AreTold (ComeBoth P Q) kinds
-told_others plan P Q others wants first kinds told = (told.0, both_others plan P Q others wants first (map bit_of kinds) (omega (arith, told.0, length-map kinds bit_of)) told.1)

@@ -2,8 +2,7 @@
 use Rattle.std.proofs.Common.{◌≡◌, ℕ, ◌<◌, ◌⊎◌, inl, inr, List, length, Result, Ok, Err, IfOk, OnOk, arith, refl, sym, subst, ap, ◌∙◌}
 use Rattle.std.proofs.lemmas.Option.{slice_get_within}
 use Rattle.rule_tables.specs.Places.{IsOneOf}
-use Rattle.rule_tables.specs.Bounds.{slot}
-use Rattle.rule_tables.specs.Walks.{Goes, Reaches}
+use Rattle.rule_tables.specs.Walks.{Goes, Reaches, slot}
 use Rattle.rule_tables.specs.declared.place.Place.{Place}
 use Rattle.rule_tables.specs.declared.place.Place.TheVariants.{Before, After, Separator, End}
 use Rattle.rule_tables.specs.declared.walk.Walk.{Walk}

@@ -8,7 +8,6 @@ pub mod Made
 pub mod Faults
 pub mod Sets
 pub mod Places
-pub mod Bounds
 pub mod Maps
 pub mod Walks
 pub mod Limits

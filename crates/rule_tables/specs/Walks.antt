@@ -1,12 +1,11 @@
 -- What a walk over places keeps, and what it finds.
-use Rattle.std.specs.Prelude.{◌≡◌, ℕ, ◌<◌, ◌≤◌, ◌==◌, ◌⊎◌, ◌↔◌, true, Some, List, [], ◌∷◌, length, slice_get, slice_index}
+use Rattle.std.specs.Prelude.{◌≡◌, ℕ, ◌+◌, ◌*◌, ◌<◌, ◌≤◌, ◌==◌, ◌⊎◌, ◌↔◌, true, Some, List, [], ◌∷◌, length, slice_get, slice_index}
 use Rattle.std.specs.List.{All, count_by}
 use Rattle.squawk_kinds.specs.TokenSets.{has}
 use Rattle.squawk_kinds.specs.declared.token_set.TokenSet.{TokenSet}
-use Rattle.rule_tables.specs.Bounds.{is_wanted, slot, slots}
 use Rattle.rule_tables.specs.Places.{IsOneOf, Leads, Moves, Plan, Sees, SeesFrom, does_eat, led_to}
-use Rattle.rule_tables.specs.declared.bounds.Wanted.{Wanted}
 use Rattle.rule_tables.specs.declared.place.Place.{Place}
+use Rattle.rule_tables.specs.declared.place.Place.TheVariants.{Before, After, Separator, End}
 use Rattle.rule_grammar.specs.declared.part.Part.{Part}
 use Rattle.rule_tables.specs.declared.place.Way.{Way}
 use Rattle.rule_tables.specs.declared.map.Map.{Map}
@@ -15,6 +14,17 @@ use Rattle.rule_tables.specs.declared.walk.Walk.{Walk}
 -- the rows of a map
 abbrev pub plan_of : Map → Plan
 plan_of map = record { rows = map.rows.now; sets = map.sets.now; start = map.start }
+
+-- the number of the mark of a place
+abbrev pub slot : Place → ℕ
+slot (Before k) = 3 * k + 1
+slot (After k) = 3 * k + 2
+slot (Separator k) = 3 * k + 3
+slot End = 0
+
+-- how many marks n rows have
+abbrev pub slots : ℕ → ℕ
+slots n = 3 * n + 1
 
 -- a walk: what has its mark was reached, and so many places have it
 pub record IsWalking (walk : Walk) : Type 0 where
@@ -49,17 +59,17 @@ pub record HasReached (plan : Plan) (walk : Walk) (Such : Place → Type 0) : Ty
   pub len : length walk.marks.items ≡ slots (length plan.rows)
   pub reaches : Reaches (slots (length plan.rows)) [] walk.reached.items Such
 
--- all places are reached that lead on from these to where a wanted kind comes
-pub record IsClosed (plan : Plan) (wanted : Wanted) (seeds reached : List Place) : Type 0 where
+-- all places are reached that lead on from these
+pub record IsClosed (plan : Plan) (seeds reached : List Place) : Type 0 where
   pub has : (p : Place) → IsOneOf seeds p → IsOneOf reached p
-  pub moved : (p q : Place) → IsOneOf reached p → Moves plan p q → (kind : ℕ) (word : List ℕ) → is_wanted wanted kind ≡ true → Sees plan q (kind ∷ word) → IsOneOf reached q
+  pub moved : (p q : Place) → IsOneOf reached p → Moves plan p q → slot q < slots (length plan.rows) → IsOneOf reached q
   pub sound : (p : Place) → IsOneOf reached p → (word : List ℕ) → Sees plan p word → SeesFrom plan seeds word
 
--- places that eat, and the words that come from them: such words, and all of them that begin with a wanted kind
-pub record AreFirst (plan : Plan) (wanted : Wanted) (Such : List ℕ → Type 0) (places : List Place) : Type 0 where
+-- places that eat, and the words that come from them: such words, and all of them
+pub record AreFirst (plan : Plan) (Such : List ℕ → Type 0) (places : List Place) : Type 0 where
   pub eat : All (λ p. does_eat plan p ≡ true) places
   pub only : (kind : ℕ) (word : List ℕ) → SeesFrom plan places (kind ∷ word) → Such (kind ∷ word)
-  pub all : (kind : ℕ) (word : List ℕ) → is_wanted wanted kind ≡ true → Such (kind ∷ word) → SeesFrom plan places (kind ∷ word)
+  pub all : (kind : ℕ) (word : List ℕ) → Such (kind ∷ word) → SeesFrom plan places (kind ∷ word)
 
 -- the kinds that may come next at a place
 abbrev pub AreNext : Plan → Place → TokenSet → Type 0

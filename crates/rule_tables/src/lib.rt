@@ -5,7 +5,6 @@
 //! ```
 #![tactic(auto)]
 
-mod bounds;
 mod called;
 mod categories;
 mod classes;

@@ -7,7 +7,6 @@ ghost use Rattle.rule_tables.specs.Places.{AreShared, AreTold, ComeBoth, ComesFi
 ghost use Rattle.rule_tables.specs.Sets.{Extends};
 ghost use Rattle.rule_tables.specs.Walks.{plan_of};
 
-use crate::bounds::{Wanted, first_at};
 use crate::eats::kinds_at;
 use crate::error::RulesError;
 use crate::groups::groups;
@@ -50,7 +49,7 @@ impl Looks {
         ensures err { IfErr result IsLimit }
         ensures keeps { OnOk result (Extends self.old.sets.list.items self.new.sets.list.items) }
     {
-        self.walk.from(self.alloc, map, place, &Wanted::ALL)
+        self.walk.from(self.alloc, map, place)
     }
 
     /// The number of the look at which an arm or operator is gone into, and no later one beside it.
@@ -60,12 +59,11 @@ impl Looks {
         ensures ok { OnOk result (fork.now.is_settled ≡ false → AreShared 4 (ComeBoth (Sees (plan_of fork.now.map.now) (Place.Before fork.now.part)) (SeesRival (plan_of fork.now.map.now) way fork.now.part)) → ⊥) }
         ensures keeps { OnOk result (Extends self.old.sets.list.items self.new.sets.list.items) }
     {
-        let place = Place::Before(fork.part);
-        let first = first_at(fork.map, place);
-        let others = self
+        let mine = self
             .walk
-            .rivals(self.alloc, fork.map, fork.part, way, &first)?;
-        self.decide_from(fork, place, &others)
+            .from(self.alloc, fork.map, Place::Before(fork.part))?;
+        let others = self.walk.rivals(self.alloc, fork.map, fork.part, way)?;
+        self.decide(fork, &mine, &others)
     }
 
     /// The number of the look at which a part goes on at its first row, and not after it.
@@ -86,30 +84,11 @@ impl Looks {
         ensures ok { OnOk result (fork.now.is_settled ≡ false → AreShared 4 (ComeBoth (Sees (plan_of fork.now.map.now) place) (Sees (plan_of fork.now.map.now) (Place.After fork.now.part))) → ⊥) }
         ensures keeps { OnOk result (Extends self.old.sets.list.items self.new.sets.list.items) }
     {
-        let first = first_at(fork.map, place);
+        let mine = self.walk.from(self.alloc, fork.map, place)?;
         let others = self
             .walk
-            .from(self.alloc, fork.map, Place::After(fork.part), &first)?;
-        self.decide_from(fork, place, &others)
-    }
-
-    /// The number of the look at which the way from a place on is gone, or 0 if one token decides.
-    fn decide_from(
-        &mut self,
-        fork: &Fork<'_>,
-        place: Place,
-        others: &[Place],
-    ) -> Result<u16, RulesError>
-        requires { All (λ p. does_eat (plan_of fork.now.map.now) p ≡ true) others.now }
-        ensures err { IfErr result (IsUndecidedIf (λ kinds. (fork.now.is_settled ≡ false) × AreTold (ComeBoth (Sees (plan_of fork.now.map.now) place) (SeesFrom (plan_of fork.now.map.now) others.now)) kinds) fork.now.part) }
-        ensures ok { OnOk result (fork.now.is_settled ≡ false → AreShared 4 (ComeBoth (Sees (plan_of fork.now.map.now) place) (SeesFrom (plan_of fork.now.map.now) others.now)) → ⊥) }
-        ensures keeps { OnOk result (Extends self.old.sets.list.items self.new.sets.list.items) }
-    {
-        if others.is_empty() {
-            return Ok(0);
-        }
-        let mine = self.walk.from(self.alloc, fork.map, place, &Wanted::ALL)?;
-        self.decide(fork, &mine, others)
+            .from(self.alloc, fork.map, Place::After(fork.part))?;
+        self.decide(fork, &mine, &others)
     }
 
     /// The number of the look at which the first way is gone, or 0 if one token decides.
@@ -210,11 +189,8 @@ impl Looks {
             return Ok(());
         };
         let set = self.sets.number(group)?;
-        let mine = self
-            .walk
-            .over(self.alloc, fork.map, mine, kind, &Wanted::ALL)?;
-        let own = Wanted::of(kinds_at(fork.map, &mine));
-        let others = self.walk.over(self.alloc, fork.map, others, kind, &own)?;
+        let mine = self.walk.over(self.alloc, fork.map, mine, kind)?;
+        let others = self.walk.over(self.alloc, fork.map, others, kind)?;
         self.decide_after(fork, &mine, &others, &trail.then(set, kind))
     }
 

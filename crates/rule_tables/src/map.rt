@@ -2,7 +2,6 @@
 ghost use Rattle.std.specs.Prelude.{◌≡◌, ℕ, ◌+◌, ◌<◌, ◌≤◌, List, Some, IfOk, length, slice_get, true};
 ghost use Rattle.std.proofs.Props.{props};
 ghost use Rattle.rule_grammar.specs.declared.part.Part.{Part};
-ghost use Rattle.rule_tables.specs.Bounds.{AreBounds};
 ghost use Rattle.rule_tables.specs.Places.{end_at, end_in, first_in, goal_of, last_below, next_in, outer_of};
 ghost use Rattle.rule_tables.specs.Maps.{AreLinked, AreOuters, at_goal, known_at, leads_to, with_goal};
 
@@ -24,12 +23,9 @@ pub(crate) struct Map<'m> {
     lasts: Vec<Option<usize>>,
     /// The row before each row that leads to the same row.
     earlier: Vec<Option<usize>>,
-    /// The kinds that come first at each place and some that don't, by the place's number, or nothing.
-    pub(crate) firsts: Vec<TokenSet>,
     ghost few: { length rows.now ≤ 65535 },
     ghost nested: { AreOuters rows.now outers.items (length rows.now) } by { Prim.hlevel props },
     ghost linked: { AreLinked rows.now lasts.items earlier.items (length rows.now) } by { Prim.hlevel props },
-    ghost bounded: { AreBounds (record { rows = rows.now; sets = sets.now; start = start }) firsts.items } by { Prim.hlevel props },
 }
 
 impl<'m> Map<'m> {
@@ -54,19 +50,7 @@ impl<'m> Map<'m> {
             outers,
             lasts,
             earlier,
-            firsts: Vec::new(alloc),
         })
-    }
-
-    /// This map, with the kinds that come first at each place.
-    pub(crate) fn with_firsts(mut self, firsts: Vec<TokenSet>) -> Map<'m>
-        requires { AreBounds (record { rows = self.rows.now; sets = self.sets.now; start = self.start }) firsts.items }
-        ensures rows { result.rows.now ≡ self.entry.rows.now }
-        ensures sets { result.sets.now ≡ self.entry.sets.now }
-        ensures start { result.start ≡ self.entry.start }
-    {
-        self.firsts = firsts;
-        self
     }
 
     /// The row that a row is in.

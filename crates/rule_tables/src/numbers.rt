@@ -7,7 +7,6 @@ ghost use Rattle.rule_tables.specs.Sets.{Extends};
 ghost use Rattle.rule_tables.specs.Rows.{SayRows, is_exact, tail_tag};
 ghost use Rattle.rule_tables.specs.Walks.{plan_of};
 
-use crate::bounds::first_at;
 use crate::eats::kinds_at;
 use crate::error::RulesError;
 use crate::follow::Ahead;
@@ -142,23 +141,11 @@ fn begins(
 {
     let is_way = matches!(row, Row::Arm { .. } | Row::Tail { .. } | Row::Choice { .. });
     if (is_way || matches!(row, Row::Node { .. })) && fork.map.outer(fork.part).is_some() {
-        kinds_from(looks, fork.map, Place::Before(fork.part))
+        let mine = looks.from(fork.map, Place::Before(fork.part))?;
+        Ok(kinds_at(fork.map, &mine))
     } else {
         Ok(known.begins.kinds)
     }
-}
-
-/// The kinds that come first at a place.
-fn kinds_from(looks: &mut Looks, map: &Map<'_>, place: Place) -> Result<TokenSet, RulesError>
-    ensures err { IfErr result IsLimit }
-    ensures keeps { OnOk result (Extends looks.old.sets.list.items looks.new.sets.list.items) }
-{
-    let first = first_at(map, place);
-    if !first.all {
-        return Ok(first.kinds);
-    }
-    let places = looks.from(map, place)?;
-    Ok(kinds_at(map, &places))
 }
 
 /// The look of a row, or the set of kinds that one of its operators begins with.

@@ -1,6 +1,6 @@
 //! Places in rules.
 ghost use Rattle.std.specs.Prelude.{◌≡◌, min};
-ghost use Rattle.rule_tables.specs.Bounds.{slot};
+ghost use Rattle.rule_tables.specs.Walks.{slot};
 
 /// A place in rules.
 #[derive(Clone, Copy)]
@@ -26,7 +26,7 @@ pub(crate) enum Way {
     Call,
 }
 
-/// The number of a place.
+/// The number of the mark of a place.
 pub(crate) fn slot_of(place: Place) -> usize
     ensures { result ≡ min (slot place) 18446744073709551615 }
 {

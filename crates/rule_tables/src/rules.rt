@@ -10,7 +10,6 @@ ghost use Rattle.rule_tables.specs.Rows.{AreSmall, HasRows, IsFileRule, SayRows,
 ghost use Rattle.rule_tables.specs.Sets.{HaveSets};
 ghost use Rattle.rule_tables.specs.Walks.{AreNext};
 
-use crate::bounds::{Wanted, bounded};
 use crate::classes::sets_of;
 use crate::definitions::Definitions;
 use crate::eats::kinds_at;
@@ -128,7 +127,7 @@ impl Rules {
     {
         let map = Map::new(alloc, &self.parts, &self.classes, self.file)?;
         let mut walk = Walk::new(alloc);
-        match walk.from(alloc, &map, place, &Wanted::ALL) {
+        match walk.from(alloc, &map, place) {
             Ok(places) => Ok(kinds_at(&map, &places)),
             Err(_reason) => Err(AllocError),
         }
@@ -236,7 +235,7 @@ fn rules_of(
 {
     let file = file_of(definitions.parts);
     let header = file_row(definitions.parts);
-    let map = bounded(alloc, rows, sets, header)?;
+    let map = Map::new(alloc, rows, sets, header)?;
     let messages = Messages::new(alloc, definitions.parts, &map)?;
     let ahead = ahead_of(alloc, &map, resume(definitions, sets))?;
     let mut looks = Looks {

@@ -1,8 +1,7 @@
 //! Which places come from a place on, without eating.
-ghost use Rattle.std.specs.Prelude.{◌≡◌, ℕ, ◌<◌, ◌≤◌, ◌⊎◌, All, IfErr, IfOk, OnOk, [], ◌∷◌, length, slice_index, true};
+ghost use Rattle.std.specs.Prelude.{◌≡◌, ℕ, ◌<◌, ◌≤◌, All, IfErr, IfOk, OnOk, [], ◌∷◌, length, slice_index, true};
 ghost use Rattle.rule_tables.specs.Limits.{IsLimit};
 
-use crate::bounds::{Wanted, is_missed};
 use crate::eats::{eaters, kinds_of};
 use crate::error::RulesError;
 use crate::map::Map;
@@ -24,9 +23,8 @@ pub(crate) struct Walk {
 }
 
 impl Walk {
-    ghost use Rattle.rule_tables.specs.Bounds.{IsMissed, slots};
-    ghost use Rattle.rule_tables.specs.Places.{Moves, Sees, SeesFrom, SeesRival, Steps, does_eat, eats};
-    ghost use Rattle.rule_tables.specs.Walks.{AreFirst, Goes, HasReached, IsClosed, IsWalking, plan_of};
+    ghost use Rattle.rule_tables.specs.Places.{Sees, SeesFrom, SeesRival, Steps, does_eat, eats};
+    ghost use Rattle.rule_tables.specs.Walks.{AreFirst, Goes, HasReached, IsClosed, IsWalking, plan_of, slots};
 
     pub(crate) fn new(alloc: Global) -> Walk {
         Walk {
@@ -36,65 +34,60 @@ impl Walk {
         }
     }
 
-    /// The places that eat first, from one on. Those where no wanted kind comes may be left out.
+    /// The places that eat first, from one on.
     pub(crate) fn from(
         &mut self,
         alloc: Global,
         map: &Map<'_>,
         place: Place,
-        wanted: &Wanted,
     ) -> Result<Vec<Place>, RulesError>
         ensures err { IfErr result IsLimit }
-        ensures ok { IfOk result (λ places. AreFirst (plan_of map.now) wanted.now (Sees (plan_of map.now) place) places.items) }
+        ensures ok { IfOk result (λ places. AreFirst (plan_of map.now) (Sees (plan_of map.now) place) places.items) }
     {
         self.begin(map)?;
         self.push(place)?;
-        self.finish(alloc, map, wanted)
+        self.finish(alloc, map)
     }
 
-    /// The places that eat first, from before the later arms or operators beside one on. Those where no wanted kind
-    /// comes may be left out.
+    /// The places that eat first, from before the later arms or operators beside one on.
     pub(crate) fn rivals(
         &mut self,
         alloc: Global,
         map: &Map<'_>,
         row: usize,
         way: Way,
-        wanted: &Wanted,
     ) -> Result<Vec<Place>, RulesError>
         requires { row < length map.now.rows.now }
         ensures err { IfErr result IsLimit }
-        ensures ok { IfOk result (λ places. AreFirst (plan_of map.now) wanted.now (SeesRival (plan_of map.now) way row) places.items) }
+        ensures ok { IfOk result (λ places. AreFirst (plan_of map.now) (SeesRival (plan_of map.now) way row) places.items) }
     {
         self.begin(map)?;
         match map.outer(row) {
             Some(outer) => {
                 self.lead_from(map, outer, way, row + 1)?;
-                self.finish(alloc, map, wanted)
+                self.finish(alloc, map)
             }
-            None => self.finish(alloc, map, wanted),
+            None => self.finish(alloc, map),
         }
     }
 
-    /// The places that eat first after a token of the kind was eaten at one of these. Those where no wanted kind comes
-    /// may be left out.
+    /// The places that eat first after a token of the kind was eaten at one of these.
     pub(crate) fn over(
         &mut self,
         alloc: Global,
         map: &Map<'_>,
         places: &[Place],
         kind: SyntaxKind,
-        wanted: &Wanted,
     ) -> Result<Vec<Place>, RulesError>
         requires { All (λ p. does_eat (plan_of map.now) p ≡ true) places.now }
         ensures err { IfErr result IsLimit }
-        ensures ok { IfOk result (λ found. AreFirst (plan_of map.now) wanted.now (λ word. SeesFrom (plan_of map.now) places.now (kind ∷ word)) found.items) }
+        ensures ok { IfOk result (λ found. AreFirst (plan_of map.now) (λ word. SeesFrom (plan_of map.now) places.now (kind ∷ word)) found.items) }
     {
         self.begin(map)?;
         for place in places {
             self.step(map, *place, kind)?;
         }
-        self.finish(alloc, map, wanted)
+        self.finish(alloc, map)
     }
 
     /// Goes over a token of the kind, if it is eaten at a place.
@@ -109,7 +102,7 @@ impl Walk {
     }
 
     /// Begins a walk.
-    pub(crate) fn begin(&mut self, map: &Map<'_>) -> Result<(), RulesError>
+    fn begin(&mut self, map: &Map<'_>) -> Result<(), RulesError>
         ensures err { IfErr result IsLimit }
         ensures ok { OnOk result (HasReached (plan_of map.now) self.new (λ q. ⊥)) }
     {
@@ -136,45 +129,29 @@ impl Walk {
     }
 
     /// Goes on until nothing is new. Returns the places that eat.
-    fn finish(
-        &mut self,
-        alloc: Global,
-        map: &Map<'_>,
-        wanted: &Wanted,
-    ) -> Result<Vec<Place>, RulesError>
+    fn finish(&mut self, alloc: Global, map: &Map<'_>) -> Result<Vec<Place>, RulesError>
         requires walks { IsWalking self.old }
         requires len { length self.old.marks.items ≡ slots (length map.now.rows.now) }
         ensures err { IfErr result IsLimit }
-        ensures ok { IfOk result (λ places. AreFirst (plan_of map.now) wanted.now (SeesFrom (plan_of map.now) self.old.reached.items) places.items) }
+        ensures ok { IfOk result (λ places. AreFirst (plan_of map.now) (SeesFrom (plan_of map.now) self.old.reached.items) places.items) }
     {
-        self.go_all(map, wanted)?;
+        self.go_all(map)?;
         let places = eaters(alloc, map, &self.reached)?;
         Ok(places)
     }
 
-    /// Goes on until nothing is new, from places where a wanted kind may come.
-    fn go_all(&mut self, map: &Map<'_>, wanted: &Wanted) -> Result<(), AllocError>
+    /// Goes on until nothing is new.
+    fn go_all(&mut self, map: &Map<'_>) -> Result<(), AllocError>
         requires walks { IsWalking self.old }
         requires len { length self.old.marks.items ≡ slots (length map.now.rows.now) }
-        ensures { OnOk result (IsClosed (plan_of map.now) wanted.now self.old.reached.items self.new.reached.items) }
+        ensures { OnOk result (IsClosed (plan_of map.now) self.old.reached.items self.new.reached.items) }
     {
         let mut done = 0usize;
         while done < self.reached.len() {
             let place = self.reached[done];
-            self.go_on_for(map, place, wanted)?;
+            self.go_on(map, place)?;
             done += 1;
         }
         Ok(())
-    }
-
-    /// Goes on from a place, if a wanted kind may come there.
-    fn go_on_for(&mut self, map: &Map<'_>, place: Place, wanted: &Wanted) -> Result<(), AllocError>
-        ensures { OnOk result (Goes self.old self.new (Moves (plan_of map.now) place) ⊎ ((self.new ≡ self.old) × IsMissed (plan_of map.now) wanted.now place)) }
-    {
-        if is_missed(map, place, wanted) {
-            Ok(())
-        } else {
-            self.go_on(map, place)
-        }
     }
 }

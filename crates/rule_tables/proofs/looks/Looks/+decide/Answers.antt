@@ -1,14 +1,13 @@
-use Rattle.std.proofs.Common.{rules, ◌≡◌, ◌<◌, ◌-◌, ℕ, List, ◌∷◌, Some, ◌∙◌, inl, inr, true, false, length, slice_get, arith, refl, sym, subst}
+use Rattle.std.proofs.Common.{rules, ◌≡◌, ◌<◌, ◌-◌, ℕ, List, ◌∷◌, Some, inl, inr, true, false, length, slice_get, arith, refl, sym, subst}
 use Rattle.std.proofs.lemmas.Bool.{cases_Bool}
 use Rattle.std.proofs.lemmas.Option.{slice_get_read, slice_get_within}
 use Rattle.squawk_kinds.specs.TokenSets.{has}
 use Rattle.squawk_kinds.specs.declared.token_set.TokenSet.{TokenSet}
-use Rattle.rule_tables.specs.Bounds.{is_wanted}
 use Rattle.rule_tables.specs.Looks.{AreGroups, ShareWord}
 use Rattle.rule_tables.specs.Places.{SeesFrom}
 use Rattle.rule_tables.specs.Walks.{AreFirst, plan_of}
 use Rattle.rule_tables.specs.declared.place.Place.{Place}
-use Rattle.rule_tables.proofs.Deciding.{after_share, all_kinds, any_eats, group_share, in_shared, no_share, none_more}
+use Rattle.rule_tables.proofs.Deciding.{after_share, group_share, in_shared, no_share, none_more}
 use Rattle.rule_tables.proofs.Limited.{if_err_as, undecided_as}
 use Rattle.rule_tables.proofs.Longer.{extends_then}
 use Rattle.rule_tables.proofs.NoKinds.{token_in}
@@ -86,31 +85,29 @@ decide_group-then-requires-clause-token t c = token_in c.args.group c.in-Some.ki
 
 pub decide_group-returns-clause-err : goal.decide_group-returns-clause-err
 decide_group-returns-clause-err t c =
-    let first : AreFirst (plan_of c.args.fork.now.map.now) all_kinds (λ word. SeesFrom (plan_of c.args.fork.now.map.now) c.args.mine.now (c.in-Some.kind ∷ word)) c.deref-2.result.now =
-    subst (λ (xs : List Place). AreFirst (plan_of c.args.fork.now.map.now) all_kinds (λ word. SeesFrom (plan_of c.args.fork.now.map.now) c.args.mine.now (c.in-Some.kind ∷ word)) xs) (sym c.deref-2.ensures.value) c.in_ok-mine.ensures.ok in
-    let second : AreFirst (plan_of c.args.fork.now.map.now) c.of-own.result (λ word. SeesFrom (plan_of c.args.fork.now.map.now) c.args.others.now (c.in-Some.kind ∷ word)) c.deref-3.result.now =
-    subst (λ (xs : List Place). AreFirst (plan_of c.args.fork.now.map.now) c.of-own.result (λ word. SeesFrom (plan_of c.args.fork.now.map.now) c.args.others.now (c.in-Some.kind ∷ word)) xs) (sym c.deref-3.ensures.value) c.in_ok-others.ensures.ok in
+    let first : AreFirst (plan_of c.args.fork.now.map.now) (λ word. SeesFrom (plan_of c.args.fork.now.map.now) c.args.mine.now (c.in-Some.kind ∷ word)) c.deref.result.now =
+    subst (λ (xs : List Place). AreFirst (plan_of c.args.fork.now.map.now) (λ word. SeesFrom (plan_of c.args.fork.now.map.now) c.args.mine.now (c.in-Some.kind ∷ word)) xs) (sym c.deref.ensures.value) c.in_ok-mine.ensures.ok in
+    let second : AreFirst (plan_of c.args.fork.now.map.now) (λ word. SeesFrom (plan_of c.args.fork.now.map.now) c.args.others.now (c.in-Some.kind ∷ word)) c.deref-2.result.now =
+    subst (λ (xs : List Place). AreFirst (plan_of c.args.fork.now.map.now) (λ word. SeesFrom (plan_of c.args.fork.now.map.now) c.args.others.now (c.in-Some.kind ∷ word)) xs) (sym c.deref-2.ensures.value) c.in_ok-others.ensures.ok in
     if_err_as _ _ c.decide_after.result
     (λ e. undecided_as _ _ c.args.fork.now.part e
     (λ kinds told. (
       told.0,
-      told_before (plan_of c.args.fork.now.map.now) c.args.mine.now c.args.others.now c.in-Some.kind c.deref-2.result.now c.deref-3.result.now first second c.args.trail.now c.then.result
+      told_before (plan_of c.args.fork.now.map.now) c.args.mine.now c.args.others.now c.in-Some.kind c.deref.result.now c.deref-2.result.now first second c.args.trail.now c.then.result
           c.requires.depth c.args.trail.now.four c.then.ensures.depth c.then.ensures.kinds kinds told.1,
     )))
     c.decide_after.ensures.err
 
 pub decide_group-returns-clause-ok : goal.decide_group-returns-clause-ok
 decide_group-returns-clause-ok t c =
-    let first : AreFirst (plan_of c.args.fork.now.map.now) all_kinds (λ word. SeesFrom (plan_of c.args.fork.now.map.now) c.args.mine.now (c.in-Some.kind ∷ word)) c.deref-2.result.now =
-    subst (λ (xs : List Place). AreFirst (plan_of c.args.fork.now.map.now) all_kinds (λ word. SeesFrom (plan_of c.args.fork.now.map.now) c.args.mine.now (c.in-Some.kind ∷ word)) xs) (sym c.deref-2.ensures.value) c.in_ok-mine.ensures.ok in
-    let second : AreFirst (plan_of c.args.fork.now.map.now) c.of-own.result (λ word. SeesFrom (plan_of c.args.fork.now.map.now) c.args.others.now (c.in-Some.kind ∷ word)) c.deref-3.result.now =
-    subst (λ (xs : List Place). AreFirst (plan_of c.args.fork.now.map.now) c.of-own.result (λ word. SeesFrom (plan_of c.args.fork.now.map.now) c.args.others.now (c.in-Some.kind ∷ word)) xs) (sym c.deref-3.ensures.value) c.in_ok-others.ensures.ok in
-    let own : (k : ℕ) → is_wanted c.of-own.result k ≡ any_eats (plan_of c.args.fork.now.map.now) c.deref-2.result.now k =
-    subst (λ (xs : List Place). (k : ℕ) → is_wanted c.of-own.result k ≡ any_eats (plan_of c.args.fork.now.map.now) xs k) (c.deref.ensures.value ∙ sym c.deref-2.ensures.value) (λ k. c.of-own.ensures k ∙ c.kinds_at.ensures k) in
+    let first : AreFirst (plan_of c.args.fork.now.map.now) (λ word. SeesFrom (plan_of c.args.fork.now.map.now) c.args.mine.now (c.in-Some.kind ∷ word)) c.deref.result.now =
+    subst (λ (xs : List Place). AreFirst (plan_of c.args.fork.now.map.now) (λ word. SeesFrom (plan_of c.args.fork.now.map.now) c.args.mine.now (c.in-Some.kind ∷ word)) xs) (sym c.deref.ensures.value) c.in_ok-mine.ensures.ok in
+    let second : AreFirst (plan_of c.args.fork.now.map.now) (λ word. SeesFrom (plan_of c.args.fork.now.map.now) c.args.others.now (c.in-Some.kind ∷ word)) c.deref-2.result.now =
+    subst (λ (xs : List Place). AreFirst (plan_of c.args.fork.now.map.now) (λ word. SeesFrom (plan_of c.args.fork.now.map.now) c.args.others.now (c.in-Some.kind ∷ word)) xs) (sym c.deref-2.ensures.value) c.in_ok-others.ensures.ok in
     on_ok_as c.decide_after.result
     (λ none settled share.
     none settled
-    (subst (λ (n : ℕ). ShareWord (plan_of c.args.fork.now.map.now) n c.deref-2.result.now c.deref-3.result.now) (let e : 3 - c.args.trail.now.depth ≡ 4 - c.then.result.depth = omega (arith, c.then.ensures.depth) in e)
-    (after_share (plan_of c.args.fork.now.map.now) c.args.mine.now c.args.others.now c.requires.mine c.requires.others c.args.group c.in-Some.kind c.in-Some.ensures.some c.deref-2.result.now c.deref-3.result.now (λ k. refl) own first second
+    (subst (λ (n : ℕ). ShareWord (plan_of c.args.fork.now.map.now) n c.deref.result.now c.deref-2.result.now) (let e : 3 - c.args.trail.now.depth ≡ 4 - c.then.result.depth = omega (arith, c.then.ensures.depth) in e)
+    (after_share (plan_of c.args.fork.now.map.now) c.args.mine.now c.args.others.now c.requires.mine c.requires.others c.args.group c.in-Some.kind c.in-Some.ensures.some c.deref.result.now c.deref-2.result.now first second
     (3 - c.args.trail.now.depth) (omega (arith, c.requires.depth)) c.requires.alike_mine c.requires.alike_others share)))
     c.decide_after.ensures.ok

@@ -1,5 +1,4 @@
-use Rattle.rule_tables.specs.Bounds.{slots}
-use Rattle.rule_tables.specs.Walks.{plan_of}
+use Rattle.rule_tables.specs.Walks.{plan_of, slots}
 use Rattle.std.proofs.Common.{◌≡◌, length, arith, refl}
 use Rattle.rule_tables.proofs.Marks.{begun}
 use Rattle.rule_tables.proofs.walk.Walk.begin.Goals as goal

@@ -17,5 +17,5 @@ returns-clause-ok c =
     let all : c.loop-place.place-index ≡ length c.args.places.now = omega (arith, c.loop-place-test.false, c.loop-place.auto.place-index-end) in
     if_ok
     (λ found first.
-    first_over (plan_of c.args.map.now) c.args.wanted.now c.args.places.now c.args.kind c.loop-place.self found.items c.requires (subst (λ (n : ℕ). HasReached (plan_of c.args.map.now) c.loop-place.self (IsOver (plan_of c.args.map.now) c.args.places.now c.args.kind n)) all c.loop-place.invariant) first)
+    first_over (plan_of c.args.map.now) c.args.places.now c.args.kind c.loop-place.self found.items c.requires (subst (λ (n : ℕ). HasReached (plan_of c.args.map.now) c.loop-place.self (IsOver (plan_of c.args.map.now) c.args.places.now c.args.kind n)) all c.loop-place.invariant) first)
     c.finish.result c.finish.ensures.ok

@@ -1,6 +1,6 @@
 use Rattle.std.proofs.Common.{◌≡◌, ◌<◌, ◌∙◌, ℕ, List, get_or, set, length, arith, ap, refl, sym}
 use Rattle.std.proofs.lemmas.Option.{get_or_from_slice_get, slice_get_read}
-use Rattle.rule_tables.specs.Bounds.{slot}
+use Rattle.rule_tables.specs.Walks.{slot}
 use Rattle.rule_tables.proofs.Marks.{goes_new, goes_old}
 use Rattle.rule_tables.proofs.walk.Walk.push.Goals as goal
 use Rattle.rule_tables.proofs.walk.Walk.push.Goals.{else-slot-len-via-then-slot-len+else-index-self, else-slot-len-via-else-slot-len}

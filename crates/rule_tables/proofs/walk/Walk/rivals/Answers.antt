@@ -13,7 +13,7 @@ returns-in_ok-lead_from-in-Some-clause-ok c =
     let within : c.in-Some.outer < c.args.row = (last-some _ c.args.row c.in-Some.outer (sym inside)).0 in
     if_ok
     (λ places first.
-    first_by (plan_of c.args.map.now) c.args.wanted.now c.lead_from.new.self _ _ places.items
+    first_by (plan_of c.args.map.now) c.lead_from.new.self _ _ places.items
     (reached_then (plan_of c.args.map.now) _ _ (λ q. ⊥) (IsLedFrom c.args.map.now.rows.now c.args.way c.in-Some.outer (c.args.row + 1)) c.in_ok-begin.ensures.ok c.in_ok-lead_from-in-Some.ensures) first
     (λ p word such sees. elim such [
       | inl none ↦ absurd none
@@ -38,7 +38,7 @@ pub returns-in-None-clause-ok : goal.returns-in-None-clause-ok
 returns-in-None-clause-ok c =
     if_ok
     (λ places first.
-    first_by (plan_of c.args.map.now) c.args.wanted.now c.begin.new.self _ _ places.items c.in_ok-begin.ensures.ok first
+    first_by (plan_of c.args.map.now) c.begin.new.self _ _ places.items c.in_ok-begin.ensures.ok first
     (λ p word none sees. absurd none)
     (λ kind word rival. let none : Some rival.outer ≡ None = sym rival.inside ∙ sym (c.in-None.ensures c.requires) in absurd cc))
     c.finish-in-None.result c.finish-in-None.ensures.ok
