@@ -18,7 +18,7 @@ use crate::walk::Walk;
 use squawk_kinds::TokenSet;
 use std::alloc::Global;
 
-/// Any kind, in a look.
+/// Any kinds, after the last set of a look.
 pub(crate) const ANY: u16 = u16::MAX;
 
 /// A look: the sets that the tokens are in, or [`ANY`], and the number of the look that is tried next, or 0.

@@ -81,8 +81,8 @@ fn numbers_of(
     Ok([part, end, number, begins, follows, later, look, message])
 }
 
-/// The number 0 of a row: 256 more if the rule may end after it, 512 more if it is an arm with a look or guard, and 1024 more
-/// if it is a node and the last part in it names its kind.
+/// The number 0 of a row: 256 more if the rule may end after it, 512 more if it is an arm with a guard or look, and
+/// 1024 more if it is a node and the last part in it names its kind.
 fn flagged(part: u16, ends: bool, has_guard: bool, is_named: bool) -> u16
     requires { part < 22 }
     ensures { result % 256 ≡ part }
