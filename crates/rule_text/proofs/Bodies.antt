@@ -13,7 +13,7 @@ use Rattle.rule_text.specs.Reading.{Bumps, Decides, IsMissed, Operates, Reads, W
 use Rattle.rule_text.specs.Rules.{Body as bodies, MoreOperators, Operator, first_level, floor_of, is_level, next_level}
 use Rattle.rule_text.specs.Rules.MoreOperators.{no_operator, operator}
 use Rattle.rule_text.specs.Rules.Operator.{prefix, tail}
-use Rattle.rule_text.specs.Written.{IsAfterBars, Written as forms, bar, sort_at}
+use Rattle.rule_text.specs.Written.{IsAfterBars, Written as forms, bar, begins_guard, sort_at}
 use Rattle.rule_text.specs.Written.Form.{alternative, arm, arms, items}
 use Rattle.rule_text.proofs.Leaves.{sort_back, still_after_bars, told_back}
 use Rattle.rule_text.proofs.Decisions.{Leads, Splits, Stop, behind, decides_as, leads_more, miss_first, written_in}
@@ -71,7 +71,7 @@ pub miss_body_arms : {ws : List Word} {i j : ℕ} {ps : List Part} (ordered : Bo
 miss_body_arms {ws} {i} {j} ordered v e m = record { no = no }
   where
     no : (k : ℕ) (rs : List Part) → bodies ws i k rs → ⊥
-    no k rs (bodies.only_one w n l) = unlike ws (bar ordered) (same w v) (n ordered) e
+    no k rs (bodies.only_one g w n l) = unlike ws (bar ordered) (same w v) (n ordered) e
     no k rs (bodies.one_of {j = p} {qs = qs} {ordered = o} (forms.one w) f x l) =
         let y = subst (λ (b : Bool). forms ws 0 (arms true b) p k qs) (one_bar ws o ordered (same w v) f e) x in
         m.no k qs (subst (λ (n : ℕ). forms ws 0 (arms true ordered) n k qs) (same w v) y)
@@ -84,7 +84,7 @@ pub miss_body_levels : {ws : List Word} {i j k : ℕ} {ps qs : List Part} → fo
 miss_body_levels {ws} {i} {j} {k} {ps} {qs} v rest e m = record { no = no }
   where
     no : (l : ℕ) (rs : List Part) → bodies ws i l rs → ⊥
-    no l rs (bodies.only_one w n f) = no_operators n f (subst (λ (n : ℕ). forms ws 0 (arms true false) n k qs) (same v w) rest) e
+    no l rs (bodies.only_one g w n f) = no_operators n f (subst (λ (n : ℕ). forms ws 0 (arms true false) n k qs) (same v w) rest) e
     no l rs (bodies.one_of {ordered = o} (forms.one w) f x g) =
         no_choice o f x g (subst (λ (n : ℕ). forms ws 0 (arms true false) n k qs) (same v w) rest) e
     no l rs (bodies.operators {k = p} {qs = os} {rs = ts} (forms.one w) x f y) =
@@ -102,15 +102,26 @@ miss_body_ordered {ws} {i} {j} {k} {ps} {qs} {ordered} is v at_bar arms_of g = r
     rest = subst (λ (o : Bool). forms ws 0 (arms true o) j k qs) is arms_of
 
     no : (l : ℕ) (rs : List Part) → bodies ws i l rs → ⊥
-    no l rs (bodies.only_one w n f) = unlike ws sorts.Slash (same w v) (n true) e
+    no l rs (bodies.only_one g w n f) = unlike ws sorts.Slash (same w v) (n true) e
     no l rs (bodies.one_of {j = p} {qs = os} {ordered = o} (forms.one w) f x h) =
         let y = subst (λ (b : Bool). forms ws 0 (arms true b) p l os) (one_bar ws o true (same w v) f e) x in
         differ (λ n. is_level (sort_at ws n)) (same rest (subst (λ (n : ℕ). forms ws 0 (arms true true) n l os) (same w v) y)) g h
     no l rs (bodies.operators {k = n} {qs = os} (forms.one w) x f y) = no_slash e (subst (λ (m : ℕ). forms ws 0 (arms true false) m n os) (same w v) x) f
 
-pub only_one_read : {a b : Reader} → Reads (written_as (alternative true) 0) a b → IsAfterBars b.words.now b.at → is_level (sort_at b.words.now b.at) ≡ false
-    → Reads bodies a b
-only_one_read {b = b} r bars ends = reads_as r (λ ps v. bodies.only_one v (still_after_bars b.at r.words bars) (told_back is_level b.at r.words ends))
+-- a guard or look in front of the only alternative
+pub miss_body_sole : {ws : List Word} {i j : ℕ} {ps : List Part} → begins_guard (sort_at ws i) ≡ true → forms ws 0 (alternative true) i j ps
+    → IsAfterBars ws j → is_level (sort_at ws j) ≡ false → IsMissed bodies ws i
+miss_body_sole {ws} {i} {j} begins v bars ends = record { no = no }
+  where
+    no : (k : ℕ) (rs : List Part) → bodies ws i k rs → ⊥
+    no k rs (bodies.only_one g w n f) = cc
+    no k rs (bodies.one_of {ordered = o} (forms.one w) f x l) = unlike ws (bar o) (same v w) (bars o) f
+    no k rs (bodies.operators {k = l} {qs = qs} (forms.one w) x f y) =
+        no_operators bars ends (subst (λ (n : ℕ). forms ws 0 (arms true false) n l qs) (same w v) x) f
+
+pub only_one_read : {a b : Reader} → begins_guard (sort_at a.words.now a.at) ≡ false → Reads (written_as (alternative true) 0) a b → IsAfterBars b.words.now b.at
+    → is_level (sort_at b.words.now b.at) ≡ false → Reads bodies a b
+only_one_read {b = b} g r bars ends = reads_as r (λ ps v. bodies.only_one g v (still_after_bars b.at r.words bars) (told_back is_level b.at r.words ends))
 
 -- the arms after the first one, as they stand in all the words
 pub rest_read : {a b c d : Reader} {start : ℕ} {part : Part} {ordered : Bool} → Reads (written_as (alternative true) 0) a b → Wraps start part b c

@@ -11,7 +11,7 @@ use Rattle.rule_text.specs.declared.word.Sort.{Sort}
 use Rattle.rule_text.specs.declared.word.Sort.TheVariants as sorts
 use Rattle.rule_text.specs.Reading.{Bumps, Decides, Gives, IsMissed, One, Reads, Takes, Wraps, behind_one, of_word, only, written_as}
 use Rattle.rule_text.specs.Reading.One.{one as one_word}
-use Rattle.rule_text.specs.Written.{Arrow, Form, Greedy, Guarding, Separated, Written, as_node, bar, begins_item, is_sign, names_kind, sign_part, sort_at}
+use Rattle.rule_text.specs.Written.{Arrow, Form, Greedy, Guarding, IsAfterBars, Separated, Written, as_node, bar, begins_guard, begins_item, is_sign, names_kind, sign_part, sort_at}
 use Rattle.rule_text.specs.Written.Form.{alternative, alternatives, arm, arms, atom, item, items, sequence}
 use Rattle.rule_text.specs.Written.{Written as forms}
 use Rattle.rule_text.proofs.Decisions.Then.{both}
@@ -200,12 +200,21 @@ pub arms_lead : {a b c d : Reader} {floor : ℕ} {of_rule ordered : Bool}
     → Reads (written_as (arm of_rule) floor) c d → Leads (written_as (arms of_rule ordered) floor) (written_as (arms of_rule ordered) floor) a d
 arms_lead p there bumps r = leads_more p (behind bumps r) (λ k ps qs u v. forms.next there u v) (arms_split there) (λ j k ps qs v w. same v w)
 
+-- a guard or look in front of the only alternative
+pub miss_sole_arm : {ws : List Word} {floor i j : ℕ} {ps : List Part} → begins_guard (sort_at ws i) ≡ true → Written ws floor (alternative false) i j ps
+    → IsAfterBars ws j → IsMissed (written_as alternatives floor) ws i
+miss_sole_arm {ws} {floor} {i} {j} begins v bars = record { no = no }
+  where
+    no : (k : ℕ) (rs : List Part) → Written ws floor alternatives i k rs → ⊥
+    no k rs (forms.alone g w f) = cc
+    no k rs (forms.choice {ordered = o} (forms.one w) f x) = absurd (unlike ws (bar o) (same v w) (bars o) f)
+
 pub miss_arms : {ws : List Word} {floor i j : ℕ} {ps : List Part} (ordered : Bool) → Written ws floor (alternative false) i j ps → sort_at ws j ≡ bar ordered
     → IsMissed (written_as (arms false ordered) floor) ws j → IsMissed (written_as alternatives floor) ws i
 miss_arms {ws} {floor} {i} {j} ordered v e m = record { no = no }
   where
     no : (k : ℕ) (rs : List Part) → Written ws floor alternatives i k rs → ⊥
-    no k rs (forms.alone w f) = absurd (unlike ws (bar ordered) (same w v) (f ordered) e)
+    no k rs (forms.alone g w f) = absurd (unlike ws (bar ordered) (same w v) (f ordered) e)
     no k rs (forms.choice {j = l} {qs = qs} {ordered = o} (forms.one w) f x) =
         let is = one_bar ws o ordered (same w v) f e in
         m.no k qs (subst (λ (b : Bool). Written ws floor (arms false b) j k qs) is (subst (λ (n : ℕ). Written ws floor (arms false o) n k qs) (same w v) x))

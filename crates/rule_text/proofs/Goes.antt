@@ -76,7 +76,7 @@ goes (forms.guarded g v) = let h = guarding_goes g in let k = goes v in omega (a
 goes (forms.one v) = goes v
 goes (forms.last n) = omega arith
 goes (forms.next e v w) = let h = goes v in let k = goes w in omega (arith, h, k)
-goes (forms.alone v n) = goes v
+goes (forms.alone g v n) = goes v
 goes (forms.choice v e w) = let h = goes v in let k = goes w in omega (arith, h, k)
 
 -- what is left of the words
@@ -97,7 +97,7 @@ operators_go (no_operator e) = omega arith
 operators_go (operator e v w) = let h = operator_goes v in let k = operators_go w in omega (arith, h, k)
 
 body_goes : {ws : List Word} {i j : ℕ} {ps : List Part} → bodies ws i j ps → i ≤ j
-body_goes (bodies.only_one v n l) = goes v
+body_goes (bodies.only_one g v n l) = goes v
 body_goes (bodies.one_of v e w l) = let h = goes v in let k = goes w in omega (arith, h, k)
 body_goes (bodies.operators v w e x) = let h = goes v in let k = goes w in let l = operators_go x in omega (arith, h, k, l)
 

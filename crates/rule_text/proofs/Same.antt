@@ -123,9 +123,9 @@ same (last n) (next e v w) = absurd (n e)
 same (next e v w) (last n) = absurd (n e)
 same {ws} {floor} {form = form} (next e v w) (next {k = k} {qs = qs} f x y) =
     same w (subst (λ (n : ℕ). Written ws floor form n k qs) (sym (same v x)) y)
-same (alone v e) (alone w f) = same v w
-same {ws} (alone v e) (choice {ordered = o} (one w) f x) = absurd (unlike ws (bar o) (same v w) (e o) f)
-same {ws} (choice {ordered = o} (one v) f x) (alone w e) = absurd (unlike ws (bar o) (sym (same v w)) (e o) f)
+same (alone g v e) (alone h w f) = same v w
+same {ws} (alone g v e) (choice {ordered = o} (one w) f x) = absurd (unlike ws (bar o) (same v w) (e o) f)
+same {ws} (choice {ordered = o} (one v) f x) (alone g w e) = absurd (unlike ws (bar o) (sym (same v w)) (e o) f)
 same {ws} {floor} (choice {j = j} {ordered = a} v e w) (choice {k = k} {qs = qs} {ordered = b} x f y) =
     let is = one_bar ws a b (same v x) e f in
     same w (subst (λ (o : Bool). Written ws floor (arms false o) j k qs) (sym is)

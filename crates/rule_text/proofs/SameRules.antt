@@ -69,12 +69,12 @@ no_choice {ws} false e v f w g = differ (λ n. is_level (sort_at ws n)) (sym (sa
 no_choice true e v f w g = no_slash e w g
 
 pub same_body : {ws : List Word} {i j k : ℕ} {ps qs : List Part} → Body ws i j ps → Body ws i k qs → j ≡ k
-same_body (only_one v b l) (only_one w c m) = same v w
-same_body {ws} (only_one v b l) (one_of {ordered = o} (one w) e x f) = absurd (unlike ws (bar o) (same v w) (b o) e)
-same_body {ws} (one_of {ordered = o} (one v) e x f) (only_one w b l) = absurd (unlike ws (bar o) (sym (same v w)) (b o) e)
-same_body {ws} (only_one v b l) (operators {k = k} {qs = qs} (one w) x e y) =
+same_body (only_one g v b l) (only_one h w c m) = same v w
+same_body {ws} (only_one g v b l) (one_of {ordered = o} (one w) e x f) = absurd (unlike ws (bar o) (same v w) (b o) e)
+same_body {ws} (one_of {ordered = o} (one v) e x f) (only_one g w b l) = absurd (unlike ws (bar o) (sym (same v w)) (b o) e)
+same_body {ws} (only_one g v b l) (operators {k = k} {qs = qs} (one w) x e y) =
     absurd (no_operators b l (subst (λ (n : ℕ). Written ws 0 (arms true false) n k qs) (sym (same v w)) x) e)
-same_body {ws} (operators {k = k} {qs = qs} (one v) x e y) (only_one w b l) =
+same_body {ws} (operators {k = k} {qs = qs} (one v) x e y) (only_one g w b l) =
     absurd (no_operators b l (subst (λ (n : ℕ). Written ws 0 (arms true false) n k qs) (same v w) x) e)
 same_body {ws} (one_of {j = j} {ordered = a} v e w f) (one_of {k = k} {qs = qs} {ordered = b} x g y h) =
     let is = one_bar ws a b (same v x) e g in

@@ -9,7 +9,7 @@ use Rattle.rule_text.specs.declared.body.Level.{Level}
 use Rattle.rule_text.specs.declared.word.Word.{Word}
 use Rattle.rule_text.specs.declared.word.Sort.{Sort}
 use Rattle.rule_text.specs.declared.word.Sort.TheVariants as sorts
-use Rattle.rule_text.specs.Written.{Arrow, IsWord, IsAfterBars, Written, bar, sort_at}
+use Rattle.rule_text.specs.Written.{Arrow, IsWord, IsAfterBars, Written, bar, begins_guard, sort_at}
 use Rattle.rule_text.specs.Written.Form.{alternative, arm, arms, items}
 
 -- whether a word begins a level of operators
@@ -51,10 +51,11 @@ pub data MoreOperators : Level → List Word → ℕ → ℕ → List Part → T
   operator : {ws : List Word} {i j k : ℕ} {ps qs : List Part} {level next : Level} → next_level (sort_at ws i) level ≡ Some next → Operator next ws (i + 1) j ps
       → MoreOperators next ws j k qs → MoreOperators level ws i k (ps ++ qs)
 
--- what stands on the right of =: an alternative, some, or operands and operators from the first level on
+-- what stands on the right of =: an alternative without a guard or look, some, or operands and operators from the first
+-- level on
 pub data Body (ws : List Word) (i : ℕ) : ℕ → List Part → Type 0 where
-  only_one : {j : ℕ} {ps : List Part} → Written ws 0 (alternative true) i j ps → IsAfterBars ws j → is_level (sort_at ws j) ≡ false
-      → Body ws i j ps
+  only_one : {j : ℕ} {ps : List Part} → begins_guard (sort_at ws i) ≡ false → Written ws 0 (alternative true) i j ps → IsAfterBars ws j
+      → is_level (sort_at ws j) ≡ false → Body ws i j ps
   one_of : {j k : ℕ} {ps qs : List Part} {ordered : Bool} → Written ws 0 (arm true) i j ps → sort_at ws j ≡ bar ordered
       → Written ws 0 (arms true ordered) j k qs → is_level (sort_at ws k) ≡ false → Body ws i k (Choice (length (ps ++ qs)) ordered ∷ ps ++ qs)
   operators : {j k l : ℕ} {ps qs rs : List Part} → Written ws 0 (arm true) i j ps → Written ws 0 (arms true false) j k qs

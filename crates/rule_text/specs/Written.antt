@@ -135,6 +135,12 @@ pub data Guarding (ws : List Word) (i : ℕ) : ℕ → List Part → Type 0 wher
   guarded : {name : Name} → sort_at ws i ≡ sorts.At → IsWord ws (i + 1) sorts.Call name → Guarding ws i (i + 2) (Guarded name ∷ [])
   looks : {j : ℕ} {ps : List Part} → sort_at ws i ≡ sorts.And → Tokens ws (i + 1) j ps → Guarding ws i j (Look (length ps) ∷ ps)
 
+-- whether a word begins a guard or a look
+abbrev pub begins_guard : Sort → Bool
+begins_guard sorts.At = true
+begins_guard sorts.And = true
+begins_guard sort = false
+
 -- a kind of node; further ones, each after |
 pub data OneKind (ws : List Word) (i : ℕ) : ℕ → List Part → Type 0 where
   kind : {name : Name} → IsWord ws i sorts.Kind name → OneKind ws i (i + 1) (Kind name ∷ [])
@@ -178,6 +184,8 @@ pub data Written (ws : List Word) (floor : ℕ) : Form → ℕ → ℕ → List 
   last : {i : ℕ} {of_rule ordered : Bool} → sort_at ws i ≢ bar ordered → Written ws floor (arms of_rule ordered) i i []
   next : {i j k : ℕ} {ps qs : List Part} {of_rule ordered : Bool} → sort_at ws i ≡ bar ordered → Written ws floor (arm of_rule) (i + 1) j ps
       → Written ws floor (arms of_rule ordered) j k qs → Written ws floor (arms of_rule ordered) i k (ps ++ qs)
-  alone : {i j : ℕ} {ps : List Part} → Written ws floor (alternative false) i j ps → IsAfterBars ws j → Written ws floor alternatives i j ps
+  -- one without a guard or look
+  alone : {i j : ℕ} {ps : List Part} → begins_guard (sort_at ws i) ≡ false → Written ws floor (alternative false) i j ps → IsAfterBars ws j
+      → Written ws floor alternatives i j ps
   choice : {i j k : ℕ} {ps qs : List Part} {ordered : Bool} → Written ws floor (arm false) i j ps → sort_at ws j ≡ bar ordered
       → Written ws floor (arms false ordered) j k qs → Written ws floor alternatives i k (Choice (length (ps ++ qs)) ordered ∷ ps ++ qs)

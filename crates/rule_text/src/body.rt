@@ -5,7 +5,7 @@ ghost use Rattle.rule_text.specs.Rules.{Body, MoreOperators, Operator, first_lev
 ghost use Rattle.rule_text.specs.Written.{is_end};
 
 use crate::error::WordError;
-use crate::expression::{alternative, arm, arms, items, ordered_by};
+use crate::expression::{alternative, arm, arms, begins_guard, items, ordered_by};
 use crate::reader::Reader;
 use crate::word::Sort;
 use rule_parts::{Association, Part};
@@ -26,9 +26,13 @@ pub(crate) fn body(reader: &mut Reader<'_, '_>) -> Result<(), WordError>
     ensures { Decides Body reader.old reader.new result }
 {
     let start = reader.len();
+    let guarded = begins_guard(reader.sort());
     alternative(reader, 0, NESTED, true)?;
     let Some(ordered) = ordered_by(reader) else {
         if !is_level(reader.sort()) {
+            if guarded {
+                return Err(reader.expected("| or /"));
+            }
             return Ok(());
         }
         let size = reader.size_from(start);

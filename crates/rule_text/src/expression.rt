@@ -1,7 +1,7 @@
 //! What stands on the right of `=`.
 ghost use Rattle.std.specs.Prelude.{◌≡◌, ℕ, false, IfNone, IfOk, IfSome, OnErr};
 ghost use Rattle.rule_text.specs.Reading.{Decides, Gives, IsMissed, behind_one, of_word, only, written_as};
-ghost use Rattle.rule_text.specs.Written.{Arrow, Greedy, Guarding, IsAfterBars, Kinds, MoreKinds, OneKind, Separated, bar, begins_item, is_end, is_sign, sign_part, sort_at};
+ghost use Rattle.rule_text.specs.Written.{Arrow, Greedy, Guarding, IsAfterBars, Kinds, MoreKinds, OneKind, Separated, bar, begins_guard, begins_item, is_end, is_sign, sign_part, sort_at};
 ghost use Rattle.rule_text.specs.Written.Form.{alternative, alternatives, arm, arms, atom, item, items, sequence};
 
 use crate::error::WordError;
@@ -16,8 +16,12 @@ fn alternatives(reader: &mut Reader<'_, '_>, floor: usize, depth: u32) -> Result
     ensures { Decides (written_as alternatives floor) reader.old reader.new result }
 {
     let start = reader.len();
+    let guarded = begins_guard(reader.sort());
     alternative(reader, floor, depth, false)?;
     let Some(ordered) = ordered_by(reader) else {
+        if guarded {
+            return Err(reader.expected("| or /"));
+        }
         return Ok(());
     };
     let size = reader.size_from(start);
@@ -25,6 +29,13 @@ fn alternatives(reader: &mut Reader<'_, '_>, floor: usize, depth: u32) -> Result
     arms(reader, floor, depth, false, ordered)?;
     let size = reader.size_from(start);
     reader.wrap(start, Part::Choice { size, ordered })
+}
+
+/// Whether a word begins a guard or a look: one of several alternatives begins so.
+pub(crate) fn begins_guard(sort: Sort) -> bool
+    ensures { result ≡ begins_guard sort }
+{
+    matches!(sort, Sort::At | Sort::And)
 }
 
 /// Whether alternatives are ordered that the next word separates.

@@ -99,13 +99,13 @@ static RULES: [(&str, &str); 29] = [
     ),
     // Guards of alternatives, and kinds of the node before.
     (
-        "a = @query B | (@query c)\n",
-        "Rule a (a) 7; Choice { size: 6, ordered: false }; Arm { size: 2 }; Guarded query; Token B; \
-         Arm { size: 2 }; Guarded query; Call c; ",
+        "a = @query B | (@query c | D)\n",
+        "Rule a (a) 11; Choice { size: 10, ordered: false }; Arm { size: 2 }; Guarded query; Token B; Arm { size: 6 }; \
+         Choice { size: 5, ordered: false }; Arm { size: 2 }; Guarded query; Call c; Arm { size: 1 }; Token D; ",
     ),
     // The node of an alternative stands after its guard or look.
     (
-        "a = @query B => C | &(D Ab '<=') e => F | (&(G) h)\n",
+        "a = @query B => C | &(D Ab '<=') e => F | &(G) h\n",
         "Rule a (a) 18; Choice { size: 17, ordered: false }; Arm { size: 4 }; Guarded query; Node { size: 2 }; Token B; Becomes C; \
          Arm { size: 7 }; Look { size: 3 }; Token D; Class Ab; Token <=; Node { size: 2 }; Call e; Becomes F; \
          Arm { size: 3 }; Look { size: 1 }; Token G; Call h; ",
@@ -165,7 +165,7 @@ fn reads_rules(rt: HostRuntime) -> Result<(), Fail> {
 
 /// Texts that are no rules, and where the first word stands that is none of those that may.
 #[rattlefmt::skip]
-static ERRORS: [(&str, &str); 30] = [
+static ERRORS: [(&str, &str); 32] = [
     ("a = (B\n", "2:1: expected )"),
     ("a = {b\nc = D\n", "2:1: expected % or }"),
     ("a = {b % c}\n", "1:10: expected a separator"),
@@ -182,6 +182,9 @@ static ERRORS: [(&str, &str); 30] = [
     // A guard stands in front of an alternative.
     ("a = b @c\n", "1:7: expected a class or a rule, in front of a line"),
     ("a = @B\n", "1:6: expected the name of a guard"),
+    // Of several alternatives.
+    ("a = (@b C)\n", "1:10: expected | or /"),
+    ("a = &(B) C\nd = E\n", "2:1: expected | or /"),
     // A look has tokens. Operators have neither.
     ("a = &B c\n", "1:6: expected ("),
     ("a = &() c\n", "1:7: expected a token"),

@@ -1,9 +1,9 @@
 use Rattle.std.proofs.Common.{Bool, true, false, arith, ap, subst, sym, ◌∙◌}
 use Rattle.rule_text.specs.Rules.{is_level}
 use Rattle.rule_text.specs.Reading.{Reads, written_as}
-use Rattle.rule_text.specs.Written.{Written as forms}
+use Rattle.rule_text.specs.Written.{Written as forms, begins_guard}
 use Rattle.rule_text.specs.Written.Form.{arms}
-use Rattle.rule_text.proofs.Bodies.{miss_body_arms, miss_body_levels, miss_body_ordered, no_operand_more, one_of_read, only_one_read, operators_read, rest_read}
+use Rattle.rule_text.proofs.Bodies.{miss_body_arms, miss_body_levels, miss_body_ordered, miss_body_sole, no_operand_more, one_of_read, only_one_read, operators_read, rest_read}
 use Rattle.rule_text.proofs.Leaves.{after_bars_at, sort_back, still_after_bars, still_sort, told_at, told_back}
 use Rattle.rule_text.proofs.Expressions.{arm_read}
 use Rattle.rule_text.proofs.Goes.{goes}
@@ -12,8 +12,16 @@ use Rattle.rule_text.proofs.body.body.Goals as goal
 
 pub returns-then-not-is_level : goal.returns-then-not-is_level
 returns-then-not-is_level c =
-    let ends = ap is_level (sym c.sort.ensures) ∙ (sym c.is_level.ensures ∙ c.if-not-is_level.true) in
-    read (only_one_read c.in_ok-alternative.ensures.reads c.in_default.ensures.none ends)
+    let begins = ap begins_guard (sym c.sort.ensures) ∙ (sym c.begins_guard-guarded.ensures ∙ c.if-guarded.false) in
+    let ends = ap is_level (sym c.sort-in_default.ensures) ∙ (sym c.is_level.ensures ∙ c.if-not-is_level.true) in
+    read (only_one_read begins c.in_ok-alternative.ensures.reads c.in_default.ensures.none ends)
+
+pub returns-then-guarded : goal.returns-then-guarded
+returns-then-guarded c =
+    let r = c.in_ok-alternative.ensures.reads in
+    let begins = ap begins_guard (sym c.sort.ensures) ∙ (sym c.begins_guard-guarded.ensures ∙ c.if-guarded.true) in
+    let ends = ap is_level (sym c.sort-in_default.ensures) ∙ (sym c.is_level.ensures ∙ c.if-not-is_level.true) in
+    refused (miss_body_sole begins r.written (still_after_bars c.alternative.new.reader.at r.words c.in_default.ensures.none) (told_back is_level c.alternative.new.reader.at r.words ends))
 
 pub operators-requires-clause-later : goal.operators-requires-clause-later
 operators-requires-clause-later c =
@@ -25,7 +33,7 @@ returns-in_default c =
     let r = c.in_ok-alternative.ensures.reads in
     let wraps = c.in_ok-wrap.ensures.wraps in
     let first = arm_read r c.len-start.ensures c.size_from-size.ensures wraps in
-    let begins = ap is_level (sym c.sort.ensures) ∙ (sym c.is_level.ensures ∙ c.if-not-is_level.false) in
+    let begins = ap is_level (sym c.sort-in_default.ensures) ∙ (sym c.is_level.ensures ∙ c.if-not-is_level.false) in
     let bars = still_after_bars c.alternative.new.reader.at r.words c.in_default.ensures.none in
     let there = told_at is_level (sym wraps.words) wraps.at begins in
     decides_of c.operators.result c.operators.ensures.reads c.operators.ensures.refuses

@@ -1,8 +1,8 @@
 use Rattle.std.proofs.Common.{arith, refl, sym, ap, ◌≡◌, ◌∙◌}
 use Rattle.rule_text.specs.declared.word.Sort.TheVariants as sorts
-use Rattle.rule_text.specs.Written.{Written as forms, begins_item, is_end, is_sign, sort_at}
+use Rattle.rule_text.specs.Written.{Written as forms, begins_guard, begins_item, is_end, is_sign, sort_at}
 use Rattle.rule_text.proofs.Leaves.{told_back, item_is, sign_is, sort_back, sort_not_back, still_after_bars, still_sort}
-use Rattle.rule_text.proofs.Expressions.{arm_read, arms_lead, choice_read, group_read_as, node_read, plain_read, arrow_split, atom_decided, group_read, group_split, items_lead, list_read, list_split, miss_arms, miss_brace, miss_separator, no_atom, one_as, guard_split, signed_read}
+use Rattle.rule_text.proofs.Expressions.{arm_read, arms_lead, choice_read, group_read_as, node_read, plain_read, arrow_split, atom_decided, group_read, group_split, items_lead, list_read, list_split, miss_arms, miss_brace, miss_separator, miss_sole_arm, no_atom, one_as, guard_split, signed_read}
 use Rattle.rule_text.proofs.Goes.{goes, nearer}
 use Rattle.rule_text.proofs.Decisions.{behind, decides_as, decides_by, decides_then, exits, exits_as, leads_end, miss_first, miss_rest, miss_sole, missed_at, missed_from, read, refused}
 use Rattle.rule_text.proofs.Reading.{reads_as, reads_none}
@@ -167,10 +167,17 @@ alternatives-returns-in_err-arms t c =
     (λ m. miss_arms c.in-Some.ordered first.written (sort_back c.alternative.new.reader.at first.words c.in-Some.ensures.some)
     (missed_at (wraps.words ∙ first.words) wraps.at m))
 
+pub alternatives-returns-then-guarded : goal.alternatives-returns-then-guarded
+alternatives-returns-then-guarded t c =
+    let first = c.in_ok-alternative.ensures.reads in
+    let begins = ap begins_guard (sym c.sort.ensures) ∙ (sym c.begins_guard-guarded.ensures ∙ c.if-guarded.true) in
+    refused (miss_sole_arm begins first.written (still_after_bars c.alternative.new.reader.at first.words c.in_default.ensures.none))
+
 pub alternatives-returns-in_default : goal.alternatives-returns-in_default
 alternatives-returns-in_default t c =
     let first = c.in_ok-alternative.ensures.reads in
-    read (reads_as first (λ ps v. forms.alone v (still_after_bars c.alternative.new.reader.at first.words c.in_default.ensures.none)))
+    let begins = ap begins_guard (sym c.sort.ensures) ∙ (sym c.begins_guard-guarded.ensures ∙ c.if-guarded.false) in
+    read (reads_as first (λ ps v. forms.alone begins v (still_after_bars c.alternative.new.reader.at first.words c.in_default.ensures.none)))
 
 pub atom-returns-in_default : goal.atom-returns-in_default
 atom-returns-in_default t c =
