@@ -17,7 +17,6 @@
 
 mod named_kind;
 mod names;
-mod node_kinds;
 mod read;
 #[cfg(test)]
 mod tests;

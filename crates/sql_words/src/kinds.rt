@@ -4,8 +4,11 @@ mod a_to_c;
 mod d_to_i;
 mod j_to_q;
 mod nodes;
+mod object_nodes;
+mod query_nodes;
 mod r_to_s;
 mod t_to_z;
+mod table_nodes;
 
 /// The kinds of PostgreSQL's keywords, and of the nodes of a tree of SQL: constants under upstream's names.
 ///
