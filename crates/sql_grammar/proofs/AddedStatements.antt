@@ -1,7 +1,7 @@
 -- The nodes of a file's statements are added, one behind another.
-use Rattle.std.proofs.Common.{◌≡◌, ◌≢◌, ◌∙◌, ℕ, zero, suc, ◌+◌, ◌-◌, ◌<◌, ◌≤◌, Bool, true, false, Option, Some, None, List, [], ◌∷◌, ◌++◌, drop, take, length, if◌then◌else◌, arith, ap, sym, refl, subst, append_assoc, length-drop}
+use Rattle.std.proofs.Common.{Bor, ◌≡◌, ◌≢◌, ◌∙◌, ℕ, zero, suc, ◌+◌, ◌-◌, ◌<◌, ◌≤◌, Bool, true, false, Option, Some, None, List, [], ◌∷◌, ◌++◌, drop, take, length, if◌then◌else◌, arith, ap, sym, refl, subst, append_assoc, length-drop}
 use Rattle.std.proofs.lemmas.List.{append-nil, length-map, length-take}
-use Rattle.squawk_kinds.specs.Kinds.{EOF}
+use Rattle.squawk_kinds.specs.Kinds.{EOF, TOMBSTONE}
 use Rattle.sql_lexer.specs.Statements.{after, ends_with}
 use Rattle.sql_lexer.specs.declared.statements.Statement as begun
 use Rattle.sql_lexer.specs.declared.statements.Statement.TheVariants.{Start}
@@ -23,8 +23,11 @@ use Rattle.squawk_parser.proofs.RecordedItems.{plain-append}
 use Rattle.squawk_parser.proofs.RecordedSteps.{puts-none}
 use Rattle.squawk_parser.proofs.SeenSteps.{ahead-fresh}
 use Rattle.squawk_parser.proofs.SomeSteps.{adds_some, none_some, some_adds, whole_some}
-use Rattle.sql_grammar.specs.Files.{AddsRest, AddsStatement, AreNodesOf, IsFile}
-use Rattle.sql_grammar.specs.Kinds.{SOURCE_FILE}
+use Rattle.sql_grammar.specs.Files.{AddsRest, AddsStatement, AreNodesOf, IsFile, IsRuled, MayBe, Runs}
+use Rattle.sql_grammar.specs.declared.Detail.{Detail}
+use Rattle.sql_grammar.specs.declared.Detail.TheVariants.{Tokens, Nodes}
+use Rattle.rule_grammar.specs.declared.rules.RuleGrammar.{RuleGrammar}
+use Rattle.sql_grammar.specs.Kinds.{PSQL_COMMAND, SOURCE_FILE}
 use Rattle.sql_grammar.specs.Statements.{Statement, first_statement, kind_of, len_from, len_of, statements_behind, statements_of}
 use Rattle.sql_grammar.specs.Words.{word_of}
 
@@ -106,13 +109,72 @@ some_balanced {a} {b} sound p = cases b.first_reason refl
           balanced = IsBalanced-depth_after (Token 0 (b.position - a.position) ∷ []) refl;
         }
 
-pub rest_added : {a b : State} → IsSound a → AddsSome a b → kind_at b 0 ≡ EOF → Spends 6 0 a b → AddsRest a b
-rest_added {a} {b} sound some end spends =
+rest_added : {a b : State} {detail : Detail} {of kind : ℕ} → IsSound a → AddsSome a b → kind_at b 0 ≡ EOF → kind ≢ TOMBSTONE → MayBe detail of kind
+    → Runs detail 1 0 a b → AddsRest detail of kind a b
+rest_added {a} {b} sound some end is_node named runs =
     let added = some_balanced sound some in
-    record { steps = added.steps; adds = added.adds; balanced = added.balanced; end = at_limit b some.some.keeps.sound end; spends = spends }
+    record {
+      steps = added.steps;
+      adds = added.adds;
+      balanced = added.balanced;
+      end = at_limit b some.some.keeps.sound end;
+      is_node = is_node;
+      named = named;
+      runs = runs;
+    }
+
+-- what rules add is added
+pub ruled : {a b : State} {kind : ℕ} → IsSound a → AddsSome a b → kind ≢ TOMBSTONE → IsRuled kind a b
+ruled sound some is_node = let added = some_balanced sound some in record { steps = added.steps; adds = added.adds; balanced = added.balanced; is_node = is_node }
+
+pub ruled_some : {a b : State} {kind : ℕ} (n : ℕ) → Keeps a b → IsRuled kind (limited a n) (with_limit_of b (limited a n)) → AddsSome a b
+ruled_some {a} {b} n keeps rules =
+    let adds : Adds rules.steps a b = record { keeps = keeps; position = rules.adds.position; draft = rules.adds.draft } in
+    adds_some adds
+
+-- ---- how many events
+
+pub runs_as : (detail : Detail) (each more : ℕ) (a b : State) → (detail ≡ Tokens → Spends each more a b) → Runs detail each more a b
+runs_as Tokens each more a b f = f refl
+runs_as (Nodes rules) each more a b f = tt
+
+pub spends_of : {detail : Detail} (each more : ℕ) (a b : State) → detail ≡ Tokens → Runs detail each more a b → Spends each more a b
+spends_of each more a b is runs = subst (λ (d : Detail). Runs d each more a b) is runs
+
+-- ---- the tokens before the sign
+
+-- they are added, and the node may have this kind
+pub record Opened (detail : Detail) (of kind : ℕ) (a b : State) : Type 0 where
+  pub adds : AddsSome a b
+  pub is_node : kind ≢ TOMBSTONE
+  pub named : MayBe detail of kind
+  pub runs : Runs detail 1 0 a b
+
+may_be_its : (detail : Detail) (of : ℕ) → MayBe detail of of
+may_be_its Tokens of = refl
+may_be_its (Nodes rules) of = λ psql. refl
+
+pub opened_none : (detail : Detail) {of : ℕ} (a : State) → IsSound a → of ≢ TOMBSTONE → Opened detail of of a a
+opened_none detail {of} a sound is_node = record {
+  adds = none_some a sound;
+  is_node = is_node;
+  named = may_be_its detail of;
+  runs = runs_as detail 1 0 a a (λ alone. omega arith);
+}
+
+pub opened_ruled : (detail : Detail) {rules : Bor RuleGrammar} {of kind : ℕ} {a b : State} (n : ℕ) → detail ≡ Nodes rules → of ≢ PSQL_COMMAND → Keeps a b
+    → IsRuled kind (limited a n) (with_limit_of b (limited a n)) → Opened detail of kind a b
+opened_ruled detail {rules} {of} {kind} {a} {b} n is other keeps by =
+    subst (λ (d : Detail). Opened d of kind a b) (sym is) (record { adds = ruled_some n keeps by; is_node = by.is_node; named = λ psql. absurd (other psql); runs = tt })
+
+pub opened_as : {detail : Detail} {of kind other : ℕ} {a b c : State} → c ≡ b → other ≡ kind → Opened detail of kind a b → Opened detail of other a c
+opened_as {detail} {of} {kind} {a = a} {c = c} at is o = subst (λ (k : ℕ). Opened detail of k a c) (sym is) (subst (λ (s : State). Opened detail of kind a s) (sym at) o)
+
+pub opened_rest : {a b : State} {detail : Detail} {of kind : ℕ} → IsSound a → kind_at b 0 ≡ EOF → Opened detail of kind a b → AddsRest detail of kind a b
+opened_rest sound end o = rest_added sound o.adds end o.is_node o.named o.runs
 
 -- what is added under a limit is added
-pub inner_added : {b c : State} (n : ℕ) → Keeps b c → (rest : AddsRest (limited b n) (with_limit_of c (limited b n))) → Adds rest.steps b c
+pub inner_added : {b c : State} {detail : Detail} {of kind : ℕ} (n : ℕ) → Keeps b c → (rest : AddsRest detail of kind (limited b n) (with_limit_of c (limited b n))) → Adds rest.steps b c
 inner_added n keeps rest = record { keeps = keeps; position = rest.adds.position; draft = rest.adds.draft }
 
 abbrev pub statement_with : ℕ → ℕ → Statement
@@ -126,16 +188,19 @@ first_within s some =
     subst (λ kinds. (first_statement kinds).len ≤ length kinds) (sym (kinds_some s some)) (len_from-within Start (kind ∷ kinds))
 
 -- Under a limit of its tokens all of them are added, in its node.
-pub first_added : {a b c d : State} {m : Mark} (statement : Statement) → statement ≡ first_statement (kinds_in (ahead a 0)) → kind_at a 0 ≢ EOF → Begins m a b → Keeps b c
-    → AddsRest (limited b statement.len) (with_limit_of c (limited b statement.len)) → Completes m.id statement.kind c d → AddsStatement (first_statement (kinds_in (ahead a 0))) a d
-first_added {a} {b} {c} {d} statement is some begins keeps rest completes =
+pub first_added : {a b c d : State} {m : Mark} {detail : Detail} {kind : ℕ} (statement : Statement) → statement ≡ first_statement (kinds_in (ahead a 0)) → kind_at a 0 ≢ EOF
+    → Begins m a b → Keeps b c → AddsRest detail statement.kind kind (limited b statement.len) (with_limit_of c (limited b statement.len)) → Completes m.id kind c d
+    → AddsStatement detail (first_statement (kinds_in (ahead a 0))) a d
+first_added {a} {b} {c} {d} {detail = detail} {kind = kind} statement is some begins keeps rest completes =
     let within : statement.len ≤ length (kinds_in (ahead a 0)) = subst (λ (s : Statement). s.len ≤ length (kinds_in (ahead a 0))) (sym is) (first_within a some) in
     let seen = seen_len a begins.sound in
     let position = begins.position in
     let limit = begins.keeps.limit in
     let eats = rest.adds.position in
     let end = rest.end in
-    subst (λ (s : Statement). AddsStatement s a d) is (record {
+    subst (λ (s : Statement). AddsStatement detail s a d) is (record {
+      kind = kind;
+      named = rest.named;
       inner = rest.steps;
       adds = Adds-node (node_around begins (inner_added statement.len keeps rest) completes refl);
       balanced = rest.balanced;
@@ -146,10 +211,10 @@ pub is_first : (kinds : List ℕ) {kind len : ℕ} → kind ≡ kind_of kinds �
 is_first kinds {kind} {len} kind_is len_is = ap (λ k. statement_with k len) kind_is ∙ ap (statement_with (kind_of kinds)) len_is
 
 -- and its node eats
-pub statement_eats : {a b : State} → kind_at a 0 ≢ EOF → AddsStatement (first_statement (kinds_in (ahead a 0))) a b → a.position < b.position
+pub statement_eats : {a b : State} {detail : Detail} → kind_at a 0 ≢ EOF → AddsStatement detail (first_statement (kinds_in (ahead a 0))) a b → a.position < b.position
 statement_eats {a} {b} some added =
     let eats = added.adds.position in
-    let inner = eaten-node (first_statement (kinds_in (ahead a 0))).kind added.inner in
+    let inner = eaten-node added.kind added.inner in
     let len = added.len in
     let kind = kind_at a 0 in
     let kinds = drop 1 (kinds_in (ahead a 0)) in
@@ -160,22 +225,22 @@ statement_eats {a} {b} some added =
 -- ---- the statements of a file
 
 -- The nodes of statements were added; with those of the statements that are ahead they are all.
-pub record FileSoFar (begun now : State) : Type 0 where
+pub record FileSoFar (detail : Detail) (begun now : State) : Type 0 where
   pub some : AddsSome begun now
   pub nodes : List Step
   pub adds : Adds nodes begun now
-  pub all : (rest : List Step) → AreNodesOf (statements_of (kinds_in (ahead now 0))) rest → AreNodesOf (statements_of (kinds_in (ahead begun 0))) (nodes ++ rest)
+  pub all : (rest : List Step) → AreNodesOf detail (statements_of (kinds_in (ahead now 0))) rest → AreNodesOf detail (statements_of (kinds_in (ahead begun 0))) (nodes ++ rest)
 
-pub file-none : (s : State) → IsSound s → FileSoFar s s
+pub file-none : {detail : Detail} (s : State) → IsSound s → FileSoFar detail s s
 file-none s sound = record { some = none_some s sound; nodes = []; adds = Adds-puts (puts-none s sound); all = λ rest are. are }
 
-pub file-next : {a b c : State} → kind_at b 0 ≢ EOF → AddsStatement (first_statement (kinds_in (ahead b 0))) b c → FileSoFar a b → FileSoFar a c
-file-next {a} {b} {c} some added before =
+pub file-next : {a b c : State} {detail : Detail} → kind_at b 0 ≢ EOF → AddsStatement detail (first_statement (kinds_in (ahead b 0))) b c → FileSoFar detail a b → FileSoFar detail a c
+file-next {a} {b} {c} {detail} some added before =
     let statement = first_statement (kinds_in (ahead b 0)) in
-    let one = node statement.kind added.inner in
+    let one = node added.kind added.inner in
     let adds = Adds-then before.adds added.adds in
     let moved : kinds_in (ahead c 0) ≡ drop statement.len (kinds_in (ahead b 0)) =
-    kinds_moved statement.len added.adds.keeps (added.adds.position ∙ ap (λ n. b.position + n) (eaten-node statement.kind added.inner ∙ added.len)) in
+    kinds_moved statement.len added.adds.keeps (added.adds.position ∙ ap (λ n. b.position + n) (eaten-node added.kind added.inner ∙ added.len)) in
     let first_is : statements_of (kinds_in (ahead b 0)) ≡ statement ∷ statements_of (kinds_in (ahead c 0)) =
     subst (λ kinds. statements_of kinds ≡ first_statement kinds ∷ statements_of (drop (first_statement kinds).len kinds)) (sym (kinds_some b some)) (statements-first (kind_at b 0) (drop 1 (kinds_in (ahead b 0))))
     ∙ ap (λ kinds. statement ∷ statements_of kinds) (sym moved) in
@@ -184,21 +249,22 @@ file-next {a} {b} {c} some added before =
       nodes = before.nodes ++ one;
       adds = adds;
       all = λ rest are.
-          let here : AreNodesOf (statement ∷ statements_of (kinds_in (ahead c 0))) (one ++ rest) =
-          record { inner = added.inner; others = rest; is = refl; balanced = added.balanced; len = added.len; rest = are } in
-          subst (AreNodesOf (statements_of (kinds_in (ahead a 0)))) (sym (append_assoc before.nodes one rest))
-          (before.all (one ++ rest) (subst (λ statements. AreNodesOf statements (one ++ rest)) (sym first_is) here));
+          let here : AreNodesOf detail (statement ∷ statements_of (kinds_in (ahead c 0))) (one ++ rest) =
+          record { kind = added.kind; named = added.named; inner = added.inner; others = rest; is = refl; balanced = added.balanced; len = added.len; rest = are } in
+          subst (AreNodesOf detail (statements_of (kinds_in (ahead a 0)))) (sym (append_assoc before.nodes one rest))
+          (before.all (one ++ rest) (subst (λ statements. AreNodesOf detail statements (one ++ rest)) (sym first_is) here));
     }
 
-pub file-all : {a b c d : State} {m : Mark} → IsFresh a → Begins m a b → FileSoFar b c → Completes m.id SOURCE_FILE c d → kind_at c 0 ≡ EOF → HasNotFailed d → IsFile a.input d.draft
-file-all {a} {b} {c} {d} fresh begins file completes end goes =
+pub file-all : {a b c d : State} {m : Mark} {detail : Detail} → IsFresh a → Begins m a b → FileSoFar detail b c → Completes m.id SOURCE_FILE c d → kind_at c 0 ≡ EOF → HasNotFailed d
+    → IsFile detail a.input d.draft
+file-all {a} {b} {c} {d} {detail = detail} fresh begins file completes end goes =
     let none = kinds_none c file.some.some.keeps.sound end in
-    let nothing : AreNodesOf (statements_of (kinds_in (ahead c 0))) [] = subst (λ kinds. AreNodesOf (statements_of kinds) []) (sym none) refl in
+    let nothing : AreNodesOf detail (statements_of (kinds_in (ahead c 0))) [] = subst (λ kinds. AreNodesOf detail (statements_of kinds) []) (sym none) refl in
     let begun : kinds_in (ahead b 0) ≡ kinds_in a.input = kinds_still begins.keeps begins.position ∙ ap kinds_in (ahead-fresh fresh) in
     record {
       whole = whole_some fresh begins file.some completes end goes;
       nodes = file.nodes;
       is = plain-fresh fresh (Adds-node (node_around begins file.adds completes refl)) goes;
-      statements = subst (λ kinds. AreNodesOf (statements_of kinds) file.nodes) begun
-          (subst (AreNodesOf (statements_of (kinds_in (ahead b 0)))) (append-nil file.nodes) (file.all [] nothing));
+      statements = subst (λ kinds. AreNodesOf detail (statements_of kinds) file.nodes) begun
+          (subst (AreNodesOf detail (statements_of (kinds_in (ahead b 0)))) (append-nil file.nodes) (file.all [] nothing));
     }

@@ -5,4 +5,3 @@ pub mod RefusedParses
 pub mod ScriptStatements
 pub mod ScriptWords
 pub mod StatementKinds
-pub mod Tails

@@ -1,7 +1,6 @@
 pub mod Files
 pub mod Kinds
 pub mod Parses
-pub mod Spent
 pub mod StatementKinds
 pub mod Statements
 pub mod Words

@@ -1,5 +1,5 @@
 //! Where a statement ends.
-ghost use Rattle.std.specs.Prelude.{◌≡◌, ◌+◌, drop};
+ghost use Rattle.std.specs.Prelude.{◌≡◌, ◌+◌, ◌≤◌, drop};
 ghost use Rattle.sql_lexer.specs.Statements.{ends_with};
 ghost use Rattle.squawk_table.specs.ParserInput.{kinds_in};
 ghost use Rattle.squawk_parser.specs.State.{ahead};
@@ -10,18 +10,9 @@ use sql_lexer::statements::{Statement, Word};
 use sql_words::SqlKind;
 use squawk_parser::{Parser, SyntaxKind};
 
-/// The statement at the position.
-#[derive(Clone, Copy)]
-pub(crate) struct Extent {
-    /// How many tokens it has.
-    pub(crate) len: usize,
-    /// What it is by its words; by the first ones alone, where these make it a plain statement.
-    pub(crate) statement: Statement,
-}
-
-/// Where the statement at the position ends. What its `statement` says chooses nodes inside of it: no clause speaks of it, cases do.
-pub(crate) fn first_extent(p: &Parser<'_>) -> Extent
-    ensures { result.len ≡ len_of (kinds_in (ahead p.now 0)) }
+/// How many tokens the statement at the position has.
+pub(crate) fn first_len(p: &Parser<'_>) -> usize
+    ensures { result ≡ len_of (kinds_in (ahead p.now 0)) }
 {
     // The position shows that the tokens can be counted.
     let _ = p.position();
@@ -32,15 +23,25 @@ pub(crate) fn first_extent(p: &Parser<'_>) -> Extent
         let word = word_of(kind);
         len += 1;
         if statement.ends_with(word) {
-            return Extent { len, statement };
+            return len;
         }
         statement = statement.after(word);
         if let Statement::Plain = statement {
-            let len = plain_end(p, len);
-            return Extent { len, statement };
+            return plain_end(p, len);
         }
     }
-    Extent { len, statement }
+    len
+}
+
+/// The same without the sign that ends it.
+pub(crate) fn content_len(len: usize, p: &Parser<'_>) -> usize
+    ensures { result ≤ len }
+{
+    if len > 0 && ends_plain(p.nth(len - 1)) {
+        len - 1
+    } else {
+        len
+    }
 }
 
 /// How many tokens a plain statement has, of which `begun` stand before. Most statements are plain.

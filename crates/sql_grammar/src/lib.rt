@@ -1,76 +1,87 @@
-//! A grammar of SQL that validates nothing and places everything: statements, clauses, brackets and
-//! blocks, for PostgreSQL's text and psql's.
+//! A grammar of SQL: statements, in PostgreSQL's text and psql's, and in them what rules say.
 //!
 //! ```text
 //! SOURCE_FILE
-//!   SELECT
-//!     SELECT_CLAUSE  `select f`, GROUP `(a)`
-//!     FROM_CLAUSE    `from t`
+//!   QUERY
+//!     SELECT
+//!       TARGET_LIST  `select f(a)`
+//!       FROM_CLAUSE  `from t`
 //!     `;`
 //! ```
+//!
+//! Where a statement ends is told by its words alone. The rules of one, as [`sql_rules`] has them, see its tokens
+//! without the sign that ends it.
 #![tactic(auto)]
 
-mod clauses;
-mod composites;
 mod cut;
-mod elements;
-mod inside;
 mod parse;
-mod phrases;
 mod statement_kinds;
 mod statements;
 #[cfg(test)]
 mod tests;
 
-use crate::composites::OPERATORS;
 pub use crate::parse::parse_table;
 use crate::statements::statement;
+use rule_grammar::RuleGrammar;
 use sql_words::SqlKind;
-use squawk_parser::{EntryPoint, Grammar, Parser, SyntaxKind, WholeGrammar, Words};
+use squawk_parser::{
+    EntryPoint, Grammar, Parser, SyntaxKind, TokenSet, WholeGrammar, Words, token_set,
+};
 use std::alloc::AllocError;
 
-/// What errors call the kinds that are expected.
-pub const NAMES: [(SyntaxKind, &str); 3] = [
-    (SyntaxKind::R_PAREN, ")"),
-    (SyntaxKind::R_BRACK, "]"),
-    (SqlKind::END_KW, "END"),
+/// The kinds that operators are made of, by PostgreSQL's documentation, section 4.1.3 "Operators".
+const OPERATORS: TokenSet = token_set![
+    SyntaxKind::PLUS,
+    SyntaxKind::MINUS,
+    SyntaxKind::STAR,
+    SyntaxKind::SLASH,
+    SyntaxKind::L_ANGLE,
+    SyntaxKind::R_ANGLE,
+    SyntaxKind::EQ,
+    SyntaxKind::TILDE,
+    SyntaxKind::BANG,
+    SyntaxKind::AT,
+    SyntaxKind::POUND,
+    SyntaxKind::PERCENT,
+    SyntaxKind::CARET,
+    SyntaxKind::AMP,
+    SyntaxKind::PIPE,
+    SyntaxKind::BACKTICK,
+    SyntaxKind::QUESTION,
 ];
 
 /// What the node of a statement has.
-#[derive(Clone, Copy, Debug, PartialEq, Eq)]
-pub enum Detail {
+#[derive(Clone, Copy)]
+pub enum Detail<'r> {
     /// Its tokens alone, and no errors.
     Tokens,
-    /// Clauses, brackets and blocks.
-    Nodes,
+    /// What rules say. One that no rule begins has the kind of their root.
+    Nodes(&'r RuleGrammar<'r>),
 }
 
-/// A source file of SQL statements and commands of psql. Errors name kinds by these names. The detail changes no end
-/// of a statement.
+/// A source file of SQL statements and commands of psql. The detail changes no end of a statement.
 #[derive(Clone, Copy)]
-pub struct SqlGrammar<'n> {
-    pub names: &'n [(SyntaxKind, &'n str)],
-    pub detail: Detail,
+pub struct SqlGrammar<'r> {
+    pub detail: Detail<'r>,
 }
 
-impl<'n> Grammar for SqlGrammar<'n> {
-    ghost use Rattle.std.specs.Prelude.{map};
-    ghost use Rattle.sql_grammar.specs.Files.{IsFile};
+impl<'r> Grammar for SqlGrammar<'r> {
+    ghost use Rattle.std.specs.Prelude.{[]};
+    ghost use Rattle.sql_grammar.specs.Files.{IsFile, Runs};
     ghost use Rattle.sql_grammar.specs.Kinds.{operator_set};
-    ghost use Rattle.squawk_parser.specs.SomeSteps.{Spends};
 
     // One node over all tokens, and in it a node for each statement.
-    ghost leaves = { λ _ _ input draft. IsFile input draft };
+    ghost leaves = { λ grammar _ input draft. IsFile grammar.detail input draft };
 
-    // At most eight events a token, and two for that node.
-    ghost runs = { λ _ _ begun left. Spends 8 2 begun left };
+    // Without rules at most three events a token, and two for that node.
+    ghost runs = { λ grammar _ begun left. Runs grammar.detail 3 2 begun left };
 
-    ghost meaning = { λ grammar. record { operator_first = operator_set; names = map (λ pair. (pair.0, pair.1.now)) grammar.names.now } };
+    ghost meaning = { λ grammar. record { operator_first = operator_set; names = [] } };
 
     fn words(&self) -> Words<'_> {
         Words {
             operator_first: OPERATORS,
-            names: self.names,
+            names: &[],
         }
     }
 
@@ -88,6 +99,6 @@ impl<'n> Grammar for SqlGrammar<'n> {
     }
 }
 
-impl<'n> WholeGrammar for SqlGrammar<'n> {
+impl<'r> WholeGrammar for SqlGrammar<'r> {
     ghost leaves_whole = { λ _ _ _ _ _ left. left.whole };
 }

@@ -1,15 +1,15 @@
 //! Texts, with the trees that they have.
 
-mod cases;
-mod depth;
-mod kinds;
+mod clauses;
+mod cut;
+mod files;
+mod queries;
+mod statements;
 
-use crate::{Detail, NAMES, SqlGrammar};
-use sql_lexer::tokenize;
+use crate::{Detail, SqlGrammar};
+use sql_lexer::tokenize_script;
 use sql_words::{names, vocabulary};
-use squawk_parser::{
-    EntryPoint, KindNames, OwnedStep, StepList, StepSink, StrStep, SyntaxKind, parse_whole_into,
-};
+use squawk_parser::{EntryPoint, KindNames, OwnedStep, StepList, StepSink, parse_whole_into};
 use std::alloc::{AllocError, Global};
 use std::fmt::Write;
 use std::process::Abort;
@@ -19,22 +19,18 @@ use std::test::Fail;
 fn send<S: StepSink<Refusal = AllocError>>(
     alloc: Global,
     text: &str,
-    detail: Detail,
+    detail: Detail<'_>,
     sink: &mut S,
 ) -> Result<(), Fail> {
-    let tokens = tokenize(alloc, text)?;
+    let tokens = tokenize_script(alloc, text)?;
     let keywords = vocabulary(alloc)?;
-    let grammar = SqlGrammar {
-        names: &NAMES,
-        detail,
-    };
+    let grammar = SqlGrammar { detail };
     let entry = EntryPoint::SourceFile;
     parse_whole_into(alloc, text, &tokens, &keywords, &grammar, entry, sink)?;
     Ok(())
 }
 
-/// The line of steps that were sent, without trivia: `SELECT{select a !expected );}` is a node with two
-/// tokens and an error in it.
+/// The line of steps that were sent: `LITERAL{1}` is a node with a token in it, and `!expected )!` an error.
 fn line_of(alloc: Global, steps: &[OwnedStep]) -> Result<String, Fail> {
     let all_names = names(alloc)?;
     let mut kind_names = KindNames::new(alloc, &all_names);
@@ -44,25 +40,28 @@ fn line_of(alloc: Global, steps: &[OwnedStep]) -> Result<String, Fail> {
             OwnedStep::Enter { kind } => {
                 write!(line, "{}{{", kind_names.name(*kind).unwrap_or("?"))?
             }
-            OwnedStep::Token { kind, text: _ } if kind.is_trivia() => {}
-            OwnedStep::Token { kind: _, text } => write!(line, "{} ", text.as_str())?,
-            OwnedStep::Error { msg, pos: _ } => write!(line, "!{};", msg.as_str())?,
+            OwnedStep::Token { kind: _, text } => line.push_str(text.as_str())?,
+            OwnedStep::Error { msg, pos: _ } => write!(line, "!{}!", msg.as_str())?,
             OwnedStep::Exit => line.push('}')?,
         }
     }
     Ok(line)
 }
 
-/// Parses each text, and ends the test unless its file has these nodes.
-fn assert_trees(rt: &(impl Abort + AllocGlobal), cases: &[(&str, &str)]) -> Result<(), Fail> {
-    assert_nodes(rt, Detail::Nodes, cases)
+/// Texts, and what is in their files.
+type Cases = &'static [(&'static str, &'static str)];
+
+/// Parses each text by PostgreSQL's rules, and ends the test unless its file has these nodes.
+fn assert_trees(rt: &(impl Abort + AllocGlobal), cases: Cases) -> Result<(), Fail> {
+    let rules = sql_rules::grammar();
+    assert_nodes(rt, Detail::Nodes(&rules), cases)
 }
 
-/// The same of a tree in this detail.
+/// The same in this detail.
 fn assert_nodes(
     rt: &(impl Abort + AllocGlobal),
-    detail: Detail,
-    cases: &[(&str, &str)],
+    detail: Detail<'_>,
+    cases: Cases,
 ) -> Result<(), Fail> {
     for (text, nodes) in cases {
         let mut list = StepList::new(rt.alloc());

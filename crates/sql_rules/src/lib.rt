@@ -1,28 +1,16 @@
-//! PostgreSQL's SQL as rules, in the notation of `rule_text`: statements with their clauses, expressions and types.
+//! PostgreSQL's SQL as rules that stand ready: the nodes of one statement, without the sign that ends it.
 //!
-//! ```text
-//! text --Rules::read, with the names of tokens and nodes, and PostgreSQL's keywords--> Rules
-//! ```
-//!
-//! The rules are those of PostgreSQL 15; clauses of later versions are marked by `-- PostgreSQL 17` and the like. A NAME
-//! is what a statement defines, a NAME_REF what it uses, and a PATH has such names with dots between them. A keyword
-//! that stands as a name is an identifier in the tree. `::`, and operators without a kind of their own, are nodes that the
-//! engine makes, COLON_COLON and CUSTOM_OP.
-//!
-//! Where PostgreSQL is stricter, a pass over the tree has to look: doubled options and clauses, options that contradict
-//! one another, words of options that are no keywords, calls named by a keyword that is no function, and quoted strings
-//! that continue one another on the same line. Where the rules are stricter: ESCAPE and words that begin an operator,
-//! as AND and AT, are no aliases without AS, BETWEEN and OPERATOR no columns, and UESCAPE stands after strings alone.
+//! `ready.rt` is what `rule_prepare sql` prints of the texts in `sql_rule_texts`, whose test says that it is the same.
 #![tactic(auto)]
 
-mod named_kind;
-mod names;
-mod read;
-#[cfg(test)]
-mod tests;
-mod texts;
-mod token_kinds;
+pub mod ready;
 
-pub use names::{nodes, tokens};
-pub use read::rules;
-pub use texts::text;
+use rule_grammar::RuleGrammar;
+use sql_words::SqlKind;
+
+/// The rules of a statement. One that no rule begins is a STATEMENT.
+pub fn grammar() -> RuleGrammar<'static> {
+    let mut grammar = ready::grammar();
+    grammar.root = SqlKind::STATEMENT;
+    grammar
+}

@@ -1,9 +1,9 @@
 use Rattle.std.proofs.Common.{◌-◌}
-use Rattle.squawk_parser.specs.SomeSteps.{AddsSome, Spends}
+use Rattle.sql_grammar.proofs.AddedStatements.{Opened}
 use Rattle.sql_grammar.proofs.statements.StatementContentPart.run.Given as goal
 
 abbrev pub invariant-loop-p : goal.invariant-loop-p
-invariant-loop-p l = record { adds : AddsSome l.fn.p l.p; spends : Spends 6 0 l.fn.p l.p }
+invariant-loop-p l = Opened l.fn.self.detail l.fn.self.kind l.kind l.fn.p l.p
 
 abbrev pub decreases-loop-p : goal.decreases-loop-p
 decreases-loop-p l = l.p.limit - l.p.position

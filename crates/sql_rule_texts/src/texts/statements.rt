@@ -1,10 +1,10 @@
-//! The file and its statements.
+//! Statements.
 
 pub(crate) const STATEMENTS: &str = r#"
 -- Statements.
 
-file = file_statement? (';' file_statement?)* => SOURCE_FILE
-file_statement "a statement" = statement | begin | end
+-- One that stands by itself, without the sign that ends it.
+whole "a statement" = statement | begin | end
 
 statement "a statement" = row_statement
     | create_table | create_index | create_view | create_materialized_view | create_sequence | create_statistics

@@ -1,10 +1,13 @@
 //! Queries, and statements that change rows.
 
+use crate::tests::assert_trees;
+use std::test::Fail;
+
 /// Texts, and what is in their files.
-pub(crate) static CASES: [(&str, &str); 20] = [
+static CASES: [(&str, &str); 20] = [
     (
         "select 1;",
-        "QUERY{SELECT{select TARGET_LIST{TARGET{LITERAL{1}}}}};",
+        "QUERY{SELECT{select TARGET_LIST{TARGET{LITERAL{1}}}};}",
     ),
     (
         "select a.b as c from s.t x where a = 1 and not b",
@@ -83,3 +86,8 @@ pub(crate) static CASES: [(&str, &str); 20] = [
         "MERGE{merge into TARGET_TABLE{RELATION{PATH{NAME_REF{t}}}} using FROM_TABLE{PATH{NAME_REF{s}}} on NAME_REF{a} MERGE_WHEN{when matched then delete} MERGE_WHEN{when not matched then MERGE_INSERT{insert values ROW_VALUES{(LITERAL{1})}}}}",
     ),
 ];
+
+#[test]
+fn queries_have_trees(rt: HostRuntime) -> Result<(), Fail> {
+    assert_trees(&rt, &CASES)
+}

@@ -27,7 +27,7 @@ use self::types::TYPES;
 use self::words::WORDS;
 use std::alloc::{AllocError, Global};
 
-/// The areas. The classes of words come first; the first rule is that of a file.
+/// The areas. The classes of words come first; the first rule is that of a statement.
 const AREAS: [&str; 12] = [
     WORDS,
     STATEMENTS,

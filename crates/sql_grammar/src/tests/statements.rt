@@ -1,10 +1,13 @@
 //! Statements that define, and the others.
 
+use crate::tests::assert_trees;
+use std::test::Fail;
+
 /// Texts, and what is in their files.
-pub(crate) static CASES: [(&str, &str); 17] = [
+static CASES: [(&str, &str); 17] = [
     (
         "create table s.t (a int not null default 1 + 2 unique, b numeric(1, 2), primary key (a, b));",
-        "CREATE_TABLE{create table PATH{NAME_REF{s}.NAME{t}} (COLUMN_DEF{NAME{a} TYPE{int} NOT_NULL_CONSTRAINT{not null} DEFAULT_CONSTRAINT{default BIN_EXPR{LITERAL{1} + LITERAL{2}}} UNIQUE_CONSTRAINT{unique}}, COLUMN_DEF{NAME{b} TYPE{numericTYPE_ARGS{(LITERAL{1}, LITERAL{2})}}}, PRIMARY_KEY_CONSTRAINT{primary key COLUMN_LIST{(NAME_REF{a}, NAME_REF{b})}})};",
+        "CREATE_TABLE{create table PATH{NAME_REF{s}.NAME{t}} (COLUMN_DEF{NAME{a} TYPE{int} NOT_NULL_CONSTRAINT{not null} DEFAULT_CONSTRAINT{default BIN_EXPR{LITERAL{1} + LITERAL{2}}} UNIQUE_CONSTRAINT{unique}}, COLUMN_DEF{NAME{b} TYPE{numericTYPE_ARGS{(LITERAL{1}, LITERAL{2})}}}, PRIMARY_KEY_CONSTRAINT{primary key COLUMN_LIST{(NAME_REF{a}, NAME_REF{b})}});}",
     ),
     (
         "create table t (a int generated always as identity, b text references u (c) on delete cascade, constraint k check (a > 0))",
@@ -44,7 +47,7 @@ pub(crate) static CASES: [(&str, &str); 17] = [
     ),
     (
         "create type e as enum ('a', 'b'); create domain d as int check (value > 0)",
-        "CREATE_TYPE{create type PATH{NAME{e}} as enum (LITERAL{'a'}, LITERAL{'b'})}; CREATE_DOMAIN{create domain PATH{NAME{d}} as TYPE{int} CHECK_CONSTRAINT{check (BIN_EXPR{NAME_REF{value} > LITERAL{0}})}}",
+        "CREATE_TYPE{create type PATH{NAME{e}} as enum (LITERAL{'a'}, LITERAL{'b'});} CREATE_DOMAIN{create domain PATH{NAME{d}} as TYPE{int} CHECK_CONSTRAINT{check (BIN_EXPR{NAME_REF{value} > LITERAL{0}})}}",
     ),
     (
         "grant select (a), update on table t to public, r with grant option",
@@ -52,7 +55,7 @@ pub(crate) static CASES: [(&str, &str); 17] = [
     ),
     (
         "drop table if exists a, s.b cascade; drop function f(int)",
-        "DROP{drop table if exists PATH{NAME_REF{a}}, PATH{NAME_REF{s}.NAME_REF{b}} cascade}; DROP{drop function FUNCTION_SIGNATURE{PATH{NAME_REF{f}}PARAM_LIST{(PARAM{TYPE{int}})}}}",
+        "DROP{drop table if exists PATH{NAME_REF{a}}, PATH{NAME_REF{s}.NAME_REF{b}} cascade;} DROP{drop function FUNCTION_SIGNATURE{PATH{NAME_REF{f}}PARAM_LIST{(PARAM{TYPE{int}})}}}",
     ),
     (
         "comment on column t.a is null",
@@ -68,6 +71,11 @@ pub(crate) static CASES: [(&str, &str); 17] = [
     ),
     (
         "begin read only; set local a.b to 1, off; end",
-        "BEGIN{begin TRANSACTION_MODE{read only}}; SET{set local PATH{NAME_REF{a}.NAME_REF{b}} to LITERAL{1}, NAME_REF{off}}; COMMIT{end}",
+        "BEGIN{begin TRANSACTION_MODE{read only};} SET{set local PATH{NAME_REF{a}.NAME_REF{b}} to LITERAL{1}, NAME_REF{off};} COMMIT{end}",
     ),
 ];
+
+#[test]
+fn statements_have_trees(rt: HostRuntime) -> Result<(), Fail> {
+    assert_trees(&rt, &CASES)
+}

@@ -1,0 +1,5 @@
+use Rattle.sql_grammar.proofs.AddedStatements.{ruled}
+use Rattle.sql_grammar.proofs.statements.RuledPart.run.Goals as goal
+
+pub returns-clause-does : goal.returns-clause-does
+returns-clause-does c = ruled c.requires c.content.ensures.adds c.content.ensures.kind
