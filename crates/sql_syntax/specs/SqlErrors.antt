@@ -1,10 +1,10 @@
 -- Errors of programs on SQL.
-use Rattle.std.specs.Prelude.{◌≡◌, ◌^◌, ◌≤◌, ℕ, Option, Some, None, List, ◌++◌, codes, length, option_map}
+use Rattle.std.specs.Prelude.{Bor, ℕ, Option, Some, None, List, ◌++◌, codes, option_map}
 use Rattle.squawk_parser.specs.Pipeline.{Given}
-use Rattle.squawk_parser.specs.SomeSteps.{Spends}
 use Rattle.squawk_parser.specs.Words.{Words}
-use Rattle.squawk_parser.specs.declared.parser.parse_error.ParseError.TheVariants.{TooManyErrors, TooManyEvents}
-use Rattle.sql_grammar.specs.Files.{IsFile}
+use Rattle.rule_grammar.specs.declared.rules.RuleGrammar.{RuleGrammar}
+use Rattle.sql_grammar.specs.Files.{IsFile, Runs}
+use Rattle.sql_grammar.specs.declared.Detail.TheVariants.{Nodes}
 use Rattle.sql_lexer.specs.ErrorLines.{tokenize_error_line}
 use Rattle.sql_lexer.specs.Tokens.{RefusesText}
 use Rattle.syntax_tree.specs.ErrorLines.{parse_tree_error_line}
@@ -12,18 +12,15 @@ use Rattle.syntax_tree.specs.Layout.{Laid}
 use Rattle.syntax_tree.specs.Parsed.{IsTreeRefusal}
 use Rattle.sql_syntax.specs.SqlTrees.{IsSqlTree}
 use Rattle.syntax_tree.specs.declared.parse.errors.ParseTreeError.{ParseTreeError}
-use Rattle.syntax_tree.specs.declared.parse.errors.ParseTreeError.TheVariants.{Parse}
 use Rattle.sql_syntax.specs.declared.error.FileError.{FileError}
 use Rattle.sql_syntax.specs.declared.error.SqlError.{SqlError}
 use Rattle.sql_syntax.specs.declared.error.SqlError.TheVariants.{Io, Tokens, Tree, Memory}
 
--- A tree of what is given is refused. The parser has recorded at most eight events for each token, and two for the
--- file, so that only a long text reaches a limit.
+-- A tree of what is given, by some rules, is refused.
 pub record RefusesTree (g : Given) (reason : ParseTreeError) : Type 0 where
+  pub rules : Bor RuleGrammar
   pub words : Words
-  pub refused : IsTreeRefusal g IsFile (Spends 8 2) words reason
-  pub events : reason ≡ Parse TooManyEvents → 2 ^ 29 ≤ length g.text
-  pub errors : reason ≡ Parse TooManyErrors → 2 ^ 28 ≤ length g.text
+  pub refused : IsTreeRefusal g (IsFile (Nodes rules)) (Runs (Nodes rules) 3 2) words reason
 
 -- The stage that failed and its reason, which that stage's contract states. If memory runs out after the parse, there
 -- is a tree.

@@ -4,7 +4,7 @@ ghost use Rattle.sql_syntax.specs.SqlErrors.{RefusesSql};
 ghost use Rattle.sql_syntax.specs.SqlTrees.{IsSqlTree, sql_given};
 
 use crate::error::SqlError;
-use sql_grammar::{Detail, NAMES, SqlGrammar};
+use sql_grammar::{Detail, SqlGrammar};
 use sql_lexer::tokenize_script;
 use squawk_parser::{EntryPoint, Vocabulary};
 use std::alloc::Global;
@@ -20,9 +20,9 @@ pub fn parse_sql<'s, V: Vocabulary>(
     ensures refused { IfErr result (RefusesSql (sql_given (V.keyword words.now) (V.contextual_keyword words.now) text.now)) }
 {
     let tokens = tokenize_script(alloc, text)?;
+    let rules = sql_rules::grammar();
     let grammar = SqlGrammar {
-        names: &NAMES,
-        detail: Detail::Nodes,
+        detail: Detail::Nodes(&rules),
     };
     let entry = EntryPoint::SourceFile;
     let tree = parse_accepted_tree(alloc, text, &tokens, words, &grammar, entry)?;
