@@ -1,5 +1,6 @@
 -- Errors of programs on SQL.
-use Rattle.std.specs.Prelude.{Bor, ℕ, Option, Some, None, List, ◌++◌, codes, option_map}
+use Rattle.std.specs.Prelude.{ℕ, Option, Some, None, List, ◌++◌, codes, option_map}
+use Rattle.std.specs.Borrow.{Bor}
 use Rattle.squawk_parser.specs.Pipeline.{Given}
 use Rattle.squawk_parser.specs.Words.{Words}
 use Rattle.rule_grammar.specs.declared.rules.RuleGrammar.{RuleGrammar}

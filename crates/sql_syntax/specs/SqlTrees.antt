@@ -1,5 +1,6 @@
 -- The tree of a text of SQL.
-use Rattle.std.specs.Prelude.{Bor, ◌≡◌, ℕ, List}
+use Rattle.std.specs.Prelude.{◌≡◌, ℕ, List}
+use Rattle.std.specs.Borrow.{Bor}
 use Rattle.squawk_kinds.specs.Keywords.{Keywords}
 use Rattle.squawk_parser.specs.Pipeline.{Given, given}
 use Rattle.rule_grammar.specs.declared.rules.RuleGrammar.{RuleGrammar}

@@ -53,7 +53,8 @@ impl Report {
         let table = table_of(alloc, sql, text, &tokens)?;
         let raw_lines = raw_lines(alloc, listing, &tokens)?;
         drop(tokens);
-        let output = parse_table(alloc, &table, &sql.vocabulary, Detail::Nodes)?;
+        let rules = sql_rules::grammar();
+        let output = parse_table(alloc, &table, &sql.vocabulary, Detail::Nodes(&rules))?;
         let walked = walk(alloc, &table, &output, sql.names(), asked(listing))?;
         let errors = error_lines(alloc, name, text, &walked.findings)?;
         let error_count = walked.findings.len();
