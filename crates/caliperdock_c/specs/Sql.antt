@@ -1,5 +1,6 @@
 -- What is written of a text of SQL, and why nothing is.
 use Rattle.std.specs.Prelude.{◌≡◌, ◌<◌, ◌≤◌, ℕ, List, IsUtf8, length, map}
+use Rattle.std.specs.Borrow.{Bor}
 use Rattle.std.specs.Str.{chars}
 use Rattle.std.specs.Str.Lossy.{utf8_valid_len}
 use Rattle.squawk_keywords.specs.KeywordAnswers.{contextual_keyword_of, keyword_of}
@@ -12,7 +13,10 @@ use Rattle.squawk_table.specs.RawTable.{Table as RawTable}
 use Rattle.squawk_table.specs.Sent.{sent_list, texts_of}
 use Rattle.squawk_table.specs.Shape.{Fits}
 use Rattle.squawk_tokens.specs.declared.check.TableError.TheVariants as table
+use Rattle.rule_grammar.specs.declared.rules.RuleGrammar.{RuleGrammar}
 use Rattle.sql_grammar.specs.Parses.{AreOfFile, IsRefusedParse}
+use Rattle.sql_grammar.specs.declared.Detail.{Detail}
+use Rattle.sql_grammar.specs.declared.Detail.TheVariants.{Nodes}
 use Rattle.sql_lexer.specs.Scripts.{script_tokens}
 use Rattle.sql_report.specs.Statements.{statements_of}
 use Rattle.sql_words.specs.SqlVocabulary.{KnowsKeywords}
@@ -36,29 +40,33 @@ pub record HasSqlTable (text : List ℕ) (keywords : Keywords) (table : RawTable
   pub known : KnowsKeywords keywords
   pub is : table ≡ table_of (keyword_of keywords) text (script_tokens text)
 
--- the steps of a text of SQL
-pub record AreOfSql (text : List ℕ) (table : RawTable) (steps : List Step) : Type 0 where
+-- the steps of a text of SQL in some detail
+pub record AreOfSql (detail : Detail) (text : List ℕ) (table : RawTable) (steps : List Step) : Type 0 where
   pub keywords : Keywords
   pub of_text : HasSqlTable text keywords table
-  pub of_file : AreOfFile (contextual_keyword_of keywords) table steps
+  pub of_file : AreOfFile detail (contextual_keyword_of keywords) table steps
 
 -- ---- refusals
 
 -- the parse of a text is refused
-pub record IsRefusedSql (text : List ℕ) (reason : ParseError) : Type 0 where
+pub record IsRefusedSql (detail : Detail) (text : List ℕ) (reason : ParseError) : Type 0 where
   pub keywords : Keywords
   pub table : RawTable
   pub of_text : HasSqlTable text keywords table
-  pub refused : IsRefusedParse (contextual_keyword_of keywords) table reason
+  pub refused : IsRefusedParse detail (contextual_keyword_of keywords) table reason
 
 -- Why nothing is written: what stands before in this list is good.
-abbrev pub RefusesSql : List ℕ → Refusal → Type 0
-RefusesSql text OutOfMemory = IsUtf8 text
-RefusesSql text (NotUtf8 at) = (¬ (IsUtf8 text)) × (at ≡ utf8_valid_len text)
-RefusesSql text (Table table.TextTooLong) = IsUtf8 text × (4294967295 < length text)
-RefusesSql text TooManyEvents = IsRefusedSql text parse.TooManyEvents
-RefusesSql text TooManyErrors = IsRefusedSql text parse.TooManyErrors
-RefusesSql text reason = ⊥
+abbrev pub RefusesSql : Detail → List ℕ → Refusal → Type 0
+RefusesSql detail text OutOfMemory = IsUtf8 text
+RefusesSql detail text (NotUtf8 at) = (¬ (IsUtf8 text)) × (at ≡ utf8_valid_len text)
+RefusesSql detail text (Table table.TextTooLong) = IsUtf8 text × (4294967295 < length text)
+RefusesSql detail text TooManyEvents = IsRefusedSql detail text parse.TooManyEvents
+RefusesSql detail text TooManyErrors = IsRefusedSql detail text parse.TooManyErrors
+RefusesSql detail text reason = ⊥
+
+-- the same, by some rules
+abbrev pub RefusesByRules : List ℕ → Refusal → Type 0
+RefusesByRules text reason = (rules : Bor RuleGrammar) × RefusesSql (Nodes rules) text reason
 
 -- ---- what is written
 
@@ -72,19 +80,20 @@ pub record HasSqlRoom (tokens : List CToken) (statements : List CStatement) (ste
   pub statements_fit : counts.statements ≤ length statements
   pub sent_fit : HasRoom steps errors texts counts.sent
 
--- The statements of a parse of the text, in numbers, over what stood there before; and how many there are.
-pub record AreStatementsWritten (text : List ℕ) (statements new_statements : List CStatement) (count : ℕ) : Type 0 where
+-- The statements of a parse of the text in some detail, in numbers, over what stood there before; and how many there are.
+pub record AreStatementsWritten (detail : Detail) (text : List ℕ) (statements new_statements : List CStatement) (count : ℕ) : Type 0 where
   pub table : RawTable
   pub walk : List Step
-  pub of_text : AreOfSql text table walk
+  pub of_text : AreOfSql detail text table walk
   pub are : new_statements ≡ over (map numbered_statement (statements_of (sent_list table walk))) statements
   pub count_is : count ≡ length (statements_of (sent_list table walk))
 
--- The same, the raw tokens of the text, and what is sent for the parse, whose texts are all of the text.
+-- The same by some rules, the raw tokens of the text, and what is sent for the parse, whose texts are all of the text.
 pub record AreSqlWritten (text : List ℕ) (tokens : List CToken) (statements : List CStatement) (steps : List CStep) (errors : List CError) (texts : List ℕ)
     (new_tokens : List CToken) (new_statements : List CStatement) (new_steps : List CStep) (new_errors : List CError) (new_texts : List ℕ)
     (counts : CSqlCounts) : Type 0 where
-  pub cut : AreStatementsWritten text statements new_statements counts.statements
+  pub rules : Bor RuleGrammar
+  pub cut : AreStatementsWritten (Nodes rules) text statements new_statements counts.statements
   pub fits : Fits cut.table cut.walk
   pub whole : texts_of (sent_list cut.table cut.walk) ≡ chars text
   pub tokens_are : new_tokens ≡ over (map number_of (script_tokens text)) tokens

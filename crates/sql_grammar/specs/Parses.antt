@@ -1,5 +1,6 @@
 -- What the parse of a table leaves, and why it is refused.
 use Rattle.std.specs.Prelude.{◌≡◌, ◌^◌, ◌≤◌, List, length}
+use Rattle.std.specs.Borrow.{Bor}
 use Rattle.squawk_kinds.specs.Keywords.{Keywords}
 use Rattle.squawk_output.specs.Draft.{Draft, plain}
 use Rattle.squawk_output.specs.Steps.{Step}
@@ -10,9 +11,10 @@ use Rattle.squawk_parser.specs.State.{fresh}
 use Rattle.squawk_parser.specs.Words.{Words}
 use Rattle.squawk_parser.specs.declared.parser.parse_error.ParseError.{ParseError}
 use Rattle.squawk_parser.specs.declared.parser.parse_error.ParseError.TheVariants.{TooManyErrors, TooManyEvents}
+use Rattle.rule_grammar.specs.declared.rules.RuleGrammar.{RuleGrammar}
 use Rattle.sql_grammar.specs.Files.{IsFile, Runs}
 use Rattle.sql_grammar.specs.declared.Detail.{Detail}
-use Rattle.sql_grammar.specs.declared.Detail.TheVariants.{Tokens}
+use Rattle.sql_grammar.specs.declared.Detail.TheVariants.{Tokens, Nodes}
 
 -- the steps of a file of SQL: one node over all tokens of a table, and in it the nodes of its statements
 pub record AreOfFile (detail : Detail) (contextual : Keywords) (table : Table) (steps : List Step) : Type 0 where
@@ -27,3 +29,11 @@ pub record IsRefusedParse (detail : Detail) (contextual : Keywords) (table : Tab
   pub refused : IsRefused (λ begun left. Runs detail 3 2 begun left) (fresh (input_of contextual table) words 4294967295 2147483648) reason
   pub events : detail ≡ Tokens → reason ≡ TooManyEvents → 2 ^ 30 ≤ length table.text
   pub errors : detail ≡ Tokens → reason ≡ TooManyErrors → 2 ^ 29 ≤ length table.text
+
+-- ---- by some rules
+
+abbrev pub AreByRules : Keywords → Table → List Step → Type 0
+AreByRules contextual table steps = (rules : Bor RuleGrammar) × AreOfFile (Nodes rules) contextual table steps
+
+abbrev pub IsRefusedByRules : Keywords → Table → ParseError → Type 0
+IsRefusedByRules contextual table reason = (rules : Bor RuleGrammar) × IsRefusedParse (Nodes rules) contextual table reason

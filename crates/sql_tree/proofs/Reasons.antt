@@ -1,5 +1,5 @@
 -- The refusals of stages as those of a text.
-use Rattle.std.proofs.Common.{Bor, ◌≡◌, ◌≢◌, ℕ, List, subst}
+use Rattle.std.proofs.Common.{Bor, ◌≡◌, ◌≢◌, ℕ, List}
 use Rattle.std.specs.Prelude.{IsUtf8}
 use Rattle.squawk_keywords.specs.KeywordAnswers.{contextual_keyword_of}
 use Rattle.squawk_parser.specs.declared.parser.parse_error.ParseError.{ParseError}
@@ -8,6 +8,7 @@ use Rattle.squawk_table.specs.RawTable.{Table}
 use Rattle.rule_grammar.specs.declared.rules.RuleGrammar.{RuleGrammar}
 use Rattle.sql_grammar.specs.Parses.{IsRefusedParse}
 use Rattle.sql_grammar.specs.declared.Detail.TheVariants.{Nodes}
+use Rattle.sql_grammar.proofs.RefusedParses.{refused_by}
 use Rattle.sql_lexer.specs.Tokens as lexer_rules
 use Rattle.sql_lexer.specs.declared.tokenizer.TokenizeError.{TokenizeError}
 use Rattle.sql_lexer.specs.declared.tokenizer.TokenizeError.TheVariants as lexer
@@ -22,11 +23,11 @@ module _ (sql : Sql) (text : List ℕ) where
   of_lexer lexer.TextTooLong r = r
   of_lexer lexer.OutOfMemory r = tt
 
-  pub of_parse : (rules : Bor RuleGrammar) (table : Table) (reason : ParseError) → table ≡ table_in sql text
+  pub of_parse : {rules : Bor RuleGrammar} (table : Table) (reason : ParseError) → table ≡ table_in sql text
       → (reason ≢ parse.OutOfMemory → IsRefusedParse (Nodes rules) (contextual_keyword_of sql.vocabulary) table reason) → RefusesText sql text (unread_of_parse reason)
-  of_parse rules table parse.OutOfMemory same r = tt
-  of_parse rules table parse.TooManyEvents same r = (rules, subst (λ t. IsRefusedParse (Nodes rules) (contextual_keyword_of sql.vocabulary) t parse.TooManyEvents) same (r (λ is. let p = is in cc)))
-  of_parse rules table parse.TooManyErrors same r = (rules, subst (λ t. IsRefusedParse (Nodes rules) (contextual_keyword_of sql.vocabulary) t parse.TooManyErrors) same (r (λ is. let p = is in cc)))
+  of_parse table parse.OutOfMemory same r = tt
+  of_parse table parse.TooManyEvents same r = refused_by parse.TooManyEvents (r (λ is. let p = is in cc)) same
+  of_parse table parse.TooManyErrors same r = refused_by parse.TooManyErrors (r (λ is. let p = is in cc)) same
 
   pub of_text : (reason : Unread) → IsUtf8 text → RefusesText sql text reason → RefusesBytes sql text reason
   of_text OutOfMemory utf8 r = (utf8, r)

@@ -1,6 +1,5 @@
 -- Why a text isn't told of.
 use Rattle.std.specs.Prelude.{◌≡◌, ◌<◌, ℕ, List, ◌++◌, Result, Err, IfErr, IfOk, IsOk, IsUtf8, OnOk, Vec, codes, length}
-use Rattle.std.specs.Borrow.{Bor}
 use Rattle.std.specs.Fmt.{decimal}
 use Rattle.std.specs.Str.Lossy.{utf8_valid_len}
 use Rattle.std.specs.IoError.{error_kind}
@@ -11,9 +10,7 @@ use Rattle.std.specs.declared.io.ErrorKind.TheVariants as io
 use Rattle.squawk_keywords.specs.KeywordAnswers.{contextual_keyword_of}
 use Rattle.squawk_parser.specs.declared.parser.parse_error.ParseError.{ParseError}
 use Rattle.squawk_parser.specs.declared.parser.parse_error.ParseError.TheVariants as parse
-use Rattle.rule_grammar.specs.declared.rules.RuleGrammar.{RuleGrammar}
-use Rattle.sql_grammar.specs.Parses.{IsRefusedParse}
-use Rattle.sql_grammar.specs.declared.Detail.TheVariants.{Nodes}
+use Rattle.sql_grammar.specs.Parses.{IsRefusedByRules}
 use Rattle.sql_lexer.specs.declared.tokenizer.TokenizeError.{TokenizeError}
 use Rattle.sql_lexer.specs.declared.tokenizer.TokenizeError.TheVariants as lexer
 use Rattle.sql_tree.specs.Reports.{IsReport, table_in}
@@ -38,8 +35,8 @@ unread_of_parse parse.TooManyErrors = TooManyErrors
 abbrev pub RefusesText : Sql → List ℕ → Unread → Type 0
 RefusesText sql text OutOfMemory = Unit {0}
 RefusesText sql text TextTooLong = 4294967295 < length text
-RefusesText sql text TooManyEvents = (rules : Bor RuleGrammar) × IsRefusedParse (Nodes rules) (contextual_keyword_of sql.vocabulary) (table_in sql text) parse.TooManyEvents
-RefusesText sql text TooManyErrors = (rules : Bor RuleGrammar) × IsRefusedParse (Nodes rules) (contextual_keyword_of sql.vocabulary) (table_in sql text) parse.TooManyErrors
+RefusesText sql text TooManyEvents = IsRefusedByRules (contextual_keyword_of sql.vocabulary) (table_in sql text) parse.TooManyEvents
+RefusesText sql text TooManyErrors = IsRefusedByRules (contextual_keyword_of sql.vocabulary) (table_in sql text) parse.TooManyErrors
 RefusesText sql text reason = ⊥
 
 -- why bytes aren't: what stands before in this list is good

@@ -1,6 +1,5 @@
 -- What is told of a text.
 use Rattle.std.specs.Prelude.{◌≡◌, ◌≢◌, ℕ, List, length, string_bytes}
-use Rattle.std.specs.Borrow.{Bor}
 use Rattle.std.specs.Str.{chars}
 use Rattle.squawk_keywords.specs.KeywordAnswers.{contextual_keyword_of, keyword_of}
 use Rattle.squawk_output.specs.Steps.{Step}
@@ -11,9 +10,7 @@ use Rattle.sql_lexer.specs.Scripts.{script_tokens}
 use Rattle.squawk_kinds.specs.EngineNames.{names_of}
 use Rattle.sql_words.specs.SqlKinds.{names}
 use Rattle.sql_words.specs.SqlVocabulary.{KnowsKeywords}
-use Rattle.rule_grammar.specs.declared.rules.RuleGrammar.{RuleGrammar}
-use Rattle.sql_grammar.specs.Parses.{AreOfFile}
-use Rattle.sql_grammar.specs.declared.Detail.TheVariants.{Nodes}
+use Rattle.sql_grammar.specs.Parses.{AreByRules}
 use Rattle.sql_report.specs.ErrorLines.{error_texts}
 use Rattle.sql_report.specs.Findings.{AreInOrder, all_told}
 use Rattle.sql_report.specs.JsonTrees.{HasTreeLines}
@@ -40,8 +37,7 @@ table_in sql text = table_of (keyword_of sql.vocabulary) text (script_tokens tex
 pub record IsReport (sql : Sql) (listing : Listing) (name text : List ℕ) (report : Report) : Type 0 where
   pub steps : List Step
   pub fits : Fits (table_in sql text) steps
-  pub rules : Bor RuleGrammar
-  pub of_file : AreOfFile (Nodes rules) (contextual_keyword_of sql.vocabulary) (table_in sql text) steps
+  pub of_file : AreByRules (contextual_keyword_of sql.vocabulary) (table_in sql text) steps
   pub whole : texts_of (sent_list (table_in sql text) steps) ≡ chars text
   pub findings : List Finding
   pub in_order : AreInOrder (all_told (table_in sql text).errors (sent_list (table_in sql text) steps)) findings

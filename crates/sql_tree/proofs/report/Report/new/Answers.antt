@@ -5,8 +5,7 @@ use Rattle.squawk_kinds.specs.EngineNames.{names_of}
 use Rattle.squawk_keywords.specs.KeywordAnswers.{contextual_keyword_of}
 use Rattle.squawk_table.specs.Sent.{sent_list, texts_of}
 use Rattle.squawk_table.specs.Shape.{Fits}
-use Rattle.sql_grammar.specs.Parses.{AreOfFile}
-use Rattle.sql_grammar.specs.declared.Detail.TheVariants.{Nodes}
+use Rattle.sql_grammar.proofs.RefusedParses.{by_rules}
 use Rattle.sql_lexer.specs.Scripts.{script_tokens}
 use Rattle.sql_report.specs.Drawn.{drawn}
 use Rattle.sql_report.specs.ErrorLines.{error_texts}
@@ -24,7 +23,7 @@ pub returns-in_err-output-clause-refused : goal.returns-in_err-output-clause-ref
 returns-in_err-output-clause-refused c =
     let reason = c.in_err-output.field-0.0 in
     let is : c.from_residual-in_err-output.result ≡ Err (unread_of_parse reason) = search rules in
-    rw is (of_parse c.args.sql.now c.args.text.now _ _ reason c.in_ok-table.ensures c.in_err-output.ensures.refused)
+    rw is (of_parse c.args.sql.now c.args.text.now _ reason c.in_ok-table.ensures c.in_err-output.ensures.refused)
 
 pub returns-clause-told : goal.returns-clause-told
 returns-clause-told c =
@@ -46,8 +45,7 @@ returns-clause-told c =
     record {
       steps = steps;
       fits = subst (λ table. Fits table steps) same c.in_ok-output.ensures.fits;
-      rules = _;
-      of_file = subst (λ table. AreOfFile (Nodes _) (contextual_keyword_of sql.vocabulary) table steps) same c.in_ok-output.ensures.file;
+      of_file = by_rules c.in_ok-output.ensures.file same;
       whole = subst (λ table. texts_of (sent_list table steps) ≡ chars table.text) same c.in_ok-output.ensures.whole;
       findings = findings;
       in_order = subst (λ table. AreInOrder (all_told table.errors (sent_list table steps)) findings) same walked.findings;
