@@ -1,39 +1,65 @@
 -- The refusals of stages as those of a call on a text of SQL.
-use Rattle.std.proofs.Common.{ℕ, ◌≢◌, List}
+use Rattle.std.proofs.Common.{Bor, ◌≡◌, ℕ, ◌≢◌, List, subst}
 use Rattle.std.specs.Prelude.{IsUtf8}
 use Rattle.squawk_keywords.specs.KeywordAnswers.{contextual_keyword_of}
 use Rattle.squawk_keywords.specs.declared.keywords.Keywords.{Keywords}
 use Rattle.squawk_parser.specs.declared.parser.parse_error.ParseError.{ParseError}
 use Rattle.squawk_parser.specs.declared.parser.parse_error.ParseError.TheVariants as parse
 use Rattle.squawk_table.specs.RawTable.{Table as RawTable}
+use Rattle.squawk_tokens.specs.declared.check.TableError.TheVariants as table
+use Rattle.squawk_output.specs.Steps.{Step}
+use Rattle.rule_grammar.specs.declared.rules.RuleGrammar.{RuleGrammar}
 use Rattle.sql_grammar.specs.Parses.{IsRefusedParse}
+use Rattle.sql_grammar.specs.declared.Detail.{Detail}
+use Rattle.sql_grammar.specs.declared.Detail.TheVariants.{Nodes}
 use Rattle.sql_lexer.specs.Tokens as lexer_rules
 use Rattle.sql_lexer.specs.declared.tokenizer.TokenizeError.{TokenizeError}
 use Rattle.sql_lexer.specs.declared.tokenizer.TokenizeError.TheVariants as lexer
 use Rattle.caliperdock_c.specs.Answers.{refusal_of_lexer, refusal_of_parse}
 use Rattle.caliperdock_c.specs.Refusals.{RefusesText}
-use Rattle.caliperdock_c.specs.Sql.{HasSqlTable, RefusesSql}
+use Rattle.caliperdock_c.specs.Sql.{AreByRules, AreOfSql, HasSqlTable, IsRefusedByRules, IsRefusedSql, RefusesSql}
 use Rattle.caliperdock_c.specs.declared.answer.Refusal.{Refusal}
 use Rattle.caliperdock_c.specs.declared.answer.Refusal.TheVariants.{OutOfMemory, NotUtf8, UnknownToken, Table, TooManyEvents, UnknownEvent, BadLink, NoRoot, DoesNotFit, TooManyErrors}
 
-pub of_bytes : (text : List ℕ) (reason : Refusal) → RefusesText text reason → RefusesSql text reason
-of_bytes text (NotUtf8 at) r = r
-of_bytes text OutOfMemory r = absurd r
-of_bytes text (UnknownToken i) r = absurd r
-of_bytes text (Table reason) r = absurd r
-of_bytes text TooManyEvents r = absurd r
-of_bytes text (UnknownEvent i) r = absurd r
-of_bytes text (BadLink i) r = absurd r
-of_bytes text NoRoot r = absurd r
-of_bytes text DoesNotFit r = absurd r
-of_bytes text TooManyErrors r = absurd r
+pub of_bytes : (refused : List ℕ → ParseError → Type 0) (text : List ℕ) (reason : Refusal) → RefusesText text reason → RefusesSql refused text reason
+of_bytes refused text (NotUtf8 at) r = r
+of_bytes refused text OutOfMemory r = absurd r
+of_bytes refused text (UnknownToken i) r = absurd r
+of_bytes refused text (Table reason) r = absurd r
+of_bytes refused text TooManyEvents r = absurd r
+of_bytes refused text (UnknownEvent i) r = absurd r
+of_bytes refused text (BadLink i) r = absurd r
+of_bytes refused text NoRoot r = absurd r
+of_bytes refused text DoesNotFit r = absurd r
+of_bytes refused text TooManyErrors r = absurd r
 
-pub of_lexer : (text : List ℕ) (reason : TokenizeError) → IsUtf8 text → lexer_rules.RefusesText text reason → RefusesSql text (refusal_of_lexer reason)
-of_lexer text lexer.TextTooLong utf8 r = (utf8, r)
-of_lexer text lexer.OutOfMemory utf8 r = utf8
+pub of_lexer : (refused : List ℕ → ParseError → Type 0) (text : List ℕ) (reason : TokenizeError) → IsUtf8 text → lexer_rules.RefusesText text reason → RefusesSql refused text (refusal_of_lexer reason)
+of_lexer refused text lexer.TextTooLong utf8 r = (utf8, r)
+of_lexer refused text lexer.OutOfMemory utf8 r = utf8
 
-pub of_parse : (text : List ℕ) (keywords : Keywords) (table : RawTable) (reason : ParseError) → HasSqlTable text keywords table
-    → (reason ≢ parse.OutOfMemory → IsRefusedParse (contextual_keyword_of keywords) table reason) → RefusesSql text (refusal_of_parse reason)
-of_parse text keywords table parse.OutOfMemory has r = has.utf8
-of_parse text keywords table parse.TooManyEvents has r = record { keywords = keywords; table = table; of_text = has; refused = r (λ same. let p = same in cc) }
-of_parse text keywords table parse.TooManyErrors has r = record { keywords = keywords; table = table; of_text = has; refused = r (λ same. let p = same in cc) }
+pub of_parse : (detail : Detail) (text : List ℕ) (keywords : Keywords) (table : RawTable) (reason : ParseError) → HasSqlTable text keywords table
+    → (reason ≢ parse.OutOfMemory → IsRefusedParse detail (contextual_keyword_of keywords) table reason) → RefusesSql (IsRefusedSql detail) text (refusal_of_parse reason)
+of_parse detail text keywords table parse.OutOfMemory has r = has.utf8
+of_parse detail text keywords table parse.TooManyEvents has r = record { keywords = keywords; table = table; of_text = has; refused = r (λ same. let p = same in cc) }
+of_parse detail text keywords table parse.TooManyErrors has r = record { keywords = keywords; table = table; of_text = has; refused = r (λ same. let p = same in cc) }
+
+-- the refusals of a parse by rules
+pub by_rules : (rules : Bor RuleGrammar) (text : List ℕ) (reason : Refusal) → RefusesSql (IsRefusedSql (Nodes rules)) text reason → RefusesSql IsRefusedByRules text reason
+by_rules rules text OutOfMemory r = r
+by_rules rules text (NotUtf8 at) r = r
+by_rules rules text (Table table.TextTooLong) r = r
+by_rules rules text (Table (table.BadToken i)) r = absurd r
+by_rules rules text (Table (table.TextLeft i)) r = absurd r
+by_rules rules text (Table table.OutOfMemory) r = absurd r
+by_rules rules text TooManyEvents r = (rules, r)
+by_rules rules text TooManyErrors r = (rules, r)
+by_rules rules text (UnknownToken i) r = absurd r
+by_rules rules text (UnknownEvent i) r = absurd r
+by_rules rules text (BadLink i) r = absurd r
+by_rules rules text NoRoot r = absurd r
+by_rules rules text DoesNotFit r = absurd r
+
+-- the steps of a parse by rules
+pub steps_by_rules : {rules : Bor RuleGrammar} {text other : List ℕ} {table : RawTable} {walk : List Step} → AreOfSql (Nodes rules) text table walk → text ≡ other
+    → AreByRules other table walk
+steps_by_rules {rules} {table = table} {walk = walk} are same = (rules, subst (λ (text : List ℕ). AreOfSql (Nodes rules) text table walk) same are)

@@ -55,18 +55,22 @@ pub record IsRefusedSql (detail : Detail) (text : List ℕ) (reason : ParseError
   pub of_text : HasSqlTable text keywords table
   pub refused : IsRefusedParse detail (contextual_keyword_of keywords) table reason
 
--- Why nothing is written: what stands before in this list is good.
-abbrev pub RefusesSql : Detail → List ℕ → Refusal → Type 0
-RefusesSql detail text OutOfMemory = IsUtf8 text
-RefusesSql detail text (NotUtf8 at) = (¬ (IsUtf8 text)) × (at ≡ utf8_valid_len text)
-RefusesSql detail text (Table table.TextTooLong) = IsUtf8 text × (4294967295 < length text)
-RefusesSql detail text TooManyEvents = IsRefusedSql detail text parse.TooManyEvents
-RefusesSql detail text TooManyErrors = IsRefusedSql detail text parse.TooManyErrors
-RefusesSql detail text reason = ⊥
+-- Why nothing is written, where a parse is refused so: what stands before in this list is good.
+abbrev pub RefusesSql : (List ℕ → ParseError → Type 0) → List ℕ → Refusal → Type 0
+RefusesSql refused text OutOfMemory = IsUtf8 text
+RefusesSql refused text (NotUtf8 at) = (¬ (IsUtf8 text)) × (at ≡ utf8_valid_len text)
+RefusesSql refused text (Table table.TextTooLong) = IsUtf8 text × (4294967295 < length text)
+RefusesSql refused text TooManyEvents = refused text parse.TooManyEvents
+RefusesSql refused text TooManyErrors = refused text parse.TooManyErrors
+RefusesSql refused text reason = ⊥
 
--- the same, by some rules
-abbrev pub RefusesByRules : List ℕ → Refusal → Type 0
-RefusesByRules text reason = (rules : Bor RuleGrammar) × RefusesSql (Nodes rules) text reason
+-- ---- by some rules
+
+abbrev pub AreByRules : List ℕ → RawTable → List Step → Type 0
+AreByRules text table steps = (rules : Bor RuleGrammar) × AreOfSql (Nodes rules) text table steps
+
+abbrev pub IsRefusedByRules : List ℕ → ParseError → Type 0
+IsRefusedByRules text reason = (rules : Bor RuleGrammar) × IsRefusedSql (Nodes rules) text reason
 
 -- ---- what is written
 
@@ -80,20 +84,19 @@ pub record HasSqlRoom (tokens : List CToken) (statements : List CStatement) (ste
   pub statements_fit : counts.statements ≤ length statements
   pub sent_fit : HasRoom steps errors texts counts.sent
 
--- The statements of a parse of the text in some detail, in numbers, over what stood there before; and how many there are.
-pub record AreStatementsWritten (detail : Detail) (text : List ℕ) (statements new_statements : List CStatement) (count : ℕ) : Type 0 where
+-- The statements of such a parse of the text, in numbers, over what stood there before; and how many there are.
+pub record AreStatementsWritten (parse : List ℕ → RawTable → List Step → Type 0) (text : List ℕ) (statements new_statements : List CStatement) (count : ℕ) : Type 0 where
   pub table : RawTable
   pub walk : List Step
-  pub of_text : AreOfSql detail text table walk
+  pub of_text : parse text table walk
   pub are : new_statements ≡ over (map numbered_statement (statements_of (sent_list table walk))) statements
   pub count_is : count ≡ length (statements_of (sent_list table walk))
 
--- The same by some rules, the raw tokens of the text, and what is sent for the parse, whose texts are all of the text.
+-- The same of a parse by rules, the raw tokens of the text, and what is sent for the parse, whose texts are all of the text.
 pub record AreSqlWritten (text : List ℕ) (tokens : List CToken) (statements : List CStatement) (steps : List CStep) (errors : List CError) (texts : List ℕ)
     (new_tokens : List CToken) (new_statements : List CStatement) (new_steps : List CStep) (new_errors : List CError) (new_texts : List ℕ)
     (counts : CSqlCounts) : Type 0 where
-  pub rules : Bor RuleGrammar
-  pub cut : AreStatementsWritten (Nodes rules) text statements new_statements counts.statements
+  pub cut : AreStatementsWritten AreByRules text statements new_statements counts.statements
   pub fits : Fits cut.table cut.walk
   pub whole : texts_of (sent_list cut.table cut.walk) ≡ chars text
   pub tokens_are : new_tokens ≡ over (map number_of (script_tokens text)) tokens

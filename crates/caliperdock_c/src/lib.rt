@@ -8,7 +8,7 @@ ghost use Rattle.std.specs.Prelude.{◌≡◌, ◌≤◌, ◌↔◌, length, IfO
 ghost use Rattle.caliperdock_c.specs.Answers.{answer_of};
 ghost use Rattle.caliperdock_c.specs.Refusals.{Refuses, given};
 ghost use Rattle.caliperdock_c.specs.Sent.{AreSent, HasRoom, no_counts};
-ghost use Rattle.caliperdock_c.specs.Sql.{AreSqlWritten, AreStatementsWritten, HasSqlRoom, RefusesSql, no_sql_counts};
+ghost use Rattle.caliperdock_c.specs.Sql.{AreOfSql, AreSqlWritten, AreStatementsWritten, HasSqlRoom, IsRefusedByRules, IsRefusedSql, RefusesSql, no_sql_counts};
 ghost use Rattle.caliperdock_c.specs.declared.answer.Refusal.{Refusal};
 
 pub mod answer;
@@ -109,7 +109,7 @@ pub extern "C" fn caliperdock_sql(
     ensures place { result.status ≤ 1 → result.place ≡ 0 }
     ensures room { result.status ≡ 0 ↔ ((result.status ≤ 1)
         × HasSqlRoom tokens.old statements.old steps.old errors.old texts.old counts.new) }
-    ensures refused { 2 ≤ result.status → (reason : Refusal) × RefusesSql text.now reason × (result ≡ answer_of reason)
+    ensures refused { 2 ≤ result.status → (reason : Refusal) × RefusesSql IsRefusedByRules text.now reason × (result ≡ answer_of reason)
         × (counts.new ≡ no_sql_counts) × (tokens.new ≡ tokens.old) × (statements.new ≡ statements.old)
         × (steps.new ≡ steps.old) × (errors.new ≡ errors.old) × (texts.new ≡ texts.old) }
 {
@@ -129,7 +129,8 @@ pub extern "C" fn caliperdock_sql(
     }
 }
 
-/// The statements of a text of SQL alone, as `caliperdock_sql` tells them, and how many there are.
+/// The statements of a text of SQL alone, and how many there are. Their ends are those that `caliperdock_sql` tells, their
+/// kinds are told by their first words.
 #[unsafe(no_mangle)]
 pub extern "C" fn caliperdock_statements(
     alloc: Global,
@@ -137,10 +138,10 @@ pub extern "C" fn caliperdock_statements(
     statements: &mut [CStatement],
     count: &mut u64,
 ) -> CAnswer
-    ensures written { result.status ≤ 1 → AreStatementsWritten text.now statements.old statements.new count.new }
+    ensures written { result.status ≤ 1 → AreStatementsWritten (AreOfSql Detail.Tokens) text.now statements.old statements.new count.new }
     ensures place { result.status ≤ 1 → result.place ≡ 0 }
     ensures room { result.status ≡ 0 ↔ ((result.status ≤ 1) × (count.new ≤ length statements.old)) }
-    ensures refused { 2 ≤ result.status → (reason : Refusal) × RefusesSql text.now reason × (result ≡ answer_of reason)
+    ensures refused { 2 ≤ result.status → (reason : Refusal) × RefusesSql (IsRefusedSql Detail.Tokens) text.now reason × (result ≡ answer_of reason)
         × (count.new ≡ 0) × (statements.new ≡ statements.old) }
 {
     match write_cut(alloc, text, statements) {

@@ -5,7 +5,7 @@ ghost use Rattle.squawk_output.specs.Steps.{errors_in};
 ghost use Rattle.squawk_table.specs.Sent.{sent_list, texts_of};
 ghost use Rattle.squawk_table.specs.Shape.{Fits};
 ghost use Rattle.sql_lexer.specs.Scripts.{script_tokens};
-ghost use Rattle.caliperdock_c.specs.Sql.{AreOfSql, RefusesSql};
+ghost use Rattle.caliperdock_c.specs.Sql.{AreOfSql, IsRefusedSql, RefusesSql};
 
 use crate::answer::Refusal;
 use crate::parsed::Parsed;
@@ -24,15 +24,15 @@ pub struct Sql<'t> {
 
 /// The parse of a text of SQL.
 #[tactic(auto, using(crate::proofs::SqlReasons::of_lexer, crate::proofs::SqlReasons::of_parse))]
-pub fn parse_sql<'t>(alloc: Global, text: &'t str, detail: Detail) -> Result<Sql<'t>, Refusal>
+pub fn parse_sql<'t>(alloc: Global, text: &'t str, detail: Detail<'_>) -> Result<Sql<'t>, Refusal>
     ensures tokens { IfOk result (λ sql. sql.tokens.items ≡ script_tokens text.now) }
-    ensures steps { IfOk result (λ sql. AreOfSql text.now sql.parsed.table sql.parsed.output.steps) }
+    ensures steps { IfOk result (λ sql. AreOfSql detail.entry text.now sql.parsed.table sql.parsed.output.steps) }
     ensures fits { IfOk result (λ sql. Fits sql.parsed.table sql.parsed.output.steps) }
     ensures whole { IfOk result (λ sql. texts_of (sent_list sql.parsed.table sql.parsed.output.steps) ≡ chars text.now) }
     ensures few { IfOk result (λ sql. length sql.parsed.output.steps ≤ 4294967295) }
     ensures errors { IfOk result (λ sql. errors_in sql.parsed.output.steps ≤ 2147483648) }
     ensures short { IfOk result (λ sql. length sql.parsed.table.text ≤ 4294967295) }
-    ensures refused { IfErr result (RefusesSql text.now) }
+    ensures refused { IfErr result (RefusesSql (IsRefusedSql detail.entry) text.now) }
 {
     let tokens = tokenize_script(alloc, text)?;
     let vocabulary = vocabulary(alloc)?;

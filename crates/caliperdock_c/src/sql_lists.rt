@@ -1,7 +1,7 @@
 //! What is written of a text of SQL.
 ghost use Rattle.std.specs.Prelude.{◌≡◌, ◌↔◌, IfOk, IfErr, IsTrue, OnErr, map};
 ghost use Rattle.caliperdock_c.specs.Overlays.{over};
-ghost use Rattle.caliperdock_c.specs.Sql.{AreSqlWritten, AreStatementsWritten, HasSqlRoom, RefusesSql, no_sql_counts};
+ghost use Rattle.caliperdock_c.specs.Sql.{AreOfSql, AreSqlWritten, AreStatementsWritten, HasSqlRoom, IsRefusedByRules, IsRefusedSql, RefusesSql, no_sql_counts};
 ghost use Rattle.caliperdock_c.specs.Statements.{numbered_statement};
 ghost use Rattle.caliperdock_c.specs.TokenNumbers.{number_of};
 
@@ -69,14 +69,15 @@ pub fn write_sql(
 ) -> Result<CSqlCounts, Refusal>
     ensures written { IfOk result (AreSqlWritten text.now tokens.old all_statements.old steps.old errors.old texts.old
         tokens.new all_statements.new steps.new errors.new texts.new) }
-    ensures refused { IfErr result (RefusesSql text.now) }
+    ensures refused { IfErr result (RefusesSql IsRefusedByRules text.now) }
     ensures tokens_stay { OnErr result (tokens.new ≡ tokens.old) }
     ensures statements_stay { OnErr result (all_statements.new ≡ all_statements.old) }
     ensures steps_stay { OnErr result (steps.new ≡ steps.old) }
     ensures errors_stay { OnErr result (errors.new ≡ errors.old) }
     ensures texts_stay { OnErr result (texts.new ≡ texts.old) }
 {
-    let sql = parse_sql(alloc, text_of(text)?, Detail::Nodes)?;
+    let rules = sql_rules::grammar();
+    let sql = parse_sql(alloc, text_of(text)?, Detail::Nodes(&rules))?;
     let found = statements(alloc, &sql.parsed.table, &sql.parsed.output)?;
     let sent = send(
         alloc,
@@ -98,8 +99,8 @@ pub fn write_sql(
 /// Writes the statements of a text of SQL, as far as there is room. Returns how many there are.
 #[tactic(auto, using(crate::proofs::SqlReasons::of_bytes))]
 pub fn write_cut(alloc: Global, text: &[u8], room: &mut [CStatement]) -> Result<usize, Refusal>
-    ensures written { IfOk result (AreStatementsWritten text.now room.old room.new) }
-    ensures refused { IfErr result (RefusesSql text.now) }
+    ensures written { IfOk result (AreStatementsWritten (AreOfSql Detail.Tokens) text.now room.old room.new) }
+    ensures refused { IfErr result (RefusesSql (IsRefusedSql Detail.Tokens) text.now) }
     ensures stay { OnErr result (room.new ≡ room.old) }
 {
     let sql = parse_sql(alloc, text_of(text)?, Detail::Tokens)?;

@@ -1,7 +1,7 @@
 use Rattle.std.proofs.Common.{◌≡◌, rules, subst}
 use Rattle.std.specs.Str.{chars}
 use Rattle.squawk_table.specs.Sent.{sent_list, texts_of}
-use Rattle.caliperdock_c.specs.Sql.{AreOfSql}
+use Rattle.caliperdock_c.proofs.SqlReasons.{steps_by_rules}
 use Rattle.caliperdock_c.proofs.sql_lists.write_sql.Goals as goal
 
 pub returns-clause-written : goal.returns-clause-written
@@ -13,7 +13,7 @@ returns-clause-written c =
       cut = record {
         table = table;
         walk = walk;
-        of_text = subst (λ text. AreOfSql text table walk) same c.in_ok-sql.ensures.steps;
+        of_text = steps_by_rules c.in_ok-sql.ensures.steps same;
         are = search rules;
         count_is = search rules;
       };
