@@ -3,7 +3,7 @@ ghost use Rattle.std.specs.Prelude.{IfOk};
 ghost use Rattle.squawk_tokens.specs.AcceptedTokens.{AreAcceptedTokens};
 
 use crate::texts::Texts;
-use sql_grammar::{Detail, NAMES, SqlGrammar};
+use sql_grammar::{Detail, SqlGrammar};
 use sql_lexer::{TokenizeError, tokenize_script};
 use squawk_keywords::Keywords;
 use squawk_parser::{
@@ -73,9 +73,9 @@ fn send<S: StepSink<Refusal = AllocError>>(
 ) -> Result<(), AllocError>
     requires { AreAcceptedTokens text.now tokens.now }
 {
+    let rules = sql_rules::grammar();
     let grammar = SqlGrammar {
-        names: &NAMES,
-        detail: Detail::Nodes,
+        detail: Detail::Nodes(&rules),
     };
     let entry = EntryPoint::SourceFile;
     match parse_accepted_into(alloc, text, tokens, words, &grammar, entry, sink) {
@@ -93,9 +93,9 @@ fn tree<'t>(
 ) -> Result<SyntaxTree<'t>, AllocError>
     requires { AreAcceptedTokens text.now tokens.now }
 {
+    let rules = sql_rules::grammar();
     let grammar = SqlGrammar {
-        names: &NAMES,
-        detail: Detail::Nodes,
+        detail: Detail::Nodes(&rules),
     };
     let entry = EntryPoint::SourceFile;
     match parse_accepted_tree(alloc, text, tokens, words, &grammar, entry) {
@@ -180,9 +180,9 @@ fn done(alloc: Global, words: &Keywords<'_>, text: &str, phase: Phase) -> Result
         Phase::Parse => {
             let table = LexedStr::from_accepted(alloc, text, &tokens, words)?;
             let input = table.to_input(alloc, words)?;
+            let rules = sql_rules::grammar();
             let grammar = SqlGrammar {
-                names: &NAMES,
-                detail: Detail::Nodes,
+                detail: Detail::Nodes(&rules),
             };
             match EntryPoint::SourceFile.parse(alloc, &input, &grammar) {
                 Ok(output) => Ok(u64::from(output.recorded())),
