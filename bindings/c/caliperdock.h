@@ -224,11 +224,12 @@ typedef struct {
 } caliperdock_sql_counts;
 
 /* All of a text of SQL, in one call: its raw tokens by PostgreSQL's rules, its statements, the steps of
- * its tree, and all errors. A UTF-8 text of fewer than 268435456 bytes is refused for want of memory
- * alone; a longer one may also have too many events or errors, and one of more than 4294967295 bytes is too
- * long. As in psql, the lines after COPY .. FROM STDIN are data, each a psql command. caliperdock_kinds.h has
- * the kinds of its nodes and tokens. A list that isn't wanted has length 0; the answer is
- * CALIPERDOCK_TOO_SMALL then, and the counts say whether the wanted ones had room. */
+ * its tree by PostgreSQL's grammar, and all errors. A statement's kind is that of its node in the tree, as
+ * CALIPERDOCK_KIND_QUERY or CALIPERDOCK_KIND_CREATE_TABLE. A UTF-8 text is refused for want of memory, if it has
+ * too many events or errors, or if it has more than 4294967295 bytes. As in psql, the lines after
+ * COPY .. FROM STDIN are data, each a psql command. caliperdock_kinds.h has the kinds of its nodes and tokens. A
+ * list that isn't wanted has length 0; the answer is CALIPERDOCK_TOO_SMALL then, and the counts say whether the
+ * wanted ones had room. */
 caliperdock_answer caliperdock_sql(
     const uint8_t *text, size_t text_len,
     caliperdock_token *tokens, size_t token_room,
@@ -238,8 +239,9 @@ caliperdock_answer caliperdock_sql(
     uint8_t *texts, size_t text_room,
     caliperdock_sql_counts *counts);
 
-/* The statements alone, as caliperdock_sql has them, in less time. With any status but CALIPERDOCK_OK and
- * CALIPERDOCK_TOO_SMALL count is 0. */
+/* The statements alone, in less time: they have the bytes that caliperdock_sql says, and each has the kind of its
+ * first word, as CALIPERDOCK_KIND_SELECT or CALIPERDOCK_KIND_CREATE. A UTF-8 text of fewer than 536870912 bytes is
+ * refused for want of memory alone. With any status but CALIPERDOCK_OK and CALIPERDOCK_TOO_SMALL count is 0. */
 caliperdock_answer caliperdock_statements(
     const uint8_t *text, size_t text_len,
     caliperdock_statement *statements, size_t statement_room,

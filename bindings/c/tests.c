@@ -35,30 +35,33 @@ static void sql_is_written(void) {
     caliperdock_sql_counts n;
     caliperdock_answer a = sql("select 1", 64, &n);
     CHECK(a.status == CALIPERDOCK_OK && a.place == 0);
-    CHECK(n.tokens == 3 && n.statements == 1 && n.sent.steps == 9 && n.sent.errors == 0 && n.sent.texts == 0 && n.sent.whole == 1);
+    CHECK(n.tokens == 3 && n.statements == 1 && n.sent.steps == 15 && n.sent.errors == 0 && n.sent.texts == 0 && n.sent.whole == 1);
     CHECK(tokens[0].kind == CALIPERDOCK_TOKEN_IDENT && tokens[0].len == 6 && tokens[0].flags == 0);
     CHECK(tokens[2].kind == CALIPERDOCK_TOKEN_INT && tokens[2].len == 1 && tokens[2].a == 1 && tokens[2].b == 10);
-    CHECK(statements[0].kind == CALIPERDOCK_KIND_SELECT && statements[0].start == 0 && statements[0].end == 8);
+    CHECK(statements[0].kind == CALIPERDOCK_KIND_QUERY && statements[0].start == 0 && statements[0].end == 8);
     CHECK(is_step(steps[0], CALIPERDOCK_STEP_ENTER, CALIPERDOCK_KIND_SOURCE_FILE, 0, 0));
-    CHECK(is_step(steps[1], CALIPERDOCK_STEP_ENTER, CALIPERDOCK_KIND_SELECT, 0, 0));
-    CHECK(is_step(steps[2], CALIPERDOCK_STEP_ENTER, CALIPERDOCK_KIND_SELECT_CLAUSE, 0, 0));
+    CHECK(is_step(steps[1], CALIPERDOCK_STEP_ENTER, CALIPERDOCK_KIND_QUERY, 0, 0));
+    CHECK(is_step(steps[2], CALIPERDOCK_STEP_ENTER, CALIPERDOCK_KIND_SELECT, 0, 0));
     CHECK(is_step(steps[3], CALIPERDOCK_STEP_TOKEN, CALIPERDOCK_KIND_SELECT_KW, 0, 6));
     CHECK(is_step(steps[4], CALIPERDOCK_STEP_TOKEN, CALIPERDOCK_KIND_WHITESPACE, 6, 7));
-    CHECK(is_step(steps[5], CALIPERDOCK_STEP_TOKEN, CALIPERDOCK_KIND_INT_NUMBER, 7, 8));
-    CHECK(is_step(steps[6], CALIPERDOCK_STEP_EXIT, 0, 8, 8) && is_step(steps[8], CALIPERDOCK_STEP_EXIT, 0, 8, 8));
+    CHECK(is_step(steps[5], CALIPERDOCK_STEP_ENTER, CALIPERDOCK_KIND_TARGET_LIST, 7, 7));
+    CHECK(is_step(steps[6], CALIPERDOCK_STEP_ENTER, CALIPERDOCK_KIND_TARGET, 7, 7));
+    CHECK(is_step(steps[7], CALIPERDOCK_STEP_ENTER, CALIPERDOCK_KIND_LITERAL, 7, 7));
+    CHECK(is_step(steps[8], CALIPERDOCK_STEP_TOKEN, CALIPERDOCK_KIND_INT_NUMBER, 7, 8));
+    CHECK(is_step(steps[9], CALIPERDOCK_STEP_EXIT, 0, 8, 8) && is_step(steps[14], CALIPERDOCK_STEP_EXIT, 0, 8, 8));
 }
 
 static void errors_are_written(void) {
     static const char grammar[] = "expected )";
     static const char lexical[] = "missing trailing `'` symbol to terminate the string literal";
     caliperdock_sql_counts n;
-    caliperdock_answer a = sql("select (1 'a", 64, &n);
+    caliperdock_answer a = sql("select f(1, 'a", 64, &n);
     CHECK(a.status == CALIPERDOCK_OK && n.sent.errors == 2 && n.sent.step_errors == 1);
     CHECK(n.sent.texts == strlen(grammar) + strlen(lexical));
-    CHECK(errors[0].start == 12 && errors[0].end == 12);
+    CHECK(errors[0].start == 14 && errors[0].end == 14);
     CHECK(errors[0].message_start == 0 && errors[0].message_end == strlen(grammar) && errors[0].hint_end == strlen(grammar));
     CHECK(memcmp(texts, grammar, strlen(grammar)) == 0);
-    CHECK(errors[1].start == 10 && errors[1].end == 12 && errors[1].message_start == strlen(grammar));
+    CHECK(errors[1].start == 12 && errors[1].end == 14 && errors[1].message_start == strlen(grammar));
     CHECK(memcmp(texts + strlen(grammar), lexical, strlen(lexical)) == 0);
 }
 
@@ -66,11 +69,12 @@ static void small_rooms_are_filled(void) {
     caliperdock_sql_counts n;
     memset(steps, 0xAA, sizeof steps);
     caliperdock_answer a = sql("select 1", 2, &n);
-    CHECK(a.status == CALIPERDOCK_TOO_SMALL && n.sent.steps == 9);
-    CHECK(is_step(steps[1], CALIPERDOCK_STEP_ENTER, CALIPERDOCK_KIND_SELECT, 0, 0));
+    CHECK(a.status == CALIPERDOCK_TOO_SMALL && n.sent.steps == 15);
+    CHECK(is_step(steps[1], CALIPERDOCK_STEP_ENTER, CALIPERDOCK_KIND_QUERY, 0, 0));
     CHECK(steps[2].tag == 0xAAAA && steps[2].start == 0xAAAAAAAA);
 }
 
+/* The kind of each is that of its first word. */
 static void statements_are_written(void) {
     static const char two[] = "select (1; drop table t";
     caliperdock_statement alone[2];
@@ -88,7 +92,7 @@ static void statements_are_written(void) {
     CHECK(a.status == CALIPERDOCK_NOT_UTF8 && a.place == 2 && n == 0 && alone[0].kind == 0xAAAAAAAAAAAAAAAAu);
 }
 
-/* The raw tokens of "a b", and events that make one node of it with an error behind. */
+/* The raw tokens of "a b", and events that make one node of it with an error after it. */
 static const caliperdock_token a_b[] = {{4, 1, 0, 0, 0}, {3, 1, 0, 0, 0}, {4, 1, 0, 0, 0}};
 static const caliperdock_event node[] = {{0, 700, 0, 0}, {2, 3, 1, 0}, {2, 3, 1, 0}, {3, 0, 1, 3}, {1, 0, 0, 0}};
 

@@ -38,9 +38,12 @@ class Split(unittest.TestCase):
 class Trees(unittest.TestCase):
     def test_nodes(self):
         tree = caliperdock.parse("select a -- é\nfrom t")
-        select = tree.root.children[0]
-        self.assertEqual([child.kind for child in select.children], ["SELECT_CLAUSE", "WHITESPACE", "COMMENT", "WHITESPACE", "FROM_CLAUSE"])
-        clause = select.children[4]
+        query = tree.root.children[0]
+        self.assertEqual(query.kind, "QUERY")
+        select = query.children[0]
+        kinds = ["SELECT_KW", "WHITESPACE", "TARGET_LIST", "WHITESPACE", "COMMENT", "WHITESPACE", "FROM_CLAUSE"]
+        self.assertEqual([child.kind for child in select.children], kinds)
+        clause = select.children[6]
         self.assertEqual((clause.text, clause.start, clause.end, clause.start_byte), ("from t", 14, 20, 15))
         self.assertEqual(clause.parent, select)
         self.assertIsNone(tree.root.parent)

@@ -7,7 +7,7 @@ from ._places import Source
 
 
 class Statement(NamedTuple):
-    """A statement: its text, its semicolon in it, and where that stands."""
+    """A statement: the kind of its first word, as SELECT, its text, its semicolon in it, and where that stands."""
 
     kind: str
     text: str
@@ -94,7 +94,7 @@ def tokenize(sql: str) -> List[Token]:
 def errors(sql: str) -> List[Error]:
     """What is wrong with a text, in the order of places.
 
-    >>> [error.message for error in errors("select (1")]
+    >>> [error.message for error in errors("select f(1")]
     ['expected )']
     """
     source = Source(sql)

@@ -27,7 +27,7 @@ class Node:
 
     @property
     def kind(self) -> str:
-        """The name of its kind, as SELECT."""
+        """The name of its kind, as QUERY."""
         return kind_name(self._tree._steps[self._index].kind)
 
     @property
@@ -156,6 +156,6 @@ def parse(sql: str) -> Tree:
     """The tree of a text of SQL.
 
     >>> parse("select 1").root.children[0].kind
-    'SELECT'
+    'QUERY'
     """
     return Tree(sql)

@@ -7,12 +7,15 @@
 //!
 //! let tree = Tree::parse("select a from t; -- that's all")?;
 //! let statement = tree.root().first_child().unwrap();
-//! assert_eq!(statement.kind(), SyntaxKind::SELECT);
+//! assert_eq!(statement.kind(), SyntaxKind::QUERY);
 //! assert_eq!(statement.text(), "select a from t;");
 //! # Ok::<(), caliperdock::Refused>(())
 //! ```
 //!
 //! A text may be wrong: it has a tree all the same, and [`Tree::errors`] says what is wrong with it.
+//!
+//! A statement in a tree has the kind that PostgreSQL's grammar says, as QUERY or CREATE_TABLE. One of [`statements`]
+//! has the kind of its first word, as SELECT or CREATE.
 #![no_std]
 
 extern crate alloc;

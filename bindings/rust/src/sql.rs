@@ -11,6 +11,7 @@ use crate::token::Token;
 /// A statement of a text.
 #[derive(Clone, Debug, PartialEq, Eq)]
 pub struct Statement {
+    /// The kind for its first word, as SELECT.
     pub kind: SyntaxKind,
     /// Its bytes of the text, its semicolon among them.
     pub range: Range<usize>,

@@ -13,11 +13,11 @@ use crate::syntax_kind::SyntaxKind;
 /// ```
 /// use caliperdock::{SyntaxElement, Tree};
 ///
-/// let tree = Tree::parse("select (1")?;
+/// let tree = Tree::parse("select f(1")?;
 /// assert_eq!(tree.errors()[0].message, "expected )");
 /// let tokens = tree.root().descendants_with_tokens().filter_map(SyntaxElement::into_token);
 /// let text: String = tokens.map(|token| token.text()).collect();
-/// assert_eq!(text, "select (1");
+/// assert_eq!(text, "select f(1");
 /// # Ok::<(), caliperdock::Refused>(())
 /// ```
 #[derive(Clone, Debug)]
@@ -55,7 +55,7 @@ impl Tree {
         SyntaxNode { tree: self, index: 0 }
     }
 
-    /// What is wrong with the text: the errors of the parse, and behind them the lexical ones.
+    /// What is wrong with the text: the errors of the parse, and after them the lexical ones.
     pub fn errors(&self) -> &[SyntaxError] {
         &self.errors
     }

@@ -47,7 +47,7 @@ const NO_ERROR: CError = CError {
 struct Rooms {
     tokens: [CToken; 8],
     statements: [CStatement; 2],
-    steps: [CStep; 16],
+    steps: [CStep; 32],
     errors: [CError; 2],
     texts: [u8; 80],
 }
@@ -57,7 +57,7 @@ impl Rooms {
         Rooms {
             tokens: [NO_TOKEN; 8],
             statements: [NO_STATEMENT; 2],
-            steps: [NO_STEP; 16],
+            steps: [NO_STEP; 32],
             errors: [NO_ERROR; 2],
             texts: [9; 80],
         }
@@ -125,39 +125,41 @@ fn writes_sql(rt: HostRuntime) -> Result<(), Fail> {
     assert_eq!(rt; answer.status, 0);
     assert_eq!(rt; counts.tokens, 3);
     assert_eq!(rt; counts.statements, 1);
-    assert_eq!(rt; counts.sent.steps, 9);
+    assert_eq!(rt; counts.sent.steps, 15);
     assert_eq!(rt; counts.sent.errors, 0);
     assert_eq!(rt; counts.sent.whole, 1);
     assert_eq!(rt; rooms.tokens[2].kind, 36);
     assert_eq!(rt; rooms.tokens[2].a, 1);
     assert_eq!(rt; rooms.tokens[2].b, 10);
-    assert_eq!(rt; rooms.statements[0].kind, 703);
+    assert_eq!(rt; rooms.statements[0].kind, 818);
     assert_eq!(rt; rooms.statements[0].end, 8);
     assert!(rt; is_step(rooms.steps[0], 1, 700, 0, 0));
-    assert!(rt; is_step(rooms.steps[1], 1, 703, 0, 0));
+    assert!(rt; is_step(rooms.steps[1], 1, 818, 0, 0));
+    assert!(rt; is_step(rooms.steps[2], 1, 703, 0, 0));
     assert_eq!(rt; rooms.steps[3].end, 6);
     assert_eq!(rt; rooms.steps[4].start, 6);
-    assert_eq!(rt; rooms.steps[5].end, 8);
-    assert!(rt; is_step(rooms.steps[8], 2, 0, 8, 8));
-    assert!(rt; is_step(rooms.steps[9], 9, 9, 9, 9));
+    assert!(rt; is_step(rooms.steps[5], 1, 823, 7, 7));
+    assert_eq!(rt; rooms.steps[8].end, 8);
+    assert!(rt; is_step(rooms.steps[14], 2, 0, 8, 8));
+    assert!(rt; is_step(rooms.steps[15], 9, 9, 9, 9));
     Ok(())
 }
 
-/// The error of the grammar stands behind all of the text, the lexical one is about the string.
+/// The error of the grammar stands after all of the text, the lexical one is about the string.
 #[test]
 fn writes_errors(rt: HostRuntime) -> Result<(), Fail> {
     let mut rooms = Rooms::new();
     let mut counts = CSqlCounts::none();
-    let answer = rooms.sql(rt.alloc(), b"select (1 'a", &mut counts);
+    let answer = rooms.sql(rt.alloc(), b"select f(1, 'a", &mut counts);
     assert_eq!(rt; answer.status, 0);
     assert_eq!(rt; counts.sent.errors, 2);
     assert_eq!(rt; counts.sent.step_errors, 1);
     assert_eq!(rt; counts.sent.texts, 69);
-    assert_eq!(rt; rooms.errors[0].start, 12);
+    assert_eq!(rt; rooms.errors[0].start, 14);
     assert_eq!(rt; rooms.errors[0].message_end, 10);
     assert_eq!(rt; rooms.errors[0].hint_end, 10);
-    assert_eq!(rt; rooms.errors[1].start, 10);
-    assert_eq!(rt; rooms.errors[1].end, 12);
+    assert_eq!(rt; rooms.errors[1].start, 12);
+    assert_eq!(rt; rooms.errors[1].end, 14);
     assert_eq!(rt; rooms.errors[1].message_start, 10);
     assert_eq!(rt; rooms.errors[1].message_end, 69);
     assert!(rt; rooms.texts.starts_with(b"expected )missing trailing `'`"));
@@ -223,7 +225,7 @@ fn refuses_the_first(rt: HostRuntime) -> Result<(), Fail> {
     Ok(())
 }
 
-/// A semicolon in brackets ends the statement.
+/// A semicolon in brackets ends the statement. The kind of each is that of its first word.
 #[test]
 fn writes_statements(rt: HostRuntime) -> Result<(), Fail> {
     let mut statements = [NO_STATEMENT; 2];
@@ -232,7 +234,9 @@ fn writes_statements(rt: HostRuntime) -> Result<(), Fail> {
     let answer = caliperdock_statements(rt.alloc(), text, &mut statements, &mut count);
     assert_eq!(rt; answer.status, 0);
     assert_eq!(rt; count, 2);
+    assert_eq!(rt; statements[0].kind, 703);
     assert_eq!(rt; statements[0].end, 10);
+    assert_eq!(rt; statements[1].kind, 710);
     assert_eq!(rt; statements[1].start, 11);
     assert_eq!(rt; statements[1].end, 23);
     let answer = caliperdock_statements(rt.alloc(), b"a \xff", &mut statements, &mut count);

@@ -4,9 +4,9 @@
 //!
 //! ```text
 //! walk(alloc, &table, &output, ..)          its errors by their places, its statements, and its tree as text or
-//!                                           as JSON, {"kind":"SELECT","start":0, ..: as much as is asked for
+//!                                           as JSON, {"kind":"QUERY","start":0, ..: as much as is asked for
 //! statements(alloc, &table, &output)        its statements alone: the nodes directly in the root, with their bytes
-//! statement_lines(alloc, text, ..)          0..9 1:1 SELECT
+//! statement_lines(alloc, text, ..)          0..9 1:1 QUERY
 //! error_lines(alloc, name, text, ..)        a.sql:1:8: expected ), with the line and a mark under it
 //! ```
 #![tactic(auto)]

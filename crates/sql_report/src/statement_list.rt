@@ -132,7 +132,7 @@ fn push_closed(
 /// A line for each statement: its bytes, the line and the column of the first, and its kind by name.
 ///
 /// ```text
-/// 0..9 1:1 SELECT
+/// 0..9 1:1 QUERY
 /// ```
 pub fn statement_lines(
     alloc: Global,

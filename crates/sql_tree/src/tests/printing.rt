@@ -34,7 +34,7 @@ impl Texts for Fixed {
 
 static TEXTS: [(&str, &[u8]); 3] = [
     ("a", b"select 1;\nselect 2;\n"),
-    ("b", b"select (1;"),
+    ("b", b"select f(1;"),
     // No text of UTF-8 has the byte 255.
     ("c", b"select \xff"),
 ];
@@ -53,15 +53,15 @@ static RUNS: [Run; 7] = [
     Run {
         listing: Listing::Statements,
         names: &["a"],
-        out: "0..9 1:1 SELECT\n10..19 2:1 SELECT\n",
+        out: "0..9 1:1 QUERY\n10..19 2:1 QUERY\n",
         errors: "files: 1, statements: 2, errors: 0\n",
         status: 0,
     },
     Run {
         listing: Listing::Statements,
         names: &["a", "b"],
-        out: "a:\n0..9 1:1 SELECT\n10..19 2:1 SELECT\nb:\n0..10 1:1 SELECT\n",
-        errors: "b:1:10: expected )\nselect (1;\n         ^\n\
+        out: "a:\n0..9 1:1 QUERY\n10..19 2:1 QUERY\nb:\n0..11 1:1 QUERY\n",
+        errors: "b:1:11: expected )\nselect f(1;\n          ^\n\
                  files: 2, statements: 3, errors: 1\n",
         status: 1,
     },
@@ -69,9 +69,9 @@ static RUNS: [Run; 7] = [
     Run {
         listing: Listing::Statements,
         names: &["b", "a", "b"],
-        out: "b:\n0..10 1:1 SELECT\na:\n0..9 1:1 SELECT\n10..19 2:1 SELECT\nb:\n0..10 1:1 SELECT\n",
-        errors: "b:1:10: expected )\nselect (1;\n         ^\n\
-                 b:1:10: expected )\nselect (1;\n         ^\n\
+        out: "b:\n0..11 1:1 QUERY\na:\n0..9 1:1 QUERY\n10..19 2:1 QUERY\nb:\n0..11 1:1 QUERY\n",
+        errors: "b:1:11: expected )\nselect f(1;\n          ^\n\
+                 b:1:11: expected )\nselect f(1;\n          ^\n\
                  files: 3, statements: 4, errors: 2\n",
         status: 1,
     },
@@ -79,7 +79,7 @@ static RUNS: [Run; 7] = [
     Run {
         listing: Listing::Statements,
         names: &["c", "d", "a"],
-        out: "a:\n0..9 1:1 SELECT\n10..19 2:1 SELECT\n",
+        out: "a:\n0..9 1:1 QUERY\n10..19 2:1 QUERY\n",
         errors: "c: invalid UTF-8 at byte 7\nd: entity not found\n\
                  files: 1, statements: 2, errors: 0\n",
         status: 3,
@@ -88,8 +88,8 @@ static RUNS: [Run; 7] = [
     Run {
         listing: Listing::Statements,
         names: &["d", "b"],
-        out: "b:\n0..10 1:1 SELECT\n",
-        errors: "d: entity not found\nb:1:10: expected )\nselect (1;\n         ^\n\
+        out: "b:\n0..11 1:1 QUERY\n",
+        errors: "d: entity not found\nb:1:11: expected )\nselect f(1;\n          ^\n\
                  files: 1, statements: 1, errors: 1\n",
         status: 3,
     },
@@ -98,7 +98,7 @@ static RUNS: [Run; 7] = [
         listing: Listing::Quiet,
         names: &["a", "b"],
         out: "",
-        errors: "b:1:10: expected )\nselect (1;\n         ^\n",
+        errors: "b:1:11: expected )\nselect f(1;\n          ^\n",
         status: 1,
     },
     Run {
