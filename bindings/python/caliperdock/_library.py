@@ -122,7 +122,7 @@ class Written:
 
     def __init__(self, data: bytes, tokens: bool = False, steps: bool = False, errors: bool = False):
         wanted = (tokens, steps, errors, errors)
-        guess = (len(data) // 3 + 16, len(data) // 2 + 32, 4, 256)
+        guess = (len(data) // 3 + 16, len(data) + 32, 4, 256)
         counts = _Counts()
         no_statements = (RawStatement * 1)()
         room = [n if want else 0 for n, want in zip(guess, wanted)]

@@ -333,7 +333,7 @@ fn guess(len: u64) -> RawSqlCounts {
         tokens: len / 3 + 16,
         statements: 0,
         sent: RawCounts {
-            steps: len / 2 + 32,
+            steps: len + 32,
             errors: 4,
             texts: 256,
             ..RawCounts::default()
