@@ -14,10 +14,10 @@ use Rattle.rule_tables.specs.declared.walk.Walk.{Walk}
 use Rattle.rule_tables.proofs.Below.{last-none, last-some}
 use Rattle.rule_tables.proofs.Walking.{goes_as, goes_none, goes_then}
 
-leads_there : (h : ℕ) (goal : Option ℕ) → goal ≡ Some h → is_number h goal ≡ true
+pub leads_there : (h : ℕ) (goal : Option ℕ) → goal ≡ Some h → is_number h goal ≡ true
 leads_there h goal e = rw e (eq-eqb h h refl)
 
-there : (h : ℕ) (goal : Option ℕ) → is_number h goal ≡ true → goal ≡ Some h
+pub there : (h : ℕ) (goal : Option ℕ) → is_number h goal ≡ true → goal ≡ Some h
 there h None e = absurd cc
 there h (Some g) e = ap Some (eqb-true g h e)
 

@@ -264,7 +264,7 @@ impl Walk {
 }
 
 /// Whether a row leads so to another.
-fn leads_as(way: Way, row: &Row) -> bool
+pub(crate) fn leads_as(way: Way, row: &Row) -> bool
     ensures { result ≡ leads_as way (Some row.now) }
 {
     match way {
@@ -275,7 +275,7 @@ fn leads_as(way: Way, row: &Row) -> bool
 }
 
 /// The place that a row leads to.
-fn led_to(way: Way, row: usize) -> Place
+pub(crate) fn led_to(way: Way, row: usize) -> Place
     ensures { result ≡ led_to way row }
 {
     match way {
