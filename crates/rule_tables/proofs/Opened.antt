@@ -9,7 +9,6 @@ use Rattle.rule_tables.specs.Forks.{AreDecided, IsDecidedWay, IsFirstOpen, IsOpe
 use Rattle.rule_tables.specs.Rows.{file_row}
 use Rattle.rule_tables.specs.Walks.{plan_of}
 use Rattle.rule_tables.specs.Strands.{AreWaysDecided, IsElsewhere, IsToldAt, IsUpTo, IsWayUndecided}
-use Rattle.rule_tables.specs.declared.looks.Fork.{Fork}
 use Rattle.rule_tables.specs.declared.map.Map.{Map}
 use Rattle.rule_tables.specs.declared.strands.Open.{Open}
 use Rattle.rule_tables.proofs.Beside.{arm_decided, tail_decided}
@@ -54,10 +53,10 @@ up_to (suc n) (Some one) before other = let past : n < one.row = before n (omega
 pub up_more : (n : ℕ) (found : Option Open) → ((k : ℕ) → k < n → IsUpTo found k) → IsElsewhere found n → (k : ℕ) → k < n + 1 → IsUpTo found k
 up_more n found before other k lt = elim (cases_eq k n) [ inl same ↦ subst (IsUpTo found) (sym same) (up_to n found before other) | inr less ↦ before k (omega (arith, lt, less)) ]
 
-pub way_here : (fork : Fork) (row : Part) (found : Option Open) → AreWaysDecided (plan_of fork.map.now) fork.parts.now (length fork.map.now.rows.now) found → slice_get fork.map.now.rows.now fork.part ≡ Some row → IsUpTo found fork.part → IsDecidedWay fork row
-way_here fork (Arm end) found ways here up opened = arm_decided (plan_of fork.map.now) fork.parts.now found ways fork.part (slice_get_within fork.map.now.rows.now fork.part (Arm end) here) up opened.0 end here opened.1
-way_here fork (Tail end level top) found ways here up opened = tail_decided (plan_of fork.map.now) fork.parts.now found ways fork.part (slice_get_within fork.map.now.rows.now fork.part (Tail end level top) here) up opened.0 end level top here opened.1
-way_here fork row found ways here up = tt
+pub way_here : (plan : Plan) (list : List parts.Part) (n : ℕ) (row : Part) (found : Option Open) → AreWaysDecided plan list (length plan.rows) found → slice_get plan.rows n ≡ Some row → IsUpTo found n → IsDecidedWay plan list n row
+way_here plan list n (Arm end) found ways here up = λ opened. arm_decided plan list found ways n (slice_get_within plan.rows n (Arm end) here) up opened.0 end here opened.1
+way_here plan list n (Tail end level top) found ways here up = λ opened. tail_decided plan list found ways n (slice_get_within plan.rows n (Tail end level top) here) up opened.0 end level top here opened.1
+way_here plan list n row found ways here up = tt
 
 pub told_open : (plan : Plan) (list : List parts.Part) (found : Option Open) (n : ℕ) (reason : RulesError) → IsWayUndecided plan list found → AreDecided plan list n → IsToldAt found n reason → IsFirstOpen plan list reason
 told_open plan list None n reason way before told = absurd told

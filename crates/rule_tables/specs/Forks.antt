@@ -21,12 +21,6 @@ IsOpenFork fork = settles fork.parts.now fork.map.now.rows.now fork.part ≡ fal
 abbrev pub IsOpenAt : Fork → Part → Type 0
 IsOpenAt fork row = IsOpenFork fork × IsUndecidedRow (plan_of fork.map.now) fork.part (Some row)
 
--- an arm or an operator is not so
-abbrev pub IsDecidedWay : Fork → Part → Type 0
-IsDecidedWay fork (Arm end) = IsOpenAt fork (Arm end) → ⊥
-IsDecidedWay fork (Tail end level top) = IsOpenAt fork (Tail end level top) → ⊥
-IsDecidedWay fork row = Unit {0}
-
 -- a part isn't settled, and these kinds come two ways there
 abbrev pub IsOpenBy : Fork → Part → List ℕ → Type 0
 IsOpenBy fork row kinds = IsOpenFork fork × AreTold (ComesTwoWays (plan_of fork.map.now) fork.part (Some row)) kinds
@@ -34,6 +28,12 @@ IsOpenBy fork row kinds = IsOpenFork fork × AreTold (ComesTwoWays (plan_of fork
 -- row i is undecided, and not settled
 abbrev pub IsOpen : Plan → List parts.Part → ℕ → Type 0
 IsOpen plan parts i = (settles parts plan.rows i ≡ false) × IsUndecided plan i
+
+-- row i, which is this one, is not, if it is an arm or an operator
+abbrev pub IsDecidedWay : Plan → List parts.Part → ℕ → Part → Type 0
+IsDecidedWay plan parts i (Arm end) = (settles parts plan.rows i ≡ false) × IsUndecidedRow plan i (Some (Arm end)) → ⊥
+IsDecidedWay plan parts i (Tail end level top) = (settles parts plan.rows i ≡ false) × IsUndecidedRow plan i (Some (Tail end level top)) → ⊥
+IsDecidedWay plan parts i row = Unit {0}
 
 -- none of the first n rows is
 abbrev pub AreDecided : Plan → List parts.Part → ℕ → Type 0

@@ -39,7 +39,7 @@ pub(crate) fn all_numbers(
     for (index, row) in map.rows.iter().enumerate() {
         let fork = Fork {
             map: &*map,
-            parts,
+            parts: &*parts,
             part: index,
         };
         refuse(&undecided, index)?;
@@ -82,7 +82,7 @@ fn numbers_of(
     message: u16,
 ) -> Result<[u16; 8], RulesError>
     requires exact { IsTrue (is_exact row.now) }
-    requires way { IsDecidedWay fork.now row.now }
+    requires way { IsDecidedWay (plan_of fork.now.map.now) fork.now.parts.now fork.now.part row.now }
     requires row { slice_get fork.now.map.now.rows.now fork.now.part ≡ Some row.now }
     ensures err { IfErr result (IsUndecidedIf (IsOpenBy fork.now row.now) fork.now.part) }
     ensures decided { OnOk result (IsOpenAt fork.now row.now → ⊥) }
@@ -173,7 +173,7 @@ fn begins(
 /// The look of a row, or the set of kinds that one of its operators begins with.
 #[tactic(auto, using(crate::proofs::Limited::limit_if))]
 fn look(looks: &mut Looks, fork: &Fork<'_, '_>, known: &Ahead, row: &Row) -> Result<u16, RulesError>
-    requires way { IsDecidedWay fork.now row.now }
+    requires way { IsDecidedWay (plan_of fork.now.map.now) fork.now.parts.now fork.now.part row.now }
     requires row { slice_get fork.now.map.now.rows.now fork.now.part ≡ Some row.now }
     ensures err { IfErr result (IsUndecidedIf (IsOpenBy fork.now row.now) fork.now.part) }
     ensures decided { OnOk result (IsOpenAt fork.now row.now → ⊥) }

@@ -209,12 +209,7 @@ impl Looks {
 }
 
 /// The row, if it shares a kind, and the kinds up to that one.
-fn undecided_at(
-    row: usize,
-    trail: &Trail,
-    shared: TokenSet,
-    before: Option<Open>,
-) -> Option<Open>
+fn undecided_at(row: usize, trail: &Trail, shared: TokenSet, before: Option<Open>) -> Option<Open>
     requires { trail.now.depth < 4 }
     ensures { IsOpenAfter row trail.now shared before result }
 {
