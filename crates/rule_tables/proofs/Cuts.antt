@@ -135,8 +135,17 @@ alike_more plan places n sets before after place kinds here are cut alike = reco
 
 -- ---- of each strand
 
-pub groups_none : (plan : Plan) (strands : List Strand) (set : TokenSet) (groups : List TokenSet) → AddsSome [] set groups → AreGroupsOn plan strands 0 set groups
-groups_none plan strands set groups adds = record { all = adds.adds; alike = λ g group is i s lt. absurd (omega arith) }
+pub groups_none : (plan : Plan) (strands : List Strand) (n : ℕ) (set : TokenSet) (groups : List TokenSet) → groups ≡ [] → ((kind : ℕ) → has set kind ≡ false) → AreGroupsOn plan strands n set groups
+groups_none plan strands n set groups is empty = record {
+  all = λ kind holds. let none : has set kind ≡ false = empty kind in absurd cc;
+  alike = λ g group found. absurd (let one : slice_get [] g ≡ Some group = rw is at found in cc);
+}
+
+pub groups_first : (plan : Plan) (strands : List Strand) (set : TokenSet) (groups : List TokenSet) → groups ≡ set ∷ [] → AreGroupsOn plan strands 0 set groups
+groups_first plan strands set groups is = record {
+  all = λ kind holds. record { index = 0; set = set; is = rw is refl; holds = holds };
+  alike = λ g group found i s lt. absurd (omega arith);
+}
 
 pub groups_more : (plan : Plan) (strands : List Strand) (n : ℕ) (set : TokenSet) (before after : List TokenSet) (s : Strand) → slice_get strands n ≡ Some s → AreGroupsOn plan strands n set before → AreAlike plan s.places.items (length s.places.items) before after
     → AreGroupsOn plan strands (n + 1) set after

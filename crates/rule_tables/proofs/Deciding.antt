@@ -66,9 +66,6 @@ any_eaten plan places kind e =
     let found : (x : Place) × IsOneOf places x × (eats plan x kind ≡ true) = at_any (λ p. eats plan p kind) places e in
     record { place = found.0; one = found.1; sees = steps found.2 (step_some plan found.0 kind found.2).1 nothing }
 
-both_any : (a b : Bool) → a ≡ true → b ≡ true → (a && b) ≡ true
-both_any a b e f = rw (e, f) refl
-
 pub one_any : (a b : Bool) → (a && b) ≡ true → (a ≡ true) × (b ≡ true)
 one_any true true e = (refl, refl)
 one_any true false e = absurd cc

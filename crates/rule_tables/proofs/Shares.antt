@@ -72,6 +72,18 @@ module _ (plan : Plan) (strands : List Strand) (are : AreStrands plan strands) w
         decided_as (λ row word. SeesOn plan strands row (other ∷ word)) (SeesOn plan after)
         (λ row next word on. listed.all row next word (alike_on group alike other kind in_other holds row (next ∷ word) on)) plan list count found some decided
 
+    -- fewer than two share nothing
+    few_word : length strands < 2 → (row : ℕ) (word : List ℕ) → 0 < length word → SeesOn plan strands row word → ComesLater (SeesOn plan strands) row word → ⊥
+    few_word few row [] some on later = omega arith
+    few_word few row (kind ∷ word) some on later =
+        let both : (i : ℕ) × (s : Strand) × (slice_get strands i ≡ Some s) × (s.row ≡ row) × (has s.kinds kind ≡ true) × HasKind strands i kind = both_have row kind word on later in
+        let within : both.0 < length strands = slice_get_within strands both.0 both.1 both.2 in
+        let before : both.5.index < both.0 = both.5.first in
+        omega (arith, few, within, before)
+
+    pub decided_few : length strands < 2 → (count : ℕ) → 0 < count → (found : Option Open) → AreDecidedBy plan list (SeesOn plan strands) count found
+    decided_few few count some found row up settled share = few_word few row share.word (omega (arith, share.len)) share.such.0 share.such.1
+
     -- one token decides
     last_word : (trail : Trail) (found : Found) → IsFound plan list strands trail (length strands) found → (row : ℕ) → IsUpTo found.undecided row → settles list plan.rows row ≡ false → (word : List ℕ) → 0 < length word → SeesOn plan strands row word → ComesLater (SeesOn plan strands) row word → ⊥
     last_word trail found all row up settled [] some on later = omega arith

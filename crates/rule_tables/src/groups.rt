@@ -22,7 +22,10 @@ pub(crate) fn groups(
     ensures { IfOk result (λ groups. AreGroupsOn (plan_of map.now) strands.now (length strands.now) set groups.items) }
 {
     let mut groups = Vec::new(alloc);
-    push_some(&mut groups, set)?;
+    if is_empty(set) {
+        return Ok(groups);
+    }
+    push(&mut groups, set)?;
     for strand in strands {
         groups = cut_all(alloc, map, groups, &strand.places)?;
     }

@@ -79,7 +79,7 @@ impl Looks {
         let mut strands = Vec::new(self.alloc);
         push(&mut strands, strand_of(fork.map, fork.part + 1, others))?;
         push(&mut strands, strand_of(fork.map, fork.part, mine))?;
-        match self.part(fork.parts, fork.map, &strands, &Trail::none())? {
+        match self.decide(fork.parts, fork.map, &strands, &Trail::none())? {
             Some(open) => {
                 let kinds = open.kinds;
                 Err(RulesError::Undecided {

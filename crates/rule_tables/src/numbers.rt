@@ -34,7 +34,7 @@ pub(crate) fn all_numbers(
     ensures keeps { OnOk result (Extends looks.old.sets.list.items looks.new.sets.list.items) }
     ensures ok { IfOk result (λ numbers. SayRows map.now.rows.now numbers.items) }
 {
-    let undecided = looks.part_all(parts, map)?;
+    let undecided = looks.decide_all(parts, map)?;
     let mut numbers = Vec::new(looks.alloc);
     for (index, row) in map.rows.iter().enumerate() {
         let fork = Fork {

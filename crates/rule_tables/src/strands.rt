@@ -46,8 +46,8 @@ pub(crate) struct Found {
 
 impl Looks {
     /// Adds the looks at more tokens after some that came. Returns the first row that is undecided.
-    #[cycle(part)]
-    pub(crate) fn part(
+    #[cycle(decide)]
+    pub(crate) fn decide(
         &mut self,
         parts: &[Part<'_>],
         map: &Map<'_>,
@@ -61,6 +61,9 @@ impl Looks {
         ensures told { IfOk result (IsToldBy (plan_of map.now) parts.now (SeesOn (plan_of map.now) strands.now) trail.now) }
         ensures keeps { OnOk result (Extends self.old.sets.list.items self.new.sets.list.items) }
     {
+        if strands.len() < 2 {
+            return Ok(None);
+        }
         let found = self.tell_all(parts, map, strands, trail)?;
         if trail.depth + 1 >= 4 {
             return Ok(found.undecided);
@@ -68,15 +71,15 @@ impl Looks {
         let groups = groups(self.alloc, map, strands, found.shared)?;
         let mut undecided: Option<Open> = None;
         for group in &groups {
-            let other = self.part_group(parts, map, strands, trail, *group)?;
+            let other = self.decide_group(parts, map, strands, trail, *group)?;
             undecided = first_open(undecided, other);
         }
         Ok(undecided)
     }
 
     /// The same, where the next token is in a set of kinds that are eaten at the same places.
-    #[cycle(part)]
-    fn part_group(
+    #[cycle(decide)]
+    fn decide_group(
         &mut self,
         parts: &[Part<'_>],
         map: &Map<'_>,
@@ -97,7 +100,7 @@ impl Looks {
         };
         let set = self.sets.number(group)?;
         let after = self.after(map, strands, kind)?;
-        self.part(parts, map, &after, &trail.then(set, kind))
+        self.decide(parts, map, &after, &trail.then(set, kind))
     }
 
     /// The strands that eat a token of the kind, after it.

@@ -18,7 +18,7 @@ use rule_parts::Part;
 
 impl Looks {
     /// Adds the looks of all arms and operators. Returns the first that four tokens don't decide.
-    pub(crate) fn part_all(
+    pub(crate) fn decide_all(
         &mut self,
         parts: &[Part<'_>],
         map: &Map<'_>,
@@ -30,15 +30,15 @@ impl Looks {
         self.ends.resize(map.rows.len(), [0, 0])?;
         let mut undecided: Option<Open> = None;
         for row in 0..map.rows.len() {
-            let arm = self.part_ways(parts, map, row, Way::Arm)?;
-            let tail = self.part_ways(parts, map, row, Way::Tail)?;
+            let arm = self.decide_ways(parts, map, row, Way::Arm)?;
+            let tail = self.decide_ways(parts, map, row, Way::Tail)?;
             undecided = first_open(first_open(undecided, arm), tail);
         }
         Ok(undecided)
     }
 
     /// The same of the arms or operators in a row.
-    fn part_ways(
+    fn decide_ways(
         &mut self,
         parts: &[Part<'_>],
         map: &Map<'_>,
@@ -53,7 +53,7 @@ impl Looks {
         ensures keeps { OnOk result (Extends self.old.sets.list.items self.new.sets.list.items) }
     {
         let strands = self.ways(map, row, way)?;
-        self.part(parts, map, &strands, &Trail::none())
+        self.decide(parts, map, &strands, &Trail::none())
     }
 
     /// The strands of the arms or operators in a row.

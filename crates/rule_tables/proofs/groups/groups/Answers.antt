@@ -4,11 +4,14 @@ use Rattle.rule_tables.specs.Looks.{AreAlike}
 use Rattle.rule_tables.specs.Strands.{AreGroupsOn}
 use Rattle.rule_tables.specs.Walks.{plan_of}
 use Rattle.rule_tables.specs.declared.place.Place.{Place}
-use Rattle.rule_tables.proofs.Cuts.{groups_more, groups_none}
+use Rattle.rule_tables.proofs.Cuts.{groups_first, groups_more, groups_none}
 use Rattle.rule_tables.proofs.groups.groups.Goals as goal
 
+pub returns-then-is_empty : goal.returns-then-is_empty
+returns-then-is_empty c = groups_none (plan_of c.args.map.now) c.args.strands.now (length c.args.strands.now) c.args.set c.new-groups.result.items c.new-groups.ensures.items (c.is_empty.ensures c.if-is_empty.true)
+
 pub loop-strand-init : goal.loop-strand-init
-loop-strand-init c = groups_none (plan_of c.args.map.now) c.args.strands.now c.args.set c.push_some.new.sets.items (rw c.new-groups.ensures.items at c.in_ok-push_some.ensures)
+loop-strand-init c = groups_first (plan_of c.args.map.now) c.args.strands.now c.args.set c.push.new.list.items (rw c.new-groups.ensures.items at c.in_ok-push.ensures)
 
 pub loop-strand-preserved : goal.loop-strand-preserved
 loop-strand-preserved c =

@@ -2,13 +2,13 @@ use Rattle.rule_tables.specs.Strands.IsIn.{arm, tail}
 use Rattle.rule_tables.specs.Walks.{plan_of}
 use Rattle.rule_tables.proofs.Beside.{ways_more}
 use Rattle.rule_tables.proofs.Longer.{extends_then}
-use Rattle.rule_tables.proofs.looks.Looks.part_all.Goals as goal
+use Rattle.rule_tables.proofs.looks.Looks.decide_all.Goals as goal
 
-pub part_ways-requires-clause-way : goal.part_ways-requires-clause-way
-part_ways-requires-clause-way c = arm
+pub decide_ways-requires-clause-way : goal.decide_ways-requires-clause-way
+decide_ways-requires-clause-way c = arm
 
-pub part_ways-requires-in-loop-row-clause-way : goal.part_ways-requires-in-loop-row-clause-way
-part_ways-requires-in-loop-row-clause-way c = tail
+pub decide_ways-requires-in-loop-row-clause-way : goal.decide_ways-requires-in-loop-row-clause-way
+decide_ways-requires-in-loop-row-clause-way c = tail
 
 pub loop-row-preserved : goal.loop-row-preserved
 loop-row-preserved c = record {

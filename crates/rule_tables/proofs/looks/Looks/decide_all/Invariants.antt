@@ -1,7 +1,7 @@
 use Rattle.rule_tables.specs.Sets.{Extends}
 use Rattle.rule_tables.specs.Strands.{AreWaysDecided}
 use Rattle.rule_tables.specs.Walks.{plan_of}
-use Rattle.rule_tables.proofs.looks.Looks.part_all.Given as goal
+use Rattle.rule_tables.proofs.looks.Looks.decide_all.Given as goal
 
 abbrev pub invariant-loop-row : goal.invariant-loop-row
 invariant-loop-row l = record {
