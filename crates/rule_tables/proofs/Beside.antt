@@ -4,7 +4,6 @@ use Rattle.std.proofs.lemmas.Bool.{cases_eq}
 use Rattle.rule_grammar.specs.declared.part.Part.{Part}
 use Rattle.rule_grammar.specs.declared.part.Part.TheVariants.{Arm, Tail}
 use Rattle.rule_parts.specs.declared.Part as parts
-use Rattle.rule_tables.specs.Forks.{IsUndecidedBy}
 use Rattle.rule_tables.specs.Maps.{leads_to}
 use Rattle.rule_tables.specs.Places.{AreTold, ComeBoth, ComesTwoWays, IsUndecidedRow, Plan, Sees, SeesRival, goal_of, last_below, leads_as, led_to, outer_of}
 use Rattle.rule_tables.specs.Settled.{settles}

@@ -2,7 +2,7 @@
 use Rattle.std.proofs.Common.{◌≡◌, ℕ, List, Result, Ok, Err, IfErr, OnOk, subst}
 use Rattle.rule_tables.specs.Limits.{IsLimit, IsUndecidedIf}
 use Rattle.rule_tables.specs.declared.error.RulesError.{RulesError}
-use Rattle.rule_tables.specs.declared.error.RulesError.TheVariants.{Undecided, TooMany, Memory}
+use Rattle.rule_tables.specs.declared.error.RulesError.TheVariants.{TooMany, Memory}
 
 pub limit_if : (Shared : List ℕ → Type 0) (part : ℕ) (reason : RulesError) → IsLimit reason → IsUndecidedIf Shared part reason
 limit_if Shared part TooMany limit = limit

@@ -1,11 +1,10 @@
 -- Strands that are added one after another, and what comes on them.
-use Rattle.std.proofs.Common.{◌≡◌, ◌∙◌, ℕ, suc, ◌+◌, ◌<◌, ◌≤◌, ◌⊎◌, Bool, true, false, inl, inr, List, [], ◌∷◌, ◌++◌, length, Option, Some, slice_get, arith, ap, refl, sym, subst, length-append}
+use Rattle.std.proofs.Common.{◌≡◌, ◌∙◌, ℕ, ◌+◌, ◌<◌, ◌≤◌, ◌⊎◌, Bool, true, false, inl, inr, List, [], ◌∷◌, ◌++◌, length, Option, Some, slice_get, arith, ap, refl, sym, subst, length-append}
 use Rattle.std.proofs.lemmas.Bool.{cases_eq, cases_lt}
 use Rattle.std.proofs.lemmas.Option.{slice_get_within}
 use Rattle.squawk_kinds.specs.TokenSets.{has}
 use Rattle.rule_parts.specs.declared.Part as parts
 use Rattle.rule_tables.specs.Places.{Plan, SeesFrom}
-use Rattle.rule_tables.specs.Settled.{settles}
 use Rattle.rule_tables.specs.Strands.{AddsStrand, AreDecidedBy, AreListed, AreStrands, ComesLater, IsStrand, IsStrandOf, SeesOn}
 use Rattle.rule_tables.specs.Walks.{AreFirst}
 use Rattle.rule_tables.specs.declared.place.Place.{Place}

@@ -1,5 +1,5 @@
 -- Rows that four tokens don't decide, one after another.
-use Rattle.std.proofs.Common.{◌≡◌, ◌∙◌, ◌+◌, ◌<◌, ℕ, zero, suc, false, inl, inr, List, Option, None, Some, length, slice_get, arith, refl, sym, subst}
+use Rattle.std.proofs.Common.{◌≡◌, ◌+◌, ◌<◌, ℕ, zero, suc, false, inl, inr, List, Option, None, Some, length, slice_get, arith, refl, sym, subst}
 use Rattle.std.proofs.lemmas.Bool.{cases_eq}
 use Rattle.std.proofs.lemmas.Option.{slice_get_within}
 use Rattle.rule_grammar.specs.declared.part.Part.{Part}

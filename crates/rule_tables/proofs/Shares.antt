@@ -1,15 +1,15 @@
 -- What strands share, one after another.
-use Rattle.std.proofs.Common.{◌≡◌, ◌∙◌, ◌⊎◌, ℕ, suc, ◌+◌, ◌<◌, ◌≤◌, ◌&&◌, ◌||◌, Bool, true, false, inl, inr, List, [], ◌∷◌, length, map, Option, Some, None, slice_get, slice_set, arith, ap, refl, sym, subst}
-use Rattle.std.proofs.lemmas.Bool.{cases_Bool, cases_eq, cases_lt}
+use Rattle.std.proofs.Common.{◌≡◌, ◌∙◌, ◌⊎◌, ℕ, suc, ◌+◌, ◌<◌, ◌&&◌, ◌||◌, Bool, true, false, inl, inr, List, [], ◌∷◌, length, map, Option, Some, None, slice_get, slice_set, arith, ap, refl, sym, subst}
+use Rattle.std.proofs.lemmas.Bool.{cases_eq, cases_lt}
 use Rattle.std.proofs.lemmas.Option.{slice_get_within}
 use Rattle.squawk_kinds.specs.TokenSets.{has}
 use Rattle.squawk_kinds.specs.declared.token_set.TokenSet.{TokenSet}
 use Rattle.rule_grammar.specs.Parts.{bit_of}
 use Rattle.rule_parts.specs.declared.Part as parts
 use Rattle.rule_tables.specs.Looks.{HasOne}
-use Rattle.rule_tables.specs.Places.{Plan, SeesFrom}
+use Rattle.rule_tables.specs.Places.{Plan}
 use Rattle.rule_tables.specs.Settled.{settles}
-use Rattle.rule_tables.specs.Strands.{AreAlikeOn, AreDecidedAfter, AreDecidedBy, AreGroupsOn, AreListed, AreStrands, ComesLater, HasKind, IsFound, IsSharedBy, IsSharedIn, IsStrand, IsTold, IsToldBy, IsUndecidedHere, IsUpTo, SeesOn, Tells}
+use Rattle.rule_tables.specs.Strands.{AreAlikeOn, AreDecidedAfter, AreDecidedBy, AreGroupsOn, AreListed, AreStrands, ComesLater, HasKind, IsFound, IsSharedBy, IsStrand, IsTold, IsToldBy, IsUpTo, SeesOn, Tells}
 use Rattle.rule_tables.specs.declared.strands.Strand.{Strand}
 use Rattle.rule_tables.specs.declared.strands.Open.{Open}
 use Rattle.rule_tables.specs.declared.strands.Found.{Found}

@@ -1,11 +1,9 @@
 -- What decides between two ways.
-use Rattle.std.specs.Prelude.{◌≡◌, ℕ, ◌<◌, ◌⊎◌, true, Some, List, ◌∷◌, drop, length, map, slice_get, take}
+use Rattle.std.specs.Prelude.{◌≡◌, ℕ, ◌<◌, ◌⊎◌, true, Some, List, slice_get}
 use Rattle.squawk_kinds.specs.TokenSets.{has}
 use Rattle.squawk_kinds.specs.declared.token_set.TokenSet.{TokenSet}
-use Rattle.rule_tables.specs.Places.{AreShared, ComeBoth, IsOneOf, Plan, SeesFrom, eats}
-use Rattle.rule_grammar.specs.Parts.{bit_of}
+use Rattle.rule_tables.specs.Places.{IsOneOf, Plan, eats}
 use Rattle.rule_tables.specs.declared.place.Place.{Place}
-use Rattle.rule_tables.specs.declared.trail.Trail.{Trail}
 
 -- a set has a kind
 pub record HasOne (sets : List TokenSet) (kind : ℕ) : Type 0 where

@@ -1,4 +1,4 @@
-use Rattle.std.proofs.Common.{◌≡◌, ℕ, List, Some, [], length, slice_get, arith, refl, subst}
+use Rattle.std.proofs.Common.{◌≡◌, ℕ, List, Some, length, slice_get, arith, refl, subst}
 use Rattle.std.proofs.lemmas.Option.{slice_get_read}
 use Rattle.rule_tables.specs.Looks.{AreAlike}
 use Rattle.rule_tables.specs.Strands.{AreGroupsOn}

@@ -1,7 +1,7 @@
-use Rattle.std.proofs.Common.{rules, ◌≡◌, ◌<◌, ◌-◌, ◌+◌, ℕ, List, ◌∷◌, None, Some, length, slice_get, arith, refl, sym, subst}
+use Rattle.std.proofs.Common.{rules, ◌≡◌, ◌<◌, ◌-◌, ℕ, List, ◌∷◌, None, Some, length, slice_get, arith, refl, sym, subst}
 use Rattle.std.proofs.lemmas.Option.{slice_get_read, slice_get_within}
 use Rattle.squawk_kinds.specs.declared.token_set.TokenSet.{TokenSet}
-use Rattle.rule_tables.specs.Strands.{AreDecidedAfter, AreDecidedBy, AreGroupsOn, AreListed, SeesOn}
+use Rattle.rule_tables.specs.Strands.{AreDecidedBy, AreGroupsOn, AreListed, SeesOn}
 use Rattle.rule_tables.specs.Walks.{plan_of}
 use Rattle.rule_tables.specs.declared.strands.Strand.{Strand}
 use Rattle.rule_tables.proofs.Longer.{extends_then}

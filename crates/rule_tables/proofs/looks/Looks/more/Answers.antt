@@ -1,10 +1,6 @@
-use Rattle.std.proofs.Common.{◌≡◌, ◌∙◌, ◌+◌, ◌-◌, List, [], ◌∷◌, ◌++◌, Option, None, Some, false, ap, arith, refl, subst, sym}
-use Rattle.rule_tables.specs.Forks.{IsOpenFork}
-use Rattle.rule_tables.specs.Places.{AreTold, ComeBoth, Sees}
+use Rattle.std.proofs.Common.{◌≡◌, ◌∙◌, ◌+◌, ◌-◌, List, [], ◌∷◌, ◌++◌, None, Some, ap, refl, subst, sym}
 use Rattle.rule_tables.specs.Strands.{AreDecidedBy, AreListed, ComesAt, IsToldBy, SeesOn}
 use Rattle.rule_tables.specs.Walks.{plan_of}
-use Rattle.rule_tables.specs.declared.place.Place.TheVariants.{After}
-use Rattle.rule_tables.specs.declared.strands.Open.{Open}
 use Rattle.rule_tables.specs.declared.strands.Strand.{Strand}
 use Rattle.rule_tables.proofs.Beside.{listing_two, two_decided, two_told}
 use Rattle.rule_tables.proofs.Listing.{strand_at}

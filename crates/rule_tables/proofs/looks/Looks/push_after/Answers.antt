@@ -1,4 +1,4 @@
-use Rattle.std.proofs.Common.{rules, ◌≡◌, List, ◌∷◌, inl, inr, true, false, subst}
+use Rattle.std.proofs.Common.{rules, ◌≡◌, List, ◌∷◌, inl, true, subst}
 use Rattle.squawk_kinds.specs.TokenSets.{has}
 use Rattle.rule_tables.specs.Places.{SeesFrom}
 use Rattle.rule_tables.specs.Walks.{AreFirst, plan_of}

@@ -1,6 +1,6 @@
-use Rattle.std.proofs.Common.{◌≡◌, ◌∙◌, Some, ap, inl, inr, true, false, refl, get_or, slice_get, subst, sym}
+use Rattle.std.proofs.Common.{◌≡◌, ◌∙◌, Some, ap, inl, inr, true, refl, get_or, slice_get, subst, sym}
 use Rattle.std.proofs.lemmas.Option.{slice_get-get_or}
-use Rattle.rule_tables.specs.Places.{Sees, leads_as, led_to}
+use Rattle.rule_tables.specs.Places.{Sees, leads_as}
 use Rattle.rule_tables.specs.Walks.{AreFirst, plan_of}
 use Rattle.rule_tables.specs.declared.place.Place.{Place}
 use Rattle.rule_tables.proofs.Listing.{strand_at}

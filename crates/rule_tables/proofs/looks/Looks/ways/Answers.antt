@@ -1,4 +1,4 @@
-use Rattle.std.proofs.Common.{rules, arith, subst, sym}
+use Rattle.std.proofs.Common.{rules, subst, sym}
 use Rattle.rule_tables.specs.Walks.{plan_of}
 use Rattle.rule_tables.proofs.Leading.{goal_within}
 use Rattle.rule_tables.proofs.Longer.{extends_then}
