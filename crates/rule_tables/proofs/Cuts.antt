@@ -4,9 +4,11 @@ use Rattle.std.proofs.lemmas.Bool.{cases_Bool, cases_eq}
 use Rattle.std.proofs.lemmas.Option.{slice_get_within}
 use Rattle.squawk_kinds.specs.TokenSets.{has}
 use Rattle.squawk_kinds.specs.declared.token_set.TokenSet.{TokenSet}
-use Rattle.rule_tables.specs.Looks.{AddsSome, AreAlike, AreGroups, HasOne, IsCut, IsFiner}
-use Rattle.rule_tables.specs.Places.{Plan, eats}
+use Rattle.rule_tables.specs.Looks.{AddsSome, AreAlike, HasOne, IsCut, IsFiner}
+use Rattle.rule_tables.specs.Places.{IsOneOf, Plan, eats}
+use Rattle.rule_tables.specs.Strands.{AreGroupsOn}
 use Rattle.rule_tables.specs.declared.place.Place.{Place}
+use Rattle.rule_tables.specs.declared.strands.Strand.{Strand}
 use Rattle.rule_tables.proofs.Lists.{slice_get-front, slice_get-seam}
 
 first_true : (a b : Bool) → (a && b) ≡ true → a ≡ true
@@ -131,11 +133,33 @@ alike_more plan places n sets before after place kinds here are cut alike = reco
       ];
 }
 
-pub groups_of : (plan : Plan) (mine others : List Place) (set : TokenSet) (whole between groups : List TokenSet) → whole ≡ set ∷ [] → AreAlike plan mine (length mine) whole between → AreAlike plan others (length others) between groups → AreGroups plan mine others set groups
-groups_of plan mine others set whole between groups is first second = record {
-  all = λ kind holds. second.finer.keeps kind (first.finer.keeps kind (record { index = 0; set = set; is = rw is refl; holds = holds }));
-  of_mine = λ i group found a b in_a in_b p one.
-      let old : (j : ℕ) × (low : TokenSet) × (slice_get between j ≡ Some low) × ((kind : ℕ) → has group kind ≡ true → has low kind ≡ true) = second.finer.within i group found in
-      first.alike old.0 old.1 old.2 a b (old.3 a in_a) (old.3 b in_b) one.index (slice_get_within mine one.index p one.is) p one.is;
-  of_others = λ i group found a b in_a in_b p one. second.alike i group found a b in_a in_b one.index (slice_get_within others one.index p one.is) p one.is;
+-- ---- of each strand
+
+pub groups_none : (plan : Plan) (strands : List Strand) (n : ℕ) (set : TokenSet) (groups : List TokenSet) → groups ≡ [] → ((kind : ℕ) → has set kind ≡ false) → AreGroupsOn plan strands n set groups
+groups_none plan strands n set groups is empty = record {
+  all = λ kind holds. let none : has set kind ≡ false = empty kind in absurd cc;
+  alike = λ g group found. absurd (let one : slice_get [] g ≡ Some group = rw is at found in cc);
+}
+
+pub groups_first : (plan : Plan) (strands : List Strand) (set : TokenSet) (groups : List TokenSet) → groups ≡ set ∷ [] → AreGroupsOn plan strands 0 set groups
+groups_first plan strands set groups is = record {
+  all = λ kind holds. record { index = 0; set = set; is = rw is refl; holds = holds };
+  alike = λ g group found i s lt. absurd (omega arith);
+}
+
+pub groups_more : (plan : Plan) (strands : List Strand) (n : ℕ) (set : TokenSet) (before after : List TokenSet) (s : Strand) → slice_get strands n ≡ Some s → AreGroupsOn plan strands n set before → AreAlike plan s.places.items (length s.places.items) before after
+    → AreGroupsOn plan strands (n + 1) set after
+groups_more plan strands n set before after s here groups alike = record {
+  all = λ kind holds. alike.finer.keeps kind (groups.all kind holds);
+  alike = λ g group is i t lt found a b in_a in_b p one.
+      elim (cases_eq i n) [
+        | inl same ↦
+            let it : Some s ≡ Some t = sym here ∙ subst (λ (k : ℕ). slice_get strands k ≡ Some t) same found in
+            let name : t ≡ s = cc in
+            let at : IsOneOf s.places.items p = subst (λ (x : Strand). IsOneOf x.places.items p) name one in
+            alike.alike g group is a b in_a in_b at.index (slice_get_within s.places.items at.index p at.is) p at.is
+        | inr other ↦
+            let old : (j : ℕ) × (low : TokenSet) × (slice_get before j ≡ Some low) × ((kind : ℕ) → has group kind ≡ true → has low kind ≡ true) = alike.finer.within g group is in
+            groups.alike old.0 old.1 old.2 i t (omega (arith, lt, other)) found a b (old.3 a in_a) (old.3 b in_b) p one
+      ];
 }

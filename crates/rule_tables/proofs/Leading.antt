@@ -6,7 +6,7 @@ use Rattle.rule_grammar.specs.declared.part.Part.{Part}
 use Rattle.rule_grammar.specs.declared.part.Part.TheVariants.{Arm}
 use Rattle.rule_tables.specs.Maps.{is_number, leads_to}
 use Rattle.rule_tables.specs.Places.{IsLed, Leads, goal_of, last_below, leads_as, led_to, outer_of}
-use Rattle.rule_tables.specs.Walks.{Goes, IsLedFrom}
+use Rattle.rule_tables.specs.Walks.{Goes, IsLedWithin}
 use Rattle.rule_tables.specs.declared.place.Place.{Place}
 use Rattle.rule_tables.specs.declared.place.Way.{Way}
 use Rattle.rule_tables.specs.declared.place.Way.TheVariants as way
@@ -14,10 +14,10 @@ use Rattle.rule_tables.specs.declared.walk.Walk.{Walk}
 use Rattle.rule_tables.proofs.Below.{last-none, last-some}
 use Rattle.rule_tables.proofs.Walking.{goes_as, goes_none, goes_then}
 
-leads_there : (h : ℕ) (goal : Option ℕ) → goal ≡ Some h → is_number h goal ≡ true
+pub leads_there : (h : ℕ) (goal : Option ℕ) → goal ≡ Some h → is_number h goal ≡ true
 leads_there h goal e = rw e (eq-eqb h h refl)
 
-there : (h : ℕ) (goal : Option ℕ) → is_number h goal ≡ true → goal ≡ Some h
+pub there : (h : ℕ) (goal : Option ℕ) → is_number h goal ≡ true → goal ≡ Some h
 there h None e = absurd cc
 there h (Some g) e = ap Some (eqb-true g h e)
 
@@ -50,32 +50,32 @@ arm_within rows h q led =
     let within : led.row < length rows = leads_within rows way.Arm h led.row led.leads in
     omega arith
 
-pub led_from : (rows : List Part) (way : Way) (h : ℕ) (q : Place) → h < length rows → IsLed rows way h q → IsLedFrom rows way h 0 q
-led_from rows w h q lt led = record { within = lt; row = led.row; leads = led.leads; later = omega arith; is = led.is }
+pub led_from : (rows : List Part) (way : Way) (h : ℕ) (q : Place) → h < length rows → IsLed rows way h q → IsLedWithin rows way h q
+led_from rows w h q lt led = record { within = lt; row = led.row; leads = led.leads; is = led.is }
 
-pub led_to_all : (rows : List Part) (way : Way) (h from : ℕ) (q : Place) → IsLedFrom rows way h from q → IsLed rows way h q
-led_to_all rows w h from q led = record { row = led.row; leads = led.leads; is = led.is }
+pub led_to_all : (rows : List Part) (way : Way) (h : ℕ) (q : Place) → IsLedWithin rows way h q → IsLed rows way h q
+led_to_all rows w h q led = record { row = led.row; leads = led.leads; is = led.is }
 
 -- so far: from row m on
-pub record IsLedBy (rows : List Part) (way : Way) (h from m : ℕ) (q : Place) : Type 0 where
-  pub led : IsLedFrom rows way h from q
+pub record IsLedBy (rows : List Part) (way : Way) (h m : ℕ) (q : Place) : Type 0 where
+  pub led : IsLedWithin rows way h q
   pub past : m ≤ led.row
 
-pub record IsLeading (rows : List Part) (way : Way) (h from : ℕ) (begun now : Walk) (at : Option ℕ) : Type 0 where
+pub record IsLeading (rows : List Part) (way : Way) (h : ℕ) (begun now : Walk) (at : Option ℕ) : Type 0 where
   pub m : ℕ
   pub is : at ≡ last_below (leads_to rows h) m
-  pub goes : Goes begun now (IsLedBy rows way h from m)
+  pub goes : Goes begun now (IsLedBy rows way h m)
 
-pub leading_first : (rows : List Part) (way : Way) (h from : ℕ) (walk : Walk) (at : Option ℕ) → at ≡ last_below (leads_to rows h) (length rows) → IsLeading rows way h from walk walk at
-leading_first rows w h from walk at is = record {
+pub leading_first : (rows : List Part) (way : Way) (h : ℕ) (walk : Walk) (at : Option ℕ) → at ≡ last_below (leads_to rows h) (length rows) → IsLeading rows way h walk walk at
+leading_first rows w h walk at is = record {
   m = length rows;
   is = is;
   goes = goes_as (λ q none. absurd none) (λ q led lt. let within : led.led.row < length rows = leads_within rows w h led.led.row led.led.leads in let past : length rows ≤ led.led.row = led.past in absurd (omega arith)) (goes_none walk);
 }
 
-module _ (rows : List Part) (way : Way) (h from : ℕ) (within : h < length rows) (begun now next : Walk) (at : Option ℕ) (leading : IsLeading rows way h from begun now at) where
+module _ (rows : List Part) (way : Way) (h : ℕ) (within : h < length rows) (begun now next : Walk) (at : Option ℕ) (leading : IsLeading rows way h begun now at) where
   -- none is left
-  pub leading_none : at ≡ None → Goes begun now (IsLedFrom rows way h from)
+  pub leading_none : at ≡ None → Goes begun now (IsLedWithin rows way h)
   leading_none is =
       goes_as (λ q led. led.led)
       (λ q led lt. record {
@@ -102,14 +102,7 @@ module _ (rows : List Part) (way : Way) (h from : ℕ) (within : h < length rows
           | inr past ↦ past
         ]
 
-    -- the others are before the row that is the first to be asked for
-    pub leading_done : k < from → Goes begun now (IsLedFrom rows way h from)
-    leading_done early =
-        goes_as (λ q led. led.led)
-        (λ q led lt. let later : from ≤ led.row = led.later in record { led = led; past = past_or led.row (leads_there h (goal_of rows led.row (slice_get rows led.row)) led.leads.goal) (omega arith) })
-        leading.goes
-
-    one_more : (q : Place) → IsLedBy rows way h from k q → IsLedBy rows way h from leading.m q ⊎ ((leads_as way (slice_get rows k) ≡ true) × (q ≡ led_to way k))
+    one_more : (q : Place) → IsLedBy rows way h k q → IsLedBy rows way h leading.m q ⊎ ((leads_as way (slice_get rows k) ≡ true) × (q ≡ led_to way k))
     one_more q led =
         let past : k ≤ led.led.row = led.past in
         elim (cases_eq led.led.row k) [
@@ -117,15 +110,15 @@ module _ (rows : List Part) (way : Way) (h from : ℕ) (within : h < length rows
           | inr other ↦ inl (record { led = led.led; past = past_or led.led.row (leads_there h (goal_of rows led.led.row (slice_get rows led.led.row)) led.led.leads.goal) (omega arith) })
         ]
 
-    pub leading_next : from ≤ k → (earlier : Option ℕ) → earlier ≡ last_below (leads_to rows h) k → Goes now next (λ q. (leads_as way (slice_get rows k) ≡ true) × (q ≡ led_to way k)) → IsLeading rows way h from begun next earlier
-    leading_next late earlier before goes = record {
+    pub leading_next : (earlier : Option ℕ) → earlier ≡ last_below (leads_to rows h) k → Goes now next (λ q. (leads_as way (slice_get rows k) ≡ true) × (q ≡ led_to way k)) → IsLeading rows way h begun next earlier
+    leading_next earlier before goes = record {
       m = k;
       is = before;
       goes = goes_as
           (λ q led. elim led [
             | inl old ↦ let past : leading.m ≤ old.led.row = old.past in record { led = old.led; past = omega (arith, leading_row.0) }
             | inr new ↦ record {
-              led = record { within = within; row = k; leads = record { by = new.0; goal = there h (goal_of rows k (slice_get rows k)) leading_row.1 }; later = late; is = new.1 };
+              led = record { within = within; row = k; leads = record { by = new.0; goal = there h (goal_of rows k (slice_get rows k)) leading_row.1 }; is = new.1 };
               past = omega arith;
             }
           ])

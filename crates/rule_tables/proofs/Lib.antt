@@ -17,7 +17,10 @@ pub mod Closing
 pub mod Over
 pub mod Cuts
 pub mod Deciding
+pub mod Listing
 pub mod Telling
+pub mod Shares
+pub mod Beside
 pub mod Limited
 pub mod Opened
 pub mod Refused

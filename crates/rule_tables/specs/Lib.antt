@@ -15,5 +15,6 @@ pub mod Looks
 pub mod Settled
 pub mod Forks
 pub mod Refusals
+pub mod Strands
 pub mod Texts
 pub mod ErrorLines

@@ -1,20 +1,9 @@
 -- What decides between two ways.
-use Rattle.std.specs.Prelude.{◌≡◌, ℕ, ◌<◌, ◌⊎◌, true, Some, List, ◌∷◌, drop, length, map, slice_get, take}
+use Rattle.std.specs.Prelude.{◌≡◌, ℕ, ◌<◌, ◌⊎◌, true, Some, List, slice_get}
 use Rattle.squawk_kinds.specs.TokenSets.{has}
 use Rattle.squawk_kinds.specs.declared.token_set.TokenSet.{TokenSet}
-use Rattle.rule_tables.specs.Places.{AreShared, ComeBoth, IsOneOf, Plan, SeesFrom, eats}
-use Rattle.rule_grammar.specs.Parts.{bit_of}
+use Rattle.rule_tables.specs.Places.{IsOneOf, Plan, eats}
 use Rattle.rule_tables.specs.declared.place.Place.{Place}
-use Rattle.rule_tables.specs.declared.trail.Trail.{Trail}
-
--- so many kinds come from places of both lists
-abbrev pub ShareWord : Plan → ℕ → List Place → List Place → Type 0
-ShareWord plan count mine others = AreShared count (ComeBoth (SeesFrom plan mine) (SeesFrom plan others))
-
--- these kinds come both ways, where the first were those of a trail, and the others come from places of both lists
-pub record GoOnBoth (plan : Plan) (mine others : List Place) (trail : Trail) (word : List ℕ) : Type 0 where
-  pub front : take trail.depth word ≡ take trail.depth (map bit_of trail.kinds)
-  pub back : ComeBoth (SeesFrom plan mine) (SeesFrom plan others) (drop trail.depth word)
 
 -- a set has a kind
 pub record HasOne (sets : List TokenSet) (kind : ℕ) : Type 0 where
@@ -47,18 +36,3 @@ IsAlike plan places set = (a b : ℕ) → has set a ≡ true → has set b ≡ t
 pub record AreAlike (plan : Plan) (places : List Place) (n : ℕ) (sets cut : List TokenSet) : Type 0 where
   pub finer : IsFiner sets cut
   pub alike : (i : ℕ) (set : TokenSet) → slice_get cut i ≡ Some set → (a b : ℕ) → has set a ≡ true → has set b ≡ true → (k : ℕ) → k < n → (p : Place) → slice_get places k ≡ Some p → eats plan p a ≡ eats plan p b
-
--- sets that have all kinds of one, and whose kinds are eaten at the same ones of some places
-pub record AreGroups (plan : Plan) (mine others : List Place) (set : TokenSet) (groups : List TokenSet) : Type 0 where
-  pub all : (kind : ℕ) → has set kind ≡ true → HasOne groups kind
-  pub of_mine : (i : ℕ) (group : TokenSet) → slice_get groups i ≡ Some group → IsAlike plan mine group
-  pub of_others : (i : ℕ) (group : TokenSet) → slice_get groups i ≡ Some group → IsAlike plan others group
-
--- so many kinds come from places of both lists, after one that is in a set
-pub record ShareAfter (plan : Plan) (count : ℕ) (set : TokenSet) (mine others : List Place) : Type 0 where
-  pub kind : ℕ
-  pub holds : has set kind ≡ true
-  pub word : List ℕ
-  pub len : length word ≡ count
-  pub first : SeesFrom plan mine (kind ∷ word)
-  pub second : SeesFrom plan others (kind ∷ word)

@@ -39,12 +39,11 @@ pub record Reaches (marks : ℕ) (old new : List Place) (Such : Place → Type 0
   pub only : (i : ℕ) (p : Place) → slice_get new i ≡ Some p → (i < length old) ⊎ Such p
   pub all : (p : Place) → Such p → slot p < marks → IsOneOf new p
 
--- the place of a row, from a row on, that leads so to row h of the rows
-pub record IsLedFrom (rows : List Part) (way : Way) (h from : ℕ) (q : Place) : Type 0 where
+-- the place of a row that leads so to row h of the rows
+pub record IsLedWithin (rows : List Part) (way : Way) (h : ℕ) (q : Place) : Type 0 where
   pub within : h < length rows
   pub row : ℕ
   pub leads : Leads rows way h row
-  pub later : from ≤ row
   pub is : q ≡ led_to way row
 
 -- a step of a walk

@@ -17,12 +17,13 @@ pub(crate) fn is_way(map: &Map<'_>, row: usize) -> bool {
 }
 
 /// The row of what a row is called by: the outermost rule with a message of its own that begins there, else the token
-/// there, else the rule in which tokens or rules are chosen there.
+/// there, else the choice there, or the rule that is called and begins with one.
 pub(crate) fn name_of(parts: &[Part<'_>], map: &Map<'_>, row: usize) -> usize {
-    let mut rule = rule_of(map, row);
-    if has_message(parts, rule) && is_first(map, row, rule) {
-        return rule;
+    let own = rule_of(map, row);
+    if has_message(parts, own) && is_first(map, row, own) {
+        return own;
     }
+    let mut rule = own;
     let mut at = row;
     // Rules that call themselves first are left to others.
     for _ in 0..map.rows.len() {
@@ -45,6 +46,7 @@ pub(crate) fn name_of(parts: &[Part<'_>], map: &Map<'_>, row: usize) -> usize {
                 None => return rule,
             },
             Row::Token { .. } => return at,
+            Row::Choice { .. } if rule == own => return at,
             _ => return rule,
         }
     }
@@ -52,7 +54,7 @@ pub(crate) fn name_of(parts: &[Part<'_>], map: &Map<'_>, row: usize) -> usize {
 }
 
 /// The row of the rule that a row is in.
-fn rule_of(map: &Map<'_>, row: usize) -> usize {
+pub(crate) fn rule_of(map: &Map<'_>, row: usize) -> usize {
     let mut at = row;
     for _ in 0..map.rows.len() {
         match map.outer(at) {

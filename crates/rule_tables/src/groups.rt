@@ -1,41 +1,47 @@
 //! Kinds of tokens that are eaten at the same places.
 ghost use Rattle.std.specs.Prelude.{IfOk, OnOk, length};
-ghost use Rattle.rule_tables.specs.Looks.{AddsSome, AreAlike, AreGroups, IsCut};
+ghost use Rattle.rule_tables.specs.Looks.{AddsSome, AreAlike, IsCut};
+ghost use Rattle.rule_tables.specs.Strands.{AreGroupsOn};
 ghost use Rattle.rule_tables.specs.Walks.{plan_of};
 
 use crate::eats::kinds_of;
 use crate::map::Map;
 use crate::place::Place;
 use crate::sets::{both, is_empty, push, without};
+use crate::strands::Strand;
 use squawk_kinds::TokenSet;
 use std::alloc::{AllocError, Global};
 
-/// The set, cut into kinds that are eaten at the same places.
+/// The set, cut into kinds that are eaten at the same places of each strand.
 pub(crate) fn groups(
     alloc: Global,
     map: &Map<'_>,
-    mine: &[Place],
-    others: &[Place],
+    strands: &[Strand],
     set: TokenSet,
 ) -> Result<Vec<TokenSet>, AllocError>
-    ensures { IfOk result (λ groups. AreGroups (plan_of map.now) mine.now others.now set groups.items) }
+    ensures { IfOk result (λ groups. AreGroupsOn (plan_of map.now) strands.now (length strands.now) set groups.items) }
 {
-    let mut whole = Vec::new(alloc);
-    push(&mut whole, set)?;
-    let of_mine = cut_all(alloc, map, &whole, mine)?;
-    cut_all(alloc, map, &of_mine, others)
+    let mut groups = Vec::new(alloc);
+    if is_empty(set) {
+        return Ok(groups);
+    }
+    push(&mut groups, set)?;
+    for strand in strands {
+        groups = cut_all(alloc, map, groups, &strand.places)?;
+    }
+    Ok(groups)
 }
 
 /// Each set, cut into kinds that are eaten at the same places.
 fn cut_all(
     alloc: Global,
     map: &Map<'_>,
-    sets: &[TokenSet],
+    sets: Vec<TokenSet>,
     places: &[Place],
 ) -> Result<Vec<TokenSet>, AllocError>
-    ensures { IfOk result (λ groups. AreAlike (plan_of map.now) places.now (length places.now) sets.now groups.items) }
+    ensures { IfOk result (λ groups. AreAlike (plan_of map.now) places.now (length places.now) sets.items groups.items) }
 {
-    let mut groups = Vec::from_slice(alloc, sets)?;
+    let mut groups = sets;
     for place in places {
         groups = cut(alloc, &groups, kinds_of(map, *place))?;
     }

@@ -33,9 +33,11 @@ mod set_words;
 mod sets;
 mod settled;
 mod shown;
+mod strands;
 mod symbols;
 mod trail;
 mod walk;
+mod ways;
 
 pub use categories::keyword_classes;
 pub use error::RulesError;

@@ -1,5 +1,5 @@
 //! What errors say at each row.
-use crate::called::{arms_in, choice_at, has_message, is_way, name_of, part};
+use crate::called::{arms_in, choice_at, has_message, is_way, name_of, part, rule_of};
 use crate::map::Map;
 use rule_grammar::Part as Row;
 use rule_parts::Part;
@@ -81,8 +81,12 @@ impl Expected {
         len: 0,
     };
 
-    /// Adds a row, unless one with its name is there or there are enough.
-    fn add(&mut self, parts: &[Part<'_>], row: usize) {
+    /// Adds a row, unless one with its name is there or there are enough. A choice is called as its rule.
+    fn add(&mut self, parts: &[Part<'_>], map: &Map<'_>, row: usize) {
+        let row = match part(map, row) {
+            Row::Choice { .. } => rule_of(map, row),
+            _ => row,
+        };
         let name = name_at(parts, row);
         let is_new = !self
             .rows
@@ -104,7 +108,7 @@ impl Expected {
             Some(choice) if !has_message(parts, name) && arms_in(map, choice) <= MOST => {
                 self.add_arms(parts, map, choice);
             }
-            _ => self.add(parts, name),
+            _ => self.add(parts, map, name),
         }
     }
 
@@ -112,7 +116,7 @@ impl Expected {
         let mut arm = map.first(choice);
         for _ in 0..MOST {
             if let Some(row) = arm {
-                self.add(parts, name_of(parts, map, row));
+                self.add(parts, map, name_of(parts, map, row));
                 arm = map.next(row, choice);
             }
         }
@@ -132,7 +136,7 @@ fn expected_at(parts: &[Part<'_>], map: &Map<'_>, row: usize) -> Expected {
     let mut at = row;
     for _ in 0..map.rows.len() {
         match part(map, at) {
-            Row::List { .. } if at == row => expected.add(parts, at),
+            Row::List { .. } if at == row => expected.add(parts, map, at),
             Row::Optional { .. } | Row::Repeat { .. } => expected.add_first(parts, map, at),
             Row::Some { .. } if at == row => expected.add_first(parts, map, at),
             Row::Becomes { .. } | Row::Is { .. } => {}
@@ -161,7 +165,7 @@ fn after(parts: &[Part<'_>], map: &Map<'_>, row: usize, expected: &mut Expected)
         }
         match part(map, outer) {
             Row::Repeat { .. } | Row::Some { .. } => expected.add_first(parts, map, outer),
-            Row::List { .. } => expected.add(parts, outer),
+            Row::List { .. } => expected.add(parts, map, outer),
             Row::Operators { .. } => return None,
             _ => {}
         }

@@ -1,7 +1,7 @@
 //! Where parsing goes from a place, without eating.
 ghost use Rattle.std.specs.Prelude.{◌≡◌, ◌<◌, ◌⊎◌, OnOk, Some, length, slice_get, true};
 ghost use Rattle.rule_tables.specs.Places.{Begins, EndsWay, EndsWayIn, Enters, Exits, GoesOnIn, IsBefore, IsLed, Leaves, Moves, Returns, Steps, first_in, leads_as, led_to, outer_of};
-ghost use Rattle.rule_tables.specs.Walks.{Goes, IsLedFrom, plan_of};
+ghost use Rattle.rule_tables.specs.Walks.{Goes, IsLedWithin, plan_of};
 
 use crate::map::Map;
 use crate::place::{Place, Way};
@@ -215,7 +215,7 @@ impl Walk {
     fn arms(&mut self, map: &Map<'_>, row: usize) -> Result<(), AllocError>
         ensures { OnOk result (Goes self.old self.new (IsLed map.now.rows.now Way.Arm row)) }
     {
-        self.lead_from(map, row, Way::Arm, 0)
+        self.lead_within(map, row, Way::Arm)
     }
 
     /// Goes to the places of the rows that lead so to a row.
@@ -223,27 +223,18 @@ impl Walk {
         requires { row < length map.now.rows.now }
         ensures { OnOk result (Goes self.old self.new (IsLed map.now.rows.now way row)) }
     {
-        self.lead_from(map, row, way, 0)
+        self.lead_within(map, row, way)
     }
 
-    /// Goes to the places of the rows from one on that lead so to a row.
-    pub(crate) fn lead_from(
-        &mut self,
-        map: &Map<'_>,
-        row: usize,
-        way: Way,
-        from: usize,
-    ) -> Result<(), AllocError>
-        ensures { OnOk result (Goes self.old self.new (IsLedFrom map.now.rows.now way row from)) }
+    /// Goes to the places of the rows that lead so to a row, if there is such a row.
+    fn lead_within(&mut self, map: &Map<'_>, row: usize, way: Way) -> Result<(), AllocError>
+        ensures { OnOk result (Goes self.old self.new (IsLedWithin map.now.rows.now way row)) }
     {
         if row >= map.rows.len() {
             return Ok(());
         }
         let mut at = map.last_to(row);
         while let Some(led) = at {
-            if led < from {
-                return Ok(());
-            }
             self.push_way(map, led, way)?;
             at = map.earlier(led);
         }
@@ -264,7 +255,7 @@ impl Walk {
 }
 
 /// Whether a row leads so to another.
-fn leads_as(way: Way, row: &Row) -> bool
+pub(crate) fn leads_as(way: Way, row: &Row) -> bool
     ensures { result ≡ leads_as way (Some row.now) }
 {
     match way {
@@ -275,7 +266,7 @@ fn leads_as(way: Way, row: &Row) -> bool
 }
 
 /// The place that a row leads to.
-fn led_to(way: Way, row: usize) -> Place
+pub(crate) fn led_to(way: Way, row: usize) -> Place
     ensures { result ≡ led_to way row }
 {
     match way {

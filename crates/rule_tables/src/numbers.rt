@@ -1,9 +1,10 @@
 //! The numbers of rows.
 ghost use Rattle.std.specs.Prelude.{◌≡◌, ◌<◌, ◌%◌, All, IfErr, IfOk, IsTrue, OnOk, Some, length, slice_get, slice_index};
 ghost use Rattle.rule_grammar.specs.Parts.{part_by, part_of};
-ghost use Rattle.rule_tables.specs.Forks.{AreDecided, IsFirstOpen, IsOpenAt, IsOpenBy};
+ghost use Rattle.rule_tables.specs.Forks.{AreDecided, IsDecidedWay, IsFirstOpen, IsOpenAt, IsOpenBy};
 ghost use Rattle.rule_tables.specs.Limits.{IsLimit, IsUndecidedIf};
 ghost use Rattle.rule_tables.specs.Sets.{Extends};
+ghost use Rattle.rule_tables.specs.Strands.{IsElsewhere, IsToldAt};
 ghost use Rattle.rule_tables.specs.Rows.{SayRows, is_exact, tail_tag};
 ghost use Rattle.rule_tables.specs.Walks.{plan_of};
 
@@ -13,9 +14,9 @@ use crate::follow::Ahead;
 use crate::looks::{Fork, Looks};
 use crate::map::Map;
 use crate::messages::row_of_message;
-use crate::place::{Place, Way};
+use crate::place::Place;
 use crate::sets::push;
-use crate::settled::is_settled;
+use crate::strands::Open;
 use rule_grammar::Part as Row;
 use rule_parts::Part;
 use squawk_kinds::TokenSet;
@@ -33,18 +34,38 @@ pub(crate) fn all_numbers(
     ensures keeps { OnOk result (Extends looks.old.sets.list.items looks.new.sets.list.items) }
     ensures ok { IfOk result (λ numbers. SayRows map.now.rows.now numbers.items) }
 {
+    let undecided = looks.decide_all(parts, map)?;
     let mut numbers = Vec::new(looks.alloc);
     for (index, row) in map.rows.iter().enumerate() {
         let fork = Fork {
             map: &*map,
+            parts: &*parts,
             part: index,
-            is_settled: is_settled(parts, map, index),
         };
+        refuse(&undecided, index)?;
         let message = to_u16(row_of_message(parts, map, index));
         let numbers_of_row = numbers_of(looks, &fork, ahead, row, message)?;
         push(&mut numbers, numbers_of_row)?;
     }
     Ok(numbers)
+}
+
+/// Refuses a row if it is the one that is undecided.
+fn refuse(undecided: &Option<Open>, row: usize) -> Result<(), RulesError>
+    ensures err { IfErr result (IsToldAt undecided.now row) }
+    ensures ok { OnOk result (IsElsewhere undecided.now row) }
+{
+    match undecided {
+        Some(open) => {
+            if open.row == row {
+                let kinds = open.kinds;
+                Err(RulesError::Undecided { part: row, kinds })
+            } else {
+                Ok(())
+            }
+        }
+        None => Ok(()),
+    }
 }
 
 fn to_u16(number: usize) -> u16 {
@@ -55,12 +76,13 @@ fn to_u16(number: usize) -> u16 {
 #[tactic(auto, using(crate::proofs::Limited::limit_if))]
 fn numbers_of(
     looks: &mut Looks,
-    fork: &Fork<'_>,
+    fork: &Fork<'_, '_>,
     ahead: &[Ahead],
     row: &Row,
     message: u16,
 ) -> Result<[u16; 8], RulesError>
     requires exact { IsTrue (is_exact row.now) }
+    requires way { IsDecidedWay (plan_of fork.now.map.now) fork.now.parts.now fork.now.part row.now }
     requires row { slice_get fork.now.map.now.rows.now fork.now.part ≡ Some row.now }
     ensures err { IfErr result (IsUndecidedIf (IsOpenBy fork.now row.now) fork.now.part) }
     ensures decided { OnOk result (IsOpenAt fork.now row.now → ⊥) }
@@ -96,7 +118,7 @@ fn flagged(part: u16, ends: bool, has_guard: bool, is_named: bool) -> u16
     part + ends + kept
 }
 
-fn has_guard(fork: &Fork<'_>, row: &Row) -> bool {
+fn has_guard(fork: &Fork<'_, '_>, row: &Row) -> bool {
     match row {
         Row::Arm { .. } => {
             let first = fork.map.rows.get(fork.part.saturating_add(1));
@@ -107,7 +129,7 @@ fn has_guard(fork: &Fork<'_>, row: &Row) -> bool {
 }
 
 /// Whether the last part in a node names its kind.
-fn is_named(fork: &Fork<'_>, row: &Row) -> bool {
+fn is_named(fork: &Fork<'_, '_>, row: &Row) -> bool {
     match row {
         Row::Node { end, .. } => {
             let last = usize::from(*end).saturating_sub(1);
@@ -132,7 +154,7 @@ fn later(known: &Ahead, row: &Row) -> TokenSet {
 /// The kinds at which a part is gone into.
 fn begins(
     looks: &mut Looks,
-    fork: &Fork<'_>,
+    fork: &Fork<'_, '_>,
     known: &Ahead,
     row: &Row,
 ) -> Result<TokenSet, RulesError>
@@ -150,15 +172,16 @@ fn begins(
 
 /// The look of a row, or the set of kinds that one of its operators begins with.
 #[tactic(auto, using(crate::proofs::Limited::limit_if))]
-fn look(looks: &mut Looks, fork: &Fork<'_>, known: &Ahead, row: &Row) -> Result<u16, RulesError>
-    requires { slice_get fork.now.map.now.rows.now fork.now.part ≡ Some row.now }
+fn look(looks: &mut Looks, fork: &Fork<'_, '_>, known: &Ahead, row: &Row) -> Result<u16, RulesError>
+    requires way { IsDecidedWay (plan_of fork.now.map.now) fork.now.parts.now fork.now.part row.now }
+    requires row { slice_get fork.now.map.now.rows.now fork.now.part ≡ Some row.now }
     ensures err { IfErr result (IsUndecidedIf (IsOpenBy fork.now row.now) fork.now.part) }
     ensures decided { OnOk result (IsOpenAt fork.now row.now → ⊥) }
     ensures keeps { OnOk result (Extends looks.old.sets.list.items looks.new.sets.list.items) }
 {
     match row {
-        Row::Arm { .. } => looks.apart(fork, Way::Arm),
-        Row::Tail { .. } => looks.apart(fork, Way::Tail),
+        Row::Arm { .. } => Ok(looks.look_of(fork.part)),
+        Row::Tail { .. } => Ok(looks.look_of(fork.part)),
         Row::Optional { .. } => looks.more_in(fork),
         Row::Repeat { .. } => looks.more_in(fork),
         Row::Some { .. } => looks.more_in(fork),

@@ -243,6 +243,7 @@ fn rules_of(
         walk: Walk::new(alloc),
         sets: Sets::new(alloc, sets)?,
         list: Vec::new(alloc),
+        ends: Vec::new(alloc),
     };
     let numbers = all_numbers(&mut looks, &map, definitions.parts, &ahead)?;
     let words = all_words(alloc, &looks.sets.list)?;

@@ -1,12 +1,19 @@
 //! Which rows are settled: where tokens don't decide there, the first way is gone.
-ghost use Rattle.std.specs.Prelude.{◌≡◌, ◌+◌, ◌<◌, Some, length, slice_get};
+ghost use Rattle.std.specs.Prelude.{◌≡◌, ◌+◌, ◌<◌, ◌≤◌, Some, length, slice_get, false};
 ghost use Rattle.rule_tables.specs.Settled.{is_greedy, is_guarded, is_ordered, is_ordered_in, settles};
 
 use crate::map::Map;
 use rule_parts::Part;
 
-/// Whether a row is settled.
+/// Whether there is such a row, and it is settled.
 pub(crate) fn is_settled(parts: &[Part<'_>], map: &Map<'_>, row: usize) -> bool
+    ensures is { row < length map.now.rows.now → result ≡ settles parts.now map.now.rows.now row }
+    ensures past { length map.now.rows.now ≤ row → result ≡ false }
+{
+    row < map.rows.len() && is_settled_part(parts, map, row)
+}
+
+fn is_settled_part(parts: &[Part<'_>], map: &Map<'_>, row: usize) -> bool
     requires { row < length map.now.rows.now }
     ensures { result ≡ settles parts.now map.now.rows.now row }
 {

@@ -5,7 +5,7 @@ ghost use Rattle.rule_tables.specs.Limits.{IsLimit};
 use crate::eats::{eaters, kinds_of};
 use crate::error::RulesError;
 use crate::map::Map;
-use crate::place::{Place, Way, slot_of};
+use crate::place::{Place, slot_of};
 use crate::sets::push;
 use squawk_kinds::SyntaxKind;
 use std::alloc::{AllocError, Global};
@@ -23,7 +23,7 @@ pub(crate) struct Walk {
 }
 
 impl Walk {
-    ghost use Rattle.rule_tables.specs.Places.{Sees, SeesFrom, SeesRival, Steps, does_eat, eats};
+    ghost use Rattle.rule_tables.specs.Places.{Sees, SeesFrom, Steps, does_eat, eats};
     ghost use Rattle.rule_tables.specs.Walks.{AreFirst, Goes, HasReached, IsClosed, IsWalking, plan_of, slots};
 
     pub(crate) fn new(alloc: Global) -> Walk {
@@ -47,28 +47,6 @@ impl Walk {
         self.begin(map)?;
         self.push(place)?;
         self.finish(alloc, map)
-    }
-
-    /// The places that eat first, from before the later arms or operators beside one on.
-    pub(crate) fn rivals(
-        &mut self,
-        alloc: Global,
-        map: &Map<'_>,
-        row: usize,
-        way: Way,
-    ) -> Result<Vec<Place>, RulesError>
-        requires { row < length map.now.rows.now }
-        ensures err { IfErr result IsLimit }
-        ensures ok { IfOk result (λ places. AreFirst (plan_of map.now) (SeesRival (plan_of map.now) way row) places.items) }
-    {
-        self.begin(map)?;
-        match map.outer(row) {
-            Some(outer) => {
-                self.lead_from(map, outer, way, row + 1)?;
-                self.finish(alloc, map)
-            }
-            None => self.finish(alloc, map),
-        }
     }
 
     /// The places that eat first after a token of the kind was eaten at one of these.

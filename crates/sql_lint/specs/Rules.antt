@@ -8,17 +8,14 @@ use Rattle.syntax_tree.specs.Trees.{children_of, kind_at, nodes_among, start_at}
 
 -- ---- kinds
 
-abbrev pub CREATE : ℕ
-CREATE = 708
+abbrev pub CREATE_INDEX : ℕ
+CREATE_INDEX = 941
 
 abbrev pub DROP : ℕ
 DROP = 710
 
 abbrev pub CONCURRENTLY_KW : ℕ
 CONCURRENTLY_KW = 264
-
-abbrev pub CREATE_KW : ℕ
-CREATE_KW = 275
 
 abbrev pub EXISTS_KW : ℕ
 EXISTS_KW = 330
@@ -28,9 +25,6 @@ IF_KW = 366
 
 abbrev pub INDEX_KW : ℕ
 INDEX_KW = 374
-
-abbrev pub UNIQUE_KW : ℕ
-UNIQUE_KW = 593
 
 -- ---- words
 
@@ -55,20 +49,14 @@ stand_together first second (word ∷ next ∷ words) =
 abbrev pub without_if_exists : List ℕ → Option (List ℕ)
 without_if_exists words = if stand_together IF_KW EXISTS_KW words then None else Some (codes "DROP without IF EXISTS")
 
--- where CREATE or UNIQUE stands directly before INDEX, an index is created
-abbrev pub creates_index : List ℕ → Bool
-creates_index words = stand_together CREATE_KW INDEX_KW words || stand_together UNIQUE_KW INDEX_KW words
-
--- a CREATE that creates an index has INDEX directly before CONCURRENTLY
+-- a CREATE INDEX has INDEX directly before CONCURRENTLY
 abbrev pub without_concurrently : List ℕ → Option (List ℕ)
-without_concurrently words =
-    if creates_index words && not (stand_together INDEX_KW CONCURRENTLY_KW words)
-    then Some (codes "CREATE INDEX without CONCURRENTLY") else None
+without_concurrently words = if stand_together INDEX_KW CONCURRENTLY_KW words then None else Some (codes "CREATE INDEX without CONCURRENTLY")
 
 -- what is told of a node of a kind with these words, if it breaks a rule
 abbrev pub broken_rule : ℕ → List ℕ → Option (List ℕ)
 broken_rule kind words =
-    if kind == DROP then without_if_exists words else (if kind == CREATE then without_concurrently words else None)
+    if kind == DROP then without_if_exists words else (if kind == CREATE_INDEX then without_concurrently words else None)
 
 -- ---- findings
 

@@ -20,10 +20,8 @@ pub fn broken_rule(statement: SyntaxElement<'_>) -> Option<&'static str>
             Some("DROP without IF EXISTS")
         }
         // Without `CONCURRENTLY` the table can't be written while its index is built.
-        SqlKind::CREATE
-            if (stand_together(statement, SqlKind::CREATE_KW, SqlKind::INDEX_KW)
-                || stand_together(statement, SqlKind::UNIQUE_KW, SqlKind::INDEX_KW))
-                && !stand_together(statement, SqlKind::INDEX_KW, SqlKind::CONCURRENTLY_KW) => {
+        SqlKind::CREATE_INDEX
+            if !stand_together(statement, SqlKind::INDEX_KW, SqlKind::CONCURRENTLY_KW) => {
             Some("CREATE INDEX without CONCURRENTLY")
         }
         _ => None,

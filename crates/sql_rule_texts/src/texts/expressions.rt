@@ -43,7 +43,7 @@ in_list "a list of values" = (@begins_query '(' query ')' => SUBQUERY | '(' {exp
 -- What stands between operators: operands, with fields, elements, arguments and strings after them.
 primary "an expression" = operand
     left  _ ~(NAME_REF | FIELD_EXPR | INDEX_EXPR | SLICE_EXPR | PAREN_EXPR | SUBQUERY | PARAM_REF) '.' (label_ref | '*') => FIELD_EXPR
-        | _ ~(NAME_REF | FIELD_EXPR | INDEX_EXPR | SLICE_EXPR | PAREN_EXPR | SUBQUERY | PARAM_REF) '[' (expression (':' expression? => SLICE_EXPR | => INDEX_EXPR) | ':' expression? => SLICE_EXPR) ']'
+        | _ ~(NAME_REF | FIELD_EXPR | INDEX_EXPR | SLICE_EXPR | PAREN_EXPR | SUBQUERY | PARAM_REF) '[' (':' expression? => SLICE_EXPR / expression (':' expression? => SLICE_EXPR | => INDEX_EXPR)) ']'
         | _ ~(NAME_REF | FIELD_EXPR) arg_list call_tail => CALL_EXPR
         | _ ~(NAME_REF | FIELD_EXPR | CALL_EXPR) string => CAST_EXPR
 
@@ -52,6 +52,7 @@ operand "an expression" = paren
     / Constant => LITERAL
     / string
     / POSITIONAL_PARAM => PARAM_REF
+    / variable
     / CASE expression? when+ else? END => CASE_EXPR
     / ARRAY ('(' query ')' | array_items) => ARRAY_EXPR
     / interval_literal

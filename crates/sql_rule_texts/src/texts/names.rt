@@ -10,6 +10,9 @@ label_ref "a name" = Label => NAME_REF
 type_ref "a name" = TypeName => NAME_REF
 function_word "a name" = FunctionWord => NAME_REF
 
+-- A variable of psql, where it stands for a value.
+variable "a variable" = ':' (Label | STRING) => PARAM_REF
+
 -- The name of what is there, and of what is made.
 path "a name" = name_ref ('.' label_ref)* => PATH
 table "a table name" = name_ref ('.' label_ref)* => PATH
@@ -45,7 +48,7 @@ quoted_string "a string" = (STRING | ESC_STRING | UNICODE_ESC_STRING) => LITERAL
 integer "an integer" = INT_NUMBER => LITERAL
 signed_integer "an integer" = ('+' | '-')? INT_NUMBER => LITERAL
 number "a number" = ('+' | '-')? (INT_NUMBER | NUMERIC_NUMBER) => LITERAL
-word_or_string "a name or a string" = OptionName => NAME_REF | string
+word_or_string "a name or a string" = OptionName => NAME_REF | string | variable
 word "a value" = OptionName | TRUE | FALSE | ON
 
 behavior = CASCADE | RESTRICT

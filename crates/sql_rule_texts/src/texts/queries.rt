@@ -92,7 +92,7 @@ not_set = NotSet => NAME
 insert_body = INSERT INTO table (AS name)? (DEFAULT VALUES | insert_columns?+ overriding? query) on_conflict? returning?
 insert_columns "column names" = '(' {set_column} ')' => COLUMN_LIST
 set_column "a column name" = column_ref ('.' (label_ref | '*') | subscript)* => SET_COLUMN
-subscript = '[' (expression (':' expression?)? | ':' expression?) ']'
+subscript = '[' (':' expression? / expression (':' expression?)?) ']'
 overriding = OVERRIDING (USER | SYSTEM) VALUE
 on_conflict = ON CONFLICT (conflict_target where? | ON CONSTRAINT name_ref)? DO (NOTHING | UPDATE set_clause where?) => ON_CONFLICT_CLAUSE
 conflict_target = '(' {index_item} ')' => CONFLICT_TARGET

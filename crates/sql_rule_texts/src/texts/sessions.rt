@@ -12,7 +12,7 @@ new_setting "a parameter" = new_ref ('.' setting_ref)* => PATH
 new_ref "a parameter" = Name => NAME_REF
 setting "a parameter" = setting_ref ('.' setting_ref)* => PATH
 setting_ref "a parameter" = Name => NAME_REF
-set_value "a value" = word => NAME_REF | string | number
+set_value "a value" = word => NAME_REF | string | number | variable
 zone "a time zone" = string | IDENT => NAME_REF | number | DEFAULT | LOCAL | interval_literal
 transaction_modes = transaction_mode (','? transaction_mode)*
 transaction_mode "a transaction mode" = ISOLATION LEVEL (READ (UNCOMMITTED | COMMITTED) | REPEATABLE READ | SERIALIZABLE) => TRANSACTION_MODE

@@ -5,18 +5,6 @@ use Rattle.rule_tables.proofs.Limited.{err_at, ok_at}
 use Rattle.rule_tables.proofs.Other.{decided-other}
 use Rattle.rule_tables.proofs.numbers.look.Goals as goal
 
-pub returns-in-Arm-clause-err : goal.returns-in-Arm-clause-err
-returns-in-Arm-clause-err c = err_at (λ row. AreTold (ComesTwoWays (plan_of c.args.fork.now.map.now) c.args.fork.now.part (Some row))) _ c.args.fork.now.part c.apart.result (sym c.in-Arm.is) c.apart.ensures.err
-
-pub returns-in-Arm-clause-decided : goal.returns-in-Arm-clause-decided
-returns-in-Arm-clause-decided c = ok_at (λ row. IsUndecidedRow (plan_of c.args.fork.now.map.now) c.args.fork.now.part (Some row)) _ c.apart.result (sym c.in-Arm.is) c.apart.ensures.ok
-
-pub returns-in-Tail-clause-err : goal.returns-in-Tail-clause-err
-returns-in-Tail-clause-err c = err_at (λ row. AreTold (ComesTwoWays (plan_of c.args.fork.now.map.now) c.args.fork.now.part (Some row))) _ c.args.fork.now.part c.apart-in-Tail.result (sym c.in-Tail.is) c.apart-in-Tail.ensures.err
-
-pub returns-in-Tail-clause-decided : goal.returns-in-Tail-clause-decided
-returns-in-Tail-clause-decided c = ok_at (λ row. IsUndecidedRow (plan_of c.args.fork.now.map.now) c.args.fork.now.part (Some row)) _ c.apart-in-Tail.result (sym c.in-Tail.is) c.apart-in-Tail.ensures.ok
-
 pub returns-in-Optional-clause-err : goal.returns-in-Optional-clause-err
 returns-in-Optional-clause-err c = err_at (λ row. AreTold (ComesTwoWays (plan_of c.args.fork.now.map.now) c.args.fork.now.part (Some row))) _ c.args.fork.now.part c.more_in.result (sym c.in-Optional.is) c.more_in.ensures.err
 
