@@ -57,12 +57,12 @@ static BROKEN: [(&str, &str); 7] = [
     (
         "select (1x; drop table a",
         "x:1:10: trailing junk after numeric literal\nselect (1x; drop table a\n         ^\n\
-         x:1:11: expected )\nselect (1x; drop table a\n          ^\n\
+         x:1:11: expected ) or a comma\nselect (1x; drop table a\n          ^\n\
          x:1:13: DROP without IF EXISTS\nselect (1x; drop table a\n            ^\n",
     ),
     (
         "drop table a; select (1",
-        "x:1:24: expected )\ndrop table a; select (1\n                       ^\n\
+        "x:1:24: expected ) or a comma\ndrop table a; select (1\n                       ^\n\
          x:1:1: DROP without IF EXISTS\ndrop table a; select (1\n^\n",
     ),
     // A finding stands at its statement's first byte, not at trivia before it.

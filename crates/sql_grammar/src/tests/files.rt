@@ -4,7 +4,7 @@ use crate::tests::assert_trees;
 use std::test::Fail;
 
 /// Texts, and what is in their files.
-static CASES: [(&str, &str); 8] = [
+static CASES: [(&str, &str); 10] = [
     ("", ""),
     (";;", "STATEMENT{;}STATEMENT{;}"),
     (
@@ -30,6 +30,16 @@ static CASES: [(&str, &str); 8] = [
         "CHECKPOINT{checkpoint \\g b}\nPSQL_COMMAND{\\x}",
     ),
     ("\\g\n;", "PSQL_COMMAND{\\g}\nSTATEMENT{;}"),
+    // Variables of psql, which aren't those of slices.
+    (
+        "select :a, :'b', c[:d]",
+        "QUERY{SELECT{select TARGET_LIST{TARGET{PARAM_REF{:a}}, TARGET{PARAM_REF{:'b'}}, TARGET{SLICE_EXPR{NAME_REF{c}[:NAME_REF{d}]}}}}}",
+    ),
+    // What may come where it is missing.
+    (
+        "select (1; checkpoint",
+        "QUERY{SELECT{select TARGET_LIST{TARGET{ERROR{(LITERAL{1!expected ) or a comma!}}}}};} CHECKPOINT{checkpoint}",
+    ),
 ];
 
 #[test]
