@@ -78,15 +78,17 @@ fn lists_raw_tokens(rt: HostRuntime) -> Result<(), Fail> {
     Ok(())
 }
 
-/// Starts and ends count bytes. An error stands in the innermost node that is open, and what stands between statements is
-/// left out.
+/// Starts and ends count bytes. An error stands in the innermost node that is open, and what stands between
+/// statements is left out.
 const JSON: &str = "{\"kind\":\"LOAD\",\"start\":0,\"children\":[\
     {\"kind\":\"LOAD_KW\",\"start\":0,\"end\":4},{\"kind\":\"WHITESPACE\",\"start\":4,\"end\":5},\
-    {\"kind\":\"LITERAL\",\"start\":5,\"children\":[{\"kind\":\"STRING\",\"start\":5,\"end\":9}],\"end\":9,\"errors\":[]},\
+    {\"kind\":\"LITERAL\",\"start\":5,\"children\":[\
+    {\"kind\":\"STRING\",\"start\":5,\"end\":9}],\"end\":9,\"errors\":[]},\
     {\"kind\":\"SEMICOLON\",\"start\":9,\"end\":10}],\"end\":10,\"errors\":[]}\n\
     {\"kind\":\"MOVE\",\"start\":11,\"children\":[\
     {\"kind\":\"MOVE_KW\",\"start\":11,\"end\":15},{\"kind\":\"WHITESPACE\",\"start\":15,\"end\":16},\
-    {\"kind\":\"NAME_REF\",\"start\":16,\"children\":[{\"kind\":\"IDENT\",\"start\":16,\"end\":17}],\"end\":17,\"errors\":[]},\
+    {\"kind\":\"NAME_REF\",\"start\":16,\"children\":[\
+    {\"kind\":\"IDENT\",\"start\":16,\"end\":17}],\"end\":17,\"errors\":[]},\
     {\"kind\":\"WHITESPACE\",\"start\":17,\"end\":18},\
     {\"kind\":\"ERROR\",\"start\":18,\"children\":[{\"kind\":\"IDENT\",\"start\":18,\"end\":19}],\"end\":19,\
     \"errors\":[{\"message\":\"unexpected token\",\"at\":18}]},\
