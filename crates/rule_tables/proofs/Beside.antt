@@ -105,11 +105,7 @@ module _ (plan : Plan) (list : List parts.Part) where
       let leads : leads_to plan.rows h row ≡ true = leads_there h (goal_of plan.rows row (slice_get plan.rows row)) on.leads.goal in
       cc
 
-  -- the first of two
-  pub decided_first : (P : ℕ → List ℕ → Type 0) (first one : Option Open) → ((row : ℕ) → IsUpTo first row → IsUpTo one row) → AreDecidedBy plan list P 4 one → AreDecidedBy plan list P 4 first
-  decided_first P first one to decided row up settled share = decided row (to row up) settled share
-
-  pub first_told : (first one other : Option Open) → (first ≡ one) ⊎ (first ≡ other) → IsWayUndecided plan list one → IsWayUndecided plan list other → IsWayUndecided plan list first
+  first_told : (first one other : Option Open) → (first ≡ one) ⊎ (first ≡ other) → IsWayUndecided plan list one → IsWayUndecided plan list other → IsWayUndecided plan list first
   first_told first one other which told_one told_other = elim which [ inl same ↦ subst (IsWayUndecided plan list) (sym same) told_one | inr same ↦ subst (IsWayUndecided plan list) (sym same) told_other ]
 
   -- those in one row more
