@@ -203,11 +203,15 @@ impl Looks {
         ensures keeps { OnOk result (Extends self.old.sets.list.items self.new.sets.list.items) }
     {
         let others = if trail.depth == 0 { shared } else { later };
-        let alone = without(strand.kinds, shared);
-        if is_empty(others) || is_empty(alone) {
+        if is_empty(others) {
             return Ok(());
         }
-        self.add(strand.row, trail, alone)
+        let alone = without(strand.kinds, shared);
+        if is_empty(alone) {
+            Ok(())
+        } else {
+            self.add(strand.row, trail, alone)
+        }
     }
 }
 
