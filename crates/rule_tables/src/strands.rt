@@ -203,15 +203,11 @@ impl Looks {
         ensures keeps { OnOk result (Extends self.old.sets.list.items self.new.sets.list.items) }
     {
         let others = if trail.depth == 0 { shared } else { later };
-        if is_empty(others) {
+        let alone = without(strand.kinds, shared);
+        if is_empty(others) || is_empty(alone) {
             return Ok(());
         }
-        let alone = without(strand.kinds, shared);
-        if is_empty(alone) {
-            Ok(())
-        } else {
-            self.add(strand.row, trail, alone)
-        }
+        self.add(strand.row, trail, alone)
     }
 }
 
