@@ -6,7 +6,6 @@ use Rattle.squawk_keywords.specs.declared.keywords.Keywords.{Keywords}
 use Rattle.squawk_parser.specs.declared.parser.parse_error.ParseError.{ParseError}
 use Rattle.squawk_parser.specs.declared.parser.parse_error.ParseError.TheVariants as parse
 use Rattle.squawk_table.specs.RawTable.{Table as RawTable}
-use Rattle.squawk_tokens.specs.declared.check.TableError.TheVariants as table
 use Rattle.squawk_output.specs.Steps.{Step}
 use Rattle.rule_grammar.specs.declared.rules.RuleGrammar.{RuleGrammar}
 use Rattle.sql_grammar.specs.Parses.{IsRefusedParse}
@@ -17,7 +16,7 @@ use Rattle.sql_lexer.specs.declared.tokenizer.TokenizeError.{TokenizeError}
 use Rattle.sql_lexer.specs.declared.tokenizer.TokenizeError.TheVariants as lexer
 use Rattle.caliperdock_c.specs.Answers.{refusal_of_lexer, refusal_of_parse}
 use Rattle.caliperdock_c.specs.Refusals.{RefusesText}
-use Rattle.caliperdock_c.specs.Sql.{AreByRules, AreOfSql, HasSqlTable, IsRefusedByRules, IsRefusedSql, RefusesSql}
+use Rattle.caliperdock_c.specs.Sql.{AreByRules, AreOfSql, HasSqlTable, IsRefusedSql, RefusesSql}
 use Rattle.caliperdock_c.specs.declared.answer.Refusal.{Refusal}
 use Rattle.caliperdock_c.specs.declared.answer.Refusal.TheVariants.{OutOfMemory, NotUtf8, UnknownToken, Table, TooManyEvents, UnknownEvent, BadLink, NoRoot, DoesNotFit, TooManyErrors}
 
@@ -42,22 +41,6 @@ pub of_parse : (detail : Detail) (text : List ℕ) (keywords : Keywords) (table 
 of_parse detail text keywords table parse.OutOfMemory has r = has.utf8
 of_parse detail text keywords table parse.TooManyEvents has r = record { keywords = keywords; table = table; of_text = has; refused = r (λ same. let p = same in cc) }
 of_parse detail text keywords table parse.TooManyErrors has r = record { keywords = keywords; table = table; of_text = has; refused = r (λ same. let p = same in cc) }
-
--- the refusals of a parse by rules
-pub by_rules : (rules : Bor RuleGrammar) (text : List ℕ) (reason : Refusal) → RefusesSql (IsRefusedSql (Nodes rules)) text reason → RefusesSql IsRefusedByRules text reason
-by_rules rules text OutOfMemory r = r
-by_rules rules text (NotUtf8 at) r = r
-by_rules rules text (Table table.TextTooLong) r = r
-by_rules rules text (Table (table.BadToken i)) r = absurd r
-by_rules rules text (Table (table.TextLeft i)) r = absurd r
-by_rules rules text (Table table.OutOfMemory) r = absurd r
-by_rules rules text TooManyEvents r = (rules, r)
-by_rules rules text TooManyErrors r = (rules, r)
-by_rules rules text (UnknownToken i) r = absurd r
-by_rules rules text (UnknownEvent i) r = absurd r
-by_rules rules text (BadLink i) r = absurd r
-by_rules rules text NoRoot r = absurd r
-by_rules rules text DoesNotFit r = absurd r
 
 -- the steps of a parse by rules
 pub steps_by_rules : {rules : Bor RuleGrammar} {text other : List ℕ} {table : RawTable} {walk : List Step} → AreOfSql (Nodes rules) text table walk → text ≡ other

@@ -97,23 +97,31 @@ module _ (plan : Plan) (list : List parts.Part) where
   way_decided w h strands listed trail first found decided =
       decided_as (ComesOn plan w h) (SeesOn plan strands) listed.all plan list 4 found (omega arith) (subst (λ (n : ℕ). AreDecidedBy plan list (SeesOn plan strands) n found) (let e : 4 - trail.depth ≡ 4 = omega (arith, first) in e) decided)
 
+  -- no row leads to this one
+  pub none_lead : (w : Way) (h : ℕ) → last_below (leads_to plan.rows h) (length plan.rows) ≡ None → (found : Option Open) → AreDecidedBy plan list (ComesOn plan w h) 4 found
+  none_lead w h none found row up settled share =
+      let on : ComesOn plan w h row share.word = share.such.0 in
+      let off : leads_to plan.rows h row ≡ false = last-none (leads_to plan.rows h) (length plan.rows) none row (leads_within plan.rows w h row on.leads) in
+      let leads : leads_to plan.rows h row ≡ true = leads_there h (goal_of plan.rows row (slice_get plan.rows row)) on.leads.goal in
+      cc
+
+  first_told : (first one other : Option Open) → (first ≡ one) ⊎ (first ≡ other) → IsWayUndecided plan list one → IsWayUndecided plan list other → IsWayUndecided plan list first
+  first_told first one other which told_one told_other = elim which [ inl same ↦ subst (IsWayUndecided plan list) (sym same) told_one | inr same ↦ subst (IsWayUndecided plan list) (sym same) told_other ]
+
   -- those in one row more
-  module _ (n : ℕ) (old arm mid tail first : Option Open) (before : AreWaysDecided plan list n old) (up_mid : (row : ℕ) → IsUpTo mid row → IsUpTo old row × IsUpTo arm row) (up_first : (row : ℕ) → IsUpTo first row → IsUpTo mid row × IsUpTo tail row) where
-    below_more : (w : Way) (now : Option Open) → ((row : ℕ) → IsUpTo first row → IsUpTo now row) → AreDecidedBy plan list (ComesOn plan w n) 4 now → ((h : ℕ) → h < n → AreDecidedBy plan list (ComesOn plan w h) 4 old) → (h : ℕ) → h < n + 1 → AreDecidedBy plan list (ComesOn plan w h) 4 first
-    below_more w now up here decided h lt row below settled share =
+  module _ (n : ℕ) (old found first : Option Open) (before : AreWaysDecided plan list n old) (up : (row : ℕ) → IsUpTo first row → IsUpTo old row × IsUpTo found row) where
+    below_more : (w : Way) → AreDecidedBy plan list (ComesOn plan w n) 4 found → ((h : ℕ) → h < n → AreDecidedBy plan list (ComesOn plan w h) 4 old) → (h : ℕ) → h < n + 1 → AreDecidedBy plan list (ComesOn plan w h) 4 first
+    below_more w here decided h lt row below settled share =
         elim (cases_eq h n) [
-          | inl same ↦ here row (up row below) settled (subst (λ (k : ℕ). ShareBoth (ComesOn plan w k) 4 row) same share)
-          | inr less ↦ decided h (omega (arith, lt, less)) row (up_mid row (up_first row below).0).0 settled share
+          | inl same ↦ here row (up row below).1 settled (subst (λ (k : ℕ). ShareBoth (ComesOn plan w k) 4 row) same share)
+          | inr less ↦ decided h (omega (arith, lt, less)) row (up row below).0 settled share
         ]
 
-    pub ways_more : (mid ≡ old) ⊎ (mid ≡ arm) → (first ≡ mid) ⊎ (first ≡ tail) → IsWayUndecided plan list arm → IsWayUndecided plan list tail → AreDecidedBy plan list (ComesOn plan way.Arm n) 4 arm → AreDecidedBy plan list (ComesOn plan way.Tail n) 4 tail → AreWaysDecided plan list (n + 1) first
-    ways_more which_mid which_first told_arm told_tail arms tails = record {
-      told = elim which_first [
-        | inl same ↦ subst (IsWayUndecided plan list) (sym same) (elim which_mid [ inl old_one ↦ subst (IsWayUndecided plan list) (sym old_one) before.told | inr arm_one ↦ subst (IsWayUndecided plan list) (sym arm_one) told_arm ])
-        | inr same ↦ subst (IsWayUndecided plan list) (sym same) told_tail
-      ];
-      arms = below_more way.Arm arm (λ row up. (up_mid row (up_first row up).0).1) arms before.arms;
-      tails = below_more way.Tail tail (λ row up. (up_first row up).1) tails before.tails;
+    pub ways_more : (first ≡ old) ⊎ (first ≡ found) → IsWayUndecided plan list found → AreDecidedBy plan list (ComesOn plan way.Arm n) 4 found → AreDecidedBy plan list (ComesOn plan way.Tail n) 4 found → AreWaysDecided plan list (n + 1) first
+    ways_more which told arms tails = record {
+      told = first_told first old found which before.told told;
+      arms = below_more way.Arm arms before.arms;
+      tails = below_more way.Tail tails before.tails;
     }
 
   within_rows : (k outer : ℕ) → k < length plan.rows → outer_of plan.rows k ≡ Some outer → outer < length plan.rows

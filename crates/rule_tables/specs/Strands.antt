@@ -28,7 +28,7 @@ pub record IsStrand (plan : Plan) (strand : Strand) : Type 0 where
   pub eat : All (λ p. does_eat plan p ≡ true) strand.places.items
   pub are : (kind : ℕ) → has strand.kinds kind ≡ list_any (λ p. eats plan p kind) strand.places.items
 
--- all are such, and the rows fall
+-- all are such, and later rows come first
 pub record AreStrands (plan : Plan) (strands : List Strand) : Type 0 where
   pub each : (i : ℕ) (s : Strand) → slice_get strands i ≡ Some s → IsStrand plan s
   pub fall : (i j : ℕ) (a b : Strand) → i < j → slice_get strands i ≡ Some a → slice_get strands j ≡ Some b → b.row < a.row
@@ -47,7 +47,7 @@ pub record AreListed (plan : Plan) (Comes : ℕ → List ℕ → Type 0) (strand
   pub all : (row kind : ℕ) (word : List ℕ) → Comes row (kind ∷ word) → SeesOn plan strands row (kind ∷ word)
   pub only : (row kind : ℕ) (word : List ℕ) → SeesOn plan strands row (kind ∷ word) → Comes row (kind ∷ word)
 
--- as an arm or an operator
+-- a way by which a row is gone into: as an arm or an operator of another
 pub data IsIn : Way → Type 0 where
   arm : IsIn way.Arm
   tail : IsIn way.Tail
@@ -57,7 +57,7 @@ pub record ComesOn (plan : Plan) (way : Way) (h k : ℕ) (word : List ℕ) : Typ
   pub leads : Leads plan.rows way h k
   pub sees : Sees plan (led_to way k) word
 
--- at part k these kinds may come from a place; and, as at one more, from after the part
+-- at a part these kinds may come from a place, and at the row after it from after the part
 abbrev pub ComesAt : Plan → Place → ℕ → ℕ → List ℕ → Type 0
 ComesAt plan place part k word = ((k ≡ part) × Sees plan place word) ⊎ ((k ≡ part + 1) × Sees plan (After part) word)
 
@@ -111,6 +111,7 @@ pub record IsUndecidedHere (plan : Plan) (parts : List parts.Part) (Comes : ℕ 
   pub settled : one.row < length plan.rows → settles parts plan.rows one.row ≡ false
   pub told : AreTold (GoOnBoth Comes one.row trail) one.kinds
 
+-- the one that is undecided is so, if one is
 abbrev pub IsToldBy : Plan → List parts.Part → (ℕ → List ℕ → Type 0) → Trail → Option Open → Type 0
 IsToldBy plan parts Comes trail None = Unit {0}
 IsToldBy plan parts Comes trail (Some one) = IsUndecidedHere plan parts Comes trail one
@@ -119,7 +120,7 @@ IsToldBy plan parts Comes trail (Some one) = IsUndecidedHere plan parts Comes tr
 abbrev pub AreDecidedAfter : Plan → List parts.Part → List Strand → ℕ → TokenSet → Option Open → Type 0
 AreDecidedAfter plan parts strands count group found = (kind : ℕ) → has group kind ≡ true → AreDecidedBy plan parts (λ row word. SeesOn plan strands row (kind ∷ word)) count found
 
--- the row that is told is undecided by the kinds that are told
+-- four kinds that are told come two ways at the row that is undecided, if one is
 abbrev pub IsWayUndecided : Plan → List parts.Part → Option Open → Type 0
 IsWayUndecided plan parts None = Unit {0}
 IsWayUndecided plan parts (Some one) = IsUndecidedBy plan parts one.row one.kinds
@@ -171,6 +172,7 @@ pub record IsSharedIn (plan : Plan) (parts : List parts.Part) (strands : List St
   pub known : (kind : ℕ) → has later kind ≡ true → HasKind strands index kind
   pub shared : IsSharedBy plan parts strand trail later one
 
+-- of the one that is undecided, if one is
 abbrev pub IsTold : Plan → List parts.Part → List Strand → Trail → Option Open → Type 0
 IsTold plan parts strands trail None = Unit {0}
 IsTold plan parts strands trail (Some one) = IsSharedIn plan parts strands trail one

@@ -4,6 +4,7 @@ ghost use Rattle.squawk_kinds.specs.TokenSets.{has};
 ghost use Rattle.rule_tables.specs.Limits.{IsLimit};
 ghost use Rattle.rule_tables.specs.Places.{SeesFrom, does_eat};
 ghost use Rattle.rule_tables.specs.Sets.{Extends};
+ghost use Rattle.rule_tables.specs.Settled.{settles};
 ghost use Rattle.rule_tables.specs.Strands.{AddsStrand, AreAlikeOn, AreDecidedAfter, AreDecidedBy, AreListed, AreStrands, IsFound, IsOpenAfter, IsStrand, IsToldBy, IsUpTo, SeesOn, Tells};
 ghost use Rattle.rule_tables.specs.Walks.{plan_of};
 
@@ -180,8 +181,8 @@ impl Looks {
         ensures ok { IfOk result (Tells (plan_of map.now) parts.now strand.now trail.now found.now) }
         ensures keeps { OnOk result (Extends self.old.sets.list.items self.new.sets.list.items) }
     {
-        let is_settled = is_settled(parts, map, strand.row);
-        let shared = shared(is_settled, strand.kinds, found.later, trail.depth);
+        let is_settled = is_settled_after(parts, map, strand.row, trail.depth);
+        let shared = shared(is_settled, strand.kinds, found.later);
         self.add_alone(strand, trail, shared, found.later)?;
         Ok(Found {
             later: found.later.union(strand.kinds),
@@ -251,13 +252,21 @@ pub(crate) fn first_open(one: Option<Open>, other: Option<Open>) -> Option<Open>
     }
 }
 
-/// The kinds that don't decide. If the part is settled, they do after three tokens.
-fn shared(is_settled: bool, own: TokenSet, others: TokenSet, depth: usize) -> TokenSet
-    ensures some { (kind : ℕ) → has result kind ≡ true → (has own kind && has others kind) ≡ true }
-    ensures all { (kind : ℕ) → (depth < 3) ⊎ (is_settled ≡ false) → has result kind ≡ (has own kind && has others kind) }
-    ensures last { 3 ≤ depth → is_settled ≡ true → (kind : ℕ) → has result kind ≡ false }
+/// Whether a row is settled after so many tokens.
+fn is_settled_after(parts: &[Part<'_>], map: &Map<'_>, row: usize, depth: usize) -> bool
+    ensures late { 3 ≤ depth → row < length map.now.rows.now → result ≡ settles parts.now map.now.rows.now row }
+    ensures other { (depth < 3) ⊎ (length map.now.rows.now ≤ row) → result ≡ false }
 {
-    if is_settled && depth >= 3 {
+    depth >= 3 && is_settled(parts, map, row)
+}
+
+/// The kinds that don't decide: none, if they are settled.
+fn shared(is_settled: bool, own: TokenSet, others: TokenSet) -> TokenSet
+    ensures some { (kind : ℕ) → has result kind ≡ true → (has own kind && has others kind) ≡ true }
+    ensures all { is_settled ≡ false → (kind : ℕ) → has result kind ≡ (has own kind && has others kind) }
+    ensures none { is_settled ≡ true → (kind : ℕ) → has result kind ≡ false }
+{
+    if is_settled {
         TokenSet::EMPTY
     } else {
         both(own, others)

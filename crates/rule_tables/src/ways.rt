@@ -30,14 +30,35 @@ impl Looks {
         self.ends.resize(map.rows.len(), [0, 0])?;
         let mut undecided: Option<Open> = None;
         for row in 0..map.rows.len() {
-            let arm = self.decide_ways(parts, map, row, Way::Arm)?;
-            let tail = self.decide_ways(parts, map, row, Way::Tail)?;
-            undecided = first_open(first_open(undecided, arm), tail);
+            let found = self.decide_row(parts, map, row)?;
+            undecided = first_open(undecided, found);
         }
         Ok(undecided)
     }
 
-    /// The same of the arms or operators in a row.
+    /// The same of those in a row.
+    fn decide_row(
+        &mut self,
+        parts: &[Part<'_>],
+        map: &Map<'_>,
+        row: usize,
+    ) -> Result<Option<Open>, RulesError>
+        requires { row < length map.now.rows.now }
+        ensures err { IfErr result IsLimit }
+        ensures arms { IfOk result (AreDecidedBy (plan_of map.now) parts.now (ComesOn (plan_of map.now) Way.Arm row) 4) }
+        ensures tails { IfOk result (AreDecidedBy (plan_of map.now) parts.now (ComesOn (plan_of map.now) Way.Tail row) 4) }
+        ensures told { IfOk result (IsWayUndecided (plan_of map.now) parts.now) }
+        ensures keeps { OnOk result (Extends self.old.sets.list.items self.new.sets.list.items) }
+    {
+        let Some(_) = map.last_to(row) else {
+            return Ok(None);
+        };
+        let arm = self.decide_ways(parts, map, row, Way::Arm)?;
+        let tail = self.decide_ways(parts, map, row, Way::Tail)?;
+        Ok(first_open(arm, tail))
+    }
+
+    /// The same of the arms or operators.
     fn decide_ways(
         &mut self,
         parts: &[Part<'_>],
