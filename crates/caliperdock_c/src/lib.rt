@@ -8,6 +8,7 @@ ghost use Rattle.std.specs.Prelude.{◌≡◌, ◌≤◌, ◌↔◌, length, IfO
 ghost use Rattle.caliperdock_c.specs.Answers.{answer_of};
 ghost use Rattle.caliperdock_c.specs.Refusals.{Refuses, given};
 ghost use Rattle.caliperdock_c.specs.Sent.{AreSent, HasRoom, no_counts};
+ghost use Rattle.sql_grammar.specs.declared.Detail.TheVariants.{Tokens};
 ghost use Rattle.caliperdock_c.specs.Sql.{AreOfSql, AreSqlWritten, AreStatementsWritten, HasSqlRoom, IsRefusedByRules, IsRefusedSql, RefusesSql, no_sql_counts};
 ghost use Rattle.caliperdock_c.specs.declared.answer.Refusal.{Refusal};
 
@@ -138,10 +139,10 @@ pub extern "C" fn caliperdock_statements(
     statements: &mut [CStatement],
     count: &mut u64,
 ) -> CAnswer
-    ensures written { result.status ≤ 1 → AreStatementsWritten (AreOfSql Detail.Tokens) text.now statements.old statements.new count.new }
+    ensures written { result.status ≤ 1 → AreStatementsWritten (AreOfSql Tokens) text.now statements.old statements.new count.new }
     ensures place { result.status ≤ 1 → result.place ≡ 0 }
     ensures room { result.status ≡ 0 ↔ ((result.status ≤ 1) × (count.new ≤ length statements.old)) }
-    ensures refused { 2 ≤ result.status → (reason : Refusal) × RefusesSql (IsRefusedSql Detail.Tokens) text.now reason × (result ≡ answer_of reason)
+    ensures refused { 2 ≤ result.status → (reason : Refusal) × RefusesSql (IsRefusedSql Tokens) text.now reason × (result ≡ answer_of reason)
         × (count.new ≡ 0) × (statements.new ≡ statements.old) }
 {
     match write_cut(alloc, text, statements) {
