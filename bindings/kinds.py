@@ -6,6 +6,7 @@
 """
 import re
 import sys
+import textwrap
 from pathlib import Path
 
 TOP = Path(__file__).resolve().parent.parent
@@ -78,10 +79,18 @@ def rust_enum(all_kinds):
 
 
 def python_table(all_kinds):
+    names = ", ".join(f'"{name}"' for _, name in all_kinds)
     lines = [
-        '"""The kinds of tokens and nodes by number. Written by bindings/kinds.py."""',
+        '"""The kinds of tokens and nodes. Written by bindings/kinds.py."""',
+        "from typing import Dict, Literal",
         "",
-        "KINDS = {",
+        "# The name of a kind. A type checker tells a name that is none.",
+        "SyntaxKind = Literal[",
+        *textwrap.wrap(names, 118, initial_indent="    ", subsequent_indent="    "),
+        "]",
+        "",
+        "# The names by number.",
+        "KINDS: Dict[int, SyntaxKind] = {",
         *[f'    {number}: "{name}",' for number, name in all_kinds],
         "}",
     ]

@@ -19,8 +19,9 @@ tree shows bytes.
 A statement in a tree has the kind that PostgreSQL's grammar says, as QUERY or CREATE_TABLE. One of `split`
 has the kind of its first word, as SELECT or CREATE.
 """
+from ._kinds import SyntaxKind
 from ._library import Refused
 from ._sql import Error, Statement, Token, errors, split, tokenize
 from ._tree import Node, Tree, parse
 
-__all__ = ["Error", "Node", "Refused", "Statement", "Token", "Tree", "errors", "parse", "split", "tokenize"]
+__all__ = ["Error", "Node", "Refused", "Statement", "SyntaxKind", "Token", "Tree", "errors", "parse", "split", "tokenize"]

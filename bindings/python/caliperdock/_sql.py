@@ -1,7 +1,7 @@
 """Statements, raw tokens and errors of a text."""
 from typing import List, NamedTuple, Optional
 
-from ._kinds import KINDS
+from ._kinds import KINDS, SyntaxKind
 from ._library import Written, rows, statement_rows
 from ._places import Source
 
@@ -9,7 +9,7 @@ from ._places import Source
 class Statement(NamedTuple):
     """A statement: the kind of its first word, as SELECT, its text, its semicolon in it, and where that stands."""
 
-    kind: str
+    kind: SyntaxKind
     text: str
     start: int
     end: int
@@ -51,9 +51,9 @@ _TOKEN_KINDS = (
 _CLOSED = {2, 5, *range(38, 45)}
 
 
-def kind_name(kind: int) -> str:
+def kind_name(kind: int) -> SyntaxKind:
     """The name of a kind of nodes or tokens."""
-    return KINDS.get(kind, str(kind))
+    return KINDS[kind]
 
 
 def split(sql: str) -> List[Statement]:

@@ -1,6 +1,7 @@
 """The tree of a text."""
 from typing import Iterator, List, Optional, Tuple
 
+from ._kinds import SyntaxKind
 from ._library import Written
 from ._places import Source
 from ._sql import Error, errors_in, kind_name
@@ -26,7 +27,7 @@ class Node:
         self._tree, self._index, self._parent = tree, index, parent
 
     @property
-    def kind(self) -> str:
+    def kind(self) -> SyntaxKind:
         """The name of its kind, as QUERY."""
         return kind_name(self._tree._steps[self._index].kind)
 
