@@ -87,20 +87,30 @@ static ROWS: [[u16; 8]; 27] = [
     [0, 0, 0, NONE, NONE, NONE, 0, 0],
 ];
 
+#[rattlefmt::skip]
+static SETS: [&[u16]; 9] = [
+    &[IDENT, L_PAREN], &[SEMICOLON], &[R_PAREN], &[PLUS, EQ, STAR], &[IDENT], &[L_PAREN], &[PLUS], &[EQ], &[STAR],
+];
+
 /// The set of these kinds.
-macro_rules! set {
-    (@word $word:expr; $($kind:expr),*) => { 0u16 $(| ((($kind / 16 == $word) as u16) << ($kind % 16)))* };
-    ($($kind:expr),*) => { [
-        set!(@word 0; $($kind),*), set!(@word 1; $($kind),*), set!(@word 2; $($kind),*), set!(@word 3; $($kind),*), 0, 0, 0, 0, 0, 0,
-        0, 0, 0, 0, 0, 0, 0, 0, 0, 0, 0, 0, 0, 0, 0, 0, 0, 0, 0, 0, 0, 0, 0, 0, 0, 0, 0, 0, 0, 0,
-    ] };
+fn set_of(kinds: &[u16]) -> [u16; 40] {
+    let mut words = [0u16; 40];
+    for &kind in kinds {
+        if let Some(word) = words.get_mut(usize::from(kind / 16)) {
+            *word |= 1u16 << (kind % 16);
+        }
+    }
+    words
 }
 
-#[rattlefmt::skip]
-static SETS: [[u16; 40]; 9] = [
-    set![IDENT, L_PAREN], set![SEMICOLON], set![R_PAREN], set![PLUS, EQ, STAR],
-    set![IDENT], set![L_PAREN], set![PLUS], set![EQ], set![STAR],
-];
+/// The sets of these kinds.
+fn sets_of(alloc: Global, all: &[&[u16]]) -> Result<Vec<[u16; 40]>, AllocError> {
+    let mut sets = Vec::new(alloc);
+    for &kinds in all {
+        sets.push(set_of(kinds))?;
+    }
+    Ok(sets)
+}
 
 /// `expected an expression`, `expected ;`, `expected )` and `expected a statement`.
 const MESSAGES: &str = "expected an expressionexpected ;expected )expected a statement";
@@ -181,10 +191,11 @@ fn line_of(alloc: Global, steps: &[OwnedStep]) -> Result<String, AllocError> {
 
 /// The line of a text's tree, where rules may be called in one another so often.
 fn parsed(alloc: Global, text: &str, depth: u32) -> Result<String, Fail> {
+    let sets = sets_of(alloc, &SETS)?;
     let rules = RuleGrammar {
         table: Table {
             rows: &ROWS,
-            sets: &SETS,
+            sets: sets.as_slice(),
             looks: &[],
             messages: MESSAGES,
             message_ends: &MESSAGE_ENDS,

@@ -9,7 +9,7 @@
 //! ```
 use super::{
     EQ, IDENT, L_PAREN, LABEL, NAME, NONE, PAREN, PLUS, R_PAREN, ROOT, SEMICOLON, STAR, STATEMENT,
-    parsed_by,
+    parsed_by, sets_of,
 };
 use crate::{RuleGrammar, Table, bit_of};
 use squawk_parser::{SyntaxKind, TokenSet, token_set};
@@ -41,22 +41,13 @@ const NESTED: u16 = 711;
 
 const QUERY: u16 = 712;
 
-/// The set of these kinds.
-macro_rules! set {
-    (@word $word:expr; $($kind:expr),*) => { 0u16 $(| ((($kind / 16 == $word) as u16) << ($kind % 16)))* };
-    ($($kind:expr),*) => { [
-        set!(@word 0; $($kind),*), set!(@word 1; $($kind),*), set!(@word 2; $($kind),*), set!(@word 3; $($kind),*), 0, 0, 0, 0, 0, 0,
-        0, 0, 0, 0, 0, 0, 0, 0, 0, 0, 0, 0, 0, 0, 0, 0, 0, 0, 0, 0, 0, 0, 0, 0, 0, 0, 0, 0, 0, 0,
-    ] };
-}
-
 /// CUSTOM_OP and COLON_COLON stand in sets at the bits 1 and 2.
 #[rattlefmt::skip]
-static SETS: [[u16; 40]; 19] = [
-    set![PLUS, STAR, EQ, COMMA, IDENT, L_PAREN, INT], set![SEMICOLON], set![IDENT, L_PAREN, INT],
-    set![PLUS], set![STAR], set![EQ], set![COMMA], set![IDENT], set![INT], set![L_PAREN, INT],
-    set![L_PAREN], set![R_PAREN], set![R_PAREN, SEMICOLON], set![L_ANGLE, LTEQ, 1, 2], set![LTEQ],
-    set![L_ANGLE], set![1], set![2], set![COLON],
+static SETS: [&[u16]; 19] = [
+    &[PLUS, STAR, EQ, COMMA, IDENT, L_PAREN, INT], &[SEMICOLON], &[IDENT, L_PAREN, INT],
+    &[PLUS], &[STAR], &[EQ], &[COMMA], &[IDENT], &[INT], &[L_PAREN, INT],
+    &[L_PAREN], &[R_PAREN], &[R_PAREN, SEMICOLON], &[L_ANGLE, LTEQ, 1, 2], &[LTEQ],
+    &[L_ANGLE], &[1], &[2], &[COLON],
 ];
 
 #[rattlefmt::skip]
@@ -224,10 +215,11 @@ static CASES: [(&str, &str); 24] = [
 #[test]
 fn parses_parts(rt: HostRuntime) -> Result<(), Fail> {
     let glued = [LTEQ, COLONS];
+    let sets = sets_of(rt.alloc(), &SETS)?;
     let rules = RuleGrammar {
         table: Table {
             rows: &ROWS,
-            sets: &SETS,
+            sets: sets.as_slice(),
             looks: &[],
             messages: MESSAGES,
             message_ends: &MESSAGE_ENDS,
