@@ -20,6 +20,8 @@ mod events;
 #[cfg(test)]
 mod failed;
 #[cfg(test)]
+mod keywords;
+#[cfg(test)]
 mod kinds;
 #[cfg(test)]
 mod limits;

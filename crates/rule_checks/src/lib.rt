@@ -15,7 +15,5 @@ mod leads;
 mod rows;
 mod rules;
 mod steps;
-#[cfg(test)]
-mod tests;
 
 pub use checks::{empty_repeat, left_recursive, unreached};

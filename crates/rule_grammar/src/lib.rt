@@ -18,8 +18,6 @@ mod run;
 mod skip;
 mod symbol;
 mod table;
-#[cfg(test)]
-mod tests;
 mod tokens;
 mod told;
 mod ways;

@@ -1,8 +1,12 @@
-//! Tests of rules from their text to trees: what is parsed, where errors stand, and what is refused.
+//! Tests of rules from their text to trees: what is read, checked and parsed, where errors stand, and what is refused.
+//!
+//! Tests stand outside of the crates that they are of, whose proofs would be made once more with them.
 #![tactic(auto)]
 
 #[cfg(test)]
 mod broken;
+#[cfg(test)]
+mod checks;
 #[cfg(test)]
 mod lines;
 #[cfg(test)]
@@ -12,6 +16,10 @@ mod memory;
 #[cfg(test)]
 mod names;
 #[cfg(test)]
+mod reading;
+#[cfg(test)]
 mod refusals;
+#[cfg(test)]
+mod tables;
 #[cfg(test)]
 mod trees;

@@ -14,8 +14,6 @@ mod leaf;
 mod look;
 mod reader;
 mod rule;
-#[cfg(test)]
-mod tests;
 mod word;
 
 pub use body::NESTED;

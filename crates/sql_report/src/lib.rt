@@ -18,8 +18,6 @@ mod json_writer;
 mod one_walk;
 mod place;
 mod statement_list;
-#[cfg(test)]
-mod tests;
 mod token_names;
 mod tokens;
 

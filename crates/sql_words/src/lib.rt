@@ -12,5 +12,3 @@ pub use kind_names::names;
 pub use kinds::SqlKind;
 pub use sql_vocabulary::vocabulary;
 
-#[cfg(test)]
-mod tests;

@@ -19,5 +19,3 @@ pub use classes::Classes;
 pub use keywords::Keywords;
 pub use keywords_error::KeywordsError;
 
-#[cfg(test)]
-mod tests;

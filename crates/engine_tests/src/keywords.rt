@@ -3,7 +3,7 @@
 //! The tests of texts and of sets also pass if one allocation fails: so each vocabulary is made at most twice. Without
 //! memory for its slots it answers the same.
 
-use crate::{Classes, Keywords, KeywordsError};
+use squawk_keywords::{Classes, Keywords, KeywordsError};
 use squawk_kinds::{SyntaxKind, TokenSet, Vocabulary};
 use std::alloc::AllocError;
 use std::process::Abort;

@@ -1,7 +1,7 @@
 //! Lines of JSON, of an output that is made of events.
 ghost use Rattle.std.specs.Prelude.{◌≡◌, None};
 
-use crate::{Asked, walk};
+use sql_report::{Asked, walk};
 use squawk_kinds::{NoKeywords, SyntaxKind};
 use squawk_output::{Event, Output, Text, process};
 use squawk_table::{LexedStr, Token, TokenKind};

@@ -9,7 +9,7 @@
 
 mod parts;
 
-use crate::{RuleGrammar, Table};
+use rule_grammar::{DEPTH, RuleGrammar, Table};
 use squawk_parser::{
     Base, EntryPoint, LiteralKind, NoKeywords, OwnedStep, StepList, SyntaxKind, Token, TokenKind,
     TokenSet, parse_whole_into,
@@ -264,7 +264,7 @@ static CASES: [(&str, &str); 14] = [
 #[test]
 fn parses_cases(rt: HostRuntime) -> Result<(), Fail> {
     for (text, wanted) in &CASES {
-        let line = parsed(rt.alloc(), text, crate::DEPTH)?;
+        let line = parsed(rt.alloc(), text, DEPTH)?;
         let wanted = format!(in rt.alloc(); "FILE{{{wanted}}}")?;
         assert_eq!(rt; line.as_str(), wanted.as_str(), "{text}");
     }

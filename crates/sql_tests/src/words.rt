@@ -1,6 +1,6 @@
 //! Words and kinds that were looked up by hand in PostgreSQL's documentation, appendix C, "SQL Key Words".
 
-use crate::{SqlKind, names, vocabulary};
+use sql_words::{SqlKind, names, vocabulary};
 use squawk_kinds::{
     KindNames, SyntaxKind, Vocabulary, is_col_name_keyword, is_reserved_keyword,
     is_type_func_name_keyword,

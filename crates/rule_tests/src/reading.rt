@@ -1,7 +1,7 @@
 //! Texts of rules, and the parts or the errors that they give.
 
-use crate::{NESTED, read};
 use rule_parts::Part;
+use rule_text::{NESTED, read};
 use std::alloc::{AllocError, Global};
 use std::fmt::Write;
 use std::test::Fail;
