@@ -1,6 +1,4 @@
 //! Tests of rules from their text to trees: what is read, checked and parsed, where errors stand, and what is refused.
-//!
-//! Tests stand outside of the crates that they are of, whose proofs would be made once more with them.
 #![tactic(auto)]
 
 #[cfg(test)]

@@ -11,4 +11,3 @@ mod sql_vocabulary;
 pub use kind_names::names;
 pub use kinds::SqlKind;
 pub use sql_vocabulary::vocabulary;
-

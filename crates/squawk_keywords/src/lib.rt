@@ -18,4 +18,3 @@ mod word_slots;
 pub use classes::Classes;
 pub use keywords::Keywords;
 pub use keywords_error::KeywordsError;
-
