@@ -1,5 +1,6 @@
 //! A tree of each command of PostgreSQL's documentation, part VI, "SQL Commands", by area. Clauses of later versions
 //! than 15 have the version's number.
 
+mod maintenance;
 mod sessions;
 mod transactions;
