@@ -2,5 +2,6 @@
 //! than 15 have the version's number.
 
 mod maintenance;
+mod roles;
 mod sessions;
 mod transactions;
