@@ -2,6 +2,7 @@
 //! than 15 have the version's number.
 
 mod comments;
+mod drops;
 mod maintenance;
 mod roles;
 mod sessions;
