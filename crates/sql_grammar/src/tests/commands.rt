@@ -6,4 +6,5 @@ mod drops;
 mod maintenance;
 mod roles;
 mod sessions;
+mod tables;
 mod transactions;
