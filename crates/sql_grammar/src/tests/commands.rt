@@ -1,6 +1,7 @@
 //! A tree of each command of PostgreSQL's documentation, part VI, "SQL Commands", by area. Clauses of later versions
 //! than 15 have the version's number.
 
+mod alter_table;
 mod comments;
 mod drops;
 mod maintenance;
