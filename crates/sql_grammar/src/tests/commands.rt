@@ -5,6 +5,7 @@ mod alter_table;
 mod comments;
 mod drops;
 mod maintenance;
+mod relations;
 mod roles;
 mod sessions;
 mod tables;
