@@ -5,6 +5,7 @@ mod alter_table;
 mod comments;
 mod drops;
 mod maintenance;
+mod objects;
 mod relations;
 mod roles;
 mod sessions;
