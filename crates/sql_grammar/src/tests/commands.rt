@@ -4,6 +4,7 @@
 mod alter_table;
 mod comments;
 mod drops;
+mod foreign;
 mod maintenance;
 mod objects;
 mod relations;
