@@ -3,6 +3,7 @@
 
 mod alter_table;
 mod comments;
+mod databases;
 mod drops;
 mod foreign;
 mod maintenance;
