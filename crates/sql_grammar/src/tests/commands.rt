@@ -6,6 +6,7 @@ mod comments;
 mod databases;
 mod drops;
 mod foreign;
+mod functions;
 mod maintenance;
 mod objects;
 mod relations;
