@@ -14,3 +14,4 @@ mod roles;
 mod sessions;
 mod tables;
 mod transactions;
+mod triggers;
