@@ -9,6 +9,7 @@ mod foreign;
 mod functions;
 mod maintenance;
 mod objects;
+mod queries;
 mod relations;
 mod roles;
 mod sessions;
