@@ -10,6 +10,7 @@ mod foreign;
 mod functions;
 mod maintenance;
 mod objects;
+mod psql;
 mod queries;
 mod relations;
 mod roles;
