@@ -5,6 +5,7 @@ mod alter_table;
 mod comments;
 mod databases;
 mod drops;
+mod errors;
 mod expressions;
 mod foreign;
 mod functions;
