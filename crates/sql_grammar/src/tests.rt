@@ -1,6 +1,7 @@
 //! Texts, with the trees that they have.
 
 mod clauses;
+mod commands;
 mod cut;
 mod files;
 mod queries;

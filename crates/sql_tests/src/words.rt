@@ -67,7 +67,11 @@ fn kinds_are_called_as_their_constants(rt: HostRuntime) -> Result<(), Fail> {
     assert_eq!(rt; names.name(SyntaxKind::FROM_KW), Some("FROM_KW"));
     assert_eq!(rt; names.name(SyntaxKind::SEMICOLON), Some("SEMICOLON"));
     assert_eq!(rt; names.name(SqlKind::SOURCE_FILE), Some("SOURCE_FILE"));
-    assert_eq!(rt; names.name(SqlKind::EXCEPT_CLAUSE), Some("EXCEPT_CLAUSE"));
+    assert_eq!(rt;
+        names.name(SqlKind::RETURNING_CLAUSE),
+        Some("RETURNING_CLAUSE")
+    );
     assert_eq!(rt; names.name(SyntaxKind(638)), None);
+    assert_eq!(rt; names.name(SyntaxKind(771)), None);
     Ok(())
 }

@@ -86,17 +86,22 @@ keyword_name word = map to_ascii_uppercase word ++ codes "_KW"
 abbrev pub keyword_names : Names
 keyword_names = map (λ row. (row.1, keyword_name row.0)) table
 
--- kinds of nodes ascend from 700
+-- kinds of nodes ascend from 700; no node has 749, 750, 753, or 771 to 773
 unfoldable pub node_names : Names
-node_names = map (λ row. (row.1, row.0)) (numbered 700 (
+node_names = map (λ row. (row.1, row.0)) (
+    numbered 700 (
     words_in (codes "SOURCE_FILE STATEMENT PSQL_COMMAND SELECT INSERT UPDATE DELETE MERGE CREATE ALTER DROP TRUNCATE") ++
     words_in (codes "COMMENT_ON SECURITY_LABEL IMPORT_FOREIGN_SCHEMA REASSIGN REFRESH REINDEX CLUSTER VACUUM ANALYZE") ++
     words_in (codes "GRANT REVOKE BEGIN COMMIT ROLLBACK SAVEPOINT RELEASE_SAVEPOINT LOCK SET RESET SHOW DISCARD LOAD") ++
     words_in (codes "CHECKPOINT LISTEN NOTIFY UNLISTEN COPY CALL DO EXPLAIN PREPARE EXECUTE DEALLOCATE DECLARE FETCH") ++
-    words_in (codes "MOVE CLOSE GROUP BLOCK CASE_EXPR WITH_CLAUSE SELECT_CLAUSE INTO_CLAUSE FROM_CLAUSE WHERE_CLAUSE") ++
+    words_in (codes "MOVE CLOSE")) ++
+    numbered 751 (words_in (codes "CASE_EXPR WITH_CLAUSE")) ++
+    numbered 754 (
+    words_in (codes "INTO_CLAUSE FROM_CLAUSE WHERE_CLAUSE") ++
     words_in (codes "GROUP_BY_CLAUSE HAVING_CLAUSE WINDOW_CLAUSE ORDER_BY_CLAUSE LIMIT_CLAUSE OFFSET_CLAUSE") ++
     words_in (codes "FETCH_CLAUSE LOCKING_CLAUSE VALUES_CLAUSE SET_CLAUSE USING_CLAUSE WHEN_CLAUSE ON_CONFLICT_CLAUSE") ++
-    words_in (codes "RETURNING_CLAUSE UNION_CLAUSE INTERSECT_CLAUSE EXCEPT_CLAUSE") ++
+    words_in (codes "RETURNING_CLAUSE")) ++
+    numbered 774 (
     words_in (codes "NAME NAME_REF PATH COLUMN_LIST ROLE_REF OP LITERAL TYPE TYPE_ARGS DEFAULT_EXPR BIN_EXPR PREFIX_EXPR") ++
     words_in (codes "IS_EXPR BETWEEN_EXPR IN_EXPR LIKE_EXPR ROW_EXPR OVERLAPS_EXPR AT_LOCAL_EXPR COLLATE_EXPR CAST_EXPR") ++
     words_in (codes "SOME_OF SUBQUERY ROW_VALUES FIELD_EXPR INDEX_EXPR SLICE_EXPR PAREN_EXPR PARAM_REF CALL_EXPR") ++

@@ -108,17 +108,11 @@ impl SqlKind {
 
     pub const CLOSE: SyntaxKind = SyntaxKind(748);
 
-    // What stands in brackets, between BEGIN ATOMIC and END, and between CASE and END.
-    pub const GROUP: SyntaxKind = SyntaxKind(749);
-
-    pub const BLOCK: SyntaxKind = SyntaxKind(750);
-
+    // CASE .. END.
     pub const CASE_EXPR: SyntaxKind = SyntaxKind(751);
 
     // Clauses.
     pub const WITH_CLAUSE: SyntaxKind = SyntaxKind(752);
-
-    pub const SELECT_CLAUSE: SyntaxKind = SyntaxKind(753);
 
     pub const INTO_CLAUSE: SyntaxKind = SyntaxKind(754);
 
@@ -153,10 +147,4 @@ impl SqlKind {
     pub const ON_CONFLICT_CLAUSE: SyntaxKind = SyntaxKind(769);
 
     pub const RETURNING_CLAUSE: SyntaxKind = SyntaxKind(770);
-
-    pub const UNION_CLAUSE: SyntaxKind = SyntaxKind(771);
-
-    pub const INTERSECT_CLAUSE: SyntaxKind = SyntaxKind(772);
-
-    pub const EXCEPT_CLAUSE: SyntaxKind = SyntaxKind(773);
 }

@@ -1,0 +1,288 @@
+//! ALTER TABLE, a case for each action.
+
+use crate::tests::assert_trees;
+use std::test::Fail;
+
+/// Texts, and what is in their files.
+static CASES: [(&str, &str); 68] = [
+    (
+        "alter table book rename to work",
+        "ALTER_TABLE{alter table RELATION{PATH{NAME_REF{book}}} RENAME_TO{rename to NAME{work}}}",
+    ),
+    (
+        "alter table book rename column cost to price",
+        "ALTER_TABLE{alter table RELATION{PATH{NAME_REF{book}}} RENAME_COLUMN{rename column NAME_REF{cost} to NAME{price}}}",
+    ),
+    (
+        "alter table book rename cost to price",
+        "ALTER_TABLE{alter table RELATION{PATH{NAME_REF{book}}} RENAME_COLUMN{rename NAME_REF{cost} to NAME{price}}}",
+    ),
+    (
+        "alter table book rename constraint one_isbn to unique_isbn",
+        "ALTER_TABLE{alter table RELATION{PATH{NAME_REF{book}}} RENAME_CONSTRAINT{rename constraint NAME_REF{one_isbn} to NAME{unique_isbn}}}",
+    ),
+    (
+        "alter table book set schema archive",
+        "ALTER_TABLE{alter table RELATION{PATH{NAME_REF{book}}} SET_SCHEMA{set schema NAME_REF{archive}}}",
+    ),
+    (
+        "alter table book attach partition shop.book_old for values in (1, 2)",
+        "ALTER_TABLE{alter table RELATION{PATH{NAME_REF{book}}} ATTACH_PARTITION{attach partition PATH{NAME_REF{shop}.NAME_REF{book_old}} PARTITION_BOUND{for values in (LITERAL{1}, LITERAL{2})}}}",
+    ),
+    (
+        "alter table book attach partition book_rest default",
+        "ALTER_TABLE{alter table RELATION{PATH{NAME_REF{book}}} ATTACH_PARTITION{attach partition PATH{NAME_REF{book_rest}} PARTITION_BOUND{default}}}",
+    ),
+    (
+        "alter table book detach partition book_old concurrently",
+        "ALTER_TABLE{alter table RELATION{PATH{NAME_REF{book}}} DETACH_PARTITION{detach partition PATH{NAME_REF{book_old}} concurrently}}",
+    ),
+    (
+        "alter table book detach partition book_old finalize",
+        "ALTER_TABLE{alter table RELATION{PATH{NAME_REF{book}}} DETACH_PARTITION{detach partition PATH{NAME_REF{book_old}} finalize}}",
+    ),
+    (
+        "alter table book add column if not exists stars int default 3",
+        "ALTER_TABLE{alter table RELATION{PATH{NAME_REF{book}}} ADD_COLUMN{add column if not exists COLUMN_DEF{NAME{stars} TYPE{int} DEFAULT_CONSTRAINT{default LITERAL{3}}}}}",
+    ),
+    (
+        "alter table book add stars int check (stars < 6)",
+        "ALTER_TABLE{alter table RELATION{PATH{NAME_REF{book}}} ADD_COLUMN{add COLUMN_DEF{NAME{stars} TYPE{int} CHECK_CONSTRAINT{check (BIN_EXPR{NAME_REF{stars} < LITERAL{6}})}}}}",
+    ),
+    (
+        "alter table book add if not exists stars int",
+        "ALTER_TABLE{alter table RELATION{PATH{NAME_REF{book}}} ADD_COLUMN{add if not exists COLUMN_DEF{NAME{stars} TYPE{int}}}}",
+    ),
+    (
+        "alter table book drop column if exists stars cascade",
+        "ALTER_TABLE{alter table RELATION{PATH{NAME_REF{book}}} DROP_COLUMN{drop column if exists NAME_REF{stars} cascade}}",
+    ),
+    (
+        "alter table book drop stars restrict",
+        "ALTER_TABLE{alter table RELATION{PATH{NAME_REF{book}}} DROP_COLUMN{drop NAME_REF{stars} restrict}}",
+    ),
+    (
+        "alter table book alter column price set data type numeric(9) using price::numeric",
+        "ALTER_TABLE{alter table RELATION{PATH{NAME_REF{book}}} ALTER_COLUMN{alter column NAME_REF{price} SET_TYPE{set data type TYPE{numericTYPE_ARGS{(LITERAL{9})}} using CAST_EXPR{NAME_REF{price}COLON_COLON{::}TYPE{numeric}}}}}",
+    ),
+    (
+        "alter table book alter title type text collate \"C\"",
+        "ALTER_TABLE{alter table RELATION{PATH{NAME_REF{book}}} ALTER_COLUMN{alter NAME_REF{title} SET_TYPE{type TYPE{NAME_REF{text}} COLLATE_CLAUSE{collate PATH{NAME_REF{\"C\"}}}}}}",
+    ),
+    (
+        "alter table book alter column price set default 1 + 2",
+        "ALTER_TABLE{alter table RELATION{PATH{NAME_REF{book}}} ALTER_COLUMN{alter column NAME_REF{price} SET_DEFAULT{set default BIN_EXPR{LITERAL{1} + LITERAL{2}}}}}",
+    ),
+    (
+        "alter table book alter column price drop default",
+        "ALTER_TABLE{alter table RELATION{PATH{NAME_REF{book}}} ALTER_COLUMN{alter column NAME_REF{price} DROP_DEFAULT{drop default}}}",
+    ),
+    (
+        "alter table book alter column price set not null",
+        "ALTER_TABLE{alter table RELATION{PATH{NAME_REF{book}}} ALTER_COLUMN{alter column NAME_REF{price} SET_NOT_NULL{set not null}}}",
+    ),
+    (
+        "alter table book alter price drop not null",
+        "ALTER_TABLE{alter table RELATION{PATH{NAME_REF{book}}} ALTER_COLUMN{alter NAME_REF{price} DROP_NOT_NULL{drop not null}}}",
+    ),
+    (
+        "alter table book alter column cost drop expression if exists",
+        "ALTER_TABLE{alter table RELATION{PATH{NAME_REF{book}}} ALTER_COLUMN{alter column NAME_REF{cost} DROP_EXPRESSION{drop expression if exists}}}",
+    ),
+    (
+        "alter table book alter column id add generated by default as identity (cache 5)",
+        "ALTER_TABLE{alter table RELATION{PATH{NAME_REF{book}}} ALTER_COLUMN{alter column NAME_REF{id} ADD_IDENTITY{add generated by default as identity (SEQUENCE_OPTION{cache LITERAL{5}})}}}",
+    ),
+    (
+        "alter table book alter column id set generated always set increment by 5 restart with 10",
+        "ALTER_TABLE{alter table RELATION{PATH{NAME_REF{book}}} ALTER_COLUMN{alter column NAME_REF{id} ALTER_IDENTITY{SEQUENCE_OPTION{set generated always} SEQUENCE_OPTION{set SEQUENCE_OPTION{increment by LITERAL{5}}} SEQUENCE_OPTION{restart with LITERAL{10}}}}}",
+    ),
+    (
+        "alter table book alter column id drop identity if exists",
+        "ALTER_TABLE{alter table RELATION{PATH{NAME_REF{book}}} ALTER_COLUMN{alter column NAME_REF{id} DROP_IDENTITY{drop identity if exists}}}",
+    ),
+    (
+        "alter table book alter column title set statistics -1",
+        "ALTER_TABLE{alter table RELATION{PATH{NAME_REF{book}}} ALTER_COLUMN{alter column NAME_REF{title} SET_STATISTICS{set statistics LITERAL{-1}}}}",
+    ),
+    (
+        "alter table book alter column title set (n_distinct = -0.5)",
+        "ALTER_TABLE{alter table RELATION{PATH{NAME_REF{book}}} ALTER_COLUMN{alter column NAME_REF{title} SET_OPTIONS{set OPTION_LIST{(OPTION{NAME_REF{n_distinct} = LITERAL{-0.5}})}}}}",
+    ),
+    (
+        "alter table book alter column title reset (n_distinct)",
+        "ALTER_TABLE{alter table RELATION{PATH{NAME_REF{book}}} ALTER_COLUMN{alter column NAME_REF{title} RESET_OPTIONS{reset OPTION_LIST{(OPTION{NAME_REF{n_distinct}})}}}}",
+    ),
+    (
+        "alter table book alter column title set storage main",
+        "ALTER_TABLE{alter table RELATION{PATH{NAME_REF{book}}} ALTER_COLUMN{alter column NAME_REF{title} SET_STORAGE{set STORAGE{storage main}}}}",
+    ),
+    (
+        "alter table book alter column title set compression pglz",
+        "ALTER_TABLE{alter table RELATION{PATH{NAME_REF{book}}} ALTER_COLUMN{alter column NAME_REF{title} SET_COMPRESSION{set COMPRESSION{compression pglz}}}}",
+    ),
+    // PostgreSQL 17.
+    (
+        "alter table book alter column cost set expression as (price * 2)",
+        "ALTER_TABLE{alter table RELATION{PATH{NAME_REF{book}}} ALTER_COLUMN{alter column NAME_REF{cost} SET_EXPRESSION{set expression as (BIN_EXPR{NAME_REF{price} * LITERAL{2}})}}}",
+    ),
+    (
+        "alter table book add constraint book_pkey primary key using index book_id deferrable initially deferred",
+        "ALTER_TABLE{alter table RELATION{PATH{NAME_REF{book}}} ADD_CONSTRAINT{add PRIMARY_KEY_CONSTRAINT{CONSTRAINT_NAME{constraint NAME{book_pkey}} primary key using index NAME_REF{book_id} DEFERRABLE{deferrable} INITIALLY_DEFERRED{initially deferred}}}}",
+    ),
+    (
+        "alter table book add unique using index book_isbn",
+        "ALTER_TABLE{alter table RELATION{PATH{NAME_REF{book}}} ADD_CONSTRAINT{add UNIQUE_CONSTRAINT{unique using index NAME_REF{book_isbn}}}}",
+    ),
+    (
+        "alter table book add check (price > 0) not valid",
+        "ALTER_TABLE{alter table RELATION{PATH{NAME_REF{book}}} ADD_CONSTRAINT{add CHECK_CONSTRAINT{check (BIN_EXPR{NAME_REF{price} > LITERAL{0}}) NOT_VALID{not valid}}}}",
+    ),
+    // PostgreSQL 18.
+    (
+        "alter table book add constraint has_price not null price not valid",
+        "ALTER_TABLE{alter table RELATION{PATH{NAME_REF{book}}} ADD_CONSTRAINT{add NOT_NULL_CONSTRAINT{CONSTRAINT_NAME{constraint NAME{has_price}} not null NAME_REF{price} NOT_VALID{not valid}}}}",
+    ),
+    (
+        "alter table book alter constraint to_author deferrable initially immediate",
+        "ALTER_TABLE{alter table RELATION{PATH{NAME_REF{book}}} ALTER_CONSTRAINT{alter constraint NAME_REF{to_author} DEFERRABLE{deferrable} INITIALLY_IMMEDIATE{initially immediate}}}",
+    ),
+    // PostgreSQL 18.
+    (
+        "alter table book alter constraint has_price no inherit",
+        "ALTER_TABLE{alter table RELATION{PATH{NAME_REF{book}}} ALTER_CONSTRAINT{alter constraint NAME_REF{has_price} NO_INHERIT{no inherit}}}",
+    ),
+    (
+        "alter table book validate constraint to_author",
+        "ALTER_TABLE{alter table RELATION{PATH{NAME_REF{book}}} VALIDATE_CONSTRAINT{validate constraint NAME_REF{to_author}}}",
+    ),
+    (
+        "alter table book drop constraint if exists to_author restrict",
+        "ALTER_TABLE{alter table RELATION{PATH{NAME_REF{book}}} DROP_CONSTRAINT{drop constraint if exists NAME_REF{to_author} restrict}}",
+    ),
+    (
+        "alter table book disable trigger all",
+        "ALTER_TABLE{alter table RELATION{PATH{NAME_REF{book}}} TRIGGER_ACTION{disable trigger all}}",
+    ),
+    (
+        "alter table book disable trigger user",
+        "ALTER_TABLE{alter table RELATION{PATH{NAME_REF{book}}} TRIGGER_ACTION{disable trigger user}}",
+    ),
+    (
+        "alter table book enable trigger stamp",
+        "ALTER_TABLE{alter table RELATION{PATH{NAME_REF{book}}} TRIGGER_ACTION{enable trigger NAME_REF{stamp}}}",
+    ),
+    (
+        "alter table book enable replica trigger stamp",
+        "ALTER_TABLE{alter table RELATION{PATH{NAME_REF{book}}} TRIGGER_ACTION{enable replica trigger NAME_REF{stamp}}}",
+    ),
+    (
+        "alter table book enable always trigger stamp",
+        "ALTER_TABLE{alter table RELATION{PATH{NAME_REF{book}}} TRIGGER_ACTION{enable always trigger NAME_REF{stamp}}}",
+    ),
+    (
+        "alter table book disable rule no_insert",
+        "ALTER_TABLE{alter table RELATION{PATH{NAME_REF{book}}} RULE_ACTION{disable rule NAME_REF{no_insert}}}",
+    ),
+    (
+        "alter table book enable rule no_insert",
+        "ALTER_TABLE{alter table RELATION{PATH{NAME_REF{book}}} RULE_ACTION{enable rule NAME_REF{no_insert}}}",
+    ),
+    (
+        "alter table book enable replica rule no_insert",
+        "ALTER_TABLE{alter table RELATION{PATH{NAME_REF{book}}} RULE_ACTION{enable replica rule NAME_REF{no_insert}}}",
+    ),
+    (
+        "alter table book enable always rule no_insert",
+        "ALTER_TABLE{alter table RELATION{PATH{NAME_REF{book}}} RULE_ACTION{enable always rule NAME_REF{no_insert}}}",
+    ),
+    (
+        "alter table book enable row level security",
+        "ALTER_TABLE{alter table RELATION{PATH{NAME_REF{book}}} ROW_SECURITY{enable row level security}}",
+    ),
+    (
+        "alter table book disable row level security",
+        "ALTER_TABLE{alter table RELATION{PATH{NAME_REF{book}}} ROW_SECURITY{disable row level security}}",
+    ),
+    (
+        "alter table book force row level security",
+        "ALTER_TABLE{alter table RELATION{PATH{NAME_REF{book}}} ROW_SECURITY{force row level security}}",
+    ),
+    (
+        "alter table book no force row level security",
+        "ALTER_TABLE{alter table RELATION{PATH{NAME_REF{book}}} ROW_SECURITY{no force row level security}}",
+    ),
+    (
+        "alter table book cluster on book_title",
+        "ALTER_TABLE{alter table RELATION{PATH{NAME_REF{book}}} CLUSTER_ON{cluster on NAME_REF{book_title}}}",
+    ),
+    (
+        "alter table book set without cluster",
+        "ALTER_TABLE{alter table RELATION{PATH{NAME_REF{book}}} SET_WITHOUT{set without cluster}}",
+    ),
+    (
+        "alter table book set without oids",
+        "ALTER_TABLE{alter table RELATION{PATH{NAME_REF{book}}} SET_WITHOUT{set without oids}}",
+    ),
+    (
+        "alter table book set access method heap",
+        "ALTER_TABLE{alter table RELATION{PATH{NAME_REF{book}}} SET_ACCESS_METHOD{set access method NAME_REF{heap}}}",
+    ),
+    (
+        "alter table book set tablespace fast",
+        "ALTER_TABLE{alter table RELATION{PATH{NAME_REF{book}}} SET_TABLESPACE{set TABLESPACE{tablespace NAME_REF{fast}}}}",
+    ),
+    (
+        "alter table book set logged",
+        "ALTER_TABLE{alter table RELATION{PATH{NAME_REF{book}}} SET_LOGGED{set logged}}",
+    ),
+    (
+        "alter table book set unlogged",
+        "ALTER_TABLE{alter table RELATION{PATH{NAME_REF{book}}} SET_LOGGED{set unlogged}}",
+    ),
+    (
+        "alter table book set (fillfactor = 60), reset (parallel_workers)",
+        "ALTER_TABLE{alter table RELATION{PATH{NAME_REF{book}}} SET_OPTIONS{set OPTION_LIST{(OPTION{NAME_REF{fillfactor} = LITERAL{60}})}}, RESET_OPTIONS{reset OPTION_LIST{(OPTION{NAME_REF{parallel_workers}})}}}",
+    ),
+    (
+        "alter table book inherit shop.work",
+        "ALTER_TABLE{alter table RELATION{PATH{NAME_REF{book}}} INHERIT{inherit PATH{NAME_REF{shop}.NAME_REF{work}}}}",
+    ),
+    (
+        "alter table book no inherit work",
+        "ALTER_TABLE{alter table RELATION{PATH{NAME_REF{book}}} NO_INHERIT_TABLE{no inherit PATH{NAME_REF{work}}}}",
+    ),
+    (
+        "alter table book of shop.book_type",
+        "ALTER_TABLE{alter table RELATION{PATH{NAME_REF{book}}} OF_TYPE{of PATH{NAME_REF{shop}.NAME_REF{book_type}}}}",
+    ),
+    (
+        "alter table book not of",
+        "ALTER_TABLE{alter table RELATION{PATH{NAME_REF{book}}} NOT_OF{not of}}",
+    ),
+    (
+        "alter table book owner to current_user",
+        "ALTER_TABLE{alter table RELATION{PATH{NAME_REF{book}}} OWNER_TO{owner to ROLE_REF{current_user}}}",
+    ),
+    (
+        "alter table book replica identity full",
+        "ALTER_TABLE{alter table RELATION{PATH{NAME_REF{book}}} REPLICA_IDENTITY{replica identity full}}",
+    ),
+    (
+        "alter table book replica identity using index book_isbn",
+        "ALTER_TABLE{alter table RELATION{PATH{NAME_REF{book}}} REPLICA_IDENTITY{replica identity using index NAME_REF{book_isbn}}}",
+    ),
+    (
+        "alter table if exists only shop.book owner to ana",
+        "ALTER_TABLE{alter table if exists RELATION{only PATH{NAME_REF{shop}.NAME_REF{book}}} OWNER_TO{owner to ROLE_REF{ana}}}",
+    ),
+    (
+        "alter table all in tablespace fast owned by ana, ben set tablespace slow nowait",
+        "ALTER_ALL{alter table all in tablespace NAME_REF{fast} owned by ROLE_REF{ana}, ROLE_REF{ben} set TABLESPACE{tablespace NAME_REF{slow}} nowait}",
+    ),
+];
+
+#[test]
+fn actions_have_trees(rt: HostRuntime) -> Result<(), Fail> {
+    assert_trees(&rt, &CASES)
+}
