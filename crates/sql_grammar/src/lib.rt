@@ -17,8 +17,6 @@ mod cut;
 mod parse;
 mod statement_kinds;
 mod statements;
-#[cfg(test)]
-mod tests;
 
 pub use crate::parse::parse_table;
 use crate::statements::statement;

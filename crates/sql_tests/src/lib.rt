@@ -1,7 +1,10 @@
-//! Tests of what stands below SQL's programs, over its public surface alone: words and kinds, and lines of JSON.
+//! Tests of what stands below SQL's programs, over its public surface alone: words and kinds, trees of
+//! statements, and lines of JSON.
 #![tactic(auto)]
 
 #[cfg(test)]
 mod reports;
+#[cfg(test)]
+mod trees;
 #[cfg(test)]
 mod words;

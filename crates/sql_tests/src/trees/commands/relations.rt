@@ -1,6 +1,6 @@
 //! Indexes, views, sequences and statistics.
 
-use crate::tests::assert_trees;
+use crate::trees::assert_trees;
 use std::test::Fail;
 
 /// Texts, and what is in their files.

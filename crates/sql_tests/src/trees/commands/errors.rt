@@ -1,6 +1,6 @@
 //! Statements that are unknown, misspelt or broken, and the errors that are told.
 
-use crate::tests::assert_trees;
+use crate::trees::assert_trees;
 use std::test::Fail;
 
 /// Texts, and what is in their files.

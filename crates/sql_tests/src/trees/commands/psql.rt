@@ -1,6 +1,6 @@
 //! Scripts of psql: its commands, data of COPY and variables.
 
-use crate::tests::assert_trees;
+use crate::trees::assert_trees;
 use std::test::Fail;
 
 /// Texts, and what is in their files.

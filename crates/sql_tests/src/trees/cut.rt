@@ -1,8 +1,8 @@
 //! Statements with their tokens alone: where they end, and which kind begins with which word, by PostgreSQL's
 //! documentation, part VI, "SQL Commands".
 
-use crate::Detail;
-use crate::tests::{Cases, assert_nodes};
+use crate::trees::{Cases, assert_nodes};
+use sql_grammar::Detail;
 use std::test::Fail;
 
 /// A statement for each first word, and the node of its tokens.

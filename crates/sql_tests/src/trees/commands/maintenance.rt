@@ -1,6 +1,6 @@
 //! COPY, EXPLAIN, VACUUM and the like; CALL, DO, TRUNCATE and IMPORT FOREIGN SCHEMA.
 
-use crate::tests::assert_trees;
+use crate::trees::assert_trees;
 use std::test::Fail;
 
 /// Texts, and what is in their files.

@@ -1,6 +1,6 @@
 //! Words that are names in some places and begin clauses in others.
 
-use crate::tests::assert_trees;
+use crate::trees::assert_trees;
 use std::test::Fail;
 
 /// Texts, and what is in their files.

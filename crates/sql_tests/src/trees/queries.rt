@@ -1,6 +1,6 @@
 //! Queries, and statements that change rows.
 
-use crate::tests::assert_trees;
+use crate::trees::assert_trees;
 use std::test::Fail;
 
 /// Texts, and what is in their files.

@@ -1,6 +1,6 @@
 //! Functions, aggregates, operators, casts, conversions, transforms and languages.
 
-use crate::tests::assert_trees;
+use crate::trees::assert_trees;
 use std::test::Fail;
 
 /// Texts, and what is in their files.

@@ -1,6 +1,6 @@
 //! CREATE TABLE: columns, constraints, partitions; CREATE TABLE AS.
 
-use crate::tests::assert_trees;
+use crate::trees::assert_trees;
 use std::test::Fail;
 
 /// Texts, and what is in their files.

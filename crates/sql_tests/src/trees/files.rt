@@ -1,6 +1,6 @@
 //! Files: statements by rules, among commands of psql and statements that no rule begins.
 
-use crate::tests::assert_trees;
+use crate::trees::assert_trees;
 use std::test::Fail;
 
 /// Texts, and what is in their files.

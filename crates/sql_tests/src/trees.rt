@@ -7,7 +7,7 @@ mod files;
 mod queries;
 mod statements;
 
-use crate::{Detail, SqlGrammar};
+use sql_grammar::{Detail, SqlGrammar};
 use sql_lexer::tokenize_script;
 use sql_words::{names, vocabulary};
 use squawk_parser::{EntryPoint, KindNames, OwnedStep, StepList, StepSink, parse_whole_into};

@@ -1,6 +1,6 @@
 //! Publications, subscriptions, tablespaces, databases and large objects.
 
-use crate::tests::assert_trees;
+use crate::trees::assert_trees;
 use std::test::Fail;
 
 /// Texts, and what is in their files.

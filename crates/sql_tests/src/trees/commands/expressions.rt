@@ -1,6 +1,6 @@
 //! Expressions, types and calls, those of JSON and XML, too.
 
-use crate::tests::assert_trees;
+use crate::trees::assert_trees;
 use std::test::Fail;
 
 /// Texts, and what is in their files.
