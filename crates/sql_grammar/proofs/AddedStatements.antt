@@ -1,18 +1,21 @@
 -- The nodes of a file's statements are added, one behind another.
-use Rattle.std.proofs.Common.{Bor, ◌≡◌, ◌≢◌, ◌∙◌, ℕ, zero, suc, ◌+◌, ◌-◌, ◌<◌, ◌≤◌, Bool, true, false, Option, Some, None, List, [], ◌∷◌, ◌++◌, drop, take, length, if◌then◌else◌, arith, ap, sym, refl, subst, append_assoc, length-drop}
+use Rattle.std.proofs.Common.{Bor, ◌≡◌, ◌≢◌, ◌∙◌, ℕ, zero, suc, ◌+◌, ◌-◌, ◌<◌, ◌≤◌, ◌==◌, ◌&&◌, nat_lt, not, min, Bool, true, false, Option, Some, None, List, [], ◌∷◌, ◌++◌, drop, take, length, if◌then◌else◌, arith, ap, sym, refl, subst, append_assoc, length-drop}
 use Rattle.std.proofs.lemmas.List.{append-nil, length-map, length-take}
 use Rattle.squawk_kinds.specs.Kinds.{EOF, TOMBSTONE}
 use Rattle.sql_lexer.specs.Statements.{after, ends_with}
 use Rattle.sql_lexer.specs.declared.statements.Statement as begun
-use Rattle.sql_lexer.specs.declared.statements.Statement.TheVariants.{Start}
-use Rattle.squawk_output.specs.Draft.{Mark, plain}
+use Rattle.sql_lexer.specs.declared.statements.Statement.TheVariants.{Plain, Start}
+use Rattle.squawk_output.specs.Draft.{Mark, errors_of, plain}
 use Rattle.squawk_output.specs.OneRoot.{IsBalanced}
-use Rattle.squawk_output.specs.Steps.{Step, Token}
-use Rattle.squawk_table.specs.ParserInput.{kinds_in}
+use Rattle.squawk_output.specs.Steps.{Step, Token, errors_in}
+use Rattle.squawk_output.proofs.EditedErrors.{errors-append}
+use Rattle.squawk_output.proofs.PlainLog.{errors-plain}
+use Rattle.squawk_table.specs.ParserInput.{Entry, kind_in, kinds_in}
 use Rattle.squawk_parser.specs.Composed.{Adds}
-use Rattle.squawk_parser.specs.Eaten.{node}
-use Rattle.squawk_parser.specs.Recorded.{Begins, Completes}
+use Rattle.squawk_parser.specs.Eaten.{current_as, node, one}
+use Rattle.squawk_parser.specs.Recorded.{Begins, Completes, Puts}
 use Rattle.squawk_parser.specs.SomeSteps.{AddsSome, Spends}
+use Rattle.squawk_parser.specs.Words.{Words}
 use Rattle.squawk_parser.specs.State.{State, HasNotFailed, IsFresh, IsSound, Keeps, ahead, kind_at, limited, with_limit_of}
 use Rattle.squawk_parser.specs.declared.parser.parse_error.ParseError.{ParseError}
 use Rattle.squawk_parser.proofs.AddedSteps.{Adds-node, Adds-puts, Adds-then, node_around, plain-fresh}
@@ -20,15 +23,18 @@ use Rattle.squawk_parser.proofs.Balance.{IsBalanced-depth_after, depth_after, de
 use Rattle.squawk_parser.proofs.KindsAhead.{kinds_moved, kinds_none, kinds_some, kinds_still}
 use Rattle.squawk_parser.proofs.Progress.{eaten-node}
 use Rattle.squawk_parser.proofs.RecordedItems.{plain-append}
-use Rattle.squawk_parser.proofs.RecordedSteps.{puts-none}
+use Rattle.squawk_parser.proofs.RecordedSteps.{puts-none, went}
+use Rattle.squawk_parser.proofs.SeenSteps.{if-false, if-true}
 use Rattle.squawk_parser.proofs.SeenSteps.{ahead-fresh}
 use Rattle.squawk_parser.proofs.SomeSteps.{adds_some, none_some, some_adds, whole_some}
-use Rattle.sql_grammar.specs.Files.{AddsRest, AddsStatement, AreNodesOf, IsFile, IsRuled, MayBe, Runs}
+use Rattle.sql_grammar.specs.Files.{AddsRest, AddsStatement, AreNodesOf, IsFile, IsParsed, IsRuled, RulesDerive, Runs, rules_for}
 use Rattle.sql_grammar.specs.declared.Detail.{Detail}
 use Rattle.sql_grammar.specs.declared.Detail.TheVariants.{Tokens, Nodes}
+use Rattle.rule_grammar.specs.Derivations.{Derives, text_of}
+use Rattle.rule_grammar.specs.Derivations.Span.{block}
 use Rattle.rule_grammar.specs.declared.rules.RuleGrammar.{RuleGrammar}
-use Rattle.sql_grammar.specs.Kinds.{PSQL_COMMAND, SOURCE_FILE}
-use Rattle.sql_grammar.specs.Statements.{Statement, first_statement, kind_of, len_from, len_of, statements_behind, statements_of}
+use Rattle.sql_grammar.specs.Kinds.{PSQL_COMMAND, SOURCE_FILE, sql_words}
+use Rattle.sql_grammar.specs.Statements.{Statement, content_len, first_statement, kind_of, len_from, len_of, nth, statements_behind, statements_of}
 use Rattle.sql_grammar.specs.Words.{word_of}
 
 -- ---- how many tokens are seen
@@ -109,28 +115,36 @@ some_balanced {a} {b} sound p = cases b.first_reason refl
           balanced = IsBalanced-depth_after (Token 0 (b.position - a.position) ∷ []) refl;
         }
 
-rest_added : {a b : State} {detail : Detail} {of kind : ℕ} → IsSound a → AddsSome a b → kind_at b 0 ≡ EOF → kind ≢ TOMBSTONE → MayBe detail of kind
-    → Runs detail 1 0 a b → AddsRest detail of kind a b
-rest_added {a} {b} sound some end is_node named runs =
+-- what is added has the errors of its steps
+errors_added : {a b : State} {xs : List Step} → Adds xs a b → HasNotFailed b → errors_of b.draft.items ≡ errors_of a.draft.items + errors_in xs
+errors_added {a} {b} {xs} added goes =
+    let more = added.draft goes in
+    let errors = errors-plain more.made ∙ ap errors_in more.steps_made in
+    ap errors_of more.items ∙ (errors-append a.draft.items more.made ∙ ap (λ n. errors_of a.draft.items + n) errors)
+
+-- how many errors were recorded between two states
+abbrev pub told : State → State → ℕ
+told a b = errors_of b.draft.items - errors_of a.draft.items
+
+told_added : {a b : State} {xs : List Step} → Adds xs a b → HasNotFailed b → told a b ≡ errors_in xs
+told_added {a} {b} {xs} added goes = let all = errors_added added goes in omega (arith, all)
+
+-- what rules add is added
+pub ruled : (rules : Bor RuleGrammar) {a b : State} {kind : ℕ} → IsSound a → AddsSome a b → kind ≢ TOMBSTONE → kind_at b 0 ≡ EOF
+    → (HasNotFailed b → errors_of b.draft.items ≡ errors_of a.draft.items
+    → Derives (text_of rules.now.table a) (block rules.now.start rules.now.end) a.position b.position) → IsRuled rules kind a b
+ruled rules {a} {b} sound some is_node end derives =
     let added = some_balanced sound some in
+    let at = at_limit b some.some.keeps.sound end ∙ some.some.keeps.limit in
     record {
       steps = added.steps;
       adds = added.adds;
       balanced = added.balanced;
-      end = at_limit b some.some.keeps.sound end;
       is_node = is_node;
-      named = named;
-      runs = runs;
+      derives = λ goes none.
+          let all = errors_added added.adds goes in
+          subst (λ (to : ℕ). Derives (text_of rules.now.table a) (block rules.now.start rules.now.end) a.position to) at (derives goes (omega (arith, all, none)));
     }
-
--- what rules add is added
-pub ruled : {a b : State} {kind : ℕ} → IsSound a → AddsSome a b → kind ≢ TOMBSTONE → IsRuled kind a b
-ruled sound some is_node = let added = some_balanced sound some in record { steps = added.steps; adds = added.adds; balanced = added.balanced; is_node = is_node }
-
-pub ruled_some : {a b : State} {kind : ℕ} (n : ℕ) → Keeps a b → IsRuled kind (limited a n) (with_limit_of b (limited a n)) → AddsSome a b
-ruled_some {a} {b} n keeps rules =
-    let adds : Adds rules.steps a b = record { keeps = keeps; position = rules.adds.position; draft = rules.adds.draft } in
-    adds_some adds
 
 -- ---- how many events
 
@@ -141,44 +155,101 @@ runs_as (Nodes rules) each more a b f = tt
 pub spends_of : {detail : Detail} (each more : ℕ) (a b : State) → detail ≡ Tokens → Runs detail each more a b → Spends each more a b
 spends_of each more a b is runs = subst (λ (d : Detail). Runs d each more a b) is runs
 
+-- ---- whether rules are asked
+
+module _ (detail : Detail) (kind n : ℕ) where
+  pub asked : {rules : Bor RuleGrammar} → detail ≡ Nodes rules → (nat_lt 0 n && not (kind == PSQL_COMMAND)) ≡ true → rules_for detail kind n ≡ Some rules
+  asked is holds = ap (λ (d : Detail). rules_for d kind n) is ∙ if-true _ _ _ holds
+
+  pub unasked : {rules : Bor RuleGrammar} → detail ≡ Nodes rules → (nat_lt 0 n && not (kind == PSQL_COMMAND)) ≡ false → rules_for detail kind n ≡ None
+  unasked is fails = ap (λ (d : Detail). rules_for d kind n) is ∙ if-false _ _ _ fails
+
+  pub alone : detail ≡ Tokens → rules_for detail kind n ≡ None
+  alone is = ap (λ (d : Detail). rules_for d kind n) is
+
 -- ---- the tokens before the sign
 
 -- they are added, and the node may have this kind
-pub record Opened (detail : Detail) (of kind : ℕ) (a b : State) : Type 0 where
+pub record Opened (detail : Detail) (of n kind : ℕ) (a b : State) : Type 0 where
   pub adds : AddsSome a b
   pub is_node : kind ≢ TOMBSTONE
-  pub named : MayBe detail of kind
+  pub parsed : HasNotFailed b → IsParsed (rules_for detail of n) (RulesDerive a.words a.input a.position (min a.limit (a.position + n))) of kind (told a b)
   pub runs : Runs detail 1 0 a b
 
-may_be_its : (detail : Detail) (of : ℕ) → MayBe detail of of
-may_be_its Tokens of = refl
-may_be_its (Nodes rules) of = λ psql. refl
-
-pub opened_none : (detail : Detail) {of : ℕ} (a : State) → IsSound a → of ≢ TOMBSTONE → Opened detail of of a a
-opened_none detail {of} a sound is_node = record {
+pub opened_none : (detail : Detail) {of n : ℕ} (a : State) → IsSound a → of ≢ TOMBSTONE → rules_for detail of n ≡ None → Opened detail of n of a a
+opened_none detail {of} {n} a sound is_node without = record {
   adds = none_some a sound;
   is_node = is_node;
-  named = may_be_its detail of;
+  parsed = λ goes. subst (λ (rules : Option (Bor RuleGrammar)). IsParsed rules (RulesDerive a.words a.input a.position (min a.limit (a.position + n))) of of (told a a))
+      (sym without) (refl, omega arith);
   runs = runs_as detail 1 0 a a (λ alone. omega arith);
 }
 
-pub opened_ruled : (detail : Detail) {rules : Bor RuleGrammar} {of kind : ℕ} {a b : State} (n : ℕ) → detail ≡ Nodes rules → of ≢ PSQL_COMMAND → Keeps a b
-    → IsRuled kind (limited a n) (with_limit_of b (limited a n)) → Opened detail of kind a b
-opened_ruled detail {rules} {of} {kind} {a} {b} n is other keeps by =
-    subst (λ (d : Detail). Opened d of kind a b) (sym is) (record { adds = ruled_some n keeps by; is_node = by.is_node; named = λ psql. absurd (other psql); runs = tt })
+pub opened_ruled : (detail : Detail) {rules : Bor RuleGrammar} {of kind : ℕ} {a b : State} (n : ℕ) → detail ≡ Nodes rules → rules_for detail of n ≡ Some rules → Keeps a b
+    → IsRuled rules kind (limited a n) (with_limit_of b (limited a n)) → Opened detail of n kind a b
+opened_ruled detail {rules} {of} {kind} {a} {b} n is asked keeps by =
+    let adds : Adds by.steps a b = record { keeps = keeps; position = by.adds.position; draft = by.adds.draft } in
+    record {
+      adds = adds_some adds;
+      is_node = by.is_node;
+      parsed = λ goes. subst (λ (r : Option (Bor RuleGrammar)). IsParsed r (RulesDerive a.words a.input a.position (min a.limit (a.position + n))) of kind (told a b))
+          (sym asked) (λ none. by.derives goes (sym (told_added adds goes) ∙ none));
+      runs = subst (λ (d : Detail). Runs d 1 0 a b) (sym is) tt;
+    }
 
-pub opened_as : {detail : Detail} {of kind other : ℕ} {a b c : State} → c ≡ b → other ≡ kind → Opened detail of kind a b → Opened detail of other a c
-opened_as {detail} {of} {kind} {a = a} {c = c} at is o = subst (λ (k : ℕ). Opened detail of k a c) (sym is) (subst (λ (s : State). Opened detail of kind a s) (sym at) o)
+pub opened_as : {detail : Detail} {of n kind other : ℕ} {a b c : State} → c ≡ b → other ≡ kind → Opened detail of n kind a b → Opened detail of n other a c
+opened_as {detail} {of} {n} {kind} {a = a} {c = c} at is o = subst (λ (k : ℕ). Opened detail of n k a c) (sym is) (subst (λ (s : State). Opened detail of n kind a s) (sym at) o)
 
-pub opened_rest : {a b : State} {detail : Detail} {of kind : ℕ} → IsSound a → kind_at b 0 ≡ EOF → Opened detail of kind a b → AddsRest detail of kind a b
-opened_rest sound end o = rest_added sound o.adds end o.is_node o.named o.runs
+-- a token that is eaten is no error
+pub bumped : {a b : State} (kind : ℕ) (seen : List Entry) → Puts (current_as kind seen) a b → HasNotFailed b → errors_of b.draft.items ≡ errors_of a.draft.items
+bumped {a} {b} kind seen puts goes =
+    let all = errors_added (Adds-puts puts) goes in
+    let none = clean (kind_in seen 0 == EOF) in
+    omega (arith, all, none)
+  where
+    clean : (end : Bool) → errors_in (if end then [] else one kind ∷ []) ≡ 0
+    clean true = refl
+    clean false = refl
+
+-- one token more is added, without an error
+pub opened_next : {a b c : State} {detail : Detail} {of n kind : ℕ} → AddsSome a c → Runs detail 1 0 a c → (HasNotFailed c → HasNotFailed b)
+    → (HasNotFailed c → errors_of c.draft.items ≡ errors_of b.draft.items) → Opened detail of n kind a b → Opened detail of n kind a c
+opened_next {a} {b} {c} {detail} {of} {n} {kind} some runs went same o = record {
+  adds = some;
+  is_node = o.is_node;
+  parsed = λ goes. subst (λ (errors : ℕ). IsParsed (rules_for detail of n) (RulesDerive a.words a.input a.position (min a.limit (a.position + n))) of kind errors)
+      (ap (λ errors. errors - errors_of a.draft.items) (sym (same goes))) (o.parsed (went goes));
+  runs = runs;
+}
+
+pub opened_rest : {a b : State} {detail : Detail} {of n kind : ℕ} → IsSound a → kind_at b 0 ≡ EOF → Opened detail of n kind a b → AddsRest detail of n kind a b
+opened_rest {a} {b} {detail} {of} {n} {kind} sound end o =
+    let added = some_balanced sound o.adds in
+    record {
+      steps = added.steps;
+      adds = added.adds;
+      balanced = added.balanced;
+      end = at_limit b o.adds.some.keeps.sound end;
+      is_node = o.is_node;
+      parsed = λ goes. subst (λ (errors : ℕ). IsParsed (rules_for detail of n) (RulesDerive a.words a.input a.position (min a.limit (a.position + n))) of kind errors)
+          (told_added added.adds goes) (o.parsed goes);
+      runs = o.runs;
+    }
 
 -- what is added under a limit is added
-pub inner_added : {b c : State} {detail : Detail} {of kind : ℕ} (n : ℕ) → Keeps b c → (rest : AddsRest detail of kind (limited b n) (with_limit_of c (limited b n))) → Adds rest.steps b c
+pub inner_added : {b c : State} {detail : Detail} {of m kind : ℕ} (n : ℕ) → Keeps b c → (rest : AddsRest detail of m kind (limited b n) (with_limit_of c (limited b n))) → Adds rest.steps b c
 inner_added n keeps rest = record { keeps = keeps; position = rest.adds.position; draft = rest.adds.draft }
 
-abbrev pub statement_with : ℕ → ℕ → Statement
-statement_with kind len = record { kind = kind; len = len }
+-- the same of a statement with words, an input and places that are the same
+parsed_as : (by : Option (Bor RuleGrammar)) {words words' : Words} {input input' : List Entry} {from from' to to' : ℕ} (of kind errors : ℕ)
+    → words ≡ words' → input ≡ input' → from ≡ from' → to ≡ to'
+    → IsParsed by (RulesDerive words input from to) of kind errors → IsParsed by (RulesDerive words' input' from' to') of kind errors
+parsed_as None of kind errors words_are input_is from_is to_is parsed = parsed
+parsed_as (Some rules) {words} {words'} {input} {input'} {from} {from'} {to} {to'} of kind errors words_are input_is from_is to_is parsed = λ none.
+    subst (λ (end : ℕ). RulesDerive words' input' from' end rules) to_is
+    (subst (λ (begun : ℕ). RulesDerive words' input' begun to rules) from_is
+    (subst (λ (entries : List Entry). RulesDerive words' entries from to rules) input_is
+    (subst (λ (w : Words). RulesDerive w input from to rules) words_are (parsed none))))
 
 -- the first statement is within what is seen
 pub first_within : (s : State) → kind_at s 0 ≢ EOF → (first_statement (kinds_in (ahead s 0))).len ≤ length (kinds_in (ahead s 0))
@@ -187,11 +258,21 @@ first_within s some =
     let kinds = drop 1 (kinds_in (ahead s 0)) in
     subst (λ kinds. (first_statement kinds).len ≤ length kinds) (sym (kinds_some s some)) (len_from-within Start (kind ∷ kinds))
 
+content_within : (kinds : List ℕ) (n : ℕ) → content_len kinds n ≤ n
+content_within kinds zero = omega arith
+content_within kinds (suc n) = cases (ends_with Plain (word_of (nth kinds n)))
+  where
+    cases : (b : Bool) → (if b then n else suc n) ≤ suc n
+    cases true = omega arith
+    cases false = omega arith
+
 -- Under a limit of its tokens all of them are added, in its node.
 pub first_added : {a b c d : State} {m : Mark} {detail : Detail} {kind : ℕ} (statement : Statement) → statement ≡ first_statement (kinds_in (ahead a 0)) → kind_at a 0 ≢ EOF
-    → Begins m a b → Keeps b c → AddsRest detail statement.kind kind (limited b statement.len) (with_limit_of c (limited b statement.len)) → Completes m.id kind c d
+    → Begins m a b → Keeps b c → AddsRest detail statement.kind statement.content kind (limited b statement.len) (with_limit_of c (limited b statement.len)) → Completes m.id kind c d
     → AddsStatement detail (first_statement (kinds_in (ahead a 0))) a d
 first_added {a} {b} {c} {d} {detail = detail} {kind = kind} statement is some begins keeps rest completes =
+    let before : statement.content ≤ statement.len =
+    subst (λ (s : Statement). s.content ≤ s.len) (sym is) (content_within (kinds_in (ahead a 0)) (len_of (kinds_in (ahead a 0)))) in
     let within : statement.len ≤ length (kinds_in (ahead a 0)) = subst (λ (s : Statement). s.len ≤ length (kinds_in (ahead a 0))) (sym is) (first_within a some) in
     let seen = seen_len a begins.sound in
     let position = begins.position in
@@ -200,15 +281,23 @@ first_added {a} {b} {c} {d} {detail = detail} {kind = kind} statement is some be
     let end = rest.end in
     subst (λ (s : Statement). AddsStatement detail s a d) is (record {
       kind = kind;
-      named = rest.named;
       inner = rest.steps;
       adds = Adds-node (node_around begins (inner_added statement.len keeps rest) completes refl);
       balanced = rest.balanced;
       len = omega (arith, seen, within, position, limit, eats, end);
+      parsed = λ goes. parsed_as _ _ _ _ begins.keeps.words begins.keeps.input position (omega (arith, seen, within, position, limit, before)) (rest.parsed (went completes.keeps goes));
     })
 
-pub is_first : (kinds : List ℕ) {kind len : ℕ} → kind ≡ kind_of kinds → len ≡ len_of kinds → statement_with kind len ≡ first_statement kinds
-is_first kinds {kind} {len} kind_is len_is = ap (λ k. statement_with k len) kind_is ∙ ap (statement_with (kind_of kinds)) len_is
+-- the first statement, by its numbers
+abbrev pub statement_with : ℕ → ℕ → ℕ → Statement
+statement_with kind len content = record { kind = kind; len = len; content = content }
+
+pub is_first : (kinds : List ℕ) {kind len content : ℕ} → kind ≡ kind_of kinds → len ≡ len_of kinds → content ≡ content_len kinds len
+    → statement_with kind len content ≡ first_statement kinds
+is_first kinds {kind} {len} {content} kind_is len_is content_is =
+    ap (λ k. statement_with k len content) kind_is
+    ∙ (ap (λ n. statement_with (kind_of kinds) len n) (content_is ∙ ap (content_len kinds) len_is)
+    ∙ ap (λ n. statement_with (kind_of kinds) n (content_len kinds (len_of kinds))) len_is)
 
 -- and its node eats
 pub statement_eats : {a b : State} {detail : Detail} → kind_at a 0 ≢ EOF → AddsStatement detail (first_statement (kinds_in (ahead a 0))) a b → a.position < b.position
@@ -229,18 +318,20 @@ pub record FileSoFar (detail : Detail) (begun now : State) : Type 0 where
   pub some : AddsSome begun now
   pub nodes : List Step
   pub adds : Adds nodes begun now
-  pub all : (rest : List Step) → AreNodesOf detail (statements_of (kinds_in (ahead now 0))) rest → AreNodesOf detail (statements_of (kinds_in (ahead begun 0))) (nodes ++ rest)
+  pub all : HasNotFailed now → (rest : List Step) → AreNodesOf detail begun.input now.position (statements_of (kinds_in (ahead now 0))) rest
+      → AreNodesOf detail begun.input begun.position (statements_of (kinds_in (ahead begun 0))) (nodes ++ rest)
 
 pub file-none : {detail : Detail} (s : State) → IsSound s → FileSoFar detail s s
-file-none s sound = record { some = none_some s sound; nodes = []; adds = Adds-puts (puts-none s sound); all = λ rest are. are }
+file-none s sound = record { some = none_some s sound; nodes = []; adds = Adds-puts (puts-none s sound); all = λ goes rest are. are }
 
-pub file-next : {a b c : State} {detail : Detail} → kind_at b 0 ≢ EOF → AddsStatement detail (first_statement (kinds_in (ahead b 0))) b c → FileSoFar detail a b → FileSoFar detail a c
-file-next {a} {b} {c} {detail} some added before =
+pub file-next : {a b c : State} {detail : Detail} → a.words ≡ sql_words → kind_at b 0 ≢ EOF → AddsStatement detail (first_statement (kinds_in (ahead b 0))) b c → FileSoFar detail a b
+    → FileSoFar detail a c
+file-next {a} {b} {c} {detail} words some added before =
     let statement = first_statement (kinds_in (ahead b 0)) in
     let one = node added.kind added.inner in
     let adds = Adds-then before.adds added.adds in
-    let moved : kinds_in (ahead c 0) ≡ drop statement.len (kinds_in (ahead b 0)) =
-    kinds_moved statement.len added.adds.keeps (added.adds.position ∙ ap (λ n. b.position + n) (eaten-node added.kind added.inner ∙ added.len)) in
+    let eats : c.position ≡ b.position + statement.len = added.adds.position ∙ ap (λ n. b.position + n) (eaten-node added.kind added.inner ∙ added.len) in
+    let moved : kinds_in (ahead c 0) ≡ drop statement.len (kinds_in (ahead b 0)) = kinds_moved statement.len added.adds.keeps eats in
     let first_is : statements_of (kinds_in (ahead b 0)) ≡ statement ∷ statements_of (kinds_in (ahead c 0)) =
     subst (λ kinds. statements_of kinds ≡ first_statement kinds ∷ statements_of (drop (first_statement kinds).len kinds)) (sym (kinds_some b some)) (statements-first (kind_at b 0) (drop 1 (kinds_in (ahead b 0))))
     ∙ ap (λ kinds. statement ∷ statements_of kinds) (sym moved) in
@@ -248,23 +339,39 @@ file-next {a} {b} {c} {detail} some added before =
       some = adds_some adds;
       nodes = before.nodes ++ one;
       adds = adds;
-      all = λ rest are.
-          let here : AreNodesOf detail (statement ∷ statements_of (kinds_in (ahead c 0))) (one ++ rest) =
-          record { kind = added.kind; named = added.named; inner = added.inner; others = rest; is = refl; balanced = added.balanced; len = added.len; rest = are } in
-          subst (AreNodesOf detail (statements_of (kinds_in (ahead a 0)))) (sym (append_assoc before.nodes one rest))
-          (before.all (one ++ rest) (subst (λ statements. AreNodesOf detail statements (one ++ rest)) (sym first_is) here));
+      all = λ goes rest are.
+          let others : AreNodesOf detail a.input (b.position + statement.len) (statements_of (kinds_in (ahead c 0))) rest =
+          subst (λ (from : ℕ). AreNodesOf detail a.input from (statements_of (kinds_in (ahead c 0))) rest) eats are in
+          let here : AreNodesOf detail a.input b.position (statement ∷ statements_of (kinds_in (ahead c 0))) (one ++ rest) =
+          record {
+            kind = added.kind;
+            inner = added.inner;
+            others = rest;
+            is = refl;
+            balanced = added.balanced;
+            len = added.len;
+            parsed = parsed_as _ _ _ _ (before.some.some.keeps.words ∙ words) before.some.some.keeps.input refl refl (added.parsed goes);
+            rest = others;
+          } in
+          subst (AreNodesOf detail a.input a.position (statements_of (kinds_in (ahead a 0)))) (sym (append_assoc before.nodes one rest))
+          (before.all (went added.adds.keeps goes) (one ++ rest) (subst (λ statements. AreNodesOf detail a.input b.position statements (one ++ rest)) (sym first_is) here));
     }
 
 pub file-all : {a b c d : State} {m : Mark} {detail : Detail} → IsFresh a → Begins m a b → FileSoFar detail b c → Completes m.id SOURCE_FILE c d → kind_at c 0 ≡ EOF → HasNotFailed d
     → IsFile detail a.input d.draft
 file-all {a} {b} {c} {d} {detail = detail} fresh begins file completes end goes =
     let none = kinds_none c file.some.some.keeps.sound end in
-    let nothing : AreNodesOf detail (statements_of (kinds_in (ahead c 0))) [] = subst (λ kinds. AreNodesOf detail (statements_of kinds) []) (sym none) refl in
+    let nothing : AreNodesOf detail b.input c.position (statements_of (kinds_in (ahead c 0))) [] =
+    subst (λ kinds. AreNodesOf detail b.input c.position (statements_of kinds) []) (sym none) refl in
+    let all : AreNodesOf detail b.input b.position (statements_of (kinds_in (ahead b 0))) file.nodes =
+    subst (AreNodesOf detail b.input b.position (statements_of (kinds_in (ahead b 0)))) (append-nil file.nodes) (file.all (went completes.keeps goes) [] nothing) in
     let begun : kinds_in (ahead b 0) ≡ kinds_in a.input = kinds_still begins.keeps begins.position ∙ ap kinds_in (ahead-fresh fresh) in
+    let first : b.position ≡ 0 = begins.position ∙ ap (λ s. s.position) fresh in
     record {
       whole = whole_some fresh begins file.some completes end goes;
       nodes = file.nodes;
       is = plain-fresh fresh (Adds-node (node_around begins file.adds completes refl)) goes;
-      statements = subst (λ kinds. AreNodesOf detail (statements_of kinds) file.nodes) begun
-          (subst (AreNodesOf detail (statements_of (kinds_in (ahead b 0)))) (append-nil file.nodes) (file.all [] nothing));
+      statements = subst (λ kinds. AreNodesOf detail a.input 0 (statements_of kinds) file.nodes) begun
+          (subst (λ (from : ℕ). AreNodesOf detail a.input from (statements_of (kinds_in (ahead b 0))) file.nodes) first
+          (subst (λ (input : List Entry). AreNodesOf detail input b.position (statements_of (kinds_in (ahead b 0))) file.nodes) begins.keeps.input all));
     }

@@ -1,5 +1,5 @@
 -- How long a statement is, token by token.
-use Rattle.std.proofs.Common.{◌≡◌, ◌≢◌, ◌∙◌, ℕ, ◌+◌, ◌==◌, ◌||◌, true, false, Bool, List, [], ◌∷◌, drop, ap, sym, refl, arith, subst}
+use Rattle.std.proofs.Common.{◌≡◌, ◌≢◌, ◌∙◌, ℕ, zero, suc, ◌+◌, ◌-◌, ◌==◌, ◌||◌, ◌<◌, true, false, Bool, List, [], ◌∷◌, drop, ap, sym, refl, arith, subst}
 use Rattle.std.specs.Prelude.{not}
 use Rattle.std.specs.List.{list_all}
 use Rattle.std.proofs.lemmas.Bool.{and_parts, cond_both, eqb-true, false≢true}
@@ -12,7 +12,7 @@ use Rattle.sql_lexer.specs.declared.statements.Statement.{Statement}
 use Rattle.sql_lexer.specs.declared.statements.Statement.TheVariants.{Plain}
 use Rattle.sql_lexer.specs.declared.statements.Word.{Word}
 use Rattle.sql_lexer.specs.declared.statements.Word.TheVariants.{QueryEnd, Semicolon}
-use Rattle.sql_grammar.specs.Statements.{len_from}
+use Rattle.sql_grammar.specs.Statements.{content_len, len_from, nth}
 use Rattle.sql_grammar.specs.Words.{word_in, word_of, words}
 use Rattle.sql_grammar.proofs.Looks.{kinds_end, kinds_split}
 
@@ -84,3 +84,22 @@ pub plain_stays : (word : Word) → ends_with Plain word ≡ false → Plain ≡
 plain_stays QueryEnd e = absurd (false≢true (sym e))
 plain_stays Semicolon e = absurd (false≢true (sym e))
 plain_stays word e = refl
+
+-- ---- the tokens before the sign
+
+module _ (kinds : List ℕ) where
+  pub content_then : (len : ℕ) → 0 < len → ends_with Plain (word_of (nth kinds (len - 1))) ≡ true → len - 1 ≡ content_len kinds len
+  content_then zero some e = absurd (omega (arith, some))
+  content_then (suc n) some e =
+      let same : suc n - 1 ≡ n = omega arith in
+      same ∙ sym (if-true _ _ _ (ap (λ k. ends_with Plain (word_of (nth kinds k))) (sym same) ∙ e))
+
+  pub content_else : (len : ℕ) → ends_with Plain (word_of (nth kinds (len - 1))) ≡ false → len ≡ content_len kinds len
+  content_else zero e = refl
+  content_else (suc n) e =
+      let same : suc n - 1 ≡ n = omega arith in
+      sym (if-false _ _ _ (ap (λ k. ends_with Plain (word_of (nth kinds k))) (sym same) ∙ e))
+
+  pub content_none : (len : ℕ) → len ≡ 0 → len ≡ content_len kinds len
+  content_none zero none = refl
+  content_none (suc n) none = absurd (omega (arith, none))

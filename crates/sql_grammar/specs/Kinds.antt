@@ -3,6 +3,7 @@ use Rattle.std.specs.Prelude.{ℕ, List, [], ◌∷◌}
 use Rattle.squawk_kinds.specs.Kinds.{AMP, AT, BACKTICK, BANG, CARET, EQ, L_ANGLE, MINUS, PERCENT, PIPE, PLUS, POUND, QUESTION, R_ANGLE, SLASH, STAR, TILDE}
 use Rattle.squawk_kinds.specs.declared.token_set.TokenSet.{TokenSet}
 use Rattle.squawk_kinds.proofs.ConstantSets.{words_of}
+use Rattle.squawk_parser.specs.Words.{Words}
 
 -- ---- what operators are made of (PostgreSQL's documentation, section 4.1.3 "Operators")
 
@@ -11,6 +12,10 @@ operator_kinds = PLUS ∷ MINUS ∷ STAR ∷ SLASH ∷ L_ANGLE ∷ R_ANGLE ∷ E
 
 abbrev pub operator_set : TokenSet
 operator_set = words_of operator_kinds
+
+-- what a parser of SQL is told of words: these operators, and no names for kinds
+abbrev pub sql_words : Words
+sql_words = record { operator_first = operator_set; names = [] }
 
 -- ---- words
 

@@ -3,7 +3,7 @@ use Rattle.std.specs.Prelude.{ℕ, zero, suc, ◌+◌, ◌-◌, ◌==◌, ◌||�
 use Rattle.squawk_kinds.specs.Kinds.{EOF, L_PAREN, PSQL_COMMAND_TEXT, PSQL_TERMINATOR_TEXT}
 use Rattle.sql_lexer.specs.Statements.{after, ends_with}
 use Rattle.sql_lexer.specs.declared.statements.Statement as begun
-use Rattle.sql_lexer.specs.declared.statements.Statement.TheVariants.{Start}
+use Rattle.sql_lexer.specs.declared.statements.Statement.TheVariants.{Plain, Start}
 use Rattle.sql_grammar.specs.Kinds.{PSQL_COMMAND, STATEMENT}
 use Rattle.sql_grammar.specs.Words.{word_of}
 use Rattle.sql_grammar.specs.StatementKinds.{statement_kinds}
@@ -27,6 +27,11 @@ len_from statement (kind ∷ kinds) = if ends_with statement (word_of kind) then
 abbrev pub len_of : List ℕ → ℕ
 len_of kinds = len_from Start kinds
 
+-- how many tokens of a statement of so many stand before the sign that ends it
+abbrev pub content_len : List ℕ → ℕ → ℕ
+content_len kinds zero = 0
+content_len kinds (suc n) = if ends_with Plain (word_of (nth kinds n)) then n else suc n
+
 -- ---- kinds of statements
 
 -- the kind for a word in a table
@@ -48,14 +53,15 @@ kind_of kinds = if is_psql (nth kinds 0) then PSQL_COMMAND else kind_for (first_
 
 -- ---- all statements
 
--- a statement: the kind of its node, and how many tokens it has
+-- a statement: its kind by its first word, how many tokens it has, and how many of them stand before the sign that ends it
 pub record Statement : Type 0 where
   pub kind : ℕ
   pub len : ℕ
+  pub content : ℕ
 
 -- the first of these kinds
 abbrev pub first_statement : List ℕ → Statement
-first_statement kinds = record { kind = kind_of kinds; len = len_of kinds }
+first_statement kinds = record { kind = kind_of kinds; len = len_of kinds; content = content_len kinds (len_of kinds) }
 
 -- the statements behind so many tokens, which are those of another
 abbrev pub statements_behind : ℕ → List ℕ → List Statement

@@ -1,9 +1,9 @@
 //! Where a statement ends.
-ghost use Rattle.std.specs.Prelude.{◌≡◌, ◌+◌, ◌≤◌, drop};
+ghost use Rattle.std.specs.Prelude.{◌≡◌, ◌+◌, drop};
 ghost use Rattle.sql_lexer.specs.Statements.{ends_with};
 ghost use Rattle.squawk_table.specs.ParserInput.{kinds_in};
 ghost use Rattle.squawk_parser.specs.State.{ahead};
-ghost use Rattle.sql_grammar.specs.Statements.{len_from, len_of};
+ghost use Rattle.sql_grammar.specs.Statements.{content_len, len_from, len_of};
 ghost use Rattle.sql_grammar.specs.Words.{word_of};
 
 use sql_lexer::statements::{Statement, Word};
@@ -33,9 +33,9 @@ pub(crate) fn first_len(p: &Parser<'_>) -> usize
     len
 }
 
-/// The same without the sign that ends it.
+/// How many tokens of a statement of so many stand before the sign that ends it.
 pub(crate) fn content_len(len: usize, p: &Parser<'_>) -> usize
-    ensures { result ≤ len }
+    ensures { result ≡ content_len (kinds_in (ahead p.now 0)) len }
 {
     if len > 0 && ends_plain(p.nth(len - 1)) {
         len - 1

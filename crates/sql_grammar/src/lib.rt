@@ -64,17 +64,16 @@ pub struct SqlGrammar<'r> {
 }
 
 impl<'r> Grammar for SqlGrammar<'r> {
-    ghost use Rattle.std.specs.Prelude.{[]};
     ghost use Rattle.sql_grammar.specs.Files.{IsFile, Runs};
-    ghost use Rattle.sql_grammar.specs.Kinds.{operator_set};
+    ghost use Rattle.sql_grammar.specs.Kinds.{sql_words};
 
-    // One node over all tokens, and in it a node for each statement.
+    // One node over all tokens, and in it a node for each statement, by rules where they are asked.
     ghost leaves = { λ grammar _ input draft. IsFile grammar.detail input draft };
 
     // Without rules at most three events a token, and two for that node.
     ghost runs = { λ grammar _ begun left. Runs grammar.detail 3 2 begun left };
 
-    ghost meaning = { λ grammar. record { operator_first = operator_set; names = [] } };
+    ghost meaning = { λ grammar. sql_words };
 
     fn words(&self) -> Words<'_> {
         Words {

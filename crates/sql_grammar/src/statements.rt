@@ -1,5 +1,5 @@
 //! Statements of a file.
-ghost use Rattle.std.specs.Prelude.{◌≡◌, ◌≢◌, ◌<◌, true};
+ghost use Rattle.std.specs.Prelude.{◌≡◌, ◌≢◌, ◌<◌, ◌==◌, ◌&&◌, nat_lt, not};
 ghost use Rattle.squawk_kinds.specs.Kinds.{EOF, TOMBSTONE};
 ghost use Rattle.squawk_table.specs.ParserInput.{kinds_in};
 ghost use Rattle.squawk_parser.specs.State.{ahead, kind_at};
@@ -50,7 +50,7 @@ impl Part for StatementContent<'_> {
     /// The kind of the statement.
     type Answer = SyntaxKind;
 
-    ghost does = { λ content before after kind. AddsRest content.detail content.kind kind before after };
+    ghost does = { λ content before after kind. AddsRest content.detail content.kind content.len kind before after };
 
     fn run(self, p: &mut Parser<'_>) -> SyntaxKind {
         let StatementContent { kind, len, detail } = self;
@@ -67,7 +67,7 @@ impl Part for StatementContent<'_> {
 
 /// Whether rules are asked: not where nothing stands before the sign, nor for a command of psql.
 fn is_parsed(kind: SyntaxKind, len: usize) -> bool
-    ensures { result ≡ true → kind ≢ PSQL_COMMAND }
+    ensures { result ≡ nat_lt 0 len && not (kind == PSQL_COMMAND) }
 {
     len > 0 && kind != SqlKind::PSQL_COMMAND
 }
@@ -84,7 +84,7 @@ impl Part for Ruled<'_> {
     /// The kind of the statement.
     type Answer = SyntaxKind;
 
-    ghost does = { λ _ before after kind. IsRuled kind before after };
+    ghost does = { λ ruled before after kind. IsRuled ruled.rules kind before after };
 
     fn run(self, p: &mut Parser<'_>) -> SyntaxKind {
         self.rules.content(p)

@@ -1,4 +1,4 @@
-use Rattle.std.proofs.Common.{◌≡◌, ◌≢◌, arith}
+use Rattle.std.proofs.Common.{◌≡◌, ◌≢◌, ◌∙◌, arith}
 use Rattle.squawk_kinds.specs.Kinds.{EOF}
 use Rattle.squawk_parser.specs.SomeSteps.{Spends}
 use Rattle.squawk_parser.specs.State.{kind_at}
@@ -15,7 +15,7 @@ pub loop-p-preserved : goal.loop-p-preserved
 loop-p-preserved c =
     let some : kind_at c.loop-p.p 0 ≢ EOF = grind arith in
     record {
-      file = file-next some c.statement.ensures.adds c.loop-p.invariant.file;
+      file = file-next (c.start-file.ensures.begins.keeps.words ∙ c.requires.words) some c.statement.ensures.adds c.loop-p.invariant.file;
       runs = runs_as c.args.self.now.detail 3 0 _ _ (λ alone.
           let before : Spends 3 0 c.start-file.new.self c.loop-p.p = spends_of 3 0 _ _ alone c.loop-p.invariant.runs in
           let spent : Spends 3 0 c.loop-p.p c.statement.new.p = spends_of 3 0 _ _ alone c.statement.ensures.runs in

@@ -1,18 +1,14 @@
-use Rattle.std.proofs.Common.{rules, [], subst}
+use Rattle.std.proofs.Common.{rules, subst}
 use Rattle.squawk_keywords.specs.KeywordAnswers.{contextual_keyword_of}
 use Rattle.squawk_parser.proofs.WholeGrammars.{whole_eaten, whole_root}
 use Rattle.squawk_parser.specs.Parse.{IsRefused}
 use Rattle.squawk_parser.specs.State.{fresh}
-use Rattle.squawk_parser.specs.Words.{Words}
 use Rattle.squawk_table.specs.ParserInput.{input_of}
 use Rattle.sql_grammar.specs.Files.{IsFile, Runs}
-use Rattle.sql_grammar.specs.Kinds.{operator_set}
+use Rattle.sql_grammar.specs.Kinds.{sql_words}
 use Rattle.sql_grammar.specs.Parses.{IsRefusedParse}
 use Rattle.sql_grammar.proofs.RefusedParses.{refused_parse}
 use Rattle.sql_grammar.proofs.parse.parse_table.Goals as goal
-
-abbrev of_sql : Words
-of_sql = record { operator_first = operator_set; names = [] }
 
 pub str_steps-steps-requires : goal.str_steps-steps-requires
 str_steps-steps-requires c = record {
@@ -33,8 +29,8 @@ returns-clause-whole c =
 pub returns-in_err-output-clause-refused : goal.returns-in_err-output-clause-refused
 returns-in_err-output-clause-refused c =
     let reason = c.in_err-output.field-0.0 in
-    let why : IsRefused (λ begun left. Runs c.args.detail 3 2 begun left) (fresh (input_of (contextual_keyword_of c.args.vocabulary.now) c.args.table.now) of_sql 4294967295 2147483648) reason =
-    subst (λ input. IsRefused (λ begun left. Runs c.args.detail 3 2 begun left) (fresh input of_sql 4294967295 2147483648) reason) c.in_ok-input.ensures.input c.in_err-output.ensures.refused in
+    let why : IsRefused (λ begun left. Runs c.args.detail 3 2 begun left) (fresh (input_of (contextual_keyword_of c.args.vocabulary.now) c.args.table.now) sql_words 4294967295 2147483648) reason =
+    subst (λ input. IsRefused (λ begun left. Runs c.args.detail 3 2 begun left) (fresh input sql_words 4294967295 2147483648) reason) c.in_ok-input.ensures.input c.in_err-output.ensures.refused in
     let refused : IsRefusedParse c.args.detail (contextual_keyword_of c.args.vocabulary.now) c.args.table.now reason =
-    refused_parse c.args.detail (contextual_keyword_of c.args.vocabulary.now) c.args.table.now of_sql reason c.len-len.ensures.table why in
+    refused_parse c.args.detail (contextual_keyword_of c.args.vocabulary.now) c.args.table.now sql_words reason c.len-len.ensures.table why in
     search rules

@@ -17,8 +17,8 @@ complete-requires-clause-open_marker c =
 pub returns-clause-adds : goal.returns-clause-adds
 returns-clause-adds c =
     let inner = c.with_limit-kind.ensures in
-    let is = is_first (kinds_in (ahead c.args.p.now 0)) c.kind_of-kind.ensures.is c.first_len-len.ensures in
-    first_added (statement_with c.kind_of-kind.result c.first_len-len.result) is c.requires c.start-node.ensures.begins inner.keeps inner.does c.complete.ensures.completes
+    let is = is_first (kinds_in (ahead c.args.p.now 0)) c.kind_of-kind.ensures.is c.first_len-len.ensures c.content_len.ensures in
+    first_added (statement_with c.kind_of-kind.result c.first_len-len.result c.content_len.result) is c.requires c.start-node.ensures.begins inner.keeps inner.does c.complete.ensures.completes
 
 pub returns-clause-eats : goal.returns-clause-eats
 returns-clause-eats c = statement_eats c.requires (returns-clause-adds c)
