@@ -67,11 +67,11 @@ paren "an expression" = (@begins_query '(' query ')' => SUBQUERY
 when "WHEN" = WHEN expression THEN expression => WHEN_CLAUSE
 else = ELSE expression => ELSE_CLAUSE
 array_items = '[' ({array_items} | {expression})? ']' => ARRAY_ITEMS
-interval_literal = INTERVAL (string interval_fields?+ | precision string) => CAST_EXPR
+interval_literal = INTERVAL (string interval_fields?+ | '(' INT_NUMBER ')' string) => CAST_EXPR
 typed_literal = literal_type string => CAST_EXPR
 literal_type "a type" = DOUBLE PRECISION => TYPE | (BIT | CHARACTER | CHAR | NCHAR) VARYING literal_size? => TYPE
     | NATIONAL (CHARACTER | CHAR) VARYING? literal_size? => TYPE | (TIME | TIMESTAMP) literal_size? (WITH | WITHOUT) TIME ZONE => TYPE
-literal_size = '(' integer ')' => TYPE_ARGS
+literal_size = '(' INT_NUMBER ')' => TYPE_ARGS
 
 -- Calls.
 arg_list "arguments" = '(' ('*' | (ALL | DISTINCT)? {arg} (',' VARIADIC arg)? order_by? | VARIADIC arg order_by?)? ')' => ARG_LIST

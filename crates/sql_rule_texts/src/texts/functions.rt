@@ -31,8 +31,7 @@ create_aggregate = CREATE (OR REPLACE)? AGGREGATE new_function (old_definition /
 aggregate_signature "an aggregate" = function_path aggregate_types => FUNCTION_SIGNATURE
 aggregate_types = '(' ('*' | ORDER BY {argument_type} | {argument_type} (ORDER BY {argument_type})?) ')' => PARAM_LIST
 old_definition = '(' {old_item} ')' => OPTION_LIST
-old_item "an option" = old_name '=' option_value => OPTION
-old_name "an option" = IDENT => NAME_REF
+old_item "an option" = IDENT '=' option_value => OPTION
 alter_aggregate = ALTER AGGREGATE aggregate_signature (rename | owner_to | set_schema) => ALTER_AGGREGATE
 
 create_operator = CREATE OPERATOR operator definition => CREATE_OPERATOR

@@ -29,9 +29,8 @@ alter_materialized_view = ALTER MATERIALIZED VIEW (IF EXISTS)?+ table (alter_rel
 refresh = REFRESH MATERIALIZED VIEW CONCURRENTLY? table with_data? => REFRESH
 
 create_sequence = CREATE (TEMPORARY | TEMP | (LOCAL | GLOBAL) (TEMPORARY | TEMP) | UNLOGGED)? SEQUENCE (IF NOT EXISTS)? new_path sequence_option* => CREATE_SEQUENCE
-sequence_option "a sequence option" = sequence_setting => SEQUENCE_OPTION
-sequence_setting "a sequence option" = AS simple_type | CACHE number | CYCLE | NO (CYCLE | MAXVALUE | MINVALUE) | INCREMENT BY? number
-    | MAXVALUE number | MINVALUE number | OWNED BY path | SEQUENCE NAME path | START WITH? number | RESTART (WITH? number)?
+sequence_option "a sequence option" = (AS simple_type | CACHE number | CYCLE | NO (CYCLE | MAXVALUE | MINVALUE) | INCREMENT BY? number
+    | MAXVALUE number | MINVALUE number | OWNED BY path | SEQUENCE NAME path | START WITH? number | RESTART (WITH? number)?) => SEQUENCE_OPTION
 alter_sequence = ALTER SEQUENCE (IF EXISTS)?+ table (sequence_option+ | {table_action} | rename | set_schema) => ALTER_SEQUENCE
 
 create_statistics = CREATE STATISTICS ((IF NOT EXISTS)? new_path)? ('(' names ')')? ON {statistics_item} FROM {from_item} => CREATE_STATISTICS

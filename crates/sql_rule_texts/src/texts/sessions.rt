@@ -67,8 +67,7 @@ old_copy_option "an option" = (BINARY | FREEZE | DELIMITER AS? string | NULL AS?
 explain = EXPLAIN (ANALYZE VERBOSE? | ANALYSE VERBOSE? | VERBOSE)? explained => EXPLAIN / EXPLAIN utility_options explained => EXPLAIN
 explained "a statement" = row_statement | declare | create_table_as | create_materialized_view | refresh | execute
 utility_options "options" = '(' {utility_option} ')' => OPTION_LIST
-utility_option "an option" = utility_name (word | string | number)? => OPTION
-utility_name "an option" = UtilityName => NAME_REF
+utility_option "an option" = (OptionName | ANALYZE | ANALYSE) (word | string | number)? => OPTION
 vacuum = VACUUM (utility_options | FULL?+ FREEZE?+ VERBOSE?+ (ANALYZE | ANALYSE)?) {vacuum_table}? => VACUUM
 -- PostgreSQL 18: ONLY.
 vacuum_table = relation columns?

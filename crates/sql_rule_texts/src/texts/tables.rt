@@ -20,7 +20,7 @@ partition_by = PARTITION BY Name '(' {partition_item} ')' => PARTITION_BY
 partition_item "a column or an expression" = index_key collate? (class_ref ('.' label_ref)*)? => PARTITION_ITEM
 partition_bound "FOR VALUES or DEFAULT" = FOR VALUES (WITH '(' {hash_bound} ')' | IN '(' {expression} ')'
     | FROM '(' {expression} ')' TO '(' {expression} ')') => PARTITION_BOUND | DEFAULT => PARTITION_BOUND
-hash_bound = OptionName integer
+hash_bound = OptionName INT_NUMBER
 
 -- Columns and constraints.
 table_element "a column or a constraint" = column | like_clause | table_constraint
@@ -35,14 +35,13 @@ like_clause = LIKE table like_option* => LIKE_CLAUSE
 like_option = (INCLUDING | EXCLUDING) (COMMENTS | COMPRESSION | CONSTRAINTS | DEFAULTS | IDENTITY | GENERATED | INDEXES | STATISTICS | STORAGE | ALL) => LIKE_OPTION
 constraint_name = CONSTRAINT name => CONSTRAINT_NAME
 
--- PostgreSQL 18: NOT NULL NO INHERIT, and VIRTUAL in place of STORED, or nothing.
-column_constraint "a column constraint" = constraint_name? (NOT NULL no_inherit? => NOT_NULL_CONSTRAINT
+column_constraint "a column constraint" = constraint_name? (NOT NULL (NO INHERIT)? => NOT_NULL_CONSTRAINT
         | NULL => NULL_CONSTRAINT
         | UNIQUE nulls_distinct? index_parameters => UNIQUE_CONSTRAINT
         | PRIMARY KEY index_parameters => PRIMARY_KEY_CONSTRAINT
-        | CHECK '(' expression ')' no_inherit? => CHECK_CONSTRAINT
+        | CHECK '(' expression ')' (NO INHERIT)? => CHECK_CONSTRAINT
         | DEFAULT plain_expression => DEFAULT_CONSTRAINT
-        | GENERATED (ALWAYS AS (identity => IDENTITY_CONSTRAINT | '(' expression ')' (STORED | IDENT)? => GENERATED_CONSTRAINT)
+        | GENERATED (ALWAYS AS (identity => IDENTITY_CONSTRAINT | '(' expression ')' STORED => GENERATED_CONSTRAINT)
             | BY DEFAULT AS identity => IDENTITY_CONSTRAINT)
         | references => REFERENCES_CONSTRAINT)
     | constraint_time | collate
@@ -62,8 +61,7 @@ table_constraint "a constraint" = constraint_name? (NOT NULL column_ref constrai
         | PRIMARY KEY (USING INDEX name_ref | key_columns) constraint_flag* => PRIMARY_KEY_CONSTRAINT
         | EXCLUDE (USING name_ref)? '(' {exclude_item} ')' include_columns? index_parameters (WHERE '(' expression ')')? constraint_flag* => EXCLUDE_CONSTRAINT
         | FOREIGN KEY columns references constraint_flag* => FOREIGN_KEY_CONSTRAINT)
-constraint_flag = constraint_time | NOT VALID => NOT_VALID | no_inherit
-no_inherit = NO INHERIT => NO_INHERIT
+constraint_flag = constraint_time | NOT VALID => NOT_VALID | NO INHERIT => NO_INHERIT
 key_columns = key_list include_columns? index_parameters
 key_list "column names" = '(' {column_ref} (WITHOUT OVERLAPS)? ')' => COLUMN_LIST
 include_columns = INCLUDE columns => INCLUDE_CLAUSE
@@ -98,7 +96,7 @@ table_action "an action" = ADD COLUMN (IF NOT EXISTS)? column => ADD_COLUMN
     / ADD table_constraint => ADD_CONSTRAINT
     / ADD column => ADD_COLUMN
     / ALTER CONSTRAINT name_ref (constraint_flag | INHERIT)* => ALTER_CONSTRAINT
-    / ALTER COLUMN? (name_ref column_action | integer set_statistics) => ALTER_COLUMN
+    / ALTER COLUMN? (name_ref column_action | INT_NUMBER set_statistics) => ALTER_COLUMN
     / VALIDATE CONSTRAINT name_ref => VALIDATE_CONSTRAINT
     / DROP CONSTRAINT (IF EXISTS)?+ name_ref behavior? => DROP_CONSTRAINT
     / DROP COLUMN (IF EXISTS)?+ name_ref behavior? => DROP_COLUMN
@@ -133,7 +131,7 @@ column_action "a column action" = SET DEFAULT expression => SET_DEFAULT
     | (SET DATA)? TYPE type collate? (USING expression)? => SET_TYPE
     | alter_options
 set_statistics = SET STATISTICS (signed_integer | DEFAULT) => SET_STATISTICS
-identity_option = RESTART (WITH? number)? => SEQUENCE_OPTION | SET (sequence_setting | GENERATED (ALWAYS | BY DEFAULT)) => SEQUENCE_OPTION
+identity_option = RESTART (WITH? number)? => SEQUENCE_OPTION | SET (sequence_option | GENERATED (ALWAYS | BY DEFAULT)) => SEQUENCE_OPTION
 alter_all = ALTER (TABLE | INDEX | MATERIALIZED VIEW) ALL IN TABLESPACE name_ref (OWNED BY roles)? SET tablespace NOWAIT? => ALTER_ALL
 truncate = TRUNCATE TABLE? {relation} ((CONTINUE | RESTART) IDENTITY)? behavior? => TRUNCATE
 "#;

@@ -5,10 +5,10 @@ pub(crate) const TYPES: &str = r#"
 
 type "a type" = SETOF? type_body bounds?+ => TYPE
 simple_type "a type" = type_body => TYPE
-bounds = ARRAY ('[' integer ']')?+ | ('[' integer? ']')++
+bounds = ARRAY ('[' INT_NUMBER ']')?+ | ('[' INT_NUMBER? ']')++
 
 type_body "a type" = builtin_type | interval_type | named_type
-interval_type = INTERVAL (interval_fields | precision)?+
+interval_type = INTERVAL (interval_fields | '(' INT_NUMBER ')')?+
 named_type = type_ref ('.' label_ref)* type_args?+
 type_args = '(' {expression} ')' => TYPE_ARGS
 
@@ -16,7 +16,7 @@ builtin_type "a type" = INT | INTEGER | SMALLINT | BIGINT | REAL | BOOLEAN | FLO
     | (DECIMAL | DEC | NUMERIC) type_args?+ | BIT VARYING?+ type_args?+
     | (VARCHAR | (CHARACTER | CHAR | NCHAR | NATIONAL (CHARACTER | CHAR)) VARYING?+) precision?+
     | (TIME | TIMESTAMP) precision?+ ((WITH | WITHOUT) TIME ZONE)?+
-precision = '(' integer ')' => TYPE_ARGS
+precision = '(' INT_NUMBER ')' => TYPE_ARGS
 
 interval_fields = YEAR (TO MONTH)?+ | MONTH | DAY (TO (HOUR | MINUTE | seconds))?+ | HOUR (TO (MINUTE | seconds))?+
     | MINUTE (TO seconds)?+ | seconds

@@ -21,7 +21,6 @@ class NotSet = IDENT unreserved col_name -SET => IDENT
 -- A role, an option, a label after AS, and one without AS.
 class RoleName = IDENT unreserved col_name type_func_name -NONE => IDENT
 class OptionName = IDENT unreserved col_name type_func_name => IDENT
-class UtilityName = IDENT unreserved col_name type_func_name ANALYZE ANALYSE => IDENT
 class AfterExpression = NULLS FILTER OVER WITHIN ESCAPE UESCAPE YEAR MONTH DAY HOUR MINUTE SECOND PRECISION VARYING
 class Label = IDENT keyword => IDENT
 class NeedsAs = ARRAY AS CHAR CHARACTER CREATE DAY ESCAPE EXCEPT FETCH FILTER FOR FROM GRANT GROUP HAVING HOUR INTERSECT INTO
