@@ -25,6 +25,7 @@ pub mod SentTrees
 pub mod SentRoots
 pub mod ParsedTrees
 pub mod NodesLeft
+pub mod ByKind
 pub mod PlacesLeft
 pub mod SiblingLoops
 pub mod WalksByRule

@@ -1,6 +1,6 @@
 -- What stands at a place of a tree. The places of its nodes and tokens are counted from 0 on, a node before what is in
 -- it. An error has no place.
-use Rattle.std.specs.Prelude.{◌≡◌, ◌⊎◌, ℕ, zero, suc, ◌+◌, ◌-◌, ◌<◌, ◌≤◌, nat_lt, if◌then◌else◌, List, [], ◌∷◌, ◌++◌, length, Bool, true, false, not, encode_utf8_all}
+use Rattle.std.specs.Prelude.{◌≡◌, ◌⊎◌, ℕ, zero, suc, ◌+◌, ◌-◌, ◌<◌, ◌≤◌, ◌==◌, nat_lt, if◌then◌else◌, List, [], ◌∷◌, ◌++◌, length, Bool, true, false, not, encode_utf8_all}
 use Rattle.std.specs.List.{filter, range_with_len}
 use Rattle.squawk_tree.specs.Forest.{Forest, Nothing, Token, Node, Error, forest_bytes}
 
@@ -106,6 +106,10 @@ tokens_among tree list = filter (is_token_at tree) list
 
 abbrev pub nodes_among : Forest → List ℕ → List ℕ
 nodes_among tree list = filter (λ at. not (is_token_at tree at)) list
+
+-- of places, those of elements of a kind
+abbrev pub of_kind : Forest → ℕ → List ℕ → List ℕ
+of_kind tree kind list = filter (λ at. kind_at tree at == kind) list
 
 -- the places of an element and of all that is in it, in the order of the text
 abbrev pub descendants_of : Forest → ℕ → List ℕ

@@ -65,3 +65,7 @@ pub record IsAtAncestor (laid : Laid) (at from : ℕ) : Type 0 where
 -- of elements, those that are nodes
 abbrev pub nodes_left : List At → List At
 nodes_left list = filter (λ place. not (element_in place.laid place.at).is_token) list
+
+-- of elements, those of a kind
+abbrev pub kinds_left : ℕ → List At → List At
+kinds_left kind list = filter (λ place. (element_in place.laid place.at).kind == kind) list

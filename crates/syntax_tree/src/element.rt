@@ -1,4 +1,5 @@
 //! What a tree keeps of a node or a token.
+ghost use Rattle.std.specs.Prelude.{◌≡◌, ◌&&◌, ◌==◌};
 
 use squawk_kinds::SyntaxKind;
 
@@ -19,4 +20,13 @@ pub(crate) struct Element {
     /// Of a node with children the place of the last of them. Of a token, and of a node without children, the place of the
     /// outermost element that ends with it.
     pub(crate) last: u32,
+}
+
+impl Element {
+    /// Whether it is a token of a kind.
+    pub(crate) fn is_token_of(self, kind: SyntaxKind) -> bool
+        ensures { result ≡ (self.is_token && (self.kind == kind)) }
+    {
+        self.is_token && self.kind == kind
+    }
 }

@@ -2,6 +2,7 @@
 #![tactic(auto)]
 
 pub mod builder;
+pub mod by_kind;
 mod element;
 pub mod errors;
 pub mod handle;

@@ -3,6 +3,7 @@
 mod building;
 mod elements;
 mod finding;
+mod kinds;
 mod walking;
 
 use crate::{SyntaxElement, SyntaxTree, TreeBuilder, TreeRefusal};
