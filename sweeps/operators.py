@@ -13,7 +13,7 @@ from their_forms import their_forms
 from trees import pairs
 
 SHOWN = 300
-WORD = re.compile(r"\((@|[a-z]+)")
+WORD = re.compile(r"\((@|[a-z]{2,})")
 
 
 def counted(forms):

@@ -114,8 +114,8 @@ class OurForms:
 
     def of_CAST_EXPR(self, node):
         kind = node.child("TYPE") or node.children[0]
-        operand = next(child for child in (node.nodes() if node.children[0].kind == "CAST_KW" else reversed(node.nodes())) if child.kind != "TYPE")
-        operand = node.nodes()[0] if node.child("COLON_COLON") else operand
+        operands = [child for child in node.nodes() if child.kind not in ("TYPE", "TYPE_ARGS")]
+        operand = operands[0 if node.child("COLON_COLON", "CAST_KW") else -1]
         parts = [child.kind for child in kind.children]
         place = kind.children[1].start if parts[:1] == ["SETOF_KW"] else kind.start
         return f"(cast {self.of(operand)} t{place}/{max(parts.count('L_BRACK'), parts.count('ARRAY_KW'))})"

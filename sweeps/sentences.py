@@ -18,7 +18,8 @@ COUNT, SEED, BATCH = 20000, 1, 2000
 DEPTH = 14
 MOST = 3
 NEVER = 1000
-# Clauses of later versions, and variables of psql: what stands in the rules, and what is put there.
+# What stands in the rules, and what is put there: without clauses of later versions, variables of psql, and UESCAPE,
+# whose string is one character.
 LEFT_OUT = {
     "returning_names? targets": "targets",
     "merge_when+ returning?": "merge_when+",
@@ -36,6 +37,7 @@ LEFT_OUT = {
     "    / variable\n": "",
     "| string | variable\n": "| string\n",
     "| number | variable\n": "| number\n",
+    " | _ UESCAPE STRING => LITERAL": "",
     " => BIN_EXPR | LOCAL => AT_LOCAL_EXPR)": " => BIN_EXPR)",
 }
 SAMPLES = {
@@ -87,7 +89,8 @@ class Maker:
     def statement(self):
         while True:
             try:
-                return " ".join(self.call("whole", 0))
+                # Strings that continue one another stand on lines of their own.
+                return re.sub(r"(?<=') (?=')", "\n", " ".join(self.call("whole", 0)))
             except Unfit:
                 continue
 

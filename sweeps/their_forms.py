@@ -9,7 +9,7 @@ import re
 # Calls whose arguments PostgreSQL orders anew; constants are left out, since it adds some.
 SPECIAL = {"coalesce", "collation", "extract", "greatest", "grouping", "least", "normalize", "nullif", "overlay", "position", "substring", "treat", "trim",
            "xmlconcat", "xmlelement", "xmlexists", "xmlforest", "xmlparse", "xmlpi", "xmlroot", "xmlserialize"}
-ATOM = re.compile(r"[kcpvd]\d*(/\d+)?|Q\d+")
+ATOM = re.compile(r"[kcpvd](\d+|None)?(/\d+)?|Q\d+")
 WORD = re.compile(rb"[A-Za-z_]*")
 
 

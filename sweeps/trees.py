@@ -56,8 +56,8 @@ def made(value, c_type):
         return [made(item, "") for item in value]
     if not isinstance(value, dict):
         return value
-    named = c_type[:-1] if c_type.endswith("*") else ""
-    if named not in ("", "Node", "List", "Expr"):
+    named = c_type.rstrip("*")
+    if named not in ("Node", "List", "Expr") and hasattr(ast, named):
         return Theirs(named, value)
     for kind, fields in value.items():
         if kind == "List":
