@@ -17,7 +17,8 @@ A_Const | first | LITERAL
 A_Const | sign | PREFIX_EXPR | a minus before a constant is a part of it
 A_Const | first | NAME_REF | a word as the value of a parameter is a string
 A_Const | sign | TYPE CAST_EXPR TYPE_ARGS | fields and precision of a type are numbers
-A_Const | sign | CALL_EXPR | the field of EXTRACT is a string
+A_Const | sign | CALL_EXPR | the field of EXTRACT and a normal form are strings
+A_Const | sign | IS_EXPR | a normal form is a string
 A_Const | sign | LIMIT_CLAUSE | ALL is NULL
 A_Const | sign | TRANSACTION_MODE SET SET_OPTION | a mode is a constant
 ParamRef | first | PARAM_REF
@@ -69,7 +70,6 @@ TypeName | first | TYPE
 TypeName | held | TYPE | SETOF stands before a type's place
 TypeName | first | CAST_EXPR | a type before a string
 TypeName | first | PATH | of OF and the like, a name alone
-TypeName | sign | RETURNS_CLAUSE | RETURNS TABLE makes a type
 RangeVar | first | PATH
 JoinExpr | above larg | JOIN_EXPR
 RangeSubselect | above subquery | FROM_SUBQUERY
@@ -111,6 +111,7 @@ DefElem | sign | {STATEMENTS_WITH_WORDS} | a word of a statement is an option
 DefElem | sign | PARTITION_BOUND | modulus and remainder are options
 DefElem | held | OPTION | ADD, SET and DROP stand before an option's place
 DefElem | held | SEQUENCE_OPTION | SET stands before a sequence's option
+DefElem | first | ALTER_SUBSCRIPTION | ENABLE and DISABLE have the place of the statement
 DefElem | held | DO CREATE_COLLATION ALTER_ROLE | the option is what a keyword stands before
 Constraint CHECK | first | CHECK_CONSTRAINT
 Constraint DEFAULT | first | DEFAULT_CONSTRAINT
@@ -123,7 +124,7 @@ Constraint PRIMARY | first | PRIMARY_KEY_CONSTRAINT
 Constraint UNIQUE | first | UNIQUE_CONSTRAINT
 Constraint EXCLUSION | first | EXCLUDE_CONSTRAINT
 Constraint FOREIGN | first | REFERENCES_CONSTRAINT FOREIGN_KEY_CONSTRAINT
-Constraint FOREIGN | first | ALTER_TABLE | ALTER CONSTRAINT has no place, which reads as 0
+Constraint FOREIGN | first | ALTER_TABLE ALTER_FOREIGN_TABLE | ALTER CONSTRAINT has no place, which reads as 0
 Constraint ATTR_DEFERRABLE | first | DEFERRABLE
 Constraint ATTR_NOT_DEFERRABLE | first | NOT_DEFERRABLE
 Constraint ATTR_DEFERRED | first | INITIALLY_DEFERRED
@@ -131,23 +132,45 @@ Constraint ATTR_IMMEDIATE | first | INITIALLY_IMMEDIATE
 """
 
 # The kinds of ALTER TABLE's actions, in the order in which they stand.
-ACTIONS = {
-    "AddColumn": "ADD_COLUMN", "DropColumn": "DROP_COLUMN", "AddConstraint": "ADD_CONSTRAINT", "AlterConstraint": "ALTER_CONSTRAINT",
-    "ValidateConstraint": "VALIDATE_CONSTRAINT", "DropConstraint": "DROP_CONSTRAINT", "ChangeOwner": "OWNER_TO", "ClusterOn": "CLUSTER_ON",
-    "DropCluster": "SET_WITHOUT", "DropOids": "SET_WITHOUT", "SetLogged": "SET_LOGGED", "SetUnLogged": "SET_LOGGED",
-    "SetAccessMethod": "SET_ACCESS_METHOD", "SetTableSpace": "SET_TABLESPACE", "SetRelOptions": "SET_OPTIONS",
-    "ResetRelOptions": "RESET_OPTIONS", "AddInherit": "INHERIT", "DropInherit": "NO_INHERIT_TABLE", "AddOf": "OF_TYPE", "DropOf": "NOT_OF",
-    "ReplicaIdentity": "REPLICA_IDENTITY", "AttachPartition": "ATTACH_PARTITION", "DetachPartition": "DETACH_PARTITION",
-    "DetachPartitionFinalize": "DETACH_PARTITION", "GenericOptions": "FOREIGN_OPTIONS",
-    "EnableRowSecurity": "ROW_SECURITY", "DisableRowSecurity": "ROW_SECURITY", "ForceRowSecurity": "ROW_SECURITY", "NoForceRowSecurity": "ROW_SECURITY",
-    "EnableTrig": "TRIGGER_ACTION", "EnableAlwaysTrig": "TRIGGER_ACTION", "EnableReplicaTrig": "TRIGGER_ACTION", "DisableTrig": "TRIGGER_ACTION",
-    "EnableTrigAll": "TRIGGER_ACTION", "DisableTrigAll": "TRIGGER_ACTION", "EnableTrigUser": "TRIGGER_ACTION", "DisableTrigUser": "TRIGGER_ACTION",
-    "EnableRule": "RULE_ACTION", "EnableAlwaysRule": "RULE_ACTION", "EnableReplicaRule": "RULE_ACTION", "DisableRule": "RULE_ACTION",
-    "ColumnDefault": "SET_DEFAULT DROP_DEFAULT", "DropNotNull": "DROP_NOT_NULL", "SetNotNull": "SET_NOT_NULL", "DropExpression": "DROP_EXPRESSION",
-    "SetStatistics": "SET_STATISTICS", "SetOptions": "SET_OPTIONS", "ResetOptions": "RESET_OPTIONS", "SetStorage": "SET_STORAGE",
-    "SetCompression": "SET_COMPRESSION", "AddIdentity": "ADD_IDENTITY", "SetIdentity": "ALTER_IDENTITY", "DropIdentity": "DROP_IDENTITY",
-    "AlterColumnType": "SET_TYPE", "AlterColumnGenericOptions": "FOREIGN_OPTIONS",
-}
+ACTIONS = {name: kinds for kinds, names in (line.split(" | ") for line in """\
+ADD_COLUMN | AddColumn
+DROP_COLUMN | DropColumn
+ADD_CONSTRAINT | AddConstraint
+ALTER_CONSTRAINT | AlterConstraint
+VALIDATE_CONSTRAINT | ValidateConstraint
+DROP_CONSTRAINT | DropConstraint
+OWNER_TO | ChangeOwner
+CLUSTER_ON | ClusterOn
+SET_WITHOUT | DropCluster DropOids
+SET_LOGGED | SetLogged SetUnLogged
+SET_ACCESS_METHOD | SetAccessMethod
+SET_TABLESPACE | SetTableSpace
+SET_OPTIONS | SetRelOptions SetOptions
+RESET_OPTIONS | ResetRelOptions ResetOptions
+INHERIT | AddInherit
+NO_INHERIT_TABLE | DropInherit
+OF_TYPE | AddOf
+NOT_OF | DropOf
+REPLICA_IDENTITY | ReplicaIdentity
+ATTACH_PARTITION | AttachPartition
+DETACH_PARTITION | DetachPartition DetachPartitionFinalize
+FOREIGN_OPTIONS | GenericOptions AlterColumnGenericOptions
+ROW_SECURITY | EnableRowSecurity DisableRowSecurity ForceRowSecurity NoForceRowSecurity
+TRIGGER_ACTION | EnableTrig EnableAlwaysTrig EnableReplicaTrig DisableTrig
+TRIGGER_ACTION | EnableTrigAll DisableTrigAll EnableTrigUser DisableTrigUser
+RULE_ACTION | EnableRule EnableAlwaysRule EnableReplicaRule DisableRule
+SET_DEFAULT DROP_DEFAULT | ColumnDefault
+DROP_NOT_NULL | DropNotNull
+SET_NOT_NULL | SetNotNull
+DROP_EXPRESSION | DropExpression
+SET_STATISTICS | SetStatistics
+SET_STORAGE | SetStorage
+SET_COMPRESSION | SetCompression
+ADD_IDENTITY | AddIdentity
+ALTER_IDENTITY | SetIdentity
+DROP_IDENTITY | DropIdentity
+SET_TYPE | AlterColumnType
+""".splitlines()) for name in names.split()}
 
 
 def rows():

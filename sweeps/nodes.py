@@ -15,8 +15,11 @@ ROWS = rows()
 COMPARED = {key.partition(" ")[0] for key in ROWS}
 SHOWN = 300
 # Kinds of nodes without a place of their own, whose places nothing tells.
-PLACELESS = {"FuncCall", "A_Const", "ColumnRef", "RangeVar", "ResTarget", "TypeName", "TypeCast", "A_Expr", "DefElem", "CommonTableExpr", "SelectStmt",
-             "RangeSubselect", "SortBy", "Constraint", "ColumnDef", "RoleSpec"}
+PLACELESS = {"FuncCall", "A_Const", "ColumnRef", "RangeVar", "ResTarget", "TypeName", "TypeCast", "A_Expr", "DefElem",
+             "CommonTableExpr", "SelectStmt", "RangeSubselect", "SortBy", "Constraint", "ColumnDef", "RoleSpec",
+             "WithClause"}
+OPERATORS = {"OP": "", "OP_ANY": "ANY", "OP_ALL": "ANY", "ILIKE": "LIKE", "SIMILAR": "LIKE", "BETWEEN_SYM": "BETWEEN"}
+ALTERED = {"ALTER_TABLE", "ALTER_INDEX", "ALTER_VIEW", "ALTER_FOREIGN_TABLE", "ALTER_MATERIALIZED_VIEW", "ALTER_SEQUENCE"}
 
 
 def variant(node):
@@ -24,7 +27,7 @@ def variant(node):
     name = node.kind
     if name == "A_Expr":
         word = node.fields["kind"].removeprefix("AEXPR_").removeprefix("NOT_")
-        return {"OP": "", "OP_ANY": "ANY", "OP_ALL": "ANY", "ILIKE": "LIKE", "SIMILAR": "LIKE", "BETWEEN_SYM": "BETWEEN"}.get(word, word)
+        return OPERATORS.get(word, word)
     if name == "BoolExpr":
         return "NOT" if node.boolop == "NOT_EXPR" else ""
     if name == "SubLink":
@@ -96,14 +99,17 @@ def actions_of(tree):
             yield child
 
 
-def unordered(tree, ours):
+def unordered(tree, ours, tally):
     """What is wrong in the order of actions and of an index's items."""
-    if tree.kind == "AlterTableStmt" and ours.kind in ("ALTER_TABLE", "ALTER_INDEX", "ALTER_VIEW", "ALTER_FOREIGN_TABLE", "ALTER_MATERIALIZED_VIEW", "ALTER_SEQUENCE"):
+    if tree.kind == "AlterTableStmt" and ours.kind in ALTERED:
+        tally["AlterTableCmd"] += len(tree.cmds)
         names = [command.subtype.removeprefix("AT_") for command in tree.cmds]
         kinds = [action.kind for action in actions_of(ours)]
-        if len(names) != len(kinds) or any(kind not in ACTIONS.get(name, "").split() for name, kind in zip(names, kinds)):
+        fit = [kind in ACTIONS.get(name, "").split() for name, kind in zip(names, kinds)]
+        if len(names) != len(kinds) or not all(fit):
             yield f"actions {names} as {kinds}"
     if tree.kind == "IndexStmt":
+        tally["IndexElem"] += len(tree.indexParams)
         items = [child for child in ours.nodes() if child.kind == "INDEX_ITEM"]
         if len(items) != len(tree.indexParams):
             yield f"{len(tree.indexParams)} items of an index as {len(items)}"
@@ -130,25 +136,27 @@ def shown(statement, node):
     if node.place is None:
         return repr(statement[:120])
     text = statement.encode()
-    return repr(text[max(node.place - 60, 0):node.place].decode(errors="ignore") + "<HERE>" + text[node.place:node.place + 60].decode(errors="ignore"))
+    before, behind = text[max(node.place - 60, 0):node.place], text[node.place:node.place + 60]
+    return repr(before.decode(errors="ignore") + "<HERE>" + behind.decode(errors="ignore"))
 
 
 def main(program, paths):
-    counts, tally, reasons, wrong = Counter(), Counter(), Counter(), Counter()
+    counts, tally, reasons, wrong = Counter(), Counter(), Counter(), 0
     for statement, tree, ours in pairs(program, paths, counts):
         counts["compared"] += 1
-        told = [(f"{node.kind} {variant(node)}".strip(), f"{node.kind} {variant(node)} in {near}: {shown(statement, node)}")
+        told = [f"{node.kind} {variant(node)} in {near}: {shown(statement, node)}"
                 for node, near in wrong_nodes(tree, ours, tally, reasons)]
-        told += [("order", f"{what}: {statement[:200]!r}") for what in unordered(tree, ours)]
-        for kind, line in told:
-            wrong[kind] += 1
-            if sum(wrong.values()) <= SHOWN:
+        told += [f"{what}: {statement[:200]!r}" for what in unordered(tree, ours, tally)]
+        for line in told:
+            wrong += 1
+            if wrong <= SHOWN:
                 print(f"WRONG {line}")
     for kind, count in tally.most_common():
         print(f"{count} {kind}")
     for reason, count in reasons.most_common():
         print(f"{count} by reason: {reason}")
-    print(f"nodes: {', '.join(f'{count} {what}' for what, count in counts.items())}, {sum(tally.values())} nodes, {sum(wrong.values())} wrong")
+    told = ", ".join(f"{count} {what}" for what, count in counts.items())
+    print(f"nodes: {told}, {sum(tally.values())} nodes, {wrong} wrong")
     return 1 if wrong else 0
 
 

@@ -21,6 +21,10 @@ def counted(forms):
     return Counter(word for form in forms for word in WORD.findall(form))
 
 
+def left(forms, others):
+    return list((Counter(forms) - Counter(others)).elements())
+
+
 def main(program, paths):
     counts, tally, wrong = Counter(), Counter(), 0
     for statement, tree, ours in pairs(program, paths, counts):
@@ -32,7 +36,7 @@ def main(program, paths):
         if Counter(theirs) != Counter(found):
             wrong += 1
             if wrong <= SHOWN:
-                print(f"WRONG {list((Counter(found) - Counter(theirs)).elements())}, and not {list((Counter(theirs) - Counter(found)).elements())}: {statement[:300]!r}")
+                print(f"WRONG {left(found, theirs)}, and not {left(theirs, found)}: {statement[:300]!r}")
     for word, count in tally.most_common():
         print(f"{count} {'operators' if word == '@' else word}")
     print(f"operators: {', '.join(f'{count} {what}' for what, count in counts.items())}, {wrong} wrong")

@@ -1,17 +1,21 @@
 """The texts of `their_forms.py` from our tree."""
-from their_forms import ATOM, SPECIAL, call, joined, special, word_at
+from their_forms import ATOM, COUNTED, SPECIAL, call, joined, special, word_at
 from trees import SIGNS
 
 NAMED = {"BETWEEN_EXPR": "between", "IN_EXPR": "in", "LIKE_EXPR": "like"}
-EXPRESSIONS = {"BIN_EXPR", "PREFIX_EXPR", "IS_EXPR", "BETWEEN_EXPR", "IN_EXPR", "LIKE_EXPR", "ROW_EXPR", "OVERLAPS_EXPR", "COLLATE_EXPR", "CAST_EXPR", "SUBQUERY",
-               "FIELD_EXPR", "INDEX_EXPR", "SLICE_EXPR", "PAREN_EXPR", "PARAM_REF", "CALL_EXPR", "EXISTS_EXPR", "ARRAY_EXPR", "CASE_EXPR", "NAMED_ARG",
-               "DEFAULT_EXPR", "LITERAL", "NAME_REF"}
-# What an expression may have between itself and its operands.
-PARTS = {"ARG_LIST", "WHEN_CLAUSE", "ELSE_CLAUSE", "ARRAY_ITEMS", "ROW_VALUES", "SOME_OF", "FILTER_CLAUSE", "WHERE_CLAUSE", "WITHIN_CLAUSE", "ORDER_BY_CLAUSE",
-         "SORT_ITEM", "OVER_CLAUSE", "WINDOW_SPEC", "PARTITION_BY", "FRAME_CLAUSE", "FRAME_BOUND", "XML_ATTRIBUTES", "XML_ATTRIBUTE", "XML_PASSING"}
-LEAVES = {"NAME", "TYPE", "OP", "QUERY", "COLUMN_LIST", "PATH"}
 ATOMS = {"LITERAL", "NAME_REF", "PARAM_REF", "DEFAULT_EXPR"}
-CLAUSES = {"WITH_CLAUSE": "withClause", "ORDER_BY_CLAUSE": "sortClause", "OFFSET_CLAUSE": "limitOffset", "LIMIT_CLAUSE": "limitCount", "FETCH_CLAUSE": "limitCount"}
+EXPRESSIONS = ATOMS | {
+    "BIN_EXPR", "PREFIX_EXPR", "IS_EXPR", "BETWEEN_EXPR", "IN_EXPR", "LIKE_EXPR", "ROW_EXPR", "OVERLAPS_EXPR",
+    "COLLATE_EXPR", "CAST_EXPR", "SUBQUERY", "FIELD_EXPR", "INDEX_EXPR", "SLICE_EXPR", "PAREN_EXPR", "CALL_EXPR", "EXISTS_EXPR",
+    "ARRAY_EXPR", "CASE_EXPR", "NAMED_ARG"}
+# What an expression may have between itself and its operands.
+PARTS = {
+    "ARG_LIST", "WHEN_CLAUSE", "ELSE_CLAUSE", "ARRAY_ITEMS", "ROW_VALUES", "SOME_OF", "FILTER_CLAUSE", "WHERE_CLAUSE",
+    "WITHIN_CLAUSE", "ORDER_BY_CLAUSE", "SORT_ITEM", "OVER_CLAUSE", "WINDOW_SPEC", "PARTITION_BY", "FRAME_CLAUSE",
+    "FRAME_BOUND", "XML_ATTRIBUTES", "XML_ATTRIBUTE", "XML_PASSING"}
+LEAVES = {"NAME", "TYPE", "OP", "QUERY", "COLUMN_LIST", "PATH"}
+CLAUSES = {"WITH_CLAUSE": "withClause", "ORDER_BY_CLAUSE": "sortClause", "OFFSET_CLAUSE": "limitOffset",
+           "LIMIT_CLAUSE": "limitCount", "FETCH_CLAUSE": "limitCount"}
 
 
 class OurForms:
@@ -66,8 +70,13 @@ class OurForms:
         if sign.kind in ("AND_KW", "OR_KW"):
             word = sign.kind[:-3].lower()
             first = self.of(left)
-            return f"{first[:-1]} {self.of(right)})" if first.startswith(f"({word}@") else f"({word}@{sign.start} {first} {self.of(right)})"
-        return f"(@{sign.start}:{0 if sign.kind == 'OPERATOR_KW' else sign.end - sign.start} {self.of(left)} {self.of(right)})"
+            begun = first[:-1] if first.startswith(f"({word}@") else f"({word}@{sign.start} {first}"
+            return f"{begun} {self.of(right)})"
+        return f"(@{self.sign(sign)} {self.of(left)} {self.of(right)})"
+
+    def sign(self, sign):
+        """An operator's place and size; one with a schema has no size."""
+        return f"{sign.start}:{0 if sign.kind == 'OPERATOR_KW' else sign.end - sign.start}"
 
     def some_of(self, negated, place, left, right):
         word = "all" if right.children[0].kind == "ALL_KW" else "any"
@@ -81,7 +90,7 @@ class OurForms:
             # A string stays the operand, and takes the place.
             is_number = self.text[int(inner[1:]):int(inner[1:]) + 1] in b"0123456789.-"
             return f"k{sign.start}" if is_number else f"(@{sign.start}:1 k{sign.start})"
-        return f"(@{sign.start}:{0 if sign.kind == 'OPERATOR_KW' else sign.end - sign.start} {inner})"
+        return f"(@{self.sign(sign)} {inner})"
 
     def of_IS_EXPR(self, node):
         words = [child for child in node.children if child.is_token]
@@ -89,7 +98,8 @@ class OurForms:
         inner = f"(is@{words[0].start} {self.of(node.nodes()[0])})"
         if "DISTINCT_KW" in kinds:
             return f"({'not' if 'NOT_KW' in kinds else ''}distinct@{words[0].start} {self.all(node)})"
-        return f"(not@{words[0].start} {inner})" if "NOT_KW" in kinds and kinds & {"DOCUMENT_KW", "NORMALIZED_KW"} else inner
+        is_wrapped = "NOT_KW" in kinds and kinds & {"DOCUMENT_KW", "NORMALIZED_KW"}
+        return f"(not@{words[0].start} {inner})" if is_wrapped else inner
 
     def named(self, node):
         words = [child for child in node.children if child.is_token]
@@ -130,10 +140,16 @@ class OurForms:
         return f"(overlaps@{node.child('OVERLAPS_KW').start} {joined(self.all(row) for row in node.nodes())})"
 
     def of_CASE_EXPR(self, node):
-        return f"(case@{node.start} {joined(f'(when {self.all(part)})' if part.kind == 'WHEN_CLAUSE' else self.all(part) if part.kind == 'ELSE_CLAUSE' else self.of(part) for part in node.nodes())})"
+        return f"(case@{node.start} {joined(map(self.case_part, node.nodes()))})"
+
+    def case_part(self, node):
+        if node.kind == "WHEN_CLAUSE":
+            return f"(when {self.all(node)})"
+        return self.all(node) if node.kind == "ELSE_CLAUSE" else self.of(node)
 
     def of_ARRAY_EXPR(self, node):
-        return self.of_ARRAY_ITEMS(node.child("ARRAY_ITEMS"), node.start) if node.child("ARRAY_ITEMS") else f"array{node.start}"
+        items = node.child("ARRAY_ITEMS")
+        return self.of_ARRAY_ITEMS(items, node.start) if items else f"array{node.start}"
 
     def of_ARRAY_ITEMS(self, node, place=None):
         items = joined(self.of(item) for item in node.nodes())
@@ -174,10 +190,10 @@ class OurForms:
         return self.called(node, args)
 
     def called(self, node, args):
-        over = node.child("OVER_CLAUSE")
-        within, condition = node.child("WITHIN_CLAUSE"), node.child("FILTER_CLAUSE")
+        over, within, condition = node.child("OVER_CLAUSE"), node.child("WITHIN_CLAUSE"), node.child("FILTER_CLAUSE")
         told = [*self.in_order(args), *(self.in_order(within) if within else [])]
-        return call(node.start, told, condition and self.all(condition), over and (joined(self.in_order(over.child("WINDOW_SPEC"))) if over.child("WINDOW_SPEC") else ""))
+        window = over and (joined(self.in_order(over.child("WINDOW_SPEC"))) if over.child("WINDOW_SPEC") else "")
+        return call(node.start, told, condition and self.all(condition), window)
 
     def in_order(self, node):
         """The forms of arguments, partitions and bounds, and those by which rows are sorted."""
@@ -192,7 +208,7 @@ class OurForms:
     def special_args(self, node):
         """The arguments of such a call; those of SUBSTRING with SIMILAR are what stands between its words."""
         for child in node.nodes():
-            if child.kind == "LIKE_EXPR" and word_at(self.text, node.start) == "substring" and child.child("ESCAPE_KW") and len(node.nodes()) == 1:
+            if child.kind == "LIKE_EXPR" and child.child("ESCAPE_KW") and word_at(self.text, node.start) == "substring":
                 yield from self.operands(child.nodes()[0])
                 yield self.of(child.nodes()[-1])
             elif child.kind in PARTS:
@@ -213,7 +229,8 @@ class OurForms:
         if node.kind == "JOIN_EXPR":
             kinds = {child.kind for child in node.children}
             outer = next((word for word in ("left", "right", "full") if word.upper() + "_KW" in kinds), "inner")
-            how = "natural" if "NATURAL_KW" in kinds else "on" if "JOIN_ON" in kinds else "using" if "JOIN_USING" in kinds else "cross"
+            ways = {"NATURAL_KW": "natural", "JOIN_ON": "on", "JOIN_USING": "using"}
+            how = next((ways[kind] for kind in ways if kind in kinds), "cross")
             return f"({outer} {how} {joined(map(self.table, node.nodes()[:2]))})"
         if node.kind == "FROM_TABLE":
             return f"t{node.child('PATH').start}"
@@ -230,14 +247,16 @@ class OurForms:
             core = next(child for child in node.nodes() if child.kind not in CLAUSES and child.kind != "LOCKING_CLAUSE")
             clauses.update((CLAUSES[child.kind], child) for child in node.nodes() if child.kind in CLAUSES)
             return self.query(core, clauses)
-        told = joined(f"with{len(clauses[name].nodes())}" if name == "withClause" else f"order{len(clauses[name].nodes())}" if name == "sortClause" else name
+        told = joined(f"{name}{len(clauses[name].nodes()) if name in COUNTED else ''}"
                       for name in dict.fromkeys(CLAUSES.values()) if name in clauses)
         if node.kind == "COMPOUND_SELECT":
             left, right = node.nodes()
-            sign = next(child.kind for child in node.children if child.is_token)
-            return f"({sign[:-3].lower()}{' all' if node.child('ALL_KW') else ''} {self.query(left)} {self.query(right)})[{told}]"
+            word = next(child.kind for child in node.children if child.is_token)[:-3].lower()
+            word += " all" if node.child("ALL_KW") else ""
+            return f"({word} {self.query(left)} {self.query(right)})[{told}]"
         targets = node.child("TARGET_LIST")
-        return f"{'V' if node.kind == 'VALUES_CLAUSE' else f'S{targets.start}' if targets else 'S'}[{told}]"
+        first = "V" if node.kind == "VALUES_CLAUSE" else f"S{targets.start}" if targets else "S"
+        return f"{first}[{told}]"
 
 
 def is_expression(node):

@@ -124,11 +124,10 @@ class Reader:
 
     def repeated(self, part):
         word = self.peek()
-        bounds = {"?": (0, 1), "*": (0, MANY), "+": (1, MANY)}.get(word[0] if word and word in ("?", "*", "+", "?+", "*+", "++") else "")
-        if not bounds:
+        if word not in ("?", "*", "+", "?+", "*+", "++"):
             return part
         self.next()
-        return "repeat", (part, *bounds)
+        return "repeat", (part, 1 if word[0] == "+" else 0, 1 if word[0] == "?" else MANY)
 
 
 def read(text, keywords):

@@ -23,7 +23,8 @@ NEVER = 1000
 LEFT_OUT = {
     "returning_names? targets": "targets",
     "merge_when+ returning?": "merge_when+",
-    "MATCHED (BY IDENT)? (AND expression)? THEN (merge_insert | UPDATE set_clause | DELETE | DO NOTHING)": "MATCHED (AND expression)? THEN (merge_insert | DO NOTHING)",
+    "NOT MATCHED (BY IDENT)?": "NOT MATCHED",
+    "THEN (merge_insert | UPDATE set_clause | DELETE | DO NOTHING)": "THEN (merge_insert | DO NOTHING)",
     "CONCURRENTLY?+ name_ref?)": "CONCURRENTLY?+ name_ref)",
     "WITH {member_option}": "WITH ADMIN OPTION",
     "(ADMIN | INHERIT | SET) OPTION FOR privileges": "ADMIN OPTION FOR privileges",
@@ -37,6 +38,12 @@ LEFT_OUT = {
     "    / variable\n": "",
     "| string | variable\n": "| string\n",
     "| number | variable\n": "| number\n",
+    "(constraint_flag | INHERIT)*": "constraint_flag*",
+    "ACCESS METHOD (name_ref | DEFAULT)": "ACCESS METHOD name_ref",
+    "(signed_integer | DEFAULT) => SET_STATISTICS": "signed_integer => SET_STATISTICS",
+    "STATISTICS ((IF NOT EXISTS)? new_path)? (": "STATISTICS (IF NOT EXISTS)? new_path (",
+    "LATERAL ('(' query ')' alias?+ =>": "LATERAL ('(' query ')' alias =>",
+    "(@begins_query '(' query ')' alias?+ => FROM_SUBQUERY": "(@begins_query '(' query ')' alias => FROM_SUBQUERY",
     " | _ UESCAPE STRING => LITERAL": "",
     " => BIN_EXPR | LOCAL => AT_LOCAL_EXPR)": " => BIN_EXPR)",
 }

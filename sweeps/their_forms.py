@@ -7,8 +7,12 @@ number is a part of it."""
 import re
 
 # Calls whose arguments PostgreSQL orders anew; constants are left out, since it adds some.
-SPECIAL = {"coalesce", "collation", "extract", "greatest", "grouping", "least", "normalize", "nullif", "overlay", "position", "substring", "treat", "trim",
-           "xmlconcat", "xmlelement", "xmlexists", "xmlforest", "xmlparse", "xmlpi", "xmlroot", "xmlserialize"}
+SPECIAL = {"coalesce", "collation", "extract", "greatest", "grouping", "least", "normalize", "nullif", "overlay",
+           "position", "substring", "treat", "trim", "xmlconcat", "xmlelement", "xmlexists", "xmlforest", "xmlparse", "xmlpi",
+           "xmlroot", "xmlserialize"}
+# Clauses of a query, and those whose items are counted.
+CLAUSES = "withClause", "sortClause", "limitOffset", "limitCount"
+COUNTED = {"withClause", "sortClause"}
 ATOM = re.compile(r"[kcpvd](\d+|None)?(/\d+)?|Q\d+")
 WORD = re.compile(rb"[A-Za-z_]*")
 
@@ -57,8 +61,10 @@ class TheirForms:
         name, at = node.name[-1].sval, node.place
         if kind == "NULLIF":
             return special(at, self.all([node.lexpr, node.rexpr]))
-        left, right = node.lexpr and self.of(node.lexpr), self.all(node.rexpr) if isinstance(node.rexpr, list) else [self.of(node.rexpr)]
-        negated = "not" if name[:1] in "!<" and kind in ("IN", "LIKE", "ILIKE", "SIMILAR") or kind.startswith("NOT_") else ""
+        left = node.lexpr and self.of(node.lexpr)
+        right = self.all(node.rexpr if isinstance(node.rexpr, list) else [node.rexpr])
+        is_negated = name[:1] in "!<" and kind in ("IN", "LIKE", "ILIKE", "SIMILAR") or kind.startswith("NOT_")
+        negated = "not" if is_negated else ""
         if kind == "OP":
             size = 0 if word_at(self.text, at) else len(name)
             return f"(@{at}:{size} {joined([left, *right])})"
@@ -103,7 +109,8 @@ class TheirForms:
 
     def of_CaseExpr(self, node):
         whens = [f"(when {self.of(when.expr)} {self.of(when.result)})" for when in node.args]
-        return f"(case@{node.place} {joined([node.arg and self.of(node.arg), *whens, node.defresult and self.of(node.defresult)])})"
+        around = [one and self.of(one) for one in (node.arg, node.defresult)]
+        return f"(case@{node.place} {joined([around[0], *whens, around[1]])})"
 
     def of_A_ArrayExpr(self, node):
         return f"[{node.place}: {joined(self.all(node.elements))}]"
@@ -136,7 +143,8 @@ class TheirForms:
             return f"(escape {joined(args)})" if len(args) > 1 else args[0]
         if word in SPECIAL:
             return special(at, args)
-        return call(at, args + self.sorts(node.agg_order), node.agg_filter and self.of(node.agg_filter), node.over and self.window(node.over))
+        condition, over = node.agg_filter and self.of(node.agg_filter), node.over and self.window(node.over)
+        return call(at, args + self.sorts(node.agg_order), condition, over)
 
     def sorts(self, items):
         return [f"sort {self.of(item.node)}" for item in items or []]
@@ -149,19 +157,21 @@ class TheirForms:
         """A table of FROM, as a part of a join."""
         if node.kind == "JoinExpr":
             how = "natural" if node.isNatural else "on" if node.quals else "using" if node.usingClause else "cross"
-            return f"({node.jointype.removeprefix('JOIN_').lower()} {how} {self.table(node.larg)} {self.table(node.rarg)})"
+            outer = node.jointype.removeprefix("JOIN_").lower()
+            return f"({outer} {how} {self.table(node.larg)} {self.table(node.rarg)})"
         if node.kind == "RangeTableSample":
             return self.table(node.relation)
         return f"t{node.place}" if node.kind in ("RangeVar", "RangeTableFunc") else node.kind
 
     def query(self, node):
         """A query as a part of a set operation."""
-        clauses = joined(f"with{len(node.withClause.ctes)}" if name == "withClause" else f"order{len(node.sortClause)}" if name == "sortClause" else name
-                         for name in ("withClause", "sortClause", "limitOffset", "limitCount") if node.fields.get(name))
+        counts = {"withClause": node.withClause and len(node.withClause.ctes), "sortClause": len(node.sortClause or [])}
+        clauses = joined(f"{name}{counts.get(name, '')}" for name in CLAUSES if node.fields.get(name))
         if node.op == "SETOP_NONE":
             first = node.targetList and node.targetList[0].place
             return f"{'V' if node.valuesLists else 'S' if first is None else f'S{first}'}[{clauses}]"
-        return f"({node.op.removeprefix('SETOP_').lower()}{' all' if node.all else ''} {self.query(node.larg)} {self.query(node.rarg)})[{clauses}]"
+        word = node.op.removeprefix("SETOP_").lower() + (" all" if node.all else "")
+        return f"({word} {self.query(node.larg)} {self.query(node.rarg)})[{clauses}]"
 
 
 def call(place, args, condition, over):
@@ -184,7 +194,8 @@ def their_forms(tree, text):
             is_inside = False
         if node.kind == "JoinExpr" and above.kind != "JoinExpr":
             yield forms.table(node)
-        if node.kind == "SelectStmt" and node.op != "SETOP_NONE" and not (above.kind == "SelectStmt" and node in (above.larg, above.rarg)):
+        is_part = above.kind == "SelectStmt" and node in (above.larg, above.rarg)
+        if node.kind == "SelectStmt" and node.op != "SETOP_NONE" and not is_part:
             yield forms.query(node)
         for child in node.children():
             yield from found(child, is_inside, node)

@@ -35,11 +35,16 @@ class Theirs:
         return self.fields.get(name)
 
     def children(self):
-        """The nodes in its fields, also in lists, each once: what several columns share is that of the first one, and
-        types of parameters stand twice."""
+        """The nodes in its fields, also in lists, each once."""
         for name, value in self.fields.items():
-            if not (name == "source" and self.colno != 1 or name == "objargs" and self.objfuncargs):
+            if not self._is_copy(name):
                 yield from nodes_in(value)
+
+    def _is_copy(self, name):
+        """Whether a field stands elsewhere, too: the value that several columns share, and types of parameters."""
+        if name == "returnType":
+            return any(parameter.mode == "FUNC_PARAM_TABLE" for parameter in self.parameters or [])
+        return name == "source" and self.colno != 1 or name == "objargs" and bool(self.objfuncargs)
 
 
 def nodes_in(value):
