@@ -183,8 +183,8 @@ def message(refused):
 def main(program, count=COUNT, seed=SEED):
     maker, tally = Maker(int(seed)), Counter()
     refused, errors, shown = Counter(), Counter(), {}
-    for _ in range(0, int(count), BATCH):
-        texts = [maker.statement() for _ in range(BATCH)]
+    for first in range(0, int(count), BATCH):
+        texts = [maker.statement() for _ in range(min(BATCH, int(count) - first))]
         for text, found in zip(texts, ours(program, texts)):
             tally["statements"] += 1
             told = errors_of(found) if len(found) == 1 else ["cut otherwise"]
