@@ -19,15 +19,20 @@ PACKAGES = ["postgresql-15", "postgresql-15-pgtap", "postgresql-15-partman", "po
             "prelude-manager"]
 # Other systems, whose SQL is another one.
 OTHERS = {"mysql", "mariadb", "sqlite", "sqlite3", "oracle", "mssql"}
+# Larger files are rows of data, most of them.
+LARGEST = 4_000_000
 # Parts of a text in psql's way: what may hold a semicolon is one part.
 PART = re.compile(r"""
       (?P<trivia> \s+ | --[^\n]* | /\*(?:[^*/] | \*(?!/) | /(?!\*) | /\*(?:[^*]|\*(?!/))*\*/)*\*/ )
-    | (?P<quoted> [eE]'(?:[^'\\]|''|\\.)*' | '(?:[^']|'')*' | "(?:[^"]|"")*" | (?P<tag>\$(?:[^\W\d]\w*)?\$).*?(?P=tag) )
+    | (?P<name> "(?:[^"]|"")*" )
+    | (?P<value> [eE]'(?:[^'\\]|''|\\.)*' | '(?:[^']|'')*' | (?P<tag>\$(?:[^\W\d]\w*)?\$).*?(?P=tag) )
     | (?P<variable> (?<!:):(?:[^\W\d]\w*|'\w+'|"\w+"|\{\?\w+\}) )
     | (?P<word> [^\W\d][\w$]* )
-    | (?P<number> \d[\w.]* )
+    | (?P<number> \d[\w.]* | \.\d\w* )
     | (?P<command> \\; | \\[^\n]* )
     | (?P<sign> :: | := | . )""", re.VERBOSE | re.DOTALL)
+# What stands for values in a shape.
+VALUES = {"trivia": " ", "value": "''", "tag": "''", "number": "0"}
 
 
 class Cut:
@@ -92,22 +97,28 @@ class Cut:
         return self.blocks or self.depth and self.words[0] == "create" and "rule" in self.words[1:4]
 
 
+def shape(statement):
+    """A statement without its values, white space and comments."""
+    return "".join(VALUES.get(part.lastgroup, part[0]) for part in PART.finditer(statement))
+
+
 def statements(paths, seed=1):
-    """The distinct statements of these files and folders, in an order that the seed makes."""
+    """Statements of these files and folders, one of each shape, in an order that the seed makes."""
     found = {}
     for path in files_in(paths):
-        text = read(path)
-        if text is not None:
-            found.update(dict.fromkeys(Cut(text.removeprefix("\ufeff")).found))
-    shuffled = list(found)
+        # CREATE EXTENSION puts a name in place of that word.
+        text = (read(path) or "").removeprefix("\ufeff").replace("@extschema@", "extschema")
+        for statement in Cut(text).found:
+            found.setdefault(shape(statement), statement)
+    shuffled = list(found.values())
     random.Random(seed).shuffle(shuffled)
     return shuffled
 
 
 def is_sql(path):
     """Whether a file has SQL of PostgreSQL. Debian's dbconfig keeps it in files and folders named so."""
-    parts = re.split(r"[./_-]", path.lower())
-    return ("sql" in parts[-2:] or "dbconfig" in parts and "pgsql" in parts) and not OTHERS & set(parts)
+    parts = set(re.split(r"[./_-]", path.lower()))
+    return (path.endswith((".sql", ".sql.gz")) or {"dbconfig", "pgsql"} <= parts) and not OTHERS & parts
 
 
 def keep_all(inside, folder):
@@ -118,7 +129,7 @@ def keep_all(inside, folder):
             continue
         with (gzip.open if path.endswith(".gz") else open)(path, "rb") as file:
             text = file.read()
-        if text in kept:
+        if text in kept or len(text) > LARGEST:
             continue
         kept.add(text)
         target = os.path.join(folder, os.path.relpath(path, inside).removesuffix(".gz").removesuffix(".sql") + ".sql")
