@@ -1,9 +1,9 @@
 #!/usr/bin/python3
-"""parser.py PROGRAM [--mutants N] [--fronts N] [--seed S] FILE-OR-FOLDER ..: errors of `PROGRAM --statements` against
-PostgreSQL's own parser.
+"""parser.py PROGRAM [--statements N] [--mutants N] [--fronts N] [--seed S] FILE-OR-FOLDER ..: errors of `PROGRAM
+--statements` against PostgreSQL's own parser.
 
 PROGRAM is `crates/sql_tree/out/sql_tree`; the judge is Debian's python3-pglast (the system's Python runs this). Of the
-statements in each file and in the SQL in each folder, which `real_sql.py` fetches, one of each shape:
+statements in each file and in the SQL in each folder, which `real_sql.py` fetches, one of each shape, or of N:
 
 - taken: what the judge takes has no error;
 - refused: what it refuses has one;
@@ -60,12 +60,17 @@ class Told(NamedTuple):
         return self.count == 1 and (self.is_refused() or self.judged == 1)
 
     def difference(self):
-        """What is wrong with the errors of a text that is refused, or None where there is one in the judge's place.
+        """What is wrong with the errors of a text, or None where the judge refuses it and there is one in its place.
         White space and comments may stand in between, since a missing token is missed behind the one before."""
+        if not self.is_refused():
+            return "taken"
         if len(self.errors) != 1:
             return f"{len(self.errors) or 'no'} errors"
         between = sorted((self.errors[0].place, self.judged.place))
         return None if TRIVIA.fullmatch(self.text, *between) else "elsewhere"
+
+    def reason(self):
+        return f"{self.difference()}: {' and '.join(error.message for error in self.errors)}"
 
 
 def asked(text):
@@ -158,6 +163,9 @@ class Sweep:
         self.figures.append(f"{name} {found} of {of}")
         print(f"{'WRONG ' if is_wrong else ''}{name}: {found} of {of} {what} (at most {most} in 1,000)")
 
+    def __str__(self):
+        return f"{', '.join(self.figures)}, {self.wrong} wrong"
+
     def taken(self, name, every):
         """Texts that the judge takes have no error."""
         taken = [one for one in every if not one.is_refused()]
@@ -171,12 +179,13 @@ class Sweep:
         """Texts that it refuses have an error, but for so many in a thousand."""
         refused = [one for one in every if one.is_refused()]
         missed = [one for one in refused if not one.errors]
-        self.note(f"{name} refused", len(missed), len(refused), most, "without an error", by_reason(missed, lambda one: one.judged.message))
+        reasons = by_reason(missed, lambda one: one.judged.message)
+        self.note(f"{name} refused", len(missed), len(refused), most, "without an error", reasons)
 
     def placed(self, name, every):
         """Texts that it refuses have one error in its place, in 95 of 100."""
         differing = [one for one in every if one.difference()]
-        reasons = by_reason(differing, lambda one: f"{one.difference()}: {' and '.join(error.message for error in one.errors)}")
+        reasons = by_reason(differing, Told.reason)
         self.note(name, len(differing), len(every), 50, "without one error in the parser's place", reasons)
 
 
@@ -192,9 +201,9 @@ def broken():
         return [line.rstrip("\n") for line in file if not line.startswith("--")]
 
 
-def main(program, paths, mutant_count, front_count, seed):
+def main(program, paths, statement_count, mutant_count, front_count, seed):
     chance, sweep, ways = random.Random(seed), Sweep(), Counter()
-    every = list(told(program, [plain(statement) for statement in statements(paths, seed)]))
+    every = list(told(program, [plain(statement) for statement in statements(paths, seed)[:statement_count]]))
     ways.update("one" if one.is_one() else "several" for one in every)
     whole = [one for one in every if one.is_one()]
     sweep.taken("statements", whole)
@@ -205,16 +214,17 @@ def main(program, paths, mutant_count, front_count, seed):
     sweep.refused("mutants", mutated, 1)
     sweep.placed("fronts", list(told(program, fronts(chance, taken, front_count))))
     sweep.placed("broken", list(told(program, broken())))
-    print(f"parser: {ways['one']} statements by seed {seed}, {ways['several']} cut otherwise, {', '.join(sweep.figures)}, {sweep.wrong} wrong")
+    print(f"parser: {ways['one']} statements by seed {seed}, {ways['several']} cut otherwise, {sweep}")
     return 1 if sweep.wrong else 0
 
 
 if __name__ == "__main__":
-    told_options = argparse.ArgumentParser()
-    told_options.add_argument("program")
-    told_options.add_argument("paths", nargs="+")
-    told_options.add_argument("--mutants", type=int, default=100_000)
-    told_options.add_argument("--fronts", type=int, default=20_000)
-    told_options.add_argument("--seed", type=int, default=1)
-    asked_for = told_options.parse_args()
-    sys.exit(main(asked_for.program, asked_for.paths, asked_for.mutants, asked_for.fronts, asked_for.seed))
+    options = argparse.ArgumentParser(usage=__doc__)
+    options.add_argument("program")
+    options.add_argument("--statements", type=int)
+    options.add_argument("--mutants", type=int, default=100_000)
+    options.add_argument("--fronts", type=int, default=20_000)
+    options.add_argument("--seed", type=int, default=1)
+    options.add_argument("paths", nargs="+")
+    given = options.parse_intermixed_args()
+    sys.exit(main(given.program, given.paths, given.statements, given.mutants, given.fronts, given.seed))

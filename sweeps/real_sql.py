@@ -1,6 +1,6 @@
 #!/usr/bin/python3
-"""real_sql.py FOLDER [PACKAGE..]: fetches SQL that people wrote into FOLDER: the files of Debian packages, and the tests
-of PostgreSQL 15 from its source package. It needs `apt-get update` before, and `deb-src` for that source.
+"""real_sql.py FOLDER [PACKAGE..]: fetches SQL that people wrote into FOLDER: the files of Debian packages, and the
+tests of PostgreSQL 15 from its source package. It needs `apt-get update` before, and `deb-src` for that source.
 
 As a module: `statements(paths, seed)` gives the distinct statements of files, and of the SQL in folders."""
 import glob
@@ -15,8 +15,8 @@ import tempfile
 from postgres import COPY_COMMAND, ENDS_QUERY, copies, data_behind, files_in, line_behind, read
 
 PACKAGES = ["postgresql-15", "postgresql-15-pgtap", "postgresql-15-partman", "postgresql-15-cron",
-            "postgresql-15-postgis-3-scripts", "zabbix-server-pgsql", "roundcube-core", "bacula-director-pgsql", "gnunet",
-            "prelude-manager"]
+            "postgresql-15-postgis-3-scripts", "zabbix-server-pgsql", "roundcube-core", "bacula-director-pgsql",
+            "gnunet", "prelude-manager"]
 # Other systems, whose SQL is another one.
 OTHERS = {"mysql", "mariadb", "sqlite", "sqlite3", "oracle", "mssql"}
 # Larger files are rows of data, most of them.
@@ -140,7 +140,7 @@ def keep_all(inside, folder):
 
 
 def fetch(name, folder, download, unpack):
-    """Downloads the archive of a package, and keeps the SQL in it."""
+    """Downloads the archive of a package, and keeps the SQL in it, in a folder of its name."""
     with tempfile.TemporaryDirectory() as inside:
         done = subprocess.run(["apt-get", "-q", *download, name], cwd=inside, capture_output=True, text=True)
         archives = glob.glob(os.path.join(inside, "*.deb")) + glob.glob(os.path.join(inside, "*.tar.*[!c]"))
@@ -155,7 +155,8 @@ def main(folder, packages):
     for package in packages or PACKAGES:
         fetch(package, folder, ["download"], ["dpkg-deb", "-x", "{}", "."])
     if not packages:
-        fetch("postgresql-15/bookworm", os.path.join(folder, "source"), ["source", "--download-only", "--tar-only"], ["tar", "-xf", "{}"])
+        source = ["source", "--download-only", "--tar-only"]
+        fetch("postgresql-15/bookworm", os.path.join(folder, "source"), source, ["tar", "-xf", "{}"])
 
 
 if __name__ == "__main__":
