@@ -40,6 +40,13 @@ class Refusal(NamedTuple):
     place: int
 
 
+    def reason(self):
+        """The message without texts of the statement, but for the token that a syntax error stands at."""
+        if self.message.startswith("syntax error"):
+            return re.sub(r"near \"'.*", "near a string", self.message, flags=re.DOTALL)
+        return re.sub('".*"', '".."', self.message, flags=re.DOTALL)
+
+
 class Error(NamedTuple):
     place: int
     message: str
@@ -179,7 +186,7 @@ class Sweep:
         """Texts that it refuses have an error, but for so many in a thousand."""
         refused = [one for one in every if one.is_refused()]
         missed = [one for one in refused if not one.errors]
-        reasons = by_reason(missed, lambda one: one.judged.message)
+        reasons = by_reason(missed, lambda one: one.judged.reason())
         self.note(f"{name} refused", len(missed), len(refused), most, "without an error", reasons)
 
     def placed(self, name, every):
