@@ -30,15 +30,13 @@ BATCH = 2000
 SHOWN = 12
 COMMENTS = {"SQL_COMMENT", "C_COMMENT"}
 TRIVIA = re.compile(r"(\s|--[^\n]*|/\*.*?\*/)*", re.DOTALL)
-# What the program takes for a variable of psql, and the parser refuses.
-VARIABLE = re.compile(r"(?<!:):\s*[\w'\"]")
+COLON = "ASCII_58"
 BROKEN = os.path.join(os.path.dirname(os.path.abspath(__file__)), "broken.txt")
 
 
 class Refusal(NamedTuple):
     message: str
     place: int
-
 
     def reason(self):
         """The message without texts of the statement, but for the token that a syntax error stands at."""
@@ -112,17 +110,26 @@ def plain(statement):
     return re.sub(r"[^\x00-\x7f]", "q", statement.replace("\r", ""))
 
 
-def tokens_of(statement):
-    """The places of a statement's tokens, by the judge's scanner."""
+def tokens(text):
+    """The tokens of a text by the judge's scanner, or none where it refuses it."""
     try:
-        return [(token.start, token.end + 1) for token in judge.scan(statement) if token.name not in COMMENTS]
+        return [token for token in judge.scan(text) if token.name not in COMMENTS]
     except (judge.ParseError, TypeError):
         return []
 
 
+def places_of(text):
+    return [(token.start, token.end + 1) for token in tokens(text)]
+
+
+def has_colon(text):
+    """Whether a colon stands in a text, which the program may take for a variable of psql, and the parser refuses."""
+    return any(token.name == COLON for token in tokens(text))
+
+
 def mutant(chance, statement, other):
     """A statement with one token changed, of which the other statement may give one."""
-    spans = tokens_of(statement)
+    spans = places_of(statement)
     at = chance.randrange(len(spans))
     start, end = spans[at]
     token = statement[start:end]
@@ -131,7 +138,7 @@ def mutant(chance, statement, other):
         behind, last = spans[at + 1]
         return f"{statement[:start]} {statement[behind:last]} {statement[end:behind]} {token} {statement[last:]}"
     if way == "replaced":
-        token = other[slice(*chance.choice(tokens_of(other)))]
+        token = other[slice(*chance.choice(places_of(other)))]
     part = {"without": " ", "replaced": f" {token} "}.get(way, f" {token} {token} ")
     return statement[:start] + part + statement[end:]
 
@@ -141,7 +148,7 @@ def mutants(chance, taken, count):
     while len(made) < count:
         statement, other = chance.choice(taken), chance.choice(taken)
         made.setdefault(mutant(chance, statement, other).strip())
-    return [text for text in made if text and not VARIABLE.search(text)]
+    return [text for text in made if text and not has_colon(text)]
 
 
 def fronts(chance, taken, count):
@@ -149,7 +156,7 @@ def fronts(chance, taken, count):
     made = {}
     while len(made) < count:
         statement = chance.choice(taken)
-        front = statement[:chance.choice(tokens_of(statement))[1]]
+        front = statement[:chance.choice(places_of(statement))[1]]
         if front not in made and isinstance(asked(front), Refusal):
             made[front] = None
     return list(made)
@@ -214,8 +221,8 @@ def main(program, paths, statement_count, mutant_count, front_count, seed):
     ways.update("one" if one.is_one() else "several" for one in every)
     whole = [one for one in every if one.is_one()]
     sweep.taken("statements", whole)
-    sweep.refused("statements", [one for one in whole if not VARIABLE.search(one.text)], 30)
-    taken = [one.text for one in whole if not one.is_refused() and tokens_of(one.text)]
+    sweep.refused("statements", [one for one in whole if not has_colon(one.text)], 30)
+    taken = [one.text for one in whole if not one.is_refused() and places_of(one.text)]
     mutated = [one for one in told(program, mutants(chance, taken, mutant_count)) if one.is_one()]
     sweep.taken("mutants", mutated)
     sweep.refused("mutants", mutated, 1)
