@@ -6,7 +6,7 @@ PROGRAM is `crates/sql_tree/out/sql_tree`; the judge is Debian's python3-pglast 
 statements in each file and in the SQL in each folder, which `real_sql.py` fetches, one of each shape, or of N:
 
 - taken: what the judge takes has no error;
-- refused: what it refuses has one;
+- refused: what its grammar refuses has one;
 - mutants: the same of N statements in which a token was left out, doubled, swapped with the next one, or replaced by
   one of another statement;
 - fronts: N statements cut behind a token, which it refuses, have one error, in the place where it sees one;
@@ -30,7 +30,9 @@ BATCH = 2000
 SHOWN = 12
 COMMENTS = {"SQL_COMMENT", "C_COMMENT"}
 TRIVIA = re.compile(r"(\s|--[^\n]*|/\*.*?\*/)*", re.DOTALL)
-COLON = "ASCII_58"
+# A colon, which the program may take for a variable of psql; and a parameter, which libpg_query takes in more places
+# than PostgreSQL does.
+FOREIGN = {"ASCII_58", "PARAM"}
 BROKEN = os.path.join(os.path.dirname(os.path.abspath(__file__)), "broken.txt")
 
 
@@ -38,9 +40,12 @@ class Refusal(NamedTuple):
     message: str
     place: int
 
+    def is_of_grammar(self):
+        return self.message.startswith("syntax error")
+
     def reason(self):
         """The message without texts of the statement, but for the token that a syntax error stands at."""
-        if self.message.startswith("syntax error"):
+        if self.is_of_grammar():
             return re.sub(r"near \"'.*", "near a string", self.message, flags=re.DOTALL)
         return re.sub('".*"', '".."', self.message, flags=re.DOTALL)
 
@@ -122,9 +127,9 @@ def places_of(text):
     return [(token.start, token.end + 1) for token in tokens(text)]
 
 
-def has_colon(text):
-    """Whether a colon stands in a text, which the program may take for a variable of psql, and the parser refuses."""
-    return any(token.name == COLON for token in tokens(text))
+def is_foreign(text):
+    """Whether a text has tokens that the two read otherwise."""
+    return any(token.name in FOREIGN for token in tokens(text))
 
 
 def mutant(chance, statement, other):
@@ -148,7 +153,7 @@ def mutants(chance, taken, count):
     while len(made) < count:
         statement, other = chance.choice(taken), chance.choice(taken)
         made.setdefault(mutant(chance, statement, other).strip())
-    return [text for text in made if text and not has_colon(text)]
+    return [text for text in made if text and not is_foreign(text)]
 
 
 def fronts(chance, taken, count):
@@ -190,11 +195,14 @@ class Sweep:
         self.note(f"{name} taken", len(bad), len(taken), 0, "with an error")
 
     def refused(self, name, every, most):
-        """Texts that it refuses have an error, but for so many in a thousand."""
+        """Texts that its grammar refuses have an error, but for so many in a thousand. What its scanner refuses, or its
+        checks, as of a role that is called none, has no bound."""
         refused = [one for one in every if one.is_refused()]
-        missed = [one for one in refused if not one.errors]
-        reasons = by_reason(missed, lambda one: one.judged.reason())
-        self.note(f"{name} refused", len(missed), len(refused), most, "without an error", reasons)
+        for what, is_of_grammar, bound in (("refused", True, most), ("refused by a check", False, 1000)):
+            asked_for = [one for one in refused if one.judged.is_of_grammar() == is_of_grammar]
+            missed = [one for one in asked_for if not one.errors]
+            reasons = by_reason(missed, lambda one: one.judged.reason())
+            self.note(f"{name} {what}", len(missed), len(asked_for), bound, "without an error", reasons)
 
     def placed(self, name, every):
         """Texts that it refuses have one error in its place, in 95 of 100."""
@@ -221,7 +229,7 @@ def main(program, paths, statement_count, mutant_count, front_count, seed):
     ways.update("one" if one.is_one() else "several" for one in every)
     whole = [one for one in every if one.is_one()]
     sweep.taken("statements", whole)
-    sweep.refused("statements", [one for one in whole if not has_colon(one.text)], 30)
+    sweep.refused("statements", [one for one in whole if not is_foreign(one.text)], 30)
     taken = [one.text for one in whole if not one.is_refused() and places_of(one.text)]
     mutated = [one for one in told(program, mutants(chance, taken, mutant_count)) if one.is_one()]
     sweep.taken("mutants", mutated)
