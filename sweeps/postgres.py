@@ -31,6 +31,8 @@ OF_VALUES = {
     "invalid byte sequence for encoding": "escapes that are no UTF-8",
     "operator too long": "operators of 64 signs and more",
 }
+# Errors that aren't the lexer's.
+GRAMMATICAL = re.compile("expected |closing |nested ")
 STRING = re.compile(r"'(?:[^']|'')*'")
 # The same with escapes, behind its E.
 ESCAPED = re.compile(r"'(?:[^'\\]|''|\\.)*'(?!')", re.DOTALL)
@@ -50,7 +52,7 @@ class Raw(NamedTuple):
 
 
 class Listing(NamedTuple):
-    """What the program printed of a text: lines of its listing, and the places of lexical errors as lines and columns."""
+    """What the program printed of a text: lines of its listing, and errors as lines, columns and messages."""
     lines: list
     errors: list
 
@@ -69,9 +71,9 @@ def listed(program, option, paths):
         else:
             of.lines.append(line)
     for line in told.split("\n"):
-        found = re.match(r"(.*?):(\d+):(\d+): (?!expected |closing |nested )", line)
+        found = re.match(r"(.*?):(\d+):(\d+): (.*)", line)
         if found and found[1] in listings:
-            listings[found[1]].errors.append((int(found[2]), int(found[3])))
+            listings[found[1]].errors.append((int(found[2]), int(found[3]), found[4]))
     return [listings[path] for path in paths]
 
 
@@ -153,7 +155,7 @@ class Compared:
         self.original = tuple(self.raw)
         self.starts = [token.start for token in self.raw]
         lines = [0] + [at + 1 for at, sign in enumerate(text) if sign == "\n"]
-        self.errors = sorted(lines[line - 1] + column - 1 for line, column in listing.errors)
+        self.errors = sorted(lines[line - 1] + column - 1 for line, column, message in listing.errors if not GRAMMATICAL.match(message))
         self.left = list(text)
         self.reasons = []
         # Problems for which there is no reason.
