@@ -6,7 +6,7 @@ PROGRAM is `crates/sql_tree/out/sql_tree`; the judge is Debian's python3-pglast 
 statements in each file and in the SQL in each folder, which `real_sql.py` fetches, one of each shape, or of N:
 
 - taken: what the judge takes has no error;
-- refused: what its grammar refuses has one;
+- refused: what it refuses has one;
 - mutants: the same of N statements in which a token was left out, doubled, swapped with the next one, or replaced by
   one of another statement;
 - fronts: N statements cut behind a token, which it refuses, have one error, in the place where it sees one;
@@ -40,12 +40,9 @@ class Refusal(NamedTuple):
     message: str
     place: int
 
-    def is_of_grammar(self):
-        return self.message.startswith("syntax error")
-
     def reason(self):
         """The message without texts of the statement, but for the token that a syntax error stands at."""
-        if self.is_of_grammar():
+        if self.message.startswith("syntax error"):
             return re.sub(r"near \"'.*", "near a string", self.message, flags=re.DOTALL)
         return re.sub('".*"', '".."', self.message, flags=re.DOTALL)
 
@@ -195,14 +192,11 @@ class Sweep:
         self.note(f"{name} taken", len(bad), len(taken), 0, "with an error")
 
     def refused(self, name, every, most):
-        """Texts that its grammar refuses have an error, but for so many in a thousand. What its scanner refuses, or its
-        checks, as of a role that is called none, has no bound."""
+        """Texts that it refuses have an error, but for so many in a thousand."""
         refused = [one for one in every if one.is_refused()]
-        for what, is_of_grammar, bound in (("refused", True, most), ("refused by a check", False, 1000)):
-            asked_for = [one for one in refused if one.judged.is_of_grammar() == is_of_grammar]
-            missed = [one for one in asked_for if not one.errors]
-            reasons = by_reason(missed, lambda one: one.judged.reason())
-            self.note(f"{name} {what}", len(missed), len(asked_for), bound, "without an error", reasons)
+        missed = [one for one in refused if not one.errors]
+        reasons = by_reason(missed, lambda one: one.judged.reason())
+        self.note(f"{name} refused", len(missed), len(refused), most, "without an error", reasons)
 
     def placed(self, name, every):
         """Texts that it refuses have one error in its place, in 95 of 100."""
