@@ -3,8 +3,8 @@
 use crate::trees::assert_trees;
 use std::test::Fail;
 
-/// Texts, and what is in their files.
-static CASES: [(&str, &str); 68] = [
+/// Names, partitions and columns.
+static COLUMNS: [(&str, &str); 30] = [
     (
         "alter table book rename to work",
         "ALTER_TABLE{alter table RELATION{PATH{NAME_REF{book}}} RENAME_TO{rename to NAME{work}}}",
@@ -126,6 +126,10 @@ static CASES: [(&str, &str); 68] = [
         "alter table book alter column cost set expression as (price * 2)",
         "ALTER_TABLE{alter table RELATION{PATH{NAME_REF{book}}} ALTER_COLUMN{alter column NAME_REF{cost} SET_EXPRESSION{set expression as (BIN_EXPR{NAME_REF{price} * LITERAL{2}})}}}",
     ),
+];
+
+/// Constraints, triggers, rules and the table as a whole.
+static OTHERS: [(&str, &str); 38] = [
     (
         "alter table book add constraint book_pkey primary key using index book_id deferrable initially deferred",
         "ALTER_TABLE{alter table RELATION{PATH{NAME_REF{book}}} ADD_CONSTRAINT{add PRIMARY_KEY_CONSTRAINT{CONSTRAINT_NAME{constraint NAME{book_pkey}} primary key using index NAME_REF{book_id} DEFERRABLE{deferrable} INITIALLY_DEFERRED{initially deferred}}}}",
@@ -283,6 +287,11 @@ static CASES: [(&str, &str); 68] = [
 ];
 
 #[test]
-fn actions_have_trees(rt: HostRuntime) -> Result<(), Fail> {
-    assert_trees(&rt, &CASES)
+fn columns_have_trees(rt: HostRuntime) -> Result<(), Fail> {
+    assert_trees(&rt, &COLUMNS)
+}
+
+#[test]
+fn other_actions_have_trees(rt: HostRuntime) -> Result<(), Fail> {
+    assert_trees(&rt, &OTHERS)
 }
