@@ -76,7 +76,7 @@ fn push_in_statement(
 /// Puts a finding at a byte after others for each rule that is broken.
 fn push_told(findings: &mut Vec<Finding<'_>>, at: usize, rows: &[Row]) -> Result<(), AllocError>
     ensures { OnOk result (map told findings.new.items
-        ≡ map told findings.old.items ++ filter_map (told_if at) (map (λ row. (row.0, row.1.now)) rows.now)) }
+        ≡ map told findings.old.items ++ filter_map (told_if at) (map row_of rows.now)) }
 {
     for row in rows {
         let (is_broken, message) = *row;
