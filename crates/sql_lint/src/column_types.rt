@@ -1,7 +1,6 @@
 //! The rules on the types of columns.
 ghost use Rattle.std.specs.Prelude.{◌≡◌, map};
 ghost use Rattle.squawk_tree.specs.Forest.{Forest};
-ghost use Rattle.syntax_tree.specs.Trees.{kind_at};
 ghost use Rattle.syntax_tree.specs.Views.{IsFirstIn, IsTreeOf};
 ghost use Rattle.sql_lint.specs.ColumnTypes as spec;
 ghost use Rattle.sql_lint.specs.Rows.{row_of};
