@@ -1,1 +1,2 @@
-pub mod Scans
+pub mod Findings
+pub mod FirstOf

@@ -1,74 +1,50 @@
--- What the rules say of statements.
-use Rattle.std.specs.Prelude.{ℕ, ◌==◌, ◌&&◌, ◌||◌, not, Bool, false, List, [], ◌∷◌, Option, Some, None, codes, filter, map, if◌then◌else◌}
-use Rattle.std.specs.List.{filter_map}
-use Rattle.squawk_kinds.specs.Kinds.{is_trivia}
+-- The rules, and what they find.
+use Rattle.std.specs.Prelude.{ℕ, ◌==◌, ◌&&◌, not, Bool, true, false, List, [], ◌∷◌, ◌++◌, Option, Some, None, codes}
+use Rattle.std.specs.List.{filter_map, flat_map}
 use Rattle.squawk_tree.specs.Forest.{Forest}
 use Rattle.sql_report.specs.Findings.{Told}
-use Rattle.syntax_tree.specs.Trees.{children_of, kind_at, nodes_among, start_at}
+use Rattle.syntax_tree.specs.Trees.{children_of, descendants_of, kind_at, nodes_among, start_at}
+use Rattle.sql_lint.specs.Kinds.{CONCURRENTLY_KW, CREATE_INDEX, DROP, DROP_COLUMN, DROP_NOT_NULL, IF_KW, RENAME_COLUMN, RENAME_TO, SET_TYPE}
+use Rattle.sql_lint.specs.AlterTable.{adding_rules, alters}
+use Rattle.sql_lint.specs.ColumnTypes.{type_rules}
+use Rattle.sql_lint.specs.Nodes.{has_token}
+use Rattle.sql_lint.specs.Rows.{Row}
 
--- ---- kinds
+-- a statement of a kind that has no word of a kind
+abbrev pub lacks_word : ℕ → ℕ → ℕ → Forest → ℕ → Bool
+lacks_word word kind of tree at = (of == kind) && ((kind_at tree at == kind) && not (has_token tree at word))
 
-abbrev pub CREATE_INDEX : ℕ
-CREATE_INDEX = 941
+-- the rules on statements, and those of ALTER TABLE on what changes
+abbrev pub changing_rules : ℕ → Forest → ℕ → List Row
+changing_rules of tree at =
+    (lacks_word IF_KW DROP of tree at, codes "prefer-robust-stmts: DROP without IF EXISTS")
+    ∷ (lacks_word CONCURRENTLY_KW CREATE_INDEX of tree at, codes "require-concurrent-index-creation: CREATE INDEX without CONCURRENTLY")
+    ∷ (alters of tree at SET_TYPE, codes "changing-column-type: the table may be written anew")
+    ∷ (alters of tree at DROP_COLUMN, codes "ban-drop-column: programs may use the column")
+    ∷ (alters of tree at DROP_NOT_NULL, codes "ban-drop-not-null: programs may not expect NULL")
+    ∷ (alters of tree at RENAME_COLUMN, codes "renaming-column: programs may use the old name")
+    ∷ (alters of tree at RENAME_TO, codes "renaming-table: programs may use the old name")
+    ∷ []
 
-abbrev pub DROP : ℕ
-DROP = 710
-
-abbrev pub CONCURRENTLY_KW : ℕ
-CONCURRENTLY_KW = 264
-
-abbrev pub EXISTS_KW : ℕ
-EXISTS_KW = 330
-
-abbrev pub IF_KW : ℕ
-IF_KW = 366
-
-abbrev pub INDEX_KW : ℕ
-INDEX_KW = 374
-
--- ---- words
-
--- the words among places: their kinds, but for trivia
-abbrev pub words_at : Forest → List ℕ → List ℕ
-words_at tree places = filter (λ kind. not (is_trivia kind)) (map (kind_at tree) places)
-
--- the words of the node at a place: those of its children
-abbrev pub words_of : Forest → ℕ → List ℕ
-words_of tree at = words_at tree (children_of tree at)
-
--- among words one stands directly before another
-abbrev pub stand_together : ℕ → ℕ → List ℕ → Bool
-stand_together first second [] = false
-stand_together first second (word ∷ []) = false
-stand_together first second (word ∷ next ∷ words) =
-    ((word == first) && (next == second)) || stand_together first second (next ∷ words)
-
--- ---- rules
-
--- a DROP has IF directly before EXISTS
-abbrev pub without_if_exists : List ℕ → Option (List ℕ)
-without_if_exists words = if stand_together IF_KW EXISTS_KW words then None else Some (codes "DROP without IF EXISTS")
-
--- a CREATE INDEX has INDEX directly before CONCURRENTLY
-abbrev pub without_concurrently : List ℕ → Option (List ℕ)
-without_concurrently words = if stand_together INDEX_KW CONCURRENTLY_KW words then None else Some (codes "CREATE INDEX without CONCURRENTLY")
-
--- what is told of a node of a kind with these words, if it breaks a rule
-abbrev pub broken_rule : ℕ → List ℕ → Option (List ℕ)
-broken_rule kind words =
-    if kind == DROP then without_if_exists words else (if kind == CREATE_INDEX then without_concurrently words else None)
+-- all rules
+abbrev pub rules : ℕ → Forest → ℕ → List Row
+rules of tree at = changing_rules of tree at ++ (adding_rules of tree at ++ type_rules of tree at)
 
 -- ---- findings
 
--- what is told, at the byte where the node at a place starts
-abbrev pub told_at : Forest → ℕ → Option (List ℕ) → Option Told
-told_at tree at None = None
-told_at tree at (Some message) = Some (record { at = start_at tree at; message = message; hint = None })
+-- the finding at a byte, if a rule is broken
+abbrev pub told_if : ℕ → Row → Option Told
+told_if start (false, message) = None
+told_if start (true, message) = Some (record { at = start; message = message; hint = None })
 
--- the finding at the node at a place, if it breaks a rule
-abbrev pub finding_at : Forest → ℕ → Option Told
-finding_at tree at = told_at tree at (broken_rule (kind_at tree at) (words_of tree at))
+-- the findings at a node in a statement of a kind: at the byte where it begins
+abbrev pub findings_at : ℕ → Forest → ℕ → List Told
+findings_at of tree at = filter_map (told_if (start_at tree at)) (rules of tree at)
 
--- the findings in a tree: those at the nodes directly in the root, in order
+-- the findings at a statement and the nodes in it
+abbrev pub findings_of : Forest → ℕ → List Told
+findings_of tree statement = flat_map (findings_at (kind_at tree statement) tree) (nodes_among tree (descendants_of tree statement))
+
+-- the findings in a tree: those of the nodes directly in the root, in order
 abbrev pub findings_in : Forest → List Told
-findings_in tree = filter_map (finding_at tree) (nodes_among tree (children_of tree 0))
+findings_in tree = flat_map (findings_of tree) (nodes_among tree (children_of tree 0))

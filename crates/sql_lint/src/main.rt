@@ -1,8 +1,11 @@
-//! A linter to copy: two rules on the trees of SQL. It prints the errors of each file and what the rules find, as
+//! A linter to copy: rules on the trees of SQL. It prints the errors of each file and what the rules find, as
 //! `FILE:LINE:COLUMN: message`, with the line and a mark under it.
 #![tactic(auto)]
 
+mod alter_table;
+mod column_types;
 mod lint;
+mod nodes;
 mod rules;
 #[cfg(test)]
 mod tests;

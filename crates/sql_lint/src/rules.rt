@@ -1,46 +1,59 @@
-//! The rules.
-ghost use Rattle.std.specs.Prelude.{◌≡◌, option_map};
+//! The rules on statements, and those of ALTER TABLE on what changes. A new rule is a function of a node, and of the kind
+//! of the statement that the node is in, and a row in one of the tables `changing_rules`, `adding_rules` and `type_rules`.
+ghost use Rattle.std.specs.Prelude.{◌≡◌, map};
 ghost use Rattle.squawk_tree.specs.Forest.{Forest};
-ghost use Rattle.syntax_tree.specs.Trees.{kind_at};
 ghost use Rattle.syntax_tree.specs.Views.{IsTreeOf};
-ghost use Rattle.sql_lint.specs.Rules.{broken_rule, stand_together, words_of};
+ghost use Rattle.sql_lint.specs.Rules as spec;
+ghost use Rattle.sql_lint.specs.Rows.{row_of};
 
+use crate::alter_table::alters;
+use crate::nodes::has_token;
 use sql_words::SqlKind;
 use squawk_parser::SyntaxKind;
 use syntax_tree::SyntaxElement;
 
-/// What is told of a statement that breaks a rule.
-pub fn broken_rule(statement: SyntaxElement<'_>) -> Option<&'static str>
-    ensures { (tree : Forest) → IsTreeOf statement.entry tree
-        → option_map (λ message. message.now) result ≡ broken_rule (kind_at tree statement.entry.at) (words_of tree statement.entry.at) }
+/// Whether a rule is broken, and what is told of that.
+pub(crate) type Row = (bool, &'static str);
+
+/// What these rules say of a node in a statement of a kind.
+pub(crate) fn changing_rules(of: SyntaxKind, node: SyntaxElement<'_>) -> [Row; 7]
+    ensures { (tree : Forest) → IsTreeOf node.entry tree → map row_of result ≡ spec.changing_rules of tree node.entry.at }
 {
-    match statement.kind() {
-        // A migration that runs twice fails at a `DROP` of what is gone.
-        SqlKind::DROP if !stand_together(statement, SqlKind::IF_KW, SqlKind::EXISTS_KW) => {
-            Some("DROP without IF EXISTS")
-        }
-        // Without `CONCURRENTLY` the table can't be written while its index is built.
-        SqlKind::CREATE_INDEX
-            if !stand_together(statement, SqlKind::INDEX_KW, SqlKind::CONCURRENTLY_KW) => {
-            Some("CREATE INDEX without CONCURRENTLY")
-        }
-        _ => None,
-    }
+    [
+        (
+            lacks_word(SqlKind::IF_KW, SqlKind::DROP, of, node),
+            "prefer-robust-stmts: DROP without IF EXISTS",
+        ),
+        (
+            lacks_word(SqlKind::CONCURRENTLY_KW, SqlKind::CREATE_INDEX, of, node),
+            "require-concurrent-index-creation: CREATE INDEX without CONCURRENTLY",
+        ),
+        (
+            alters(of, node, SqlKind::SET_TYPE),
+            "changing-column-type: the table may be written anew",
+        ),
+        (
+            alters(of, node, SqlKind::DROP_COLUMN),
+            "ban-drop-column: programs may use the column",
+        ),
+        (
+            alters(of, node, SqlKind::DROP_NOT_NULL),
+            "ban-drop-not-null: programs may not expect NULL",
+        ),
+        (
+            alters(of, node, SqlKind::RENAME_COLUMN),
+            "renaming-column: programs may use the old name",
+        ),
+        (
+            alters(of, node, SqlKind::RENAME_TO),
+            "renaming-table: programs may use the old name",
+        ),
+    ]
 }
 
-/// Whether two tokens of these kinds stand in a node, the second directly after the first but for trivia.
-pub fn stand_together(node: SyntaxElement<'_>, first: SyntaxKind, second: SyntaxKind) -> bool
-    ensures { (tree : Forest) → IsTreeOf node.entry tree → result ≡ stand_together first second (words_of tree node.entry.at) }
+/// A statement of a kind that has no word of a kind.
+fn lacks_word(word: SyntaxKind, kind: SyntaxKind, of: SyntaxKind, node: SyntaxElement<'_>) -> bool
+    ensures { (tree : Forest) → IsTreeOf node.entry tree → result ≡ spec.lacks_word word kind of tree node.entry.at }
 {
-    let mut is_behind_first = false;
-    for child in node.children_with_tokens() {
-        let kind = child.kind();
-        if !kind.is_trivia() {
-            if is_behind_first && kind == second {
-                return true;
-            }
-            is_behind_first = kind == first;
-        }
-    }
-    false
+    of == kind && node.kind() == kind && !has_token(node, word)
 }

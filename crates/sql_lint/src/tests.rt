@@ -1,10 +1,17 @@
 //! What is found in texts and files.
 
-use crate::lint::Linter;
-use sql_syntax::{FileError, Reporter, SqlError, Texts, print_files, status};
+mod adding;
+mod changing;
+mod column_types;
+mod statements;
+
+use crate::lint::{Linter, push_broken_rules};
+use sql_syntax::{FileError, Reporter, SqlError, Texts, findings, parse_sql, print_files, status};
 use sql_words::vocabulary;
 use std::alloc::{AllocError, Global};
+use std::fmt::Write;
 use std::io::{self, ErrorKind};
+use std::process::Abort;
 use std::test::Fail;
 
 /// The lines of a text that is called `x`.
@@ -13,63 +20,69 @@ fn lines(alloc: Global, text: &str) -> Result<Vec<u8>, SqlError> {
     Linter { words: &words }.report(alloc, "x", text)
 }
 
-/// Texts that break no rule.
-static CLEAN: [&str; 7] = [
-    "",
-    "drop table if exists a;",
-    // Trivia stand between words.
-    "drop table if -- b\n/* c */ exists a",
-    "create index concurrently a on t (b);",
-    "create unique index concurrently a on t (b);",
-    "create table a (b int)",
-    // A word in a string is no word, nor is one in another statement.
-    "select 'drop table a'; select 1",
-];
+/// What is found in a text: for each finding the name of the rule, or what an error says, and the word at its place.
+fn found(alloc: Global, text: &str) -> Result<String, Fail> {
+    let words = vocabulary(alloc)?;
+    let tree = parse_sql(alloc, text, &words)?;
+    let mut all = findings(alloc, &tree)?;
+    push_broken_rules(&mut all, &tree)?;
+    let mut out = String::new(alloc);
+    for finding in &all {
+        let rule = finding.message.split(':').next().unwrap_or("");
+        let word = text[finding.at..].split(' ').next().unwrap_or("");
+        write!(out, "{rule} at {word}\n")?;
+    }
+    Ok(out)
+}
 
-#[test]
-fn finds_nothing(rt: HostRuntime) -> Result<(), Fail> {
-    for text in &CLEAN {
-        assert_eq!(rt; lines(rt.alloc(), text)?.as_slice(), &b""[..]);
+/// Asserts of texts what is found in them.
+fn assert_found(rt: &(impl Abort + AllocGlobal), cases: &[(&str, &str)]) -> Result<(), Fail> {
+    for case in cases {
+        let (text, wanted) = *case;
+        assert_eq!(rt; found(rt.alloc(), text)?.as_str(), wanted, "{text}");
+    }
+    Ok(())
+}
+
+/// Asserts of texts that nothing is found in them.
+fn assert_clean(rt: &(impl Abort + AllocGlobal), texts: &[&str]) -> Result<(), Fail> {
+    for text in texts {
+        assert_eq!(rt; found(rt.alloc(), text)?.as_str(), "", "{text}");
     }
     Ok(())
 }
 
 /// Texts, and what is found.
-static BROKEN: [(&str, &str); 7] = [
+static BROKEN: [(&str, &str); 6] = [
     (
         "drop table a;",
-        "x:1:1: DROP without IF EXISTS\ndrop table a;\n^\n",
-    ),
-    // EXISTS alone is a name here.
-    (
-        "select 1;\n  drop view exists",
-        "x:2:3: DROP without IF EXISTS\n  drop view exists\n  ^\n",
+        "x:1:1: prefer-robust-stmts: DROP without IF EXISTS\ndrop table a;\n^\n",
     ),
     (
         "create index a on t (b);",
-        "x:1:1: CREATE INDEX without CONCURRENTLY\ncreate index a on t (b);\n^\n",
+        "x:1:1: require-concurrent-index-creation: CREATE INDEX without CONCURRENTLY\ncreate index a on t (b);\n^\n",
     ),
     (
         "CREATE UNIQUE INDEX a ON t (b)",
-        "x:1:1: CREATE INDEX without CONCURRENTLY\nCREATE UNIQUE INDEX a ON t (b)\n^\n",
+        "x:1:1: require-concurrent-index-creation: CREATE INDEX without CONCURRENTLY\nCREATE UNIQUE INDEX a ON t (b)\n^\n",
     ),
     // Lexical errors and those of the grammar stand in the order of their places, before what the rules find.
     (
         "select (1x; drop table a",
         "x:1:10: trailing junk after numeric literal\nselect (1x; drop table a\n         ^\n\
          x:1:11: expected ) or a comma\nselect (1x; drop table a\n          ^\n\
-         x:1:13: DROP without IF EXISTS\nselect (1x; drop table a\n            ^\n",
+         x:1:13: prefer-robust-stmts: DROP without IF EXISTS\nselect (1x; drop table a\n            ^\n",
     ),
     (
         "drop table a; select (1",
         "x:1:24: expected ) or a comma\ndrop table a; select (1\n                       ^\n\
-         x:1:1: DROP without IF EXISTS\ndrop table a; select (1\n^\n",
+         x:1:1: prefer-robust-stmts: DROP without IF EXISTS\ndrop table a; select (1\n^\n",
     ),
     // A finding stands at its statement's first byte, not at trivia before it.
     (
         "/* é */ drop table a; create index b on t (c)",
-        "x:1:9: DROP without IF EXISTS\n/* é */ drop table a; create index b on t (c)\n        ^\n\
-         x:1:23: CREATE INDEX without CONCURRENTLY\n/* é */ drop table a; create index b on t (c)\n                      ^\n",
+        "x:1:9: prefer-robust-stmts: DROP without IF EXISTS\n/* é */ drop table a; create index b on t (c)\n        ^\n\
+         x:1:23: require-concurrent-index-creation: CREATE INDEX without CONCURRENTLY\n/* é */ drop table a; create index b on t (c)\n                      ^\n",
     ),
 ];
 
@@ -109,13 +122,13 @@ static RUNS: [(&[&str], &str, &str, u8); 3] = [
     (&["a", "c"], "", "", 0),
     (
         &["a", "b", "c"],
-        "b:1:1: DROP without IF EXISTS\ndrop view c\n^\n",
+        "b:1:1: prefer-robust-stmts: DROP without IF EXISTS\ndrop view c\n^\n",
         "",
         1,
     ),
     (
         &["b", "d", "b"],
-        "b:1:1: DROP without IF EXISTS\ndrop view c\n^\n",
+        "b:1:1: prefer-robust-stmts: DROP without IF EXISTS\ndrop view c\n^\n",
         "d: entity not found",
         3,
     ),
