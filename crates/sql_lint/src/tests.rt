@@ -29,7 +29,8 @@ fn found(alloc: Global, text: &str) -> Result<String, Fail> {
     let mut out = String::new(alloc);
     for finding in &all {
         let rule = finding.message.split(':').next().unwrap_or("");
-        let word = text[finding.at..].split(' ').next().unwrap_or("");
+        let rest = text.get(finding.at..).unwrap_or("");
+        let word = rest.split(' ').next().unwrap_or("");
         write!(out, "{rule} at {word}\n")?;
     }
     Ok(out)
