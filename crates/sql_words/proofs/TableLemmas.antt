@@ -9,7 +9,7 @@ use Rattle.std.proofs.lemmas.List.Elements.{All-cons, All-head, All-nil, All-tai
 use Rattle.squawk_kinds.specs.Kinds.{IsKeyword, IsTokenKind}
 use Rattle.squawk_keywords.specs.KeywordPairs.{AreKeywords, IsFirstOther}
 use Rattle.squawk_kinds.specs.EngineNames.{names_of}
-use Rattle.sql_words.specs.SqlKinds.{keyword_kinds, keyword_name, keyword_names, rows_in, table}
+use Rattle.sql_words.specs.SqlKinds.{contextual_kinds, keyword_kinds, keyword_name, keyword_names, rows_in, table}
 use Rattle.sql_words.specs.declared.category.Category.{Category}
 use Rattle.sql_words.specs.declared.keywords.Keyword.{Keyword}
 use denote.Ref.{Bor}
@@ -48,6 +48,13 @@ no_other-in (pair ∷ pairs) (suc i) are other = no_other-in pairs i (All-tail (
 -- so there is no first that has another
 pub no_other : (i : ℕ) → IsFirstOther keyword_kinds i → ⊥
 no_other i first = no_other-in keyword_kinds i keywords_are first.other
+
+contextual_are : AreKeywords contextual_kinds
+unfolding contextual_kinds
+contextual_are = keywords-of contextual_kinds refl
+
+pub no_other_contextual : (i : ℕ) → IsFirstOther contextual_kinds i → ⊥
+no_other_contextual i first = no_other-in contextual_kinds i contextual_are first.other
 
 -- ---- rows as code has them
 

@@ -65,6 +65,15 @@ table = map (λ row. (row.0, row.1, category_of row.0)) (with_kinds 200 keywords
 abbrev pub keyword_kinds : List (List ℕ × ℕ)
 keyword_kinds = map (λ row. (row.0, row.1)) table
 
+-- words that are keywords where rules ask for them, with kinds that no other token has
+unfoldable pub contextual_kinds : List (List ℕ × ℕ)
+contextual_kinds = numbered 88 (
+    words_in (codes "absent bypassrls conditional createdb createrole empty enforced error format indent json json_array") ++
+    words_in (codes "json_arrayagg json_exists json_object json_objectagg json_query json_scalar json_serialize") ++
+    words_in (codes "json_table json_value keep keys login nested nobypassrls nocreatedb nocreaterole noinherit nologin") ++
+    words_in (codes "noreplication nosuperuser objects omit path period permissive quotes replication restrictive scalar") ++
+    words_in (codes "source string superuser target unconditional virtual"))
+
 -- whether a kind is that of a keyword of the category
 abbrev pub is_kind_of : Category → ℕ → Bool
 is_kind_of category kind = list_any (λ row. same_category row.2 category && (row.1 == kind)) table
@@ -141,7 +150,10 @@ node_names = map (λ row. (row.1, row.0)) (
     words_in (codes "ALTER_SUBSCRIPTION CREATE_TABLESPACE ALTER_TABLESPACE CREATE_DATABASE DATABASE_OPTION ALTER_DATABASE") ++
     words_in (codes "ALTER_LARGE_OBJECT CREATE_ROLE ROLE_OPTION ALTER_ROLE MEMBER_OPTION GRANTED_BY PRIVILEGE_LIST") ++
     words_in (codes "PRIVILEGE GRANT_TARGET ALTER_DEFAULT_PRIVILEGES DROP_OWNED OBJECT TRANSACTION_MODE SET_CONSTRAINTS") ++
-    words_in (codes "ALTER_SYSTEM COMMIT_PREPARED ROLLBACK_PREPARED PREPARE_TRANSACTION")))
+    words_in (codes "ALTER_SYSTEM COMMIT_PREPARED ROLLBACK_PREPARED PREPARE_TRANSACTION") ++
+    words_in (codes "JSON_KEY_VALUE JSON_RETURNING_CLAUSE JSON_NULL_CLAUSE JSON_QUOTES_CLAUSE JSON_KEYS_UNIQUE_CLAUSE") ++
+    words_in (codes "JSON_WRAPPER_BEHAVIOR_CLAUSE JSON_PASSING_CLAUSE JSON_BEHAVIOR_CLAUSE JSON_FORMAT_CLAUSE") ++
+    words_in (codes "JSON_PASSING_ARG JSON_TABLE_COLUMN_LIST JSON_TABLE_COLUMN ENFORCED NOT_ENFORCED")))
 
 -- the names of all kinds
 abbrev pub names : Names

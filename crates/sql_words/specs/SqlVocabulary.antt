@@ -1,5 +1,5 @@
 -- The vocabulary of PostgreSQL's keywords.
-use Rattle.std.specs.Prelude.{◌≡◌, ℕ, ◌==◌, List, [], ◌∷◌, None, false}
+use Rattle.std.specs.Prelude.{◌≡◌, ℕ, ◌==◌, List, [], ◌∷◌}
 use Rattle.std.specs.List.{list_any}
 use Rattle.squawk_kinds.specs.Kinds as kind
 use Rattle.squawk_kinds.specs.TokenSets.{has}
@@ -7,7 +7,7 @@ use Rattle.squawk_keywords.specs.KeywordAnswers.{all_keywords_of, classes_of, co
 use Rattle.squawk_keywords.specs.KeywordPairs.{has_kind, kind_of_word_ignoring_case}
 use Rattle.squawk_keywords.specs.declared.classes.Classes.{Classes}
 use Rattle.squawk_keywords.specs.declared.keywords.Keywords.{Keywords}
-use Rattle.sql_words.specs.SqlKinds.{is_kind_of, keyword_kinds}
+use Rattle.sql_words.specs.SqlKinds.{contextual_kinds, is_kind_of, keyword_kinds}
 use Rattle.sql_words.specs.declared.category.Category.TheVariants.{ColName, Reserved, TypeFuncName}
 
 -- the signs that the names of operators are made of, and the operators that have a kind
@@ -31,10 +31,10 @@ pub record AreClasses (classes : Classes) : Type 0 where
   pub col_name_keyword_first : (kind : ℕ) → has classes.col_name_keyword_first kind ≡ is_kind_of ColName kind
   pub type_func_name_keywords : (kind : ℕ) → has classes.type_func_name_keywords kind ≡ is_kind_of TypeFuncName kind
 
--- a vocabulary knows the keywords in whatever case their letters are, and no contextual ones; its classes are these
+-- a vocabulary knows the keywords and the contextual ones in whatever case their letters are; its classes are these
 pub record KnowsKeywords (v : Keywords) : Type 0 where
   pub keyword : (text : List ℕ) → keyword_of v text ≡ kind_of_word_ignoring_case keyword_kinds text
-  pub contextual_keyword : (text : List ℕ) → contextual_keyword_of v text ≡ None
+  pub contextual_keyword : (text : List ℕ) → contextual_keyword_of v text ≡ kind_of_word_ignoring_case contextual_kinds text
   pub all_keywords : (kind : ℕ) → has (all_keywords_of v) kind ≡ has_kind keyword_kinds kind
-  pub contextual_keywords : (kind : ℕ) → has (contextual_keywords_of v) kind ≡ false
+  pub contextual_keywords : (kind : ℕ) → has (contextual_keywords_of v) kind ≡ has_kind contextual_kinds kind
   pub classes : AreClasses (classes_of v)

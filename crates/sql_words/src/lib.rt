@@ -2,6 +2,7 @@
 #![tactic(auto)]
 
 mod category;
+mod contextual;
 mod keywords;
 mod kind_names;
 mod kinds;

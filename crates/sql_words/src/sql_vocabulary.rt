@@ -6,6 +6,7 @@ ghost use Rattle.sql_words.specs.SqlKinds.{is_kind_of, keyword_kinds};
 ghost use Rattle.sql_words.specs.SqlVocabulary.{AreClasses, KnowsKeywords};
 
 use crate::category::Category;
+use crate::contextual::contextual_keywords;
 use crate::keywords::keywords;
 use squawk_keywords::{Classes, Keywords, KeywordsError};
 use squawk_kinds::{SyntaxKind, TokenSet, token_set};
@@ -56,17 +57,17 @@ const PUNCTUATION: TokenSet = token_set![
     SyntaxKind::FAT_ARROW,
 ];
 
-/// The keywords of PostgreSQL 15 as a vocabulary. A text is one of them in whatever case its letters are;
-/// none is contextual.
+/// The keywords of PostgreSQL 15 as a vocabulary, and contextual ones. A text is one of them in whatever case its letters
+/// are.
 ///
 /// A column's name may begin with the keywords that PostgreSQL's grammar calls `col_name_keyword`, and a
 /// type or a function may be named as its `type_func_name_keyword`.
-#[tactic(auto, using(crate::proofs::VocabularyLemmas::not_refused))]
+#[tactic(auto, using(crate::proofs::VocabularyLemmas::not_refused, crate::proofs::VocabularyLemmas::not_refused_contextual))]
 pub fn vocabulary(alloc: Global) -> Result<Keywords<'static>, AllocError>
     ensures { IfOk result KnowsKeywords }
 {
     let words = words(alloc)?;
-    match Keywords::ignoring_case(alloc, &words, &[]) {
+    match Keywords::ignoring_case(alloc, &words, &contextual_keywords()) {
         Ok(keywords) => Ok(keywords.with_classes(classes())),
         Err(KeywordsError::OutOfMemory) => Err(AllocError),
         Err(KeywordsError::Keyword(_)) => unreachable!(),

@@ -174,4 +174,29 @@ impl SqlKind {
     pub const MERGE_WHEN: SyntaxKind = SyntaxKind(854);
 
     pub const MERGE_INSERT: SyntaxKind = SyntaxKind(855);
+
+    // JSON.
+    pub const JSON_KEY_VALUE: SyntaxKind = SyntaxKind(1047);
+
+    pub const JSON_RETURNING_CLAUSE: SyntaxKind = SyntaxKind(1048);
+
+    pub const JSON_NULL_CLAUSE: SyntaxKind = SyntaxKind(1049);
+
+    pub const JSON_QUOTES_CLAUSE: SyntaxKind = SyntaxKind(1050);
+
+    pub const JSON_KEYS_UNIQUE_CLAUSE: SyntaxKind = SyntaxKind(1051);
+
+    pub const JSON_WRAPPER_BEHAVIOR_CLAUSE: SyntaxKind = SyntaxKind(1052);
+
+    pub const JSON_PASSING_CLAUSE: SyntaxKind = SyntaxKind(1053);
+
+    pub const JSON_BEHAVIOR_CLAUSE: SyntaxKind = SyntaxKind(1054);
+
+    pub const JSON_FORMAT_CLAUSE: SyntaxKind = SyntaxKind(1055);
+
+    pub const JSON_PASSING_ARG: SyntaxKind = SyntaxKind(1056);
+
+    pub const JSON_TABLE_COLUMN_LIST: SyntaxKind = SyntaxKind(1057);
+
+    pub const JSON_TABLE_COLUMN: SyntaxKind = SyntaxKind(1058);
 }

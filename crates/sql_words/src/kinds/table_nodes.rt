@@ -190,4 +190,9 @@ impl SqlKind {
     pub const ALTER_INDEX: SyntaxKind = SyntaxKind(944);
 
     pub const DEPENDS_ON: SyntaxKind = SyntaxKind(945);
+
+    // Constraints.
+    pub const ENFORCED: SyntaxKind = SyntaxKind(1059);
+
+    pub const NOT_ENFORCED: SyntaxKind = SyntaxKind(1060);
 }
