@@ -1,5 +1,5 @@
 -- That an error that is told is recorded.
-use Rattle.std.specs.Prelude.{◌≡◌, ℕ, ◌+◌, ◌≤◌, Option, Some, None, List, [], ◌∷◌, ◌++◌}
+use Rattle.std.specs.Prelude.{◌≡◌, ℕ, ◌+◌, ◌≤◌, false, Option, Some, None, IsSome, List, [], ◌∷◌, ◌++◌}
 use Rattle.std.proofs.Common.{arith, ap, ◌∙◌, refl}
 use Rattle.squawk_output.specs.Draft.{Close, Mark, Node, errors_of}
 use Rattle.squawk_output.specs.Edits.{filled}
@@ -8,10 +8,12 @@ use Rattle.squawk_output.specs.declared.log.Made.TheVariants.{ByPrecede}
 use Rattle.squawk_output.proofs.EditedErrors.{errors-append, errors-filled, errors-preceded}
 use Rattle.squawk_parser.specs.Recorded.{Completes, Precedes, Puts}
 use Rattle.squawk_parser.specs.SomeSteps.{AddsSome, HasAdded, open_markers_for}
-use Rattle.squawk_parser.specs.State.{State}
+use Rattle.squawk_parser.specs.State.{State, IsSound}
 use Rattle.squawk_parser.proofs.RecordedSteps.{Keeps-then, went}
+use Rattle.squawk_parser.proofs.SomeSteps.{none_some}
 use Rattle.squawk_parser.proofs.StepsInOrder.{RecordsSteps-puts}
 use Rattle.rule_grammar.specs.Derivations.{Counts, weight}
+use Rattle.rule_grammar.specs.Errors.{is_new_after}
 
 pub counts_then : {a b c : State} {t u v : Option ℕ} → Counts t u a b → Counts u v b c → Counts t v a c
 counts_then {a} {b} {c} {t} {u} {v} p q = record {
@@ -85,3 +87,13 @@ untold (Some place) le = absurd (omega arith)
 -- after an error was told, steps that are added only add errors
 pub counts_known : {a b : State} {i j : ℕ} → AddsSome a b → Counts (Some i) (Some j) a b
 counts_known {a} {b} {i} p = let more = counts_added {t = Some i} p.some in record { keeps = more.keeps; errors = more.errors }
+
+-- where an error was told shortly before, none is told
+pub counts_near : {a : State} {t : Option ℕ} {i : ℕ} → IsSound a → is_new_after t i ≡ false → Counts t (Some i) a a
+counts_near {t = None} sound near = absurd (cc)
+counts_near {a = a} {t = Some last} sound near = counts_known (none_some a sound)
+
+-- the place of an error that was told is another one
+pub counts_moved : {a b : State} {t u : Option ℕ} {i : ℕ} → Counts t u a b → IsSome u → Counts t (Some i) a b
+counts_moved {u = None} p some = absurd (cc)
+counts_moved {u = Some j} p some = record { keeps = p.keeps; errors = p.errors }

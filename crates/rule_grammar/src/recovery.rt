@@ -21,12 +21,12 @@ pub(crate) fn missing(rule: &Open<'_>, row: u16, told: &mut Told, p: &mut Parser
     ensures tells { IsSome told.new.place }
     ensures counts { Counts told.old.place told.new.place p.old p.new }
 {
-    if told.is_new(p.position()) {
-        tell(rule, row, p);
-        // A second error at the place after it is dropped.
+    if told.has_error_at(p.position()) {
+        skip_inside(rule, row, p);
         told.move_to(p.position());
     } else {
-        skip_inside(rule, row, p);
+        tell(rule, row, told, p);
+        // A second error at the place after it is dropped.
         told.move_to(p.position());
     }
 }
@@ -177,9 +177,7 @@ fn forgotten(rule: &Open<'_>, row: u16, separator: SyntaxKind, told: &mut Told, 
         SyntaxKind::COMMA => "expected a comma",
         _ => rule.table.message(row),
     };
-    if told.is_new(p.position()) {
-        p.error(message);
-    }
+    told.error(message, p);
 }
 
 /// Eats the token at the position if it has this kind.
@@ -211,8 +209,8 @@ pub(crate) fn associate(fits: bool, told: &mut Told, p: &mut Parser<'_>)
     ensures told { IfClean told.old.place told.new.place ((fits ≡ true) × (p.new.position ≡ p.old.position)) }
     ensures counts { Counts told.old.place told.new.place p.old p.new }
 {
-    if !fits && told.is_new(p.position()) {
-        p.error("this operator doesn't associate: use parentheses");
+    if !fits {
+        told.error("this operator doesn't associate: use parentheses", p);
     }
 }
 
@@ -228,8 +226,8 @@ pub(crate) fn expect_kind(rule: &Open<'_>, row: u16, end: u16, told: &mut Told, 
         start: row + 1,
         end,
     };
-    if !rule.table.names(named, told.ended()) && told.is_new(p.position()) {
-        p.error(rule.table.message(row));
+    if !rule.table.names(named, told.ended()) {
+        told.error(rule.table.message(row), p);
     }
 }
 

@@ -116,20 +116,9 @@ fn error_to_end(told: &mut Told, p: &mut Parser<'_>)
     ensures counts { Counts told.old.place told.new.place p.old p.new }
 {
     let node = p.start();
-    unexpected(told, p);
+    told.error("unexpected token", p);
     bump_all(p);
     node.complete(p, SyntaxKind::ERROR);
-}
-
-fn unexpected(told: &mut Told, p: &mut Parser<'_>)
-    requires { IsSound p.old }
-    ensures adds { AddsSome p.old p.new }
-    ensures tells { IsSome told.new.place }
-    ensures counts { Counts told.old.place told.new.place p.old p.new }
-{
-    if told.is_new(p.position()) {
-        p.error("unexpected token");
-    }
 }
 
 fn bump_all(p: &mut Parser<'_>)

@@ -1,5 +1,5 @@
 //! Tokens that are skipped after an error.
-ghost use Rattle.std.specs.Prelude.{None, Some, ℕ};
+ghost use Rattle.std.specs.Prelude.{IsSome};
 ghost use Rattle.rule_grammar.specs.Derivations.{Counts};
 ghost use Rattle.squawk_parser.specs.SomeSteps.{AddsSome};
 ghost use Rattle.squawk_parser.specs.State.{IsSound};
@@ -7,21 +7,23 @@ ghost use Rattle.squawk_parser.specs.State.{IsSound};
 use crate::guard::unclosed_after;
 use crate::open::Open;
 use crate::part::Part;
+use crate::told::Told;
 use squawk_parser::{Parser, SyntaxKind};
 
 /// Tells that what is in a row is missing. Tokens at which no open rule goes on are skipped, into a node of kind ERROR.
-pub(crate) fn tell(rule: &Open<'_>, row: u16, p: &mut Parser<'_>)
+pub(crate) fn tell(rule: &Open<'_>, row: u16, told: &mut Told, p: &mut Parser<'_>)
     requires { IsSound p.old }
     ensures adds { AddsSome p.old p.new }
-    ensures counts { (place : ℕ) → Counts None (Some place) p.old p.new }
+    ensures tells { IsSome told.new.place }
+    ensures counts { Counts told.old.place told.new.place p.old p.new }
 {
     let inside = before_match(rule, row, p);
     if inside > 0 {
-        skip_some(rule, row, inside, p);
+        skip_some(rule, row, inside, told, p);
     } else if goes_on(rule, row, p) {
-        p.error(rule.table.message(row));
+        told.error(rule.table.message(row), p);
     } else {
-        skip_unexpected(rule, row, p);
+        skip_unexpected(rule, row, told, p);
     }
 }
 
@@ -68,12 +70,13 @@ pub(crate) fn skip_inside(rule: &Open<'_>, row: u16, p: &mut Parser<'_>)
 }
 
 /// An error, and so many tokens.
-fn skip_some(rule: &Open<'_>, row: u16, count: usize, p: &mut Parser<'_>)
+fn skip_some(rule: &Open<'_>, row: u16, count: usize, told: &mut Told, p: &mut Parser<'_>)
     ensures adds { AddsSome p.old p.new }
-    ensures counts { (place : ℕ) → Counts None (Some place) p.old p.new }
+    ensures tells { IsSome told.new.place }
+    ensures counts { Counts told.old.place told.new.place p.old p.new }
 {
     let node = p.start();
-    p.error(rule.table.message(row));
+    told.error(rule.table.message(row), p);
     bump_some(count, p);
     node.complete(p, SyntaxKind::ERROR);
 }
@@ -111,12 +114,13 @@ pub(crate) fn resumes(rule: &Open<'_>, row: u16, p: &Parser<'_>) -> bool {
 }
 
 /// An error, and the tokens at which no open rule goes on.
-fn skip_unexpected(rule: &Open<'_>, row: u16, p: &mut Parser<'_>)
+fn skip_unexpected(rule: &Open<'_>, row: u16, told: &mut Told, p: &mut Parser<'_>)
     ensures adds { AddsSome p.old p.new }
-    ensures counts { (place : ℕ) → Counts None (Some place) p.old p.new }
+    ensures tells { IsSome told.new.place }
+    ensures counts { Counts told.old.place told.new.place p.old p.new }
 {
     let node = p.start();
-    p.error(rule.table.message(row));
+    told.error(rule.table.message(row), p);
     bump_to(rule, row, p);
     node.complete(p, SyntaxKind::ERROR);
 }

@@ -1,10 +1,17 @@
 //! What a run keeps.
-ghost use Rattle.std.specs.Prelude.{◌≡◌, ◌≢◌, IsTrue, None, Some, false};
+ghost use Rattle.std.specs.Prelude.{◌≡◌, ◌≢◌, None, Some, true};
 ghost use Rattle.squawk_kinds.specs.Kinds.{TOMBSTONE};
+ghost use Rattle.squawk_parser.specs.SomeSteps.{AddsSome};
+ghost use Rattle.squawk_parser.specs.State.{IsSound};
+ghost use Rattle.rule_grammar.specs.Derivations.{Counts};
+ghost use Rattle.rule_grammar.specs.Errors.{is_new_after};
 
 use crate::guard::{Guard, Guarded};
 use crate::table::Table;
 use squawk_parser::{Parser, SyntaxKind};
+
+/// How many tokens after an error no other one is told.
+const QUIET: usize = 3;
 
 /// What a run keeps: the place of its last error, the last place whose token was judged, the kind of the innermost node
 /// so far, that of the node that ended last, and what is known of a guard.
@@ -52,18 +59,31 @@ impl Told {
         self.symbol
     }
 
-    /// Whether a place has no error yet. From now on it has one.
-    pub(crate) fn is_new(&mut self, place: usize) -> bool
-        ensures place { self.new.place ≡ Some place }
-        ensures first { self.old.place ≡ None → IsTrue result }
-        ensures second { result ≡ false → self.old.place ≡ Some place }
+    /// Tells an error at the position, unless one stands there or shortly before it.
+    pub(crate) fn error(&mut self, message: &str, p: &mut Parser<'_>)
+        requires sound { IsSound p.old }
+        ensures place { self.new.place ≡ Some p.old.position }
+        ensures adds { AddsSome p.old p.new }
+        ensures counts { Counts self.old.place self.new.place p.old p.new }
     {
-        if self.place == Some(place) {
-            return false;
+        if self.is_new(p.position()) {
+            p.error(message);
         }
+    }
+
+    /// Whether an error at a place is told: as yacc's parsers do, none is until [`QUIET`] tokens stand between it and the
+    /// last one. From now on the place has one.
+    fn is_new(&mut self, place: usize) -> bool
+        ensures place { self.new.place ≡ Some place }
+        ensures is { result ≡ is_new_after self.old.place place }
+    {
+        let is_new = match self.place {
+            Some(last) => place.saturating_sub(last) > QUIET,
+            None => true,
+        };
+        self.has_skipped = self.has_skipped && self.place == Some(place);
         self.place = Some(place);
-        self.has_skipped = false;
-        true
+        is_new
     }
 
     /// Notes that a place has an error: up to it tokens were skipped, if it is another than before.
@@ -86,7 +106,9 @@ impl Told {
     }
 
     /// Whether an error was told at a place.
-    pub(crate) fn has_error_at(&self, place: usize) -> bool {
+    pub(crate) fn has_error_at(&self, place: usize) -> bool
+        ensures { result ≡ true → self.now.place ≡ Some place }
+    {
         self.place == Some(place)
     }
 

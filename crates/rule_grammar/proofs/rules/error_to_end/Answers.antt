@@ -4,4 +4,4 @@ use Rattle.rule_grammar.proofs.rules.error_to_end.Goals as goal
 pub returns-clause-counts : goal.returns-clause-counts
 returns-clause-counts c =
     counts_then (counts_added c.start-node.ensures.opens.some)
-    (counts_then c.unexpected.ensures.counts (counts_then (counts_some c.bump_all.ensures.adds) (counts_completed c.complete.ensures.completes)))
+    (counts_then c.error.ensures.counts (counts_then (counts_some c.bump_all.ensures.adds) (counts_completed c.complete.ensures.completes)))

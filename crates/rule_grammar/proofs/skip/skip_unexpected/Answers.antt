@@ -1,8 +1,7 @@
-use Rattle.std.proofs.Common.{arith}
-use Rattle.rule_grammar.proofs.Counted.{counts_then, counts_some, counts_added, counts_completed, counts_told}
+use Rattle.rule_grammar.proofs.Counted.{counts_then, counts_some, counts_added, counts_completed}
 use Rattle.rule_grammar.proofs.skip.skip_unexpected.Goals as goal
 
 pub returns-clause-counts : goal.returns-clause-counts
-returns-clause-counts c = λ place.
+returns-clause-counts c =
     counts_then (counts_added c.start-node.ensures.opens.some)
-    (counts_then (counts_told c.error.ensures.puts (omega arith)) (counts_then (counts_some c.bump_to.ensures) (counts_completed c.complete.ensures.completes)))
+    (counts_then c.error.ensures.counts (counts_then (counts_some c.bump_to.ensures) (counts_completed c.complete.ensures.completes)))
