@@ -23,4 +23,5 @@ pub mod Shares
 pub mod Beside
 pub mod Limited
 pub mod Opened
+pub mod Operands
 pub mod Refused

@@ -1,5 +1,5 @@
 -- The row that each part is.
-use Rattle.std.specs.Prelude.{◌≡◌, ℕ, ◌+◌, ◌-◌, ◌<◌, ◌≤◌, ◌||◌, ◌==◌, nat_lt, Bool, true, Option, Some, None, List, [], ◌∷◌, length, position, slice_get, take, option_map, unwrap_or, IfSome, if◌then◌else◌}
+use Rattle.std.specs.Prelude.{◌≡◌, ℕ, zero, suc, ◌+◌, ◌-◌, ◌<◌, ◌≤◌, ◌||◌, ◌==◌, nat_lt, Bool, true, false, Option, Some, None, List, [], ◌∷◌, length, position, slice_get, take, option_map, unwrap_or, IfSome, if◌then◌else◌}
 use Rattle.std.specs.Option.{option_and_then, option_or}
 use Rattle.rule_parts.specs.declared.Part.{Part}
 use Rattle.rule_parts.specs.declared.Part.TheVariants as part
@@ -101,10 +101,24 @@ abbrev pub guard_row : List Part → Option Part → row.Part
 guard_row parts (Some (part.Guard own first next)) = guard_of (class_number parts first.text.now) (class_number parts next.text.now)
 guard_row parts part = Nothing
 
--- the greatest level of an operator after one of this level
+-- the greatest level of an operator after one of this level that stands between two operands
 abbrev pub ceiling : Association → ℕ → ℕ
 ceiling Neither level = level - 1
 ceiling association level = level
+
+abbrev pub is_operand : Option Part → Bool
+is_operand (Some (part.Operand floor)) = true
+is_operand part = false
+
+-- whether an operand is among n parts from part i on
+abbrev pub has_operand : List Part → ℕ → ℕ → Bool
+has_operand parts i zero = false
+has_operand parts i (suc n) = is_operand (slice_get parts i) || has_operand parts (i + 1) n
+
+-- The greatest level of an operator after one of this level, with so many parts from part i on: any, where no operand is
+-- among them, so that nothing on its right could be the left operand.
+abbrev pub ceiling_after : List Part → ℕ → ℕ → Association → ℕ → ℕ
+ceiling_after parts i size association level = if has_operand parts i size then ceiling association level else 65535
 
 -- a row, if a name stands for one
 abbrev pub or_nothing : Option row.Part → row.Part
@@ -137,7 +151,7 @@ row_of v parts operators i (part.Optional size greedy) = Optional (end_of i size
 row_of v parts operators i (part.Repeat size greedy) = Repeat (end_of i size)
 row_of v parts operators i (part.Some size greedy) = Once (end_of i size)
 row_of v parts operators i (part.Operators size) = Operators (end_of i size)
-row_of v parts operators i (part.Tail level association size) = Tail (end_of i size) level (ceiling association level)
+row_of v parts operators i (part.Tail level association size) = Tail (end_of i size) level (ceiling_after parts (i + 1) size association level)
 row_of v parts operators i (part.Operand floor) = Operand operators floor
 
 -- The row of part i. A member of a class is nothing.
@@ -164,7 +178,7 @@ tail_tag level top = if top == level then 17 else if nat_lt top level then 18 el
 
 -- whether the numbers of a row can say all of it
 abbrev pub is_exact : row.Part → Bool
-is_exact (Tail end level top) = (top == level) || (top == level - 1)
+is_exact (Tail end level top) = (top == level) || (top == level - 1) || (top == 65535)
 is_exact part = true
 
 -- what the rows of a table say: these parts

@@ -1,7 +1,7 @@
 //! Rows: parts, with what the names in them stand for.
-ghost use Rattle.std.specs.Prelude.{◌≡◌, ◌≤◌, All, IfOk, IsTrue, Some, length, slice_get};
+ghost use Rattle.std.specs.Prelude.{◌≡◌, ◌+◌, ◌≤◌, All, IfOk, IsTrue, Some, length, slice_get};
 ghost use Rattle.rule_grammar.specs.declared.part.Part.TheVariants.{Tail};
-ghost use Rattle.rule_tables.specs.Rows.{AreRows, AreSmall, ceiling, end_of, is_exact, level_of, row_by, row_of, size_of};
+ghost use Rattle.rule_tables.specs.Rows.{AreRows, AreSmall, ceiling_after, end_of, has_operand, is_exact, is_operand, level_of, row_by, row_of, size_of};
 
 use crate::definitions::Definitions;
 use crate::named::{becomes, call, class, guard, list, token};
@@ -94,7 +94,11 @@ fn row_of<N: Names>(
         Part::Repeat { .. } => Row::Repeat { end },
         Part::Some { .. } => Row::Some { end },
         Part::Operators { .. } => Row::Operators { end },
-        Part::Tail { association, .. } => tail(end, level, association),
+        Part::Tail {
+            association,
+            size,
+            ..
+        } => tail(definitions.parts, index, *size, level, association),
         Part::Operand { .. } => Row::Operand {
             operators: operators as u16,
             floor: level,
@@ -135,17 +139,43 @@ pub(crate) fn end_of(index: usize, size: usize) -> u16
     (index + 1 + size) as u16
 }
 
-fn tail(end: u16, level: u16, association: &Association) -> Row
-    ensures is { result ≡ Tail end level (ceiling association.now level) }
+/// An operator of this level, with so many parts after its own.
+fn tail(parts: &[Part<'_>], index: usize, size: usize, level: u16, association: &Association) -> Row
+    requires { end_of index size ≤ 65000 }
+    ensures is { result ≡ Tail (end_of index size) level (ceiling_after parts.now (index + 1) size association.now level) }
     ensures exact { IsTrue (is_exact result) }
 {
     let ceiling = match association {
+        _ if !has_operand(parts, index + 1, size) => u16::MAX,
         Association::Neither => level.saturating_sub(1),
         _ => level,
     };
     Row::Tail {
-        end,
+        end: end_of(index, size),
         level,
         ceiling,
     }
+}
+
+/// Whether an operand is among so many parts from this one on.
+fn has_operand(parts: &[Part<'_>], first: usize, count: usize) -> bool
+    requires { first + count ≤ 65000 }
+    ensures { result ≡ has_operand parts.now first count }
+{
+    let mut index = first;
+    let mut left = count;
+    while left > 0 {
+        if is_operand_at(parts, index) {
+            return true;
+        }
+        index += 1;
+        left -= 1;
+    }
+    false
+}
+
+fn is_operand_at(parts: &[Part<'_>], index: usize) -> bool
+    ensures { result ≡ is_operand (slice_get parts.now index) }
+{
+    matches!(parts.get(index), Some(Part::Operand { .. }))
 }

@@ -125,7 +125,7 @@ expression \"an expression\"
 ";
 
 /// Texts, and what is in their files.
-static CASES: [(&str, &str); 36] = [
+static CASES: [(&str, &str); 39] = [
     // A forgotten comma.
     (
         "select a b from t",
@@ -133,7 +133,15 @@ static CASES: [(&str, &str); 36] = [
     ),
     (
         "select a b c from t",
-        "SELECT{select TARGET{REF{a}!expected a comma!} TARGET{REF{b}!expected a comma!} TARGET{REF{c}} FROM{from TABLE{NAME{t}}}}",
+        "SELECT{select TARGET{REF{a}!expected a comma!} TARGET{REF{b}} TARGET{REF{c}} FROM{from TABLE{NAME{t}}}}",
+    ),
+    (
+        "select a b, c d from t",
+        "SELECT{select TARGET{REF{a}!expected a comma!} TARGET{REF{b}}, TARGET{REF{c}} TARGET{REF{d}} FROM{from TABLE{NAME{t}}}}",
+    ),
+    (
+        "select a b, c + d e from t",
+        "SELECT{select TARGET{REF{a}!expected a comma!} TARGET{REF{b}}, TARGET{SUM{REF{c} + REF{d}}!expected a comma!} TARGET{REF{e}} FROM{from TABLE{NAME{t}}}}",
     ),
     (
         "select f(a b) from t",
@@ -234,6 +242,11 @@ static CASES: [(&str, &str); 36] = [
     (
         "select a from t where b is 3",
         "SELECT{select TARGET{REF{a}} FROM{from TABLE{NAME{t}}} WHERE{where COMPARE{REF{b} is ERROR{!expected NOT or NULL!3}}}}",
+    ),
+    // An operator after one that has no operand on its right.
+    (
+        "select a from t where b is null = c",
+        "SELECT{select TARGET{REF{a}} FROM{from TABLE{NAME{t}}} WHERE{where COMPARE{COMPARE{REF{b} is null} = REF{c}}}}",
     ),
     // Parentheses.
     (

@@ -114,7 +114,7 @@ static ITEM_CASES: [(&str, &str); 10] = [
     ("(a=b)", "LIST{(a=!expected a pair!ERROR{b})}"),
     ("(a 1)", "LIST{(a!expected =! 1)}"),
     // What can begin an item is one, also without a separator before it.
-    ("(a=1 b)", "LIST{(a=1!expected ; or )! b!expected =!)}"),
+    ("(a=1 b)", "LIST{(a=1!expected ; or )! b)}"),
     // No rule goes on at a comma.
     ("a,b", "NAME{a}ERROR{!expected an item!,}NAME{b}"),
 ];

@@ -59,6 +59,31 @@ fn keywords_are_in_the_class_of_their_category(rt: HostRuntime) -> Result<(), Fa
     Ok(())
 }
 
+/// Contextual words, counted from 88 in the order of the table; keywords and other words are none.
+const CONTEXTUAL: [(&str, u16); 7] = [
+    ("absent", 88),
+    ("JSON_TABLE", 107),
+    ("superuser", 131),
+    ("Virtual", 134),
+    ("value", 0),
+    ("json_tables", 0),
+    ("", 0),
+];
+
+#[test]
+fn contextual_words_are_no_keywords(rt: HostRuntime) -> Result<(), Fail> {
+    let keywords = vocabulary(rt.alloc())?;
+    for (word, kind) in CONTEXTUAL {
+        let found = keywords.from_contextual_keyword(word);
+        assert_eq!(rt; found.map_or(0, |kind| kind.0), kind, "{word}");
+        assert!(rt;
+            kind == 0 || keywords.from_keyword(word).is_none(),
+            "{word}"
+        );
+    }
+    Ok(())
+}
+
 #[test]
 fn kinds_are_called_as_their_constants(rt: HostRuntime) -> Result<(), Fail> {
     let names = names(rt.alloc())?;

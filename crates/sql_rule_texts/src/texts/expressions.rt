@@ -1,7 +1,7 @@
 //! Expressions, calls and XML.
 
 pub(crate) const EXPRESSIONS: &str = r#"
--- Expressions. SIMILAR without TO stands in SUBSTRING.
+-- Expressions. SIMILAR without TO stands in SUBSTRING. PostgreSQL 17: AT LOCAL.
 
 expression "an expression" = primary | special | DEFAULT => DEFAULT_EXPR
     left  _ OR _ => BIN_EXPR
@@ -35,7 +35,9 @@ plain_expression "an expression" = primary | special
 
 other_sign "an operator" = CUSTOM_OP | OPERATOR '(' called_operator ')'
 any_sign "an operator" = sign | OPERATOR '(' called_operator ')'
+-- PostgreSQL 16: JSON.
 test "NULL, TRUE, FALSE, UNKNOWN or DISTINCT FROM" = NULL | TRUE | FALSE | UNKNOWN | DOCUMENT | normal_form? NORMALIZED
+    | Json (VALUE | ARRAY | OBJECT)?+ ((WITH | WITHOUT) UNIQUE Keys?+)?+
 normal_form "a normal form" = NFC | NFD | NFKC | NFKD
 some_of "an expression" = (ANY | SOME | ALL) (@begins_query '(' query ')' | '(' expression ')') => SOME_OF
 in_list "a list of values" = (@begins_query '(' query ')' => SUBQUERY | '(' {expression} ')' => ROW_VALUES)
@@ -43,14 +45,14 @@ in_list "a list of values" = (@begins_query '(' query ')' => SUBQUERY | '(' {exp
 -- What stands between operators: operands, with fields, elements, arguments and strings after them.
 primary "an expression" = operand
     left  _ ~(NAME_REF | FIELD_EXPR | INDEX_EXPR | SLICE_EXPR | PAREN_EXPR | SUBQUERY | PARAM_REF) '.' (label_ref | '*') => FIELD_EXPR
-        | _ ~(NAME_REF | FIELD_EXPR | INDEX_EXPR | SLICE_EXPR | PAREN_EXPR | SUBQUERY | PARAM_REF) '[' (':' expression? => SLICE_EXPR / expression (':' expression? => SLICE_EXPR | => INDEX_EXPR)) ']'
+        | _ ~(NAME_REF | FIELD_EXPR | INDEX_EXPR | SLICE_EXPR | PAREN_EXPR | SUBQUERY | PARAM_REF) '[' (':' expression? => SLICE_EXPR / expression => INDEX_EXPR (':' expression? => SLICE_EXPR)?) ']'
         | _ ~(NAME_REF | FIELD_EXPR) arg_list call_tail => CALL_EXPR
-        | _ ~(NAME_REF | FIELD_EXPR | CALL_EXPR) string => CAST_EXPR
+        | _ ~(NAME_REF | FIELD_EXPR | CALL_EXPR) constant_string => CAST_EXPR
 
 -- A keyword that is no function is a name where nothing else fits.
 operand "an expression" = paren
     / Constant => LITERAL
-    / string
+    / constant_string
     / POSITIONAL_PARAM => PARAM_REF
     / variable
     / CASE expression? when+ else? END => CASE_EXPR
@@ -58,23 +60,25 @@ operand "an expression" = paren
     / interval_literal
     / typed_literal
     / keyword_call
-    / function_word (arg_list call_tail => CALL_EXPR | string => CAST_EXPR)
+    / &(JsonWord '(') json_call
+    / function_word (arg_list call_tail => CALL_EXPR | constant_string => CAST_EXPR)
     / CurrentValue => CALL_EXPR
-    / OperandName => NAME_REF
+    / OperandName escape? => NAME_REF
 
 paren "an expression" = (@begins_query '(' query ')' => SUBQUERY
     | '(' expression (')' => PAREN_EXPR | ',' {expression} ')' => ROW_EXPR))
 when "WHEN" = WHEN expression THEN expression => WHEN_CLAUSE
 else = ELSE expression => ELSE_CLAUSE
 array_items = '[' ({array_items} | {expression})? ']' => ARRAY_ITEMS
-interval_literal = INTERVAL (string interval_fields?+ | '(' INT_NUMBER ')' string) => CAST_EXPR
-typed_literal = literal_type string => CAST_EXPR
+interval_literal = INTERVAL (constant_string interval_fields?+ | precision constant_string) => CAST_EXPR
+typed_literal = literal_type constant_string => CAST_EXPR
 literal_type "a type" = DOUBLE PRECISION => TYPE | (BIT | CHARACTER | CHAR | NCHAR) VARYING literal_size? => TYPE
     | NATIONAL (CHARACTER | CHAR) VARYING? literal_size? => TYPE | (TIME | TIMESTAMP) literal_size? (WITH | WITHOUT) TIME ZONE => TYPE
-literal_size = '(' INT_NUMBER ')' => TYPE_ARGS
+literal_size = '(' integer ')' => TYPE_ARGS
 
 -- Calls.
-arg_list "arguments" = '(' ('*' | (ALL | DISTINCT)? {arg} (',' VARIADIC arg)? order_by? | VARIADIC arg order_by?)? ')' => ARG_LIST
+arg_list "arguments" = '(' ('*' | (ALL | DISTINCT)? {argument} order_by?)? ')' => ARG_LIST
+argument "an argument" = VARIADIC? arg
 arg "an argument" = expression
     none  _ ~NAME_REF (':=' | '=>') _ => NAMED_ARG
 call_tail = within_group?+ filter?+ over?+
@@ -102,7 +106,33 @@ special_call "a function call" = TREAT '(' expression AS type ')' => CALL_EXPR
     | (COALESCE | GREATEST | LEAST) '(' {expression} ')' => CALL_EXPR
     | xml_call
 
--- XML.
+-- JSON. PostgreSQL 16: JSON_ARRAY, JSON_OBJECT and their aggregates; 17: the others.
+json_call "a function call" = JsonWord (@begins_query '(' query json_returning? ')' | json_arguments) call_tail => CALL_EXPR
+json_arguments "arguments" = '(' ({json_item} | json_returning)? ')' => ARG_LIST
+json_item "an argument" = json_value json_clause*
+json_value "an argument" = arg
+    none _ (VALUE | ':') expression => JSON_KEY_VALUE
+json_returning = RETURNING type => JSON_RETURNING_CLAUSE
+json_clause "a clause" = &(Format Json) json_format
+    / &(Absent ON) Absent ON NULL => JSON_NULL_CLAUSE
+    / &(NULL ON NULL) NULL ON NULL => JSON_NULL_CLAUSE
+    / &(KeepOmit Quotes) KeepOmit Quotes (ON Scalar String)? => JSON_QUOTES_CLAUSE
+    / (WITH | WITHOUT) UNIQUE Keys?+ => JSON_KEYS_UNIQUE_CLAUSE
+    / (WITHOUT | WITH Conditional?) ARRAY? WRAPPER => JSON_WRAPPER_BEHAVIOR_CLAUSE
+    / PASSING {json_passed} => JSON_PASSING_CLAUSE
+    / json_returning
+    / order_by
+    / (EmptyError (ARRAY | OBJECT)? | NULL | TRUE | FALSE | UNKNOWN | DEFAULT expression) ON EmptyError => JSON_BEHAVIOR_CLAUSE
+json_format = Format Json (ENCODING IDENT)? => JSON_FORMAT_CLAUSE
+json_passed "a value" = expression json_format? AS label => JSON_PASSING_ARG
+json_table = JsonTable '(' json_item ',' expression (AS name)? json_clause* json_columns json_clause* ')' alias?+ => TABLE_FUNCTION
+json_columns "COLUMNS" = COLUMNS '(' {json_column} ')' => JSON_TABLE_COLUMN_LIST
+json_column "a column" = &(Nested Path) Nested Path constant_string (AS name)? json_columns => JSON_TABLE_COLUMN
+    / &(Nested Quoted) Nested constant_string (AS name)? json_columns => JSON_TABLE_COLUMN
+    / new_column (FOR ORDINALITY | type EXISTS? json_column_clause*) => JSON_TABLE_COLUMN
+json_column_clause "a clause" = &(Path Quoted) Path constant_string / json_clause
+
+-- XML. PostgreSQL 16: INDENT.
 xml_call = XMLCONCAT '(' {expression} ')' => CALL_EXPR
     | XMLELEMENT '(' NAME label (',' (xml_attributes (',' {expression})? / {expression}))? ')' => CALL_EXPR
     | XMLEXISTS '(' passed xml_passing ')' => CALL_EXPR
@@ -110,13 +140,13 @@ xml_call = XMLCONCAT '(' {expression} ')' => CALL_EXPR
     | XMLPARSE '(' (DOCUMENT | CONTENT) expression ((PRESERVE | STRIP) WHITESPACE)? ')' => CALL_EXPR
     | XMLPI '(' NAME label (',' expression)? ')' => CALL_EXPR
     | XMLROOT '(' expression ',' VERSION (NO VALUE / expression) (',' STANDALONE (YES | NO VALUE?))? ')' => CALL_EXPR
-    | XMLSERIALIZE '(' (DOCUMENT | CONTENT) expression AS simple_type ')' => CALL_EXPR
+    | XMLSERIALIZE '(' (DOCUMENT | CONTENT) expression AS simple_type (NO? Indent)? ')' => CALL_EXPR
 xml_attributes = XMLATTRIBUTES '(' {xml_attribute} ')' => XML_ATTRIBUTES
-xml_attribute = expression (AS label)? => XML_ATTRIBUTE
+xml_attribute "an expression" = expression (AS label)? => XML_ATTRIBUTE
 xml_passing = PASSING xml_mechanism?+ passed xml_mechanism?+ => XML_PASSING
 passed "an expression" = primary | special
 xml_mechanism = BY (REF | VALUE)
 xml_table = XMLTABLE '(' (XMLNAMESPACES '(' {xml_namespace} ')' ',')?+ passed xml_passing COLUMNS {xml_column} ')'
-xml_namespace = plain_expression AS label => XML_NAMESPACE | DEFAULT plain_expression => XML_NAMESPACE
+xml_namespace "a namespace" = plain_expression AS label => XML_NAMESPACE | DEFAULT plain_expression => XML_NAMESPACE
 xml_column "a column" = new_column (FOR ORDINALITY | type (IDENT plain_expression | DEFAULT plain_expression | NOT NULL | NULL)*) => XML_COLUMN
 "#;

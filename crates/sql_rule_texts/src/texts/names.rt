@@ -3,15 +3,18 @@
 pub(crate) const NAMES: &str = r#"
 -- Names, and the small words of many statements.
 
-name "a name" = Name => NAME
-name_ref "a name" = Name => NAME_REF
-label "a name" = Label => NAME
-label_ref "a name" = Label => NAME_REF
+name "a name" = Name escape? => NAME | variable_name
+name_ref "a name" = Name escape? => NAME_REF | variable_name
+label "a name" = Label escape? => NAME | variable_name
+label_ref "a name" = Label escape? => NAME_REF | variable_name
+-- After a name as U&"...".
+escape = UESCAPE STRING
 type_ref "a name" = TypeName => NAME_REF
 function_word "a name" = FunctionWord => NAME_REF
 
--- A variable of psql, where it stands for a value.
+-- A variable of psql, where it stands for a value, and for a name.
 variable "a variable" = ':' (Label | STRING) => PARAM_REF
+variable_name "a name" = ':' Label => PARAM_REF
 
 -- The name of what is there, and of what is made.
 path "a name" = name_ref ('.' label_ref)* => PATH
@@ -22,19 +25,19 @@ new_function "a function name" = new_type => PATH | schema_ref '.' (middle_ref '
 function_ref "a function name" = TypeName => NAME_REF
 new_type "a name" = TypeName => NAME
 -- Names that a dot follows: by themselves, so that the dot decides.
-schema_ref "a name" = Name => NAME_REF
-middle_ref "a name" = Label => NAME_REF
+schema_ref "a name" = Name => NAME_REF | variable_name
+middle_ref "a name" = Label => NAME_REF | variable_name
 
 names "a name" = {name_ref}
 columns "column names" = '(' {column_ref} ')' => COLUMN_LIST
-column_ref "a column name" = Name => NAME_REF
+column_ref "a column name" = Name => NAME_REF | variable_name
 new_columns "column names" = '(' {listed_column} ')' => COLUMN_LIST
 listed_column "a column name" = Name => NAME
 new_column "a column name" = Name => NAME
 
-role "a role" = (RoleName | CURRENT_ROLE | CURRENT_USER | SESSION_USER) => ROLE_REF
+role "a role" = (RoleName | CURRENT_ROLE | CURRENT_USER | SESSION_USER) => ROLE_REF | variable_name
 roles "a role" = {role}
-new_role "a role" = RoleName => NAME
+new_role "a role" = RoleName => NAME | variable_name
 
 operator "an operator" = (schema_ref '.')* sign => OP
 called_operator "an operator" = (schema_ref '.')* called_sign => OP
@@ -42,13 +45,14 @@ called_sign "an operator" = '+' | '-' | '*' | '/' | '%' | '^' | '<' | '>' | '=' 
 sign "an operator" = '+' | '-' | '*' | '/' | '%' | '^' | '<' | '>' | '=' | '<=' | '>=' | '<>' | '!=' | CUSTOM_OP
 
 -- Quoted strings that continue one another are one.
-string "a string" = DOLLAR_QUOTED_STRING => LITERAL | quoted_string
+string "a string" = constant_string | variable
+constant_string "a string" = DOLLAR_QUOTED_STRING => LITERAL | quoted_string
 quoted_string "a string" = (STRING | ESC_STRING | UNICODE_ESC_STRING) => LITERAL
     left _ STRING => LITERAL | _ UESCAPE STRING => LITERAL
 integer "an integer" = INT_NUMBER => LITERAL
 signed_integer "an integer" = ('+' | '-')? INT_NUMBER => LITERAL
 number "a number" = ('+' | '-')? (INT_NUMBER | NUMERIC_NUMBER) => LITERAL
-word_or_string "a name or a string" = OptionName => NAME_REF | string | variable
+word_or_string "a name or a string" = OptionName => NAME_REF | string
 word "a value" = OptionName | TRUE | FALSE | ON
 
 behavior = CASCADE | RESTRICT

@@ -4,7 +4,7 @@ pub(crate) const OBJECTS: &str = r#"
 -- Types, schemas, extensions and what else is made with a name.
 
 create_schema = CREATE SCHEMA (IF NOT EXISTS)? (AUTHORIZATION role | name (AUTHORIZATION role)?) schema_element* => CREATE_SCHEMA
-schema_element = create_table | create_index | create_sequence | create_trigger | create_constraint_trigger | grant | create_view
+schema_element "a statement" = create_table | create_index | create_sequence | create_trigger | create_constraint_trigger | grant | create_view
 alter_schema = ALTER SCHEMA name_ref (rename | owner_to) => ALTER_SCHEMA
 
 create_type = CREATE TYPE new_path (definition | AS ('(' {attribute}? ')' | ENUM '(' {string}? ')' | RANGE definition))? => CREATE_TYPE
@@ -47,7 +47,7 @@ create_publication = CREATE PUBLICATION name (FOR (ALL TABLES | {publication_ite
 publication_item "a table" = TABLE published_table => PUBLICATION_ITEM
     / TABLES IN SCHEMA (CURRENT_SCHEMA / name_ref) => PUBLICATION_ITEM
     / (CURRENT_SCHEMA / published_table) => PUBLICATION_ITEM
-published_table = relation columns? (WHERE '(' expression ')')?
+published_table "a table name" = relation columns? (WHERE '(' expression ')')?
 alter_publication = ALTER PUBLICATION name_ref (SET definition | (ADD | SET | DROP) {publication_item} | rename | owner_to) => ALTER_PUBLICATION
 create_subscription = CREATE SUBSCRIPTION name CONNECTION string PUBLICATION names (WITH definition)? => CREATE_SUBSCRIPTION
 alter_subscription = ALTER SUBSCRIPTION name_ref (SET definition | CONNECTION string | REFRESH PUBLICATION (WITH definition)?

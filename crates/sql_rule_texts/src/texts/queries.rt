@@ -17,11 +17,11 @@ select "SELECT" = SELECT (ALL? targets?+ | DISTINCT distinct_on? targets) into? 
 distinct_on = ON '(' {expression} ')' => DISTINCT_ON
 targets = {target} => TARGET_LIST
 target "an expression" = expression target_label? => TARGET | '*' => TARGET
-target_label = AS label | bare_label
-bare_label = BareLabel => NAME
+target_label "an alias" = AS label | bare_label
+bare_label "an alias" = BareLabel => NAME
 into = INTO (TEMPORARY | TEMP | (LOCAL | GLOBAL) (TEMPORARY | TEMP) | UNLOGGED)?+ TABLE? into_path => INTO_CLAUSE
 into_path "a table name" = into_name => PATH | schema_ref '.' (middle_ref '.')* label => PATH
-into_name "a table name" = Name => NAME
+into_name "a table name" = Name => NAME | variable_name
 from_clause = FROM {from_item} => FROM_CLAUSE
 where = WHERE expression => WHERE_CLAUSE
 group_by = GROUP BY (ALL | DISTINCT)? {group_item} => GROUP_BY_CLAUSE
@@ -29,7 +29,7 @@ group_item "an expression" = '(' ')' => EMPTY_GROUP / (CUBE | ROLLUP) '(' {expre
     / GROUPING SETS '(' {group_item} ')' => GROUPING_SETS / expression
 having = HAVING expression => HAVING_CLAUSE
 windows = WINDOW {window} => WINDOW_CLAUSE
-window = name AS window_spec => WINDOW_DEF
+window "a window" = name AS window_spec => WINDOW_DEF
 window_spec "a window" = '(' window_ref?+ partition? order_by? frame? ')' => WINDOW_SPEC
 window_ref "a window" = WindowName => NAME_REF
 partition = PARTITION BY {expression} => PARTITION_BY
@@ -39,7 +39,9 @@ order_by = ORDER BY {sort_item} => ORDER_BY_CLAUSE
 sort_item "an expression" = expression (USING any_sign | ASC | DESC)? nulls_order? => SORT_ITEM
 nulls_order = NULLS (FIRST | LAST)
 
-limit = LIMIT (ALL | expression) => LIMIT_CLAUSE | FETCH (FIRST | NEXT) fetch_count?+ (ROW | ROWS) (ONLY | WITH TIES) => FETCH_CLAUSE
+limit = LIMIT (ALL | expression) => LIMIT_CLAUSE | FETCH (FIRST | NEXT) (fetch_end / fetch_count fetch_end) => FETCH_CLAUSE
+-- ROWS is a count only where ROW or ROWS stands after it.
+fetch_end "ROW or ROWS" = (ROW | ROWS) (ONLY | WITH TIES)
 offset = OFFSET expression (ROW | ROWS)?+ => OFFSET_CLAUSE
 fetch_count "a number of rows" = ('+' | '-') (INT_NUMBER | NUMERIC_NUMBER) => LITERAL | primary
 locking_clauses = locking_clause locking_clause*+ | FOR READ ONLY => LOCKING_CLAUSE
@@ -54,30 +56,31 @@ search = SEARCH (DEPTH | BREADTH) FIRST BY names SET new_column => SEARCH_CLAUSE
 cycle = CYCLE names SET new_column (TO constant DEFAULT constant)? USING new_column => CYCLE_CLAUSE
 constant "a constant" = primary ~(LITERAL | CAST_EXPR)
 
--- Tables of FROM, and joins of them.
+-- Tables of FROM, and joins of them. PostgreSQL 16: queries without an alias; 17: JSON_TABLE.
 from_item "a table" = from_table
     left _ (CROSS JOIN from_table | NATURAL join_type? JOIN from_table | join_type? JOIN from_item join_condition) => JOIN_EXPR
 join_type = (FULL | LEFT | RIGHT) OUTER? | INNER
 join_condition "ON or USING" = USING columns (AS name)?+ => JOIN_USING | ON expression => JOIN_ON
 from_table "a table" = paren_table
     / LATERAL ('(' query ')' alias?+ => FROM_SUBQUERY | lateral_function => LATERAL_FUNCTION)
+    / &(JsonTable '(') json_table
     / ONLY (table | '(' table ')') alias?+ sample?+ => FROM_TABLE
     / keyword_function
     / special_table '*'?+ alias?+ sample?+ => FROM_TABLE
     / from_path (arg_list ordinality?+ function_alias?+ => TABLE_FUNCTION | '*'?+ alias?+ sample?+ => FROM_TABLE)
 paren_table "a table" = (@begins_query '(' query ')' alias?+ => FROM_SUBQUERY
     | '(' from_item ~(JOIN_EXPR | PAREN_JOIN) ')' alias?+ => PAREN_JOIN)
-lateral_function = keyword_function / from_path arg_list ordinality?+ function_alias?+ => TABLE_FUNCTION
+lateral_function "a function call" = &(JsonTable '(') json_table / keyword_function / from_path arg_list ordinality?+ function_alias?+ => TABLE_FUNCTION
 special_table "a table name" = table_word ('.' label_ref)* => PATH
 table_word "a table name" = SpecialWord => NAME_REF
 from_path "a table name" = from_ref ('.' label_ref)* => PATH
-from_ref "a table name" = FromName => NAME_REF
+from_ref "a table name" = FromName => NAME_REF | variable_name
 keyword_function = xml_table alias?+ => TABLE_FUNCTION
     / ROWS FROM '(' {rows_from} ')' ordinality?+ function_alias?+ => TABLE_FUNCTION
     / (special_call | keyword_call) ordinality?+ function_alias?+ => TABLE_FUNCTION
     / function_word arg_list ordinality?+ function_alias?+ => TABLE_FUNCTION
     / CurrentValue ordinality?+ function_alias?+ => TABLE_FUNCTION
-rows_from = function_call (AS '(' {function_column} ')')? => TABLE_FUNCTION
+rows_from "a function call" = function_call (AS '(' {function_column} ')')? => TABLE_FUNCTION
 function_call "a function call" = special_call / keyword_call / CurrentValue => CALL_EXPR / function_path arg_list => CALL_EXPR
 ordinality = WITH ORDINALITY
 alias "an alias" = AS? name new_columns?+ => ALIAS
@@ -86,7 +89,7 @@ function_column "a column" = new_column type collate? => COLUMN_DEF
 sample = TABLESAMPLE function_path '(' {expression} ')' (REPEATABLE '(' expression ')')?+ => TABLESAMPLE_CLAUSE
 relation "a table name" = (ONLY (table | '(' table ')') | table '*'?+) => RELATION
 target_table "a table name" = relation (AS name | not_set)?+ => TARGET_TABLE
-not_set = NotSet => NAME
+not_set "an alias" = NotSet => NAME
 
 -- INSERT, UPDATE, DELETE and MERGE.
 insert_body = INSERT INTO table (AS name)? (DEFAULT VALUES | insert_columns?+ overriding? query) on_conflict? returning?
@@ -109,6 +112,6 @@ using_clause = USING {from_item} => USING_CLAUSE
 merge_body = MERGE INTO target_table USING from_item ON expression merge_when+ returning?
 -- PostgreSQL 17: BY SOURCE, BY TARGET and RETURNING.
 merge_when = WHEN (MATCHED (AND expression)? THEN (UPDATE set_clause | DELETE | DO NOTHING)
-    | NOT MATCHED (BY IDENT)? (AND expression)? THEN (merge_insert | UPDATE set_clause | DELETE | DO NOTHING)) => MERGE_WHEN
+    | NOT MATCHED (BY SourceTarget)? (AND expression)? THEN (merge_insert | UPDATE set_clause | DELETE | DO NOTHING)) => MERGE_WHEN
 merge_insert = INSERT (DEFAULT VALUES | insert_columns? overriding? VALUES row_values) => MERGE_INSERT
 "#;

@@ -5,8 +5,8 @@ pub(crate) const ROLES: &str = r#"
 
 create_role = CREATE (ROLE | USER | GROUP) new_role WITH? role_option* => CREATE_ROLE
 role_option "a role option" = (PASSWORD (string | NULL) | (ENCRYPTED | UNENCRYPTED) PASSWORD string | INHERIT | CONNECTION LIMIT signed_integer
-    | VALID UNTIL string | USER roles | SYSID integer | ADMIN roles | ROLE roles | IN (ROLE | GROUP) roles | IDENT) => ROLE_OPTION
-alter_role = ALTER (ROLE | USER) (role (role_settings | RENAME TO new_role | WITH? role_option+)? | ALL role_settings) => ALTER_ROLE
+    | VALID UNTIL string | USER roles | SYSID integer | ADMIN roles | ROLE roles | IN (ROLE | GROUP) roles | RoleWord) => ROLE_OPTION
+alter_role = ALTER (ROLE | USER) (role (role_settings | RENAME TO new_role | WITH? role_option*) | ALL role_settings) => ALTER_ROLE
     | ALTER GROUP role ((ADD | DROP) USER roles | RENAME TO new_role) => ALTER_ROLE
 role_settings = (IN DATABASE name_ref)? (SET set_rest | RESET reset_what)
 
@@ -33,15 +33,16 @@ grant_target "an object" = FOREIGN (DATA WRAPPER | SERVER) names => GRANT_TARGET
     | TABLE {path} => GRANT_TARGET
     | {granted_table} => GRANT_TARGET
 granted_table "a table name" = granted_ref ('.' label_ref)* => PATH
-granted_ref "a table name" = Name => NAME_REF
+granted_ref "a table name" = Name => NAME_REF | variable_name
 grantee "a role" = GROUP? role
 alter_default_privileges = ALTER DEFAULT PRIVILEGES default_scope* (GRANT (all_privileges | privileges) ON default_target TO {grantee} (WITH GRANT OPTION)?
     | REVOKE (GRANT OPTION FOR)?+ (all_privileges | privileges) ON default_target FROM {grantee} behavior?) => ALTER_DEFAULT_PRIVILEGES
 default_scope = IN SCHEMA names | FOR (ROLE | USER) roles
 -- PostgreSQL 18: LARGE OBJECTS.
-default_target "TABLES, SEQUENCES, FUNCTIONS, TYPES or SCHEMAS" = LARGE IDENT | TABLES | FUNCTIONS | ROUTINES | SEQUENCES | TYPES | SCHEMAS
+default_target "TABLES, SEQUENCES, FUNCTIONS, TYPES or SCHEMAS" = LARGE Objects | TABLES | FUNCTIONS | ROUTINES | SEQUENCES | TYPES | SCHEMAS
 
-drop "an object" = DROP (relation_kind (IF EXISTS)?+ {path} behavior?
+drop = DROP => DROP (OWNED BY roles behavior? => DROP_OWNED / dropped)
+dropped "an object" = relation_kind (IF EXISTS)?+ {path} behavior?
     / INDEX CONCURRENTLY (IF EXISTS)?+ {path} behavior?
     / named_kind (IF EXISTS)?+ names behavior?
     / (DOMAIN | TYPE) (IF EXISTS)?+ {type} behavior?
@@ -56,27 +57,27 @@ drop "an object" = DROP (relation_kind (IF EXISTS)?+ {path} behavior?
     / TABLESPACE (IF EXISTS)?+ name_ref
     / SUBSCRIPTION (IF EXISTS)?+ name_ref behavior?
     / USER MAPPING (IF EXISTS)?+ FOR mapped_user SERVER name_ref
-    / (ROLE | USER | GROUP) (IF EXISTS)?+ roles) => DROP
+    / (ROLE | USER | GROUP) (IF EXISTS)?+ roles
 relation_kind "an object" = TABLE | SEQUENCE | VIEW | MATERIALIZED VIEW | INDEX | FOREIGN TABLE | COLLATION | CONVERSION | STATISTICS
     | TEXT SEARCH (PARSER | DICTIONARY | TEMPLATE | CONFIGURATION)
 named_kind "an object" = ACCESS METHOD | EVENT TRIGGER | EXTENSION | FOREIGN DATA WRAPPER | PROCEDURAL? LANGUAGE | PUBLICATION | SCHEMA | SERVER
-drop_owned = DROP OWNED BY roles behavior? => DROP_OWNED
 reassign = REASSIGN OWNED BY roles TO role => REASSIGN
 
 comment = COMMENT ON described IS (string | NULL) => COMMENT_ON
 described "an object" = (CONSTRAINT name_ref ON (DOMAIN path / described_path) | (POLICY | RULE | TRIGGER) name_ref ON path) => OBJECT | object
 described_path "a name" = described_ref ('.' label_ref)* => PATH
 described_ref "a name" = Name => NAME_REF
-security_label = SECURITY LABEL (FOR word_or_string)? ON object IS (string | NULL) => SECURITY_LABEL
-object "an object" = relation_kind path => OBJECT / named_kind name_ref => OBJECT
+security_label = SECURITY LABEL (FOR word_or_string)? ON labelled IS (string | NULL) => SECURITY_LABEL
+object "an object" = OPERATOR (CLASS | FAMILY) path USING name_ref => OBJECT
+    / OPERATOR operator_signature => OBJECT
+    / CAST '(' type AS type ')' => OBJECT
+    / TRANSFORM FOR type LANGUAGE name_ref => OBJECT
+    / labelled
+labelled "an object" = relation_kind path => OBJECT / named_kind name_ref => OBJECT
     / (DATABASE | ROLE | SUBSCRIPTION | TABLESPACE) name_ref => OBJECT
     / COLUMN path => OBJECT
     / (DOMAIN | TYPE) type => OBJECT
     / (FUNCTION | PROCEDURE | ROUTINE) signature => OBJECT
     / AGGREGATE aggregate_signature => OBJECT
-    / OPERATOR (CLASS | FAMILY) path USING name_ref => OBJECT
-    / OPERATOR operator_signature => OBJECT
-    / CAST '(' type AS type ')' => OBJECT
-    / TRANSFORM FOR type LANGUAGE name_ref => OBJECT
     / LARGE OBJECT number => OBJECT
 "#;

@@ -12,9 +12,9 @@ new_setting "a parameter" = new_ref ('.' setting_ref)* => PATH
 new_ref "a parameter" = Name => NAME_REF
 setting "a parameter" = setting_ref ('.' setting_ref)* => PATH
 setting_ref "a parameter" = Name => NAME_REF
-set_value "a value" = word => NAME_REF | string | number | variable
+set_value "a value" = word => NAME_REF | string | number
 zone "a time zone" = string | IDENT => NAME_REF | number | DEFAULT | LOCAL | interval_literal
-transaction_modes = transaction_mode (','? transaction_mode)*
+transaction_modes "a transaction mode" = transaction_mode (','? transaction_mode)*
 transaction_mode "a transaction mode" = ISOLATION LEVEL (READ (UNCOMMITTED | COMMITTED) | REPEATABLE READ | SERIALIZABLE) => TRANSACTION_MODE
     | READ (ONLY | WRITE) => TRANSACTION_MODE | NOT? DEFERRABLE => TRANSACTION_MODE
 set_constraints = SET CONSTRAINTS (ALL | {table}) (DEFERRED | IMMEDIATE) => SET_CONSTRAINTS
@@ -26,7 +26,8 @@ alter_system = ALTER SYSTEM (SET setting (TO | '=') ({set_value} / DEFAULT) | RE
 begin = BEGIN (WORK | TRANSACTION)? transaction_modes? => BEGIN | START TRANSACTION transaction_modes? => BEGIN
 commit = COMMIT (WORK | TRANSACTION)? chain? => COMMIT | COMMIT PREPARED string => COMMIT_PREPARED
 end = END (WORK | TRANSACTION)? chain? => COMMIT
-rollback = ROLLBACK PREPARED string => ROLLBACK_PREPARED | (ROLLBACK | ABORT) (WORK | TRANSACTION)? (chain | TO SAVEPOINT?+ savepoint_ref)? => ROLLBACK
+rollback = ROLLBACK PREPARED string => ROLLBACK_PREPARED | ROLLBACK (WORK | TRANSACTION)? (chain | TO SAVEPOINT?+ savepoint_ref)? => ROLLBACK
+    | ABORT (WORK | TRANSACTION)? chain? => ROLLBACK
 chain = AND NO? CHAIN
 savepoint = SAVEPOINT name => SAVEPOINT
 savepoint_ref "a savepoint" = Name => NAME_REF
@@ -38,7 +39,7 @@ fetch = FETCH cursor_move => FETCH
 move = MOVE cursor_move => MOVE
 cursor_move "a cursor" = cursor / cursor_steps (FROM | IN)?+ cursor / (FROM | IN) cursor
 cursor "a cursor" = Name => NAME_REF
-cursor_steps = NEXT | PRIOR | FIRST | LAST | ALL | (ABSOLUTE | RELATIVE) signed_integer | (FORWARD | BACKWARD) (signed_integer | ALL)? | signed_integer
+cursor_steps "a direction" = NEXT | PRIOR | FIRST | LAST | ALL | (ABSOLUTE | RELATIVE) signed_integer | (FORWARD | BACKWARD) (signed_integer | ALL)? | signed_integer
 close = CLOSE (ALL | name_ref) => CLOSE
 prepare = PREPARE name ('(' {type} ')')? AS row_statement => PREPARE
 execute = EXECUTE name_ref ('(' {expression} ')')? => EXECUTE
@@ -60,16 +61,17 @@ copy_tail = (USING? DELIMITERS string)? WITH? copy_options
 copy_file "a file" = PROGRAM string | string | STDIN | STDOUT
 copy_options = '(' {copy_option} ')' => OPTION_LIST | old_copy_option*
 copy_option "an option" = label_ref (word | string | number | '*' | '(' {word_or_boolean} ')')? => OPTION
-word_or_boolean = word => NAME_REF | string
+word_or_boolean "a value" = word => NAME_REF | string
 old_copy_option "an option" = (BINARY | FREEZE | DELIMITER AS? string | NULL AS? string | CSV | HEADER | QUOTE AS? string | ESCAPE AS? string
     | FORCE (QUOTE ('*' | names) | NOT NULL names | NULL names) | ENCODING string) => OPTION
 
-explain = EXPLAIN (ANALYZE VERBOSE? | ANALYSE VERBOSE? | VERBOSE)? explained => EXPLAIN / EXPLAIN utility_options explained => EXPLAIN
+explain = EXPLAIN utility_options explained => EXPLAIN / EXPLAIN (ANALYZE VERBOSE? | ANALYSE VERBOSE? | VERBOSE)? explained => EXPLAIN
 explained "a statement" = row_statement | declare | create_table_as | create_materialized_view | refresh | execute
 utility_options "options" = '(' {utility_option} ')' => OPTION_LIST
-utility_option "an option" = (OptionName | ANALYZE | ANALYSE) (word | string | number)? => OPTION
+utility_option "an option" = utility_name (word | string | number)? => OPTION
+utility_name "an option" = UtilityName => NAME_REF
 vacuum = VACUUM (utility_options | FULL?+ FREEZE?+ VERBOSE?+ (ANALYZE | ANALYSE)?) {vacuum_table}? => VACUUM
 -- PostgreSQL 18: ONLY.
-vacuum_table = relation columns?
+vacuum_table "a table name" = relation columns?
 analyze = (ANALYZE | ANALYSE) (utility_options | VERBOSE?+) {vacuum_table}? => ANALYZE
 "#;

@@ -19,9 +19,13 @@ statement "a statement" = row_statement
     | alter_domain | alter_collation | alter_text_search | alter_extension | alter_wrapper | alter_server
     | alter_foreign_table | alter_publication | alter_subscription | alter_tablespace
     | alter_database | (alter_user_mapping / alter_role) | alter_default_privileges | alter_system | alter_large_object
-    | drop | drop_owned | reassign | import_foreign_schema | grant | revoke | comment | security_label
+    | drop | reassign | import_foreign_schema | grant | revoke | comment | security_label
     | truncate | refresh | reindex | cluster | vacuum | analyze | lock | copy | call | do
     | (set_constraints / set) | reset | show | commit | rollback | savepoint | release | prepare_transaction
     | declare | fetch | move | close | prepare | execute | deallocate
-    | discard | checkpoint | load | listen | unlisten | notify | explain
+    | discard | checkpoint | load | listen | unlisten | notify | explain | unknown
+
+-- Where no word after CREATE or ALTER is known, an object is expected. PostgreSQL has no assertions.
+unknown = (CREATE | ALTER) unknown_object => STATEMENT
+unknown_object "an object" = ASSERTION
 "#;

@@ -9,7 +9,7 @@ create_table = CREATE (TEMPORARY | TEMP | (LOCAL | GLOBAL) (TEMPORARY | TEMP) | 
     / PARTITION OF table typed_elements? partition_bound partition_by? storage => CREATE_TABLE
     / table_as_body => CREATE_TABLE_AS)
 create_table_as = CREATE (TEMPORARY | TEMP | (LOCAL | GLOBAL) (TEMPORARY | TEMP) | UNLOGGED)? TABLE (IF NOT EXISTS)? new_path table_as_body => CREATE_TABLE_AS
-table_as_body = new_columns? storage AS (execute | query) with_data?+
+table_as_body "AS" = new_columns? storage AS (execute | query) with_data?+
 storage = access_method? (WITH options | WITHOUT OIDS)? on_commit? tablespace?
 access_method = USING name_ref => ACCESS_METHOD
 on_commit = ON COMMIT (DROP | DELETE ROWS | PRESERVE ROWS) => ON_COMMIT
@@ -20,7 +20,7 @@ partition_by = PARTITION BY Name '(' {partition_item} ')' => PARTITION_BY
 partition_item "a column or an expression" = index_key collate? (class_ref ('.' label_ref)*)? => PARTITION_ITEM
 partition_bound "FOR VALUES or DEFAULT" = FOR VALUES (WITH '(' {hash_bound} ')' | IN '(' {expression} ')'
     | FROM '(' {expression} ')' TO '(' {expression} ')') => PARTITION_BOUND | DEFAULT => PARTITION_BOUND
-hash_bound = OptionName INT_NUMBER
+hash_bound "MODULUS or REMAINDER" = OptionName integer
 
 -- Columns and constraints.
 table_element "a column or a constraint" = column | like_clause | table_constraint
@@ -35,37 +35,42 @@ like_clause = LIKE table like_option* => LIKE_CLAUSE
 like_option = (INCLUDING | EXCLUDING) (COMMENTS | COMPRESSION | CONSTRAINTS | DEFAULTS | IDENTITY | GENERATED | INDEXES | STATISTICS | STORAGE | ALL) => LIKE_OPTION
 constraint_name = CONSTRAINT name => CONSTRAINT_NAME
 
-column_constraint "a column constraint" = constraint_name? (NOT NULL (NO INHERIT)? => NOT_NULL_CONSTRAINT
+-- PostgreSQL 18: NOT NULL NO INHERIT, VIRTUAL in place of STORED, or nothing, and ENFORCED.
+column_constraint "a column constraint" = constraint_name? (NOT NULL no_inherit? => NOT_NULL_CONSTRAINT
         | NULL => NULL_CONSTRAINT
         | UNIQUE nulls_distinct? index_parameters => UNIQUE_CONSTRAINT
         | PRIMARY KEY index_parameters => PRIMARY_KEY_CONSTRAINT
-        | CHECK '(' expression ')' (NO INHERIT)? => CHECK_CONSTRAINT
+        | CHECK '(' expression ')' no_inherit? => CHECK_CONSTRAINT
         | DEFAULT plain_expression => DEFAULT_CONSTRAINT
-        | GENERATED (ALWAYS AS (identity => IDENTITY_CONSTRAINT | '(' expression ')' STORED => GENERATED_CONSTRAINT)
+        | GENERATED (ALWAYS AS (identity => IDENTITY_CONSTRAINT | '(' expression ')' (STORED | Virtual)? => GENERATED_CONSTRAINT)
             | BY DEFAULT AS identity => IDENTITY_CONSTRAINT)
         | references => REFERENCES_CONSTRAINT)
-    | constraint_time | collate
+    | constraint_time | enforced | collate
 constraint_time "a constraint" = DEFERRABLE => DEFERRABLE | NOT DEFERRABLE => NOT_DEFERRABLE | INITIALLY (DEFERRED => INITIALLY_DEFERRED | IMMEDIATE => INITIALLY_IMMEDIATE)
 identity = IDENTITY ('(' sequence_option+ ')')?
 nulls_distinct = NULLS NOT? DISTINCT
 index_parameters = (WITH definition)? (USING INDEX TABLESPACE name_ref)?
-references "REFERENCES" = REFERENCES table columns? (MATCH (FULL | SIMPLE | PARTIAL))? (on_update on_delete? | on_delete on_update?)?
+references "REFERENCES" = REFERENCES table period_columns? (MATCH (FULL | SIMPLE | PARTIAL))? (on_update on_delete? | on_delete on_update?)?
 on_update = ON UPDATE key_action => ON_UPDATE
 on_delete = ON DELETE key_action columns? => ON_DELETE
 key_action "an action" = NO ACTION | RESTRICT | CASCADE | SET (NULL | DEFAULT)
 
--- PostgreSQL 18: NOT NULL, and WITHOUT OVERLAPS.
+-- PostgreSQL 18: NOT NULL, ENFORCED, WITHOUT OVERLAPS and PERIOD.
 table_constraint "a constraint" = constraint_name? (NOT NULL column_ref constraint_flag* => NOT_NULL_CONSTRAINT
         | CHECK '(' expression ')' constraint_flag* => CHECK_CONSTRAINT
         | UNIQUE (USING INDEX name_ref | nulls_distinct? key_columns) constraint_flag* => UNIQUE_CONSTRAINT
         | PRIMARY KEY (USING INDEX name_ref | key_columns) constraint_flag* => PRIMARY_KEY_CONSTRAINT
         | EXCLUDE (USING name_ref)? '(' {exclude_item} ')' include_columns? index_parameters (WHERE '(' expression ')')? constraint_flag* => EXCLUDE_CONSTRAINT
-        | FOREIGN KEY columns references constraint_flag* => FOREIGN_KEY_CONSTRAINT)
-constraint_flag = constraint_time | NOT VALID => NOT_VALID | NO INHERIT => NO_INHERIT
+        | FOREIGN KEY period_columns references constraint_flag* => FOREIGN_KEY_CONSTRAINT)
+constraint_flag "a constraint" = constraint_time | enforced | NOT VALID => NOT_VALID | no_inherit
+no_inherit = NO INHERIT => NO_INHERIT
+enforced = Enforced => ENFORCED | NOT Enforced => NOT_ENFORCED
+period_columns "column names" = '(' {period_column} ')' => COLUMN_LIST
+period_column "a column name" = &(Period Name) Period column_ref / column_ref
 key_columns = key_list include_columns? index_parameters
 key_list "column names" = '(' {column_ref} (WITHOUT OVERLAPS)? ')' => COLUMN_LIST
 include_columns = INCLUDE columns => INCLUDE_CLAUSE
-exclude_item = index_item WITH any_operator => EXCLUDE_ITEM
+exclude_item "a column or an expression" = index_item WITH any_operator => EXCLUDE_ITEM
 any_operator "an operator" = operator | OPERATOR '(' called_operator ')'
 collate = COLLATE path => COLLATE_CLAUSE
 
@@ -74,14 +79,15 @@ options "options" = '(' {option} ')' => OPTION_LIST
 option "an option" = label_ref ('.' label_ref)? ('=' option_value)? => OPTION
 definition "options" = '(' {definition_item} ')' => OPTION_LIST
 definition_item "an option" = label_ref ('=' option_value)? => OPTION
-option_value "a value" = number / string / NONE / OPERATOR '(' called_operator ')' / result_type / operator / Reserved
+option_value "a value" = number / string / NONE / OPERATOR '(' called_operator ')' / result_type / plain_operator / Reserved
+plain_operator "an operator" = sign => OP
 foreign_options = OPTIONS '(' {foreign_option} ')' => FOREIGN_OPTIONS
 foreign_option "an option" = label_ref string => OPTION
 alter_options = OPTIONS '(' {alter_option} ')' => FOREIGN_OPTIONS
 alter_option "an option" = (ADD | SET) label_ref string => OPTION | DROP label_ref => OPTION | option_name string => OPTION
 option_name "an option" = Label => NAME_REF
 
--- ALTER TABLE.
+-- ALTER TABLE. PostgreSQL 17: DEFAULT as an access method and in SET STATISTICS; 18: INHERIT in ALTER CONSTRAINT.
 alter_table = ALTER TABLE (IF EXISTS)?+ relation (alter_relation | rename_constraint | attach | detach) => ALTER_TABLE
 alter_relation "an action" = {table_action} | rename | rename_column | set_schema
 rename = RENAME TO name => RENAME_TO
@@ -96,7 +102,7 @@ table_action "an action" = ADD COLUMN (IF NOT EXISTS)? column => ADD_COLUMN
     / ADD table_constraint => ADD_CONSTRAINT
     / ADD column => ADD_COLUMN
     / ALTER CONSTRAINT name_ref (constraint_flag | INHERIT)* => ALTER_CONSTRAINT
-    / ALTER COLUMN? (name_ref column_action | INT_NUMBER set_statistics) => ALTER_COLUMN
+    / ALTER COLUMN? (name_ref column_action | integer set_statistics) => ALTER_COLUMN
     / VALIDATE CONSTRAINT name_ref => VALIDATE_CONSTRAINT
     / DROP CONSTRAINT (IF EXISTS)?+ name_ref behavior? => DROP_CONSTRAINT
     / DROP COLUMN (IF EXISTS)?+ name_ref behavior? => DROP_COLUMN
@@ -131,7 +137,7 @@ column_action "a column action" = SET DEFAULT expression => SET_DEFAULT
     | (SET DATA)? TYPE type collate? (USING expression)? => SET_TYPE
     | alter_options
 set_statistics = SET STATISTICS (signed_integer | DEFAULT) => SET_STATISTICS
-identity_option = RESTART (WITH? number)? => SEQUENCE_OPTION | SET (sequence_option | GENERATED (ALWAYS | BY DEFAULT)) => SEQUENCE_OPTION
+identity_option = RESTART (WITH? number)? => SEQUENCE_OPTION | SET (sequence_setting | GENERATED (ALWAYS | BY DEFAULT)) => SEQUENCE_OPTION
 alter_all = ALTER (TABLE | INDEX | MATERIALIZED VIEW) ALL IN TABLESPACE name_ref (OWNED BY roles)? SET tablespace NOWAIT? => ALTER_ALL
 truncate = TRUNCATE TABLE? {relation} ((CONTINUE | RESTART) IDENTITY)? behavior? => TRUNCATE
 "#;

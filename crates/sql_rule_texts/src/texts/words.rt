@@ -21,6 +21,7 @@ class NotSet = IDENT unreserved col_name -SET => IDENT
 -- A role, an option, a label after AS, and one without AS.
 class RoleName = IDENT unreserved col_name type_func_name -NONE => IDENT
 class OptionName = IDENT unreserved col_name type_func_name => IDENT
+class UtilityName = IDENT unreserved col_name type_func_name ANALYZE ANALYSE => IDENT
 class AfterExpression = NULLS FILTER OVER WITHIN ESCAPE UESCAPE YEAR MONTH DAY HOUR MINUTE SECOND PRECISION VARYING
 class Label = IDENT keyword => IDENT
 class NeedsAs = ARRAY AS CHAR CHARACTER CREATE DAY ESCAPE EXCEPT FETCH FILTER FOR FROM GRANT GROUP HAVING HOUR INTERSECT INTO
@@ -35,6 +36,33 @@ class Reserved = reserved
 class Constant = INT_NUMBER NUMERIC_NUMBER NATIONAL_STRING BIT_STRING BYTE_STRING TRUE FALSE NULL
 class CurrentValue = CURRENT_DATE CURRENT_ROLE CURRENT_USER SESSION_USER USER CURRENT_CATALOG
 class CurrentTime = CURRENT_TIME CURRENT_TIMESTAMP LOCALTIME LOCALTIMESTAMP
+
+-- Words that are names elsewhere.
+words RoleWord = bypassrls createdb createrole login nobypassrls nocreatedb nocreaterole noinherit nologin noreplication
+    nosuperuser replication superuser
+words PolicyKind = permissive restrictive
+words Objects = objects
+words SourceTarget = source target
+words Enforced = enforced
+words Period = period
+words Virtual = virtual
+words Indent = indent
+words JsonWord = json json_array json_arrayagg json_exists json_object json_objectagg json_query json_scalar json_serialize
+    json_value
+words JsonTable = json_table
+words Json = json
+words Absent = absent
+words Conditional = conditional unconditional
+words EmptyError = empty error
+words Format = format
+words KeepOmit = keep omit
+words Keys = keys
+words Nested = nested
+words Path = path
+words Quotes = quotes
+words Scalar = scalar
+words String = string
+class Quoted = STRING ESC_STRING UNICODE_ESC_STRING DOLLAR_QUOTED_STRING
 
 -- A query in parentheses: what it begins with, and what may stand after those inside.
 class QueryFirst = SELECT WITH TABLE VALUES

@@ -9,6 +9,7 @@ mod errors;
 mod expressions;
 mod foreign;
 mod functions;
+mod json;
 mod maintenance;
 mod objects;
 mod psql;

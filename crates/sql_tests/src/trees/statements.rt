@@ -67,7 +67,7 @@ static CASES: [(&str, &str); 17] = [
     ),
     (
         "explain (analyze, format json) delete from t",
-        "EXPLAIN{explain OPTION_LIST{(OPTION{analyze}, OPTION{format json})} DELETE{delete from TARGET_TABLE{RELATION{PATH{NAME_REF{t}}}}}}",
+        "EXPLAIN{explain OPTION_LIST{(OPTION{NAME_REF{analyze}}, OPTION{NAME_REF{format} json})} DELETE{delete from TARGET_TABLE{RELATION{PATH{NAME_REF{t}}}}}}",
     ),
     (
         "begin read only; set local a.b to 1, off; end",

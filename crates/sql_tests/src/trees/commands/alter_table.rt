@@ -95,7 +95,7 @@ static COLUMNS: [(&str, &str); 30] = [
     ),
     (
         "alter table book alter column id set generated always set increment by 5 restart with 10",
-        "ALTER_TABLE{alter table RELATION{PATH{NAME_REF{book}}} ALTER_COLUMN{alter column NAME_REF{id} ALTER_IDENTITY{SEQUENCE_OPTION{set generated always} SEQUENCE_OPTION{set SEQUENCE_OPTION{increment by LITERAL{5}}} SEQUENCE_OPTION{restart with LITERAL{10}}}}}",
+        "ALTER_TABLE{alter table RELATION{PATH{NAME_REF{book}}} ALTER_COLUMN{alter column NAME_REF{id} ALTER_IDENTITY{SEQUENCE_OPTION{set generated always} SEQUENCE_OPTION{set increment by LITERAL{5}} SEQUENCE_OPTION{restart with LITERAL{10}}}}}",
     ),
     (
         "alter table book alter column id drop identity if exists",

@@ -4,7 +4,7 @@ use crate::trees::assert_trees;
 use std::test::Fail;
 
 /// Texts, and what is in their files.
-static CASES: [(&str, &str); 30] = [
+static CASES: [(&str, &str); 34] = [
     // Statements that no rule begins.
     (
         "foo bar; )",
@@ -118,6 +118,22 @@ static CASES: [(&str, &str); 30] = [
     (
         "create index on book title",
         "CREATE_INDEX{create index on RELATION{PATH{NAME_REF{book}}} ERROR{!expected USING or (!title}}",
+    ),
+    (
+        "create tabl book (id int)",
+        "STATEMENT{create ERROR{!expected an object!tabl book (id int)}}",
+    ),
+    (
+        "alter tabl book rename to work",
+        "STATEMENT{alter ERROR{!expected an object!tabl book rename to work}}",
+    ),
+    (
+        "drop tabel book",
+        "DROP{drop ERROR{!expected an object!tabel book}}",
+    ),
+    (
+        "create role clerk supper",
+        "CREATE_ROLE{create role NAME{clerk} ROLE_OPTION{ERROR{!expected a role option!supper}}}",
     ),
     (
         "copy book form stdin",

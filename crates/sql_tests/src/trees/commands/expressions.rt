@@ -4,7 +4,7 @@ use crate::trees::assert_trees;
 use std::test::Fail;
 
 /// Texts, and what is in their files.
-static CASES: [(&str, &str); 24] = [
+static CASES: [(&str, &str); 25] = [
     // Literals, parameters and types.
     (
         "select 1.5e3, e'x', b'01', x'ff', n'x', u&'x', $t$x$t$, null, false, $1",
@@ -12,11 +12,11 @@ static CASES: [(&str, &str); 24] = [
     ),
     (
         "select time with time zone '1:00', interval(3) '1', interval '1' day to second(2), char 'x', point '1,2', shop.isbn '9'",
-        "QUERY{SELECT{select TARGET_LIST{TARGET{CAST_EXPR{TYPE{time with time zone} LITERAL{'1:00'}}}, TARGET{CAST_EXPR{interval(3) LITERAL{'1'}}}, TARGET{CAST_EXPR{interval LITERAL{'1'} day to secondTYPE_ARGS{(2)}}}, TARGET{CAST_EXPR{NAME_REF{char} LITERAL{'x'}}}, TARGET{CAST_EXPR{NAME_REF{point} LITERAL{'1,2'}}}, TARGET{CAST_EXPR{FIELD_EXPR{NAME_REF{shop}.NAME_REF{isbn}} LITERAL{'9'}}}}}}",
+        "QUERY{SELECT{select TARGET_LIST{TARGET{CAST_EXPR{TYPE{time with time zone} LITERAL{'1:00'}}}, TARGET{CAST_EXPR{intervalTYPE_ARGS{(LITERAL{3})} LITERAL{'1'}}}, TARGET{CAST_EXPR{interval LITERAL{'1'} day to secondTYPE_ARGS{(LITERAL{2})}}}, TARGET{CAST_EXPR{NAME_REF{char} LITERAL{'x'}}}, TARGET{CAST_EXPR{NAME_REF{point} LITERAL{'1,2'}}}, TARGET{CAST_EXPR{FIELD_EXPR{NAME_REF{shop}.NAME_REF{isbn}} LITERAL{'9'}}}}}}",
     ),
     (
         "select cast(a as double precision), a::shop.isbn[]::bit varying(3), a::interval year to month, a::text array[3], a::time(2) without time zone, a::national character varying(8), a::float(24)",
-        "QUERY{SELECT{select TARGET_LIST{TARGET{CAST_EXPR{cast(NAME_REF{a} as TYPE{double precision})}}, TARGET{CAST_EXPR{CAST_EXPR{NAME_REF{a}COLON_COLON{::}TYPE{NAME_REF{shop}.NAME_REF{isbn}[]}}COLON_COLON{::}TYPE{bit varyingTYPE_ARGS{(LITERAL{3})}}}}, TARGET{CAST_EXPR{NAME_REF{a}COLON_COLON{::}TYPE{interval year to month}}}, TARGET{CAST_EXPR{NAME_REF{a}COLON_COLON{::}TYPE{NAME_REF{text} array[3]}}}, TARGET{CAST_EXPR{NAME_REF{a}COLON_COLON{::}TYPE{timeTYPE_ARGS{(2)} without time zone}}}, TARGET{CAST_EXPR{NAME_REF{a}COLON_COLON{::}TYPE{national character varyingTYPE_ARGS{(8)}}}}, TARGET{CAST_EXPR{NAME_REF{a}COLON_COLON{::}TYPE{floatTYPE_ARGS{(24)}}}}}}}",
+        "QUERY{SELECT{select TARGET_LIST{TARGET{CAST_EXPR{cast(NAME_REF{a} as TYPE{double precision})}}, TARGET{CAST_EXPR{CAST_EXPR{NAME_REF{a}COLON_COLON{::}TYPE{NAME_REF{shop}.NAME_REF{isbn}[]}}COLON_COLON{::}TYPE{bit varyingTYPE_ARGS{(LITERAL{3})}}}}, TARGET{CAST_EXPR{NAME_REF{a}COLON_COLON{::}TYPE{interval year to month}}}, TARGET{CAST_EXPR{NAME_REF{a}COLON_COLON{::}TYPE{NAME_REF{text} array[LITERAL{3}]}}}, TARGET{CAST_EXPR{NAME_REF{a}COLON_COLON{::}TYPE{timeTYPE_ARGS{(LITERAL{2})} without time zone}}}, TARGET{CAST_EXPR{NAME_REF{a}COLON_COLON{::}TYPE{national character varyingTYPE_ARGS{(LITERAL{8})}}}}, TARGET{CAST_EXPR{NAME_REF{a}COLON_COLON{::}TYPE{floatTYPE_ARGS{(LITERAL{24})}}}}}}}",
     ),
     // Operators.
     (
@@ -80,7 +80,7 @@ static CASES: [(&str, &str); 24] = [
     ),
     (
         "select current_date, current_timestamp(3), localtime, current_catalog, session_user, current_schema, user",
-        "QUERY{SELECT{select TARGET_LIST{TARGET{CALL_EXPR{current_date}}, TARGET{CALL_EXPR{current_timestampTYPE_ARGS{(3)}}}, TARGET{CALL_EXPR{localtime}}, TARGET{CALL_EXPR{current_catalog}}, TARGET{CALL_EXPR{session_user}}, TARGET{NAME_REF{current_schema}}, TARGET{CALL_EXPR{user}}}}}",
+        "QUERY{SELECT{select TARGET_LIST{TARGET{CALL_EXPR{current_date}}, TARGET{CALL_EXPR{current_timestampTYPE_ARGS{(LITERAL{3})}}}, TARGET{CALL_EXPR{localtime}}, TARGET{CALL_EXPR{current_catalog}}, TARGET{CALL_EXPR{session_user}}, TARGET{NAME_REF{current_schema}}, TARGET{CALL_EXPR{user}}}}}",
     ),
     (
         "select extract(year from a), grouping(a, b), normalize(a, nfkc), overlay(a placing b from 1 for 2), position(a in b)",
@@ -107,6 +107,10 @@ static CASES: [(&str, &str); 24] = [
     (
         "select * from xmltable(xmlnamespaces('http://x' as x, default 'http://y'), '/x:book' passing doc by ref columns no for ordinality, title text path '@title' not null, price numeric default 0) as b",
         "QUERY{SELECT{select TARGET_LIST{TARGET{*}} FROM_CLAUSE{from TABLE_FUNCTION{xmltable(xmlnamespaces(XML_NAMESPACE{LITERAL{'http://x'} as NAME{x}}, XML_NAMESPACE{default LITERAL{'http://y'}}), LITERAL{'/x:book'} XML_PASSING{passing NAME_REF{doc} by ref} columns XML_COLUMN{NAME{no} for ordinality}, XML_COLUMN{NAME{title} TYPE{NAME_REF{text}} path LITERAL{'@title'} not null}, XML_COLUMN{NAME{price} TYPE{numeric} default LITERAL{0}}) ALIAS{as NAME{b}}}}}}",
+    ),
+    (
+        "select a collate \"C\"::text, a isnull = b, a notnull isnull, u&\"a!0062\" uescape '!'",
+        "QUERY{SELECT{select TARGET_LIST{TARGET{CAST_EXPR{COLLATE_EXPR{NAME_REF{a} collate PATH{NAME_REF{\"C\"}}}COLON_COLON{::}TYPE{NAME_REF{text}}}}, TARGET{BIN_EXPR{IS_EXPR{NAME_REF{a} isnull} = NAME_REF{b}}}, TARGET{IS_EXPR{IS_EXPR{NAME_REF{a} notnull} isnull}}, TARGET{NAME_REF{u&\"a!0062\" uescape '!'}}}}}",
     ),
 ];
 

@@ -68,7 +68,7 @@ static CASES: [(&str, &str); 39] = [
     // The form of old versions.
     (
         "create aggregate total (basetype = int, sfunc = int4pl, stype = int)",
-        "CREATE_AGGREGATE{create aggregate PATH{NAME{total}} OPTION_LIST{(OPTION{basetype = TYPE{int}}, OPTION{sfunc = TYPE{NAME_REF{int4pl}}}, OPTION{stype = TYPE{int}})}}",
+        "CREATE_AGGREGATE{create aggregate PATH{NAME{total}} OPTION_LIST{(OPTION{NAME_REF{basetype} = TYPE{int}}, OPTION{NAME_REF{sfunc} = TYPE{NAME_REF{int4pl}}}, OPTION{NAME_REF{stype} = TYPE{int}})}}",
     ),
     (
         "alter aggregate shop.mean(numeric) rename to average",

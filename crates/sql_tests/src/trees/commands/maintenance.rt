@@ -52,7 +52,7 @@ static CASES: [(&str, &str); 41] = [
     ),
     (
         "explain (costs off, buffers, format yaml, wal true) execute by_owner('Ana')",
-        "EXPLAIN{explain OPTION_LIST{(OPTION{costs off}, OPTION{buffers}, OPTION{format yaml}, OPTION{wal true})} EXECUTE{execute NAME_REF{by_owner}(LITERAL{'Ana'})}}",
+        "EXPLAIN{explain OPTION_LIST{(OPTION{NAME_REF{costs} off}, OPTION{NAME_REF{buffers}}, OPTION{NAME_REF{format} yaml}, OPTION{NAME_REF{wal} true})} EXECUTE{execute NAME_REF{by_owner}(LITERAL{'Ana'})}}",
     ),
     (
         "explain create table copy_of as table book",
@@ -69,7 +69,7 @@ static CASES: [(&str, &str); 41] = [
     ),
     (
         "vacuum (verbose, parallel 2, index_cleanup off) shop.book, author",
-        "VACUUM{vacuum OPTION_LIST{(OPTION{verbose}, OPTION{parallel LITERAL{2}}, OPTION{index_cleanup off})} RELATION{PATH{NAME_REF{shop}.NAME_REF{book}}}, RELATION{PATH{NAME_REF{author}}}}",
+        "VACUUM{vacuum OPTION_LIST{(OPTION{NAME_REF{verbose}}, OPTION{NAME_REF{parallel} LITERAL{2}}, OPTION{NAME_REF{index_cleanup} off})} RELATION{PATH{NAME_REF{shop}.NAME_REF{book}}}, RELATION{PATH{NAME_REF{author}}}}",
     ),
     // PostgreSQL 18.
     (
@@ -83,7 +83,7 @@ static CASES: [(&str, &str); 41] = [
     ),
     (
         "analyse (verbose off, skip_locked) book",
-        "ANALYZE{analyse OPTION_LIST{(OPTION{verbose off}, OPTION{skip_locked})} RELATION{PATH{NAME_REF{book}}}}",
+        "ANALYZE{analyse OPTION_LIST{(OPTION{NAME_REF{verbose} off}, OPTION{NAME_REF{skip_locked}})} RELATION{PATH{NAME_REF{book}}}}",
     ),
     (
         "reindex index shop.book_title",
@@ -91,7 +91,7 @@ static CASES: [(&str, &str); 41] = [
     ),
     (
         "reindex (verbose, tablespace fast) table concurrently book",
-        "REINDEX{reindex OPTION_LIST{(OPTION{verbose}, OPTION{tablespace fast})} table concurrently PATH{NAME_REF{book}}}",
+        "REINDEX{reindex OPTION_LIST{(OPTION{NAME_REF{verbose}}, OPTION{NAME_REF{tablespace} fast})} table concurrently PATH{NAME_REF{book}}}",
     ),
     (
         "reindex schema shop",
@@ -110,7 +110,7 @@ static CASES: [(&str, &str); 41] = [
     ),
     (
         "cluster (verbose) shop.book",
-        "CLUSTER{cluster OPTION_LIST{(OPTION{verbose})} PATH{NAME_REF{shop}.NAME_REF{book}}}",
+        "CLUSTER{cluster OPTION_LIST{(OPTION{NAME_REF{verbose}})} PATH{NAME_REF{shop}.NAME_REF{book}}}",
     ),
     (
         "cluster book_title on book",

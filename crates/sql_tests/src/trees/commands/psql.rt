@@ -4,7 +4,7 @@ use crate::trees::assert_trees;
 use std::test::Fail;
 
 /// Texts, and what is in their files.
-static CASES: [(&str, &str); 12] = [
+static CASES: [(&str, &str); 15] = [
     // Commands.
     (
         "\\set rate 2\n\\pset format aligned",
@@ -52,6 +52,18 @@ static CASES: [(&str, &str); 12] = [
     (
         "set work_mem to :'memory'",
         "SET{set PATH{NAME_REF{work_mem}} to PARAM_REF{:'memory'}}",
+    ),
+    (
+        "select * from :schema.:\"table\"; drop table :old; create role :who;",
+        "QUERY{SELECT{select TARGET_LIST{TARGET{*}} FROM_CLAUSE{from FROM_TABLE{PATH{PARAM_REF{:schema}.PARAM_REF{:\"table\"}}}}};} DROP{drop table PATH{PARAM_REF{:old}};} CREATE_ROLE{create role PARAM_REF{:who};}",
+    ),
+    (
+        "select a[b:c] from t",
+        "QUERY{SELECT{select TARGET_LIST{TARGET{SLICE_EXPR{NAME_REF{a}[NAME_REF{b}:NAME_REF{c}]}}} FROM_CLAUSE{from FROM_TABLE{PATH{NAME_REF{t}}}}}}",
+    ),
+    (
+        "comment on table book is :'text'",
+        "COMMENT_ON{comment on OBJECT{table PATH{NAME_REF{book}}} is PARAM_REF{:'text'}}",
     ),
     ("set role :who", "SET{set role PARAM_REF{:who}}"),
 ];

@@ -39,7 +39,7 @@ static CASES: [(&str, &str); 36] = [
     ),
     (
         "alter index book_cost alter column 2 set statistics 500",
-        "ALTER_INDEX{alter index PATH{NAME_REF{book_cost}} ALTER_COLUMN{alter column 2 SET_STATISTICS{set statistics LITERAL{500}}}}",
+        "ALTER_INDEX{alter index PATH{NAME_REF{book_cost}} ALTER_COLUMN{alter column LITERAL{2} SET_STATISTICS{set statistics LITERAL{500}}}}",
     ),
     (
         "alter index all in tablespace fast set tablespace slow",
