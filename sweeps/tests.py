@@ -3,7 +3,7 @@
 
 TESTS is a test program, as `rt test` leaves it in a crate's out/. One run for each growth of each such test, in which that one is refused:
 each must pass, as these tests do with the right answer or want of memory, and, where they ask twice, with the right answer one of the two times.
-In `engine_tests` and `answer_tests` these are the tests of `memory`."""
+In `engine_tests`, `answer_tests` and `rule_tests` these are the tests of `memory`."""
 import subprocess
 import sys
 

@@ -1,5 +1,5 @@
 //! Tests of the engine, over its public surface alone, that are no cases of `corpus`: grammars and sinks in code,
-//! logs of events, sets and kinds, the bounds of iterators, and what asks for memory.
+//! trees by hand, logs of events, sets and kinds, the bounds of iterators, and what asks for memory.
 //!
 //! The values that they want were worked out by hand. Calls are written as lists and steps as lines, in the
 //! notations of `row_fixtures`.
@@ -35,3 +35,5 @@ mod sets;
 mod sinks;
 #[cfg(test)]
 mod skips;
+#[cfg(test)]
+mod trees;

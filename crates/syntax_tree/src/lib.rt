@@ -11,8 +11,6 @@ pub mod offsets;
 pub mod parse;
 pub mod preorder;
 pub mod steps;
-#[cfg(test)]
-mod tests;
 pub mod text_errors;
 mod tokens;
 pub mod tree;

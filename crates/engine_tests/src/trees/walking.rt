@@ -1,11 +1,11 @@
 //! Steps, events and errors.
 
 use super::{name, put, sum};
-use crate::WalkEvent;
-use squawk_table::StrStep;
+use squawk_parser::StrStep;
 use std::alloc::AllocError;
 use std::fmt::Write;
 use std::test::Fail;
+use syntax_tree::WalkEvent;
 
 #[test]
 fn walk_is_what_the_builder_took(rt: HostRuntime) -> Result<(), Fail> {

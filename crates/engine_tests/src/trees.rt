@@ -6,12 +6,11 @@ mod finding;
 mod kinds;
 mod walking;
 
-use crate::{SyntaxElement, SyntaxTree, TreeBuilder, TreeRefusal};
-use squawk_kinds::SyntaxKind;
-use squawk_table::StrStep;
+use squawk_parser::{StrStep, SyntaxKind};
 use std::alloc::{AllocError, Global};
 use std::fmt::Write;
 use std::test::Fail;
+use syntax_tree::{SyntaxElement, SyntaxTree, TreeBuilder, TreeRefusal};
 
 const ROOT: SyntaxKind = SyntaxKind(700);
 

@@ -1,10 +1,10 @@
 //! What a builder refuses. A tree or a text that is too large, and want of memory, aren't reached here.
 
 use super::{NAME, ROOT, take};
-use crate::TreeBuilder;
-use squawk_table::StrStep;
+use squawk_parser::StrStep;
 use std::fmt::Write;
 use std::test::Fail;
+use syntax_tree::TreeBuilder;
 
 /// Steps of which a builder over `ab` takes five.
 const OFFERED: [StrStep<'static>; 13] = [
@@ -37,7 +37,7 @@ const OFFERED: [StrStep<'static>; 13] = [
         text: "a",
     },
     StrStep::Exit,
-    // Behind the root.
+    // After the root.
     StrStep::Enter { kind: ROOT },
     StrStep::Token {
         kind: NAME,

@@ -1,12 +1,12 @@
 //! The elements at offsets and at ranges.
 
 use super::{EMPTY, ROOT, built, put, sum};
-use crate::{SyntaxTree, TokenAtOffset};
-use squawk_table::StrStep;
+use squawk_parser::StrStep;
 use std::alloc::{AllocError, Global};
 use std::fmt::Write;
 use std::ops::Range;
 use std::test::Fail;
+use syntax_tree::{SyntaxTree, TokenAtOffset};
 
 /// Writes the tokens that touch an offset.
 fn put_touching(text: &mut String, tree: &SyntaxTree<'_>, offset: usize) -> Result<(), AllocError> {
