@@ -63,7 +63,7 @@ operand "an expression" = paren
     / &(JsonWord '(') json_call
     / function_word (arg_list call_tail => CALL_EXPR | constant_string => CAST_EXPR)
     / CurrentValue => CALL_EXPR
-    / OperandName escape? => NAME_REF
+    / OperandName (UESCAPE STRING)? => NAME_REF
 
 paren "an expression" = (@begins_query '(' query ')' => SUBQUERY
     | '(' expression (')' => PAREN_EXPR | ',' {expression} ')' => ROW_EXPR))
@@ -108,7 +108,7 @@ special_call "a function call" = TREAT '(' expression AS type ')' => CALL_EXPR
 
 -- JSON. PostgreSQL 16: JSON_ARRAY, JSON_OBJECT and their aggregates; 17: the others.
 json_call "a function call" = JsonWord (@begins_query '(' query json_returning? ')' | json_arguments) call_tail => CALL_EXPR
-json_arguments "arguments" = '(' ({json_item} | json_returning)? ')' => ARG_LIST
+json_arguments "arguments" = '(' ({json_item} ((order_by | json_passing) json_clause*)? | json_returning)? ')' => ARG_LIST
 json_item "an argument" = json_value json_clause*
 json_value "an argument" = arg
     none _ (VALUE | ':') expression => JSON_KEY_VALUE
@@ -119,13 +119,12 @@ json_clause "a clause" = &(Format Json) json_format
     / &(KeepOmit Quotes) KeepOmit Quotes (ON Scalar String)? => JSON_QUOTES_CLAUSE
     / (WITH | WITHOUT) UNIQUE Keys?+ => JSON_KEYS_UNIQUE_CLAUSE
     / (WITHOUT | WITH Conditional?) ARRAY? WRAPPER => JSON_WRAPPER_BEHAVIOR_CLAUSE
-    / PASSING {json_passed} => JSON_PASSING_CLAUSE
     / json_returning
-    / order_by
     / (EmptyError (ARRAY | OBJECT)? | NULL | TRUE | FALSE | UNKNOWN | DEFAULT expression) ON EmptyError => JSON_BEHAVIOR_CLAUSE
 json_format = Format Json (ENCODING IDENT)? => JSON_FORMAT_CLAUSE
+json_passing = PASSING {json_passed} => JSON_PASSING_CLAUSE
 json_passed "a value" = expression json_format? AS label => JSON_PASSING_ARG
-json_table = JsonTable '(' json_item ',' expression (AS name)? json_clause* json_columns json_clause* ')' alias?+ => TABLE_FUNCTION
+json_table = JsonTable '(' json_item ',' expression (AS name)? json_passing? json_columns json_clause* ')' alias?+ => TABLE_FUNCTION
 json_columns "COLUMNS" = COLUMNS '(' {json_column} ')' => JSON_TABLE_COLUMN_LIST
 json_column "a column" = &(Nested Path) Nested Path constant_string (AS name)? json_columns => JSON_TABLE_COLUMN
     / &(Nested Quoted) Nested constant_string (AS name)? json_columns => JSON_TABLE_COLUMN

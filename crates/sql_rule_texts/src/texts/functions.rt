@@ -70,7 +70,7 @@ referencing = REFERENCING transition_table+ => REFERENCING_CLAUSE
 transition_table "NEW or OLD" = (NEW | OLD) (TABLE | ROW) AS? name => TRANSITION_TABLE
 trigger_when = WHEN '(' expression ')' => WHEN_CLAUSE
 trigger_arguments = '(' trigger_argument? (',' trigger_argument)* ')' => ARG_LIST
-trigger_argument "an argument" = (INT_NUMBER | NUMERIC_NUMBER) => LITERAL | string | label_ref
+trigger_argument "an argument" = (INT_NUMBER | NUMERIC_NUMBER) => LITERAL / string / label_ref
 create_constraint_trigger = CREATE CONSTRAINT TRIGGER name AFTER trigger_events ON table (FROM table)? constraint_flag* FOR EACH ROW trigger_when?
     EXECUTE (FUNCTION | PROCEDURE) function_path trigger_arguments => CREATE_TRIGGER
 alter_trigger = ALTER TRIGGER name_ref ON table (rename | depends) => ALTER_TRIGGER
@@ -87,5 +87,5 @@ create_policy = CREATE POLICY name ON table (AS PolicyKind)? (FOR (ALL | SELECT 
 policy_using = USING '(' expression ')' => POLICY_USING
 policy_check = WITH CHECK '(' expression ')' => POLICY_CHECK
 alter_policy = ALTER POLICY (IF EXISTS name_ref ON table rename
-    | name_ref ON table (rename | (TO roles)? policy_using? policy_check?)) => ALTER_POLICY
+    / name_ref ON table (rename | (TO roles)? policy_using? policy_check?)) => ALTER_POLICY
 "#;

@@ -1,20 +1,17 @@
 //! Names, operators, strings and numbers.
 
 pub(crate) const NAMES: &str = r#"
--- Names, and the small words of many statements.
+-- Names, and the small words of many statements. UESCAPE stands after one as U&"..."; a variable of psql may be a name.
 
-name "a name" = Name escape? => NAME | variable_name
-name_ref "a name" = Name escape? => NAME_REF | variable_name
-label "a name" = Label escape? => NAME | variable_name
-label_ref "a name" = Label escape? => NAME_REF | variable_name
--- After a name as U&"...".
-escape = UESCAPE STRING
+name "a name" = Name (UESCAPE STRING)? => NAME | ':' Label => PARAM_REF
+name_ref "a name" = Name (UESCAPE STRING)? => NAME_REF | ':' Label => PARAM_REF
+label "a name" = Label (UESCAPE STRING)? => NAME | ':' Label => PARAM_REF
+label_ref "a name" = Label (UESCAPE STRING)? => NAME_REF | ':' Label => PARAM_REF
 type_ref "a name" = TypeName => NAME_REF
 function_word "a name" = FunctionWord => NAME_REF
 
--- A variable of psql, where it stands for a value, and for a name.
+-- A variable of psql, where it stands for a value.
 variable "a variable" = ':' (Label | STRING) => PARAM_REF
-variable_name "a name" = ':' Label => PARAM_REF
 
 -- The name of what is there, and of what is made.
 path "a name" = name_ref ('.' label_ref)* => PATH
@@ -25,19 +22,19 @@ new_function "a function name" = new_type => PATH | schema_ref '.' (middle_ref '
 function_ref "a function name" = TypeName => NAME_REF
 new_type "a name" = TypeName => NAME
 -- Names that a dot follows: by themselves, so that the dot decides.
-schema_ref "a name" = Name => NAME_REF | variable_name
-middle_ref "a name" = Label => NAME_REF | variable_name
+schema_ref "a name" = Name => NAME_REF | ':' Label => PARAM_REF
+middle_ref "a name" = Label => NAME_REF | ':' Label => PARAM_REF
 
 names "a name" = {name_ref}
 columns "column names" = '(' {column_ref} ')' => COLUMN_LIST
-column_ref "a column name" = Name => NAME_REF | variable_name
+column_ref "a column name" = Name => NAME_REF | ':' Label => PARAM_REF
 new_columns "column names" = '(' {listed_column} ')' => COLUMN_LIST
 listed_column "a column name" = Name => NAME
 new_column "a column name" = Name => NAME
 
-role "a role" = (RoleName | CURRENT_ROLE | CURRENT_USER | SESSION_USER) => ROLE_REF | variable_name
+role "a role" = (RoleName | CURRENT_ROLE | CURRENT_USER | SESSION_USER) => ROLE_REF | ':' Label => PARAM_REF
 roles "a role" = {role}
-new_role "a role" = RoleName => NAME | variable_name
+new_role "a role" = RoleName => NAME | ':' Label => PARAM_REF
 
 operator "an operator" = (schema_ref '.')* sign => OP
 called_operator "an operator" = (schema_ref '.')* called_sign => OP

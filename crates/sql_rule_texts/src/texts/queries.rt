@@ -21,7 +21,7 @@ target_label "an alias" = AS label | bare_label
 bare_label "an alias" = BareLabel => NAME
 into = INTO (TEMPORARY | TEMP | (LOCAL | GLOBAL) (TEMPORARY | TEMP) | UNLOGGED)?+ TABLE? into_path => INTO_CLAUSE
 into_path "a table name" = into_name => PATH | schema_ref '.' (middle_ref '.')* label => PATH
-into_name "a table name" = Name => NAME | variable_name
+into_name "a table name" = Name => NAME | ':' Label => PARAM_REF
 from_clause = FROM {from_item} => FROM_CLAUSE
 where = WHERE expression => WHERE_CLAUSE
 group_by = GROUP BY (ALL | DISTINCT)? {group_item} => GROUP_BY_CLAUSE
@@ -74,7 +74,7 @@ lateral_function "a function call" = &(JsonTable '(') json_table / keyword_funct
 special_table "a table name" = table_word ('.' label_ref)* => PATH
 table_word "a table name" = SpecialWord => NAME_REF
 from_path "a table name" = from_ref ('.' label_ref)* => PATH
-from_ref "a table name" = FromName => NAME_REF | variable_name
+from_ref "a table name" = FromName => NAME_REF | ':' Label => PARAM_REF
 keyword_function = xml_table alias?+ => TABLE_FUNCTION
     / ROWS FROM '(' {rows_from} ')' ordinality?+ function_alias?+ => TABLE_FUNCTION
     / (special_call | keyword_call) ordinality?+ function_alias?+ => TABLE_FUNCTION

@@ -11,7 +11,7 @@ operator_class "an operator class" = class_ref ('.' label_ref)* options?+ => OPE
 class_ref "an operator class" = ClassName => NAME_REF
 include = INCLUDE '(' {index_item} ')' => INCLUDE_CLAUSE
 alter_index = ALTER INDEX (IF EXISTS table ({table_action} | rename)
-    | table ({table_action} | rename | attach_index | depends)) => ALTER_INDEX
+    / table ({table_action} | rename | attach_index | depends)) => ALTER_INDEX
 attach_index = ATTACH PARTITION table => ATTACH_PARTITION
 depends = NO? DEPENDS ON EXTENSION name_ref => DEPENDS_ON
 -- PostgreSQL 16: without the name of a database.
@@ -26,7 +26,7 @@ create_view = CREATE (OR REPLACE)? (TEMPORARY | TEMP | (LOCAL | GLOBAL) (TEMPORA
 alter_view = ALTER VIEW (IF EXISTS)?+ table alter_relation => ALTER_VIEW
 create_materialized_view = CREATE UNLOGGED? MATERIALIZED VIEW (IF NOT EXISTS)? new_path new_columns? access_method? (WITH options)? tablespace?
     AS query with_data?+ => CREATE_MATERIALIZED_VIEW
-alter_materialized_view = ALTER MATERIALIZED VIEW (IF EXISTS table alter_relation | table (alter_relation | depends)) => ALTER_MATERIALIZED_VIEW
+alter_materialized_view = ALTER MATERIALIZED VIEW (IF EXISTS table alter_relation / table (alter_relation | depends)) => ALTER_MATERIALIZED_VIEW
 refresh = REFRESH MATERIALIZED VIEW CONCURRENTLY? table with_data? => REFRESH
 
 create_sequence = CREATE (TEMPORARY | TEMP | (LOCAL | GLOBAL) (TEMPORARY | TEMP) | UNLOGGED)? SEQUENCE (IF NOT EXISTS)? new_path sequence_option* => CREATE_SEQUENCE
@@ -38,5 +38,5 @@ alter_sequence = ALTER SEQUENCE (IF EXISTS)?+ table (sequence_option+ | {table_a
 -- PostgreSQL 16: without a name.
 create_statistics = CREATE STATISTICS ((IF NOT EXISTS)? new_path)? ('(' names ')')? ON {statistics_item} FROM {from_item} => CREATE_STATISTICS
 statistics_item "a column or an expression" = (primary | special) ~(NAME_REF | CALL_EXPR | CAST_EXPR | PAREN_EXPR)
-alter_statistics = ALTER STATISTICS (IF EXISTS path set_statistics | path (set_statistics | rename | owner_to | set_schema)) => ALTER_STATISTICS
+alter_statistics = ALTER STATISTICS (IF EXISTS path set_statistics / path (set_statistics | rename | owner_to | set_schema)) => ALTER_STATISTICS
 "#;

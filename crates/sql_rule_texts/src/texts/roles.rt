@@ -33,7 +33,7 @@ grant_target "an object" = FOREIGN (DATA WRAPPER | SERVER) names => GRANT_TARGET
     | TABLE {path} => GRANT_TARGET
     | {granted_table} => GRANT_TARGET
 granted_table "a table name" = granted_ref ('.' label_ref)* => PATH
-granted_ref "a table name" = Name => NAME_REF | variable_name
+granted_ref "a table name" = Name => NAME_REF | ':' Label => PARAM_REF
 grantee "a role" = GROUP? role
 alter_default_privileges = ALTER DEFAULT PRIVILEGES default_scope* (GRANT (all_privileges | privileges) ON default_target TO {grantee} (WITH GRANT OPTION)?
     | REVOKE (GRANT OPTION FOR)?+ (all_privileges | privileges) ON default_target FROM {grantee} behavior?) => ALTER_DEFAULT_PRIVILEGES

@@ -7,8 +7,9 @@ set = SET (LOCAL | SESSION)?+ set_rest => SET
 set_rest "a parameter" = TRANSACTION transaction_modes / SESSION CHARACTERISTICS AS TRANSACTION transaction_modes / set_more
 set_more "a parameter" = TRANSACTION SNAPSHOT string / TIME ZONE zone / CATALOG string / SCHEMA string / NAMES (string | DEFAULT)?
     / ROLE word_or_string / SESSION AUTHORIZATION (DEFAULT / word_or_string) / XML OPTION (DOCUMENT | CONTENT)
-    / new_setting ((TO | '=') ({set_value} / DEFAULT) | FROM CURRENT)
+    / new_setting (set_to ({set_value} / DEFAULT) | FROM CURRENT)
 new_setting "a parameter" = new_ref ('.' setting_ref)* => PATH
+set_to "TO or =" = TO | '='
 new_ref "a parameter" = Name => NAME_REF
 setting "a parameter" = setting_ref ('.' setting_ref)* => PATH
 setting_ref "a parameter" = Name => NAME_REF
@@ -21,7 +22,7 @@ set_constraints = SET CONSTRAINTS (ALL | {table}) (DEFERRED | IMMEDIATE) => SET_
 reset = RESET reset_what => RESET
 show = SHOW reset_what => SHOW
 reset_what "a parameter" = TIME ZONE / TRANSACTION ISOLATION LEVEL / SESSION AUTHORIZATION / ALL / setting
-alter_system = ALTER SYSTEM (SET setting (TO | '=') ({set_value} / DEFAULT) | RESET (ALL / setting)) => ALTER_SYSTEM
+alter_system = ALTER SYSTEM (SET setting set_to ({set_value} / DEFAULT) | RESET (ALL / setting)) => ALTER_SYSTEM
 
 begin = BEGIN (WORK | TRANSACTION)? transaction_modes? => BEGIN | START TRANSACTION transaction_modes? => BEGIN
 commit = COMMIT (WORK | TRANSACTION)? chain? => COMMIT | COMMIT PREPARED string => COMMIT_PREPARED

@@ -42,7 +42,7 @@ column_constraint "a column constraint" = constraint_name? (NOT NULL no_inherit?
         | PRIMARY KEY index_parameters => PRIMARY_KEY_CONSTRAINT
         | CHECK '(' expression ')' no_inherit? => CHECK_CONSTRAINT
         | DEFAULT plain_expression => DEFAULT_CONSTRAINT
-        | GENERATED (ALWAYS AS (identity => IDENTITY_CONSTRAINT | '(' expression ')' (STORED | Virtual)? => GENERATED_CONSTRAINT)
+        | GENERATED (ALWAYS AS (identity => IDENTITY_CONSTRAINT | '(' expression ')' (STORED | Virtual)?+ => GENERATED_CONSTRAINT)
             | BY DEFAULT AS identity => IDENTITY_CONSTRAINT)
         | references => REFERENCES_CONSTRAINT)
     | constraint_time | enforced | collate
@@ -84,7 +84,7 @@ plain_operator "an operator" = sign => OP
 foreign_options = OPTIONS '(' {foreign_option} ')' => FOREIGN_OPTIONS
 foreign_option "an option" = label_ref string => OPTION
 alter_options = OPTIONS '(' {alter_option} ')' => FOREIGN_OPTIONS
-alter_option "an option" = (ADD | SET) label_ref string => OPTION | DROP label_ref => OPTION | option_name string => OPTION
+alter_option "an option" = (ADD | SET) label_ref string => OPTION / DROP label_ref => OPTION / option_name string => OPTION
 option_name "an option" = Label => NAME_REF
 
 -- ALTER TABLE. PostgreSQL 17: DEFAULT as an access method and in SET STATISTICS; 18: INHERIT in ALTER CONSTRAINT.

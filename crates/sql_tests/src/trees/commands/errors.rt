@@ -129,7 +129,7 @@ static CASES: [(&str, &str); 34] = [
     ),
     (
         "drop tabel book",
-        "DROP{drop ERROR{!expected an object!tabel book}}",
+        "DROP{drop ERROR{!expected OWNED or an object!tabel book}}",
     ),
     (
         "create role clerk supper",
