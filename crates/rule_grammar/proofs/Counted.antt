@@ -70,15 +70,6 @@ counts_told {a} {b} {xs} {t} {u} p one = record {
     light None = omega arith
     light (Some place) = omega arith
 
--- an error that is recorded counts whatever was told before
-pub counts_any : {a b : State} {t u : Option ℕ} → Counts None u a b → Counts t u a b
-counts_any {a} {b} {t} {u} p = record {
-  keeps = p.keeps;
-  errors = λ goes.
-      let first : errors_of a.draft.items + weight u ≤ errors_of b.draft.items + weight None = p.errors goes in
-      omega arith;
-}
-
 -- no error was told
 pub untold : (t : Option ℕ) → weight t ≤ 0 → t ≡ None
 untold None le = refl
