@@ -133,7 +133,7 @@ static CASES: [(&str, &str); 34] = [
     ),
     (
         "create role clerk supper",
-        "CREATE_ROLE{create role NAME{clerk} ROLE_OPTION{ERROR{!expected a role option!supper}}}",
+        "CREATE_ROLE{create role NAME{clerk} ROLE_OPTION{!expected a role option!}ERROR{supper}}",
     ),
     (
         "copy book form stdin",
