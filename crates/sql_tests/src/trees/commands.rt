@@ -9,7 +9,7 @@ mod errors;
 mod expressions;
 mod foreign;
 mod functions;
-mod json;
+mod json_calls;
 mod maintenance;
 mod objects;
 mod psql;
