@@ -60,7 +60,6 @@ operand "an expression" = paren
     / interval_literal
     / typed_literal
     / keyword_call
-    / &(JsonWord '(') json_call
     / function_word (arg_list call_tail => CALL_EXPR | constant_string => CAST_EXPR)
     / CurrentValue => CALL_EXPR
     / OperandName (UESCAPE STRING)? => NAME_REF
@@ -106,9 +105,7 @@ special_call "a function call" = TREAT '(' expression AS type ')' => CALL_EXPR
     | (COALESCE | GREATEST | LEAST) '(' {expression} ')' => CALL_EXPR
     | xml_call
 
--- JSON. PostgreSQL 16: JSON_ARRAY, JSON_OBJECT and their aggregates; 17: the others.
-json_call "a function call" = JsonWord (@begins_query '(' query json_returning? ')' | json_arguments) call_tail => CALL_EXPR
-json_arguments "arguments" = '(' ({json_item} ((order_by | json_passing) json_clause*)? | json_returning)? ')' => ARG_LIST
+-- JSON_TABLE, of PostgreSQL 17.
 json_item "an argument" = json_value json_clause*
 json_value "an argument" = arg
     none _ (VALUE | ':') expression => JSON_KEY_VALUE

@@ -47,8 +47,6 @@ words Enforced = enforced
 words Period = period
 words Virtual = virtual
 words Indent = indent
-words JsonWord = json json_array json_arrayagg json_exists json_object json_objectagg json_query json_scalar json_serialize
-    json_value
 words JsonTable = json_table
 words Json = json
 words Absent = absent
