@@ -75,11 +75,11 @@ literal_type "a type" = DOUBLE PRECISION => TYPE | (BIT | CHARACTER | CHAR | NCH
     | NATIONAL (CHARACTER | CHAR) VARYING? literal_size? => TYPE | (TIME | TIMESTAMP) literal_size? (WITH | WITHOUT) TIME ZONE => TYPE
 literal_size = '(' integer ')' => TYPE_ARGS
 
--- Calls.
+-- Calls. PostgreSQL 16: VALUE and `:` in JSON_OBJECT.
 arg_list "arguments" = '(' ('*' | (ALL | DISTINCT)? {argument} order_by?)? ')' => ARG_LIST
 argument "an argument" = VARIADIC? arg
 arg "an argument" = expression
-    none  _ ~NAME_REF (':=' | '=>') _ => NAMED_ARG
+    none  _ ~NAME_REF (':=' | '=>') _ => NAMED_ARG | _ (VALUE | ':') expression => JSON_KEY_VALUE
 call_tail = within_group?+ filter?+ over?+
 within_group = WITHIN GROUP '(' order_by ')' => WITHIN_CLAUSE
 filter = FILTER '(' where ')' => FILTER_CLAUSE
@@ -106,9 +106,6 @@ special_call "a function call" = TREAT '(' expression AS type ')' => CALL_EXPR
     | xml_call
 
 -- JSON_TABLE, of PostgreSQL 17.
-json_item "an argument" = json_value json_clause*
-json_value "an argument" = arg
-    none _ (VALUE | ':') expression => JSON_KEY_VALUE
 json_returning = RETURNING type => JSON_RETURNING_CLAUSE
 json_clause "a clause" = &(Format Json) json_format
     / &(Absent ON) Absent ON NULL => JSON_NULL_CLAUSE
@@ -121,7 +118,6 @@ json_clause "a clause" = &(Format Json) json_format
 json_format = Format Json (ENCODING IDENT)? => JSON_FORMAT_CLAUSE
 json_passing = PASSING {json_passed} => JSON_PASSING_CLAUSE
 json_passed "a value" = expression json_format? AS label => JSON_PASSING_ARG
-json_table = JsonTable '(' json_item ',' expression (AS name)? json_passing? json_columns json_clause* ')' alias?+ => TABLE_FUNCTION
 json_columns "COLUMNS" = COLUMNS '(' {json_column} ')' => JSON_TABLE_COLUMN_LIST
 json_column "a column" = &(Nested Path) Nested Path constant_string (AS name)? json_columns => JSON_TABLE_COLUMN
     / &(Nested Quoted) Nested constant_string (AS name)? json_columns => JSON_TABLE_COLUMN

@@ -63,14 +63,14 @@ join_type = (FULL | LEFT | RIGHT) OUTER? | INNER
 join_condition "ON or USING" = USING columns (AS name)?+ => JOIN_USING | ON expression => JOIN_ON
 from_table "a table" = paren_table
     / LATERAL ('(' query ')' alias?+ => FROM_SUBQUERY | lateral_function => LATERAL_FUNCTION)
-    / &(JsonTable '(') json_table
     / ONLY (table | '(' table ')') alias?+ sample?+ => FROM_TABLE
     / keyword_function
     / special_table '*'?+ alias?+ sample?+ => FROM_TABLE
-    / from_path (arg_list ordinality?+ function_alias?+ => TABLE_FUNCTION | '*'?+ alias?+ sample?+ => FROM_TABLE)
+    / from_path (table_arguments ordinality?+ function_alias?+ => TABLE_FUNCTION | '*'?+ alias?+ sample?+ => FROM_TABLE)
 paren_table "a table" = (@begins_query '(' query ')' alias?+ => FROM_SUBQUERY
     | '(' from_item ~(JOIN_EXPR | PAREN_JOIN) ')' alias?+ => PAREN_JOIN)
-lateral_function "a function call" = &(JsonTable '(') json_table / keyword_function / from_path arg_list ordinality?+ function_alias?+ => TABLE_FUNCTION
+lateral_function "a function call" = keyword_function / from_path table_arguments ordinality?+ function_alias?+ => TABLE_FUNCTION
+table_arguments "arguments" = '(' ('*' | (ALL | DISTINCT)? {argument} order_by? (AS name)? json_passing? (json_columns json_clause*)?)? ')' => ARG_LIST
 special_table "a table name" = table_word ('.' label_ref)* => PATH
 table_word "a table name" = SpecialWord => NAME_REF
 from_path "a table name" = from_ref ('.' label_ref)* => PATH

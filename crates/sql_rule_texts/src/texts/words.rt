@@ -47,7 +47,6 @@ words Enforced = enforced
 words Period = period
 words Virtual = virtual
 words Indent = indent
-words JsonTable = json_table
 words Json = json
 words Absent = absent
 words Conditional = conditional unconditional
