@@ -14,6 +14,8 @@ from typing import NamedTuple
 HERE = os.path.dirname(os.path.abspath(__file__))
 TEXTS = os.path.join(HERE, "..", "crates", "sql_rule_texts", "src", "texts")
 WORD = re.compile(r"""\s*(?:--[^\n]*\n\s*)*(?P<all>=>|\?\+|\*\+|\+\+|'[^']*'|"[^"]*"|[A-Za-z_]\w*|[()|/?*+{}%~@&=_-])""")
+# What stands before the first sign of equality outside of a message, and after it.
+HEAD = re.compile(r'((?:[^"=]|"[^"]*")*)=(.*)', re.DOTALL)
 MANY = 3
 
 
@@ -134,11 +136,13 @@ def read(text, keywords):
     """The rules by name, and the classes as lists of tokens."""
     rules, classes = {}, {}
     for item in items(text):
-        head, _, body = item.partition("=")
+        head, body = HEAD.match(item).groups()
         words = head.split()
         if words[0] == "class":
             classes[words[1]] = members(body, keywords)
-        elif words[0] not in ("guard", "words"):
+        elif words[0] == "words":
+            classes[words[1]] = body.upper().split()
+        elif words[0] != "guard":
             rules[words[0]] = Reader(body).rule()
     return rules, classes
 
