@@ -9,8 +9,10 @@ use Rattle.squawk_table.specs.RawTable.{Table as RawTable}
 use Rattle.squawk_output.specs.Steps.{Step}
 use Rattle.rule_grammar.specs.declared.rules.RuleGrammar.{RuleGrammar}
 use Rattle.sql_grammar.specs.Parses.{IsRefusedParse}
+use Rattle.sql_grammar.specs.StrayStrings.{stray_strings}
 use Rattle.sql_grammar.specs.declared.Detail.{Detail}
 use Rattle.sql_grammar.specs.declared.Detail.TheVariants.{Nodes}
+use Rattle.sql_lexer.specs.Scripts.{script_tokens}
 use Rattle.sql_lexer.specs.Tokens as lexer_rules
 use Rattle.sql_lexer.specs.declared.tokenizer.TokenizeError.{TokenizeError}
 use Rattle.sql_lexer.specs.declared.tokenizer.TokenizeError.TheVariants as lexer
@@ -43,6 +45,7 @@ of_parse detail text keywords table parse.TooManyEvents has r = record { keyword
 of_parse detail text keywords table parse.TooManyErrors has r = record { keywords = keywords; table = table; of_text = has; refused = r (λ same. let p = same in cc) }
 
 -- the steps of a parse by rules
-pub steps_by_rules : {rules : Bor RuleGrammar} {text other : List ℕ} {table : RawTable} {walk : List Step} → AreOfSql (Nodes rules) text table walk → text ≡ other
-    → AreByRules other table walk
-steps_by_rules {rules} {table = table} {walk = walk} are same = (rules, subst (λ (text : List ℕ). AreOfSql (Nodes rules) text table walk) same are)
+pub steps_by_rules : {rules : Bor RuleGrammar} {text other : List ℕ} {table : RawTable} {walk : List Step} → rules.now.table.hidden.now ≡ stray_strings text (script_tokens text)
+    → AreOfSql (Nodes rules) text table walk → text ≡ other → AreByRules other table walk
+steps_by_rules {rules} {text} {table = table} {walk = walk} hides are same =
+    subst (λ (text : List ℕ). AreByRules text table walk) same (rules, hides, are)

@@ -15,6 +15,7 @@ use Rattle.squawk_table.specs.Shape.{Fits}
 use Rattle.squawk_tokens.specs.declared.check.TableError.TheVariants as table
 use Rattle.rule_grammar.specs.declared.rules.RuleGrammar.{RuleGrammar}
 use Rattle.sql_grammar.specs.Parses.{AreOfFile, IsRefusedParse}
+use Rattle.sql_grammar.specs.StrayStrings.{stray_strings}
 use Rattle.sql_grammar.specs.declared.Detail.{Detail}
 use Rattle.sql_grammar.specs.declared.Detail.TheVariants.{Nodes}
 use Rattle.sql_lexer.specs.Scripts.{script_tokens}
@@ -66,8 +67,10 @@ RefusesSql refused text reason = ⊥
 
 -- ---- by some rules
 
+-- by rules from which stray strings are hidden
 abbrev pub AreByRules : List ℕ → RawTable → List Step → Type 0
-AreByRules text table steps = (rules : Bor RuleGrammar) × AreOfSql (Nodes rules) text table steps
+AreByRules text table steps =
+    (rules : Bor RuleGrammar) × (rules.now.table.hidden.now ≡ stray_strings text (script_tokens text)) × AreOfSql (Nodes rules) text table steps
 
 abbrev pub IsRefusedByRules : List ℕ → ParseError → Type 0
 IsRefusedByRules text reason = (rules : Bor RuleGrammar) × IsRefusedSql (Nodes rules) text reason

@@ -14,7 +14,8 @@ use crate::statement::{CStatement, numbered_statement};
 use crate::steps::CStep;
 use crate::token::CToken;
 use crate::token_numbers::number_of;
-use sql_grammar::Detail;
+use sql_grammar::{Detail, stray_strings};
+use sql_lexer::tokenize_script;
 use sql_report::{Statement, statements};
 use squawk_parser::Token;
 use std::alloc::Global;
@@ -57,7 +58,7 @@ impl CSqlCounts {
 }
 
 /// Writes all of a text of SQL, as far as there is room.
-#[tactic(auto, using(crate::proofs::SqlReasons::of_bytes))]
+#[tactic(auto, using(crate::proofs::SqlReasons::of_bytes, crate::proofs::SqlReasons::of_lexer))]
 pub fn write_sql(
     alloc: Global,
     text: &[u8],
@@ -76,8 +77,11 @@ pub fn write_sql(
     ensures errors_stay { OnErr result (errors.new ≡ errors.old) }
     ensures texts_stay { OnErr result (texts.new ≡ texts.old) }
 {
-    let rules = sql_rules::grammar();
-    let sql = parse_sql(alloc, text_of(text)?, Detail::Nodes(&rules))?;
+    let text = text_of(text)?;
+    let found = tokenize_script(alloc, text)?;
+    let strays = stray_strings(alloc, text, &found)?;
+    let rules = sql_rules::grammar(&strays);
+    let sql = parse_sql(alloc, text, found, Detail::Nodes(&rules))?;
     let found = statements(alloc, &sql.parsed.table, &sql.parsed.output)?;
     let sent = send(
         alloc,
@@ -97,13 +101,15 @@ pub fn write_sql(
 }
 
 /// Writes the statements of a text of SQL, as far as there is room. Returns how many there are.
-#[tactic(auto, using(crate::proofs::SqlReasons::of_bytes))]
+#[tactic(auto, using(crate::proofs::SqlReasons::of_bytes, crate::proofs::SqlReasons::of_lexer))]
 pub fn write_cut(alloc: Global, text: &[u8], room: &mut [CStatement]) -> Result<usize, Refusal>
     ensures written { IfOk result (AreStatementsWritten (AreOfSql Detail.Tokens) text.now room.old room.new) }
     ensures refused { IfErr result (RefusesSql (IsRefusedSql Detail.Tokens) text.now) }
     ensures stay { OnErr result (room.new ≡ room.old) }
 {
-    let sql = parse_sql(alloc, text_of(text)?, Detail::Tokens)?;
+    let text = text_of(text)?;
+    let tokens = tokenize_script(alloc, text)?;
+    let sql = parse_sql(alloc, text, tokens, Detail::Tokens)?;
     let found = statements(alloc, &sql.parsed.table, &sql.parsed.output)?;
     write_statements(room, &found);
     Ok(found.len())

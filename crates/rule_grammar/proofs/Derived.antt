@@ -24,24 +24,24 @@ some_then {a} p q = record {
 -- a parser that goes on has the same text
 pub same_text : (table : Table) {a b : State} → Keeps a b → text_of table b ≡ text_of table a
 same_text table {a} {b} keeps =
-    ap (λ w. record { rows = table.rows.now; sets = table.sets.now; words = w; input = b.input; limit = b.limit }) keeps.words
-    ∙ (ap (λ i. record { rows = table.rows.now; sets = table.sets.now; words = a.words; input = i; limit = b.limit }) keeps.input
-    ∙ ap (λ l. record { rows = table.rows.now; sets = table.sets.now; words = a.words; input = a.input; limit = l }) keeps.limit)
+    ap (λ w. record { rows = table.rows.now; sets = table.sets.now; hidden = table.hidden.now; words = w; input = b.input; limit = b.limit }) keeps.words
+    ∙ (ap (λ i. record { rows = table.rows.now; sets = table.sets.now; hidden = table.hidden.now; words = a.words; input = i; limit = b.limit }) keeps.input
+    ∙ ap (λ l. record { rows = table.rows.now; sets = table.sets.now; hidden = table.hidden.now; words = a.words; input = a.input; limit = l }) keeps.limit)
 
 pub moved : (table : Table) {a b : State} {span : Span} {t u : Option ℕ} {i j : ℕ} → Keeps a b
     → Derived (text_of table b) span t u i j → Derived (text_of table a) span t u i j
 moved table {a} {b} {span} {t} {u} {i} {j} keeps d = subst (λ (x : Text). Derived x span t u i j) (same_text table keeps) d
 
 -- the tokens of a kind
-pub of_kind : (table : Table) (a b : State) {k kind : ℕ} → part_at table.rows.now k ≡ Token kind → EatsKind kind a b
+pub of_kind : (table : Table) (a b : State) {k kind : ℕ} → part_at table.rows.now k ≡ Token kind → EatsKind table kind a b
     → Derives (text_of table a) (single k) a.position b.position
 of_kind table a b {k} is (inl eats) = subst (λ (m : ℕ). Derives (text_of table a) (single k) a.position m) (sym eats.1) (token is eats.0)
-of_kind table a b {k} is (inr eats) = subst (λ (m : ℕ). Derives (text_of table a) (single k) a.position m) (sym eats.1) (composite is eats.0)
+of_kind table a b {k} is (inr eats) = subst (λ (m : ℕ). Derives (text_of table a) (single k) a.position m) (sym eats.2) (composite is eats.0 eats.1)
 
 -- a list goes on
 pub one_more : (table : Table) (a b c d e : State) {start end separator : ℕ} {goes_on : Bool} {t u v w : Option ℕ} → Keeps a c → Keeps a d
     → Derived (text_of table a) (items start end separator) t u a.position b.position
-    → IfClean u v (IsSeparated separator goes_on b c) → goes_on ≡ true
+    → IfClean u v (IsSeparated table separator goes_on b c) → goes_on ≡ true
     → (kind_at c 0 ≡ separator → kind_at c 0 ≢ EOF → d.position ≡ c.position + 1)
     → Derived (text_of table d) (block start end) v w d.position e.position
     → Derived (text_of table a) (items start end separator) t w a.position e.position
@@ -52,7 +52,7 @@ one_more table a b c d e {start} {end} {separator} keeps_c keeps_d so_far seen g
       let is = separated.1 goes_on in
       let here : kind_of (text_of table a) b.position ≡ separator = subst (λ (k : ℕ). kind_of (text_of table a) k ≡ separator) separated.0
       (subst (λ (x : Text). kind_of x c.position ≡ separator) (same_text table keeps_c) is.0) in
-      let behind : d.position ≡ b.position + 1 = ate is.0 is.1 ∙ ap (λ k. k + 1) separated.0 in
+      let behind : d.position ≡ b.position + 1 = ate is.1 is.2 ∙ ap (λ k. k + 1) separated.0 in
       let item : Derives (text_of table a) (block start end) d.position e.position =
       subst (λ (x : Text). Derives x (block start end) d.position e.position) (same_text table keeps_d) (took.derives n) in
       next (so_far.derives (seen.clean (took.clean n))) here (subst (λ (k : ℕ). Derives (text_of table a) (block start end) k e.position) behind item);

@@ -1,5 +1,5 @@
 -- What rules derive: from which token of an input to which.
-use Rattle.std.specs.Prelude.{◌≡◌, ◌≢◌, ℕ, ◌+◌, ◌<◌, ◌≤◌, nat_lt, Bool, true, false, Option, Some, None, List, length, if◌then◌else◌, ◌⊎◌}
+use Rattle.std.specs.Prelude.{◌≡◌, ◌≢◌, ℕ, ◌+◌, ◌<◌, ◌≤◌, nat_lt, Bool, true, false, Option, Some, None, List, length, slice_get, unwrap_or, if◌then◌else◌, ◌⊎◌}
 use Rattle.squawk_kinds.specs.Kinds.{EOF, IDENT}
 use Rattle.squawk_kinds.specs.TokenSets.{has, no_kinds}
 use Rattle.squawk_kinds.specs.declared.token_set.TokenSet.{TokenSet}
@@ -17,21 +17,26 @@ use Rattle.rule_grammar.specs.declared.part.Part as part
 use Rattle.rule_grammar.specs.declared.part.Part.TheVariants.{Nothing, Token, Word, Class, Name, Node, Becomes, Is, Guard, Look, Choice, Arm, Optional, Repeat, List as Items, Call, Operators, Operand, Tail, Some as Once}
 use Rattle.rule_grammar.specs.declared.table.Table.{Table}
 
--- rules, and the tokens that are parsed by them
+-- rules, the tokens that are parsed by them, and which of these are hidden from them
 pub record Text : Type 0 where
   pub rows : List (List ℕ)
   pub sets : List (List ℕ)
+  pub hidden : List Bool
   pub words : Words
   pub input : List Entry
   pub limit : ℕ
 
 -- those of a parser
 abbrev pub text_of : Table → State → Text
-text_of table s = record { rows = table.rows.now; sets = table.sets.now; words = s.words; input = s.input; limit = s.limit }
+text_of table s = record { rows = table.rows.now; sets = table.sets.now; hidden = table.hidden.now; words = s.words; input = s.input; limit = s.limit }
 
--- the kind of token i, and the tokens from it on
+-- whether token i is hidden
+abbrev pub is_hidden : List Bool → ℕ → Bool
+is_hidden hidden i = unwrap_or (slice_get hidden i) false
+
+-- the kind of token i, as rules see it, and the tokens from it on
 abbrev pub kind_of : Text → ℕ → ℕ
-kind_of t i = if nat_lt (i + 0) t.limit then kind_in t.input (i + 0) else EOF
+kind_of t i = if is_hidden t.hidden i then EOF else if nat_lt (i + 0) t.limit then kind_in t.input (i + 0) else EOF
 
 -- and its contextual kind
 abbrev pub word_of : Text → ℕ → ℕ
@@ -128,7 +133,7 @@ pub data Derives (t : Text) : Span → ℕ → ℕ → Type 0 where
   all : {start k end i j : ℕ} → end ≤ k → Derives t (rows start k) i j → Derives t (block start end) i j
   silent : {k i : ℕ} → is_silent (part_at t.rows k) ≡ true → Derives t (single k) i i
   token : {k i kind : ℕ} → part_at t.rows k ≡ Token kind → kind_of t i ≡ kind → Derives t (single k) i (i + 1)
-  composite : {k i kind : ℕ} → part_at t.rows k ≡ Token kind → stands_at (has t.words.operator_first) kind (seen_at t i) ≡ true
+  composite : {k i kind : ℕ} → part_at t.rows k ≡ Token kind → is_hidden t.hidden i ≡ false → stands_at (has t.words.operator_first) kind (seen_at t i) ≡ true
       → Derives t (single k) i (i + eaten (eat_steps t.words kind (seen_at t i)))
   word : {k i set : ℕ} → part_at t.rows k ≡ Word set → kind_of t i ≡ IDENT → set_has t.sets set (word_of t i) ≡ true → Derives t (single k) i (i + 1)
   class : {k i set : ℕ} → part_at t.rows k ≡ Class set → set_has t.sets set (kind_of t i) ≡ true → Derives t (single k) i (i + 1)
@@ -162,14 +167,15 @@ AreInside list start end outer_start outer_end =
 -- ---- runs
 
 -- A token of a kind is eaten, or the tokens of a composite one.
-abbrev pub EatsKind : ℕ → State → State → Type 0
-EatsKind kind old new = ((kind_at old 0 ≡ kind) × (new.position ≡ old.position + 1))
-    ⊎ ((stands_at (has old.words.operator_first) kind (ahead old 0) ≡ true) × (new.position ≡ old.position + eaten (eat_steps old.words kind (ahead old 0))))
+abbrev pub EatsKind : Table → ℕ → State → State → Type 0
+EatsKind table kind old new = ((kind_of (text_of table old) old.position ≡ kind) × (new.position ≡ old.position + 1))
+    ⊎ ((is_hidden table.hidden.now old.position ≡ false) × (stands_at (has old.words.operator_first) kind (ahead old 0) ≡ true)
+    × (new.position ≡ old.position + eaten (eat_steps old.words kind (ahead old 0))))
 
 -- Nothing is eaten, and where a list goes on, its separator is next.
-abbrev pub IsSeparated : ℕ → Bool → State → State → Type 0
-IsSeparated separator goes_on old new =
-    (new.position ≡ old.position) × (goes_on ≡ true → (kind_at new 0 ≡ separator) × (kind_at new 0 ≢ EOF))
+abbrev pub IsSeparated : Table → ℕ → Bool → State → State → Type 0
+IsSeparated table separator goes_on old new = (new.position ≡ old.position)
+    × (goes_on ≡ true → (kind_of (text_of table new) new.position ≡ separator) × (kind_at new 0 ≡ separator) × (kind_at new 0 ≢ EOF))
 
 -- If a run told no error, it had told none before, and the span derives what it ate.
 pub record Derived (t : Text) (span : Span) (before after : Option ℕ) (i j : ℕ) : Type 0 where
@@ -195,7 +201,7 @@ abbrev pub operators_of : TokenSet → TokenSet
 operators_of kinds = if has kinds EOF then no_kinds else kinds
 
 -- One node over all tokens. If there is no error in it, the rule of a file derives them.
-pub record IsFile (rows sets : List (List ℕ)) (words : Words) (start end : ℕ) (input : List Entry) (draft : Draft) : Type 0 where
+pub record IsFile (rows sets : List (List ℕ)) (hidden : List Bool) (words : Words) (start end : ℕ) (input : List Entry) (draft : Draft) : Type 0 where
   pub whole : IsWholeFile input draft
   pub derived : errors_of draft.items ≡ 0
-      → Derives (record { rows = rows; sets = sets; words = words; input = input; limit = length input }) (block start end) 0 (length input)
+      → Derives (record { rows = rows; sets = sets; hidden = hidden; words = words; input = input; limit = length input }) (block start end) 0 (length input)

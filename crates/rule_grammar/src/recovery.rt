@@ -1,6 +1,6 @@
 //! Errors, and where parsing goes on after one.
 ghost use Rattle.std.specs.Prelude.{◌≡◌, ◌≢◌, ◌+◌, ◌<◌, IsSome, false, true};
-ghost use Rattle.rule_grammar.specs.Derivations.{Counts, IfClean, IsSeparated};
+ghost use Rattle.rule_grammar.specs.Derivations.{Counts, IfClean, IsSeparated, kind_of, text_of};
 ghost use Rattle.squawk_kinds.specs.Kinds.{EOF};
 ghost use Rattle.squawk_parser.specs.SomeSteps.{AddsSome, AddsSomeNode};
 ghost use Rattle.squawk_parser.specs.State.{IsSound, kind_at};
@@ -123,10 +123,10 @@ pub(crate) fn is_separated(
 ) -> bool
     requires { IsSound p.old }
     ensures adds { AddsSome p.old p.new }
-    ensures told { IfClean told.old.place told.new.place (IsSeparated separator result p.old p.new) }
+    ensures told { IfClean told.old.place told.new.place (IsSeparated rule.now.table.now separator result p.old p.new) }
     ensures counts { Counts told.old.place told.new.place p.old p.new }
 {
-    if is_at(separator, p) && rule.table.sees_look(row, p) {
+    if is_at(rule, separator, p) && rule.table.sees_look(row, p) {
         true
     } else {
         is_separated_after_others(rule, row, separator, told, p)
@@ -143,7 +143,7 @@ fn is_separated_after_others(
 ) -> bool
     requires { IsSound p.old }
     ensures adds { AddsSome p.old p.new }
-    ensures told { IfClean told.old.place told.new.place (IsSeparated separator result p.old p.new) }
+    ensures told { IfClean told.old.place told.new.place (IsSeparated rule.now.table.now separator result p.old p.new) }
     ensures counts { Counts told.old.place told.new.place p.old p.new }
 {
     if is_forgotten(rule, row, told, p) {
@@ -151,7 +151,7 @@ fn is_separated_after_others(
         true
     } else if is_unexpected(rule, row, told, p) {
         missing(rule, row, told, p);
-        is_at(separator, p)
+        is_at(rule, separator, p)
     } else {
         false
     }
@@ -192,13 +192,14 @@ pub(crate) fn bump_at(kind: SyntaxKind, p: &mut Parser<'_>)
     }
 }
 
-/// Whether the token at the position has this kind.
+/// Whether the token at the position has this kind, and isn't hidden.
 #[inline(always)]
-pub(crate) fn is_at(kind: SyntaxKind, p: &Parser<'_>) -> bool
+pub(crate) fn is_at(rule: &Open<'_>, kind: SyntaxKind, p: &Parser<'_>) -> bool
+    ensures seen { result ≡ true → kind_of (text_of rule.now.table.now p.now) p.now.position ≡ kind }
     ensures is { result ≡ true → kind_at p.now 0 ≡ kind }
     ensures some { result ≡ true → kind_at p.now 0 ≢ EOF }
 {
-    p.current() == kind && kind != SyntaxKind::EOF
+    rule.table.current(p) == kind && kind != SyntaxKind::EOF
 }
 
 /// The error that an operator stands after one that it doesn't associate with.

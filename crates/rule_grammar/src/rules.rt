@@ -40,7 +40,7 @@ impl<'r> Grammar for RuleGrammar<'r> {
 
     // One node over all tokens, whatever the numbers of the table are. If there is no error in it, the rule of a file
     // derives the tokens.
-    ghost leaves = { λ rules _ input draft. IsFile rules.table.rows.now rules.table.sets.now
+    ghost leaves = { λ rules _ input draft. IsFile rules.table.rows.now rules.table.sets.now rules.table.hidden.now
         (record { operator_first = operators_of rules.table.operators; names = map (λ pair. (pair.0, pair.1.now)) rules.names.now }) rules.start rules.end input draft };
 
     ghost runs = { λ _ _ _ _. Unit {0} };

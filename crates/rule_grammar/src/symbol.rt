@@ -35,11 +35,21 @@ impl Table<'_> {
     /// The symbol that begins `n` tokens after the position.
     #[inline(always)]
     pub(crate) fn symbol_after(&self, n: usize, p: &Parser<'_>) -> Symbol {
-        let kind = p.nth(n);
+        let kind = self.nth(n, p);
         if self.composed.contains(kind) {
             self.composite(kind, n, p)
         } else {
             Symbol { kind, len: 1 }
+        }
+    }
+
+    /// The kind of the token `n` tokens after the position. One that no rule has stands for a hidden token.
+    #[inline(always)]
+    fn nth(&self, n: usize, p: &Parser<'_>) -> SyntaxKind {
+        if self.hides(p.position().saturating_add(n)) {
+            SyntaxKind::WHITESPACE
+        } else {
+            p.nth(n)
         }
     }
 

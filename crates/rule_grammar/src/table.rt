@@ -1,10 +1,10 @@
 //! Rules as numbers.
 ghost use Rattle.std.specs.Prelude.{◌≡◌, ◌<◌, option_map, slice_get};
-ghost use Rattle.rule_grammar.specs.Derivations.{next_of};
+ghost use Rattle.rule_grammar.specs.Derivations.{is_hidden, kind_of, next_of, text_of};
 ghost use Rattle.rule_grammar.specs.Parts.{part_at, set_has};
 
 use crate::part::{Part, beyond, part_of};
-use squawk_parser::{SyntaxKind, TokenSet};
+use squawk_parser::{Parser, SyntaxKind, TokenSet};
 
 /// Rules as numbers. Any numbers can be run.
 ///
@@ -71,6 +71,9 @@ pub struct Table<'r> {
     pub glued: &'r [u16],
     /// The kinds that `operators` has and that those in `glued` begin with.
     pub composed: TokenSet,
+    /// Whether each token of the input, by its index, is hidden: no rule takes it, so it is an error. Those after the
+    /// list aren't.
+    pub hidden: &'r [bool],
 }
 
 /// Rows, from one up to another.
@@ -173,6 +176,29 @@ impl<'r> Table<'r> {
         match self.message_ends.get(number) {
             Some(end) => *end,
             None => 0,
+        }
+    }
+
+    /// Whether the token at an index is hidden.
+    #[inline(always)]
+    pub(crate) fn hides(&self, index: usize) -> bool
+        ensures { result ≡ is_hidden self.now.hidden.now index }
+    {
+        match self.hidden.get(index) {
+            Some(is_hidden) => *is_hidden,
+            None => false,
+        }
+    }
+
+    /// The kind of the token at the position, as rules see it: the end where it is hidden.
+    #[inline(always)]
+    pub(crate) fn current(&self, p: &Parser<'_>) -> SyntaxKind
+        ensures { result ≡ kind_of (text_of self.now p.now) p.now.position }
+    {
+        if self.hides(p.position()) {
+            SyntaxKind::EOF
+        } else {
+            p.current()
         }
     }
 

@@ -1,5 +1,5 @@
 //! What a run keeps.
-ghost use Rattle.std.specs.Prelude.{◌≡◌, ◌≢◌, None, Some, true};
+ghost use Rattle.std.specs.Prelude.{◌≡◌, ◌≢◌, None, Some, false, true};
 ghost use Rattle.squawk_kinds.specs.Kinds.{TOMBSTONE};
 ghost use Rattle.squawk_parser.specs.SomeSteps.{AddsSome};
 ghost use Rattle.squawk_parser.specs.State.{IsSound};
@@ -63,6 +63,7 @@ impl Told {
     pub(crate) fn error(&mut self, message: &str, p: &mut Parser<'_>)
         requires sound { IsSound p.old }
         ensures place { self.new.place ≡ Some p.old.position }
+        ensures none { is_new_after self.old.place p.old.position ≡ false → p.new ≡ p.old }
         ensures adds { AddsSome p.old p.new }
         ensures counts { Counts self.old.place self.new.place p.old p.new }
     {

@@ -26,6 +26,7 @@ pub fn table() -> Table<'static> {
         plain: TokenSet(PLAIN),
         glued: &GLUED,
         composed: TokenSet(COMPOSED),
+        hidden: &[],
     }
 }
 

@@ -51,6 +51,7 @@ pub fn table() -> Table<'static> {
         plain: TokenSet(PLAIN),
         glued: &GLUED,
         composed: TokenSet(COMPOSED),
+        hidden: &[],
     }
 }
 
@@ -82,6 +83,7 @@ fn table() -> Table<'static> {
         plain: TokenSet::EMPTY,
         glued: &[650],
         composed: TokenSet([0, 0, 0, 0, 0, 0, 0, 0, 0, 9223372036854775808]),
+        hidden: &[],
     }
 }
 

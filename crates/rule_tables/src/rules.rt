@@ -138,6 +138,7 @@ impl Rules {
         ensures rows { result.rows.now ≡ self.now.rows }
         ensures sets { result.sets.now ≡ self.now.sets }
         ensures operators { result.operators ≡ self.now.operators }
+        ensures hidden { result.hidden.now ≡ [] }
         ensures no_end { has self.now.operators EOF ≡ false }
     {
         Table {
@@ -150,6 +151,7 @@ impl Rules {
             plain: self.symbols.plain,
             glued: &self.symbols.glued,
             composed: self.symbols.composed,
+            hidden: &[],
         }
     }
 }
@@ -159,7 +161,7 @@ impl Grammar for Rules {
     ghost use Rattle.rule_grammar.specs.Derivations.{IsFile};
 
     // One node over all tokens. If there is no error in it, the rule of a file derives the tokens.
-    ghost leaves = { λ rules _ input draft. IsFile rules.rows rules.sets (record { operator_first = rules.operators; names = [] }) rules.start rules.end input draft };
+    ghost leaves = { λ rules _ input draft. IsFile rules.rows rules.sets [] (record { operator_first = rules.operators; names = [] }) rules.start rules.end input draft };
 
     ghost runs = { λ _ _ _ _. Unit {0} };
 

@@ -203,6 +203,7 @@ fn parsed(alloc: Global, text: &str, depth: u32) -> Result<String, Fail> {
             plain: TokenSet::EMPTY,
             glued: &[],
             composed: TokenSet::EMPTY,
+            hidden: &[],
         },
         start: 0,
         end: 3,

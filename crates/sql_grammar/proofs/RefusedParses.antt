@@ -1,5 +1,5 @@
 -- The refusal of a run is that of a parse.
-use Rattle.std.proofs.Common.{Bor, ◌≡◌, List, arith, subst}
+use Rattle.std.proofs.Common.{Bor, ◌≡◌, Bool, List, arith, subst}
 use Rattle.squawk_kinds.specs.Keywords.{Keywords}
 use Rattle.squawk_output.specs.Steps.{Step}
 use Rattle.squawk_table.specs.ParserInput.{Entry, input_of}
@@ -35,9 +35,9 @@ refused_parse detail contextual table words reason is r =
 
 -- ---- by some rules
 
-pub by_rules : {rules : Bor RuleGrammar} {contextual : Keywords} {table other : Table} {steps : List Step} → AreOfFile (Nodes rules) contextual table steps → table ≡ other
-    → AreByRules contextual other steps
-by_rules {rules} {contextual} {steps = steps} are same = (rules, subst (λ (t : Table). AreOfFile (Nodes rules) contextual t steps) same are)
+pub by_rules : {rules : Bor RuleGrammar} {hidden : List Bool} {contextual : Keywords} {table other : Table} {steps : List Step} → rules.now.table.hidden.now ≡ hidden
+    → AreOfFile (Nodes rules) contextual table steps → table ≡ other → AreByRules hidden contextual other steps
+by_rules {rules} {contextual = contextual} {steps = steps} hides are same = (rules, hides, subst (λ (t : Table). AreOfFile (Nodes rules) contextual t steps) same are)
 
 pub refused_by : {rules : Bor RuleGrammar} {contextual : Keywords} {table other : Table} (reason : ParseError) → IsRefusedParse (Nodes rules) contextual table reason → table ≡ other
     → IsRefusedByRules contextual other reason

@@ -5,3 +5,4 @@ pub mod StatementKinds
 pub mod Statements
 pub mod Words
 pub mod Scripts
+pub mod StrayStrings

@@ -1,5 +1,5 @@
 -- What the parse of a table leaves, and why it is refused.
-use Rattle.std.specs.Prelude.{◌≡◌, ◌^◌, ◌≤◌, List, length}
+use Rattle.std.specs.Prelude.{◌≡◌, ◌^◌, ◌≤◌, Bool, List, length}
 use Rattle.std.specs.Borrow.{Bor}
 use Rattle.squawk_kinds.specs.Keywords.{Keywords}
 use Rattle.squawk_output.specs.Draft.{Draft, plain}
@@ -32,8 +32,10 @@ pub record IsRefusedParse (detail : Detail) (contextual : Keywords) (table : Tab
 
 -- ---- by some rules
 
-abbrev pub AreByRules : Keywords → Table → List Step → Type 0
-AreByRules contextual table steps = (rules : Bor RuleGrammar) × AreOfFile (Nodes rules) contextual table steps
+-- by rules from which these tokens are hidden
+abbrev pub AreByRules : List Bool → Keywords → Table → List Step → Type 0
+AreByRules hidden contextual table steps =
+    (rules : Bor RuleGrammar) × (rules.now.table.hidden.now ≡ hidden) × AreOfFile (Nodes rules) contextual table steps
 
 abbrev pub IsRefusedByRules : Keywords → Table → ParseError → Type 0
 IsRefusedByRules contextual table reason = (rules : Bor RuleGrammar) × IsRefusedParse (Nodes rules) contextual table reason

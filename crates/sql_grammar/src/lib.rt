@@ -17,8 +17,10 @@ mod cut;
 mod parse;
 mod statement_kinds;
 mod statements;
+mod strings;
 
 pub use crate::parse::parse_table;
+pub use crate::strings::stray_strings;
 use crate::statements::statement;
 use rule_grammar::RuleGrammar;
 use sql_words::SqlKind;

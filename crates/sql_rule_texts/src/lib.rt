@@ -6,13 +6,13 @@
 //!
 //! `sql_rules` has them as a table that stands ready. The rules are those of PostgreSQL 15; clauses of later versions
 //! are marked by `-- PostgreSQL 17` and the like. A NAME is what a statement defines, a NAME_REF what it uses, and a PATH
-//! has such names with dots between them. A keyword that stands as a name is an identifier in the tree. `::`, and operators without a kind of their own, are nodes that the
-//! engine makes, COLON_COLON and CUSTOM_OP.
+//! has such names with dots between them. A keyword that stands as a name is an identifier in the tree. `::`, and
+//! operators without a kind of their own, are nodes that the engine makes, COLON_COLON and CUSTOM_OP.
 //!
 //! Where PostgreSQL is stricter, a pass over the tree has to look: doubled options and clauses, options that contradict
-//! one another, VARIADIC before the last argument, calls named by a keyword that is no function, and quoted strings that
-//! continue one another on the same line. Where the rules are stricter: ESCAPE and words that begin an operator, as AND
-//! and AT, are no aliases without AS, BETWEEN and OPERATOR no columns.
+//! one another, VARIADIC before the last argument, and calls named by a keyword that is no function. Where the rules are
+//! stricter: ESCAPE and words that begin an operator, as AND and AT, are no aliases without AS, BETWEEN and OPERATOR no
+//! columns.
 #![tactic(auto)]
 
 mod named_kind;

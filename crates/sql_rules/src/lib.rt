@@ -2,15 +2,27 @@
 //!
 //! `ready.rt` is what `rule_prepare sql` prints of the texts in `sql_rule_texts`, whose test says that it is the same.
 #![tactic(auto)]
+ghost use Rattle.std.specs.Prelude.{◌≡◌};
 
 pub mod ready;
 
-use rule_grammar::RuleGrammar;
+use rule_grammar::{RuleGrammar, Table};
 use sql_words::SqlKind;
 
 /// The rules of a statement. One that no rule begins is a STATEMENT.
-pub fn grammar() -> RuleGrammar<'static> {
-    let mut grammar = ready::grammar();
-    grammar.root = SqlKind::STATEMENT;
-    grammar
+///
+/// No rule takes a token of the input whose item in `hidden` is true: strings that can't go on with the one before, as
+/// `sql_grammar` tells them.
+pub fn grammar(hidden: &[bool]) -> RuleGrammar<'_>
+    ensures { result.table.hidden.now ≡ hidden.now }
+{
+    let ready = ready::grammar();
+    RuleGrammar {
+        table: Table {
+            hidden,
+            ..ready.table
+        },
+        root: SqlKind::STATEMENT,
+        ..ready
+    }
 }

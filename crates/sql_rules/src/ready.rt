@@ -42141,6 +42141,7 @@ pub fn table() -> Table<'static> {
         plain: TokenSet(PLAIN),
         glued: &GLUED,
         composed: TokenSet(COMPOSED),
+        hidden: &[],
     }
 }
 

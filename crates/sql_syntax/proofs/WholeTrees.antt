@@ -6,6 +6,7 @@ use Rattle.squawk_parser.specs.Pipeline.{Given, input_for}
 use Rattle.squawk_parser.specs.Words.{Words}
 use Rattle.rule_grammar.specs.declared.rules.RuleGrammar.{RuleGrammar}
 use Rattle.sql_grammar.specs.Files.{IsFile, Runs}
+use Rattle.sql_grammar.specs.StrayStrings.{stray_strings}
 use Rattle.sql_grammar.specs.declared.Detail.TheVariants.{Nodes}
 use Rattle.syntax_tree.specs.Layout.{Laid}
 use Rattle.syntax_tree.specs.Parsed.{IsParsedTree, IsTreeRefusal}
@@ -16,12 +17,13 @@ use Rattle.sql_syntax.specs.declared.error.SqlError.{SqlError}
 use Rattle.sql_syntax.specs.declared.error.SqlError.TheVariants.{Tree}
 
 -- the grammar leaves no token
-pub is_whole : {rules : Bor RuleGrammar} {g h : Given} {laid : Laid} → g ≡ h → IsParsedTree g (IsFile (Nodes rules)) laid → IsSqlTree h laid
-is_whole {rules} {g} {h} {laid} same parsed =
+pub is_whole : {rules : Bor RuleGrammar} {g h : Given} {laid : Laid} → g ≡ h → rules.now.table.hidden.now ≡ stray_strings g.text g.tokens → IsParsedTree g (IsFile (Nodes rules)) laid → IsSqlTree h laid
+is_whole {rules} {g} {h} {laid} same hides parsed =
     let parse = parsed.parsed.parse in
     let all = parse.left.whole.all in
     subst (λ (h : Given). IsSqlTree h laid) same (record {
       rules = rules;
+      hidden = hides;
       parsed = parsed;
       whole = parsed.whole.1 (omega (arith, all, ap eaten parse.steps, eaten-le parsed.output.steps (input_for g) parse.over));
     })

@@ -4,8 +4,8 @@ ghost use Rattle.sql_syntax.specs.SqlErrors.{RefusesSql};
 ghost use Rattle.sql_syntax.specs.SqlTrees.{IsSqlTree, sql_given};
 
 use crate::error::SqlError;
-use sql_grammar::{Detail, SqlGrammar};
-use sql_lexer::tokenize_script;
+use sql_grammar::{Detail, SqlGrammar, stray_strings};
+use sql_lexer::{TokenizeError, tokenize_script};
 use squawk_parser::{EntryPoint, Vocabulary};
 use std::alloc::Global;
 use syntax_tree::{SyntaxTree, parse_accepted_tree};
@@ -20,7 +20,10 @@ pub fn parse_sql<'s, V: Vocabulary>(
     ensures refused { IfErr result (RefusesSql (sql_given (V.keyword words.now) (V.contextual_keyword words.now) text.now)) }
 {
     let tokens = tokenize_script(alloc, text)?;
-    let rules = sql_rules::grammar();
+    let Ok(strays) = stray_strings(alloc, text, &tokens) else {
+        return Err(SqlError::Tokens(TokenizeError::OutOfMemory));
+    };
+    let rules = sql_rules::grammar(&strays);
     let grammar = SqlGrammar {
         detail: Detail::Nodes(&rules),
     };

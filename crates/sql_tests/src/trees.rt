@@ -7,7 +7,7 @@ mod files;
 mod queries;
 mod statements;
 
-use sql_grammar::{Detail, SqlGrammar};
+use sql_grammar::{Detail, SqlGrammar, stray_strings};
 use sql_lexer::tokenize_script;
 use sql_words::{names, vocabulary};
 use squawk_parser::{EntryPoint, KindNames, OwnedStep, StepList, StepSink, parse_whole_into};
@@ -16,15 +16,21 @@ use std::fmt::Write;
 use std::process::Abort;
 use std::test::Fail;
 
-/// Sends the tree of the text to a sink.
+/// Sends the tree of the text to a sink, by PostgreSQL's rules or by none.
 fn send<S: StepSink<Refusal = AllocError>>(
     alloc: Global,
     text: &str,
-    detail: Detail<'_>,
+    is_by_rules: bool,
     sink: &mut S,
 ) -> Result<(), Fail> {
     let tokens = tokenize_script(alloc, text)?;
     let keywords = vocabulary(alloc)?;
+    let strays = stray_strings(alloc, text, &tokens)?;
+    let rules = sql_rules::grammar(&strays);
+    let detail = match is_by_rules {
+        true => Detail::Nodes(&rules),
+        false => Detail::Tokens,
+    };
     let grammar = SqlGrammar { detail };
     let entry = EntryPoint::SourceFile;
     parse_whole_into(alloc, text, &tokens, &keywords, &grammar, entry, sink)?;
@@ -54,19 +60,18 @@ type Cases = &'static [(&'static str, &'static str)];
 
 /// Parses each text by PostgreSQL's rules, and ends the test unless its file has these nodes.
 fn assert_trees(rt: &(impl Abort + AllocGlobal), cases: Cases) -> Result<(), Fail> {
-    let rules = sql_rules::grammar();
-    assert_nodes(rt, Detail::Nodes(&rules), cases)
+    assert_nodes(rt, true, cases)
 }
 
-/// The same in this detail.
+/// The same by PostgreSQL's rules or by none.
 fn assert_nodes(
     rt: &(impl Abort + AllocGlobal),
-    detail: Detail<'_>,
+    is_by_rules: bool,
     cases: Cases,
 ) -> Result<(), Fail> {
     for (text, nodes) in cases {
         let mut list = StepList::new(rt.alloc());
-        send(rt.alloc(), text, detail, &mut list)?;
+        send(rt.alloc(), text, is_by_rules, &mut list)?;
         let line = line_of(rt.alloc(), list.steps())?;
         let wanted = format!(in rt.alloc(); "SOURCE_FILE{{{nodes}}}")?;
         assert_eq!(rt; line.as_str(), wanted.as_str(), "{text}");

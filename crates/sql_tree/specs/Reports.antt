@@ -11,6 +11,7 @@ use Rattle.squawk_kinds.specs.EngineNames.{names_of}
 use Rattle.sql_words.specs.SqlKinds.{names}
 use Rattle.sql_words.specs.SqlVocabulary.{KnowsKeywords}
 use Rattle.sql_grammar.specs.Parses.{AreByRules}
+use Rattle.sql_grammar.specs.StrayStrings.{stray_strings}
 use Rattle.sql_report.specs.ErrorLines.{error_texts}
 use Rattle.sql_report.specs.Findings.{AreInOrder, all_told}
 use Rattle.sql_report.specs.JsonTrees.{HasTreeLines}
@@ -31,13 +32,13 @@ pub record IsSql (sql : Sql) : Type 0 where
 abbrev pub table_in : Sql → List ℕ → Table
 table_in sql text = table_of (keyword_of sql.vocabulary) text (script_tokens text)
 
--- The steps of a parse of the text by some rules, which fit its table: the texts of what is sent for them are the text. What is
+-- The steps of a parse of the text by rules from which stray strings are hidden. They fit its table: the texts of what is sent for them are the text. What is
 -- listed is that of what is sent, and the errors are the lexical ones and those that are sent, in the order of their
 -- places. With --json the listing has values of JSON: the statements of a tree that is sent.
 pub record IsReport (sql : Sql) (listing : Listing) (name text : List ℕ) (report : Report) : Type 0 where
   pub steps : List Step
   pub fits : Fits (table_in sql text) steps
-  pub of_file : AreByRules (contextual_keyword_of sql.vocabulary) (table_in sql text) steps
+  pub of_file : AreByRules (stray_strings text (script_tokens text)) (contextual_keyword_of sql.vocabulary) (table_in sql text) steps
   pub whole : texts_of (sent_list (table_in sql text) steps) ≡ chars text
   pub findings : List Finding
   pub in_order : AreInOrder (all_told (table_in sql text).errors (sent_list (table_in sql text) steps)) findings

@@ -3,7 +3,7 @@ ghost use Rattle.std.specs.Prelude.{IfOk};
 ghost use Rattle.squawk_tokens.specs.AcceptedTokens.{AreAcceptedTokens};
 
 use crate::texts::Texts;
-use sql_grammar::{Detail, SqlGrammar};
+use sql_grammar::{Detail, SqlGrammar, stray_strings};
 use sql_lexer::{TokenizeError, tokenize_script};
 use squawk_keywords::Keywords;
 use squawk_parser::{
@@ -73,7 +73,8 @@ fn send<S: StepSink<Refusal = AllocError>>(
 ) -> Result<(), AllocError>
     requires { AreAcceptedTokens text.now tokens.now }
 {
-    let rules = sql_rules::grammar();
+    let strays = stray_strings(alloc, text, tokens)?;
+    let rules = sql_rules::grammar(&strays);
     let grammar = SqlGrammar {
         detail: Detail::Nodes(&rules),
     };
@@ -93,7 +94,8 @@ fn tree<'t>(
 ) -> Result<SyntaxTree<'t>, AllocError>
     requires { AreAcceptedTokens text.now tokens.now }
 {
-    let rules = sql_rules::grammar();
+    let strays = stray_strings(alloc, text, tokens)?;
+    let rules = sql_rules::grammar(&strays);
     let grammar = SqlGrammar {
         detail: Detail::Nodes(&rules),
     };
@@ -180,7 +182,8 @@ fn done(alloc: Global, words: &Keywords<'_>, text: &str, phase: Phase) -> Result
         Phase::Parse => {
             let table = LexedStr::from_accepted(alloc, text, &tokens, words)?;
             let input = table.to_input(alloc, words)?;
-            let rules = sql_rules::grammar();
+            let strays = stray_strings(alloc, text, &tokens)?;
+            let rules = sql_rules::grammar(&strays);
             let grammar = SqlGrammar {
                 detail: Detail::Nodes(&rules),
             };

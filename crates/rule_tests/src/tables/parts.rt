@@ -227,6 +227,7 @@ fn parses_parts(rt: HostRuntime) -> Result<(), Fail> {
             plain: PLAIN,
             glued: &glued,
             composed: COMPOSED,
+            hidden: &[],
         },
         start: 0,
         end: 3,

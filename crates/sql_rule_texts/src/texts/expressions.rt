@@ -7,11 +7,12 @@ expression "an expression" = primary | special | DEFAULT => DEFAULT_EXPR
     left  _ OR _ => BIN_EXPR
     left  _ AND _ => BIN_EXPR
     right NOT _ => PREFIX_EXPR
-    none  _ IS NOT? (test | DISTINCT FROM _) => IS_EXPR | _ ISNULL => IS_EXPR | _ NOTNULL => IS_EXPR
+    none  _ IS NOT? DISTINCT FROM _ => IS_EXPR | _ IS NOT? test => IS_EXPR | _ ISNULL => IS_EXPR | _ NOTNULL => IS_EXPR
     none  _ ('<' | '>' | '=' | '<=' | '>=' | '<>' | '!=') (some_of | _) => BIN_EXPR
     left  _ ~LIKE_EXPR ESCAPE _ => LIKE_EXPR
-    none  _ NOT? (BETWEEN (ASYMMETRIC | SYMMETRIC)? plain_expression AND _ => BETWEEN_EXPR | IN in_list => IN_EXPR
+    none  _ NOT? (BETWEEN (ASYMMETRIC | SYMMETRIC)? plain_expression AND _ => BETWEEN_EXPR
             | (LIKE | ILIKE) (some_of | _) => LIKE_EXPR | SIMILAR TO? _ => LIKE_EXPR)
+        | _ NOT? IN in_list => IN_EXPR
         | _ ~ROW_EXPR OVERLAPS _ ~ROW_EXPR => OVERLAPS_EXPR
     left  _ other_sign (some_of | _) => BIN_EXPR | other_sign _ => PREFIX_EXPR
     left  _ ('+' | '-') (some_of | _) => BIN_EXPR
@@ -24,7 +25,7 @@ expression "an expression" = primary | special | DEFAULT => DEFAULT_EXPR
 
 -- An expression without what also goes on after it: NOT, AND, IN, LIKE and the like.
 plain_expression "an expression" = primary | special
-    none  _ IS NOT? (DOCUMENT | DISTINCT FROM _) => IS_EXPR
+    none  _ IS NOT? DISTINCT FROM _ => IS_EXPR | _ IS NOT? DOCUMENT => IS_EXPR
     none  _ ('<' | '>' | '=' | '<=' | '>=' | '<>' | '!=') _ => BIN_EXPR
     left  _ other_sign _ => BIN_EXPR | other_sign _ => PREFIX_EXPR
     left  _ ('+' | '-') _ => BIN_EXPR
@@ -52,6 +53,7 @@ primary "an expression" = operand
 -- A keyword that is no function is a name where nothing else fits.
 operand "an expression" = paren
     / Constant => LITERAL
+    / prefixed_string
     / constant_string
     / POSITIONAL_PARAM => PARAM_REF
     / variable

@@ -2,7 +2,6 @@
 //! documentation, part VI, "SQL Commands".
 
 use crate::trees::{Cases, assert_nodes};
-use sql_grammar::Detail;
 use std::test::Fail;
 
 /// A statement for each first word, and the node of its tokens.
@@ -106,6 +105,6 @@ static ENDS: [(&str, &str); 15] = [
 #[test]
 fn statements_have_their_tokens(rt: HostRuntime) -> Result<(), Fail> {
     let cases: Cases = &FIRST_WORDS;
-    assert_nodes(&rt, Detail::Tokens, cases)?;
-    assert_nodes(&rt, Detail::Tokens, &ENDS)
+    assert_nodes(&rt, false, cases)?;
+    assert_nodes(&rt, false, &ENDS)
 }

@@ -13,7 +13,7 @@ returns-clause-written c =
       cut = record {
         table = table;
         walk = walk;
-        of_text = steps_by_rules c.in_ok-sql.ensures.steps same;
+        of_text = steps_by_rules (search rules) c.in_ok-sql.ensures.steps same;
         are = search rules;
         count_is = search rules;
       };

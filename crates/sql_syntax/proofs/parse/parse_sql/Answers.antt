@@ -17,4 +17,5 @@ returns-clause-tree g c =
     is_whole
     (ap (λ (tokens : List Token). given (g.V.Vocabulary.keyword c.args.words.now) (g.V.Vocabulary.contextual_keyword c.args.words.now) c.args.text.now tokens)
     (c.deref.ensures.value ∙ c.in_ok-tokens.ensures.tokens))
+    (search rules)
     c.in_ok-tree.ensures.tree

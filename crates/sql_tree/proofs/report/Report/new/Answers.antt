@@ -45,7 +45,7 @@ returns-clause-told c =
     record {
       steps = steps;
       fits = subst (λ table. Fits table steps) same c.in_ok-output.ensures.fits;
-      of_file = by_rules c.in_ok-output.ensures.file same;
+      of_file = by_rules (search rules) c.in_ok-output.ensures.file same;
       whole = subst (λ table. texts_of (sent_list table steps) ≡ chars table.text) same c.in_ok-output.ensures.whole;
       findings = findings;
       in_order = subst (λ table. AreInOrder (all_told table.errors (sent_list table steps)) findings) same walked.findings;
