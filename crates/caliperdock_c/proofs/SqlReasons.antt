@@ -45,7 +45,7 @@ of_parse detail text keywords table parse.TooManyEvents has r = record { keyword
 of_parse detail text keywords table parse.TooManyErrors has r = record { keywords = keywords; table = table; of_text = has; refused = r (λ same. let p = same in cc) }
 
 -- the steps of a parse by rules
-pub steps_by_rules : {rules : Bor RuleGrammar} {text other : List ℕ} {table : RawTable} {walk : List Step} → rules.now.table.hidden.now ≡ stray_strings text (script_tokens text)
+pub steps_by_rules : {rules : Bor RuleGrammar} {text other : List ℕ} {table : RawTable} {walk : List Step} → rules.now.table.hidden.tokens.now ≡ stray_strings text (script_tokens text)
     → AreOfSql (Nodes rules) text table walk → text ≡ other → AreByRules other table walk
 steps_by_rules {rules} {text} {table = table} {walk = walk} hides are same =
     subst (λ (text : List ℕ). AreByRules text table walk) same (rules, hides, are)

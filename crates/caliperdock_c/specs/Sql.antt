@@ -70,7 +70,7 @@ RefusesSql refused text reason = ⊥
 -- by rules from which stray strings are hidden
 abbrev pub AreByRules : List ℕ → RawTable → List Step → Type 0
 AreByRules text table steps =
-    (rules : Bor RuleGrammar) × (rules.now.table.hidden.now ≡ stray_strings text (script_tokens text)) × AreOfSql (Nodes rules) text table steps
+    (rules : Bor RuleGrammar) × (rules.now.table.hidden.tokens.now ≡ stray_strings text (script_tokens text)) × AreOfSql (Nodes rules) text table steps
 
 abbrev pub IsRefusedByRules : List ℕ → ParseError → Type 0
 IsRefusedByRules text reason = (rules : Bor RuleGrammar) × IsRefusedSql (Nodes rules) text reason

@@ -24,9 +24,9 @@ some_then {a} p q = record {
 -- a parser that goes on has the same text
 pub same_text : (table : Table) {a b : State} → Keeps a b → text_of table b ≡ text_of table a
 same_text table {a} {b} keeps =
-    ap (λ w. record { rows = table.rows.now; sets = table.sets.now; hidden = table.hidden.now; words = w; input = b.input; limit = b.limit }) keeps.words
-    ∙ (ap (λ i. record { rows = table.rows.now; sets = table.sets.now; hidden = table.hidden.now; words = a.words; input = i; limit = b.limit }) keeps.input
-    ∙ ap (λ l. record { rows = table.rows.now; sets = table.sets.now; hidden = table.hidden.now; words = a.words; input = a.input; limit = l }) keeps.limit)
+    ap (λ w. record { rows = table.rows.now; sets = table.sets.now; hidden = table.hidden.tokens.now; words = w; input = b.input; limit = b.limit }) keeps.words
+    ∙ (ap (λ i. record { rows = table.rows.now; sets = table.sets.now; hidden = table.hidden.tokens.now; words = a.words; input = i; limit = b.limit }) keeps.input
+    ∙ ap (λ l. record { rows = table.rows.now; sets = table.sets.now; hidden = table.hidden.tokens.now; words = a.words; input = a.input; limit = l }) keeps.limit)
 
 pub moved : (table : Table) {a b : State} {span : Span} {t u : Option ℕ} {i j : ℕ} → Keeps a b
     → Derived (text_of table b) span t u i j → Derived (text_of table a) span t u i j

@@ -27,7 +27,7 @@ grows {a} {b} some goes =
     omega arith
 
 pub file-all : (table : Table) {words : Words} {start end : ℕ} {a b c d : State} {m : Mark} {kind : ℕ} → IsFresh a → a.words ≡ words
-    → Begins m a b → Content table start end b c → Completes m.id kind c d → kind_at c 0 ≡ EOF → HasNotFailed d → IsFile table.rows.now table.sets.now table.hidden.now words start end a.input d.draft
+    → Begins m a b → Content table start end b c → Completes m.id kind c d → kind_at c 0 ≡ EOF → HasNotFailed d → IsFile table.rows.now table.sets.now table.hidden.tokens.now words start end a.input d.draft
 file-all table {words} {start} {end} {a} {b} {c} {d} {m} {kind} fresh words_are begins file completes at goes = record {
   whole = whole_some fresh begins file.some completes at goes;
   derived = λ none.
@@ -47,7 +47,7 @@ file-all table {words} {start} {end} {a} {b} {c} {d} {m} {kind} fresh words_are 
       let from : Derives (text_of table b) (block start end) 0 c.position = subst (λ (i : ℕ). Derives (text_of table b) (block start end) i c.position) start_at derived in
       let to : Derives (text_of table b) (block start end) 0 (length a.input) = subst (λ (i : ℕ). Derives (text_of table b) (block start end) 0 i) end_at from in
       let of_a : Derives (text_of table a) (block start end) 0 (length a.input) = subst (λ (x : Text). Derives x (block start end) 0 (length a.input)) (same_text table begins.keeps) to in
-      let with_words : Derives (record { rows = table.rows.now; sets = table.sets.now; hidden = table.hidden.now; words = words; input = a.input; limit = a.limit }) (block start end) 0 (length a.input) =
-      subst (λ (w : Words). Derives (record { rows = table.rows.now; sets = table.sets.now; hidden = table.hidden.now; words = w; input = a.input; limit = a.limit }) (block start end) 0 (length a.input)) words_are of_a in
-      subst (λ (n : ℕ). Derives (record { rows = table.rows.now; sets = table.sets.now; hidden = table.hidden.now; words = words; input = a.input; limit = n }) (block start end) 0 (length a.input)) limit with_words;
+      let with_words : Derives (record { rows = table.rows.now; sets = table.sets.now; hidden = table.hidden.tokens.now; words = words; input = a.input; limit = a.limit }) (block start end) 0 (length a.input) =
+      subst (λ (w : Words). Derives (record { rows = table.rows.now; sets = table.sets.now; hidden = table.hidden.tokens.now; words = w; input = a.input; limit = a.limit }) (block start end) 0 (length a.input)) words_are of_a in
+      subst (λ (n : ℕ). Derives (record { rows = table.rows.now; sets = table.sets.now; hidden = table.hidden.tokens.now; words = words; input = a.input; limit = n }) (block start end) 0 (length a.input)) limit with_words;
 }

@@ -28,7 +28,7 @@ pub record Text : Type 0 where
 
 -- those of a parser
 abbrev pub text_of : Table → State → Text
-text_of table s = record { rows = table.rows.now; sets = table.sets.now; hidden = table.hidden.now; words = s.words; input = s.input; limit = s.limit }
+text_of table s = record { rows = table.rows.now; sets = table.sets.now; hidden = table.hidden.tokens.now; words = s.words; input = s.input; limit = s.limit }
 
 -- whether token i is hidden
 abbrev pub is_hidden : List Bool → ℕ → Bool
@@ -169,7 +169,7 @@ AreInside list start end outer_start outer_end =
 -- A token of a kind is eaten, or the tokens of a composite one.
 abbrev pub EatsKind : Table → ℕ → State → State → Type 0
 EatsKind table kind old new = ((kind_of (text_of table old) old.position ≡ kind) × (new.position ≡ old.position + 1))
-    ⊎ ((is_hidden table.hidden.now old.position ≡ false) × (stands_at (has old.words.operator_first) kind (ahead old 0) ≡ true)
+    ⊎ ((is_hidden table.hidden.tokens.now old.position ≡ false) × (stands_at (has old.words.operator_first) kind (ahead old 0) ≡ true)
     × (new.position ≡ old.position + eaten (eat_steps old.words kind (ahead old 0))))
 
 -- Nothing is eaten, and where a list goes on, its separator is next.

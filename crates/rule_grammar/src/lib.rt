@@ -2,6 +2,7 @@
 //!
 //! ```text
 //! Table         the rules: rows of parts, sets of kinds, looks at further tokens, messages
+//! Hidden        tokens that no rule takes
 //! bit_of        how sets tell of composite kinds
 //! RuleGrammar   a table with the rule that a file begins with, as a grammar
 //! ```
@@ -25,4 +26,4 @@ mod ways;
 pub use part::Part;
 pub use rules::{DEPTH, RuleGrammar};
 pub use symbol::bit_of;
-pub use table::Table;
+pub use table::{Hidden, Table};

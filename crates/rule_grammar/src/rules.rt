@@ -40,7 +40,7 @@ impl<'r> Grammar for RuleGrammar<'r> {
 
     // One node over all tokens, whatever the numbers of the table are. If there is no error in it, the rule of a file
     // derives the tokens.
-    ghost leaves = { λ rules _ input draft. IsFile rules.table.rows.now rules.table.sets.now rules.table.hidden.now
+    ghost leaves = { λ rules _ input draft. IsFile rules.table.rows.now rules.table.sets.now rules.table.hidden.tokens.now
         (record { operator_first = operators_of rules.table.operators; names = map (λ pair. (pair.0, pair.1.now)) rules.names.now }) rules.start rules.end input draft };
 
     ghost runs = { λ _ _ _ _. Unit {0} };
@@ -91,13 +91,13 @@ impl RuleGrammar<'_> {
         };
         let mut told = Told::new(self.root);
         root(&Open::file(&self.table, self.depth), rows, &mut told, p);
-        left_over(&mut told, p);
+        left_over(&self.table, &mut told, p);
         told.leave(SyntaxKind::ERROR)
     }
 }
 
 /// The tokens after the rule of a file: an error with all of them.
-fn left_over(told: &mut Told, p: &mut Parser<'_>)
+fn left_over(table: &Table<'_>, told: &mut Told, p: &mut Parser<'_>)
     requires { IsSound p.old }
     ensures adds { AddsSome p.old p.new }
     ensures all { kind_at p.new 0 ≡ EOF }
@@ -105,18 +105,19 @@ fn left_over(told: &mut Told, p: &mut Parser<'_>)
     ensures counts { Counts told.old.place told.new.place p.old p.new }
 {
     if p.current() != SyntaxKind::EOF {
-        error_to_end(told, p);
+        error_to_end(table, told, p);
     }
 }
 
-fn error_to_end(told: &mut Told, p: &mut Parser<'_>)
+fn error_to_end(table: &Table<'_>, told: &mut Told, p: &mut Parser<'_>)
     ensures adds { AddsSome p.old p.new }
     ensures all { kind_at p.new 0 ≡ EOF }
     ensures tells { IsSome told.new.place }
     ensures counts { Counts told.old.place told.new.place p.old p.new }
 {
     let node = p.start();
-    told.error("unexpected token", p);
+    let message = table.unexpected(p);
+    told.error(message, p);
     bump_all(p);
     node.complete(p, SyntaxKind::ERROR);
 }

@@ -21,7 +21,7 @@ pub(crate) fn tell(rule: &Open<'_>, row: u16, told: &mut Told, p: &mut Parser<'_
     if inside > 0 {
         skip_some(rule, row, inside, told, p);
     } else if goes_on(rule, row, p) {
-        told.error(rule.table.message(row), p);
+        told.error(rule.table.missing(row, p), p);
     } else {
         skip_unexpected(rule, row, told, p);
     }
@@ -76,7 +76,7 @@ fn skip_some(rule: &Open<'_>, row: u16, count: usize, told: &mut Told, p: &mut P
     ensures counts { Counts told.old.place told.new.place p.old p.new }
 {
     let node = p.start();
-    told.error(rule.table.message(row), p);
+    told.error(rule.table.missing(row, p), p);
     bump_some(count, p);
     node.complete(p, SyntaxKind::ERROR);
 }
@@ -120,7 +120,7 @@ fn skip_unexpected(rule: &Open<'_>, row: u16, told: &mut Told, p: &mut Parser<'_
     ensures counts { Counts told.old.place told.new.place p.old p.new }
 {
     let node = p.start();
-    told.error(rule.table.message(row), p);
+    told.error(rule.table.missing(row, p), p);
     bump_to(rule, row, p);
     node.complete(p, SyntaxKind::ERROR);
 }

@@ -71,9 +71,24 @@ pub struct Table<'r> {
     pub glued: &'r [u16],
     /// The kinds that `operators` has and that those in `glued` begin with.
     pub composed: TokenSet,
-    /// Whether each token of the input, by its index, is hidden: no rule takes it, so it is an error. Those after the
-    /// list aren't.
-    pub hidden: &'r [bool],
+    pub hidden: Hidden<'r>,
+}
+
+/// The tokens of an input that no rule takes, so that each is an error.
+#[derive(Clone, Copy)]
+pub struct Hidden<'r> {
+    /// Whether each token, by its index, is hidden. Those after the list aren't.
+    pub tokens: &'r [bool],
+    /// What is told of one.
+    pub message: &'r str,
+}
+
+impl Hidden<'static> {
+    /// No token is hidden.
+    pub const NONE: Hidden<'static> = Hidden {
+        tokens: &[],
+        message: "",
+    };
 }
 
 /// Rows, from one up to another.
@@ -172,6 +187,22 @@ impl<'r> Table<'r> {
         }
     }
 
+    /// What is told where a row is missing.
+    pub(crate) fn missing(&self, row: u16, p: &Parser<'_>) -> &'r str {
+        match self.hides(p.position()) {
+            true => self.hidden.message,
+            false => self.message(row),
+        }
+    }
+
+    /// What is told of a token that stands after all that rules take.
+    pub(crate) fn unexpected(&self, p: &Parser<'_>) -> &'r str {
+        match self.hides(p.position()) {
+            true => self.hidden.message,
+            false => "unexpected token",
+        }
+    }
+
     fn message_end(&self, number: usize) -> usize {
         match self.message_ends.get(number) {
             Some(end) => *end,
@@ -182,9 +213,9 @@ impl<'r> Table<'r> {
     /// Whether the token at an index is hidden.
     #[inline(always)]
     pub(crate) fn hides(&self, index: usize) -> bool
-        ensures { result ≡ is_hidden self.now.hidden.now index }
+        ensures { result ≡ is_hidden self.now.hidden.tokens.now index }
     {
-        match self.hidden.get(index) {
+        match self.hidden.tokens.get(index) {
             Some(is_hidden) => *is_hidden,
             None => false,
         }

@@ -12,6 +12,8 @@ pub record HaveSameLists (one other : Table) : Type 0 where
   pub looks : one.looks.now ≡ other.looks.now
   pub messages : one.messages.now ≡ other.messages.now
   pub message_ends : one.message_ends.now ≡ other.message_ends.now
+  pub hidden : one.hidden.tokens.now ≡ other.hidden.tokens.now
+  pub hidden_message : one.hidden.message.now ≡ other.hidden.message.now
 
 -- and its kinds of operators
 pub record HaveSameKinds (one other : Table) : Type 0 where

@@ -1,14 +1,14 @@
 //! A table as the source of a module.
 use crate::items::{arrays, numbers, pieces};
 use crate::layout::list;
-use rule_grammar::{RuleGrammar, Table};
+use rule_grammar::{Hidden, RuleGrammar, Table};
 use std::alloc::{AllocError, Global};
 use std::fmt::Write;
 
 /// What a module begins with.
 const HEAD: &str = "\
 //! Rules as a table, as `rule_source` prints it. Don't edit it: print it again.
-use rule_grammar::{RuleGrammar, Table};
+use rule_grammar::{Hidden, RuleGrammar, Table};
 use squawk_parser::{SyntaxKind, TokenSet};
 ";
 
@@ -26,7 +26,7 @@ pub fn table() -> Table<'static> {
         plain: TokenSet(PLAIN),
         glued: &GLUED,
         composed: TokenSet(COMPOSED),
-        hidden: &[],
+        hidden: Hidden::NONE,
     }
 }
 

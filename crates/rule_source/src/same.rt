@@ -5,7 +5,7 @@ ghost use Rattle.rule_source.specs.Same.{HaveSameKinds, HaveSameLists, IsSame, n
 use rule_grammar::{RuleGrammar, Table};
 use squawk_parser::SyntaxKind;
 
-/// Whether two grammars are the same: each row, set, look and message, each kind and each number.
+/// Whether two grammars are the same: each row, set, look and message, each kind and each number, and what is hidden.
 ///
 /// So all that `rule_tables` promises of a grammar that it makes holds of a constant that is the same.
 pub fn is_same(one: &RuleGrammar<'_>, other: &RuleGrammar<'_>) -> bool
@@ -28,6 +28,8 @@ fn have_same_lists(one: &Table<'_>, other: &Table<'_>) -> bool
         && are_same_arrays(one.looks, other.looks)
         && one.messages == other.messages
         && one.message_ends == other.message_ends
+        && one.hidden.tokens == other.hidden.tokens
+        && one.hidden.message == other.hidden.message
 }
 
 fn are_same_arrays<const N: usize>(one: &[[u16; N]], other: &[[u16; N]]) -> bool

@@ -1,7 +1,7 @@
 //! Tests of what is printed, and of how it is laid out.
 use crate::layout::list;
 use crate::source;
-use rule_grammar::{RuleGrammar, Table};
+use rule_grammar::{Hidden, RuleGrammar, Table};
 use squawk_parser::{SyntaxKind, TokenSet};
 use std::alloc::{AllocError, Global};
 use std::test::Fail;
@@ -9,7 +9,7 @@ use std::test::Fail;
 /// A table of three rows, in which rows and messages stand in a line each or in one.
 const PRINTED: &str = "\
 //! Rules as a table, as `rule_source` prints it. Don't edit it: print it again.
-use rule_grammar::{RuleGrammar, Table};
+use rule_grammar::{Hidden, RuleGrammar, Table};
 use squawk_parser::{SyntaxKind, TokenSet};
 
 static ROWS: [[u16; 8]; 3] = [
@@ -51,7 +51,7 @@ pub fn table() -> Table<'static> {
         plain: TokenSet(PLAIN),
         glued: &GLUED,
         composed: TokenSet(COMPOSED),
-        hidden: &[],
+        hidden: Hidden::NONE,
     }
 }
 
@@ -83,7 +83,7 @@ fn table() -> Table<'static> {
         plain: TokenSet::EMPTY,
         glued: &[650],
         composed: TokenSet([0, 0, 0, 0, 0, 0, 0, 0, 0, 9223372036854775808]),
-        hidden: &[],
+        hidden: Hidden::NONE,
     }
 }
 

@@ -29,7 +29,7 @@ use crate::set_words::all_words;
 use crate::sets::Sets;
 use crate::symbols::Symbols;
 use crate::walk::Walk;
-use rule_grammar::{DEPTH, Part as Row, Table};
+use rule_grammar::{DEPTH, Hidden, Part as Row, Table};
 use rule_parts::Part;
 use squawk_kinds::TokenSet;
 use squawk_parser::{Grammar, Parser, WholeGrammar, Words};
@@ -138,7 +138,7 @@ impl Rules {
         ensures rows { result.rows.now ≡ self.now.rows }
         ensures sets { result.sets.now ≡ self.now.sets }
         ensures operators { result.operators ≡ self.now.operators }
-        ensures hidden { result.hidden.now ≡ [] }
+        ensures hidden { result.hidden.tokens.now ≡ [] }
         ensures no_end { has self.now.operators EOF ≡ false }
     {
         Table {
@@ -151,7 +151,7 @@ impl Rules {
             plain: self.symbols.plain,
             glued: &self.symbols.glued,
             composed: self.symbols.composed,
-            hidden: &[],
+            hidden: Hidden::NONE,
         }
     }
 }

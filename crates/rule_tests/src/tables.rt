@@ -9,7 +9,7 @@
 
 mod parts;
 
-use rule_grammar::{DEPTH, RuleGrammar, Table};
+use rule_grammar::{DEPTH, Hidden, RuleGrammar, Table};
 use squawk_parser::{
     Base, EntryPoint, LiteralKind, NoKeywords, OwnedStep, StepList, SyntaxKind, Token, TokenKind,
     TokenSet, parse_whole_into,
@@ -189,8 +189,8 @@ fn line_of(alloc: Global, steps: &[OwnedStep]) -> Result<String, AllocError> {
     Ok(line)
 }
 
-/// The line of a text's tree, where rules may be called in one another so often.
-fn parsed(alloc: Global, text: &str, depth: u32) -> Result<String, Fail> {
+/// The line of a text's tree, where rules may be called in one another so often and these tokens are hidden.
+fn parsed(alloc: Global, text: &str, depth: u32, hidden: Hidden<'_>) -> Result<String, Fail> {
     let sets = sets_of(alloc, &SETS)?;
     let rules = RuleGrammar {
         table: Table {
@@ -203,7 +203,7 @@ fn parsed(alloc: Global, text: &str, depth: u32) -> Result<String, Fail> {
             plain: TokenSet::EMPTY,
             glued: &[],
             composed: TokenSet::EMPTY,
-            hidden: &[],
+            hidden,
         },
         start: 0,
         end: 3,
@@ -265,7 +265,7 @@ static CASES: [(&str, &str); 14] = [
 #[test]
 fn parses_cases(rt: HostRuntime) -> Result<(), Fail> {
     for (text, wanted) in &CASES {
-        let line = parsed(rt.alloc(), text, DEPTH)?;
+        let line = parsed(rt.alloc(), text, DEPTH, Hidden::NONE)?;
         let wanted = format!(in rt.alloc(); "FILE{{{wanted}}}")?;
         assert_eq!(rt; line.as_str(), wanted.as_str(), "{text}");
     }
@@ -275,15 +275,35 @@ fn parses_cases(rt: HostRuntime) -> Result<(), Fail> {
 /// A statement and an expression are two rules, and an expression in parentheses is one more.
 #[test]
 fn stops_at_the_depth(rt: HostRuntime) -> Result<(), Fail> {
-    let whole = parsed(rt.alloc(), "((a));", 4)?;
+    let whole = parsed(rt.alloc(), "((a));", 4, Hidden::NONE)?;
     assert_eq!(rt;
         whole.as_str(),
         "FILE{STATEMENT{PAREN{(PAREN{(NAME{a})})}};}"
     );
-    let cut = parsed(rt.alloc(), "(((a)));", 3)?;
+    let cut = parsed(rt.alloc(), "(((a)));", 3, Hidden::NONE)?;
     assert_eq!(rt;
         cut.as_str(),
         "FILE{STATEMENT{PAREN{(PAREN{(ERROR{!nested too deep!(a)})})}};}"
+    );
+    Ok(())
+}
+
+/// No rule takes the third token of the text.
+#[test]
+fn takes_no_hidden_token(rt: HostRuntime) -> Result<(), Fail> {
+    let third = Hidden {
+        tokens: &[false, false, true],
+        message: "this is hidden",
+    };
+    let operand = parsed(rt.alloc(), "a*b;c;", DEPTH, third)?;
+    assert_eq!(rt;
+        operand.as_str(),
+        "FILE{STATEMENT{PRODUCT{NAME{a}*ERROR{!this is hidden!b}}};STATEMENT{NAME{c}};}"
+    );
+    let statement = parsed(rt.alloc(), "a;b", DEPTH, third)?;
+    assert_eq!(rt;
+        statement.as_str(),
+        "FILE{STATEMENT{NAME{a}};ERROR{!this is hidden!b}}"
     );
     Ok(())
 }

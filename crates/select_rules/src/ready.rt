@@ -1,5 +1,5 @@
 //! Rules as a table, as `rule_source` prints it. Don't edit it: print it again.
-use rule_grammar::{RuleGrammar, Table};
+use rule_grammar::{Hidden, RuleGrammar, Table};
 use squawk_parser::{SyntaxKind, TokenSet};
 
 static ROWS: [[u16; 8]; 81] = [
@@ -295,7 +295,7 @@ pub fn table() -> Table<'static> {
         plain: TokenSet(PLAIN),
         glued: &GLUED,
         composed: TokenSet(COMPOSED),
-        hidden: &[],
+        hidden: Hidden::NONE,
     }
 }
 

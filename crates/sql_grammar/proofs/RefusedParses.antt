@@ -35,7 +35,7 @@ refused_parse detail contextual table words reason is r =
 
 -- ---- by some rules
 
-pub by_rules : {rules : Bor RuleGrammar} {hidden : List Bool} {contextual : Keywords} {table other : Table} {steps : List Step} → rules.now.table.hidden.now ≡ hidden
+pub by_rules : {rules : Bor RuleGrammar} {hidden : List Bool} {contextual : Keywords} {table other : Table} {steps : List Step} → rules.now.table.hidden.tokens.now ≡ hidden
     → AreOfFile (Nodes rules) contextual table steps → table ≡ other → AreByRules hidden contextual other steps
 by_rules {rules} {contextual = contextual} {steps = steps} hides are same = (rules, hides, subst (λ (t : Table). AreOfFile (Nodes rules) contextual t steps) same are)
 

@@ -29,7 +29,7 @@ rules_for (Nodes rules) kind n = if nat_lt 0 n && not (kind == PSQL_COMMAND) the
 -- the first of some rules derives the tokens of an input from one up to another, and sees no more of it
 abbrev pub RulesDerive : Words → List Entry → ℕ → ℕ → Bor RuleGrammar → Type 0
 RulesDerive words input from to rules =
-    Derives (record { rows = rules.now.table.rows.now; sets = rules.now.table.sets.now; hidden = rules.now.table.hidden.now; words = words; input = input; limit = to })
+    Derives (record { rows = rules.now.table.rows.now; sets = rules.now.table.sets.now; hidden = rules.now.table.hidden.tokens.now; words = words; input = input; limit = to })
     (block rules.now.start rules.now.end) from to
 
 -- How a statement is parsed. By rules: where they told no error, they derive its tokens. Without: its node has its kind and

@@ -35,7 +35,7 @@ pub record IsRefusedParse (detail : Detail) (contextual : Keywords) (table : Tab
 -- by rules from which these tokens are hidden
 abbrev pub AreByRules : List Bool → Keywords → Table → List Step → Type 0
 AreByRules hidden contextual table steps =
-    (rules : Bor RuleGrammar) × (rules.now.table.hidden.now ≡ hidden) × AreOfFile (Nodes rules) contextual table steps
+    (rules : Bor RuleGrammar) × (rules.now.table.hidden.tokens.now ≡ hidden) × AreOfFile (Nodes rules) contextual table steps
 
 abbrev pub IsRefusedByRules : Keywords → Table → ParseError → Type 0
 IsRefusedByRules contextual table reason = (rules : Bor RuleGrammar) × IsRefusedParse (Nodes rules) contextual table reason

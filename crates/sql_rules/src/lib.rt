@@ -6,20 +6,26 @@ ghost use Rattle.std.specs.Prelude.{◌≡◌};
 
 pub mod ready;
 
-use rule_grammar::{RuleGrammar, Table};
+use rule_grammar::{Hidden, RuleGrammar, Table};
 use sql_words::SqlKind;
+
+/// What is told of a string that can't go on with the one before it.
+const STRAY: &str = "expected a line break between two strings";
 
 /// The rules of a statement. One that no rule begins is a STATEMENT.
 ///
 /// No rule takes a token of the input whose item in `hidden` is true: strings that can't go on with the one before, as
 /// `sql_grammar` tells them.
 pub fn grammar(hidden: &[bool]) -> RuleGrammar<'_>
-    ensures { result.table.hidden.now ≡ hidden.now }
+    ensures { result.table.hidden.tokens.now ≡ hidden.now }
 {
     let ready = ready::grammar();
     RuleGrammar {
         table: Table {
-            hidden,
+            hidden: Hidden {
+                tokens: hidden,
+                message: STRAY,
+            },
             ..ready.table
         },
         root: SqlKind::STATEMENT,

@@ -17,7 +17,7 @@ use Rattle.sql_syntax.specs.declared.error.SqlError.{SqlError}
 use Rattle.sql_syntax.specs.declared.error.SqlError.TheVariants.{Tree}
 
 -- the grammar leaves no token
-pub is_whole : {rules : Bor RuleGrammar} {g h : Given} {laid : Laid} → g ≡ h → rules.now.table.hidden.now ≡ stray_strings g.text g.tokens → IsParsedTree g (IsFile (Nodes rules)) laid → IsSqlTree h laid
+pub is_whole : {rules : Bor RuleGrammar} {g h : Given} {laid : Laid} → g ≡ h → rules.now.table.hidden.tokens.now ≡ stray_strings g.text g.tokens → IsParsedTree g (IsFile (Nodes rules)) laid → IsSqlTree h laid
 is_whole {rules} {g} {h} {laid} same hides parsed =
     let parse = parsed.parsed.parse in
     let all = parse.left.whole.all in

@@ -18,6 +18,6 @@ sql_given keyword contextual text = given keyword contextual text (script_tokens
 -- a tree of a file, by rules from which stray strings are hidden, that has all of what is given
 pub record IsSqlTree (g : Given) (laid : Laid) : Type 0 where
   pub rules : Bor RuleGrammar
-  pub hidden : rules.now.table.hidden.now ≡ stray_strings g.text g.tokens
+  pub hidden : rules.now.table.hidden.tokens.now ≡ stray_strings g.text g.tokens
   pub parsed : IsParsedTree g (IsFile (Nodes rules)) laid
   pub whole : laid.text ≡ g.text

@@ -11,7 +11,7 @@ use super::{
     EQ, IDENT, L_PAREN, LABEL, NAME, NONE, PAREN, PLUS, R_PAREN, ROOT, SEMICOLON, STAR, STATEMENT,
     parsed_by, sets_of,
 };
-use rule_grammar::{DEPTH, RuleGrammar, Table, bit_of};
+use rule_grammar::{DEPTH, Hidden, RuleGrammar, Table, bit_of};
 use squawk_parser::{SyntaxKind, TokenSet, token_set};
 use std::test::Fail;
 
@@ -227,7 +227,7 @@ fn parses_parts(rt: HostRuntime) -> Result<(), Fail> {
             plain: PLAIN,
             glued: &glued,
             composed: COMPOSED,
-            hidden: &[],
+            hidden: Hidden::NONE,
         },
         start: 0,
         end: 3,

@@ -43,12 +43,14 @@ alter_user_mapping = ALTER USER MAPPING FOR mapped_user SERVER name_ref alter_op
 mapped_user "a role" = role | USER => ROLE_REF
 import_foreign_schema = IMPORT FOREIGN SCHEMA name_ref ((LIMIT TO | EXCEPT) '(' {relation} ')')? FROM SERVER name_ref INTO name_ref foreign_options? => IMPORT_FOREIGN_SCHEMA
 
-create_publication = CREATE PUBLICATION name (FOR (ALL TABLES | {publication_item}))? (WITH definition)? => CREATE_PUBLICATION
-publication_item "a table" = TABLE published_table => PUBLICATION_ITEM
-    / TABLES IN SCHEMA (CURRENT_SCHEMA / name_ref) => PUBLICATION_ITEM
-    / (CURRENT_SCHEMA / published_table) => PUBLICATION_ITEM
+create_publication = CREATE PUBLICATION name (FOR (ALL TABLES | published))? (WITH definition)? => CREATE_PUBLICATION
+-- A name without a word before it is what the one before is.
+published = first_published (',' publication_item)*
+first_published "TABLE or TABLES" = TABLE published_table => PUBLICATION_ITEM
+    | TABLES IN SCHEMA (CURRENT_SCHEMA / name_ref) => PUBLICATION_ITEM
+publication_item "a table" = first_published / (CURRENT_SCHEMA / published_table) => PUBLICATION_ITEM
 published_table "a table name" = relation columns? (WHERE '(' expression ')')?
-alter_publication = ALTER PUBLICATION name_ref (SET definition | (ADD | SET | DROP) {publication_item} | rename | owner_to) => ALTER_PUBLICATION
+alter_publication = ALTER PUBLICATION name_ref (SET definition | (ADD | SET | DROP) published | rename | owner_to) => ALTER_PUBLICATION
 create_subscription = CREATE SUBSCRIPTION name CONNECTION string PUBLICATION names (WITH definition)? => CREATE_SUBSCRIPTION
 alter_subscription = ALTER SUBSCRIPTION name_ref (SET definition | CONNECTION string | REFRESH PUBLICATION (WITH definition)?
     | (ADD | DROP | SET) PUBLICATION names (WITH definition)? | ENABLE | DISABLE | SKIP definition | rename | owner_to) => ALTER_SUBSCRIPTION

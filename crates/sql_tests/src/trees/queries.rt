@@ -4,7 +4,7 @@ use crate::trees::assert_trees;
 use std::test::Fail;
 
 /// Texts, and what is in their files.
-static CASES: [(&str, &str); 20] = [
+static CASES: [(&str, &str); 23] = [
     (
         "select 1;",
         "QUERY{SELECT{select TARGET_LIST{TARGET{LITERAL{1}}}};}",
@@ -84,6 +84,19 @@ static CASES: [(&str, &str); 20] = [
     (
         "merge into t using s on a when matched then delete when not matched then insert values (1)",
         "MERGE{merge into TARGET_TABLE{RELATION{PATH{NAME_REF{t}}}} using FROM_TABLE{PATH{NAME_REF{s}}} on NAME_REF{a} MERGE_WHEN{when matched then delete} MERGE_WHEN{when not matched then MERGE_INSERT{insert values ROW_VALUES{(LITERAL{1})}}}}",
+    ),
+    (
+        "select a is null = b, c in (1) in (2), d is",
+        "QUERY{SELECT{select TARGET_LIST{TARGET{BIN_EXPR{IS_EXPR{NAME_REF{a} is null} = NAME_REF{b}}}, TARGET{IN_EXPR{IN_EXPR{NAME_REF{c} in ROW_VALUES{(LITERAL{1})}} in ROW_VALUES{(LITERAL{2})}}}, TARGET{NAME_REF{d} NAME{is}}}}}",
+    ),
+    // A string goes on in one on a further line.
+    (
+        "select 'a'\n'b', b'1' -- c\n'0'",
+        "QUERY{SELECT{select TARGET_LIST{TARGET{LITERAL{LITERAL{'a'}\n'b'}}, TARGET{LITERAL{LITERAL{b'1'} -- c\n'0'}}}}}",
+    ),
+    (
+        "load 'a' 'b'; load 'a'\n/**/ 'b'",
+        "LOAD{load LITERAL{'a'} ERROR{!expected a line break between two strings!'b'};} LOAD{load LITERAL{'a'}\n/**/ ERROR{!expected a line break between two strings!'b'}}",
     ),
 ];
 
