@@ -77,9 +77,9 @@ literal_type "a type" = DOUBLE PRECISION => TYPE | (BIT | CHARACTER | CHAR | NCH
     | NATIONAL (CHARACTER | CHAR) VARYING? literal_size? => TYPE | (TIME | TIMESTAMP) literal_size? (WITH | WITHOUT) TIME ZONE => TYPE
 literal_size = '(' integer ')' => TYPE_ARGS
 
--- Calls. PostgreSQL 16: VALUE and `:` in JSON_OBJECT.
-arg_list "arguments" = '(' ('*' | (ALL | DISTINCT)? {argument} order_by?)? ')' => ARG_LIST
-argument "an argument" = VARIADIC? arg
+-- Calls. PostgreSQL 16: VALUE and `:` in JSON_OBJECT, FORMAT and further clauses.
+arg_list "arguments" = '(' ('*' | (ALL | DISTINCT)? {argument} order_by? json_passing? json_clause*)? ')' => ARG_LIST
+argument "an argument" = VARIADIC? arg json_format?+
 arg "an argument" = expression
     none  _ ~NAME_REF (':=' | '=>') _ => NAMED_ARG | _ (VALUE | ':') expression => JSON_KEY_VALUE
 call_tail = within_group?+ filter?+ over?+
@@ -107,7 +107,7 @@ special_call "a function call" = TREAT '(' expression AS type ')' => CALL_EXPR
     | (COALESCE | GREATEST | LEAST) '(' {expression} ')' => CALL_EXPR
     | xml_call
 
--- JSON_TABLE, of PostgreSQL 17.
+-- Clauses of JSON functions, of PostgreSQL 16 and 17, which may stand in any call, and those of JSON_TABLE, of 17.
 json_returning = RETURNING type => JSON_RETURNING_CLAUSE
 json_clause "a clause" = &(Format Json) json_format
     / &(Absent ON) Absent ON NULL => JSON_NULL_CLAUSE

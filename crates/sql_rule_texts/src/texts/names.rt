@@ -49,9 +49,7 @@ quoted_string "a string" = (STRING | ESC_STRING | UNICODE_ESC_STRING) => LITERAL
 prefixed_string "a string" = (BIT_STRING | BYTE_STRING | NATIONAL_STRING) => LITERAL
     left _ STRING => LITERAL
 integer "an integer" = INT_NUMBER => LITERAL
-signed_prefixed_string "a string" = (BIT_STRING | BYTE_STRING | NATIONAL_STRING) => LITERAL
-    left _ STRING => LITERAL
-integer "an integer" = ('+' | '-')? INT_NUMBER => LITERAL
+signed_integer "an integer" = ('+' | '-')? INT_NUMBER => LITERAL
 number "a number" = ('+' | '-')? (INT_NUMBER | NUMERIC_NUMBER) => LITERAL
 word_or_string "a name or a string" = OptionName => NAME_REF | string
 word "a value" = OptionName | TRUE | FALSE | ON

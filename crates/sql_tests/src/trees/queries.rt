@@ -4,7 +4,7 @@ use crate::trees::assert_trees;
 use std::test::Fail;
 
 /// Texts, and what is in their files.
-static CASES: [(&str, &str); 23] = [
+static CASES: [(&str, &str); 24] = [
     (
         "select 1;",
         "QUERY{SELECT{select TARGET_LIST{TARGET{LITERAL{1}}}};}",
@@ -97,6 +97,11 @@ static CASES: [(&str, &str); 23] = [
     (
         "load 'a' 'b'; load 'a'\n/**/ 'b'",
         "LOAD{load LITERAL{'a'} ERROR{!expected a line break between two strings!'b'};} LOAD{load LITERAL{'a'}\n/**/ ERROR{!expected a line break between two strings!'b'}}",
+    ),
+    // PostgreSQL 16 and 17: functions of JSON.
+    (
+        "select json_object('k' value 1 format json, 'l': 2 absent on null returning jsonb), json_query(a, '$' passing b as c with wrapper keep quotes null on empty)",
+        "QUERY{SELECT{select TARGET_LIST{TARGET{CALL_EXPR{NAME_REF{json_object}ARG_LIST{(JSON_KEY_VALUE{LITERAL{'k'} value LITERAL{1}} JSON_FORMAT_CLAUSE{format json}, JSON_KEY_VALUE{LITERAL{'l'}: LITERAL{2}} JSON_NULL_CLAUSE{absent on null} JSON_RETURNING_CLAUSE{returning TYPE{NAME_REF{jsonb}}})}}}, TARGET{CALL_EXPR{NAME_REF{json_query}ARG_LIST{(NAME_REF{a}, LITERAL{'$'} JSON_PASSING_CLAUSE{passing JSON_PASSING_ARG{NAME_REF{b} as NAME{c}}} JSON_WRAPPER_BEHAVIOR_CLAUSE{with wrapper} JSON_QUOTES_CLAUSE{keep quotes} JSON_BEHAVIOR_CLAUSE{null on empty})}}}}}}",
     ),
 ];
 
