@@ -154,23 +154,49 @@ impl Table<'_> {
         rows.start < rows.end && rows.end <= self.beyond(rows.start)
     }
 
-    /// Whether an operator of a row of operators begins with a symbol.
+    /// The operator that stands at the position and whose level is `floor` at least, of those in a row of operators
+    /// that ends there.
     #[inline(always)]
-    pub(crate) fn has_operator(&self, row: u16, symbol: SyntaxKind) -> bool {
+    pub(crate) fn operator(
+        &self,
+        row: u16,
+        end: u16,
+        floor: u16,
+        told: &mut Told,
+        p: &Parser<'_>,
+    ) -> Option<Operator>
+        requires { row < 65535 }
+        ensures later { IfSome result (λ operator. row + 1 < operator.block.start) }
+        ensures is { IfSome result (λ operator. IsTail self.now.rows.now (row + 1) end operator.block.start operator.block.end operator.level operator.ceiling) }
+        ensures floor { IfSome result (λ operator. floor ≤ operator.level) }
+        ensures told { told.new.place ≡ told.old.place }
+    {
+        let symbol = told.symbol(self, p);
+        if self.has_operator(row, symbol) {
+            let rows = Block {
+                start: row + 1,
+                end,
+            };
+            self.operator_in(rows, floor, symbol, p)
+        } else {
+            None
+        }
+    }
+
+    #[inline(always)]
+    fn has_operator(&self, row: u16, symbol: SyntaxKind) -> bool {
         match self.row(row) {
             Some(numbers) => self.has(numbers[6], symbol),
             None => false,
         }
     }
 
-    /// The first operator of some rows that begins with a symbol and whose level is `floor` at least. Where a parser is
-    /// given, also its look holds there.
-    pub(crate) fn operator(
+    fn operator_in(
         &self,
         rows: Block,
         floor: u16,
         symbol: SyntaxKind,
-        seen: Option<&Parser<'_>>,
+        p: &Parser<'_>,
     ) -> Option<Operator>
         ensures later { IfSome result (λ operator. rows.start < operator.block.start) }
         ensures is { IfSome result (λ operator. IsTail self.now.rows.now rows.start rows.end operator.block.start operator.block.end operator.level operator.ceiling) }
@@ -185,7 +211,7 @@ impl Table<'_> {
                 ceiling,
             } = self.part(at)
             {
-                if floor <= level && self.fits(at, symbol, seen) {
+                if floor <= level && self.stands(at, symbol, p) {
                     let block = Block { start: at + 1, end };
                     return Some(Operator {
                         block,
@@ -197,13 +223,5 @@ impl Table<'_> {
             at = beyond;
         }
         None
-    }
-
-    #[inline(always)]
-    fn fits(&self, tail: u16, symbol: SyntaxKind, seen: Option<&Parser<'_>>) -> bool {
-        match seen {
-            Some(p) => self.stands(tail, symbol, p),
-            None => self.begins_with(tail, symbol),
-        }
     }
 }

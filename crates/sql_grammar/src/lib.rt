@@ -20,8 +20,8 @@ mod statements;
 mod strings;
 
 pub use crate::parse::parse_table;
-pub use crate::strings::stray_strings;
 use crate::statements::statement;
+pub use crate::strings::stray_strings;
 use rule_grammar::RuleGrammar;
 use sql_words::SqlKind;
 use squawk_parser::{

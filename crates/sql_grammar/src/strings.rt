@@ -25,11 +25,7 @@ enum Before {
 /// a comment in `/*` and `*/`, so that it doesn't go on with it.
 ///
 /// By PostgreSQL's documentation, section 4.1.2.1 "String Constants", a string goes on after white space with a newline.
-pub fn stray_strings(
-    alloc: Global,
-    text: &str,
-    tokens: &[Token],
-) -> Result<Vec<bool>, AllocError>
+pub fn stray_strings(alloc: Global, text: &str, tokens: &[Token]) -> Result<Vec<bool>, AllocError>
     requires { AreAcceptedTokens text.now tokens.now }
     ensures { IfOk result (λ strays. strays.items ≡ stray_strings text.now tokens.now) }
 {

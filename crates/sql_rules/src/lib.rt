@@ -2,6 +2,7 @@
 //!
 //! `ready.rt` is what `rule_prepare sql` prints of the texts in `sql_rule_texts`, whose test says that it is the same.
 #![tactic(auto)]
+
 ghost use Rattle.std.specs.Prelude.{◌≡◌};
 
 pub mod ready;

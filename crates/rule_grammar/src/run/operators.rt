@@ -1,6 +1,6 @@
 //! Operands, and the operators after them.
-ghost use Rattle.std.specs.Prelude.{◌≡◌, ◌+◌, ◌≤◌, ◌<◌, ℕ, IfSome, None, true};
-ghost use Rattle.rule_grammar.specs.Derivations.{Counts, Derived, IsArm, IsTail, text_of};
+ghost use Rattle.std.specs.Prelude.{◌≡◌, ◌+◌, ◌≤◌, ◌<◌, ℕ, None, true};
+ghost use Rattle.rule_grammar.specs.Derivations.{Counts, Derived, IsArm, text_of};
 ghost use Rattle.rule_grammar.specs.Derivations.Span.{block, choice, operation};
 ghost use Rattle.rule_grammar.specs.Parts.{part_at};
 ghost use Rattle.squawk_parser.specs.SomeSteps.{AddsSome, AddsSomeNode};
@@ -13,7 +13,6 @@ use crate::run::block;
 use crate::run::node::one_node;
 use crate::table::Block;
 use crate::told::Told;
-use crate::ways::Operator;
 use squawk_parser::{CompletedMarker, Parser, SyntaxKind};
 
 /// An operand by a table of operators, which a row of an operator calls.
@@ -131,7 +130,7 @@ fn climb(
 {
     let mut left = one_node(rule, arm, told, p);
     let mut ceiling = u16::MAX;
-    while let Some(operator) = next_operator(rule, row, end, floor, told, p) {
+    while let Some(operator) = rule.table.operator(row, end, floor, told, p) {
         let place = p.position();
         let fits = operator.level <= ceiling;
         left = operation(left, rule, operator.block, fits, told, p);
@@ -141,39 +140,6 @@ fn climb(
         }
     }
     left
-}
-
-/// The operator that stands at the position and whose level is `floor` at least, of those in a row of operators that
-/// ends there.
-#[inline(always)]
-fn next_operator(
-    rule: &Open<'_>,
-    row: u16,
-    end: u16,
-    floor: u16,
-    told: &mut Told,
-    p: &Parser<'_>,
-) -> Option<Operator>
-    requires { row < 65535 }
-    ensures later { IfSome result (λ operator. row + 1 < operator.block.start) }
-    ensures is { IfSome result (λ operator. IsTail rule.now.table.now.rows.now (row + 1) end operator.block.start operator.block.end operator.level operator.ceiling) }
-    ensures floor { IfSome result (λ operator. floor ≤ operator.level) }
-    ensures told { told.new.place ≡ told.old.place }
-{
-    let symbol = told.symbol(rule.table, p);
-    if !rule.table.has_operator(row, symbol) {
-        return None;
-    }
-    let rows = Block {
-        start: row + 1,
-        end,
-    };
-    match rule.table.operator(rows, floor, symbol, Some(p)) {
-        Some(operator) => Some(operator),
-        // What is wrong is told in it, where nothing else begins so.
-        None if told.has_error_at(p.position()) || rule.may_follow(row, symbol) => None,
-        None => rule.table.operator(rows, floor, symbol, None),
-    }
 }
 
 /// The operand that stands at the position, of those in a row: a node, of kind ERROR where none stands.

@@ -10,9 +10,9 @@ expression "an expression" = primary | special | DEFAULT => DEFAULT_EXPR
     none  _ IS NOT? DISTINCT FROM _ => IS_EXPR | _ IS NOT? test => IS_EXPR | _ ISNULL => IS_EXPR | _ NOTNULL => IS_EXPR
     none  _ ('<' | '>' | '=' | '<=' | '>=' | '<>' | '!=') (some_of | _) => BIN_EXPR
     left  _ ~LIKE_EXPR ESCAPE _ => LIKE_EXPR
-    none  _ NOT? (BETWEEN (ASYMMETRIC | SYMMETRIC)? plain_expression AND _ => BETWEEN_EXPR
+    none  _ NOT? IN in_list => IN_EXPR
+        | _ NOT? (BETWEEN (ASYMMETRIC | SYMMETRIC)? plain_expression AND _ => BETWEEN_EXPR
             | (LIKE | ILIKE) (some_of | _) => LIKE_EXPR | SIMILAR TO? _ => LIKE_EXPR)
-        | _ NOT? IN in_list => IN_EXPR
         | _ ~ROW_EXPR OVERLAPS _ ~ROW_EXPR => OVERLAPS_EXPR
     left  _ other_sign (some_of | _) => BIN_EXPR | other_sign _ => PREFIX_EXPR
     left  _ ('+' | '-') (some_of | _) => BIN_EXPR

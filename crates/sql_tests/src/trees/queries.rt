@@ -86,8 +86,8 @@ static CASES: [(&str, &str); 24] = [
         "MERGE{merge into TARGET_TABLE{RELATION{PATH{NAME_REF{t}}}} using FROM_TABLE{PATH{NAME_REF{s}}} on NAME_REF{a} MERGE_WHEN{when matched then delete} MERGE_WHEN{when not matched then MERGE_INSERT{insert values ROW_VALUES{(LITERAL{1})}}}}",
     ),
     (
-        "select a is null = b, c in (1) in (2), d is",
-        "QUERY{SELECT{select TARGET_LIST{TARGET{BIN_EXPR{IS_EXPR{NAME_REF{a} is null} = NAME_REF{b}}}, TARGET{IN_EXPR{IN_EXPR{NAME_REF{c} in ROW_VALUES{(LITERAL{1})}} in ROW_VALUES{(LITERAL{2})}}}, TARGET{NAME_REF{d} NAME{is}}}}}",
+        "select a is null = b, c in (1) in (2)",
+        "QUERY{SELECT{select TARGET_LIST{TARGET{BIN_EXPR{IS_EXPR{NAME_REF{a} is null} = NAME_REF{b}}}, TARGET{IN_EXPR{IN_EXPR{NAME_REF{c} in ROW_VALUES{(LITERAL{1})}} in ROW_VALUES{(LITERAL{2})}}}}}}",
     ),
     // A string goes on in one on a further line.
     (

@@ -243,7 +243,7 @@ operators::climb-loop-operator-preserved t c =
     let table = c.args.rule.now.table.now in
     let so_far = c.loop-operator.invariant in
     let took = c.operation-left.ensures in
-    let on = from_place c.next_operator.ensures.told (moved table so_far.adds.adds.some.keeps took.derives) in
+    let on = from_place c.operator.ensures.told (moved table so_far.adds.adds.some.keeps took.derives) in
     record {
       adds = took.adds c.args.p.now so_far.adds;
       derives = λ is. record {
@@ -252,7 +252,7 @@ operators::climb-loop-operator-preserved t c =
             let fits = took.fits n in
             operates ((so_far.derives is).derives (on.clean n)) is c.in-Some.ensures.is c.in-Some.ensures.floor (grind (arith, fits, nat_tests)) (on.derives n);
       };
-      counts = counts_then so_far.counts (subst (λ v. Counts v c.operation-left.new.told.place c.loop-operator.p c.operation-left.new.p) c.next_operator.ensures.told took.counts);
+      counts = counts_then so_far.counts (subst (λ v. Counts v c.operation-left.new.told.place c.loop-operator.p c.operation-left.new.p) c.operator.ensures.told took.counts);
     }
 
 pub operators::operators_after_others-returns-in-Some-clause-derives : goal.operators::operators_after_others-returns-in-Some-clause-derives

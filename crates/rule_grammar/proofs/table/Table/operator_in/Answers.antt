@@ -1,7 +1,7 @@
 use Rattle.std.proofs.Common.{arith, sym, subst, ℕ}
 use Rattle.rule_grammar.specs.Derivations.{Beside}
 use Rattle.rule_grammar.specs.Derivations.Beside.{at_first, over_one}
-use Rattle.rule_grammar.proofs.table.Table.operator.Goals as goal
+use Rattle.rule_grammar.proofs.table.Table.operator_in.Goals as goal
 
 pub loop-at-init : goal.loop-at-init
 loop-at-init c = (omega arith, at_first)
