@@ -12,7 +12,7 @@ expression "an expression" = primary | special | DEFAULT => DEFAULT_EXPR
     left  _ ~LIKE_EXPR ESCAPE _ => LIKE_EXPR
     none  _ NOT? IN in_list => IN_EXPR
         | _ NOT? (BETWEEN (ASYMMETRIC | SYMMETRIC)? plain_expression AND _ => BETWEEN_EXPR
-            | (LIKE | ILIKE) (some_of | _) => LIKE_EXPR | SIMILAR TO? _ => LIKE_EXPR)
+            | like (some_of | _) => LIKE_EXPR | SIMILAR TO? _ => LIKE_EXPR)
         | _ ~ROW_EXPR OVERLAPS _ ~ROW_EXPR => OVERLAPS_EXPR
     left  _ other_sign (some_of | _) => BIN_EXPR | other_sign _ => PREFIX_EXPR
     left  _ ('+' | '-') (some_of | _) => BIN_EXPR
@@ -40,6 +40,7 @@ any_sign "an operator" = sign | OPERATOR '(' called_operator ')'
 test "NULL, TRUE, FALSE, UNKNOWN or DISTINCT FROM" = NULL | TRUE | FALSE | UNKNOWN | DOCUMENT | normal_form? NORMALIZED
     | Json (VALUE | ARRAY | OBJECT)?+ ((WITH | WITHOUT) UNIQUE Keys?+)?+
 normal_form "a normal form" = NFC | NFD | NFKC | NFKD
+like "LIKE or ILIKE" = LIKE | ILIKE
 some_of "an expression" = (ANY | SOME | ALL) (@begins_query '(' query ')' | '(' expression ')') => SOME_OF
 in_list "a list of values" = (@begins_query '(' query ')' => SUBQUERY | '(' {expression} ')' => ROW_VALUES)
 
@@ -74,7 +75,8 @@ array_items = '[' ({array_items} | {expression})? ']' => ARRAY_ITEMS
 interval_literal = INTERVAL (constant_string interval_fields?+ | precision constant_string) => CAST_EXPR
 typed_literal = literal_type constant_string => CAST_EXPR
 literal_type "a type" = DOUBLE PRECISION => TYPE | (BIT | CHARACTER | CHAR | NCHAR) VARYING literal_size? => TYPE
-    | NATIONAL (CHARACTER | CHAR) VARYING? literal_size? => TYPE | (TIME | TIMESTAMP) literal_size? (WITH | WITHOUT) TIME ZONE => TYPE
+    | NATIONAL (CHARACTER | CHAR) VARYING? literal_size? => TYPE
+    | (TIME | TIMESTAMP) (literal_size ((WITH | WITHOUT) TIME ZONE)? | (WITH | WITHOUT) TIME ZONE) => TYPE
 literal_size = '(' integer ')' => TYPE_ARGS
 
 -- Calls. PostgreSQL 16: VALUE and `:` in JSON_OBJECT, FORMAT and further clauses.
@@ -94,7 +96,9 @@ keyword_call "a function call" = CurrentTime precision?+ => CALL_EXPR
 -- Keywords with arguments of their own kind. Without a parenthesis they are names.
 special "an expression" = special_call | EXISTS '(' query ')' => EXISTS_EXPR | ROW '(' {expression}? ')' => ROW_EXPR
     | SpecialWord => NAME_REF | special_ref ('.' (label_ref | '*'))+ => FIELD_EXPR
+    | PlainType => NAME_REF | plain_type (('.' (label_ref | '*'))+ => FIELD_EXPR | constant_string => CAST_EXPR)
 special_ref "a name" = SpecialWord => NAME_REF
+plain_type "a name" = PlainType => NAME_REF
 special_call "a function call" = TREAT '(' expression AS type ')' => CALL_EXPR
     | EXTRACT '(' (Name | string) FROM expression ')' => CALL_EXPR
     | GROUPING '(' {expression} ')' => CALL_EXPR

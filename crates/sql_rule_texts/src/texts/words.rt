@@ -9,8 +9,10 @@ class Name = IDENT unreserved col_name => IDENT
 -- Keywords that have arguments of their own kind.
 class SpecialWord = COALESCE EXISTS EXTRACT GREATEST GROUPING LEAST NORMALIZE NULLIF OVERLAY POSITION ROW SUBSTRING TREAT TRIM
     XMLATTRIBUTES XMLCONCAT XMLELEMENT XMLEXISTS XMLFOREST XMLNAMESPACES XMLPARSE XMLPI XMLROOT XMLSERIALIZE XMLTABLE => IDENT
+-- Types that are no functions.
+class PlainType = BIGINT BOOLEAN INT INTEGER REAL SMALLINT => IDENT
 class FromName = IDENT unreserved col_name CURRENT_SCHEMA -SpecialWord => IDENT
-class OperandName = IDENT unreserved col_name CURRENT_SCHEMA -OPERATOR -BETWEEN -SpecialWord => IDENT
+class OperandName = IDENT unreserved col_name CURRENT_SCHEMA -OPERATOR -BETWEEN -SpecialWord -PlainType => IDENT
 class ColumnWord = col_name => IDENT
 -- A function or a type.
 class TypeName = IDENT unreserved type_func_name => IDENT
