@@ -11,7 +11,7 @@ returns-clause-steps c =
       of_text = record {
         utf8 = c.utf8.text;
         known = c.in_ok-vocabulary.ensures;
-        is = c.in_ok-table.ensures ∙ ap (table_of (keyword_of keywords) c.args.text.now) (c.deref.ensures.value ∙ c.in_ok-tokens.ensures.tokens);
+        is = c.in_ok-table.ensures ∙ ap (table_of (keyword_of keywords) c.args.text.now) (c.deref.ensures.value ∙ c.requires.tokens);
       };
       of_file = c.in_ok-output.ensures.file;
     }

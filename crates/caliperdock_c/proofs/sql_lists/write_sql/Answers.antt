@@ -6,7 +6,7 @@ use Rattle.caliperdock_c.proofs.sql_lists.write_sql.Goals as goal
 
 pub returns-clause-written : goal.returns-clause-written
 returns-clause-written c =
-    let same = c.in_ok-text_of.ensures.text in
+    let same = c.in_ok-text.ensures.text in
     let table = c.in_ok-sql.sql.parsed.table in
     let walk = c.in_ok-sql.sql.parsed.output.steps in
     record {
