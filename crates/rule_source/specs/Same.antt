@@ -12,8 +12,6 @@ pub record HaveSameLists (one other : Table) : Type 0 where
   pub looks : one.looks.now ≡ other.looks.now
   pub messages : one.messages.now ≡ other.messages.now
   pub message_ends : one.message_ends.now ≡ other.message_ends.now
-  pub hidden : one.hidden.tokens.now ≡ other.hidden.tokens.now
-  pub hidden_message : one.hidden.message.now ≡ other.hidden.message.now
 
 -- and its kinds of operators
 pub record HaveSameKinds (one other : Table) : Type 0 where
@@ -21,6 +19,16 @@ pub record HaveSameKinds (one other : Table) : Type 0 where
   pub plain : one.plain ≡ other.plain
   pub glued : one.glued.now ≡ other.glued.now
   pub composed : one.composed ≡ other.composed
+
+-- and hides the same tokens
+pub record HideSame (one other : Table) : Type 0 where
+  pub tokens : one.hidden.tokens.now ≡ other.hidden.tokens.now
+  pub message : one.hidden.message.now ≡ other.hidden.message.now
+
+pub record AreSameTables (one other : Table) : Type 0 where
+  pub lists : HaveSameLists one other
+  pub kinds : HaveSameKinds one other
+  pub hidden : HideSame one other
 
 -- a kind and its name, by value
 abbrev pub name_of : ℕ × Bor (List ℕ) → ℕ × List ℕ
@@ -31,8 +39,7 @@ names_in = map name_of
 
 -- one grammar is the same as another
 pub record IsSame (one other : RuleGrammar) : Type 0 where
-  pub lists : HaveSameLists one.table other.table
-  pub kinds : HaveSameKinds one.table other.table
+  pub tables : AreSameTables one.table other.table
   pub start : one.start ≡ other.start
   pub end : one.end ≡ other.end
   pub root : one.root ≡ other.root

@@ -1,6 +1,6 @@
 //! Whether two grammars of rules are the same.
 ghost use Rattle.std.specs.Prelude.{◌≡◌, ◌↔◌, IsTrue};
-ghost use Rattle.rule_source.specs.Same.{HaveSameKinds, HaveSameLists, IsSame, name_of, names_in};
+ghost use Rattle.rule_source.specs.Same.{AreSameTables, HaveSameKinds, HaveSameLists, HideSame, IsSame, name_of, names_in};
 
 use rule_grammar::{RuleGrammar, Table};
 use squawk_parser::SyntaxKind;
@@ -11,13 +11,18 @@ use squawk_parser::SyntaxKind;
 pub fn is_same(one: &RuleGrammar<'_>, other: &RuleGrammar<'_>) -> bool
     ensures { IsTrue result ↔ IsSame one.now other.now }
 {
-    have_same_lists(&one.table, &other.table)
-        && have_same_kinds(&one.table, &other.table)
+    are_same_tables(&one.table, &other.table)
         && one.start == other.start
         && one.end == other.end
         && one.root == other.root
         && one.depth == other.depth
         && are_same_names(one.names, other.names)
+}
+
+fn are_same_tables(one: &Table<'_>, other: &Table<'_>) -> bool
+    ensures { IsTrue result ↔ AreSameTables one.now other.now }
+{
+    have_same_lists(one, other) && have_same_kinds(one, other) && hide_same(one, other)
 }
 
 fn have_same_lists(one: &Table<'_>, other: &Table<'_>) -> bool
@@ -28,8 +33,6 @@ fn have_same_lists(one: &Table<'_>, other: &Table<'_>) -> bool
         && are_same_arrays(one.looks, other.looks)
         && one.messages == other.messages
         && one.message_ends == other.message_ends
-        && one.hidden.tokens == other.hidden.tokens
-        && one.hidden.message == other.hidden.message
 }
 
 fn are_same_arrays<const N: usize>(one: &[[u16; N]], other: &[[u16; N]]) -> bool
@@ -45,6 +48,19 @@ fn have_same_kinds(one: &Table<'_>, other: &Table<'_>) -> bool
         && one.plain == other.plain
         && one.composed == other.composed
         && one.glued == other.glued
+}
+
+fn hide_same(one: &Table<'_>, other: &Table<'_>) -> bool
+    ensures { IsTrue result ↔ HideSame one.now other.now }
+{
+    are_same_tokens(one.hidden.tokens, other.hidden.tokens)
+        && one.hidden.message == other.hidden.message
+}
+
+fn are_same_tokens(one: &[bool], other: &[bool]) -> bool
+    ensures { IsTrue result ↔ one.now ≡ other.now }
+{
+    one == other
 }
 
 fn are_same_names(one: &[(SyntaxKind, &str)], other: &[(SyntaxKind, &str)]) -> bool

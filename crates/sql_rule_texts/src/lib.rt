@@ -10,9 +10,9 @@
 //! operators without a kind of their own, are nodes that the engine makes, COLON_COLON and CUSTOM_OP.
 //!
 //! Where PostgreSQL is stricter, a pass over the tree has to look: doubled options and clauses, options that contradict
-//! one another, VARIADIC before the last argument, and calls named by a keyword that is no function. Where the rules are
-//! stricter: ESCAPE and words that begin an operator, as AND and AT, are no aliases without AS, BETWEEN and OPERATOR no
-//! columns.
+//! one another, VARIADIC before the last argument, and calls named by a type that has arguments only before a string. Where
+//! the rules are stricter: ESCAPE and words that begin an operator, as AND and AT, are no aliases without AS, BETWEEN no
+//! column.
 #![tactic(auto)]
 
 mod named_kind;

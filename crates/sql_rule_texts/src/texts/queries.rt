@@ -72,7 +72,7 @@ paren_table "a table" = (@begins_query '(' query ')' alias?+ => FROM_SUBQUERY
 lateral_function "a function call" = keyword_function / from_path table_arguments ordinality?+ function_alias?+ => TABLE_FUNCTION
 table_arguments "arguments" = '(' ('*' | (ALL | DISTINCT)? {argument} order_by? (AS name)? json_passing? (json_columns json_clause*)?)? ')' => ARG_LIST
 special_table "a table name" = table_word ('.' label_ref)* => PATH
-table_word "a table name" = SpecialWord => NAME_REF
+table_word "a table name" = TableWord => NAME_REF
 from_path "a table name" = from_ref ('.' label_ref)* => PATH
 from_ref "a table name" = FromName => NAME_REF | ':' Label => PARAM_REF
 keyword_function = xml_table alias?+ => TABLE_FUNCTION

@@ -5,14 +5,15 @@ pub(crate) const WORDS: &str = r#"
 
 -- A column, a table, and what else has no arguments.
 class Name = IDENT unreserved col_name => IDENT
--- OPERATOR ( begins an operator, BETWEEN the bounds of a frame.
 -- Keywords that have arguments of their own kind.
 class SpecialWord = COALESCE EXISTS EXTRACT GREATEST GROUPING LEAST NORMALIZE NULLIF OVERLAY POSITION ROW SUBSTRING TREAT TRIM
     XMLATTRIBUTES XMLCONCAT XMLELEMENT XMLEXISTS XMLFOREST XMLNAMESPACES XMLPARSE XMLPI XMLROOT XMLSERIALIZE XMLTABLE => IDENT
--- Types that are no functions.
-class PlainType = BIGINT BOOLEAN INT INTEGER REAL SMALLINT => IDENT
-class FromName = IDENT unreserved col_name CURRENT_SCHEMA -SpecialWord => IDENT
-class OperandName = IDENT unreserved col_name CURRENT_SCHEMA -OPERATOR -BETWEEN -SpecialWord -PlainType => IDENT
+-- Columns and tables that are no functions. OPERATOR ( begins an operator.
+class NoFunction = BIGINT BOOLEAN INOUT INT INTEGER NATIONAL NONE OPERATOR OUT PRECISION REAL SETOF SMALLINT VALUES => IDENT
+class TableWord = SpecialWord NoFunction => IDENT
+class FromName = IDENT unreserved col_name CURRENT_SCHEMA -SpecialWord -NoFunction => IDENT
+-- BETWEEN begins the bounds of a frame.
+class OperandName = IDENT unreserved col_name CURRENT_SCHEMA -BETWEEN -SpecialWord -NoFunction => IDENT
 class ColumnWord = col_name => IDENT
 -- A function or a type.
 class TypeName = IDENT unreserved type_func_name => IDENT
