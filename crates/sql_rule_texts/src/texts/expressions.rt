@@ -95,10 +95,9 @@ keyword_call "a function call" = CurrentTime precision?+ => CALL_EXPR
 
 -- Keywords with arguments of their own kind. Without a parenthesis they are names.
 special "an expression" = special_call | EXISTS '(' query ')' => EXISTS_EXPR | ROW '(' {expression}? ')' => ROW_EXPR
-    | SpecialWord => NAME_REF | special_ref special_part+
-    | NoFunction => NAME_REF | no_function (special_part+ | constant_string => CAST_EXPR)
+    | SpecialWord => NAME_REF | special_ref ('.' (label_ref | '*') => FIELD_EXPR | '[' expression ']' => INDEX_EXPR)+
+    | NoFunction => NAME_REF | no_function (('.' (label_ref | '*') => FIELD_EXPR | '[' expression ']' => INDEX_EXPR)+ | constant_string => CAST_EXPR)
 special_ref "a name" = SpecialWord => NAME_REF
-special_part = '.' (label_ref | '*') => FIELD_EXPR | '[' expression ']' => INDEX_EXPR
 no_function "a name" = NoFunction => NAME_REF
 special_call "a function call" = TREAT '(' expression AS type ')' => CALL_EXPR
     | EXTRACT '(' (Name | string) FROM expression ')' => CALL_EXPR

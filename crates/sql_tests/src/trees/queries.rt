@@ -4,7 +4,7 @@ use crate::trees::assert_trees;
 use std::test::Fail;
 
 /// Texts, and what is in their files.
-static CASES: [(&str, &str); 24] = [
+static CASES: [(&str, &str); 25] = [
     (
         "select 1;",
         "QUERY{SELECT{select TARGET_LIST{TARGET{LITERAL{1}}}};}",
@@ -88,6 +88,11 @@ static CASES: [(&str, &str); 24] = [
     (
         "select a is null = b, c in (1) in (2)",
         "QUERY{SELECT{select TARGET_LIST{TARGET{BIN_EXPR{IS_EXPR{NAME_REF{a} is null} = NAME_REF{b}}}, TARGET{IN_EXPR{IN_EXPR{NAME_REF{c} in ROW_VALUES{(LITERAL{1})}} in ROW_VALUES{(LITERAL{2})}}}}}}",
+    ),
+    // Keywords as columns, and types before a string.
+    (
+        "select position.x, row[1], int.y, operator, time (1) '10:00'",
+        "QUERY{SELECT{select TARGET_LIST{TARGET{FIELD_EXPR{NAME_REF{position}.NAME_REF{x}}}, TARGET{INDEX_EXPR{NAME_REF{row}[LITERAL{1}]}}, TARGET{FIELD_EXPR{NAME_REF{int}.NAME_REF{y}}}, TARGET{NAME_REF{operator}}, TARGET{CAST_EXPR{TYPE{time TYPE_ARGS{(LITERAL{1})}} LITERAL{'10:00'}}}}}}",
     ),
     // A string goes on in one on a further line.
     (
