@@ -10,8 +10,9 @@ use std::env;
 
 fn main(rt: HostRuntime) -> Result<(), anyhow::Error> {
     let rules = rules(&rt)?;
-    // The check wants a variable of this type.
-    let _table = rules.table();
+    // The check wants variables of these types.
+    let table = rules.table();
+    let _hidden = table.hidden;
     let grammar = rules.grammar();
     let module = source(rt.alloc(), &grammar)?;
     print!(rt; "{module}")?;

@@ -12,6 +12,7 @@ impl Rules {
         ensures rows { result.table.rows.now ≡ self.now.rows }
         ensures sets { result.table.sets.now ≡ self.now.sets }
         ensures operators { result.table.operators ≡ self.now.operators }
+        ensures hidden { result.table.hidden.tokens.now ≡ [] }
         ensures start { result.start ≡ self.now.start }
         ensures end { result.end ≡ self.now.end }
         ensures root { result.root ≡ ERROR }

@@ -1,5 +1,5 @@
 //! Rules that are ready to be run.
-ghost use Rattle.std.specs.Prelude.{◌≡◌, ℕ, false, ◌≤◌, All, IfErr, IfOk, IsTrue, None, OnOk, length};
+ghost use Rattle.std.specs.Prelude.{◌≡◌, ℕ, [], false, ◌≤◌, All, IfErr, IfOk, IsTrue, None, OnOk, length};
 ghost use Rattle.squawk_kinds.specs.Kinds.{EOF};
 ghost use Rattle.squawk_kinds.specs.TokenSets.{has};
 ghost use Rattle.rule_tables.specs.Classes.{HasClasses};
@@ -175,8 +175,9 @@ impl Grammar for Rules {
     }
 
     fn entry_point(&self, p: &mut Parser<'_>) -> Result<(), AllocError> {
-        // The check wants a variable of this type.
-        let _table = self.table();
+        // The check wants variables of these types.
+        let table = self.table();
+        let _hidden = table.hidden;
         let grammar = self.grammar();
         grammar.entry_point(p)
     }

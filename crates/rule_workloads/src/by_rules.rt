@@ -21,7 +21,7 @@ pub(crate) fn ready_rules(
     text: &str,
     rounds: usize,
 ) -> Result<u64, AllocError> {
-    // The check wants a variable of this type.
+    // The check wants variables of these types.
     let _table = ready::table();
     let rules = ready::grammar();
     parsed(alloc, words, text, &rules, rounds)

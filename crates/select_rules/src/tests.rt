@@ -9,7 +9,7 @@ use std::test::Fail;
 fn is_what_the_text_makes(rt: HostRuntime) -> Result<(), Fail> {
     let words = Keywords::ignoring_case(rt.alloc(), &KEYWORDS, &[])?;
     let rules = rules(rt.alloc(), &words)?;
-    // The check wants a variable of this type.
+    // The check wants variables of these types.
     let _table = rules.table();
     let made = rules.grammar();
     let ready = ready::grammar();

@@ -8,7 +8,7 @@ use std::test::Fail;
 fn is_what_the_texts_make(rt: HostRuntime) -> Result<(), Fail> {
     let words = vocabulary(rt.alloc())?;
     let rules = rules(rt.alloc(), &words)?;
-    // The check wants a variable of this type.
+    // The check wants variables of these types.
     let _table = rules.table();
     let made = rules.grammar();
     let ready = sql_rules::ready::grammar();
