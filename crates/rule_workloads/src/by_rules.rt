@@ -22,7 +22,8 @@ pub(crate) fn ready_rules(
     rounds: usize,
 ) -> Result<u64, AllocError> {
     // The check wants variables of these types.
-    let _table = ready::table();
+    let table = ready::table();
+    let _hidden = table.hidden;
     let rules = ready::grammar();
     parsed(alloc, words, text, &rules, rounds)
 }

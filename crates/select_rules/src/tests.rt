@@ -10,7 +10,8 @@ fn is_what_the_text_makes(rt: HostRuntime) -> Result<(), Fail> {
     let words = Keywords::ignoring_case(rt.alloc(), &KEYWORDS, &[])?;
     let rules = rules(rt.alloc(), &words)?;
     // The check wants variables of these types.
-    let _table = rules.table();
+    let table = rules.table();
+    let _hidden = table.hidden;
     let made = rules.grammar();
     let ready = ready::grammar();
     assert!(rt; is_same(&ready, &made), "print it again");

@@ -9,7 +9,8 @@ fn is_what_the_texts_make(rt: HostRuntime) -> Result<(), Fail> {
     let words = vocabulary(rt.alloc())?;
     let rules = rules(rt.alloc(), &words)?;
     // The check wants variables of these types.
-    let _table = rules.table();
+    let table = rules.table();
+    let _hidden = table.hidden;
     let made = rules.grammar();
     let ready = sql_rules::ready::grammar();
     assert!(rt; is_same(&ready, &made), "print it again");
