@@ -23,8 +23,7 @@ NEVER = 1000
 LEFT_OUT = {
     "returning_names? targets": "targets",
     "merge_when+ returning?": "merge_when+",
-    "NOT MATCHED (BY SourceTarget)?": "NOT MATCHED",
-    "THEN (merge_insert | UPDATE set_clause | DELETE | DO NOTHING)": "THEN (merge_insert | DO NOTHING)",
+    "BY SourceTarget (AND expression)? THEN (merge_insert | UPDATE set_clause | DELETE | DO NOTHING)\n        | ": "",
     "CONCURRENTLY?+ name_ref?)": "CONCURRENTLY?+ name_ref)",
     "WITH {member_option}": "WITH ADMIN OPTION",
     "(ADMIN | INHERIT | SET) OPTION FOR privileges": "ADMIN OPTION FOR privileges",

@@ -3,7 +3,8 @@
 pub(crate) const OBJECTS: &str = r#"
 -- Types, schemas, extensions and what else is made with a name.
 
-create_schema = CREATE SCHEMA (IF NOT EXISTS)? (AUTHORIZATION role | name (AUTHORIZATION role)?) schema_element* => CREATE_SCHEMA
+create_schema = CREATE SCHEMA (IF NOT EXISTS schema_name / schema_name schema_element*) => CREATE_SCHEMA
+schema_name "a name" = AUTHORIZATION role | name (AUTHORIZATION role)?
 schema_element "a statement" = create_table | create_index | create_sequence | create_trigger | create_constraint_trigger | grant | create_view
 alter_schema = ALTER SCHEMA name_ref (rename | owner_to) => ALTER_SCHEMA
 

@@ -112,6 +112,7 @@ using_clause = USING {from_item} => USING_CLAUSE
 merge_body = MERGE INTO target_table USING from_item ON expression merge_when+ returning?
 -- PostgreSQL 17: BY SOURCE, BY TARGET and RETURNING.
 merge_when = WHEN (MATCHED (AND expression)? THEN (UPDATE set_clause | DELETE | DO NOTHING)
-    | NOT MATCHED (BY SourceTarget)? (AND expression)? THEN (merge_insert | UPDATE set_clause | DELETE | DO NOTHING)) => MERGE_WHEN
+    | NOT MATCHED (BY SourceTarget (AND expression)? THEN (merge_insert | UPDATE set_clause | DELETE | DO NOTHING)
+        | (AND expression)? THEN (merge_insert | DO NOTHING))) => MERGE_WHEN
 merge_insert = INSERT (DEFAULT VALUES | insert_columns? overriding? VALUES row_values) => MERGE_INSERT
 "#;
