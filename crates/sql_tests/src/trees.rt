@@ -10,7 +10,9 @@ mod statements;
 use sql_grammar::{Detail, SqlGrammar, stray_strings};
 use sql_lexer::tokenize_script;
 use sql_words::{names, vocabulary};
-use squawk_parser::{EntryPoint, KindNames, OwnedStep, StepList, StepSink, parse_whole_into};
+use squawk_parser::{
+    EntryPoint, KindNames, OwnedStep, StepList, StepSink, Token, parse_whole_into,
+};
 use std::alloc::{AllocError, Global};
 use std::fmt::Write;
 use std::process::Abort;
@@ -24,16 +26,26 @@ fn send<S: StepSink<Refusal = AllocError>>(
     sink: &mut S,
 ) -> Result<(), Fail> {
     let tokens = tokenize_script(alloc, text)?;
-    let keywords = vocabulary(alloc)?;
+    if !is_by_rules {
+        return send_in(alloc, text, &tokens, Detail::Tokens, sink);
+    }
     let strays = stray_strings(alloc, text, &tokens)?;
     let rules = sql_rules::grammar(&strays);
-    let detail = match is_by_rules {
-        true => Detail::Nodes(&rules),
-        false => Detail::Tokens,
-    };
+    send_in(alloc, text, &tokens, Detail::Nodes(&rules), sink)
+}
+
+/// The same of a text with these raw tokens, in this detail.
+fn send_in<S: StepSink<Refusal = AllocError>>(
+    alloc: Global,
+    text: &str,
+    tokens: &[Token],
+    detail: Detail<'_>,
+    sink: &mut S,
+) -> Result<(), Fail> {
+    let keywords = vocabulary(alloc)?;
     let grammar = SqlGrammar { detail };
     let entry = EntryPoint::SourceFile;
-    parse_whole_into(alloc, text, &tokens, &keywords, &grammar, entry, sink)?;
+    parse_whole_into(alloc, text, tokens, &keywords, &grammar, entry, sink)?;
     Ok(())
 }
 
