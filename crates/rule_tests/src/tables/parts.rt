@@ -212,9 +212,10 @@ static CASES: [(&str, &str); 24] = [
     ),
 ];
 
+static GLUED: [u16; 2] = [LTEQ, COLONS];
+
 #[test]
 fn parses_parts(rt: HostRuntime) -> Result<(), Fail> {
-    let glued = [LTEQ, COLONS];
     let sets = sets_of(rt.alloc(), &SETS)?;
     let rules = RuleGrammar {
         table: Table {
@@ -225,7 +226,7 @@ fn parses_parts(rt: HostRuntime) -> Result<(), Fail> {
             message_ends: &MESSAGE_ENDS,
             operators: OPERATORS,
             plain: PLAIN,
-            glued: &glued,
+            glued: &GLUED,
             composed: COMPOSED,
             hidden: Hidden::NONE,
         },
