@@ -60,7 +60,6 @@ operand "an expression" = paren
     / variable
     / CASE expression? when+ else? END => CASE_EXPR
     / ARRAY ('(' query ')' | array_items) => ARRAY_EXPR
-    / interval_literal
     / typed_literal
     / keyword_call
     / function_word (arg_list call_tail => CALL_EXPR | constant_string => CAST_EXPR)
@@ -95,6 +94,7 @@ keyword_call "a function call" = CurrentTime precision?+ => CALL_EXPR
 
 -- Keywords with arguments of their own kind. Without a parenthesis they are names.
 special "an expression" = special_call | EXISTS '(' query ')' => EXISTS_EXPR | ROW '(' {expression}? ')' => ROW_EXPR
+    | interval_literal
     | SpecialWord => NAME_REF | special_ref ('.' (label_ref | '*') => FIELD_EXPR | '[' expression ']' => INDEX_EXPR)+
     | NoFunction => NAME_REF | no_function (('.' (label_ref | '*') => FIELD_EXPR | '[' expression ']' => INDEX_EXPR)+ | constant_string => CAST_EXPR)
 special_ref "a name" = SpecialWord => NAME_REF
