@@ -22,6 +22,7 @@ pub mod ScriptPlaces
 pub mod EndsLemmas
 pub mod CopyCommands
 pub mod ScriptTokens
+pub mod ScriptLexing
 pub mod CopyLines
 pub mod CopyTokens
 pub mod CopyData

@@ -18,7 +18,7 @@ use Rattle.sql_lexer.specs.declared.statements.Word.TheVariants.{Command, CopyCo
 use Rattle.sql_lexer.specs.Rules.{token}
 use Rattle.sql_lexer.specs.Statements.{after, data_follow, unclosed_in}
 use Rattle.sql_lexer.specs.ScriptWords.{names, word_in, word_of}
-use Rattle.sql_lexer.specs.ScriptPlaces.{may_end}
+use Rattle.sql_lexer.specs.ScriptPlaces.{may_end, reach_of, unclosed_at, waiting_at}
 use Rattle.sql_lexer.specs.Scripts.{data_of, data_token, ends_data, has_mark, line_len, place_before, place_behind, place_behind_data, place_in, place_in_data, place_on_line, place_with, token_at, token_before, waiting_behind}
 use Rattle.sql_lexer.specs.Tokens.{first_token}
 use Rattle.sql_lexer.proofs.CutTokens.{Cutter}
@@ -36,11 +36,6 @@ in_data : (statement : Statement) (waiting : ℕ) (text : List ℕ) (P : Place �
 in_data statement waiting text P empty ends goes_on =
     cond_both (line_len text == 0) (data_of statement waiting) (if ends_data text then place_behind_data waiting else data_of (after statement Command) waiting) P empty
     (λ e. cond_both (ends_data text) (place_behind_data waiting) (data_of (after statement Command) waiting) P ends goes_on)
-
-abbrev pub unclosed_at : Place → ℕ
-unclosed_at Front = 0
-unclosed_at (Sql statement) = unclosed_in statement
-unclosed_at (Data left statement waiting) = unclosed_in statement
 
 most_in : (statement : Statement) (text : List ℕ) → unclosed_at (place_in statement text) ≤ unclosed_in statement + 1
 most_in statement text =
@@ -73,11 +68,6 @@ most_at (Data left statement waiting) text =
 
 -- ---- what waits
 
-abbrev pub waiting_at : Place → ℕ
-waiting_at Front = 0
-waiting_at (Sql statement) = 0
-waiting_at (Data left statement waiting) = waiting
-
 waits_in : (statement : Statement) (text : List ℕ) → waiting_at (place_in statement text) ≤ 0
 waits_in statement text =
     let found = first_token text in
@@ -109,12 +99,6 @@ waits_at (Data left statement waiting) text =
     (λ e. waits_on_line waiting statement (word_of found.kind (take found.len text)))
 
 -- ---- what stands there
-
--- how far a place reaches: to the end of the line of COPY
-abbrev pub reach_of : Place → ℕ
-reach_of Front = 0
-reach_of (Sql statement) = 0
-reach_of (Data left statement waiting) = left
 
 -- a token fits, and the place behind it reaches to the beginning of a character
 pub record Goes (text : List ℕ) (found : Token) (next : Place) : Type 0 where

@@ -15,5 +15,6 @@ pub mod ScriptWords
 pub mod Scripts
 pub mod ScriptPlaces
 pub mod ScriptEnds
+pub mod ScriptLexing
 pub mod CopyData
 pub mod StatementEnds

@@ -30,3 +30,20 @@ abbrev pub HasRoom : Place → List ℕ → Type 0
 HasRoom Front text = Unit {0}
 HasRoom (Sql statement) text = unclosed_in statement + 1 < 2 ^ 64
 HasRoom (Data left statement waiting) text = HasLine left statement waiting text
+
+-- how many are counted as unclosed at a place, and how many COPY statements wait for their data
+abbrev pub unclosed_at : Place → ℕ
+unclosed_at Front = 0
+unclosed_at (Sql statement) = unclosed_in statement
+unclosed_at (Data left statement waiting) = unclosed_in statement
+
+abbrev pub waiting_at : Place → ℕ
+waiting_at Front = 0
+waiting_at (Sql statement) = 0
+waiting_at (Data left statement waiting) = waiting
+
+-- how far a place reaches: to the end of the line of COPY
+abbrev pub reach_of : Place → ℕ
+reach_of Front = 0
+reach_of (Sql statement) = 0
+reach_of (Data left statement waiting) = left

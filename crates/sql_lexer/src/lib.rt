@@ -15,5 +15,6 @@ pub mod statements;
 mod strings;
 pub mod tokenizer;
 
+pub use script::lexer::ScriptLexer;
 pub use script::tokenize_script;
 pub use tokenizer::{TokenizeError, tokenize};

@@ -7,10 +7,11 @@ ghost use Rattle.sql_lexer.specs.StatementEnds.{StatementsEnd};
 ghost use Rattle.sql_lexer.specs.Tokens.{RefusesText};
 
 mod copy_commands;
+pub mod lexer;
 mod places;
 mod words;
 
-use crate::script::places::{Place, push_next};
+use crate::script::lexer::ScriptLexer;
 use crate::tokenizer::{TokenizeError, give_back, room_for};
 use squawk_tokens::Token;
 use std::alloc::Global;
@@ -27,7 +28,7 @@ use std::alloc::Global;
 /// Where statements end is told by `statements`. A byte order mark that begins the text is white space.
 ///
 /// It takes time proportional to the text's length, and no memory but the list's.
-#[tactic(auto, using(crate::proofs::ScriptTokens::script_none, crate::proofs::ScriptTokens::script_all, crate::proofs::ScriptTokens::script_accepted, crate::proofs::CopyData::data_are_lines, crate::proofs::StatementEnds::statements_end))]
+#[tactic(auto, using(crate::proofs::CopyData::data_are_lines, crate::proofs::StatementEnds::statements_end))]
 pub fn tokenize_script(alloc: Global, text: &str) -> Result<Vec<Token>, TokenizeError>
     ensures tokens { IfOk result (λ tokens. tokens.items ≡ script_tokens text.now) }
     // Between COPY's line and the line `\.` each token is a whole line or a line's end.
@@ -38,13 +39,10 @@ pub fn tokenize_script(alloc: Global, text: &str) -> Result<Vec<Token>, Tokenize
     ensures accepted { IfOk result (λ tokens. AreAcceptedTokens text.now tokens.items) }
     ensures refused { IfErr result (RefusesText text.now) }
 {
+    let mut lexer = ScriptLexer::new(text)?;
     let mut tokens = room_for(alloc, text)?;
-    let bytes = text.as_bytes();
-    let mut place = Place::Front;
-    let mut at = 0;
-    while at < bytes.len() {
-        let token = push_next(&mut tokens, &mut place, &bytes[at..])?;
-        at += token.len as usize;
+    while !lexer.is_at_end() {
+        lexer.next_statement(&mut tokens)?;
     }
     give_back(&mut tokens);
     Ok(tokens)

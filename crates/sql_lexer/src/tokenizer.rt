@@ -10,7 +10,7 @@ use std::error::Error;
 use std::fmt;
 
 /// The longest text in bytes: places in it have 32 bits.
-const LONGEST_TEXT: usize = u32::MAX as usize;
+pub(crate) const LONGEST_TEXT: usize = u32::MAX as usize;
 
 /// Room is made at first for one raw token in so many bytes.
 const BYTES_PER_TOKEN: usize = 5;

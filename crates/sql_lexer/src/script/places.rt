@@ -1,9 +1,10 @@
 //! What stands at a place of a script.
-ghost use Rattle.std.specs.Prelude.{◌≡◌, ◌+◌, ◌<◌, ◌≤◌, ◌^◌, length, IsUtf8, OnOk};
+ghost use Rattle.std.specs.Prelude.{◌≡◌, ◌+◌, ◌<◌, ◌≤◌, ◌^◌, ◌&&◌, length, IsUtf8, OnOk};
 ghost use Rattle.sql_lexer.specs.Pushes.{Pushes};
 ghost use Rattle.sql_lexer.specs.Scripts as spec;
 ghost use Rattle.sql_lexer.specs.ScriptPlaces.{HasLine, HasRoom, IsRest, may_end};
-ghost use Rattle.sql_lexer.specs.Statements.{unclosed_in};
+ghost use Rattle.sql_lexer.specs.ScriptEnds.{statement_at};
+ghost use Rattle.sql_lexer.specs.Statements.{is_start, unclosed_in};
 ghost use Rattle.sql_lexer.specs.ScriptWords.{word_of};
 ghost use Rattle.sql_lexer.specs.Tokens.{first_token};
 ghost use Rattle.sql_lexer.specs.declared.script.places.Place.TheVariants.{Front};
@@ -31,6 +32,29 @@ pub(crate) enum Place {
         /// How many further COPY statements of the line wait for their data.
         waiting: usize,
     },
+}
+
+impl Place {
+    /// Whether no statement is begun.
+    #[inline(always)]
+    fn is_start(&self) -> bool
+        ensures { result ≡ is_start (statement_at self.now) }
+    {
+        match *self {
+            Place::Front => true,
+            Place::Sql(statement) | Place::Data { statement, .. } => {
+                matches!(statement, Statement::Start)
+            }
+        }
+    }
+}
+
+/// Whether a statement ends with a token of the kind, where this place stands after it.
+#[inline(always)]
+pub(crate) fn ends_statement(kind: TokenKind, after: &Place) -> bool
+    ensures { result ≡ (may_end kind && is_start (statement_at after.now)) }
+{
+    may_end(kind) && after.is_start()
 }
 
 /// Adds the token at a place, and gives it. The place goes on behind it.

@@ -1,9 +1,13 @@
-use Rattle.std.proofs.Common.{◌-◌, length}
-use Rattle.sql_lexer.proofs.ScriptTokens.{HasCutScript}
+use Rattle.std.proofs.Common.{◌≡◌, ◌++◌, length, ◌-◌}
+use Rattle.sql_lexer.specs.ScriptLexing.{tokens_left}
+use Rattle.sql_lexer.specs.Scripts.{script_tokens}
 use Rattle.sql_lexer.proofs.script.tokenize_script.Given as goal
 
-abbrev pub invariant-loop-at : goal.invariant-loop-at
-invariant-loop-at l = HasCutScript l.bytes l.place l.at l.tokens.items
+abbrev pub invariant-loop-lexer : goal.invariant-loop-lexer
+invariant-loop-lexer l = record {
+  text : l.lexer.text ≡ l.fn.text;
+  left : l.tokens.items ++ tokens_left l.lexer ≡ script_tokens l.fn.text;
+}
 
-abbrev pub decreases-loop-at : goal.decreases-loop-at
-decreases-loop-at l = length l.bytes - l.at
+abbrev pub decreases-loop-lexer : goal.decreases-loop-lexer
+decreases-loop-lexer l = length l.lexer.text - l.lexer.at
