@@ -120,5 +120,6 @@ pub use squawk_kinds::{
 pub use squawk_output::{Event, EventList, Output, Step, Steps, Text, event, output, process};
 pub use squawk_table::{
     Base, Input, LexError, LexErrors, LexedStr, LiteralKind, OwnedStep, StepList, StepSink,
-    StrStep, StrSteps, TableError, Token, TokenKind, check_tokens, input, lexed_str, shortcuts,
+    StrStep, StrSteps, TableBuilder, TableError, Token, TokenKind, check_tokens, input, lexed_str,
+    shortcuts,
 };

@@ -1,4 +1,5 @@
 pub mod TableLemmas
+pub mod TableGrowth
 pub mod RawTokens
 pub mod Examples
 pub mod AllSent

@@ -24,7 +24,7 @@ literal-some : (kind : LiteralKind) → literal_kind_of kind ≢ EOF
 literal-some (Int empty base junk) e = omega arith
 literal-some kind e = omega arith
 
-kind-some : (keyword : Keywords) (kind : TokenKind) (text part : List ℕ) → AreKeywords keyword → MeetsKind part kind → kind_of keyword kind text ≢ EOF
+pub kind-some : (keyword : Keywords) (kind : TokenKind) (text part : List ℕ) → AreKeywords keyword → MeetsKind part kind → kind_of keyword kind text ≢ EOF
 kind-some keyword Ident text part law meets = cases (keyword text) (law text)
   where
     cases : (o : Option ℕ) → IfSome o IsKeyword → unwrap_or o IDENT ≢ EOF

@@ -1,5 +1,6 @@
 pub mod TokenKinds
 pub mod RawTable
+pub mod TableBuilding
 pub mod ParserInput
 pub mod InputView
 pub mod JointBits

@@ -10,6 +10,7 @@ pub mod shortcuts;
 
 pub use input::Input;
 pub use lexed_str::{
-    Base, LexError, LexErrors, LexedStr, LiteralKind, TableError, Token, TokenKind, check_tokens,
+    Base, LexError, LexErrors, LexedStr, LiteralKind, TableBuilder, TableError, Token, TokenKind,
+    check_tokens,
 };
 pub use shortcuts::{OwnedStep, StepList, StepSink, StrStep, StrSteps};
