@@ -5,3 +5,5 @@ pub mod RefusedParses
 pub mod ScriptStatements
 pub mod ScriptWords
 pub mod StatementKinds
+pub mod StrayStrings
+pub mod ScriptTables

@@ -6,3 +6,4 @@ pub mod Statements
 pub mod Words
 pub mod Scripts
 pub mod StrayStrings
+pub mod StringStates

@@ -15,11 +15,13 @@
 
 mod cut;
 mod parse;
+mod script;
 mod statement_kinds;
 mod statements;
 mod strings;
 
 pub use crate::parse::parse_table;
+pub use crate::script::{Script, read_script};
 use crate::statements::statement;
 pub use crate::strings::stray_strings;
 use rule_grammar::RuleGrammar;

@@ -1,16 +1,17 @@
 //! Strings that can't go on with the one before them.
-ghost use Rattle.std.specs.Prelude.{◌≡◌, IfOk};
+ghost use Rattle.std.specs.Prelude.{◌≡◌, ◌+◌, ◌<◌, ◌≤◌, ◌^◌, length, IfOk};
 ghost use Rattle.std.specs.List.{list_any};
-ghost use Rattle.squawk_tokens.specs.AcceptedTokens.{AreAcceptedTokens};
+ghost use Rattle.squawk_tokens.specs.AcceptedTokens.{AreAcceptedTokens, start_of};
 ghost use Rattle.sql_lexer.specs.Bytes.{is_line_end};
-ghost use Rattle.sql_grammar.specs.StrayStrings.{after_comment, after_line, after_token, after_trivia, is_apart, is_block_comment, is_plain, is_quoted, is_space, is_trivia, stray_strings};
+ghost use Rattle.sql_grammar.specs.StrayStrings.{is_block_comment, is_plain, is_quoted, is_space, is_trivia, stray_strings};
+ghost use Rattle.sql_grammar.specs.StringStates.{AddsStrays, after_comment, after_token, after_trivia, is_apart, is_on_line};
 
 use squawk_tokens::{LiteralKind, Token, TokenKind};
 use std::alloc::{AllocError, Global};
 
 /// What stands before a token, as far as strings go.
 #[derive(Clone, Copy)]
-enum Before {
+pub(crate) enum Before {
     /// No string.
     NoString,
     /// A string on the same line.
@@ -30,20 +31,37 @@ pub fn stray_strings(alloc: Global, text: &str, tokens: &[Token]) -> Result<Vec<
     ensures { IfOk result (λ strays. strays.items ≡ stray_strings text.now tokens.now) }
 {
     let mut strays = Vec::with_capacity(alloc, tokens.len())?;
-    let mut before = Before::NoString;
-    let mut at = 0u32;
+    add_strays(&mut strays, Before::NoString, text, 0, tokens)?;
+    Ok(strays)
+}
+
+/// Adds what is told of tokens that begin at a byte of a text, where this stands before the first. Returns what stands
+/// after the last.
+pub(crate) fn add_strays(
+    strays: &mut Vec<bool>,
+    before: Before,
+    text: &str,
+    start: u32,
+    tokens: &[Token],
+) -> Result<Before, AllocError>
+    requires short { length text.now < 2 ^ 32 }
+    requires within { start + start_of tokens.now (length tokens.now) ≤ length text.now }
+    ensures { IfOk result (λ after. AddsStrays text.now start tokens.now before after strays.old.items strays.new.items) }
+{
+    let mut before = before;
+    let mut at = start;
     for token in tokens {
         let end = at + token.len;
         if is_trivia(&token.kind) {
             let piece = &text.as_bytes()[at as usize..end as usize];
             before = before.after_trivia(&token.kind, piece);
         } else {
-            strays.push_reserved(is_plain(&token.kind) && before.is_apart());
+            strays.push(is_plain(&token.kind) && before.is_apart())?;
             before = Before::after_token(&token.kind);
         }
         at = end;
     }
-    Ok(strays)
+    Ok(before)
 }
 
 impl Before {
@@ -51,10 +69,10 @@ impl Before {
     fn after_trivia(self, kind: &TokenKind, text: &[u8]) -> Before
         ensures { result ≡ after_trivia self kind.now text.now }
     {
-        if is_space(kind) && has_line_end(text) {
-            self.after_line()
-        } else if is_block_comment(kind) {
+        if is_block_comment(kind) {
             self.after_comment()
+        } else if self.is_on_line() && is_space(kind) && has_line_end(text) {
+            Before::LineBefore
         } else {
             self
         }
@@ -71,15 +89,14 @@ impl Before {
         }
     }
 
-    fn after_line(self) -> Before
-        ensures { result ≡ after_line self }
+    /// Whether it is a string on the same line.
+    fn is_on_line(self) -> bool
+        ensures { result ≡ is_on_line self }
     {
-        match self {
-            Before::SameLine => Before::LineBefore,
-            before => before,
-        }
+        matches!(self, Before::SameLine)
     }
 
+    /// What stands before the token after a comment in `/*` and `*/`.
     fn after_comment(self) -> Before
         ensures { result ≡ after_comment self }
     {
