@@ -5,6 +5,8 @@
 #[cfg(test)]
 mod reports;
 #[cfg(test)]
+mod scripts;
+#[cfg(test)]
 mod trees;
 #[cfg(test)]
 mod words;

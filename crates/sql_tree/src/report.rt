@@ -1,23 +1,21 @@
 //! What is told of a text.
-ghost use Rattle.std.specs.Prelude.{◌≡◌, ◌≢◌, ◌<◌, ◌^◌, IfErr, IfOk, List, length, string_bytes};
+ghost use Rattle.std.specs.Prelude.{◌≡◌, ◌≢◌, IfErr, IfOk, List, string_bytes};
 ghost use Rattle.squawk_kinds.specs.EngineNames.{names_of};
 ghost use Rattle.squawk_table.specs.declared.shortcuts.str_step.OwnedStep.{OwnedStep};
-ghost use Rattle.squawk_tokens.specs.AcceptedTokens.{AreAcceptedTokens, start_of};
 ghost use Rattle.sql_lexer.specs.Scripts.{script_tokens};
+ghost use Rattle.sql_lexer.specs.Tokens.{RefusesText as RefusesTokens};
 ghost use Rattle.sql_report.specs.Drawn.{drawn};
 ghost use Rattle.sql_report.specs.Statements.{statements_of};
 ghost use Rattle.sql_report.specs.TokenLines.{token_lines};
 ghost use Rattle.sql_tree.specs.Listings.{asked_for, listed};
 ghost use Rattle.sql_tree.specs.Refusals.{RefusesText};
-ghost use Rattle.sql_tree.specs.Reports.{table_in};
 
 use crate::options::Listing;
 use crate::sql::Sql;
 use crate::unread::Unread;
-use sql_grammar::{Detail, parse_table, stray_strings};
-use sql_lexer::tokenize_script;
+use sql_grammar::{Detail, Script, parse_table, read_script};
+use sql_lexer::{TokenizeError, tokenize_script};
 use sql_report::{Asked, Walked, error_lines, statement_lines, token_lines, walk};
-use squawk_parser::{LexedStr, Token};
 use std::alloc::{AllocError, Global};
 
 /// What is told of a text.
@@ -49,11 +47,8 @@ impl Report {
         ensures told { IfOk result (λ report. IsReport sql.now listing name.now text.now report) }
         ensures refused { IfErr result (RefusesText sql.now text.now) }
     {
-        let tokens = tokenize_script(alloc, text)?;
-        let table = table_of(alloc, sql, text, &tokens)?;
-        let raw_lines = raw_lines(alloc, listing, &tokens)?;
-        let strays = stray_strings(alloc, text, &tokens)?;
-        drop(tokens);
+        let Script { table, strays } = read_script(alloc, text, &sql.vocabulary)?;
+        let raw_lines = raw_lines(alloc, listing, text)?;
         let rules = sql_rules::grammar(&strays);
         let output = parse_table(alloc, &table, &sql.vocabulary, Detail::Nodes(&rules))?;
         let walked = walk(alloc, &table, &output, sql.names(), asked(listing))?;
@@ -68,20 +63,6 @@ impl Report {
             statement_count,
         })
     }
-}
-
-/// The table of a text's raw tokens.
-fn table_of<'t>(
-    alloc: Global,
-    sql: &Sql,
-    text: &'t str,
-    tokens: &[Token],
-) -> Result<LexedStr<'t>, AllocError>
-    requires accepted { AreAcceptedTokens text.now tokens.now }
-    requires tokens { tokens.now ≡ script_tokens text.now }
-    ensures { IfOk result (λ table. table ≡ table_in sql.now text.now) }
-{
-    LexedStr::from_accepted(alloc, text, tokens, &sql.vocabulary)
 }
 
 /// What is asked of a parse for a listing.
@@ -121,12 +102,15 @@ fn list(
 }
 
 /// The raw tokens as lines, where they are asked for.
-fn raw_lines(alloc: Global, listing: Listing, tokens: &[Token]) -> Result<String, AllocError>
-    requires { start_of tokens.now (length tokens.now) < 2 ^ 64 }
-    ensures { IfOk result (λ lines. listing ≡ Listing.Tokens → string_bytes lines ≡ token_lines 0 tokens.now) }
+fn raw_lines(alloc: Global, listing: Listing, text: &str) -> Result<String, TokenizeError>
+    ensures lines { IfOk result (λ lines. listing ≡ Listing.Tokens → string_bytes lines ≡ token_lines 0 (script_tokens text.now)) }
+    ensures refused { IfErr result (RefusesTokens text.now) }
 {
     match listing {
-        Listing::Tokens => token_lines(alloc, tokens),
+        Listing::Tokens => {
+            let tokens = tokenize_script(alloc, text)?;
+            Ok(token_lines(alloc, &tokens)?)
+        }
         _ => Ok(String::new(alloc)),
     }
 }
