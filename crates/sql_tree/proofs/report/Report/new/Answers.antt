@@ -2,7 +2,6 @@ use Rattle.std.proofs.Common.{◌≡◌, ◌≢◌, ◌∙◌, Err, ap, length, 
 use Rattle.std.specs.Prelude.{string_bytes}
 use Rattle.std.specs.Str.{chars}
 use Rattle.squawk_kinds.specs.EngineNames.{names_of}
-use Rattle.squawk_keywords.specs.KeywordAnswers.{contextual_keyword_of}
 use Rattle.squawk_table.specs.Sent.{sent_list, texts_of}
 use Rattle.squawk_table.specs.Shape.{Fits}
 use Rattle.sql_grammar.proofs.RefusedParses.{by_rules}
@@ -23,7 +22,7 @@ pub returns-in_err-output-clause-refused : goal.returns-in_err-output-clause-ref
 returns-in_err-output-clause-refused c =
     let reason = c.in_err-output.field-0.0 in
     let is : c.from_residual-in_err-output.result ≡ Err (unread_of_parse reason) = search rules in
-    rw is (of_parse c.args.sql.now c.args.text.now _ reason c.in_ok-table.ensures c.in_err-output.ensures.refused)
+    rw is (of_parse c.args.sql.now c.args.text.now _ reason c.in_ok-table.ensures.table c.in_err-output.ensures.refused)
 
 pub returns-clause-told : goal.returns-clause-told
 returns-clause-told c =
@@ -31,8 +30,8 @@ returns-clause-told c =
     let listing = c.args.listing in
     let text = c.args.text.now in
     let steps = c.in_ok-output.output.steps in
-    let sent = sent_list c.in_ok-table.table steps in
-    let same = c.in_ok-table.ensures in
+    let sent = sent_list c.in_ok-table.field-0.table steps in
+    let same = c.in_ok-table.ensures.table in
     let walked = c.in_ok-walked.ensures in
     let findings = c.in_ok-walked.walked.findings.items in
     let list = string_bytes c.in_ok-listing.listing in
