@@ -1,14 +1,15 @@
 -- The table of an accepted list.
-use Rattle.std.proofs.Common.{◌≡◌, ◌≢◌, ℕ, zero, suc, ◌+◌, ◌<◌, ◌≤◌, List, [], ◌∷◌, length, take, slice_index, get_or, arith, add-one, add-zero, zero-add, ap, sym, refl, ◌∙◌, ◌⊎◌, inl, inr}
+use Rattle.std.proofs.Common.{◌≡◌, ◌≢◌, ℕ, zero, suc, ◌+◌, ◌<◌, ◌≤◌, List, [], ◌∷◌, ◌++◌, length, take, drop, slice_index, get_or, arith, add-one, add-zero, zero-add, ap, sym, refl, ◌∙◌, ◌⊎◌, inl, inr}
 use Rattle.std.specs.Prelude.{All, IsUtf8, IsCharBoundary}
 use Rattle.std.proofs.lemmas.Str.{IsCharBoundary-start}
 use Rattle.std.proofs.lemmas.List.Sums.{sum_by_more, sum_by-cons}
+use Rattle.std.proofs.lemmas.List.{drop_all, append-nil}
 use Rattle.squawk_tokens.specs.declared.token.Token.{Token}
 use Rattle.squawk_tokens.specs.declared.token.TokenKind.TheVariants.{Ident}
 use Rattle.squawk_tokens.specs.AcceptedTokens.{start_of, AreAcceptedTokens}
 use Rattle.squawk_tokens.specs.ErrorRanges.{LiesIn, StandApart}
 use Rattle.squawk_tokens.specs.LexicalErrors.{LexicalError, lexical_errors}
-use Rattle.squawk_table.specs.RawTable.{IsTable, table_of, kinds_from, starts_from}
+use Rattle.squawk_table.specs.RawTable.{IsTable, Table, table_of, kinds_from, starts_from}
 use Rattle.squawk_kinds.specs.Keywords.{Keywords}
 use Rattle.squawk_kinds.specs.Kinds.{EOF}
 use Rattle.squawk_table.proofs.NoEnd.{AreKeywords, table-no_end}
@@ -40,7 +41,7 @@ module _ (keyword : Keywords) (text : List ℕ) (tokens : List Token) (ok : AreA
       rw more (omega (arith, good.nonempty), good.boundary)
 
   -- a token starts at a character boundary
-  boundary : IsUtf8 text → (i : ℕ) → i ≤ length tokens → IsCharBoundary text (start_of tokens i)
+  pub boundary : IsUtf8 text → (i : ℕ) → i ≤ length tokens → IsCharBoundary text (start_of tokens i)
   boundary utf8 zero le = IsCharBoundary-start text utf8
   boundary utf8 (suc i) le = rw add-one at (start_more i (omega arith)).1
 
@@ -86,3 +87,16 @@ module _ (keyword : Keywords) (text : List ℕ) (tokens : List Token) (ok : AreA
 
   pub IsTable-table_of : AreKeywords keyword → IsUtf8 text → StandApart (start_of tokens) (length tokens) (lexical_errors text tokens) → IsTable (table_of keyword text tokens)
   IsTable-table_of law utf8 apart = IsTable-of_kinds (table-no_end keyword text tokens law ok) utf8 apart
+
+-- what was made token by token is the table
+pub is_table_of : (keyword : Keywords) (text : List ℕ) (tokens : List Token) (kinds before starts : List ℕ) (errors : List LexicalError) (at n : ℕ) → length tokens ≤ n
+    → kinds ++ kinds_from keyword text at (drop n tokens) ≡ kinds_from keyword text 0 tokens
+    → before ++ starts_from at (drop n tokens) ≡ starts_from 0 tokens → starts ≡ before ++ at ∷ [] → errors ≡ lexical_errors text tokens
+    → table_of keyword text tokens ≡ record { text = text; kinds = kinds; starts = starts; errors = errors }
+is_table_of keyword text tokens kinds before starts errors at n past k s made found =
+    let none_left : drop n tokens ≡ [] = drop_all n tokens past in
+    let same_kinds : kinds_from keyword text 0 tokens ≡ kinds = sym k ∙ (ap (λ ts. kinds ++ kinds_from keyword text at ts) none_left ∙ append-nil kinds) in
+    let same_starts : starts_from 0 tokens ≡ starts = sym s ∙ (ap (λ ts. before ++ starts_from at ts) none_left ∙ sym made) in
+    ap (λ k. let t : Table = record { text = text; kinds = k; starts = starts_from 0 tokens; errors = lexical_errors text tokens } in t) same_kinds
+    ∙ (ap (λ s. let t : Table = record { text = text; kinds = kinds; starts = s; errors = lexical_errors text tokens } in t) same_starts
+    ∙ ap (λ e. let t : Table = record { text = text; kinds = kinds; starts = starts; errors = e } in t) (sym found))

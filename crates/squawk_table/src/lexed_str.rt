@@ -8,9 +8,11 @@ pub mod builder;
 mod kind;
 pub mod lex_errors;
 
+use crate::lexed_str::kind::syntax_kind;
 pub use builder::TableBuilder;
 pub use lex_errors::LexErrors;
 use squawk_kinds::{SyntaxKind, Vocabulary};
+use squawk_tokens::Converter;
 pub use squawk_tokens::{Base, LexError, LiteralKind, TableError, Token, TokenKind, check_tokens};
 use std::alloc::{AllocError, Global};
 use std::marker::Model;
@@ -68,9 +70,25 @@ impl<'a> LexedStr<'a> {
         requires { AreAcceptedTokens text.now tokens.now }
         ensures { IfOk result (λ table. table ≡ table_of (V.keyword vocabulary.now) text.now tokens.now) }
     {
-        let mut table = TableBuilder::with_capacity(alloc, text, tokens.len())?;
-        table.extend(tokens, vocabulary)?;
-        table.finish()
+        let mut kinds = Vec::with_capacity(alloc, tokens.len())?;
+        let mut starts = Vec::with_capacity(alloc, tokens.len().saturating_add(1))?;
+        let mut converter = Converter::new(alloc, text);
+        let mut at = 0u32;
+        for token in tokens {
+            let end = at + token.len;
+            let piece = &text[at as usize..end as usize];
+            starts.push_reserved(at);
+            kinds.push_reserved(syntax_kind(&token.kind, piece, vocabulary));
+            converter.extend_token(token)?;
+            at = end;
+        }
+        starts.push(at)?;
+        Ok(LexedStr {
+            text,
+            kinds,
+            starts,
+            errors: converter.into_errors(),
+        })
     }
 
     /// The number of raw tokens.
