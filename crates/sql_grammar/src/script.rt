@@ -14,7 +14,7 @@ use std::alloc::Global;
 /// Room is made at first for one raw token in so many bytes.
 const BYTES_PER_TOKEN: usize = 5;
 
-/// What the rules are asked of.
+/// A text of SQL, ready for a parse by rules.
 #[derive(Drop)]
 pub struct Script<'t> {
     /// The table of the raw tokens.
