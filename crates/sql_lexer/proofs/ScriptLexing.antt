@@ -1,5 +1,5 @@
 -- A lexer goes on from one token to the next, up to the end of a statement.
-use Rattle.std.proofs.Common.{◌≡◌, ◌∙◌, ℕ, zero, suc, ◌+◌, ◌-◌, ◌<◌, ◌≤◌, ◌==◌, ◌&&◌, nat_le, Bool, true, false, List, [], ◌∷◌, ◌++◌, length, take, drop, append_assoc, if◌then◌else◌, length-drop, arith, ap, refl, sym, subst}
+use Rattle.std.proofs.Common.{◌≡◌, ◌∙◌, ℕ, zero, suc, ◌+◌, ◌-◌, ◌<◌, ◌≤◌, ◌==◌, ◌&&◌, nat_le, Bool, true, false, List, [], ◌∷◌, ◌++◌, length, take, drop, append_assoc, if◌then◌else◌, length-append, length-drop, arith, ap, refl, sym, subst}
 use Rattle.std.specs.Prelude.{IsCharBoundary, Ok}
 use Rattle.std.specs.List.{list_all}
 use Rattle.std.specs.Str.{str_eq_ignore_ascii_case}
@@ -20,13 +20,13 @@ use Rattle.sql_lexer.specs.declared.statements.Word.TheVariants.{Atomic, Command
 use Rattle.sql_lexer.specs.Pushes.{Pushes}
 use Rattle.sql_lexer.specs.Rules.{token}
 use Rattle.sql_lexer.specs.ScriptEnds.{statement_at, word_at}
-use Rattle.sql_lexer.specs.ScriptLexing.{Cuts, IsLexing, Lexing, next_statement, statement_from, tokens_left}
+use Rattle.sql_lexer.specs.ScriptLexing.{Cuts, IsLexing, Lexing, next_statement, signs_from, signs_left, tokens_left, up_to_sign}
 use Rattle.sql_lexer.specs.ScriptPlaces.{HasRoom, IsRest, may_end, reach_of, unclosed_at, waiting_at}
 use Rattle.sql_lexer.specs.Scripts.{data_of, data_token, ends_data, has_mark, line_end_len, line_len, place_behind, place_behind_data, place_in, place_in_data, place_on_line, token_at}
 use Rattle.sql_lexer.specs.ScriptWords.{is_copy_command, names, plain_word, word_in, word_of}
 use Rattle.sql_lexer.specs.Statements.{after, begun_by, block_after, created_by, creating, data_follow, ends_with, goes_on, held_by, is_start, read_as, replaced_by, routine_after, routine_on}
 use Rattle.sql_lexer.specs.Tokens.{first_token}
-use Rattle.sql_lexer.proofs.CutTokens.{cut_at, left_at}
+use Rattle.sql_lexer.proofs.CutTokens.{cut_at, cut_from, left_at}
 use Rattle.sql_lexer.proofs.ScriptPlaces.{most_at, script, waits_at}
 
 -- ---- where a statement ends
@@ -150,22 +150,22 @@ ends_at (Data left statement waiting) text =
     (λ e. ends_in_data statement waiting text)
     (λ e. ends statement found.kind (take found.len text))
 
--- ---- the first token of a statement, and the others
+-- ---- the first sign, and the others
 
-statement-behind : (place : Place) (n : ℕ) (text : List ℕ) → statement_from place n text ≡ statement_from place 0 (drop n text)
-statement-behind place zero text = refl
-statement-behind place (suc n) [] = refl
-statement-behind place (suc n) (b ∷ rest) = statement-behind place n rest
+signs-behind : (place : Place) (n : ℕ) (text : List ℕ) → signs_from place n text ≡ signs_from place 0 (drop n text)
+signs-behind place zero text = refl
+signs-behind place (suc n) [] = refl
+signs-behind place (suc n) (b ∷ rest) = signs-behind place n rest
 
-statement-first : (place : Place) (text : List ℕ) → 0 < length text → 0 < (token_at place text).len
-    → statement_from place 0 text
-    ≡ token_at place text ∷ (if ends_with (statement_at place) (word_at place text) then [] else statement_from (place_behind place text) 0 (drop (token_at place text).len text))
-statement-first place [] some nonempty = absurd (omega arith)
-statement-first place (b ∷ rest) some nonempty =
+signs-first : (place : Place) (text : List ℕ) → 0 < length text → 0 < (token_at place text).len
+    → signs_from place 0 text ≡ ends_with (statement_at place) (word_at place text) ∷ signs_from (place_behind place text) 0 (drop (token_at place text).len text)
+signs-first place [] some nonempty = absurd (omega arith)
+signs-first place (b ∷ rest) some nonempty =
     let found = token_at place (b ∷ rest) in
+    let later = place_behind place (b ∷ rest) in
     let next : found.len ≡ suc (found.len - 1) = omega (arith, nonempty) in
-    ap (λ others. found ∷ (if ends_with (statement_at place) (word_at place (b ∷ rest)) then [] else others))
-    (statement-behind (place_behind place (b ∷ rest)) (found.len - 1) rest ∙ ap (λ n. statement_from (place_behind place (b ∷ rest)) 0 (drop n (b ∷ rest))) (sym next))
+    ap (λ others. ends_with (statement_at place) (word_at place (b ∷ rest)) ∷ others)
+    (signs-behind later (found.len - 1) rest ∙ ap (λ n. signs_from later 0 (drop n (b ∷ rest))) (sym next))
 
 -- ---- the loop that cuts a statement
 
@@ -177,6 +177,7 @@ pub record HasCut (begun now : Lexing) (old tokens : List Token) : Type 0 where
   pub cut : List Token
   pub grown : tokens ≡ old ++ cut
   pub left : cut ++ tokens_left now ≡ tokens_left begun
+  pub signs : drop (length cut) (signs_left begun) ≡ signs_left now
   pub statement : cut ++ next_statement now ≡ next_statement begun
 
 -- the statement is cut
@@ -187,7 +188,7 @@ pub record HasCutAll (begun now : Lexing) (old tokens : List Token) : Type 0 whe
 
 pub cut_to_end : (begun now : Lexing) (old tokens : List Token) → HasCut begun now old tokens → length now.text ≤ now.at → HasCutAll begun now old tokens
 cut_to_end begun now old tokens has le =
-    let none : next_statement now ≡ [] = ap (statement_from now.place 0) (drop_all now.at now.text le) in
+    let none : next_statement now ≡ [] = ap (λ rest. take (up_to_sign (signs_from now.place 0 rest)) (cut_from script now.place rest)) (drop_all now.at now.text le) in
     let all : has.cut ≡ next_statement begun = sym (append-nil has.cut) ∙ (ap (λ ts. has.cut ++ ts) (sym none) ∙ has.statement) in
     record {
       is = has.is;
@@ -196,8 +197,13 @@ cut_to_end begun now old tokens has le =
         goes_on = λ lt. omega (arith, ap length has.text);
         tokens = has.grown ∙ ap (λ ts. old ++ ts) all;
         left = sym has.left ∙ ap (λ ts. ts ++ tokens_left now) all;
+        signs = ap (λ ts. drop (length ts) (signs_left begun)) (sym all) ∙ has.signs;
       };
     }
+
+take-cond : {A : Type 0} (b : Bool) (n : ℕ) (xs : List A) → take (if b then 0 else n) xs ≡ (if b then [] else take n xs)
+take-cond true n xs = refl
+take-cond false n xs = refl
 
 -- the token at a place is added
 pub record HasMoved (begun now : Lexing) (old more : List Token) (found : Token) (next : Place) : Type 0 where
@@ -225,11 +231,21 @@ step begun now old tokens has lt =
     let grown : tokens ++ found ∷ [] ≡ old ++ (has.cut ++ found ∷ []) = ap (λ ts. ts ++ found ∷ []) has.grown ∙ append_assoc old has.cut (found ∷ []) in
     let left : (has.cut ++ found ∷ []) ++ tokens_left later ≡ tokens_left begun =
     append_assoc has.cut (found ∷ []) (tokens_left later) ∙ (ap (λ ts. has.cut ++ ts) (sym here.tokens) ∙ has.left) in
+    let signs_now : (b : Bool) → (may_end found.kind && is_start (statement_at next)) ≡ b → signs_left now ≡ b ∷ signs_left later =
+    λ b e.
+    signs-first now.place rest (omega (arith, length-drop now.at now.text)) here.good.nonempty
+    ∙ (ap (λ ts. ends_with (statement_at now.place) (word_at now.place rest) ∷ signs_from next 0 ts) (drop-drop found.len now.at now.text)
+    ∙ ap (λ ends. ends ∷ signs_left later) (ends_at now.place rest ∙ e)) in
     let first : (b : Bool) → (may_end found.kind && is_start (statement_at next)) ≡ b → next_statement now ≡ found ∷ (if b then [] else next_statement later) =
     λ b e.
-    statement-first now.place rest (omega (arith, length-drop now.at now.text)) here.good.nonempty
-    ∙ (ap (λ ts. found ∷ (if ends_with (statement_at now.place) (word_at now.place rest) then [] else statement_from next 0 ts)) (drop-drop found.len now.at now.text)
-    ∙ ap (λ ends. found ∷ (if ends then [] else next_statement later)) (ends_at now.place rest ∙ e)) in
+    ap (λ signs. take (up_to_sign signs) (tokens_left now)) (signs_now b e)
+    ∙ (ap (take (up_to_sign (b ∷ signs_left later))) here.tokens
+    ∙ ap (λ ts. found ∷ ts) (take-cond b (up_to_sign (signs_left later)) (tokens_left later))) in
+    let signs : (b : Bool) → (may_end found.kind && is_start (statement_at next)) ≡ b → drop (length (has.cut ++ found ∷ [])) (signs_left begun) ≡ signs_left later =
+    λ b e.
+    ap (λ n. drop n (signs_left begun)) (length-append has.cut (found ∷ []))
+    ∙ (sym (drop-drop 1 (length has.cut) (signs_left begun))
+    ∙ (ap (drop 1) has.signs ∙ ap (drop 1) (signs_now b e))) in
     record {
       some = here.good.nonempty;
       within = here.good.boundary.0;
@@ -240,6 +256,7 @@ step begun now old tokens has lt =
         cut = has.cut ++ found ∷ [];
         grown = grown;
         left = left;
+        signs = signs false e;
         statement = append_assoc has.cut (found ∷ []) (next_statement later) ∙ (ap (λ ts. has.cut ++ ts) (sym (first false e)) ∙ has.statement);
       };
       ends = λ e.
@@ -251,6 +268,7 @@ step begun now old tokens has lt =
               goes_on = λ l. omega (arith, has.from, here.good.nonempty);
               tokens = grown ∙ ap (λ ts. old ++ ts) all;
               left = sym left ∙ ap (λ ts. ts ++ tokens_left later) all;
+              signs = ap (λ ts. drop (length ts) (signs_left begun)) (sym all) ∙ signs true e;
             };
           };
     }

@@ -1,5 +1,5 @@
 -- A lexer that cuts a script a statement at a time.
-use Rattle.std.specs.Prelude.{◌≡◌, ◌≤◌, ◌<◌, ◌++◌, ℕ, zero, suc, ◌-◌, List, [], ◌∷◌, drop, length, IsCharBoundary, IsUtf8, if◌then◌else◌}
+use Rattle.std.specs.Prelude.{◌≡◌, ◌≤◌, ◌<◌, ◌++◌, ℕ, zero, suc, ◌-◌, Bool, List, [], ◌∷◌, take, drop, length, IsCharBoundary, IsUtf8, if◌then◌else◌}
 use Rattle.squawk_tokens.specs.declared.token.Token.{Token}
 use Rattle.sql_lexer.specs.declared.script.places.Place.{Place}
 use Rattle.sql_lexer.specs.declared.script.places.Place.TheVariants.{Front}
@@ -32,21 +32,30 @@ front_of text = record { text = text; at = 0; place = Front }
 abbrev pub tokens_left : Lexing → List Token
 tokens_left l = tokens_by token_at place_behind l.place 0 (drop l.at l.text)
 
--- the tokens of what is left of a text after n bytes, up to the first that ends a statement
-abbrev pub statement_from : Place → ℕ → List ℕ → List Token
-statement_from place n [] = []
-statement_from place (suc n) (b ∷ rest) = statement_from place n rest
-statement_from place zero (b ∷ rest) =
-    let found = token_at place (b ∷ rest) in
-    let others = statement_from (place_behind place (b ∷ rest)) (found.len - 1) rest in
-    found ∷ (if ends_with (statement_at place) (word_at place (b ∷ rest)) then [] else others)
+-- for each token of what is left of a text after n bytes, whether a statement ends with it
+abbrev pub signs_from : Place → ℕ → List ℕ → List Bool
+signs_from place n [] = []
+signs_from place (suc n) (b ∷ rest) = signs_from place n rest
+signs_from place zero (b ∷ rest) =
+    ends_with (statement_at place) (word_at place (b ∷ rest)) ∷ signs_from (place_behind place (b ∷ rest)) ((token_at place (b ∷ rest)).len - 1) rest
 
--- those of the next statement
+-- for each token that is left
+abbrev pub signs_left : Lexing → List Bool
+signs_left l = signs_from l.place 0 (drop l.at l.text)
+
+-- how many tokens stand up to the first that ends a statement, and with it
+abbrev pub up_to_sign : List Bool → ℕ
+up_to_sign [] = 0
+up_to_sign (ends ∷ signs) = suc (if ends then 0 else up_to_sign signs)
+
+-- the tokens of the next statement
 abbrev pub next_statement : Lexing → List Token
-next_statement l = statement_from l.place 0 (drop l.at l.text)
+next_statement l = take (up_to_sign (signs_left l)) (tokens_left l)
 
--- The tokens of the next statement are added to a list. Some are, where some are left.
+-- The tokens of the next statement are added to a list, and those after it are left, with the ends of their statements. Some are
+-- added, where some are left.
 pub record Cuts (old new : Lexing) (before after : List Token) : Type 0 where
   pub tokens : after ≡ before ++ next_statement old
   pub left : tokens_left old ≡ next_statement old ++ tokens_left new
+  pub signs : drop (length (next_statement old)) (signs_left old) ≡ signs_left new
   pub goes_on : old.at < length old.text → old.at < new.at
