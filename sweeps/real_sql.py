@@ -1,6 +1,7 @@
 #!/usr/bin/python3
 """real_sql.py FOLDER [PACKAGE..]: fetches SQL that people wrote into FOLDER: the files of Debian packages, and the
-tests of PostgreSQL 15 from its source package. It needs `apt-get update` before, and `deb-src` for that source.
+tests of PostgreSQL 15 and of its extensions from source packages. It needs `apt-get update` before, and `deb-src` for
+the sources.
 
 As a module: `statements(paths, seed)` gives the distinct statements of files, and of the SQL in folders."""
 import glob
@@ -14,9 +15,15 @@ import tempfile
 
 from postgres import COPY_COMMAND, ENDS_QUERY, copies, data_behind, files_in, line_behind, read
 
-PACKAGES = ["postgresql-15", "postgresql-15-pgtap", "postgresql-15-partman", "postgresql-15-cron",
-            "postgresql-15-postgis-3-scripts", "zabbix-server-pgsql", "roundcube-core", "bacula-director-pgsql",
-            "gnunet", "prelude-manager"]
+PACKAGES = """postgresql-15 postgresql-15-pgtap postgresql-15-partman postgresql-15-cron postgresql-15-postgis-3-scripts
+    postgresql-15-mimeo postgresql-15-pgrouting-scripts postgresql-15-londiste-sql postgresql-15-pgq-node
+    postgresql-15-pg-track-settings zabbix-server-pgsql roundcube-core bacula-director-pgsql gnunet prelude-manager
+    gnumed-server mediawiki tt-rss icingaweb2-module-director icingaweb2 ledgersmb sql-ledger libchado-perl openqa davical
+    osmosis sogo-common spamassassin request-tracker5 sqitch ocsinventory-reports cl-postmodern""".split()
+# Each has tests in SQL.
+SOURCES = """postgresql-15 extra-window-functions first-last-agg londiste-sql mimeo pg-rational pg-similarity pgaudit-1.7
+    pglogical pglogical-ticker pgmemcache pgpcre pgq-node postgis postgresql-numeral postgresql-plsh
+    postgresql-prioritize preprepare""".split()
 # Other systems, whose SQL is another one.
 OTHERS = {"mysql", "mariadb", "sqlite", "sqlite3", "oracle", "mssql"}
 # Larger files are rows of data, most of them.
@@ -154,9 +161,9 @@ def fetch(name, folder, download, unpack):
 def main(folder, packages):
     for package in packages or PACKAGES:
         fetch(package, folder, ["download"], ["dpkg-deb", "-x", "{}", "."])
-    if not packages:
-        source = ["source", "--download-only", "--tar-only"]
-        fetch("postgresql-15/bookworm", os.path.join(folder, "source"), source, ["tar", "-xf", "{}"])
+    for source in [] if packages else SOURCES:
+        download = ["source", "--download-only", "--tar-only"]
+        fetch(f"{source}/bookworm", os.path.join(folder, "source"), download, ["tar", "-xf", "{}"])
 
 
 if __name__ == "__main__":
