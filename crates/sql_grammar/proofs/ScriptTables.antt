@@ -1,5 +1,5 @@
 -- The table of a script grows by one statement after another.
-use Rattle.std.proofs.Common.{◌≡◌, ◌∙◌, ℕ, zero, suc, ◌+◌, ◌<◌, Bool, List, [], ◌∷◌, ◌++◌, length, take, get_or, append_assoc, length-append, arith, ap, refl, sym, subst}
+use Rattle.std.proofs.Common.{◌≡◌, ◌∙◌, ℕ, zero, suc, ◌+◌, ◌<◌, ◌≤◌, Bool, List, [], ◌∷◌, ◌++◌, length, take, get_or, append_assoc, length-append, arith, ap, refl, sym, subst}
 use Rattle.std.specs.List.{HoldsAt}
 use Rattle.std.specs.Prelude.{sum_by}
 use Rattle.std.proofs.Math.Seq.{take-length}
@@ -84,6 +84,13 @@ module _ (keyword : Keywords) (text : List ℕ) (lexer : Lexing) (table : Buildi
       rw has.in_text (subst (λ at. IsGoodToken text at (get_or cut i d)) place
       (subst (λ t. IsGoodToken text (0 + start_of has.read (length has.read) + start_of (cut ++ tokens_left later) i) t) same.0
       (behind text has.read (cut ++ tokens_left later) 0 good_from i more d)))
+
+  -- what `add_strays` wants
+  pub within : (later : Lexing) (cut : List Token) → Cuts lexer later [] cut → AreAcceptedTokens text (script_tokens text) → table.at + start_of cut (length cut) ≤ length text
+  within later cut cuts accepted =
+      let all = has.read ++ (cut ++ tokens_left later) in
+      let whole : start_of all (length all) ≡ length text = ap (λ ts. start_of ts (length ts)) (cut_between later cut cuts) ∙ accepted.whole in
+      omega (arith, whole, total-append has.read (cut ++ tokens_left later), total-append cut (tokens_left later), has.added.at)
 
   -- the statement is read
   pub grows : (later : Lexing) (cut : List Token) (grown : Building) (after : Before) (more : List Bool) → Cuts lexer later [] cut

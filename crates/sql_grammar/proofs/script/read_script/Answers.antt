@@ -2,7 +2,7 @@ use Rattle.std.proofs.Common.{◌++◌, [], List, refl, subst}
 use Rattle.squawk_tokens.specs.declared.token.Token.{Token}
 use Rattle.squawk_table.specs.TableBuilding.{HasAdded}
 use Rattle.sql_lexer.specs.ScriptLexing.{Cuts}
-use Rattle.sql_grammar.proofs.ScriptTables.{are_next, grows, reads-none, told_all}
+use Rattle.sql_grammar.proofs.ScriptTables.{are_next, grows, reads-none, told_all, within}
 use Rattle.sql_grammar.proofs.script.read_script.Goals as goal
 
 pub loop-lexer-init : goal.loop-lexer-init
@@ -19,6 +19,15 @@ extend-requires-clause-good g c =
     let cuts : Cuts loop.lexer later [] cut = subst (λ before. Cuts loop.lexer later before cut) c.clear.ensures.items c.in_ok-next_statement.ensures.cuts in
     rw c.deref.ensures.value
     (are_next (g.V.Vocabulary.keyword c.args.vocabulary.now) c.args.text.now loop.lexer loop.table loop.before loop.strays.items loop.invariant later cut cuts c.in_ok-lexer.ensures.accepted)
+
+pub add_strays-requires-clause-within : goal.add_strays-requires-clause-within
+add_strays-requires-clause-within g c =
+    let loop = c.loop-lexer in
+    let cut = c.next_statement.new.tokens.items in
+    let later = c.next_statement.new.self in
+    let cuts : Cuts loop.lexer later [] cut = subst (λ before. Cuts loop.lexer later before cut) c.clear.ensures.items c.in_ok-next_statement.ensures.cuts in
+    rw (c.deref-in-loop-lexer.ensures.value, c.next_start-start.ensures)
+    (within (g.V.Vocabulary.keyword c.args.vocabulary.now) c.args.text.now loop.lexer loop.table loop.before loop.strays.items loop.invariant later cut cuts c.in_ok-lexer.ensures.accepted)
 
 pub loop-lexer-preserved : goal.loop-lexer-preserved
 loop-lexer-preserved g c =
