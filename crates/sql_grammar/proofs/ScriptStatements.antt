@@ -3,9 +3,9 @@ use Rattle.std.proofs.Common.{◌≡◌, ◌∙◌, ℕ, zero, suc, ◌+◌, ◌
 use Rattle.std.specs.Prelude.{map, slice_index, slice_range, if◌then◌else◌}
 use Rattle.std.proofs.lemmas.Bool.{cond-false, cond-true, false≢true}
 use Rattle.std.proofs.lemmas.List.{drop_all, drop_more}
-use Rattle.sql_lexer.specs.ScriptEnds.{is_passed_over, script_ends}
+use Rattle.sql_lexer.specs.ScriptEnds.{is_passed_over, script_ends, words_from}
 use Rattle.sql_lexer.specs.Scripts.{script_tokens}
-use Rattle.sql_lexer.proofs.EndsLemmas.{ends_among, script_ends-words, words_from}
+use Rattle.sql_lexer.proofs.EndsLemmas.{ends_among, script_ends-words}
 use Rattle.squawk_keywords.specs.KeywordAnswers.{contextual_keyword_of, keyword_of}
 use Rattle.squawk_keywords.specs.KeywordPairs.{kind_of_word_ignoring_case}
 use Rattle.squawk_keywords.specs.declared.keywords.Keywords as vocabularies

@@ -4,7 +4,6 @@ use Rattle.std.specs.Prelude.{IsUtf8, slice_range, if◌then◌else◌}
 use Rattle.std.proofs.lemmas.Bool.{cases_lt, cond_both, false≢true}
 use Rattle.std.proofs.lemmas.List.{drop-drop, drop_all}
 use Rattle.std.proofs.lemmas.Str.{IsCharBoundary-start}
-use Rattle.squawk_tokens.specs.declared.token.Token.{Token}
 use Rattle.squawk_tokens.specs.declared.token.TokenKind.{TokenKind}
 use Rattle.squawk_tokens.specs.declared.token.TokenKind.TheVariants.{PsqlCommand, Whitespace}
 use Rattle.sql_lexer.specs.declared.script.places.Place.{Place}
@@ -18,7 +17,7 @@ use Rattle.sql_lexer.specs.declared.statements.Word.{Word}
 use Rattle.sql_lexer.specs.declared.statements.Word.TheVariants.{Command, CopyCommand, QueryEnd, Trivia}
 use Rattle.sql_lexer.specs.Rules.{token}
 use Rattle.sql_lexer.specs.Scripts.{data_of, data_token, ends_data, has_mark, line_end_len, line_len, place_behind, place_behind_data, place_in, place_in_data, place_on_line, script_tokens, token_at}
-use Rattle.sql_lexer.specs.ScriptEnds.{ends_from, is_passed_over, script_ends, statement_at, word_at}
+use Rattle.sql_lexer.specs.ScriptEnds.{ends_from, is_passed_over, script_ends, statement_at, word_at, words_from}
 use Rattle.sql_lexer.specs.ScriptWords.{is_copy_command, plain_word, word_of}
 use Rattle.sql_lexer.specs.Statements.{after, data_follow, ends_with}
 use Rattle.sql_lexer.specs.Tokens.{first_token}
@@ -78,7 +77,7 @@ in_data statement waiting text = empty (line_len text == 0)
     empty false = line (ends_data text)
 
 -- after a token the statement has its word more
-after-token : (place : Place) (text : List ℕ) → statement_at (place_behind place text) ≡ after (statement_at place) (word_at place text)
+pub after-token : (place : Place) (text : List ℕ) → statement_at (place_behind place text) ≡ after (statement_at place) (word_at place text)
 after-token Front text = marked (has_mark text)
   where
     marked : (mark : Bool) → statement_at (if mark then Sql Start else place_in Start text)
@@ -114,12 +113,7 @@ ends-first place (b ∷ rest) some nonempty =
 
 -- ---- a script
 
--- the words of tokens that stand one after another from a place on
-abbrev pub words_from : List ℕ → ℕ → List Token → List Word
-words_from text at [] = []
-words_from text at (t ∷ ts) = plain_word t.kind (slice_range text at (at + t.len)) ∷ words_from text (at + t.len) ts
-
--- with which of them a statement ends
+-- with which words a statement ends
 abbrev pub ends_among : Statement → List Word → List Bool
 ends_among statement [] = []
 ends_among statement (word ∷ words) =

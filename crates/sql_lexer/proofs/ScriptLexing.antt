@@ -1,10 +1,11 @@
 -- A lexer goes on from one token to the next, up to the end of a statement.
 use Rattle.std.proofs.Common.{◌≡◌, ◌∙◌, ℕ, zero, suc, ◌+◌, ◌-◌, ◌<◌, ◌≤◌, ◌==◌, ◌&&◌, nat_le, Bool, true, false, List, [], ◌∷◌, ◌++◌, length, take, drop, append_assoc, if◌then◌else◌, length-append, length-drop, arith, ap, refl, sym, subst}
-use Rattle.std.specs.Prelude.{IsCharBoundary, Ok}
+use Rattle.std.specs.Prelude.{IsCharBoundary, Ok, slice_range, sum_by}
 use Rattle.std.specs.List.{list_all}
 use Rattle.std.specs.Str.{str_eq_ignore_ascii_case}
 use Rattle.std.proofs.lemmas.Bool.{and_parts, cond_both, false≢true}
 use Rattle.std.proofs.lemmas.List.{append-nil, drop-drop, drop_all, take_rest}
+use Rattle.std.proofs.lemmas.List.Sums.{sum_by-append, sum_by-cons}
 use Rattle.std.proofs.lemmas.Str.{IsUtf8-drop}
 use Rattle.squawk_tokens.specs.declared.token.Token.{Token}
 use Rattle.squawk_tokens.specs.declared.token.TokenKind.{TokenKind}
@@ -19,14 +20,16 @@ use Rattle.sql_lexer.specs.declared.statements.Word.{Word}
 use Rattle.sql_lexer.specs.declared.statements.Word.TheVariants.{Atomic, Command, Copy, CopyCommand, Create, End, Function, Or, Procedure, QueryEnd, Replace, Rule, Semicolon}
 use Rattle.sql_lexer.specs.Pushes.{Pushes}
 use Rattle.sql_lexer.specs.Rules.{token}
-use Rattle.sql_lexer.specs.ScriptEnds.{statement_at, word_at}
-use Rattle.sql_lexer.specs.ScriptLexing.{Cuts, IsLexing, Lexing, next_statement, signs_from, signs_left, tokens_left, up_to_sign}
+use Rattle.sql_lexer.specs.ScriptEnds.{statement_at, word_at, words_from}
+use Rattle.sql_lexer.specs.ScriptLexing.{Cuts, EndsLast, IsLexing, Lexing, next_statement, signs_from, signs_left, tokens_left, up_to_sign}
 use Rattle.sql_lexer.specs.ScriptPlaces.{HasRoom, IsRest, may_end, reach_of, unclosed_at, waiting_at}
 use Rattle.sql_lexer.specs.Scripts.{data_of, data_token, ends_data, has_mark, line_end_len, line_len, place_behind, place_behind_data, place_in, place_in_data, place_on_line, token_at}
 use Rattle.sql_lexer.specs.ScriptWords.{is_copy_command, names, plain_word, word_in, word_of}
+use Rattle.sql_lexer.specs.StatementEnds.{LeadTo}
 use Rattle.sql_lexer.specs.Statements.{after, begun_by, block_after, created_by, creating, data_follow, ends_with, goes_on, held_by, is_start, read_as, replaced_by, routine_after, routine_on}
 use Rattle.sql_lexer.specs.Tokens.{first_token}
 use Rattle.sql_lexer.proofs.CutTokens.{cut_at, cut_from, left_at}
+use Rattle.sql_lexer.proofs.EndsLemmas.{after-token}
 use Rattle.sql_lexer.proofs.ScriptPlaces.{most_at, script, waits_at}
 
 -- ---- where a statement ends
@@ -169,6 +172,30 @@ signs-first place (b ∷ rest) some nonempty =
 
 -- ---- the loop that cuts a statement
 
+-- how many bytes tokens have
+abbrev bytes : List Token → ℕ
+bytes tokens = sum_by (λ (t : Token). t.len) tokens
+
+bytes-last : (tokens : List Token) (t : Token) → bytes (tokens ++ t ∷ []) ≡ bytes tokens + t.len
+bytes-last tokens t = omega (arith, sum_by-append (λ (t : Token). t.len) tokens (t ∷ []), sum_by-cons (λ (t : Token). t.len) t [])
+
+words-last : (text : List ℕ) (at : ℕ) (tokens : List Token) (t : Token)
+    → words_from text at (tokens ++ t ∷ []) ≡ words_from text at tokens ++ plain_word t.kind (slice_range text (at + bytes tokens) (at + bytes tokens + t.len)) ∷ []
+words-last text at [] t = ap (λ n. plain_word t.kind (slice_range text n (n + t.len)) ∷ []) (omega arith)
+words-last text at (x ∷ tokens) t =
+    let end : at + x.len + bytes tokens ≡ at + bytes (x ∷ tokens) = omega (arith, sum_by-cons (λ (t : Token). t.len) x tokens) in
+    ap (λ words. plain_word x.kind (slice_range text at (at + x.len)) ∷ words) (words-last text (at + x.len) tokens t)
+    ∙ ap (λ n. words_from text at (x ∷ tokens) ++ plain_word t.kind (slice_range text n (n + t.len)) ∷ []) end
+
+leads-last : (a b : Statement) (words : List Word) (word : Word) → LeadTo a words b → ends_with b word ≡ false → LeadTo a (words ++ word ∷ []) (after b word)
+leads-last a b [] word leads e = subst (λ s. (ends_with s word ≡ false) × (after s word ≡ after b word)) (sym leads) (e, refl)
+leads-last a b (x ∷ words) word leads e = (leads.0, leads-last (after a x) b words word leads.1 e)
+
+ends-last : (a b : Statement) (words : List Word) (word : Word) → LeadTo a words b → ends_with b word ≡ true → EndsLast a (words ++ word ∷ [])
+ends-last a b [] word leads e = subst (λ s. ends_with s word ≡ true) (sym leads) e
+ends-last a b (x ∷ []) word leads e = (leads.0, subst (λ s. ends_with s word ≡ true) (sym leads.1) e)
+ends-last a b (x ∷ y ∷ words) word leads e = (leads.0, ends-last (after a x) b (y ∷ words) word leads.1 e)
+
 -- these tokens were added to a list, and the statement goes on
 pub record HasCut (begun now : Lexing) (old tokens : List Token) : Type 0 where
   pub is : IsLexing now
@@ -178,6 +205,8 @@ pub record HasCut (begun now : Lexing) (old tokens : List Token) : Type 0 where
   pub grown : tokens ≡ old ++ cut
   pub left : cut ++ tokens_left now ≡ tokens_left begun
   pub signs : drop (length cut) (signs_left begun) ≡ signs_left now
+  pub at : now.at ≡ begun.at + bytes cut
+  pub leads : LeadTo (statement_at begun.place) (words_from begun.text begun.at cut) (statement_at now.place)
   pub statement : cut ++ next_statement now ≡ next_statement begun
 
 -- the statement is cut
@@ -198,6 +227,9 @@ cut_to_end begun now old tokens has le =
         tokens = has.grown ∙ ap (λ ts. old ++ ts) all;
         left = sym has.left ∙ ap (λ ts. ts ++ tokens_left now) all;
         signs = ap (λ ts. drop (length ts) (signs_left begun)) (sym all) ∙ has.signs;
+        at = has.at ∙ ap (λ ts. begun.at + bytes ts) all;
+        ends = λ lt. absurd (omega (arith, lt, le, ap length has.text));
+        begins = λ lt. absurd (omega (arith, lt, le, ap length has.text));
       };
     }
 
@@ -246,6 +278,13 @@ step begun now old tokens has lt =
     ap (λ n. drop n (signs_left begun)) (length-append has.cut (found ∷ []))
     ∙ (sym (drop-drop 1 (length has.cut) (signs_left begun))
     ∙ (ap (drop 1) has.signs ∙ ap (drop 1) (signs_now b e))) in
+    let at : now.at + found.len ≡ begun.at + bytes (has.cut ++ found ∷ []) = omega (arith, has.at, bytes-last has.cut found) in
+    let len : now.at + found.len - now.at ≡ found.len = omega arith in
+    let word : plain_word found.kind (slice_range begun.text (begun.at + bytes has.cut) (begun.at + bytes has.cut + found.len)) ≡ word_at now.place rest =
+    ap (λ n. plain_word found.kind (slice_range begun.text n (n + found.len))) (sym has.at)
+    ∙ (ap (λ text. plain_word found.kind (slice_range text now.at (now.at + found.len))) (sym has.text) ∙ ap (λ n. plain_word found.kind (take n rest)) len) in
+    let words : words_from begun.text begun.at (has.cut ++ found ∷ []) ≡ words_from begun.text begun.at has.cut ++ word_at now.place rest ∷ [] =
+    words-last begun.text begun.at has.cut found ∙ ap (λ w. words_from begun.text begun.at has.cut ++ w ∷ []) word in
     record {
       some = here.good.nonempty;
       within = here.good.boundary.0;
@@ -257,6 +296,10 @@ step begun now old tokens has lt =
         grown = grown;
         left = left;
         signs = signs false e;
+        at = at;
+        leads = subst (λ ws. LeadTo (statement_at begun.place) ws (statement_at next)) (sym words)
+            (subst (λ s. LeadTo (statement_at begun.place) (words_from begun.text begun.at has.cut ++ word_at now.place rest ∷ []) s) (sym (after-token now.place rest))
+            (leads-last (statement_at begun.place) (statement_at now.place) (words_from begun.text begun.at has.cut) (word_at now.place rest) has.leads (ends_at now.place rest ∙ e)));
         statement = append_assoc has.cut (found ∷ []) (next_statement later) ∙ (ap (λ ts. has.cut ++ ts) (sym (first false e)) ∙ has.statement);
       };
       ends = λ e.
@@ -269,6 +312,12 @@ step begun now old tokens has lt =
               tokens = grown ∙ ap (λ ts. old ++ ts) all;
               left = sym left ∙ ap (λ ts. ts ++ tokens_left later) all;
               signs = ap (λ ts. drop (length ts) (signs_left begun)) (sym all) ∙ signs true e;
+              at = at ∙ ap (λ ts. begun.at + bytes ts) all;
+              ends = λ lt.
+                  subst (λ ts. EndsLast (statement_at begun.place) (words_from begun.text begun.at ts)) all
+                  (subst (EndsLast (statement_at begun.place)) (sym words)
+                  (ends-last (statement_at begun.place) (statement_at now.place) (words_from begun.text begun.at has.cut) (word_at now.place rest) has.leads (ends_at now.place rest ∙ e)));
+              begins = λ lt. (and_parts (may_end found.kind) (is_start (statement_at next)) e).1;
             };
           };
     }

@@ -1,5 +1,6 @@
 -- Which tokens end a statement, as the tokenizer of scripts has it.
-use Rattle.std.specs.Prelude.{ℕ, zero, suc, ◌-◌, Bool, true, false, List, [], ◌∷◌, take, if◌then◌else◌}
+use Rattle.std.specs.Prelude.{ℕ, zero, suc, ◌+◌, ◌-◌, Bool, true, false, List, [], ◌∷◌, take, slice_range, if◌then◌else◌}
+use Rattle.squawk_tokens.specs.declared.token.Token.{Token}
 use Rattle.sql_lexer.specs.declared.script.places.Place.{Place}
 use Rattle.sql_lexer.specs.declared.script.places.Place.TheVariants.{Front, Sql, Data}
 use Rattle.sql_lexer.specs.declared.statements.Statement.{Statement}
@@ -36,3 +37,8 @@ ends_from place zero (b ∷ rest) =
 -- those of a script
 abbrev pub script_ends : List ℕ → List Bool
 script_ends text = ends_from Front 0 text
+
+-- the words of tokens that stand one after another from a place on
+abbrev pub words_from : List ℕ → ℕ → List Token → List Word
+words_from text at [] = []
+words_from text at (t ∷ ts) = plain_word t.kind (slice_range text at (at + t.len)) ∷ words_from text (at + t.len) ts
