@@ -1,13 +1,14 @@
 -- The nodes of a file's statements are added, one behind another.
-use Rattle.std.proofs.Common.{Bor, ◌≡◌, ◌≢◌, ◌∙◌, ℕ, zero, suc, ◌+◌, ◌-◌, ◌<◌, ◌≤◌, ◌==◌, ◌&&◌, nat_lt, not, min, Bool, true, false, Option, Some, None, List, [], ◌∷◌, ◌++◌, drop, take, length, if◌then◌else◌, arith, ap, sym, refl, subst, append_assoc, length-drop}
-use Rattle.std.proofs.lemmas.List.{append-nil, length-map, length-take}
+use Rattle.std.proofs.Common.{Bor, ◌≡◌, ◌≢◌, ◌∙◌, ℕ, zero, suc, ◌+◌, ◌-◌, ◌<◌, ◌≤◌, ◌==◌, ◌&&◌, nat_lt, not, min, Bool, true, false, Option, Some, None, List, [], ◌∷◌, ◌++◌, drop, get_or, take, length, if◌then◌else◌, arith, ap, sym, refl, subst, append_assoc, length-drop}
+use Rattle.std.proofs.lemmas.Bool.{ne_eqb}
+use Rattle.std.proofs.lemmas.List.{append-nil, length-map, length-take, same_from_push, take_all, take_more}
 use Rattle.squawk_kinds.specs.Kinds.{EOF, TOMBSTONE}
 use Rattle.sql_lexer.specs.Statements.{after, ends_with}
 use Rattle.sql_lexer.specs.declared.statements.Statement as begun
 use Rattle.sql_lexer.specs.declared.statements.Statement.TheVariants.{Plain, Start}
 use Rattle.squawk_output.specs.Draft.{Mark, errors_of, plain}
 use Rattle.squawk_output.specs.OneRoot.{IsBalanced}
-use Rattle.squawk_output.specs.Steps.{Step, Token, errors_in}
+use Rattle.squawk_output.specs.Steps.{Step, Exit, Token, eaten, errors_in}
 use Rattle.squawk_output.proofs.EditedErrors.{errors-append}
 use Rattle.squawk_output.proofs.PlainLog.{errors-plain}
 use Rattle.squawk_table.specs.ParserInput.{Entry, kind_in, kinds_in}
@@ -27,7 +28,7 @@ use Rattle.squawk_parser.proofs.RecordedSteps.{puts-none, went}
 use Rattle.squawk_parser.proofs.SeenSteps.{if-false, if-true}
 use Rattle.squawk_parser.proofs.SeenSteps.{ahead-fresh}
 use Rattle.squawk_parser.proofs.SomeSteps.{adds_some, none_some, some_adds, whole_some}
-use Rattle.sql_grammar.specs.Files.{AddsRest, AddsStatement, AreNodesOf, IsFile, IsParsed, IsRuled, RulesDerive, Runs, rules_for}
+use Rattle.sql_grammar.specs.Files.{AddsRest, AddsStatement, AreNodesOf, EndWithToken, IsFile, IsParsed, IsRuled, RulesDerive, Runs, left_to, rules_for}
 use Rattle.sql_grammar.specs.declared.Detail.{Detail}
 use Rattle.sql_grammar.specs.declared.Detail.TheVariants.{Tokens, Nodes}
 use Rattle.rule_grammar.specs.Derivations.{Derives, text_of}
@@ -174,6 +175,7 @@ pub record Opened (detail : Detail) (of n kind : ℕ) (a b : State) : Type 0 whe
   pub adds : AddsSome a b
   pub is_node : kind ≢ TOMBSTONE
   pub parsed : HasNotFailed b → IsParsed (rules_for detail of n) (RulesDerive a.words a.input a.position (min a.limit (a.position + n))) of kind (told a b)
+  pub last : HasNotFailed b → a.position + left_to (rules_for detail of n) n < b.position → EndWithToken (plain b.draft.items)
   pub runs : Runs detail 1 0 a b
 
 pub opened_none : (detail : Detail) {of n : ℕ} (a : State) → IsSound a → of ≢ TOMBSTONE → rules_for detail of n ≡ None → Opened detail of n of a a
@@ -182,6 +184,7 @@ opened_none detail {of} {n} a sound is_node without = record {
   is_node = is_node;
   parsed = λ goes. subst (λ (rules : Option (Bor RuleGrammar)). IsParsed rules (RulesDerive a.words a.input a.position (min a.limit (a.position + n))) of of (told a a))
       (sym without) (refl, omega arith);
+  last = λ goes lt. absurd (omega (arith, lt, ap (λ (r : Option (Bor RuleGrammar)). left_to r n) without));
   runs = runs_as detail 1 0 a a (λ alone. omega arith);
 }
 
@@ -194,6 +197,7 @@ opened_ruled detail {rules} {of} {kind} {a} {b} n is asked keeps by =
       is_node = by.is_node;
       parsed = λ goes. subst (λ (r : Option (Bor RuleGrammar)). IsParsed r (RulesDerive a.words a.input a.position (min a.limit (a.position + n))) of kind (told a b))
           (sym asked) (λ none. by.derives goes (sym (told_added adds goes) ∙ none));
+      last = λ goes lt. absurd (omega (arith, lt, ap (λ (r : Option (Bor RuleGrammar)). left_to r n) asked, by.adds.keeps.sound.position, by.adds.keeps.limit));
       runs = subst (λ (d : Detail). Runs d 1 0 a b) (sym is) tt;
     }
 
@@ -211,16 +215,44 @@ bumped {a} {b} kind seen puts goes =
     clean true = refl
     clean false = refl
 
+-- a token that is eaten stands last
+pub bumped_last : {a b : State} (kind : ℕ) (seen : List Entry) → kind_in seen 0 ≢ EOF → Puts (current_as kind seen) a b → HasNotFailed b → EndWithToken (plain b.draft.items)
+bumped_last {a} {b} kind seen some puts goes =
+    let one_more : current_as kind seen ≡ one kind ∷ [] = if-false _ _ _ (ne_eqb (kind_in seen 0) EOF some) in
+    let added = (Adds-puts puts).draft goes in
+    let all : plain b.draft.items ≡ plain a.draft.items ++ current_as kind seen =
+    ap plain added.items ∙ (plain-append a.draft.items added.made ∙ ap (λ steps. plain a.draft.items ++ steps) added.steps_made) in
+    (plain a.draft.items, kind, all ∙ ap (λ steps. plain a.draft.items ++ steps) one_more)
+
+-- some steps at the end of others that end with a token
+last_token : (before steps : List Step) → 0 < length steps → EndWithToken (before ++ steps) → EndWithToken steps
+last_token before steps some (front, kind, is) =
+    let i = length steps - 1 in
+    let end : i + 1 ≡ length steps = omega (arith, some) in
+    let last = get_or steps i Exit in
+    let split : steps ≡ take i steps ++ last ∷ [] =
+    sym (take_all (i + 1) steps (omega (arith, some))) ∙ take_more steps i Exit (omega (arith, some)) in
+    let both : (before ++ take i steps) ++ last ∷ [] ≡ front ++ Token kind 1 ∷ [] =
+    append_assoc before (take i steps) (last ∷ []) ∙ (ap (λ xs. before ++ xs) (sym split) ∙ is) in
+    let same = same_from_push (before ++ take i steps) front last (Token kind 1) both in
+    (take i steps, kind, split ∙ ap (λ s. take i steps ++ s ∷ []) same.1)
+
 -- one token more is added, without an error
 pub opened_next : {a b c : State} {detail : Detail} {of n kind : ℕ} → AddsSome a c → Runs detail 1 0 a c → (HasNotFailed c → HasNotFailed b)
-    → (HasNotFailed c → errors_of c.draft.items ≡ errors_of b.draft.items) → Opened detail of n kind a b → Opened detail of n kind a c
-opened_next {a} {b} {c} {detail} {of} {n} {kind} some runs went same o = record {
+    → (HasNotFailed c → errors_of c.draft.items ≡ errors_of b.draft.items) → (HasNotFailed c → EndWithToken (plain c.draft.items)) → Opened detail of n kind a b → Opened detail of n kind a c
+opened_next {a} {b} {c} {detail} {of} {n} {kind} some runs went same last o = record {
   adds = some;
   is_node = o.is_node;
   parsed = λ goes. subst (λ (errors : ℕ). IsParsed (rules_for detail of n) (RulesDerive a.words a.input a.position (min a.limit (a.position + n))) of kind errors)
       (ap (λ errors. errors - errors_of a.draft.items) (sym (same goes))) (o.parsed (went goes));
+  last = λ goes lt. last goes;
   runs = runs;
 }
+
+-- steps that eat are some
+eats_some : (steps : List Step) → 0 < eaten steps → 0 < length steps
+eats_some [] lt = absurd (omega (arith, lt))
+eats_some (step ∷ steps) lt = omega arith
 
 pub opened_rest : {a b : State} {detail : Detail} {of n kind : ℕ} → IsSound a → kind_at b 0 ≡ EOF → Opened detail of n kind a b → AddsRest detail of n kind a b
 opened_rest {a} {b} {detail} {of} {n} {kind} sound end o =
@@ -233,6 +265,11 @@ opened_rest {a} {b} {detail} {of} {n} {kind} sound end o =
       is_node = o.is_node;
       parsed = λ goes. subst (λ (errors : ℕ). IsParsed (rules_for detail of n) (RulesDerive a.words a.input a.position (min a.limit (a.position + n))) of kind errors)
           (told_added added.adds goes) (o.parsed goes);
+      last = λ goes lt.
+          let made = added.adds.draft goes in
+          let all : plain b.draft.items ≡ plain a.draft.items ++ added.steps =
+          ap plain made.items ∙ (plain-append a.draft.items made.made ∙ ap (λ steps. plain a.draft.items ++ steps) made.steps_made) in
+          last_token (plain a.draft.items) added.steps (eats_some added.steps (omega (arith, lt, added.adds.position))) (subst EndWithToken all (o.last goes lt));
       runs = o.runs;
     }
 
@@ -286,6 +323,7 @@ first_added {a} {b} {c} {d} {detail = detail} {kind = kind} statement is some be
       balanced = rest.balanced;
       len = omega (arith, seen, within, position, limit, eats, end);
       parsed = λ goes. parsed_as _ _ _ _ begins.keeps.words begins.keeps.input position (omega (arith, seen, within, position, limit, before)) (rest.parsed (went completes.keeps goes));
+      last = λ goes lt. rest.last (went completes.keeps goes) (omega (arith, lt, seen, within, position, limit, eats, end));
     })
 
 -- the first statement, by its numbers
@@ -351,6 +389,7 @@ file-next {a} {b} {c} {detail} words some added before =
             balanced = added.balanced;
             len = added.len;
             parsed = parsed_as _ _ _ _ (before.some.some.keeps.words ∙ words) before.some.some.keeps.input refl refl (added.parsed goes);
+            last = λ lt. added.last goes lt;
             rest = others;
           } in
           subst (AreNodesOf detail a.input a.position (statements_of (kinds_in (ahead a 0)))) (sym (append_assoc before.nodes one rest))

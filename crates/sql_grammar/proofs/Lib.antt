@@ -1,4 +1,5 @@
 pub mod AddedStatements
+pub mod parts
 pub mod Lengths
 pub mod Looks
 pub mod RefusedParses

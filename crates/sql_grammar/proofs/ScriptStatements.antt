@@ -31,24 +31,24 @@ use Rattle.sql_grammar.proofs.ScriptWords.{kind_word, passed_over}
 -- ---- statements by their ends
 
 -- which of these kinds end a statement
-abbrev ends_of : Statement → List ℕ → List Bool
+abbrev pub ends_of : Statement → List ℕ → List Bool
 ends_of statement [] = []
 ends_of statement (kind ∷ kinds) = ends_with statement (word_of kind) ∷ ends_of (after statement (word_of kind)) kinds
 
 abbrev lens : List ℕ → List ℕ
 lens kinds = map (λ statement. statement.len) (statements_of kinds)
 
-starts : (statement : Statement) → is_start statement ≡ true → statement ≡ Start
+pub starts : (statement : Statement) → is_start statement ≡ true → statement ≡ Start
 starts Start e = refl
 starts statement e = absurd (false≢true e)
 
-after-end : (statement : Statement) (word : Word) → ends_with statement word ≡ true → after statement word ≡ Start
+pub after-end : (statement : Statement) (word : Word) → ends_with statement word ≡ true → after statement word ≡ Start
 after-end statement Trivia e = absurd (false≢true e)
 after-end statement Command e = starts statement e
 after-end statement CopyCommand e = starts statement e
 after-end statement word e = cond-true (ends_with statement word) Start (goes_on statement word) e
 
-drop-next : (kind : ℕ) (kinds : List ℕ) (n : ℕ) → drop (1 + n) (kind ∷ kinds) ≡ drop n kinds
+pub drop-next : (kind : ℕ) (kinds : List ℕ) (n : ℕ) → drop (1 + n) (kind ∷ kinds) ≡ drop n kinds
 drop-next kind kinds n = let next : 1 + n ≡ suc n = omega arith in ap (λ m. drop m (kind ∷ kinds)) next
 
 -- those of all statements, if that is known of one and those after it
@@ -86,7 +86,7 @@ lens-some n statement (kind ∷ kinds) some =
 
 -- ---- the tokens of an input
 
-abbrev input_kinds : List ℕ → List ℕ
+abbrev pub input_kinds : List ℕ → List ℕ
 input_kinds [] = []
 input_kinds (kind ∷ kinds) = if is_trivia kind then input_kinds kinds else kind ∷ input_kinds kinds
 
@@ -105,7 +105,7 @@ kinds-raw t i (suc n) all =
     let lt : i < length t.kinds = omega arith in
     ap (λ kinds. slice_index t.kinds i ∷ kinds) (kinds-raw t (i + 1) n (omega arith)) ∙ sym (drop_more t.kinds i 0 lt)
 
-kinds-input : (contextual : Keywords) (t : Table) → kinds_in (input_of contextual t) ≡ input_kinds t.kinds
+pub kinds-input : (contextual : Keywords) (t : Table) → kinds_in (input_of contextual t) ≡ input_kinds t.kinds
 kinds-input contextual t =
     kinds-entries contextual (raw_tokens t) ∙ ap input_kinds (kinds-raw t 0 (length t.kinds) (omega arith))
 

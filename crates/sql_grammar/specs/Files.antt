@@ -1,10 +1,10 @@
 -- What a file of statements leaves.
-use Rattle.std.specs.Prelude.{◌≡◌, ℕ, ◌+◌, ◌==◌, ◌&&◌, nat_lt, not, min, Option, Some, None, List, [], ◌∷◌, ◌++◌, ◌≢◌, if◌then◌else◌}
+use Rattle.std.specs.Prelude.{◌≡◌, ℕ, ◌+◌, ◌<◌, ◌==◌, ◌&&◌, nat_lt, not, min, Option, Some, None, List, [], ◌∷◌, ◌++◌, ◌≢◌, if◌then◌else◌}
 use Rattle.std.specs.Borrow.{Bor}
 use Rattle.squawk_kinds.specs.Kinds.{TOMBSTONE}
 use Rattle.squawk_output.specs.Draft.{Draft, plain}
 use Rattle.squawk_output.specs.OneRoot.{IsBalanced}
-use Rattle.squawk_output.specs.Steps.{Step, eaten, errors_in}
+use Rattle.squawk_output.specs.Steps.{Step, Token, eaten, errors_in}
 use Rattle.squawk_table.specs.ParserInput.{Entry, kinds_in}
 use Rattle.squawk_parser.specs.Composed.{Adds}
 use Rattle.squawk_parser.specs.Eaten.{node}
@@ -38,7 +38,16 @@ abbrev pub IsParsed : Option (Bor RuleGrammar) → (Bor RuleGrammar → Type 0) 
 IsParsed None derive of kind errors = (kind ≡ of) × (errors ≡ 0)
 IsParsed (Some rules) derive of kind errors = errors ≡ 0 → derive rules
 
--- The node of a statement stands first: balanced steps that eat its tokens, from one on. What stands behind is told of the
+-- how many of n tokens are left to rules, where there are some
+abbrev pub left_to : Option (Bor RuleGrammar) → ℕ → ℕ
+left_to None n = 0
+left_to (Some rules) n = n
+
+-- the last step is a token of the input
+abbrev pub EndWithToken : List Step → Type 0
+EndWithToken steps = (front : List Step) × (kind : ℕ) × (steps ≡ front ++ Token kind 1 ∷ [])
+
+-- The node of a statement stands first: balanced steps that eat its tokens, from one on. Those that no rule sees stand last. What stands behind is told of the
 -- others.
 pub record BeginsWith (detail : Detail) (input : List Entry) (from : ℕ) (statement : Statement) (are_others : List Step → Type 0) (steps : List Step) : Type 0 where
   pub kind : ℕ
@@ -48,6 +57,7 @@ pub record BeginsWith (detail : Detail) (input : List Entry) (from : ℕ) (state
   pub balanced : IsBalanced inner
   pub len : eaten inner ≡ statement.len
   pub parsed : IsParsed (rules_for detail statement.kind statement.content) (RulesDerive sql_words input from (from + statement.content)) statement.kind kind (errors_in inner)
+  pub last : left_to (rules_for detail statement.kind statement.content) statement.content < statement.len → EndWithToken inner
   pub rest : are_others others
 
 -- the steps are the nodes of these statements, one behind another from a token on, and nothing else
@@ -77,6 +87,7 @@ pub record AddsRest (detail : Detail) (of n kind : ℕ) (old new : State) : Type
   pub end : new.position ≡ new.limit
   pub is_node : kind ≢ TOMBSTONE
   pub parsed : HasNotFailed new → IsParsed (rules_for detail of n) (RulesDerive old.words old.input old.position (min old.limit (old.position + n))) of kind (errors_in steps)
+  pub last : HasNotFailed new → old.position + left_to (rules_for detail of n) n < new.position → EndWithToken steps
   pub runs : Runs detail 1 0 old new
 
 -- the same, as far as rules go
@@ -95,3 +106,4 @@ pub record AddsStatement (detail : Detail) (statement : Statement) (old new : St
   pub balanced : IsBalanced inner
   pub len : eaten inner ≡ statement.len
   pub parsed : HasNotFailed new → IsParsed (rules_for detail statement.kind statement.content) (RulesDerive old.words old.input old.position (old.position + statement.content)) statement.kind kind (errors_in inner)
+  pub last : HasNotFailed new → left_to (rules_for detail statement.kind statement.content) statement.content < statement.len → EndWithToken inner

@@ -1,6 +1,7 @@
 pub mod Files
 pub mod Kinds
 pub mod Parses
+pub mod Parts
 pub mod StatementKinds
 pub mod Statements
 pub mod Words

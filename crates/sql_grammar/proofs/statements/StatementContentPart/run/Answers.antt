@@ -4,7 +4,7 @@ use Rattle.squawk_parser.specs.SomeSteps.{Spends}
 use Rattle.squawk_table.specs.ParserInput.{kind_in}
 use Rattle.squawk_parser.specs.State.{ahead, kind_at}
 use Rattle.squawk_parser.proofs.RecordedSteps.{went}
-use Rattle.sql_grammar.proofs.AddedStatements.{Opened, alone, asked, bumped, opened_as, opened_next, opened_none, opened_rest, opened_ruled, runs_as, spends_of, unasked}
+use Rattle.sql_grammar.proofs.AddedStatements.{alone, asked, bumped, bumped_last, opened_as, opened_next, opened_none, opened_rest, opened_ruled, runs_as, spends_of, unasked}
 use Rattle.sql_grammar.proofs.statements.StatementContentPart.run.Goals as goal
 use Rattle.sql_grammar.proofs.statements.StatementContentPart.run.Goals.{in-Nodes, in_default-2, in_default}
 
@@ -26,7 +26,8 @@ loop-p-preserved c =
     let spends = runs_as c.args.self.detail 1 0 c.args.p.now c.bump_any.new.self (λ tokens.
     let spent : Spends 1 0 c.args.p.now c.loop-p.p = spends_of 1 0 _ _ tokens before.runs in
     omega (arith, spent, c.bump_any.ensures.spends)) in
-    opened_next (search rules) spends (went c.bump_any.ensures.some.some.keeps) (bumped (kind_in (ahead c.loop-p.p 0) 0) (ahead c.loop-p.p 0) c.bump_any.ensures.puts) before
+    opened_next (search rules) spends (went c.bump_any.ensures.some.some.keeps) (bumped (kind_in (ahead c.loop-p.p 0) 0) (ahead c.loop-p.p 0) c.bump_any.ensures.puts)
+    (bumped_last (kind_in (ahead c.loop-p.p 0) 0) (ahead c.loop-p.p 0) (search rules) c.bump_any.ensures.puts) before
 
 pub returns-clause-does : goal.returns-clause-does
 returns-clause-does c =

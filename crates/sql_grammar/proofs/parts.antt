@@ -1,0 +1,11 @@
+pub mod Ends
+pub mod Entries
+pub mod Files
+pub mod Moved
+pub mod Nodes
+pub mod Sending
+pub mod Statements
+pub mod Strays
+pub mod Tables
+pub mod Views
+pub mod Whole
