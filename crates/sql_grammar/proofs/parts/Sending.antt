@@ -99,10 +99,6 @@ moved-append (Exit ∷ xs) ys e =
 
 -- ---- steps before which trivia stands
 
-abbrev pub is_token : Step → Bool
-is_token (Token kind n) = true
-is_token step = false
-
 -- a token is among them
 pub data HasToken : List Step → Type 0 where
   here : {kind n : ℕ} {steps : List Step} → HasToken (Token kind n ∷ steps)
@@ -122,14 +118,6 @@ has_token-later (x ∷ xs) has = later (has_token-later xs has)
 pub before_token : (depth : ℕ) (xs ys : List Step) → HasToken ys → AreBeforeTokens (depth_after depth xs) ys → AreBeforeTokens depth (xs ++ ys)
 before_token depth [] ys has are = are
 before_token depth (x ∷ xs) ys has are = more (λ e. later (has_token-later xs has)) (before_token (depth_behind depth x) xs ys has are)
-
-pub before_both : (depth : ℕ) (xs ys : List Step) → AreBeforeTokens depth xs → AreBeforeTokens (depth_after depth xs) ys → AreBeforeTokens depth (xs ++ ys)
-before_both depth [] ys are others = others
-before_both depth (x ∷ xs) ys (more has are) others = more (λ e. with_more (has e)) (before_both (depth_behind depth x) xs ys are others)
-  where
-    with_more : {zs : List Step} → HasToken zs → HasToken (zs ++ ys)
-    with_more here = here
-    with_more (later has) = later (with_more has)
 
 leading-both : (xs ys : List RawToken) → length (leading_trivia xs) < length xs → leading_trivia (xs ++ ys) ≡ leading_trivia xs
 leading-both [] ys lt = absurd (omega arith)
