@@ -80,7 +80,8 @@ pub fn write_sql(
     let text = text_of(text)?;
     let found = tokenize_script(alloc, text)?;
     let strays = stray_strings(alloc, text, &found)?;
-    let rules = sql_rules::grammar(&strays);
+    let ready = sql_rules::rules();
+    let rules = sql_rules::hiding(&ready, &strays);
     let sql = parse_sql(alloc, text, found, Detail::Nodes(&rules))?;
     let found = statements(alloc, &sql.parsed.table, &sql.parsed.output)?;
     let sent = send(

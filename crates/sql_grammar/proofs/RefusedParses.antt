@@ -1,7 +1,6 @@
 -- The refusal of a run is that of a parse.
-use Rattle.std.proofs.Common.{Bor, ◌≡◌, Bool, List, arith, subst}
+use Rattle.std.proofs.Common.{◌≡◌, List, arith, subst}
 use Rattle.squawk_kinds.specs.Keywords.{Keywords}
-use Rattle.squawk_output.specs.Steps.{Step}
 use Rattle.squawk_table.specs.ParserInput.{Entry, input_of}
 use Rattle.squawk_table.specs.RawTable.{IsTable, Table}
 use Rattle.squawk_parser.specs.Parse.{IsRefused}
@@ -10,11 +9,10 @@ use Rattle.squawk_parser.specs.State.{fresh}
 use Rattle.squawk_parser.specs.Words.{Words}
 use Rattle.squawk_parser.specs.declared.parser.parse_error.ParseError.{ParseError}
 use Rattle.squawk_parser.proofs.LimitsReached.{errors_reached, events_reached, input_of-le}
-use Rattle.rule_grammar.specs.declared.rules.RuleGrammar.{RuleGrammar}
 use Rattle.sql_grammar.specs.Files.{Runs}
-use Rattle.sql_grammar.specs.Parses.{AreByRules, AreOfFile, IsRefusedByRules, IsRefusedParse}
+use Rattle.sql_grammar.specs.Parses.{IsRefusedParse}
 use Rattle.sql_grammar.specs.declared.Detail.{Detail}
-use Rattle.sql_grammar.specs.declared.Detail.TheVariants.{Tokens, Nodes}
+use Rattle.sql_grammar.specs.declared.Detail.TheVariants.{Tokens}
 
 abbrev Refused : Detail → List Entry → Words → ParseError → Type 0
 Refused detail input words reason = IsRefused (λ begun left. Runs detail 3 2 begun left) (fresh input words 4294967295 2147483648) reason
@@ -32,13 +30,3 @@ refused_parse detail contextual table words reason is r =
       events = λ d e. omega (arith, events_reached 3 2 4294967295 2147483648 input words (subst Alone e (alone d)), within);
       errors = λ d e. omega (arith, errors_reached 3 2 4294967295 2147483648 input words (subst Alone e (alone d)), within);
     }
-
--- ---- by some rules
-
-pub by_rules : {rules : Bor RuleGrammar} {hidden : List Bool} {contextual : Keywords} {table other : Table} {steps : List Step} → rules.now.table.hidden.tokens.now ≡ hidden
-    → AreOfFile (Nodes rules) contextual table steps → table ≡ other → AreByRules hidden contextual other steps
-by_rules {rules} {contextual = contextual} {steps = steps} hides are same = (rules, hides, subst (λ (t : Table). AreOfFile (Nodes rules) contextual t steps) same are)
-
-pub refused_by : {rules : Bor RuleGrammar} {contextual : Keywords} {table other : Table} (reason : ParseError) → IsRefusedParse (Nodes rules) contextual table reason → table ≡ other
-    → IsRefusedByRules contextual other reason
-refused_by {rules} {contextual} reason why same = (rules, subst (λ (t : Table). IsRefusedParse (Nodes rules) contextual t reason) same why)

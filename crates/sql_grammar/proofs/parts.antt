@@ -1,9 +1,14 @@
+pub mod Cuts
 pub mod Ends
 pub mod Entries
 pub mod Files
 pub mod Moved
 pub mod Nodes
+pub mod Placed
+pub mod Reading
+pub mod Roots
 pub mod Sending
+pub mod Slices
 pub mod Statements
 pub mod Strays
 pub mod Tables

@@ -8,3 +8,5 @@ pub mod Words
 pub mod Scripts
 pub mod StrayStrings
 pub mod StringStates
+pub mod ReadParts
+pub mod CutParts

@@ -45,11 +45,11 @@ pub record IsParsedPart (rules : Bor RuleGrammar) (keyword contextual : Keywords
   pub hidden : rules.now.table.hidden.tokens.now ≡ stray_strings part.text part.tokens
 
 -- rules that differ in what is hidden from them
-pub record AreSame (r s : Bor RuleGrammar) : Type 0 where
-  pub rows : r.now.table.rows.now ≡ s.now.table.rows.now
-  pub sets : r.now.table.sets.now ≡ s.now.table.sets.now
-  pub start : r.now.start ≡ s.now.start
-  pub end : r.now.end ≡ s.now.end
+pub record AreSame (r s : RuleGrammar) : Type 0 where
+  pub rows : r.table.rows.now ≡ s.table.rows.now
+  pub sets : r.table.sets.now ≡ s.table.sets.now
+  pub start : r.start ≡ s.start
+  pub end : r.end ≡ s.end
 
 -- ---- a part that ends with a statement
 
@@ -100,5 +100,5 @@ pub record IsWhole (rules : Bor RuleGrammar) (keyword contextual : Keywords) (p 
 abbrev pub PartsMakeWhole : Keywords → Keywords → Type 0
 PartsMakeWhole keyword contextual = (r1 r2 rules : Bor RuleGrammar) (p q : Part)
     → IsParsedPart r1 keyword contextual p → EndsWithStatement keyword contextual p → IsParsedPart r2 keyword contextual q
-    → AreSame r1 rules → AreSame r2 rules → rules.now.table.hidden.tokens.now ≡ r1.now.table.hidden.tokens.now ++ r2.now.table.hidden.tokens.now
+    → AreSame r1.now rules.now → AreSame r2.now rules.now → rules.now.table.hidden.tokens.now ≡ r1.now.table.hidden.tokens.now ++ r2.now.table.hidden.tokens.now
     → IsTable (table_by keyword (joined p q)) → IsWhole rules keyword contextual p q

@@ -4,3 +4,5 @@ pub mod OpenNodeLemmas
 pub mod JsonLemmas
 pub mod JsonForests
 pub mod SentForests
+pub mod InOrder
+pub mod HeldSteps

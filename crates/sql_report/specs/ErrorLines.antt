@@ -1,8 +1,11 @@
 -- Errors as compilers show them.
-use Rattle.std.specs.Prelude.{ℕ, ◌==◌, Option, Some, None, List, [], ◌++◌, codes, if◌then◌else◌}
+use Rattle.std.specs.Prelude.{◌≡◌, ℕ, ◌+◌, ◌==◌, Option, Some, None, List, [], ◌++◌, codes, if◌then◌else◌, length}
 use Rattle.std.specs.List.{flat_map}
 use Rattle.std.specs.Fmt.{decimal}
-use Rattle.sql_report.specs.Findings.{Told, told}
+use Rattle.squawk_table.specs.declared.shortcuts.str_step.OwnedStep.{OwnedStep}
+use Rattle.squawk_tokens.specs.LexicalErrors.{LexicalError}
+use Rattle.sql_report.specs.Findings.{AreInOrder, Told, all_told, told}
+use Rattle.sql_report.specs.declared.errors.ErrorLines.{ErrorLines}
 use Rattle.sql_report.specs.declared.finding_list.Finding.{Finding}
 use Rattle.sql_report.specs.Places.{begins_character, column_at, line_at, shown_before, shown_behind}
 
@@ -35,3 +38,21 @@ error_at name text at error = shown_error name (line_at text at) (column_at text
 -- each error, shown where it stands
 abbrev pub error_texts : List ℕ → List ℕ → List Finding → List ℕ
 error_texts name text findings = flat_map (λ finding. error_at name text finding.at (told finding)) findings
+
+-- ---- part by part
+
+-- the errors of a text that is called by a name
+pub record IsOf (name text : List ℕ) (shown : ErrorLines) : Type 0 where
+  pub name_is : shown.name.now ≡ name
+  pub text_is : shown.place.text ≡ text
+
+-- an error of a part that begins at a byte
+abbrev pub moved_finding : ℕ → Finding → Finding
+moved_finding start finding = record finding { at = start + finding.at }
+
+-- these lexical errors and those of these steps are shown, in the order of their places
+pub record HasShown (errors : List LexicalError) (done : List OwnedStep) (shown : ErrorLines) : Type 0 where
+  pub findings : List Finding
+  pub in_order : AreInOrder (all_told errors done) findings
+  pub lines : shown.lines.items ≡ error_texts shown.name.now shown.place.text findings
+  pub count : shown.count ≡ length findings

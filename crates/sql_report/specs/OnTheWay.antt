@@ -1,11 +1,10 @@
 -- Where a walk over steps stands. Only private functions speak of it.
-use Rattle.std.specs.Prelude.{◌≡◌, ◌≢◌, ℕ, List, ◌++◌, map, string_bytes}
-use Rattle.std.specs.List.{flat_map}
+use Rattle.std.specs.Prelude.{◌≡◌, ◌≢◌, ℕ, ◌+◌, ◌<◌, ◌^◌, List, ◌++◌, map, string_bytes}
 use Rattle.squawk_kinds.specs.KindNames.{Names}
-use Rattle.squawk_tokens.specs.LexicalErrors.{LexicalError}
+use Rattle.squawk_table.specs.Sent.{bytes_of}
 use Rattle.squawk_table.specs.declared.shortcuts.str_step.OwnedStep.{OwnedStep}
+use Rattle.squawk_table.specs.declared.shortcuts.str_step.OwnedStep.TheVariants as sent
 use Rattle.squawk_tree.specs.Drawing.{StandsAfter}
-use Rattle.sql_report.specs.Findings.{all_told, told, told_in}
 use Rattle.sql_report.specs.JsonLines.{json_lines, written_from}
 use Rattle.sql_report.specs.OpenJson.{standing}
 use Rattle.sql_report.specs.OpenNodes.{statements_left}
@@ -14,7 +13,7 @@ use Rattle.sql_report.specs.declared.drawing.Drawing.{Drawing}
 use Rattle.sql_report.specs.declared.drawing.Drawing.TheVariants as drawing
 use Rattle.sql_report.specs.declared.one_walk.Asked.{Asked}
 use Rattle.sql_report.specs.declared.one_walk.Asked.TheVariants as asked
-use Rattle.sql_report.specs.declared.one_walk.Progress.{Progress}
+use Rattle.sql_report.specs.declared.one_walk.Walk.{Walk}
 
 -- what is asked for where this is drawn
 abbrev pub asked_of : Drawing → Asked
@@ -28,9 +27,24 @@ DrawsBefore names all drawing.Statements at rest = Unit {0}
 DrawsBefore names all (drawing.Tree tree) at rest = (done : List OwnedStep) × (done ++ rest ≡ all) × StandsAfter tree done
 DrawsBefore names all (drawing.Json writer) at rest = string_bytes writer.lines ++ written_from names (standing writer at) rest ≡ json_lines names all
 
--- A walk stands before the rest of these steps: with the rest it tells what is asked for of all.
-pub record StandsBefore (names : Names) (errors : List LexicalError) (all : List OwnedStep) (progress : Progress) (rest : List OwnedStep) : Type 0 where
-  pub findings : map told progress.findings.items ++ flat_map told_in rest ≡ all_told errors all
-  pub statements : asked_of progress.drawing ≢ asked.Errors
-      → progress.statements.items ++ statements_left progress.nodes.items progress.at rest ≡ statements_of all
-  pub draws : DrawsBefore names all progress.drawing progress.at rest
+-- What is told up to some steps: with any others behind them it is what is told of all.
+pub record HasWalked (walk : Walk) (done : List OwnedStep) : Type 0 where
+  pub drawing : asked_of walk.drawing ≡ walk.asked
+  pub at : walk.at ≡ bytes_of done
+  pub statements : (rest : List OwnedStep) → walk.statements.items ++ statements_left walk.nodes.items walk.at rest ≡ statements_of (done ++ rest)
+  pub draws : (rest : List OwnedStep) → DrawsBefore walk.kind_names (done ++ rest) walk.drawing walk.at rest
+  pub names : walk.kind_names ≡ map (λ pair. (pair.0, pair.1.now)) walk.names.now
+
+abbrev pub Tells : Walk → List OwnedStep → Type 0
+Tells walk done = walk.asked ≢ asked.Errors → HasWalked walk done
+
+-- what a walk doesn't change
+pub record IsSame (old new : Walk) : Type 0 where
+  pub asked : new.asked ≡ old.asked
+  pub names : new.names ≡ old.names
+  pub kind_names : new.kind_names ≡ old.kind_names
+
+-- an error's place can be moved by so many bytes
+abbrev pub MovesWithin : ℕ → OwnedStep → Type 0
+MovesWithin start (sent.Error text pos) = start + pos < 2 ^ 64
+MovesWithin start step = Unit {0}

@@ -1,9 +1,12 @@
 //! What is wrong with a text.
 ghost use Rattle.std.specs.Prelude.{◌≡◌, ◌++◌, IfOk, OnOk, encode_utf8_all, map};
 ghost use Rattle.std.specs.Str.{chars};
+ghost use Rattle.squawk_table.specs.Sent.{sent_list};
+ghost use Rattle.squawk_table.specs.Shape.{Fits};
 ghost use Rattle.squawk_table.specs.SinkViews.{owned_step_of};
-ghost use Rattle.sql_report.specs.Findings.{AreInOrder, told, told_in, told_lexical};
+ghost use Rattle.sql_report.specs.Findings.{AreInOrder, all_told, told, told_in, told_lexical};
 
+use squawk_output::Output;
 use squawk_table::{LexError, LexedStr, StrStep};
 use std::alloc::{AllocError, Global};
 
@@ -16,8 +19,24 @@ pub struct Finding<'s> {
     pub hint: Option<&'s str>,
 }
 
+/// The lexical errors of a table and those of a parse, in the order of their places. At one byte the lexical errors come first.
+pub(crate) fn findings<'s>(
+    alloc: Global,
+    table: &'s LexedStr<'s>,
+    output: &'s Output,
+) -> Result<Vec<Finding<'s>>, AllocError>
+    requires { Fits table.now output.now.steps }
+    ensures { IfOk result (λ all. AreInOrder (all_told table.now.errors (sent_list table.now output.now.steps)) all.items) }
+{
+    let mut all = lexical_findings(alloc, table)?;
+    for step in table.str_steps(output) {
+        push_finding(&mut all, &step)?;
+    }
+    in_order(all)
+}
+
 /// The lexical errors of a table, each where it starts.
-pub(crate) fn lexical_findings<'s>(
+fn lexical_findings<'s>(
     alloc: Global,
     table: &'s LexedStr<'s>,
 ) -> Result<Vec<Finding<'s>>, AllocError>
@@ -53,10 +72,7 @@ fn of_grammar(message: &str, at: usize) -> Finding<'_>
 }
 
 /// Puts the error that a step is behind others, if it is one.
-pub(crate) fn push_finding<'s>(
-    all: &mut Vec<Finding<'s>>,
-    step: &StrStep<'s>,
-) -> Result<(), AllocError>
+fn push_finding<'s>(all: &mut Vec<Finding<'s>>, step: &StrStep<'s>) -> Result<(), AllocError>
     ensures { OnOk result (map told all.new.items ≡ map told all.old.items ++ told_in (owned_step_of step.now)) }
 {
     if let StrStep::Error { msg, pos } = *step {
@@ -66,7 +82,7 @@ pub(crate) fn push_finding<'s>(
 }
 
 /// Errors in the order of their places. Those at one byte stay in their order.
-pub(crate) fn in_order(mut all: Vec<Finding<'_>>) -> Result<Vec<Finding<'_>>, AllocError>
+fn in_order(mut all: Vec<Finding<'_>>) -> Result<Vec<Finding<'_>>, AllocError>
     ensures { IfOk result (λ sorted. AreInOrder (map told all.entry.items) sorted.items) }
 {
     all.sort_by_key(|finding| finding.at)?;

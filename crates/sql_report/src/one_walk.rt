@@ -1,27 +1,22 @@
-//! All that is told of a parse, in one walk over what is sent for it.
-ghost use Rattle.std.specs.Prelude.{◌≡◌, ◌≢◌, IfOk, map, string_bytes};
-ghost use Rattle.squawk_table.specs.Sent.{sent_list};
-ghost use Rattle.squawk_table.specs.Shape.{Fits};
-ghost use Rattle.sql_report.specs.Drawn.{drawn};
-ghost use Rattle.sql_report.specs.Findings.{AreInOrder, all_told};
-ghost use Rattle.sql_report.specs.JsonTrees.{HasTreeLines};
-ghost use Rattle.sql_report.specs.Statements.{statements_of};
-ghost use Rattle.sql_report.specs.declared.one_walk.Asked.TheVariants.{Errors, Json};
+//! The statements of a script and its tree, in one walk over what is sent for its parts.
+ghost use Rattle.std.specs.Prelude.{◌≡◌, ◌+◌, ◌<◌, ◌^◌};
+ghost use Rattle.squawk_table.specs.SinkViews.{owned_step_of};
+ghost use Rattle.sql_grammar.specs.Parts.{moved_by};
+ghost use Rattle.sql_report.specs.OnTheWay.{MovesWithin};
 
 use crate::drawing::Drawing;
-use crate::finding_list::{Finding, in_order, lexical_findings, push_finding};
 use crate::statement_list::{OpenNode, Statement, bytes_in, steps_of, take_step};
 use squawk_kinds::{KindNames, SyntaxKind};
 use squawk_output::Output;
-use squawk_table::{LexedStr, StrStep};
+use squawk_table::{LexedStr, StrStep, StrSteps};
 use std::alloc::{AllocError, Global};
 
-/// What is told of a parse.
+/// What is told of a script, besides its errors.
 #[derive(Clone, Copy, Debug, PartialEq, Eq)]
 pub enum Asked {
-    /// Its errors alone.
+    /// Nothing.
     Errors,
-    /// Its errors and its statements.
+    /// Its statements.
     Statements,
     /// These and the tree as indented text.
     Tree,
@@ -37,137 +32,162 @@ pub enum Asked {
     Json,
 }
 
-/// What was told of a parse.
+/// What was told of a script, besides its errors.
 #[derive(Drop)]
-pub struct Walked<'s> {
-    /// Lexical errors, which stand where they start, and those of the parse, in the order of their places.
-    /// At one byte the lexical errors come first.
-    pub findings: Vec<Finding<'s>>,
+pub struct Walked {
     /// The statements; none where errors alone are asked for.
     pub statements: Vec<Statement>,
     /// The tree, or the lines of JSON.
     pub drawn: String,
 }
 
-/// Tells what is asked for of a parse, in one walk over what is sent for it.
-pub fn walk<'s>(
-    alloc: Global,
-    table: &'s LexedStr<'s>,
-    output: &'s Output,
-    names: &[(SyntaxKind, &str)],
-    asked: Asked,
-) -> Result<Walked<'s>, AllocError>
-    requires { Fits table.now output.now.steps }
-    ensures findings { IfOk result (λ told. AreInOrder (all_told table.now.errors (sent_list table.now output.now.steps)) told.findings.items) }
-    ensures statements { IfOk result (λ told. asked ≢ Errors → told.statements.items ≡ statements_of (sent_list table.now output.now.steps)) }
-    ensures drawn { IfOk result (λ told. string_bytes told.drawn
-        ≡ drawn asked (map (λ pair. (pair.0, pair.1.now)) names.now) (sent_list table.now output.now.steps)) }
-    // Each line of JSON is a value.
-    ensures values { IfOk result (λ told. asked ≡ Json → HasTreeLines (map (λ pair. (pair.0, pair.1.now)) names.now)
-        (sent_list table.now output.now.steps) (string_bytes told.drawn)) }
-{
-    if let Asked::Errors = asked {
-        return Ok(Walked {
-            findings: errors_alone(alloc, table, output)?,
-            statements: Vec::new(alloc),
-            drawn: String::new(alloc),
-        });
-    }
-    let mut kind_names = KindNames::new(alloc, names);
-    let mut progress = Progress::new(alloc, table, asked)?;
-    for step in steps_of(table, output) {
-        progress.step(&mut kind_names, &step)?;
-    }
-    Ok(Walked {
-        findings: in_order(progress.findings)?,
-        statements: progress.statements,
-        drawn: progress.drawing.finish(alloc, names)?,
-    })
-}
-
-/// The errors of a parse, in a walk that looks at nothing else.
-fn errors_alone<'s>(
-    alloc: Global,
-    table: &'s LexedStr<'s>,
-    output: &'s Output,
-) -> Result<Vec<Finding<'s>>, AllocError>
-    requires { Fits table.now output.now.steps }
-    ensures { IfOk result (λ all. AreInOrder (all_told table.now.errors (sent_list table.now output.now.steps)) all.items) }
-{
-    let mut all = lexical_findings(alloc, table)?;
-    for step in table.str_steps(output) {
-        push_finding(&mut all, &step)?;
-    }
-    in_order(all)
-}
-
-/// What is told so far, and where the next step stands.
+/// A walk over what is sent for a script, part by part.
 #[derive(Drop)]
-struct Progress<'s> {
-    findings: Vec<Finding<'s>>,
+pub struct Walk<'n> {
+    alloc: Global,
+    asked: Asked,
+    names: &'n [(SyntaxKind, &'n str)],
+    kind_names: KindNames<'n, 'n>,
     statements: Vec<Statement>,
     nodes: Vec<OpenNode>,
     at: usize,
     drawing: Drawing,
 }
 
-impl<'s> Progress<'s> {
-    ghost use Rattle.std.specs.Prelude.{◌≡◌, ◌≢◌, ◌+◌, ◌<◌, ◌≤◌, ◌^◌, List, ◌∷◌, ◌++◌, IfOk, OnOk};
-    ghost use Rattle.squawk_kinds.specs.KindNames.{Names};
+impl<'n> Walk<'n> {
+    ghost use Rattle.std.specs.Prelude.{◌≡◌, ◌≢◌, ◌+◌, ◌<◌, ◌≤◌, ◌^◌, ℕ, List, [], ◌∷◌, ◌++◌, IfOk, OnOk, length, map, string_bytes};
+    ghost use Rattle.squawk_table.specs.RawTable.{Table};
+    ghost use Rattle.squawk_table.specs.Sent.{bytes_of, sent_list};
+    ghost use Rattle.squawk_table.specs.Shape.{Fits};
     ghost use Rattle.squawk_table.specs.SinkViews.{owned_step_of};
     ghost use Rattle.squawk_table.specs.declared.shortcuts.str_step.OwnedStep.{OwnedStep};
-    ghost use Rattle.squawk_tokens.specs.LexicalErrors.{LexicalError};
+    ghost use Rattle.squawk_table.specs.declared.shortcuts.str_step.OwnedStep.TheVariants.{Enter, Exit};
+    ghost use Rattle.squawk_output.specs.Steps.{Step};
     ghost use Rattle.squawk_tree.specs.TreeText.{bytes_in};
-    ghost use Rattle.sql_report.specs.OnTheWay.{DrawsBefore, StandsBefore, asked_of};
-    ghost use Rattle.sql_report.specs.OpenNodes.{statements_left};
+    ghost use Rattle.sql_grammar.specs.Parts.{moved_by};
+    ghost use Rattle.sql_grammar.specs.ReadParts.{ErrorsBelow};
+    ghost use Rattle.sql_report.specs.Drawn.{drawn};
+    ghost use Rattle.sql_report.specs.JsonTrees.{HasTreeLines};
+    ghost use Rattle.sql_report.specs.OnTheWay.{HasWalked, IsSame, MovesWithin, Tells};
+    ghost use Rattle.sql_report.specs.Statements.{statements_of};
 
-    /// The lexical errors, before the first step.
-    fn new(alloc: Global, table: &'s LexedStr<'s>, asked: Asked) -> Result<Progress<'s>, AllocError>
-        ensures asked { IfOk result (λ progress. asked ≢ Asked.Errors → asked_of progress.drawing ≡ asked) }
-        ensures at { IfOk result (λ progress. progress.at ≡ 0) }
-        ensures stands { IfOk result (λ progress. (names : Names) (all : List OwnedStep) → StandsBefore names table.now.errors all progress all) }
+    /// A walk that has entered a root of this kind.
+    pub fn new(
+        alloc: Global,
+        names: &'n [(SyntaxKind, &'n str)],
+        asked: Asked,
+        root: SyntaxKind,
+    ) -> Result<Walk<'n>, AllocError>
+        ensures asked { IfOk result (λ walk. walk.asked ≡ asked) }
+        ensures names { IfOk result (λ walk. walk.kind_names ≡ map (λ pair. (pair.0, pair.1.now)) names.now) }
+        ensures begins { IfOk result (λ walk. Tells walk (Enter root ∷ [])) }
     {
-        Ok(Progress {
-            findings: lexical_findings(alloc, table)?,
+        let mut walk = Walk {
+            alloc,
+            asked,
+            names,
+            kind_names: KindNames::new(alloc, names),
             statements: Vec::new(alloc),
             nodes: Vec::new(alloc),
             at: 0,
             drawing: Drawing::new(alloc, asked),
-        })
+        };
+        walk.step(&StrStep::Enter { kind: root })?;
+        Ok(walk)
+    }
+
+    /// Takes what is sent in the root of the next part, which begins at a byte of the script.
+    pub fn part(
+        &mut self,
+        table: &LexedStr<'_>,
+        output: &Output,
+        start: usize,
+    ) -> Result<(), AllocError>
+        requires fits { Fits table.now output.now.steps }
+        requires short { start + length table.now.text < 2 ^ 64 }
+        ensures same { OnOk result (IsSame self.old self.new) }
+        ensures tells { OnOk result ((done inner : List OwnedStep) (kind : ℕ)
+            → sent_list table.now output.now.steps ≡ Enter kind ∷ inner ++ Exit ∷ [] → bytes_of done ≡ start
+            → Tells self.old done → Tells self.new (done ++ map (moved_by start) inner)) }
+    {
+        if let Asked::Errors = self.asked {
+            return Ok(());
+        }
+        self.at = start;
+        let mut steps = steps_of(table, output);
+        steps.next();
+        self.inside(steps, start)
+    }
+
+    /// Takes steps but the last.
+    fn inside(&mut self, steps: StrSteps<'_>, start: usize) -> Result<(), AllocError>
+        requires short { start + bytes_of steps.steps < 2 ^ 64 }
+        requires at { self.old.at ≡ start }
+        requires within { (n : ℕ) × (start + n ≤ 2 ^ 64) × ErrorsBelow n steps.steps }
+        ensures same { OnOk result (IsSame self.old self.new) }
+        ensures walks { OnOk result ((done inner : List OwnedStep) (last : OwnedStep) → steps.entry.steps ≡ inner ++ last ∷ []
+            → HasWalked self.old done → HasWalked self.new (done ++ map (moved_by start) inner)) }
+    {
+        let mut held = None;
+        for step in steps {
+            if let Some(before) = held {
+                self.step(&moved(&before, start))?;
+            }
+            held = Some(step);
+        }
+        Ok(())
     }
 
     /// Takes a step.
     #[inline(always)]
-    fn step(&mut self, names: &mut KindNames<'_, '_>, step: &StrStep<'s>) -> Result<(), AllocError>
+    fn step(&mut self, step: &StrStep<'_>) -> Result<(), AllocError>
         requires { self.old.at + bytes_in (owned_step_of step.now) < 2 ^ 64 }
-        ensures asked { OnOk result (asked_of self.new.drawing ≡ asked_of self.old.drawing) }
-        ensures at { OnOk result (self.new.at ≤ self.old.at + bytes_in (owned_step_of step.now)) }
-        ensures stands { OnOk result ((errors : List LexicalError) (all rest : List OwnedStep)
-            → StandsBefore names.old errors all self.old (owned_step_of step.now ∷ rest)
-            → StandsBefore names.old errors all self.new rest) }
-        ensures same { OnOk result (names.new ≡ names.old) }
-    {
-        push_finding(&mut self.findings, step)?;
-        self.draw(names, step)
-    }
-
-    /// Takes a step for the statements and for what is drawn.
-    fn draw(&mut self, names: &mut KindNames<'_, '_>, step: &StrStep<'_>) -> Result<(), AllocError>
-        requires { self.old.at + bytes_in (owned_step_of step.now) < 2 ^ 64 }
-        ensures asked { asked_of self.new.drawing ≡ asked_of self.old.drawing }
-        ensures findings { self.new.findings ≡ self.old.findings }
+        ensures same { IsSame self.old self.new }
         ensures at { OnOk result (self.new.at ≡ self.old.at + bytes_in (owned_step_of step.now)) }
-        ensures left { OnOk result ((rest : List OwnedStep)
-            → self.new.statements.items ++ statements_left self.new.nodes.items self.new.at rest
-            ≡ self.old.statements.items ++ statements_left self.old.nodes.items self.old.at (owned_step_of step.now ∷ rest)) }
-        ensures draws { OnOk result ((all rest : List OwnedStep)
-            → DrawsBefore names.old all self.old.drawing self.old.at (owned_step_of step.now ∷ rest)
-            → DrawsBefore names.old all self.new.drawing self.new.at rest) }
-        ensures same { names.new ≡ names.old }
+        ensures walks { OnOk result ((done : List OwnedStep) → HasWalked self.old done → HasWalked self.new (done ++ owned_step_of step.now ∷ [])) }
     {
         let at = self.at;
         take_step(&mut self.statements, &mut self.nodes, at, step)?;
         self.at = at + bytes_in(step);
-        self.drawing.step(names, at, step)
+        self.drawing.step(&mut self.kind_names, at, step)
+    }
+
+    /// Leaves the root.
+    pub fn finish(mut self) -> Result<Walked, AllocError>
+        ensures statements { IfOk result (λ walked. (done : List OwnedStep) → Tells self.entry done → self.entry.asked ≢ Asked.Errors
+            → walked.statements.items ≡ statements_of (done ++ Exit ∷ [])) }
+        ensures drawn { IfOk result (λ walked. (done : List OwnedStep) → Tells self.entry done
+            → string_bytes walked.drawn ≡ drawn self.entry.asked self.entry.kind_names (done ++ Exit ∷ [])) }
+        // Each line of JSON is a value.
+        ensures values { IfOk result (λ walked. (done : List OwnedStep) (table : Table) (steps : List Step) → Tells self.entry done → self.entry.asked ≡ Asked.Json
+            → Fits table steps → sent_list table steps ≡ done ++ Exit ∷ [] → HasTreeLines self.entry.kind_names (done ++ Exit ∷ []) (string_bytes walked.drawn)) }
+    {
+        if let Asked::Errors = self.asked {
+            return Ok(Walked {
+                statements: Vec::new(self.alloc),
+                drawn: String::new(self.alloc),
+            });
+        }
+        self.step(&StrStep::Exit)?;
+        Ok(Walked {
+            statements: self.statements,
+            drawn: self.drawing.finish(self.alloc, self.names)?,
+        })
+    }
+}
+
+/// The step in a text in which so many bytes stand before it.
+fn moved<'s>(step: &StrStep<'s>, start: usize) -> StrStep<'s>
+    requires { MovesWithin start (owned_step_of step.now) }
+    ensures { owned_step_of result ≡ moved_by start (owned_step_of step.now) }
+{
+    match *step {
+        StrStep::Token { kind, text } => StrStep::Token { kind, text },
+        StrStep::Enter { kind } => StrStep::Enter { kind },
+        StrStep::Exit => StrStep::Exit,
+        StrStep::Error { msg, pos } => StrStep::Error {
+            msg,
+            pos: start + pos,
+        },
     }
 }

@@ -62,6 +62,15 @@ impl<'t> Place<'t> {
         }
     }
 
+    /// Goes to the byte that stands so many bytes after another, or to the end of the text.
+    pub(crate) fn go_on(&mut self, start: usize, at: usize)
+        ensures text { self.new.text ≡ self.old.text }
+        ensures place { IsPlaceOf self.new (start + at) }
+    {
+        let end = self.text.len();
+        self.go_to(start.saturating_add(at).min(end));
+    }
+
     /// Goes to the beginning of the text.
     fn go_back(&mut self)
         ensures { self.new ≡ record self.old { at = 0 } }

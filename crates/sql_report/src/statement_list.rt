@@ -1,11 +1,12 @@
 //! The statements of a text: the nodes directly in its root.
-ghost use Rattle.std.specs.Prelude.{◌≡◌, ◌+◌, ◌++◌, ◌<◌, ◌^◌, List, ◌∷◌, IfOk, OnOk, encode_utf8_all, length, map, string_bytes};
+ghost use Rattle.std.specs.Prelude.{◌≡◌, ◌+◌, ◌++◌, ◌<◌, ◌≤◌, ◌^◌, List, ◌∷◌, IfOk, OnOk, encode_utf8_all, length, map, string_bytes};
 ghost use Rattle.std.specs.Str.{chars};
 ghost use Rattle.squawk_table.specs.Sent.{bytes_of, sent_list};
 ghost use Rattle.squawk_table.specs.Shape.{Fits};
 ghost use Rattle.squawk_table.specs.SinkViews.{owned_step_of};
 ghost use Rattle.squawk_table.specs.declared.shortcuts.str_step.OwnedStep.{OwnedStep};
 ghost use Rattle.squawk_tree.specs.TreeText.{bytes_in};
+ghost use Rattle.sql_grammar.specs.ReadParts.{ErrorsBelow};
 ghost use Rattle.sql_report.specs.OpenNodes.{closed, front_nodes, statements_left};
 ghost use Rattle.sql_report.specs.Statements.{statement_line, statement_lines, statements_of};
 
@@ -48,6 +49,8 @@ pub fn statements(
 pub(crate) fn steps_of<'s>(table: &'s LexedStr<'s>, output: &'s Output) -> StrSteps<'s>
     requires { Fits table.now output.now.steps }
     ensures steps { result.steps ≡ sent_list table.now output.now.steps }
+    ensures within { bytes_of result.steps ≤ length table.now.text }
+    ensures placed { ErrorsBelow (length table.now.text + 1) result.steps }
     ensures few { bytes_of result.steps < 2 ^ 64 }
 {
     let _text_len = table.text_start(table.len());

@@ -13,23 +13,31 @@ use sql_words::SqlKind;
 /// What is told of a string that can't go on with the one before it.
 const STRAY: &str = "expected a line break between two strings";
 
-/// The rules of a statement. One that no rule begins is a STATEMENT.
-///
-/// No rule takes a token of the input whose item in `hidden` is true: strings that can't go on with the one before, as
+/// The rules of a statement, from which nothing is hidden. One that no rule begins is a STATEMENT.
+pub fn rules<'r>() -> RuleGrammar<'r> {
+    RuleGrammar {
+        root: SqlKind::STATEMENT,
+        ..ready::grammar()
+    }
+}
+
+/// Rules that take no token of the input whose item in `hidden` is true: strings that can't go on with the one before, as
 /// `sql_grammar` tells them.
-pub fn grammar(hidden: &[bool]) -> RuleGrammar<'_>
-    ensures { result.table.hidden.tokens.now ≡ hidden.now }
+pub fn hiding<'r: 'h, 'h>(rules: &RuleGrammar<'r>, hidden: &'h [bool]) -> RuleGrammar<'h>
+    ensures tokens { result.table.hidden.tokens.now ≡ hidden.now }
+    ensures rows { result.table.rows.now ≡ rules.now.table.rows.now }
+    ensures sets { result.table.sets.now ≡ rules.now.table.sets.now }
+    ensures start { result.start ≡ rules.now.start }
+    ensures end { result.end ≡ rules.now.end }
 {
-    let ready = ready::grammar();
     RuleGrammar {
         table: Table {
             hidden: Hidden {
                 tokens: hidden,
                 message: STRAY,
             },
-            ..ready.table
+            ..rules.table
         },
-        root: SqlKind::STATEMENT,
-        ..ready
+        ..*rules
     }
 }

@@ -23,7 +23,8 @@ pub fn parse_sql<'s, V: Vocabulary>(
     let Ok(strays) = stray_strings(alloc, text, &tokens) else {
         return Err(SqlError::Tokens(TokenizeError::OutOfMemory));
     };
-    let rules = sql_rules::grammar(&strays);
+    let ready = sql_rules::rules();
+    let rules = sql_rules::hiding(&ready, &strays);
     let grammar = SqlGrammar {
         detail: Detail::Nodes(&rules),
     };

@@ -1,7 +1,7 @@
 //! Lines of JSON, of an output that is made of events.
-ghost use Rattle.std.specs.Prelude.{◌≡◌, None};
+ghost use Rattle.std.specs.Prelude.{◌≡◌, ◌<◌, ◌^◌, None, length};
 
-use sql_report::{Asked, walk};
+use sql_report::{Asked, Walk};
 use squawk_kinds::{NoKeywords, SyntaxKind};
 use squawk_output::{Event, Output, Text, process};
 use squawk_table::{LexedStr, Token, TokenKind};
@@ -40,11 +40,9 @@ fn message(alloc: Global, text: &str) -> Result<Text, AllocError> {
 }
 
 /// The lines of an output, if it fits.
-fn lines(
-    alloc: Global,
-    table: &LexedStr<'_>,
-    output: &Output,
-) -> Result<Option<String>, AllocError> {
+fn lines(alloc: Global, table: &LexedStr<'_>, output: &Output) -> Result<Option<String>, AllocError>
+    requires { length table.now.text < 2 ^ 64 }
+{
     if !table.fits(output) {
         return Ok(None);
     }
@@ -54,7 +52,9 @@ fn lines(
         (SyntaxKind(STATEMENT), "STATEMENT"),
         (SyntaxKind(INNER), "in \"quotes\""),
     ];
-    Ok(Some(walk(alloc, table, output, &names, Asked::Json)?.drawn))
+    let mut walk = Walk::new(alloc, &names, Asked::Json, SyntaxKind(ROOT))?;
+    walk.part(table, output, 0)?;
+    Ok(Some(walk.finish()?.drawn))
 }
 
 #[test]

@@ -30,7 +30,8 @@ fn send<S: StepSink<Refusal = AllocError>>(
         return send_in(alloc, text, &tokens, Detail::Tokens, sink);
     }
     let strays = stray_strings(alloc, text, &tokens)?;
-    let rules = sql_rules::grammar(&strays);
+    let ready = sql_rules::rules();
+    let rules = sql_rules::hiding(&ready, &strays);
     send_in(alloc, text, &tokens, Detail::Nodes(&rules), sink)
 }
 

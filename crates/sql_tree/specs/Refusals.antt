@@ -7,13 +7,12 @@ use Rattle.std.specs.declared.alloc.Global.{Global}
 use Rattle.std.specs.declared.io.Error.{Error}
 use Rattle.std.specs.declared.io.ErrorKind.{ErrorKind}
 use Rattle.std.specs.declared.io.ErrorKind.TheVariants as io
-use Rattle.squawk_keywords.specs.KeywordAnswers.{contextual_keyword_of}
 use Rattle.squawk_parser.specs.declared.parser.parse_error.ParseError.{ParseError}
 use Rattle.squawk_parser.specs.declared.parser.parse_error.ParseError.TheVariants as parse
-use Rattle.sql_grammar.specs.Parses.{IsRefusedByRules}
+use Rattle.sql_grammar.specs.ReadParts.{IsRefusedPart}
 use Rattle.sql_lexer.specs.declared.tokenizer.TokenizeError.{TokenizeError}
 use Rattle.sql_lexer.specs.declared.tokenizer.TokenizeError.TheVariants as lexer
-use Rattle.sql_tree.specs.Reports.{IsReport, table_in}
+use Rattle.sql_tree.specs.Reports.{IsReport}
 use Rattle.sql_tree.specs.declared.options.Listing.{Listing}
 use Rattle.sql_tree.specs.declared.report.Report.{Report}
 use Rattle.sql_tree.specs.declared.sql.Sql.{Sql}
@@ -35,8 +34,8 @@ unread_of_parse parse.TooManyErrors = TooManyErrors
 abbrev pub RefusesText : Sql → List ℕ → Unread → Type 0
 RefusesText sql text OutOfMemory = Unit {0}
 RefusesText sql text TextTooLong = 4294967295 < length text
-RefusesText sql text TooManyEvents = IsRefusedByRules (contextual_keyword_of sql.vocabulary) (table_in sql text) parse.TooManyEvents
-RefusesText sql text TooManyErrors = IsRefusedByRules (contextual_keyword_of sql.vocabulary) (table_in sql text) parse.TooManyErrors
+RefusesText sql text TooManyEvents = IsRefusedPart sql.vocabulary text parse.TooManyEvents
+RefusesText sql text TooManyErrors = IsRefusedPart sql.vocabulary text parse.TooManyErrors
 RefusesText sql text reason = ⊥
 
 -- why bytes aren't: what stands before in this list is good

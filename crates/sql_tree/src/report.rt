@@ -13,9 +13,10 @@ ghost use Rattle.sql_tree.specs.Refusals.{RefusesText};
 use crate::options::Listing;
 use crate::sql::Sql;
 use crate::unread::Unread;
-use sql_grammar::{Detail, Script, parse_table, read_script};
+use sql_grammar::ScriptParts;
 use sql_lexer::{TokenizeError, tokenize_script};
-use sql_report::{Asked, Walked, error_lines, statement_lines, token_lines, walk};
+use sql_report::{Asked, ErrorLines, Walk, Walked, statement_lines, token_lines};
+use sql_words::SqlKind;
 use std::alloc::{AllocError, Global};
 
 /// What is told of a text.
@@ -35,7 +36,7 @@ impl Report {
     ghost use Rattle.std.specs.Prelude.{IfOk};
     ghost use Rattle.sql_tree.specs.Reports.{IsReport};
 
-    /// What is told of a text that is called by a name.
+    /// What is told of a text that is called by a name. The text is read part by part.
     #[tactic(auto, using(crate::proofs::Reasons::of_lexer))]
     pub fn new(
         alloc: Global,
@@ -47,19 +48,21 @@ impl Report {
         ensures told { IfOk result (λ report. IsReport sql.now listing name.now text.now report) }
         ensures refused { IfErr result (RefusesText sql.now text.now) }
     {
-        let Script { table, strays } = read_script(alloc, text, &sql.vocabulary)?;
         let raw_lines = raw_lines(alloc, listing, text)?;
-        let rules = sql_rules::grammar(&strays);
-        let output = parse_table(alloc, &table, &sql.vocabulary, Detail::Nodes(&rules))?;
-        let walked = walk(alloc, &table, &output, sql.names(), asked(listing))?;
-        let errors = error_lines(alloc, name, text, &walked.findings)?;
-        let error_count = walked.findings.len();
+        let mut parts = ScriptParts::new(alloc, text)?;
+        let mut errors = ErrorLines::new(alloc, name, text);
+        let mut walk = Walk::new(alloc, sql.names(), asked(listing), SqlKind::SOURCE_FILE)?;
+        while let Some(part) = parts.next_part(&sql.vocabulary, &sql.rules)? {
+            errors.part(&part.table, &part.output, part.start)?;
+            walk.part(&part.table, &part.output, part.start)?;
+        }
+        let walked = walk.finish()?;
         let statement_count = walked.statements.len();
         let listing = list(alloc, sql, listing, text, walked, raw_lines)?;
         Ok(Report {
             listing,
-            errors,
-            error_count,
+            errors: errors.lines,
+            error_count: errors.count,
             statement_count,
         })
     }
@@ -84,15 +87,15 @@ fn list(
     sql: &Sql,
     listing: Listing,
     text: &str,
-    walked: Walked<'_>,
+    walked: Walked,
     raw_lines: String,
 ) -> Result<String, AllocError>
     ensures listed { (sent : List OwnedStep)
-        → string_bytes walked.entry.drawn ≡ drawn (asked_for listing) (names_of sql.now.names.items) sent
-        → (listing ≢ Listing.Quiet → walked.entry.statements.items ≡ statements_of sent)
+        → string_bytes walked.drawn ≡ drawn (asked_for listing) (names_of sql.now.names.items) sent
+        → (listing ≢ Listing.Quiet → walked.statements.items ≡ statements_of sent)
         → (listing ≡ Listing.Tokens → string_bytes raw_lines ≡ token_lines 0 (script_tokens text.now))
         → IfOk result (λ list. string_bytes list ≡ listed sql.now listing text.now sent) }
-    ensures drawn { IfOk result (λ list. listing ≡ Listing.Json → list ≡ walked.entry.drawn) }
+    ensures drawn { IfOk result (λ list. listing ≡ Listing.Json → list ≡ walked.drawn) }
 {
     match listing {
         Listing::Tree | Listing::Json | Listing::Quiet => Ok(walked.drawn),

@@ -1,16 +1,22 @@
 //! What a parse of SQL needs besides the text.
 ghost use Rattle.std.specs.Prelude.{◌≡◌, IfOk};
+ghost use Rattle.std.proofs.Props.{props};
+ghost use Rattle.sql_words.specs.SqlVocabulary.{KnowsKeywords};
 
+use rule_grammar::RuleGrammar;
+use sql_rules::rules;
 use sql_words::{names, vocabulary};
 use squawk_keywords::Keywords;
 use squawk_parser::SyntaxKind;
 use std::alloc::{AllocError, Global};
 
-/// PostgreSQL's keywords, and the names of all kinds.
+/// PostgreSQL's keywords, the rules of its statements, and the names of all kinds.
 #[derive(Drop)]
 pub struct Sql {
     pub vocabulary: Keywords<'static>,
+    pub rules: RuleGrammar<'static>,
     names: Vec<(SyntaxKind, &'static str)>,
+    ghost keywords: { KnowsKeywords vocabulary } by { Prim.hlevel props },
 }
 
 impl Sql {
@@ -21,6 +27,7 @@ impl Sql {
     {
         Ok(Sql {
             vocabulary: vocabulary(alloc)?,
+            rules: rules(),
             names: names(alloc)?,
         })
     }

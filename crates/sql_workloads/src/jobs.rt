@@ -74,7 +74,8 @@ fn send<S: StepSink<Refusal = AllocError>>(
     requires { AreAcceptedTokens text.now tokens.now }
 {
     let strays = stray_strings(alloc, text, tokens)?;
-    let rules = sql_rules::grammar(&strays);
+    let ready = sql_rules::rules();
+    let rules = sql_rules::hiding(&ready, &strays);
     let grammar = SqlGrammar {
         detail: Detail::Nodes(&rules),
     };
@@ -95,7 +96,8 @@ fn tree<'t>(
     requires { AreAcceptedTokens text.now tokens.now }
 {
     let strays = stray_strings(alloc, text, tokens)?;
-    let rules = sql_rules::grammar(&strays);
+    let ready = sql_rules::rules();
+    let rules = sql_rules::hiding(&ready, &strays);
     let grammar = SqlGrammar {
         detail: Detail::Nodes(&rules),
     };
@@ -183,7 +185,8 @@ fn done(alloc: Global, words: &Keywords<'_>, text: &str, phase: Phase) -> Result
             let table = LexedStr::from_accepted(alloc, text, &tokens, words)?;
             let input = table.to_input(alloc, words)?;
             let strays = stray_strings(alloc, text, &tokens)?;
-            let rules = sql_rules::grammar(&strays);
+            let ready = sql_rules::rules();
+    let rules = sql_rules::hiding(&ready, &strays);
             let grammar = SqlGrammar {
                 detail: Detail::Nodes(&rules),
             };

@@ -71,7 +71,7 @@ left-same r s kind n = cases (nat_lt 0 n && not (kind == PSQL_COMMAND))
 
 -- ---- both
 
-module _ (contextual : Keywords) (front later : List RawToken) (r1 r2 r : Bor RuleGrammar) (same1 : AreSame r1 r) (same2 : AreSame r2 r)
+module _ (contextual : Keywords) (front later : List RawToken) (r1 r2 r : Bor RuleGrammar) (same1 : AreSame r1.now r.now) (same2 : AreSame r2.now r.now)
     (hidden : r.now.table.hidden.tokens.now ≡ r1.now.table.hidden.tokens.now ++ r2.now.table.hidden.tokens.now)
     (all_told : length r1.now.table.hidden.tokens.now ≡ count contextual front later) where
   abbrev e1 : List Entry

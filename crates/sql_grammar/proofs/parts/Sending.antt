@@ -104,10 +104,15 @@ pub data HasToken : List Step → Type 0 where
   here : {kind n : ℕ} {steps : List Step} → HasToken (Token kind n ∷ steps)
   later : {step : Step} {steps : List Step} → HasToken steps → HasToken (step ∷ steps)
 
--- each before which trivia may stand is a token, or one stands after it
+-- whether trivia may stand before a step, or it is an error
+abbrev pub waits : ℕ → Step → Bool
+waits depth (Error text) = true
+waits depth step = receives_at depth step
+
+-- each such step is a token, or one stands after it
 pub data AreBeforeTokens : ℕ → List Step → Type 0 where
   none : {depth : ℕ} → AreBeforeTokens depth []
-  more : {depth : ℕ} {step : Step} {steps : List Step} → (receives_at depth step ≡ true → HasToken (step ∷ steps)) → AreBeforeTokens (depth_behind depth step) steps
+  more : {depth : ℕ} {step : Step} {steps : List Step} → (waits depth step ≡ true → HasToken (step ∷ steps)) → AreBeforeTokens (depth_behind depth step) steps
       → AreBeforeTokens depth (step ∷ steps)
 
 pub has_token-later : (xs : List Step) {ys : List Step} → HasToken ys → HasToken (xs ++ ys)
@@ -181,12 +186,16 @@ module _ (keyword : Keywords) (a b : List ℕ) (front later_tokens : List raw.To
   here_first at Exit has le = refl
   here_first at (Error text) has le = ap (sent.Error text) (start_first keyword a b front later_tokens all at le)
 
+  receiving : (depth : ℕ) (step : Step) → receives_at depth step ≡ true → waits depth step ≡ true
+  receiving depth (Error text) e = refl
+  receiving depth step e = e
+
   -- what is sent for steps in the first text
   pub sent_first : (at depth : ℕ) (steps : List Step) → AreBeforeTokens depth steps → HaveTokens t1 at depth steps
       → (sent_from t3 at depth steps ≡ sent_from t1 at depth steps) × (end_from t3 at depth steps ≡ end_from t1 at depth steps)
   sent_first at depth [] are has = (refl, refl)
   sent_first at depth (step ∷ steps) (more token are) has =
-      let trivia = trivia_first at depth step steps token has in
+      let trivia = trivia_first at depth step steps (λ e. token (receiving depth step e)) has in
       let here = raw_here t1 at depth step in
       let same : raw_here t3 at depth step ≡ here = ap (λ rs. at + length rs) trivia in
       let others = sent_first (next_raw here step) (depth_behind depth step) steps are has.1 in (

@@ -58,7 +58,7 @@ module _ (keyword : Keywords) where
       let end : at + t.len + bytes front ≡ at + bytes (t ∷ front) = omega (arith, sum_by-cons (λ (t : Token). t.len) t front) in
       ap (λ ks. kind ∷ ks) (kinds-append text (at + t.len) front later ∙ ap (λ n. kinds_from keyword text (at + t.len) front ++ kinds_from keyword text n later) end)
 
-  kinds-front : (a b : List ℕ) (at : ℕ) (tokens : List Token) → at + bytes tokens ≤ length a → kinds_from keyword (a ++ b) at tokens ≡ kinds_from keyword a at tokens
+  pub kinds-front : (a b : List ℕ) (at : ℕ) (tokens : List Token) → at + bytes tokens ≤ length a → kinds_from keyword (a ++ b) at tokens ≡ kinds_from keyword a at tokens
   kinds-front a b at [] le = refl
   kinds-front a b at (t ∷ tokens) le =
       let sum = sum_by-cons (λ (t : Token). t.len) t tokens in
@@ -66,7 +66,7 @@ module _ (keyword : Keywords) where
       ap (λ text. kind_of keyword t.kind text ∷ kinds_from keyword (a ++ b) (at + t.len) tokens) here
       ∙ ap (λ ks. kind_of keyword t.kind (slice_range a at (at + t.len)) ∷ ks) (kinds-front a b (at + t.len) tokens (omega (arith, sum, le)))
 
-  kinds-later : (a b : List ℕ) (at : ℕ) (tokens : List Token) → kinds_from keyword (a ++ b) (length a + at) tokens ≡ kinds_from keyword b at tokens
+  pub kinds-later : (a b : List ℕ) (at : ℕ) (tokens : List Token) → kinds_from keyword (a ++ b) (length a + at) tokens ≡ kinds_from keyword b at tokens
   kinds-later a b at [] = refl
   kinds-later a b at (t ∷ tokens) =
       let end : length a + at + t.len ≡ length a + (at + t.len) = omega arith in

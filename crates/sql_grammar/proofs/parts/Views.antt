@@ -82,7 +82,7 @@ abbrev text_by : List (List ℕ) → List (List ℕ) → List Bool → Words →
 text_by rows sets hidden words input limit = record { rows = rows; sets = sets; hidden = hidden; words = words; input = input; limit = limit }
 
 -- what they derive of tokens, they derive where these stand among others
-pub derive_moved : (r s : Bor RuleGrammar) (words : Words) (input whole : List Entry) (from to off : ℕ) → AreSame r s
+pub derive_moved : (r s : Bor RuleGrammar) (words : Words) (input whole : List Entry) (from to off : ℕ) → AreSame r.now s.now
     → IsView (text_by r.now.table.rows.now r.now.table.sets.now r.now.table.hidden.tokens.now words input to)
     (text_by r.now.table.rows.now r.now.table.sets.now s.now.table.hidden.tokens.now words whole (off + to)) off
     → RulesDerive words input from to r → RulesDerive words whole (off + from) (off + to) s

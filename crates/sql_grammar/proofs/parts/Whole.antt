@@ -202,7 +202,7 @@ module _ (keyword contextual : Keywords) (knows : (text : List ℕ) → keyword 
 
 module _ (keyword contextual : Keywords) (knows : (text : List ℕ) → keyword text ≡ kind_of_word_ignoring_case keyword_kinds text)
     (r1 r2 rules : Bor RuleGrammar) (p q : Part) (ip : IsParsedPart r1 keyword contextual p) (ends : EndsWithStatement keyword contextual p)
-    (iq : IsParsedPart r2 keyword contextual q) (same1 : AreSame r1 rules) (same2 : AreSame r2 rules)
+    (iq : IsParsedPart r2 keyword contextual q) (same1 : AreSame r1.now rules.now) (same2 : AreSame r2.now rules.now)
     (hidden : rules.now.table.hidden.tokens.now ≡ r1.now.table.hidden.tokens.now ++ r2.now.table.hidden.tokens.now)
     (table : IsTable (table_by keyword (joined p q))) where
   abbrev p_table : Table

@@ -1,60 +1,97 @@
-use Rattle.std.proofs.Common.{◌≡◌, ◌≢◌, ◌∙◌, Err, ap, length, rules, subst, sym}
-use Rattle.std.specs.Prelude.{string_bytes}
-use Rattle.std.specs.Str.{chars}
+use Rattle.std.proofs.Common.{◌≡◌, ◌≢◌, ◌∙◌, [], ◌∷◌, ◌++◌, ap, arith, length, map, rules, subst, sym}
+use Rattle.std.specs.Prelude.{IfSome, string_bytes}
+use Rattle.std.specs.List.{flat_map}
+use Rattle.std.proofs.lemmas.Grind.{flat_map-append}
+use Rattle.std.proofs.lemmas.List.{append-nil}
 use Rattle.squawk_kinds.specs.EngineNames.{names_of}
-use Rattle.squawk_table.specs.Sent.{sent_list, texts_of}
-use Rattle.squawk_table.specs.Shape.{Fits}
-use Rattle.sql_grammar.proofs.RefusedParses.{by_rules}
+use Rattle.squawk_table.specs.declared.shortcuts.str_step.OwnedStep.TheVariants.{Enter, Exit}
+use Rattle.squawk_tokens.specs.LexicalErrors.{shifted}
+use Rattle.sql_grammar.specs.Kinds.{SOURCE_FILE}
+use Rattle.sql_grammar.specs.Parts.{moved_by}
+use Rattle.sql_grammar.specs.ReadParts.{AreBefore, IsScriptParse, ReadsPart, script_table}
 use Rattle.sql_lexer.specs.Scripts.{script_tokens}
 use Rattle.sql_report.specs.Drawn.{drawn}
 use Rattle.sql_report.specs.ErrorLines.{error_texts}
-use Rattle.sql_report.specs.Findings.{AreInOrder, all_told}
+use Rattle.sql_report.specs.Findings.{AreInOrder, told_in, told_lexical}
 use Rattle.sql_report.specs.JsonTrees.{HasTreeLines}
 use Rattle.sql_report.specs.Statements.{statements_of}
 use Rattle.sql_report.specs.TokenLines.{token_lines}
-use Rattle.sql_tree.specs.Listings.{asked_for, listed}
-use Rattle.sql_tree.specs.Refusals.{unread_of_parse}
+use Rattle.sql_report.specs.declared.one_walk.Asked.TheVariants.{Errors}
+use Rattle.sql_tree.specs.Listings.{asked_for}
 use Rattle.sql_tree.specs.declared.options.Listing.TheVariants.{Tokens, Quiet}
-use Rattle.sql_tree.proofs.Reasons.{of_parse}
 use Rattle.sql_tree.proofs.report.Report.new.Goals as goal
 
-pub returns-in_err-output-clause-refused : goal.returns-in_err-output-clause-refused
-returns-in_err-output-clause-refused c =
-    let reason = c.in_err-output.field-0.0 in
-    let is : c.from_residual-in_err-output.result ≡ Err (unread_of_parse reason) = search rules in
-    rw is (of_parse c.args.sql.now c.args.text.now _ reason c.in_ok-table.ensures.table c.in_err-output.ensures.refused)
+pub loop-walk-init : goal.loop-walk-init
+loop-walk-init c =
+    let shown = c.new-errors.ensures.none in
+    record {
+      of_text = c.in_ok-parts.ensures.of_text;
+      lexical = [];
+      done = Enter SOURCE_FILE ∷ [];
+      read = c.in_ok-parts.ensures.begins c.args.sql.now.vocabulary c.args.sql.now.rules c.args.sql.now.keywords;
+      of = c.new-errors.ensures.of;
+      room = omega (arith, c.new-errors.ensures.empty.1);
+      shown = record { findings = shown.findings; in_order = shown.in_order; lines = shown.lines; count = shown.count };
+      asked = c.in_ok-walk.ensures.asked ∙ c.asked.ensures.asked;
+      names = c.in_ok-walk.ensures.names ∙ ap names_of c.names.ensures;
+      tells = c.in_ok-walk.ensures.begins;
+    }
+
+pub loop-walk-preserved : goal.loop-walk-preserved
+loop-walk-preserved c =
+    let sql = c.args.sql.now in
+    let part = c.in-Some.part in
+    let before = c.loop-walk.invariant in
+    let reads : ReadsPart sql.vocabulary sql.rules c.loop-walk.parts c.next_part.new.self part =
+    subst (λ found. IfSome found (λ part. ReadsPart sql.vocabulary sql.rules c.loop-walk.parts c.next_part.new.self part)) c.in-Some.is c.in_ok-part.ensures.reads in
+    let stand : AreBefore part.start before.lexical before.done = reads.before before.lexical before.done before.read in
+    let of = c.in_ok-part-2.ensures.of in
+    let same = c.in_ok-part-3.ensures.same in
+    record {
+      of_text = reads.of_text ∙ before.of_text;
+      lexical = before.lexical ++ map (shifted part.start) part.table.errors;
+      done = before.done ++ map (moved_by part.start) reads.inner;
+      read = reads.reads before.lexical before.done before.read;
+      of = record { name_is = of.name_is ∙ before.of.name_is; text_is = of.text_is ∙ before.of.text_is };
+      room = c.in_ok-part-2.ensures.room;
+      shown = c.in_ok-part-2.ensures.shows before.lexical before.done reads.inner SOURCE_FILE reads.sent_is stand before.shown;
+      asked = same.asked ∙ before.asked;
+      names = same.kind_names ∙ before.names;
+      tells = c.in_ok-part-3.ensures.tells before.done reads.inner SOURCE_FILE reads.sent_is stand.bytes before.tells;
+    }
 
 pub returns-clause-told : goal.returns-clause-told
 returns-clause-told c =
     let sql = c.args.sql.now in
     let listing = c.args.listing in
     let text = c.args.text.now in
-    let steps = c.in_ok-output.output.steps in
-    let sent = sent_list c.in_ok-table.field-0.table steps in
-    let same = c.in_ok-table.ensures.table in
+    let all = c.loop-walk.invariant in
+    let walk = c.loop-walk.walk in
+    let sent = all.done ++ Exit ∷ [] in
+    let names = names_of sql.names.items in
+    let lines = string_bytes c.in_ok-listing.listing in
     let walked = c.in_ok-walked.ensures in
-    let findings = c.in_ok-walked.walked.findings.items in
-    let list = string_bytes c.in_ok-listing.listing in
-    let is_drawn : string_bytes c.in_ok-walked.walked.drawn ≡ drawn (asked_for listing) (names_of sql.names.items) sent =
-    walked.drawn ∙ (ap (λ asked. drawn asked (names_of c.names.result.now) sent) c.asked.ensures.asked ∙ ap (λ pairs. drawn (asked_for listing) (names_of pairs) sent) c.names.ensures) in
-    let counts : listing ≢ Quiet → c.in_ok-walked.walked.statements.items ≡ statements_of sent = λ told. walked.statements (c.asked.ensures.counts told) in
+    let parse : IsScriptParse sql.vocabulary text all.lexical sent =
+    subst (λ text. IsScriptParse sql.vocabulary text all.lexical sent) all.of_text (c.in_ok-part.ensures.ends c.in_default.is all.lexical all.done all.read) in
+    let told : flat_map told_in all.done ≡ flat_map told_in sent = sym (flat_map-append told_in all.done (Exit ∷ []) ∙ append-nil (flat_map told_in all.done)) in
+    let is_drawn : string_bytes c.in_ok-walked.walked.drawn ≡ drawn (asked_for listing) names sent =
+    walked.drawn all.done all.tells ∙ (ap (λ asked. drawn asked walk.kind_names sent) all.asked ∙ ap (λ names. drawn (asked_for listing) names sent) all.names) in
+    let counts : listing ≢ Quiet → c.in_ok-walked.walked.statements.items ≡ statements_of sent =
+    λ some. walked.statements all.done all.tells (subst (λ asked. asked ≢ Errors) (c.asked.ensures.asked ∙ sym all.asked) (c.asked.ensures.counts some)) in
     let counted : c.len-statement_count.result ≡ length c.in_ok-walked.walked.statements.items = search rules in
     let raw : listing ≡ Tokens → string_bytes c.in_ok-raw_lines.raw_lines ≡ token_lines 0 (script_tokens text) = search rules in
-    let listed_so : list ≡ listed sql listing text sent = c.in_ok-listing.ensures.listed sent is_drawn counts raw in
     record {
-      steps = steps;
-      fits = subst (λ table. Fits table steps) same c.in_ok-output.ensures.fits;
-      of_file = by_rules (search rules) c.in_ok-output.ensures.file same;
-      whole = subst (λ table. texts_of (sent_list table steps) ≡ chars table.text) same c.in_ok-output.ensures.whole;
-      findings = findings;
-      in_order = subst (λ table. AreInOrder (all_told table.errors (sent_list table steps)) findings) same walked.findings;
-      errors = c.in_ok-errors.ensures ∙ ap (error_texts c.args.name.now text) (search rules);
-      error_count = search rules;
-      list = subst (λ table. list ≡ listed sql listing text (sent_list table steps)) same listed_so;
+      lexical = all.lexical;
+      sent = sent;
+      parse = parse;
+      findings = all.shown.findings;
+      in_order = subst (λ steps. AreInOrder (map told_lexical all.lexical ++ steps) all.shown.findings) told all.shown.in_order;
+      errors = all.shown.lines ∙ (ap (λ name. error_texts name c.loop-walk.errors.place.text all.shown.findings) all.of.name_is ∙ ap (λ text. error_texts c.args.name.now text all.shown.findings) all.of.text_is);
+      error_count = all.shown.count;
+      list = c.in_ok-listing.ensures.listed sent is_drawn counts raw;
       values = λ json.
-          subst (λ table. HasTreeLines (names_of sql.names.items) (sent_list table steps) list) same
-          (subst (λ lines. HasTreeLines (names_of sql.names.items) sent (string_bytes lines)) (sym (c.in_ok-listing.ensures.drawn json))
-          (subst (λ pairs. HasTreeLines (names_of pairs) sent (string_bytes c.in_ok-walked.walked.drawn)) c.names.ensures
-          (walked.values (c.asked.ensures.asked ∙ ap asked_for json))));
-      statement_count = λ told. counted ∙ ap length (counts told ∙ ap (λ table. statements_of (sent_list table steps)) same);
+          subst (λ lines. HasTreeLines names sent (string_bytes lines)) (sym (c.in_ok-listing.ensures.drawn json))
+          (subst (λ names. HasTreeLines names sent (string_bytes c.in_ok-walked.walked.drawn)) all.names
+          (walked.values all.done (script_table sql.vocabulary text) parse.steps all.tells (all.asked ∙ ap asked_for json) parse.fits parse.sent_is));
+      statement_count = λ some. counted ∙ ap length (counts some);
     }

@@ -1,0 +1,57 @@
+-- A part that is cut and parsed. Only private functions speak of it.
+use Rattle.std.specs.Prelude.{◌≡◌, ◌<◌, ℕ, ◌+◌, nat_le, Bool, true, false, List, [], ◌∷◌, ◌++◌, length, sum_by}
+use Rattle.std.specs.Borrow.{Bor}
+use Rattle.squawk_keywords.specs.KeywordAnswers.{contextual_keyword_of, keyword_of}
+use Rattle.squawk_keywords.specs.declared.keywords.Keywords.{Keywords}
+use Rattle.squawk_output.specs.Steps.{Step}
+use Rattle.squawk_parser.specs.declared.parser.parse_error.ParseError.{ParseError}
+use Rattle.squawk_table.specs.RawTable.{Table, table_of}
+use Rattle.squawk_tokens.specs.AcceptedTokens.{AreAcceptedTokens}
+use Rattle.squawk_tokens.specs.declared.token.Token.{Token}
+use Rattle.rule_grammar.specs.declared.rules.RuleGrammar.{RuleGrammar}
+use Rattle.sql_lexer.specs.ScriptEnds.{statement_at, words_from}
+use Rattle.sql_lexer.specs.ScriptLexing.{Lexing, tokens_left}
+use Rattle.sql_lexer.specs.Statements.{after, ends_with, is_start}
+use Rattle.sql_lexer.specs.declared.statements.Statement.{Statement}
+use Rattle.sql_lexer.specs.declared.statements.Word.{Word}
+use Rattle.sql_grammar.specs.Parses.{AreOfFile, IsRefusedByRules}
+use Rattle.sql_grammar.specs.Parts.{AreSame}
+use Rattle.sql_grammar.specs.ReadParts.{Reading}
+use Rattle.sql_grammar.specs.StrayStrings.{stray_strings}
+use Rattle.sql_grammar.specs.declared.Detail.TheVariants.{Nodes}
+use Rattle.sql_grammar.specs.declared.script_parts.Progress.{Progress}
+use Rattle.sql_grammar.specs.declared.script_parts.Progress.TheVariants.{Front, Inside, Failed}
+
+-- the last of these words ends a statement, where this one is begun before the first
+abbrev pub LastEnds : Statement → List Word → Type 0
+LastEnds statement [] = ⊥
+LastEnds statement (word ∷ []) = ends_with statement word ≡ true
+LastEnds statement (word ∷ next ∷ words) = LastEnds (after statement word) (next ∷ words)
+
+-- Some tokens are cut. Where the text goes on, a statement ends with the last of them, and another begins.
+pub record CutsPart (old new : Lexing) (cut : List Token) : Type 0 where
+  pub left : tokens_left old ≡ cut ++ tokens_left new
+  pub at : new.at ≡ old.at + sum_by (λ (t : Token). t.len) cut
+  pub goes_on : old.at < length old.text → old.at < new.at
+  pub begins : new.at < length old.text → is_start (statement_at new.place) ≡ true
+  pub ends : new.at < length old.text → LastEnds (statement_at old.place) (words_from old.text old.at cut)
+
+-- all is read, or reading has failed
+abbrev pub is_over_at : Progress → Lexing → Bool
+is_over_at Front lexer = false
+is_over_at Inside lexer = nat_le (length lexer.text) lexer.at
+is_over_at Failed lexer = true
+
+abbrev pub is_over : Reading → Bool
+is_over r = is_over_at r.progress r.lexer
+
+-- steps of a table by rules from which the stray strings of its text are hidden
+pub record IsParsedBy (rules : RuleGrammar) (vocabulary : Keywords) (text : List ℕ) (tokens : List Token) (table : Table) (steps : List Step) : Type 0 where
+  pub by : Bor RuleGrammar
+  pub same : AreSame by.now rules
+  pub hidden : by.now.table.hidden.tokens.now ≡ stray_strings text tokens
+  pub file : AreOfFile (Nodes by) (contextual_keyword_of vocabulary) table steps
+
+-- the parse of such a text of accepted tokens is refused
+abbrev pub RefusesTokens : Keywords → List ℕ → List Token → ParseError → Type 0
+RefusesTokens vocabulary text tokens reason = AreAcceptedTokens text tokens × IsRefusedByRules (contextual_keyword_of vocabulary) (table_of (keyword_of vocabulary) text tokens) reason

@@ -1,0 +1,137 @@
+-- A script that is read a part at a time.
+use Rattle.std.specs.Prelude.{◌≡◌, ◌≢◌, ◌<◌, ◌≤◌, ℕ, ◌+◌, ◌-◌, true, List, [], ◌∷◌, ◌++◌, All, IsUtf8, length, map, slice_range, sum_by, take}
+use Rattle.std.specs.Borrow.{Bor}
+use Rattle.std.specs.Str.{chars}
+use Rattle.squawk_keywords.specs.KeywordAnswers.{contextual_keyword_of, keyword_of}
+use Rattle.squawk_keywords.specs.declared.keywords.Keywords.{Keywords}
+use Rattle.squawk_output.specs.Steps.{Step}
+use Rattle.squawk_parser.specs.declared.parser.parse_error.ParseError.{ParseError}
+use Rattle.squawk_table.specs.RawTable.{Table, table_of}
+use Rattle.squawk_table.specs.Sent.{bytes_of, sent_list, texts_of}
+use Rattle.squawk_table.specs.Shape.{Fits}
+use Rattle.squawk_table.specs.declared.shortcuts.str_step.OwnedStep.{OwnedStep}
+use Rattle.squawk_table.specs.declared.shortcuts.str_step.OwnedStep.TheVariants as sent
+use Rattle.squawk_tokens.specs.AcceptedTokens.{AreAcceptedTokens}
+use Rattle.squawk_tokens.specs.LexicalErrors.{LexicalError, shifted}
+use Rattle.squawk_tokens.specs.declared.token.Token.{Token}
+use Rattle.rule_grammar.specs.declared.rules.RuleGrammar.{RuleGrammar}
+use Rattle.sql_lexer.specs.ScriptEnds.{statement_at}
+use Rattle.sql_lexer.specs.ScriptLexing.{Lexing, front_of, tokens_left}
+use Rattle.sql_lexer.specs.Scripts.{script_tokens}
+use Rattle.sql_lexer.specs.Statements.{is_start}
+use Rattle.sql_words.specs.SqlVocabulary.{KnowsKeywords}
+use Rattle.sql_grammar.specs.Kinds.{SOURCE_FILE}
+use Rattle.sql_grammar.specs.Parses.{AreByRules, IsRefusedByRules}
+use Rattle.sql_grammar.specs.Parts.{AreSame, EndsWithStatement, IsParsedPart, Part, moved_by, steps_of, table_by}
+use Rattle.sql_grammar.specs.StrayStrings.{stray_strings}
+use Rattle.sql_grammar.specs.declared.script_parts.Progress.{Progress}
+use Rattle.sql_grammar.specs.declared.script_parts.Progress.TheVariants.{Front, Inside, Failed}
+use Rattle.sql_grammar.specs.declared.script_parts.ScriptPart.{ScriptPart}
+
+-- the lexer that cuts it, and how far reading is
+pub record Reading : Type 0 where
+  pub lexer : Lexing
+  pub progress : Progress
+
+-- What stands before the lexer are tokens of the script, and a statement begins where it stands.
+pub record StandsInScript (lexer : Lexing) : Type 0 where
+  pub utf8 : IsUtf8 lexer.text
+  pub accepted : AreAcceptedTokens lexer.text (script_tokens lexer.text)
+  pub front : List Token
+  pub tokens : script_tokens lexer.text ≡ front ++ tokens_left lexer
+  pub bytes : sum_by (λ (t : Token). t.len) front ≡ lexer.at
+  pub starts : lexer.at < length lexer.text → is_start (statement_at lexer.place) ≡ true
+
+-- what it keeps of its text and of how many bytes are read, until it has failed
+pub record IsReading (r : Reading) (text : List ℕ) (bytes : ℕ) : Type 0 where
+  pub of_text : r.lexer.text ≡ text
+  pub at : r.progress ≢ Failed → bytes ≡ r.lexer.at
+  pub stands : r.progress ≢ Failed → StandsInScript r.lexer
+
+-- how many bytes are left; at the front there is a part, even without a byte
+abbrev pub at_front : Progress → ℕ
+at_front Front = 1
+at_front progress = 0
+
+abbrev pub left_of : Reading → ℕ
+left_of r = length r.lexer.text - r.lexer.at + at_front r.progress
+
+-- ---- what is read
+
+-- What is read is a part from the front up to where the lexer stands, parsed by the rules, with these lexical errors. For it
+-- these steps are sent, and then the root is left.
+pub record HasReadPart (vocabulary : Keywords) (rules : RuleGrammar) (r : Reading) (errors : List LexicalError) (done : List OwnedStep) : Type 0 where
+  pub part : Part
+  pub by : Bor RuleGrammar
+  pub same : AreSame by.now rules
+  pub parsed : IsParsedPart by (keyword_of vocabulary) (contextual_keyword_of vocabulary) part
+  pub text : part.text ≡ take r.lexer.at r.lexer.text
+  pub tokens : script_tokens r.lexer.text ≡ part.tokens ++ tokens_left r.lexer
+  pub ends : r.lexer.at < length r.lexer.text → EndsWithStatement (keyword_of vocabulary) (contextual_keyword_of vocabulary) part
+  pub errors_are : (table_by (keyword_of vocabulary) part).errors ≡ errors
+  pub sent_is : sent_list (table_by (keyword_of vocabulary) part) (steps_of part) ≡ done ++ sent.Exit ∷ []
+
+-- at the front nothing is, and the root is entered
+pub record HasReadNothing (r : Reading) (errors : List LexicalError) (done : List OwnedStep) : Type 0 where
+  pub front : r.lexer ≡ front_of r.lexer.text
+  pub none : errors ≡ []
+  pub entered : done ≡ sent.Enter SOURCE_FILE ∷ []
+
+abbrev pub ReadSoFar : Progress → Keywords → RuleGrammar → Reading → List LexicalError → List OwnedStep → Type 0
+ReadSoFar Front vocabulary rules r errors done = HasReadNothing r errors done
+ReadSoFar Inside vocabulary rules r errors done = HasReadPart vocabulary rules r errors done
+ReadSoFar Failed vocabulary rules r errors done = ⊥
+
+abbrev pub HasRead : Keywords → RuleGrammar → Reading → List LexicalError → List OwnedStep → Type 0
+HasRead vocabulary rules r errors done = KnowsKeywords vocabulary × ReadSoFar r.progress vocabulary rules r errors done
+
+-- ---- the next part
+
+-- each error of a list of steps stands before this byte
+abbrev pub ErrorsBelow : ℕ → List OwnedStep → Type 0
+ErrorsBelow n [] = Unit {0}
+ErrorsBelow n (sent.Error text pos ∷ steps) = (pos < n) × ErrorsBelow n steps
+ErrorsBelow n (sent.Token kind text ∷ steps) = ErrorsBelow n steps
+ErrorsBelow n (sent.Enter kind ∷ steps) = ErrorsBelow n steps
+ErrorsBelow n (sent.Exit ∷ steps) = ErrorsBelow n steps
+
+-- What is told of a text before this byte: errors that stand before it, and steps with all bytes of the text up to it.
+pub record AreBefore (at : ℕ) (errors : List LexicalError) (done : List OwnedStep) : Type 0 where
+  pub lexical : All (λ error. error.start < at) errors
+  pub sent_errors : ErrorsBelow at done
+  pub bytes : bytes_of done ≡ at
+
+-- A part goes on with what is read: what is sent in its root, and its lexical errors, whose places count from its start.
+pub record ReadsPart (vocabulary : Keywords) (rules : RuleGrammar) (old new : Reading) (part : ScriptPart) : Type 0 where
+  pub of_text : new.lexer.text ≡ old.lexer.text
+  pub goes_on : left_of new < left_of old
+  pub fits : Fits part.table part.output.steps
+  pub short : part.start + length part.table.text ≤ 4294967295
+  pub inner : List OwnedStep
+  pub sent_is : sent_list part.table part.output.steps ≡ sent.Enter SOURCE_FILE ∷ inner ++ sent.Exit ∷ []
+  pub before : (errors : List LexicalError) (done : List OwnedStep) → HasRead vocabulary rules old errors done → AreBefore part.start errors done
+  pub reads : (errors : List LexicalError) (done : List OwnedStep) → HasRead vocabulary rules old errors done
+      → HasRead vocabulary rules new (errors ++ map (shifted part.start) part.table.errors) (done ++ map (moved_by part.start) inner)
+
+-- ---- all of a script
+
+abbrev pub script_table : Keywords → List ℕ → Table
+script_table vocabulary text = table_of (keyword_of vocabulary) text (script_tokens text)
+
+-- The parse of a script by rules from which its stray strings are hidden: what is sent for it, with all of its text, and its
+-- lexical errors.
+pub record IsScriptParse (vocabulary : Keywords) (text : List ℕ) (errors : List LexicalError) (sent : List OwnedStep) : Type 0 where
+  pub steps : List Step
+  pub fits : Fits (script_table vocabulary text) steps
+  pub by_rules : AreByRules (stray_strings text (script_tokens text)) (contextual_keyword_of vocabulary) (script_table vocabulary text) steps
+  pub whole : texts_of sent ≡ chars text
+  pub errors_are : (script_table vocabulary text).errors ≡ errors
+  pub sent_is : sent_list (script_table vocabulary text) steps ≡ sent
+
+-- the parse of a part of a script, from one byte to another, is refused
+pub record IsRefusedPart (vocabulary : Keywords) (text : List ℕ) (reason : ParseError) : Type 0 where
+  pub from : ℕ
+  pub to : ℕ
+  pub tokens : List Token
+  pub accepted : AreAcceptedTokens (slice_range text from to) tokens
+  pub refused : IsRefusedByRules (contextual_keyword_of vocabulary) (table_of (keyword_of vocabulary) (slice_range text from to) tokens) reason

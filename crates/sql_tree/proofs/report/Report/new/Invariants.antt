@@ -1,0 +1,26 @@
+use Rattle.std.proofs.Common.{◌≡◌, ◌≤◌, List, length}
+use Rattle.squawk_kinds.specs.EngineNames.{names_of}
+use Rattle.squawk_table.specs.declared.shortcuts.str_step.OwnedStep.{OwnedStep}
+use Rattle.squawk_tokens.specs.LexicalErrors.{LexicalError}
+use Rattle.sql_grammar.specs.ReadParts.{HasRead, left_of}
+use Rattle.sql_report.specs.ErrorLines.{HasShown, IsOf}
+use Rattle.sql_report.specs.OnTheWay.{Tells}
+use Rattle.sql_tree.specs.Listings.{asked_for}
+use Rattle.sql_tree.proofs.report.Report.new.Given as goal
+
+abbrev pub invariant-loop-walk : goal.invariant-loop-walk
+invariant-loop-walk l = record {
+  of_text : l.parts.lexer.text ≡ l.text;
+  lexical : List LexicalError;
+  done : List OwnedStep;
+  read : HasRead l.sql.vocabulary l.sql.rules l.parts lexical done;
+  of : IsOf l.name l.text l.errors;
+  room : l.errors.count ≤ length l.errors.lines.items;
+  shown : HasShown lexical done l.errors;
+  asked : l.walk.asked ≡ asked_for l.fn.listing;
+  names : l.walk.kind_names ≡ names_of l.sql.names.items;
+  tells : Tells l.walk done;
+}
+
+abbrev pub decreases-loop-walk : goal.decreases-loop-walk
+decreases-loop-walk l = left_of l.parts
