@@ -7,4 +7,3 @@ pub mod ScriptStatements
 pub mod ScriptWords
 pub mod StatementKinds
 pub mod StrayStrings
-pub mod ScriptTables

@@ -2,6 +2,7 @@ pub mod Cuts
 pub mod Ends
 pub mod Entries
 pub mod Files
+pub mod Law
 pub mod Moved
 pub mod Nodes
 pub mod Placed

@@ -1,16 +1,14 @@
 -- A text in parts: its parse is made of theirs.
-use Rattle.std.specs.Prelude.{◌≡◌, ℕ, ◌+◌, Bool, true, false, List, [], ◌∷◌, ◌++◌, length, map, sum_by}
+use Rattle.std.specs.Prelude.{◌≡◌, ℕ, ◌+◌, Bool, true, false, List, [], ◌∷◌, ◌++◌, length, sum_by}
 use Rattle.std.specs.Borrow.{Bor}
 use Rattle.squawk_kinds.specs.Keywords.{Keywords}
 use Rattle.squawk_output.specs.Steps.{Step}
 use Rattle.squawk_parser.specs.Eaten.{node}
-use Rattle.squawk_tokens.specs.LexicalErrors.{shifted}
 use Rattle.squawk_tokens.specs.declared.token.Token.{Token}
 use Rattle.squawk_tokens.specs.declared.token.TokenKind.{TokenKind}
 use Rattle.squawk_tokens.specs.declared.token.TokenKind.TheVariants.{PsqlCommand, Semi}
 use Rattle.squawk_table.specs.ParserInput.{input_of, kinds_in}
 use Rattle.squawk_table.specs.RawTable.{IsTable, Table, table_of}
-use Rattle.squawk_table.specs.Sent.{sent_list}
 use Rattle.squawk_table.specs.Shape.{Fits}
 use Rattle.squawk_table.specs.declared.shortcuts.str_step.OwnedStep.{OwnedStep}
 use Rattle.squawk_table.specs.declared.shortcuts.str_step.OwnedStep.TheVariants as sent
@@ -72,33 +70,9 @@ pub record EndsWithStatement (keyword contextual : Keywords) (part : Part) : Typ
   pub sign : is_sign last.kind ≡ true
   pub ends : last_ends Start (kinds_in (input_of contextual (table_by keyword part))) ≡ true
 
--- ---- two parts
-
--- one after the other
-abbrev pub joined : Part → Part → Part
-joined p q = record { text = p.text ++ q.text; tokens = p.tokens ++ q.tokens; nodes = p.nodes ++ q.nodes }
-
 -- a step in a text that stands after so many bytes
 abbrev pub moved_by : ℕ → OwnedStep → OwnedStep
 moved_by n (sent.Token kind text) = sent.Token kind text
 moved_by n (sent.Enter kind) = sent.Enter kind
 moved_by n sent.Exit = sent.Exit
 moved_by n (sent.Error text pos) = sent.Error text (n + pos)
-
--- The parse of two texts, of which the first ends with a statement. What is sent for both is a root with what is sent in those
--- of the two; places in the second count from its start.
-pub record IsWhole (rules : Bor RuleGrammar) (keyword contextual : Keywords) (p q : Part) : Type 0 where
-  pub parsed : IsParsedPart rules keyword contextual (joined p q)
-  pub inner : List OwnedStep
-  pub first : sent_list (table_by keyword p) (steps_of p) ≡ sent.Enter SOURCE_FILE ∷ inner ++ sent.Exit ∷ []
-  pub rest : List OwnedStep
-  pub second : sent_list (table_by keyword q) (steps_of q) ≡ sent.Enter SOURCE_FILE ∷ rest
-  pub sent : sent_list (table_by keyword (joined p q)) (steps_of (joined p q)) ≡ sent.Enter SOURCE_FILE ∷ inner ++ map (moved_by (length p.text)) rest
-  pub errors : (table_by keyword (joined p q)).errors ≡ (table_by keyword p).errors ++ map (shifted (length p.text)) (table_by keyword q).errors
-
--- The law: parts make the whole.
-abbrev pub PartsMakeWhole : Keywords → Keywords → Type 0
-PartsMakeWhole keyword contextual = (r1 r2 rules : Bor RuleGrammar) (p q : Part)
-    → IsParsedPart r1 keyword contextual p → EndsWithStatement keyword contextual p → IsParsedPart r2 keyword contextual q
-    → AreSame r1.now rules.now → AreSame r2.now rules.now → rules.now.table.hidden.tokens.now ≡ r1.now.table.hidden.tokens.now ++ r2.now.table.hidden.tokens.now
-    → IsTable (table_by keyword (joined p q)) → IsWhole rules keyword contextual p q

@@ -15,14 +15,12 @@
 
 mod cut;
 mod parse;
-mod script;
 mod script_parts;
 mod statement_kinds;
 mod statements;
 mod strings;
 
 pub use crate::parse::parse_table;
-pub use crate::script::{Script, read_script};
 pub use crate::script_parts::{ScriptPart, ScriptParts};
 use crate::statements::statement;
 pub use crate::strings::stray_strings;

@@ -1,13 +1,11 @@
 //! The parse of a table by the grammar.
 ghost use Rattle.std.specs.Prelude.{◌≡◌, ◌≢◌, ◌≤◌, length, IfOk, IfErr};
 ghost use Rattle.std.specs.Str.{chars};
-ghost use Rattle.squawk_keywords.specs.KeywordAnswers.{contextual_keyword_of, keyword_of};
+ghost use Rattle.squawk_keywords.specs.KeywordAnswers.{contextual_keyword_of};
 ghost use Rattle.squawk_output.specs.Steps.{errors_in};
 ghost use Rattle.squawk_table.specs.Sent.{sent_list, texts_of};
 ghost use Rattle.squawk_table.specs.Shape.{Fits};
-ghost use Rattle.sql_words.specs.SqlVocabulary.{KnowsKeywords};
 ghost use Rattle.sql_grammar.specs.Parses.{AreOfFile, IsRefusedParse};
-ghost use Rattle.sql_grammar.specs.Parts.{PartsMakeWhole};
 ghost use Rattle.sql_grammar.specs.Scripts.{EndAsCut, IsScript};
 
 use crate::{Detail, SqlGrammar};
@@ -29,8 +27,6 @@ pub fn parse_table(
     ensures few { IfOk result (λ output. length output.steps ≤ 4294967295) }
     ensures errors { IfOk result (λ output. errors_in output.steps ≤ 2147483648) }
     ensures ends { IsScript vocabulary.now table.now → EndAsCut vocabulary.now table.now }
-    // A text in parts, of which each but the last ends with a statement, has the parse that they make up.
-    ensures parts { IfOk result (λ _. KnowsKeywords vocabulary.now → PartsMakeWhole (keyword_of vocabulary.now) (contextual_keyword_of vocabulary.now)) }
     ensures refused { IfErr result (λ reason. reason ≢ ParseError.OutOfMemory → IsRefusedParse detail.entry (contextual_keyword_of vocabulary.now) table.now reason) }
 {
     // The proof reads that a raw token has a byte at least.

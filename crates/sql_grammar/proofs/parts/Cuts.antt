@@ -24,8 +24,9 @@ use Rattle.sql_lexer.specs.declared.statements.Word.{Word}
 use Rattle.sql_lexer.specs.declared.statements.Word.TheVariants.{Command, CopyCommand, QueryEnd, Semicolon, Trivia}
 use Rattle.sql_words.specs.SqlKinds.{keyword_kinds}
 use Rattle.sql_grammar.specs.CutParts.{CutsPart, LastEnds}
-use Rattle.sql_grammar.specs.Parts.{EndsWithStatement, Part, is_sign, joined, last_ends, table_by}
+use Rattle.sql_grammar.specs.Parts.{EndsWithStatement, Part, is_sign, last_ends, table_by}
 use Rattle.sql_grammar.specs.Words.{word_of}
+use Rattle.sql_grammar.proofs.parts.Law.{joined}
 use Rattle.sql_grammar.proofs.ScriptStatements.{after-end, input_kinds, kinds-input, starts}
 use Rattle.sql_grammar.proofs.ScriptWords.{kind_word, passed_over}
 use Rattle.sql_grammar.proofs.parts.Tables.{bytes, kinds-front, kinds-later, kinds_both}

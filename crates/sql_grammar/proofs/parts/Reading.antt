@@ -35,13 +35,14 @@ use Rattle.sql_words.specs.SqlVocabulary.{KnowsKeywords}
 use Rattle.sql_grammar.specs.CutParts.{CutsPart, IsParsedBy, LastEnds, is_over, is_over_at}
 use Rattle.sql_grammar.specs.Kinds.{SOURCE_FILE}
 use Rattle.sql_grammar.specs.Parses.{AreOfFile}
-use Rattle.sql_grammar.specs.Parts.{EndsWithStatement, IsParsedPart, IsWhole, Part, joined, moved_by, steps_of, table_by}
+use Rattle.sql_grammar.specs.Parts.{EndsWithStatement, IsParsedPart, Part, moved_by, steps_of, table_by}
 use Rattle.sql_grammar.specs.ReadParts.{AreBefore, HasRead, HasReadNothing, HasReadPart, IsScriptParse, ReadSoFar, Reading, ReadsPart, StandsInScript, at_front, script_table}
 use Rattle.sql_grammar.specs.StrayStrings.{stray_strings}
 use Rattle.sql_grammar.specs.declared.Detail.TheVariants.{Nodes}
 use Rattle.sql_grammar.specs.declared.script_parts.Progress.{Progress}
 use Rattle.sql_grammar.specs.declared.script_parts.Progress.TheVariants.{Front, Inside, Failed}
 use Rattle.sql_grammar.specs.declared.script_parts.ScriptPart.{ScriptPart}
+use Rattle.sql_grammar.proofs.parts.Law.{IsWhole, joined}
 use Rattle.sql_grammar.proofs.ScriptStatements.{starts}
 use Rattle.sql_grammar.proofs.parts.Cuts.{joined_ends, part_ends}
 use Rattle.sql_grammar.proofs.parts.Roots.{lexical_below, root_inner, root_is, sent_below, whole_sent}

@@ -39,10 +39,11 @@ use Rattle.sql_words.specs.SqlKinds.{keyword_kinds}
 use Rattle.sql_grammar.specs.Files.{AreNodesOf}
 use Rattle.sql_grammar.specs.Kinds.{SOURCE_FILE}
 use Rattle.sql_grammar.specs.Parses.{AreOfFile}
-use Rattle.sql_grammar.specs.Parts.{AreSame, EndsWithStatement, IsParsedPart, IsWhole, Part, PartsMakeWhole, is_sign, joined, steps_of, table_by}
+use Rattle.sql_grammar.specs.Parts.{AreSame, EndsWithStatement, IsParsedPart, Part, is_sign, steps_of, table_by}
 use Rattle.sql_grammar.specs.Statements.{statements_of}
 use Rattle.sql_grammar.specs.StrayStrings as strays
 use Rattle.sql_grammar.specs.declared.Detail.TheVariants.{Nodes}
+use Rattle.sql_grammar.proofs.parts.Law.{IsWhole, PartsMakeWhole, joined}
 use Rattle.sql_grammar.proofs.ScriptStatements.{input_kinds, kinds-input}
 use Rattle.sql_grammar.proofs.ScriptWords.{kind_word, passed_over}
 use Rattle.sql_grammar.proofs.parts.Ends.{front_tokens, inner_all, rest_tokens, sent_inner, tokens-end}

@@ -1,5 +1,5 @@
 use Rattle.std.proofs.Common.{rules, subst}
-use Rattle.squawk_keywords.specs.KeywordAnswers.{contextual_keyword_of, keyword_of}
+use Rattle.squawk_keywords.specs.KeywordAnswers.{contextual_keyword_of}
 use Rattle.squawk_parser.proofs.WholeGrammars.{whole_eaten, whole_root}
 use Rattle.squawk_parser.specs.Parse.{IsRefused}
 use Rattle.squawk_parser.specs.State.{fresh}
@@ -8,7 +8,6 @@ use Rattle.sql_grammar.specs.Files.{IsFile, Runs}
 use Rattle.sql_grammar.specs.Kinds.{sql_words}
 use Rattle.sql_grammar.specs.Parses.{IsRefusedParse}
 use Rattle.sql_grammar.proofs.RefusedParses.{refused_parse}
-use Rattle.sql_grammar.proofs.parts.Whole.{parts_make_whole}
 use Rattle.sql_grammar.proofs.parse.parse_table.Goals as goal
 
 pub str_steps-steps-requires : goal.str_steps-steps-requires
@@ -35,6 +34,3 @@ returns-in_err-output-clause-refused c =
     let refused : IsRefusedParse c.args.detail (contextual_keyword_of c.args.vocabulary.now) c.args.table.now reason =
     refused_parse c.args.detail (contextual_keyword_of c.args.vocabulary.now) c.args.table.now sql_words reason c.len-len.ensures.table why in
     search rules
-
-pub returns-clause-parts : goal.returns-clause-parts
-returns-clause-parts c = λ knows. parts_make_whole (keyword_of c.args.vocabulary.now) (contextual_keyword_of c.args.vocabulary.now) knows.keyword
