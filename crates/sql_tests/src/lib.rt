@@ -3,6 +3,8 @@
 #![tactic(auto)]
 
 #[cfg(test)]
+mod parts;
+#[cfg(test)]
 mod reports;
 #[cfg(test)]
 mod scripts;

@@ -1,0 +1,93 @@
+//! A script in parts: what is told of them is told of the whole.
+ghost use Rattle.std.specs.Prelude.{◌≡◌, ◌≤◌, ◌<◌, ◌^◌, length};
+ghost use Rattle.squawk_table.specs.Shape.{Fits};
+
+use rule_grammar::RuleGrammar;
+use sql_grammar::{Detail, ScriptParts, parse_table, stray_strings};
+use sql_lexer::tokenize_script;
+use sql_report::{Asked, ErrorLines, Walk};
+use sql_rules::{hiding, rules};
+use sql_words::{SqlKind, names, vocabulary};
+use squawk_output::Output;
+use squawk_table::LexedStr;
+use std::alloc::{AllocError, Global};
+use std::process::Abort;
+use std::test::Fail;
+
+/// Statements with and without errors, a string that goes on, one that doesn't, and data of COPY.
+const PIECE: &str =
+    "select f(1;\nselect 'a'\n'b', 'c' 'd', 1x;\ncopy t from stdin;\nit's\n\\.\n\\x\n";
+
+/// What is told of a text.
+#[derive(Drop)]
+struct Told {
+    tree: String,
+    errors: Vec<u8>,
+}
+
+/// What is told of a parse of all of a text.
+fn whole(
+    alloc: Global,
+    text: &str,
+    table: &LexedStr<'_>,
+    output: &Output,
+) -> Result<Told, AllocError>
+    requires fits { Fits table.now output.now.steps }
+    requires short { length table.now.text < 2 ^ 64 }
+{
+    let all_names = names(alloc)?;
+    let mut errors = ErrorLines::new(alloc, "x", text);
+    errors.part(table, output, 0)?;
+    let mut walk = Walk::new(alloc, &all_names, Asked::Tree, SqlKind::SOURCE_FILE)?;
+    walk.part(table, output, 0)?;
+    Ok(Told {
+        tree: walk.finish()?.drawn,
+        errors: errors.lines,
+    })
+}
+
+/// What is told of the parts of a text, and how many there are.
+fn in_parts(alloc: Global, rules: &RuleGrammar<'_>, text: &str) -> Result<(Told, usize), Fail> {
+    let words = vocabulary(alloc)?;
+    let all_names = names(alloc)?;
+    let mut parts = ScriptParts::new(alloc, text)?;
+    let mut errors = ErrorLines::new(alloc, "x", text);
+    let mut walk = Walk::new(alloc, &all_names, Asked::Tree, SqlKind::SOURCE_FILE)?;
+    let mut count = 0usize;
+    while let Some(part) = parts.next_part(&words, rules)? {
+        errors.part(&part.table, &part.output, part.start)?;
+        walk.part(&part.table, &part.output, part.start)?;
+        count = count.saturating_add(1);
+    }
+    let tree = walk.finish()?.drawn;
+    let errors = errors.lines;
+    Ok((Told { tree, errors }, count))
+}
+
+/// Asserts that so many parts of a text are told as the whole.
+fn assert_parts(rt: &(impl Abort + AllocGlobal), text: &str, wanted: usize) -> Result<(), Fail> {
+    let alloc = rt.alloc();
+    let tokens = tokenize_script(alloc, text)?;
+    let words = vocabulary(alloc)?;
+    let table = LexedStr::new(alloc, text, &tokens, &words)?;
+    let strays = stray_strings(alloc, text, &tokens)?;
+    let ready = rules();
+    let rules = hiding(&ready, &strays);
+    let output = parse_table(alloc, &table, &words, Detail::Nodes(&rules))?;
+    let all = whole(alloc, text, &table, &output)?;
+    let (told, count) = in_parts(alloc, &ready, text)?;
+    assert_eq!(rt; told.tree.as_str(), all.tree.as_str());
+    assert_eq!(rt; told.errors.as_slice(), all.errors.as_slice());
+    assert_eq!(rt; count, wanted);
+    Ok(())
+}
+
+#[test]
+fn parts_are_told_as_the_whole(rt: HostRuntime) -> Result<(), Fail> {
+    assert_parts(&rt, "", 1)?;
+    assert_parts(&rt, PIECE, 1)?;
+    // A piece has 37 raw tokens, and a part 4,096 and those up to the end of a statement: the first ends with the semicolon
+    // of COPY in piece 111, before its data.
+    let text = PIECE.repeat(rt.alloc(), 250)?;
+    assert_parts(&rt, text.as_str(), 3)
+}
