@@ -186,7 +186,7 @@ fn done(alloc: Global, words: &Keywords<'_>, text: &str, phase: Phase) -> Result
             let input = table.to_input(alloc, words)?;
             let strays = stray_strings(alloc, text, &tokens)?;
             let ready = sql_rules::rules();
-    let rules = sql_rules::hiding(&ready, &strays);
+            let rules = sql_rules::hiding(&ready, &strays);
             let grammar = SqlGrammar {
                 detail: Detail::Nodes(&rules),
             };
