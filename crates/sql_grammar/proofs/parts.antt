@@ -2,8 +2,10 @@ pub mod Cuts
 pub mod Ends
 pub mod Entries
 pub mod Files
+pub mod Here
 pub mod Law
 pub mod Moved
+pub mod NextPart
 pub mod Nodes
 pub mod Placed
 pub mod Reading

@@ -9,7 +9,8 @@ use Rattle.sql_grammar.specs.CutParts.{IsParsedBy, RefusesTokens, is_over}
 use Rattle.sql_grammar.specs.ReadParts.{IsRefusedPart, ReadsPart, Reading}
 use Rattle.sql_grammar.specs.declared.script_parts.Progress.TheVariants.{Inside}
 use Rattle.sql_grammar.specs.declared.script_parts.ScriptPart.{ScriptPart}
-use Rattle.sql_grammar.proofs.parts.Reading.{ends_read, here_accepted, here_begins, here_ends, not_over, reads_part, stands_next}
+use Rattle.sql_grammar.proofs.parts.Here.{here_accepted, here_begins, here_ends, stands_next}
+use Rattle.sql_grammar.proofs.parts.Reading.{ends_read, not_over, reads_part}
 use Rattle.sql_grammar.proofs.script_parts.ScriptParts.next_part.Goals as goal
 
 abbrev bytes : List Token → ℕ

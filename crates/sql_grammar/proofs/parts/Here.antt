@@ -1,0 +1,69 @@
+-- A part of a script is cut.
+use Rattle.std.proofs.Common.{◌≡◌, ◌∙◌, ℕ, ◌+◌, ◌-◌, ◌≤◌, List, ◌++◌, length, take, drop, append_assoc, arith, ap, sym, subst, length-drop, length-take, take-append-drop}
+use Rattle.std.specs.Prelude.{IsCharBoundary, IsUtf8, slice_range}
+use Rattle.std.proofs.Math.Seq.{take-append-add}
+use Rattle.std.proofs.lemmas.List.Sums.{sum_by-append}
+use Rattle.squawk_tokens.specs.AcceptedTokens.{AreAcceptedTokens}
+use Rattle.squawk_tokens.specs.declared.token.Token.{Token}
+use Rattle.sql_lexer.specs.ScriptLexing.{Lexing, tokens_left}
+use Rattle.sql_lexer.specs.Scripts.{script_tokens}
+use Rattle.sql_grammar.specs.CutParts.{CutsPart}
+use Rattle.sql_grammar.specs.ReadParts.{StandsInScript}
+use Rattle.sql_grammar.proofs.parts.Slices.{begins_at, ends_at, part_accepted, within_text}
+use Rattle.sql_grammar.proofs.parts.Tables.{bytes}
+
+module _ (old l : Lexing) (same_text : l.text ≡ old.text) (stands : StandsInScript old) (utf8 : IsUtf8 old.text) (cut : List Token) (cuts : CutsPart old l cut) where
+  abbrev pub here : List ℕ
+  here = slice_range old.text old.at (old.at + bytes cut)
+
+  all_tokens : script_tokens old.text ≡ stands.front ++ (cut ++ tokens_left l)
+  all_tokens = stands.tokens ∙ ap (λ ts. stands.front ++ ts) cuts.left
+
+  accepted_all : AreAcceptedTokens old.text (stands.front ++ (cut ++ tokens_left l))
+  accepted_all = subst (AreAcceptedTokens old.text) all_tokens stands.accepted
+
+  pub here_accepted : AreAcceptedTokens here cut
+  here_accepted =
+      subst (λ n. AreAcceptedTokens (slice_range old.text n (n + bytes cut)) cut) stands.bytes
+      (part_accepted old.text utf8 stands.front cut (tokens_left l) accepted_all)
+
+  pub here_begins : IsCharBoundary old.text old.at
+  here_begins = subst (IsCharBoundary old.text) stands.bytes (begins_at old.text utf8 stands.front cut (tokens_left l) accepted_all)
+
+  pub here_ends : IsCharBoundary old.text (old.at + bytes cut)
+  here_ends = subst (λ n. IsCharBoundary old.text (n + bytes cut)) stands.bytes (ends_at old.text utf8 stands.front cut (tokens_left l) accepted_all)
+
+  pub here_within : old.at + bytes cut ≤ length old.text
+  here_within = omega (arith, within_text old.text utf8 stands.front cut (tokens_left l) accepted_all, stands.bytes)
+
+  pub stands_next : StandsInScript l
+  stands_next = record {
+    utf8 = subst IsUtf8 (sym same_text) utf8;
+    accepted = subst (λ text. AreAcceptedTokens text (script_tokens text)) (sym same_text) stands.accepted;
+    front = stands.front ++ cut;
+    tokens = subst (λ text. script_tokens text ≡ (stands.front ++ cut) ++ tokens_left l) (sym same_text)
+        (all_tokens ∙ sym (append_assoc stands.front cut (tokens_left l)));
+    bytes = omega (arith, sum_by-append (λ (t : Token). t.len) stands.front cut, stands.bytes, cuts.at);
+    starts = λ lt. cuts.begins (omega (arith, lt, ap length same_text));
+  }
+
+  pub here_length : length here ≡ bytes cut
+  here_length = omega (arith, length-take (old.at + bytes cut - old.at) (drop old.at old.text), length-drop old.at old.text, here_within)
+
+  -- up to its end, and the rest
+  pub up_to : take (old.at + bytes cut) old.text ≡ take old.at old.text ++ here
+  up_to =
+      let front = take old.at old.text in
+      let rest = drop old.at old.text in
+      let count : length front ≡ old.at = omega (arith, length-take old.at old.text, here_within) in
+      let size : old.at + bytes cut - old.at ≡ bytes cut = omega arith in
+      ap (take (old.at + bytes cut)) (sym (take-append-drop old.at old.text))
+      ∙ (ap (λ n. take (n + bytes cut) (front ++ rest)) (sym count)
+      ∙ (take-append-add front rest (bytes cut) ∙ ap (λ n. front ++ take n rest) (sym size)))
+
+  pub between : old.text ≡ take old.at old.text ++ (here ++ drop (bytes cut) (drop old.at old.text))
+  between =
+      let rest = drop old.at old.text in
+      let size : bytes cut ≡ old.at + bytes cut - old.at = omega arith in
+      sym (take-append-drop old.at old.text)
+      ∙ ap (λ xs. take old.at old.text ++ xs) (sym (take-append-drop (bytes cut) rest) ∙ ap (λ n. take n rest ++ drop (bytes cut) rest) size)

@@ -1,0 +1,241 @@
+-- The next part of a script goes on with what is read.
+use Rattle.std.proofs.Common.{◌≡◌, ◌≢◌, ◌∙◌, ℕ, ◌+◌, ◌-◌, ◌<◌, List, [], ◌∷◌, ◌++◌, length, map, take, drop, append_assoc, arith, ap, sym, subst, refl, length-take}
+use Rattle.std.specs.Prelude.{All, IsUtf8, slice_range}
+use Rattle.std.specs.Borrow.{Bor}
+use Rattle.std.proofs.lemmas.List.{map-append, same_from_push}
+use Rattle.std.proofs.lemmas.List.Elements.{All-append}
+use Rattle.std.proofs.lemmas.List.Sums.{sum_by-append}
+use Rattle.squawk_kinds.specs.Kinds.{EOF}
+use Rattle.squawk_keywords.specs.KeywordAnswers.{contextual_keyword_of, keyword_of}
+use Rattle.squawk_keywords.specs.declared.keywords.Keywords.{Keywords}
+use Rattle.squawk_output.specs.Steps.{Step}
+use Rattle.squawk_table.specs.RawTable.{IsTable, Table, table_of}
+use Rattle.squawk_table.specs.Sent.{sent_list}
+use Rattle.squawk_table.specs.Shape.{Fits}
+use Rattle.squawk_table.specs.declared.shortcuts.str_step.OwnedStep.{OwnedStep}
+use Rattle.squawk_table.specs.declared.shortcuts.str_step.OwnedStep.TheVariants as sent
+use Rattle.squawk_table.proofs.TableLemmas.{IsTable-of_kinds}
+use Rattle.squawk_tokens.specs.AcceptedTokens.{AreAcceptedTokens}
+use Rattle.squawk_tokens.specs.LexicalErrors.{LexicalError, shifted}
+use Rattle.squawk_tokens.specs.declared.token.Token.{Token}
+use Rattle.squawk_tokens.proofs.StandApart.{stand_apart}
+use Rattle.rule_grammar.specs.declared.rules.RuleGrammar.{RuleGrammar}
+use Rattle.sql_lexer.specs.ScriptEnds.{statement_at, words_from}
+use Rattle.sql_lexer.specs.ScriptLexing.{Lexing, tokens_left}
+use Rattle.sql_lexer.specs.Scripts.{script_tokens}
+use Rattle.sql_lexer.specs.declared.statements.Statement.TheVariants.{Start}
+use Rattle.sql_words.specs.SqlVocabulary.{KnowsKeywords}
+use Rattle.sql_grammar.specs.CutParts.{CutsPart, IsParsedBy, LastEnds}
+use Rattle.sql_grammar.specs.Kinds.{SOURCE_FILE}
+use Rattle.sql_grammar.specs.Parses.{AreOfFile}
+use Rattle.sql_grammar.specs.Parts.{EndsWithStatement, IsParsedPart, Part, moved_by, steps_of, table_by}
+use Rattle.sql_grammar.specs.ReadParts.{HasReadNothing, HasReadPart, Reading, StandsInScript}
+use Rattle.sql_grammar.specs.declared.Detail.TheVariants.{Nodes}
+use Rattle.sql_grammar.specs.declared.script_parts.Progress.TheVariants.{Inside}
+use Rattle.sql_grammar.proofs.parts.Law.{IsWhole, joined}
+use Rattle.sql_grammar.proofs.ScriptStatements.{starts}
+use Rattle.sql_grammar.proofs.parts.Cuts.{joined_ends, part_ends}
+use Rattle.sql_grammar.proofs.parts.Roots.{root_inner, root_is}
+use Rattle.sql_grammar.proofs.parts.Slices.{part_accepted, part_is_utf8}
+use Rattle.sql_grammar.proofs.parts.Tables.{bytes, kinds_both}
+use Rattle.sql_grammar.proofs.parts.Whole.{parts_make_whole}
+use Rattle.sql_grammar.proofs.parts.Here.{between, here, here_length, up_to}
+
+-- ---- nothing moved
+
+moved-none : (steps : List OwnedStep) → map (moved_by 0) steps ≡ steps
+moved-none [] = refl
+moved-none (sent.Token kind text ∷ steps) = ap (λ xs. sent.Token kind text ∷ xs) (moved-none steps)
+moved-none (sent.Enter kind ∷ steps) = ap (λ xs. sent.Enter kind ∷ xs) (moved-none steps)
+moved-none (sent.Exit ∷ steps) = ap (λ xs. sent.Exit ∷ xs) (moved-none steps)
+moved-none (sent.Error text pos ∷ steps) =
+    let same : 0 + pos ≡ pos = omega arith in
+    ap (λ n. sent.Error text n ∷ map (moved_by 0) steps) same ∙ ap (λ xs. sent.Error text pos ∷ xs) (moved-none steps)
+
+shifted-none : (errors : List LexicalError) → map (shifted 0) errors ≡ errors
+shifted-none [] = refl
+shifted-none (error ∷ errors) =
+    let start : 0 + error.start ≡ error.start = omega arith in
+    let end : 0 + error.end ≡ error.end = omega arith in
+    let same : shifted 0 error ≡ error = ap (λ n. record error { start = n; end = 0 + error.end }) start ∙ ap (λ n. record error { end = n }) end in
+    ap (λ e. e ∷ map (shifted 0) errors) same ∙ ap (λ es. error ∷ es) (shifted-none errors)
+
+-- ---- its parse
+
+module _ (vocabulary : Keywords) (rules : RuleGrammar) (old : Reading) (l : Lexing) (same_text : l.text ≡ old.lexer.text) (stands : StandsInScript old.lexer) (utf8 : IsUtf8 old.lexer.text) (cut : List Token)
+    (cuts : CutsPart old.lexer l cut) (steps : List Step)
+    (table : IsTable (table_of (keyword_of vocabulary) (here old.lexer l same_text stands utf8 cut cuts) cut))
+    (fits : Fits (table_of (keyword_of vocabulary) (here old.lexer l same_text stands utf8 cut cuts) cut) steps)
+    (parsed : IsParsedBy rules vocabulary (here old.lexer l same_text stands utf8 cut cuts) cut (table_of (keyword_of vocabulary) (here old.lexer l same_text stands utf8 cut cuts) cut) steps) where
+  abbrev text : List ℕ
+  text = old.lexer.text
+
+  abbrev from : ℕ
+  from = old.lexer.at
+
+  abbrev piece : List ℕ
+  piece = here old.lexer l same_text stands utf8 cut cuts
+
+  abbrev new : Reading
+  new = record { lexer = l; progress = Inside }
+
+  abbrev q : Part
+  q = record { text = piece; tokens = cut; nodes = parsed.file.file.nodes }
+
+  abbrev q_table : Table
+  q_table = table_by (keyword_of vocabulary) q
+
+  steps_are : steps ≡ steps_of q
+  steps_are = parsed.file.is ∙ parsed.file.file.is
+
+  pub q_parsed : IsParsedPart parsed.by (keyword_of vocabulary) (contextual_keyword_of vocabulary) q
+  q_parsed = record {
+    whole = sym (here_length old.lexer l same_text stands utf8 cut cuts);
+    table = table;
+    fits = subst (Fits q_table) steps_are fits;
+    file = subst (AreOfFile (Nodes parsed.by) (contextual_keyword_of vocabulary) q_table) steps_are parsed.file;
+    hidden = parsed.hidden;
+  }
+
+  -- what is sent in its root
+  abbrev pub inner : List OwnedStep
+  inner = root_inner parsed.by (keyword_of vocabulary) (contextual_keyword_of vocabulary) q q_parsed
+
+  pub inner_is : sent_list q_table steps ≡ sent.Enter SOURCE_FILE ∷ inner ++ sent.Exit ∷ []
+  inner_is = ap (sent_list q_table) steps_are ∙ root_is parsed.by (keyword_of vocabulary) (contextual_keyword_of vocabulary) q q_parsed
+
+  sent_q : sent_list q_table (steps_of q) ≡ sent.Enter SOURCE_FILE ∷ inner ++ sent.Exit ∷ []
+  sent_q = root_is parsed.by (keyword_of vocabulary) (contextual_keyword_of vocabulary) q q_parsed
+
+  bytes_all : bytes cut ≡ length piece
+  bytes_all = sym (here_length old.lexer l same_text stands utf8 cut cuts)
+
+  -- where the text goes on, it ends with a statement
+  q_ends : KnowsKeywords vocabulary → from < length text → l.at < length text → EndsWithStatement (keyword_of vocabulary) (contextual_keyword_of vocabulary) q
+  q_ends knows left goes_on =
+      let rest = drop (bytes cut) (drop from text) in
+      let start : statement_at old.lexer.place ≡ Start = starts (statement_at old.lexer.place) (stands.starts left) in
+      let count : from ≡ length (take from text) + 0 = omega (arith, length-take from text, left) in
+      let words : LastEnds Start (words_from text from cut) = subst (λ s. LastEnds s (words_from text from cut)) start (cuts.ends goes_on) in
+      part_ends (keyword_of vocabulary) (contextual_keyword_of vocabulary) knows.keyword (take from text) piece rest cut q refl refl (omega (arith, bytes_all))
+      (subst (λ n. LastEnds Start (words_from (take from text ++ (piece ++ rest)) n cut)) count
+      (subst (λ xs. LastEnds Start (words_from xs from cut)) (between old.lexer l same_text stands utf8 cut cuts) words))
+
+  -- ---- the first part
+
+  module _ (knows : KnowsKeywords vocabulary) (errors : List LexicalError) (done : List OwnedStep) (nothing : HasReadNothing old errors done) where
+    from_none : from ≡ 0
+    from_none = ap (λ (x : Lexing). x.at) nothing.front
+
+    q_front : piece ≡ take l.at l.text
+    q_front =
+        let size : from + bytes cut - from ≡ l.at = omega (arith, cuts.at, from_none) in
+        ap (λ n. take (from + bytes cut - from) (drop n text)) from_none ∙ (ap (λ n. take n text) size ∙ ap (take l.at) (sym same_text))
+
+    pub first_read : HasReadPart vocabulary rules new (errors ++ map (shifted from) q_table.errors) (done ++ map (moved_by from) inner)
+    first_read = record {
+      part = q;
+      by = parsed.by;
+      same = parsed.same;
+      parsed = q_parsed;
+      text = q_front;
+      tokens = ap script_tokens same_text ∙ (ap tokens_left (sym nothing.front) ∙ cuts.left);
+      ends = λ lt.
+          let goes_on : l.at < length text = omega (arith, lt, ap length same_text) in
+          q_ends knows (omega (arith, goes_on, cuts.at)) goes_on;
+      errors_are = sym (ap (λ n. errors ++ map (shifted n) q_table.errors) from_none ∙ (ap (λ es. es ++ map (shifted 0) q_table.errors) nothing.none ∙ shifted-none q_table.errors));
+      sent_is = sent_q
+          ∙ sym (ap (λ n. (done ++ map (moved_by n) inner) ++ sent.Exit ∷ []) from_none
+          ∙ (ap (λ xs. (done ++ xs) ++ sent.Exit ∷ []) (moved-none inner) ∙ ap (λ xs. (xs ++ inner) ++ sent.Exit ∷ []) nothing.entered));
+    }
+
+  -- ---- another one
+
+  module _ (knows : KnowsKeywords vocabulary) (errors : List LexicalError) (done : List OwnedStep) (before : HasReadPart vocabulary rules old errors done) (left : from < length text) where
+    abbrev p : Part
+    p = before.part
+
+    abbrev both : Part
+    both = joined p q
+
+    p_length : length p.text ≡ from
+    p_length = omega (arith, ap length before.text, length-take from text, left)
+
+    -- the rules of both
+    abbrev both_by : Bor RuleGrammar
+    both_by =
+        let r = before.by in
+        let table = r.now.table in
+        let hidden = table.hidden in
+        let tokens = hidden.tokens in
+        record r { now = record r.now { table = record table { hidden = record hidden { tokens = record tokens { now = tokens.now ++ parsed.by.now.table.hidden.tokens.now } } } } }
+
+    both_text : both.text ≡ take l.at text
+    both_text =
+        ap (λ xs. xs ++ piece) before.text ∙ (sym (up_to old.lexer l same_text stands utf8 cut cuts) ∙ ap (λ n. take n text) (sym cuts.at))
+
+    both_tokens : script_tokens text ≡ both.tokens ++ tokens_left l
+    both_tokens = before.tokens ∙ (ap (λ ts. p.tokens ++ ts) cuts.left ∙ sym (append_assoc p.tokens cut (tokens_left l)))
+
+    both_bytes : bytes both.tokens ≡ l.at
+    both_bytes = omega (arith, sum_by-append (λ (t : Token). t.len) p.tokens cut, before.parsed.whole, p_length, cuts.at)
+
+    both_all : AreAcceptedTokens text ([] ++ (both.tokens ++ tokens_left l))
+    both_all = subst (AreAcceptedTokens text) both_tokens stands.accepted
+
+    both_slice : slice_range text (bytes []) (bytes [] + bytes both.tokens) ≡ both.text
+    both_slice =
+        let size : bytes [] + bytes both.tokens - bytes [] ≡ l.at = omega (arith, both_bytes) in
+        ap (λ n. take n text) size ∙ sym both_text
+
+    both_accepted : AreAcceptedTokens both.text both.tokens
+    both_accepted = subst (λ xs. AreAcceptedTokens xs both.tokens) both_slice (part_accepted text utf8 [] both.tokens (tokens_left l) both_all)
+
+    both_utf8 : IsUtf8 both.text
+    both_utf8 = subst IsUtf8 both_slice (part_is_utf8 text utf8 [] both.tokens (tokens_left l) both_all)
+
+    both_table : IsTable (table_by (keyword_of vocabulary) both)
+    both_table =
+        let kinds = kinds_both (keyword_of vocabulary) p.text piece p.tokens cut before.parsed.whole in
+        IsTable-of_kinds (keyword_of vocabulary) both.text both.tokens both_accepted
+        (subst (All (λ kind. kind ≢ EOF)) (sym kinds) (All-append (λ kind. kind ≢ EOF) _ _ before.parsed.table.no_end table.no_end)) both_utf8
+        (stand_apart both.text both.tokens both_utf8 both_accepted)
+
+    p_ends : EndsWithStatement (keyword_of vocabulary) (contextual_keyword_of vocabulary) p
+    p_ends = before.ends left
+
+    whole : IsWhole both_by (keyword_of vocabulary) (contextual_keyword_of vocabulary) p q
+    whole =
+        parts_make_whole (keyword_of vocabulary) (contextual_keyword_of vocabulary) knows.keyword before.by parsed.by both_by p q before.parsed p_ends q_parsed
+        (record { rows = refl; sets = refl; start = refl; end = refl })
+        (record {
+          rows = parsed.same.rows ∙ sym before.same.rows;
+          sets = parsed.same.sets ∙ sym before.same.sets;
+          start = parsed.same.start ∙ sym before.same.start;
+          end = parsed.same.end ∙ sym before.same.end;
+        }) refl both_table
+
+    done_is : sent.Enter SOURCE_FILE ∷ whole.inner ≡ done
+    done_is = (same_from_push (sent.Enter SOURCE_FILE ∷ whole.inner) done sent.Exit sent.Exit (sym whole.first ∙ before.sent_is)).0
+
+    rest_is : whole.rest ≡ inner ++ sent.Exit ∷ []
+    rest_is = ap (drop 1) (sym whole.second ∙ sent_q)
+
+    pub next_read : HasReadPart vocabulary rules new (errors ++ map (shifted from) q_table.errors) (done ++ map (moved_by from) inner)
+    next_read = record {
+      part = both;
+      by = both_by;
+      same = record { rows = before.same.rows; sets = before.same.sets; start = before.same.start; end = before.same.end };
+      parsed = whole.parsed;
+      text = both_text ∙ ap (take l.at) (sym same_text);
+      tokens = ap script_tokens same_text ∙ both_tokens;
+      ends = λ lt.
+          joined_ends (keyword_of vocabulary) (contextual_keyword_of vocabulary) knows.keyword p q before.parsed.whole p_ends
+          (q_ends knows left (omega (arith, lt, ap length same_text)));
+      errors_are = whole.errors ∙ (ap (λ n. (table_by (keyword_of vocabulary) p).errors ++ map (shifted n) q_table.errors) p_length ∙ ap (λ es. es ++ map (shifted from) q_table.errors) before.errors_are);
+      sent_is = whole.sent
+          ∙ (ap (λ n. sent.Enter SOURCE_FILE ∷ whole.inner ++ map (moved_by n) whole.rest) p_length
+          ∙ (ap (λ xs. xs ++ map (moved_by from) whole.rest) done_is
+          ∙ (ap (λ xs. done ++ map (moved_by from) xs) rest_is
+          ∙ (ap (λ xs. done ++ xs) (map-append (moved_by from) inner (sent.Exit ∷ [])) ∙ sym (append_assoc done (map (moved_by from) inner) (sent.Exit ∷ []))))));
+    }
