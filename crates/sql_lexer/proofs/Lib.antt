@@ -22,6 +22,8 @@ pub mod ScriptPlaces
 pub mod EndsLemmas
 pub mod CopyCommands
 pub mod ScriptTokens
+pub mod lines
+pub mod StatementSigns
 pub mod ScriptLexing
 pub mod CopyLines
 pub mod CopyTokens

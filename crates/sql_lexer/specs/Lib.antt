@@ -15,6 +15,7 @@ pub mod ScriptWords
 pub mod Scripts
 pub mod ScriptPlaces
 pub mod ScriptEnds
+pub mod Lines
 pub mod ScriptLexing
 pub mod CopyData
 pub mod StatementEnds

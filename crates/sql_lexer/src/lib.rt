@@ -16,5 +16,6 @@ mod strings;
 pub mod tokenizer;
 
 pub use script::lexer::ScriptLexer;
+pub use script::script_place::ScriptPlace;
 pub use script::tokenize_script;
 pub use tokenizer::{TokenizeError, tokenize};

@@ -9,9 +9,11 @@ ghost use Rattle.sql_lexer.specs.Tokens.{RefusesText};
 mod copy_commands;
 pub mod lexer;
 mod places;
+pub mod script_place;
 mod words;
 
 use crate::script::lexer::ScriptLexer;
+use crate::script::script_place::ScriptPlace;
 use crate::tokenizer::{TokenizeError, give_back, room_for};
 use squawk_tokens::Token;
 use std::alloc::Global;
@@ -39,7 +41,7 @@ pub fn tokenize_script(alloc: Global, text: &str) -> Result<Vec<Token>, Tokenize
     ensures accepted { IfOk result (λ tokens. AreAcceptedTokens text.now tokens.items) }
     ensures refused { IfErr result (RefusesText text.now) }
 {
-    let mut lexer = ScriptLexer::new(text)?;
+    let mut lexer = ScriptLexer::new(text, ScriptPlace::Front)?;
     let mut tokens = room_for(alloc, text)?;
     while !lexer.is_at_end() {
         lexer.next_statement(&mut tokens)?;

@@ -2,7 +2,7 @@
 ghost use Rattle.std.specs.Prelude.{◌≡◌, ◌+◌, ◌<◌, ◌≤◌, ◌^◌, ◌&&◌, length, IsUtf8, OnOk};
 ghost use Rattle.sql_lexer.specs.Pushes.{Pushes};
 ghost use Rattle.sql_lexer.specs.Scripts as spec;
-ghost use Rattle.sql_lexer.specs.ScriptPlaces.{HasLine, HasRoom, IsRest, may_end};
+ghost use Rattle.sql_lexer.specs.ScriptPlaces.{HasLine, HasRoom, IsRest, may_end, waiting_at};
 ghost use Rattle.sql_lexer.specs.ScriptEnds.{statement_at};
 ghost use Rattle.sql_lexer.specs.Statements.{is_start, unclosed_in};
 ghost use Rattle.sql_lexer.specs.ScriptWords.{word_of};
@@ -258,8 +258,9 @@ fn data_of(statement: Statement, waiting: usize) -> Place
 }
 
 /// The place behind the data of a COPY: those of the next one that waits, or SQL.
-fn place_behind_data(waiting: usize) -> Place
-    ensures { result ≡ spec.place_behind_data waiting }
+pub(crate) fn place_behind_data(waiting: usize) -> Place
+    ensures is { result ≡ spec.place_behind_data waiting }
+    ensures waits { waiting_at result ≤ waiting }
 {
     if waiting == 0 {
         Place::Sql(Statement::Start)

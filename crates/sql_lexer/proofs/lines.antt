@@ -1,0 +1,11 @@
+pub mod Agrees
+pub mod AllRules
+pub mod Choice
+pub mod Closed
+pub mod Commands
+pub mod DataLines
+pub mod KeptEnds
+pub mod LineParts
+pub mod Numbers
+pub mod Places
+pub mod Runs
