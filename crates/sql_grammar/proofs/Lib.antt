@@ -7,3 +7,4 @@ pub mod ScriptStatements
 pub mod ScriptWords
 pub mod StatementKinds
 pub mod StrayStrings
+pub mod WholeLines

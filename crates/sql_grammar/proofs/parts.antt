@@ -1,3 +1,4 @@
+pub mod CutLoop
 pub mod Cuts
 pub mod Ends
 pub mod Entries

@@ -1,5 +1,6 @@
 -- A part that is cut and parsed. Only private functions speak of it.
-use Rattle.std.specs.Prelude.{◌≡◌, ◌<◌, ℕ, ◌+◌, nat_le, Bool, true, false, List, [], ◌∷◌, ◌++◌, length, sum_by}
+use Rattle.std.specs.Prelude.{◌≡◌, ◌<◌, ℕ, ◌+◌, nat_le, Bool, true, false, Option, Some, None, List, [], ◌∷◌, ◌++◌, Vec, length, sum_by}
+use Rattle.std.specs.declared.alloc.Global.{Global}
 use Rattle.std.specs.Borrow.{Bor}
 use Rattle.squawk_keywords.specs.KeywordAnswers.{contextual_keyword_of, keyword_of}
 use Rattle.squawk_keywords.specs.declared.keywords.Keywords.{Keywords}
@@ -10,13 +11,14 @@ use Rattle.squawk_tokens.specs.AcceptedTokens.{AreAcceptedTokens}
 use Rattle.squawk_tokens.specs.declared.token.Token.{Token}
 use Rattle.rule_grammar.specs.declared.rules.RuleGrammar.{RuleGrammar}
 use Rattle.sql_lexer.specs.ScriptEnds.{statement_at, words_from}
-use Rattle.sql_lexer.specs.ScriptLexing.{Lexing, tokens_left}
+use Rattle.sql_lexer.specs.Lines.{EndsLine}
+use Rattle.sql_lexer.specs.ScriptLexing.{Lexing, after_statements, longer, tokens_left}
 use Rattle.sql_lexer.specs.Statements.{after, ends_with, is_start}
 use Rattle.sql_lexer.specs.declared.statements.Statement.{Statement}
 use Rattle.sql_lexer.specs.declared.statements.Word.{Word}
 use Rattle.sql_grammar.specs.Parses.{AreOfFile, IsRefusedByRules}
 use Rattle.sql_grammar.specs.Parts.{AreSame}
-use Rattle.sql_grammar.specs.ReadParts.{Reading}
+use Rattle.sql_grammar.specs.ReadParts.{NoneEnds, Reading, can_end_part}
 use Rattle.sql_grammar.specs.StrayStrings.{stray_strings}
 use Rattle.sql_grammar.specs.declared.Detail.TheVariants.{Nodes}
 use Rattle.sql_grammar.specs.declared.script_parts.Progress.{Progress}
@@ -28,13 +30,34 @@ LastEnds statement [] = ⊥
 LastEnds statement (word ∷ []) = ends_with statement word ≡ true
 LastEnds statement (word ∷ next ∷ words) = LastEnds (after statement word) (next ∷ words)
 
--- Some tokens are cut. Where the text goes on, a statement ends with the last of them, and another begins.
-pub record CutsPart (old new : Lexing) (cut : List Token) : Type 0 where
+-- The tokens of so many statements are cut. Where the text goes on after one or more, a statement ends with the last of them,
+-- and another begins.
+pub record CutsStatements (count : ℕ) (old new : Lexing) (cut : List Token) : Type 0 where
+  pub after : new ≡ after_statements count old
   pub left : tokens_left old ≡ cut ++ tokens_left new
   pub at : new.at ≡ old.at + sum_by (λ (t : Token). t.len) cut
-  pub goes_on : old.at < length old.text → old.at < new.at
-  pub begins : new.at < length old.text → is_start (statement_at new.place) ≡ true
-  pub ends : new.at < length old.text → LastEnds (statement_at old.place) (words_from old.text old.at cut)
+  pub none : count ≡ 0 → cut ≡ []
+  pub goes_on : 0 < count → old.at < length old.text → old.at < new.at
+  pub begins : 0 < count → new.at < length old.text → is_start (statement_at new.place) ≡ true
+  pub ends : 0 < count → new.at < length old.text → LastEnds (statement_at old.place) (words_from old.text old.at cut)
+
+-- the same of one or more, or of all that is left
+pub record CutsPart (old new : Lexing) (cut : List Token) : Type 0 where
+  pub count : ℕ
+  pub some : old.at < length old.text → 0 < count
+  pub cuts : CutsStatements count old new cut
+
+-- The same whatever texts follow, where there may be some.
+pub record CutsInScript (is_last : Bool) (old new : Lexing) (cut : List Token) : Type 0 where
+  pub text : new.text ≡ old.text
+  pub part : CutsPart old new cut
+  pub ends : is_last ≡ false → can_end_part new ≡ true
+  pub longer : is_last ≡ false → EndsLine old.text → (rest : List ℕ) → tokens_left (longer rest old) ≡ cut ++ tokens_left (longer rest new)
+
+-- some statements are cut, or none before other texts
+abbrev pub CutsInText : Bool → Lexing → Lexing → Option (Vec Token Global) → Type 0
+CutsInText is_last old new (Some cut) = CutsInScript is_last old new cut.items
+CutsInText is_last old new None = (new ≡ old) × ((is_last ≡ false) × NoneEnds old)
 
 -- all is read, or reading has failed
 abbrev pub is_over_at : Progress → Lexing → Bool

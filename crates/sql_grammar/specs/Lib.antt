@@ -5,6 +5,7 @@ pub mod Parts
 pub mod StatementKinds
 pub mod Statements
 pub mod Words
+pub mod WholeLines
 pub mod Scripts
 pub mod StrayStrings
 pub mod StringStates

@@ -1,5 +1,5 @@
 -- A script that is read a part at a time.
-use Rattle.std.specs.Prelude.{◌≡◌, ◌≢◌, ◌<◌, ◌≤◌, ℕ, ◌+◌, ◌-◌, true, List, [], ◌∷◌, ◌++◌, All, IsUtf8, length, map, slice_range, sum_by, take}
+use Rattle.std.specs.Prelude.{◌≡◌, ◌≢◌, ◌<◌, ◌≤◌, ◌&&◌, ℕ, ◌+◌, ◌-◌, nat_lt, is_some, Bool, true, false, List, [], ◌∷◌, ◌++◌, All, IsUtf8, length, map, slice_range, sum_by, take}
 use Rattle.std.specs.Borrow.{Bor}
 use Rattle.std.specs.Str.{chars}
 use Rattle.squawk_keywords.specs.KeywordAnswers.{contextual_keyword_of, keyword_of}
@@ -15,30 +15,55 @@ use Rattle.squawk_tokens.specs.AcceptedTokens.{AreAcceptedTokens}
 use Rattle.squawk_tokens.specs.LexicalErrors.{LexicalError, shifted}
 use Rattle.squawk_tokens.specs.declared.token.Token.{Token}
 use Rattle.rule_grammar.specs.declared.rules.RuleGrammar.{RuleGrammar}
+use Rattle.sql_lexer.specs.Lines.{EndsLine}
 use Rattle.sql_lexer.specs.ScriptEnds.{statement_at}
-use Rattle.sql_lexer.specs.ScriptLexing.{Lexing, front_of, tokens_left}
+use Rattle.sql_lexer.specs.ScriptLexing.{Lexing, after_statements, begun_at, longer, script_place, tokens_left}
 use Rattle.sql_lexer.specs.Scripts.{script_tokens}
 use Rattle.sql_lexer.specs.Statements.{is_start}
+use Rattle.sql_lexer.specs.declared.script.script_place.ScriptPlace.{ScriptPlace}
+use Rattle.sql_lexer.specs.declared.script.script_place.ScriptPlace.TheVariants as script
 use Rattle.sql_words.specs.SqlVocabulary.{KnowsKeywords}
 use Rattle.sql_grammar.specs.Kinds.{SOURCE_FILE}
 use Rattle.sql_grammar.specs.Parses.{AreByRules, IsRefusedByRules}
 use Rattle.sql_grammar.specs.Parts.{AreSame, EndsWithStatement, IsParsedPart, Part, moved_by, steps_of, table_by}
 use Rattle.sql_grammar.specs.StrayStrings.{stray_strings}
+use Rattle.sql_grammar.specs.WholeLines.{AreWholeLines}
 use Rattle.sql_grammar.specs.declared.script_parts.Progress.{Progress}
 use Rattle.sql_grammar.specs.declared.script_parts.Progress.TheVariants.{Front, Inside, Failed}
 use Rattle.sql_grammar.specs.declared.script_parts.ScriptPart.{ScriptPart}
 
--- the lexer that cuts it, and how far reading is
+-- the lexer that cuts a text, the place of the script where the text begins, whether the script ends with it, and how far
+-- reading is
 pub record Reading : Type 0 where
   pub lexer : Lexing
+  pub begun : ScriptPlace
+  pub is_last : Bool
   pub progress : Progress
 
--- What stands before the lexer are tokens of the script, and a statement begins where it stands.
-pub record StandsInScript (lexer : Lexing) : Type 0 where
+-- the tokens of a text that begins at a place
+abbrev pub tokens_at : ScriptPlace → List ℕ → List Token
+tokens_at place text = tokens_left (begun_at place text)
+
+-- nothing of a script is read at its front
+abbrev pub begun_with : ScriptPlace → Progress
+begun_with script.Front = Front
+begun_with (script.Inside waiting) = Inside
+
+-- nothing is read of a text, or of its lines where other texts follow
+pub record BeginsText (text : List ℕ) (place : ScriptPlace) (last : Bool) (r : Reading) : Type 0 where
+  pub lexer : r.lexer ≡ begun_at place r.lexer.text
+  pub begun : r.begun ≡ place
+  pub is_last : r.is_last ≡ last
+  pub progress : r.progress ≡ begun_with place
+  pub all : last ≡ true → r.lexer.text ≡ text
+  pub lines : last ≡ false → AreWholeLines text r.lexer.text
+
+-- What stands before the lexer are tokens of the text, and a statement begins where it stands.
+pub record StandsInText (place : ScriptPlace) (lexer : Lexing) : Type 0 where
   pub utf8 : IsUtf8 lexer.text
-  pub accepted : AreAcceptedTokens lexer.text (script_tokens lexer.text)
+  pub accepted : AreAcceptedTokens lexer.text (tokens_at place lexer.text)
   pub front : List Token
-  pub tokens : script_tokens lexer.text ≡ front ++ tokens_left lexer
+  pub tokens : tokens_at place lexer.text ≡ front ++ tokens_left lexer
   pub bytes : sum_by (λ (t : Token). t.len) front ≡ lexer.at
   pub starts : lexer.at < length lexer.text → is_start (statement_at lexer.place) ≡ true
 
@@ -46,7 +71,8 @@ pub record StandsInScript (lexer : Lexing) : Type 0 where
 pub record IsReading (r : Reading) (text : List ℕ) (bytes : ℕ) : Type 0 where
   pub of_text : r.lexer.text ≡ text
   pub at : r.progress ≢ Failed → bytes ≡ r.lexer.at
-  pub stands : r.progress ≢ Failed → StandsInScript r.lexer
+  pub stands : r.progress ≢ Failed → StandsInText r.begun r.lexer
+  pub lines : r.is_last ≡ false → 0 < length text → EndsLine text
 
 -- how many bytes are left; at the front there is a part, even without a byte
 abbrev pub at_front : Progress → ℕ
@@ -66,14 +92,14 @@ pub record HasReadPart (vocabulary : Keywords) (rules : RuleGrammar) (r : Readin
   pub same : AreSame by.now rules
   pub parsed : IsParsedPart by (keyword_of vocabulary) (contextual_keyword_of vocabulary) part
   pub text : part.text ≡ take r.lexer.at r.lexer.text
-  pub tokens : script_tokens r.lexer.text ≡ part.tokens ++ tokens_left r.lexer
+  pub tokens : tokens_at r.begun r.lexer.text ≡ part.tokens ++ tokens_left r.lexer
   pub ends : r.lexer.at < length r.lexer.text → EndsWithStatement (keyword_of vocabulary) (contextual_keyword_of vocabulary) part
   pub errors_are : (table_by (keyword_of vocabulary) part).errors ≡ errors
   pub sent_is : sent_list (table_by (keyword_of vocabulary) part) (steps_of part) ≡ done ++ sent.Exit ∷ []
 
 -- at the front nothing is, and the root is entered
 pub record HasReadNothing (r : Reading) (errors : List LexicalError) (done : List OwnedStep) : Type 0 where
-  pub front : r.lexer ≡ front_of r.lexer.text
+  pub front : r.lexer ≡ begun_at r.begun r.lexer.text
   pub none : errors ≡ []
   pub entered : done ≡ sent.Enter SOURCE_FILE ∷ []
 
@@ -101,10 +127,28 @@ pub record AreBefore (at : ℕ) (errors : List LexicalError) (done : List OwnedS
   pub sent_errors : ErrorsBelow at done
   pub bytes : bytes_of done ≡ at
 
+-- A part can end here that another text follows: some of the text is left, and the script can go on here in another one.
+abbrev pub can_end_part : Lexing → Bool
+can_end_part l = nat_lt l.at (length l.text) && is_some (script_place l.place)
+
+-- A part is the next statements, so many of them, whatever texts follow: their tokens, and steps by rules from which stray
+-- strings are hidden.
+pub record IsOfStatements (vocabulary : Keywords) (old new : Reading) (part : ScriptPart) : Type 0 where
+  pub count : ℕ
+  pub after : new.lexer ≡ after_statements count old.lexer
+  pub some : old.lexer.at < length old.lexer.text → 0 < count
+  pub ends : old.is_last ≡ false → can_end_part new.lexer ≡ true
+  pub tokens : List Token
+  pub cut : (rest : List ℕ) → (old.is_last ≡ true → rest ≡ []) → tokens_left (longer rest old.lexer) ≡ tokens ++ tokens_left (longer rest new.lexer)
+  pub table : part.table ≡ table_of (keyword_of vocabulary) (slice_range old.lexer.text old.lexer.at new.lexer.at) tokens
+  pub by_rules : AreByRules (stray_strings part.table.text tokens) (contextual_keyword_of vocabulary) part.table part.output.steps
+
 -- A part goes on with what is read: what is sent in its root, and its lexical errors, whose places count from its start.
 pub record ReadsPart (vocabulary : Keywords) (rules : RuleGrammar) (old new : Reading) (part : ScriptPart) : Type 0 where
-  pub of_text : new.lexer.text ≡ old.lexer.text
+  pub same : (new.lexer.text ≡ old.lexer.text) × ((new.begun ≡ old.begun) × (new.is_last ≡ old.is_last))
   pub goes_on : left_of new < left_of old
+  pub start : part.start ≡ old.lexer.at
+  pub statements : IsOfStatements vocabulary old new part
   pub fits : Fits part.table part.output.steps
   pub short : part.start + length part.table.text ≤ 4294967295
   pub inner : List OwnedStep
@@ -112,6 +156,23 @@ pub record ReadsPart (vocabulary : Keywords) (rules : RuleGrammar) (old new : Re
   pub before : (errors : List LexicalError) (done : List OwnedStep) → HasRead vocabulary rules old errors done → AreBefore part.start errors done
   pub reads : (errors : List LexicalError) (done : List OwnedStep) → HasRead vocabulary rules old errors done
       → HasRead vocabulary rules new (errors ++ map (shifted part.start) part.table.errors) (done ++ map (moved_by part.start) inner)
+
+-- ---- no other part
+
+-- no part can end, after however many statements
+abbrev pub NoneEnds : Lexing → Type 0
+NoneEnds l = (count : ℕ) → 0 < count → can_end_part (after_statements count l) ≡ false
+
+abbrev pub NoneLeft : Progress → Bool → Reading → Type 0
+NoneLeft Failed is_last r = Unit {0}
+NoneLeft progress true r = length r.lexer.text ≤ r.lexer.at
+NoneLeft progress false r = NoneEnds r.lexer
+
+-- Nothing changes, and there is no other part: all of the last text is read, or no part can end in what is left of another
+-- text, or reading has failed.
+pub record IsOver (old new : Reading) : Type 0 where
+  pub same : new ≡ old
+  pub none : NoneLeft old.progress old.is_last old
 
 -- ---- all of a script
 
@@ -128,10 +189,10 @@ pub record IsScriptParse (vocabulary : Keywords) (text : List ℕ) (errors : Lis
   pub errors_are : (script_table vocabulary text).errors ≡ errors
   pub sent_is : sent_list (script_table vocabulary text) steps ≡ sent
 
--- the parse of a part of a script, from one byte to another, is refused
-pub record IsRefusedPart (vocabulary : Keywords) (text : List ℕ) (reason : ParseError) : Type 0 where
-  pub from : ℕ
-  pub to : ℕ
+-- The parse of the next statements is refused.
+pub record IsRefusedPart (vocabulary : Keywords) (r : Reading) (reason : ParseError) : Type 0 where
   pub tokens : List Token
-  pub accepted : AreAcceptedTokens (slice_range text from to) tokens
-  pub refused : IsRefusedByRules (contextual_keyword_of vocabulary) (table_of (keyword_of vocabulary) (slice_range text from to) tokens) reason
+  pub after : List Token
+  pub are : tokens_left r.lexer ≡ tokens ++ after
+  pub refused : let end = r.lexer.at + sum_by (λ (t : Token). t.len) tokens in
+      IsRefusedByRules (contextual_keyword_of vocabulary) (table_of (keyword_of vocabulary) (slice_range r.lexer.text r.lexer.at end) tokens) reason

@@ -14,12 +14,14 @@
 #![tactic(auto)]
 
 mod cut;
+mod lines;
 mod parse;
 mod script_parts;
 mod statement_kinds;
 mod statements;
 mod strings;
 
+pub use crate::lines::whole_lines;
 pub use crate::parse::parse_table;
 pub use crate::script_parts::{ScriptPart, ScriptParts};
 use crate::statements::statement;

@@ -1,16 +1,19 @@
 //! A script a part at a time.
-ghost use Rattle.std.specs.Prelude.{◌≡◌, ◌≢◌, ◌<◌, ◌^◌, sum_by, IfErr, IfOk, OnOk};
+ghost use Rattle.std.specs.Prelude.{◌≡◌, ◌≢◌, ◌<◌, ◌^◌, false, sum_by, true, IfErr, IfOk};
 ghost use Rattle.squawk_keywords.specs.KeywordAnswers.{keyword_of};
 ghost use Rattle.squawk_table.specs.RawTable.{IsTable, table_of};
 ghost use Rattle.squawk_table.specs.Shape.{Fits};
 ghost use Rattle.squawk_tokens.specs.AcceptedTokens.{AreAcceptedTokens};
-ghost use Rattle.sql_grammar.specs.CutParts.{CutsPart, IsParsedBy, RefusesTokens};
+ghost use Rattle.sql_grammar.specs.CutParts.{CutsInText, IsParsedBy, RefusesTokens};
+ghost use Rattle.sql_grammar.specs.ReadParts.{begun_with, can_end_part};
+ghost use Rattle.sql_grammar.specs.WholeLines.{AreWholeLines};
 
 use crate::Detail;
+use crate::lines::whole_lines;
 use crate::parse::parse_table;
 use crate::strings::stray_strings;
 use rule_grammar::RuleGrammar;
-use sql_lexer::{ScriptLexer, TokenizeError};
+use sql_lexer::{ScriptLexer, ScriptPlace, TokenizeError};
 use sql_rules::hiding;
 use squawk_keywords::Keywords;
 use squawk_parser::{LexedStr, Output, ParseError, Token};
@@ -42,14 +45,15 @@ enum Progress {
 
 /// Reads a script, one that `psql` reads or `pg_dump` writes, a part at a time. It holds what belongs to one part.
 ///
-/// A part is whole statements, some 16 kilobytes of them, and the last one has the rest of the script. There is one at least.
+/// A part is whole statements, some 16 kilobytes of them. A script may come as several texts, one after another: what is
+/// left of one, after its last part, begins the next one. The last part of the last text has the rest of the script.
 #[derive(Drop)]
 pub struct ScriptParts<'t> {
     alloc: Global,
     text: &'t str,
+    begun: ScriptPlace,
+    is_last: bool,
     lexer: ScriptLexer<'t>,
-    /// The raw tokens of the last part.
-    tokens: Vec<Token>,
     /// How many bytes are read.
     at: usize,
     progress: Progress,
@@ -60,62 +64,79 @@ impl<'t> Model for ScriptParts<'t> {
 
     ghost Value = { Reading };
 
-    ghost view = { λ p. record { lexer = p.lexer; progress = p.progress } };
+    ghost view = { λ p. record { lexer = p.lexer; begun = p.begun; is_last = p.is_last; progress = p.progress } };
 
-    ghost invariant = { λ p. IsReading (record { lexer = p.lexer; progress = p.progress }) p.text.now p.at };
+    ghost invariant = { λ p. IsReading (record { lexer = p.lexer; begun = p.begun; is_last = p.is_last; progress = p.progress }) p.text.now p.at };
 }
 
 impl<'t> ScriptParts<'t> {
-    ghost use Rattle.std.specs.Prelude.{◌≡◌, ◌≢◌, [], ◌∷◌, ◌++◌, List, None, IfErr, IfOk, IfSome};
+    ghost use Rattle.std.specs.Prelude.{◌≡◌, ◌≢◌, true, [], ◌∷◌, ◌++◌, List, None, IfErr, IfOk, IfSome};
     ghost use Rattle.squawk_keywords.specs.declared.keywords.Keywords.{Keywords};
     ghost use Rattle.squawk_table.specs.declared.shortcuts.str_step.OwnedStep.{OwnedStep};
     ghost use Rattle.squawk_table.specs.declared.shortcuts.str_step.OwnedStep.TheVariants.{Enter, Exit};
     ghost use Rattle.squawk_tokens.specs.LexicalErrors.{LexicalError};
     ghost use Rattle.rule_grammar.specs.declared.rules.RuleGrammar.{RuleGrammar};
     ghost use Rattle.sql_lexer.specs.Tokens.{RefusesText};
+    ghost use Rattle.sql_lexer.specs.ScriptLexing.{script_place};
+    ghost use Rattle.sql_lexer.specs.declared.script.script_place.ScriptPlace.TheVariants as script;
     ghost use Rattle.sql_words.specs.SqlVocabulary.{KnowsKeywords};
     ghost use Rattle.sql_grammar.specs.CutParts.{is_over};
     ghost use Rattle.sql_grammar.specs.Kinds.{SOURCE_FILE};
-    ghost use Rattle.sql_grammar.specs.ReadParts.{HasRead, IsRefusedPart, IsScriptParse, ReadsPart};
+    ghost use Rattle.sql_grammar.specs.ReadParts.{BeginsText, HasRead, IsOver, IsRefusedPart, IsScriptParse, ReadsPart};
 
-    /// A reader at the front of a script. A text of more than `u32::MAX` bytes is refused.
-    pub fn new(alloc: Global, text: &'t str) -> Result<ScriptParts<'t>, TokenizeError>
-        ensures of_text { IfOk result (λ parts. parts.lexer.text ≡ text.now) }
-        ensures begins { IfOk result (λ parts. (vocabulary : Keywords) (rules : RuleGrammar) → KnowsKeywords vocabulary
+    /// A reader at the front of a text, which begins at this place of a script. The script ends with the last text; of any other
+    /// one what stands after the end of its last line isn't read. More than `u32::MAX` bytes are refused.
+    pub fn new(
+        alloc: Global,
+        text: &'t str,
+        place: ScriptPlace,
+        is_last: bool,
+    ) -> Result<ScriptParts<'t>, TokenizeError>
+        ensures begins { IfOk result (BeginsText text.now place is_last) }
+        ensures reads { IfOk result (λ parts. place ≡ script.Front → (vocabulary : Keywords) (rules : RuleGrammar) → KnowsKeywords vocabulary
             → HasRead vocabulary rules parts [] (Enter SOURCE_FILE ∷ [])) }
         ensures refused { IfErr result (RefusesText text.now) }
     {
+        let text = readable(text, is_last);
         Ok(ScriptParts {
             alloc,
             text,
-            lexer: ScriptLexer::new(text)?,
-            tokens: Vec::new(alloc),
+            begun: place,
+            is_last,
+            lexer: ScriptLexer::new(text, place)?,
             at: 0,
-            progress: Progress::Front,
+            progress: begun_with(place),
         })
     }
 
     /// Reads the next part, if there is one, and parses it by rules. After an error there is none.
+    ///
+    /// In a text that isn't the last one a part ends before the last line does, where a statement or a line of data ends.
     pub fn next_part(
         &mut self,
         vocabulary: &Keywords<'_>,
         rules: &RuleGrammar<'_>,
     ) -> Result<Option<ScriptPart<'t>>, ParseError>
         ensures reads { IfOk result (λ found. IfSome found (λ part. ReadsPart vocabulary.now rules.now self.old self.new part)) }
-        // After the last part what is read is the parse of the script.
-        ensures ends { IfOk result (λ found. found ≡ None → (errors : List LexicalError) (done : List OwnedStep) → HasRead vocabulary.now rules.now self.old errors done
-            → IsScriptParse vocabulary.now self.old.lexer.text errors (done ++ Exit ∷ [])) }
-        ensures refused { IfErr result (λ reason. reason ≢ ParseError.OutOfMemory → IsRefusedPart vocabulary.now self.old.lexer.text reason) }
+        ensures over { IfOk result (λ found. found ≡ None → IsOver self.old self.new) }
+        // After the last part of a script in one text what is read is the parse of the script.
+        ensures ends { IfOk result (λ found. found ≡ None → self.old.is_last ≡ true → (errors : List LexicalError) (done : List OwnedStep) → HasRead vocabulary.now rules.now self.old errors done
+            → self.old.begun ≡ script.Front → IsScriptParse vocabulary.now self.old.lexer.text errors (done ++ Exit ∷ [])) }
+        ensures refused { IfErr result (λ reason. reason ≢ ParseError.OutOfMemory → IsRefusedPart vocabulary.now self.old reason) }
     {
         if self.is_over() {
             return Ok(None);
         }
+        let begun = self.progress;
         self.progress = Progress::Failed;
-        cut_part(&mut self.lexer, &mut self.tokens)?;
+        let Some(tokens) = cut_part(self.alloc, &mut self.lexer, self.is_last)? else {
+            self.progress = begun;
+            return Ok(None);
+        };
         let start = self.at;
-        let end = start + bytes_of(&self.tokens);
+        let end = start + bytes_of(&tokens);
         let text = &self.text[start..end];
-        let (table, output) = parse_tokens(self.alloc, text, &self.tokens, vocabulary, rules)?;
+        let (table, output) = parse_tokens(self.alloc, text, tokens, vocabulary, rules)?;
         self.at = end;
         self.progress = Progress::Inside;
         Ok(Some(ScriptPart {
@@ -123,6 +144,21 @@ impl<'t> ScriptParts<'t> {
             table,
             output,
         }))
+    }
+
+    /// How many bytes are read.
+    pub fn position(&self) -> usize
+        ensures { self.now.progress ≢ Progress.Failed → result ≡ self.now.lexer.at }
+    {
+        self.at
+    }
+
+    /// Where the script stands after what is read, if another text may begin there, as it may after the last part of a text that
+    /// isn't the last one.
+    pub fn place(&self) -> Option<ScriptPlace>
+        ensures { result ≡ script_place self.now.lexer.place }
+    {
+        self.lexer.place()
     }
 
     /// Whether there is no other part.
@@ -137,16 +173,59 @@ impl<'t> ScriptParts<'t> {
     }
 }
 
-/// Cuts statements up to a part's last one, in place of the tokens in a list.
-fn cut_part(lexer: &mut ScriptLexer<'_>, tokens: &mut Vec<Token>) -> Result<(), AllocError>
-    ensures text { lexer.new.text ≡ lexer.old.text }
-    ensures cuts { OnOk result (CutsPart lexer.old lexer.new tokens.new.items) }
+/// What is read of a text: where others follow, its lines that end.
+fn readable(text: &str, is_last: bool) -> &str
+    ensures all { is_last ≡ true → result.now ≡ text.now }
+    ensures lines { is_last ≡ false → AreWholeLines text.now result.now }
 {
-    tokens.clear();
-    while tokens.len() < TOKENS_IN_PART && !lexer.is_at_end() {
-        lexer.next_statement(tokens)?;
+    if is_last {
+        return text;
     }
-    Ok(())
+    let end = whole_lines(text.as_bytes()).len();
+    &text[..end]
+}
+
+/// What is read of a script where a text begins.
+fn begun_with(place: ScriptPlace) -> Progress
+    ensures { result ≡ begun_with place }
+{
+    match place {
+        ScriptPlace::Front => Progress::Front,
+        ScriptPlace::Inside { .. } => Progress::Inside,
+    }
+}
+
+/// Cuts statements up to a part's last one. None are cut where the script goes on in another text, and no part ends in this one.
+fn cut_part(
+    alloc: Global,
+    lexer: &mut ScriptLexer<'_>,
+    is_last: bool,
+) -> Result<Option<Vec<Token>>, AllocError>
+    ensures text { lexer.new.text ≡ lexer.old.text }
+    ensures cuts { IfOk result (λ tokens. CutsInText is_last lexer.old lexer.new tokens) }
+{
+    let mut tokens = Vec::with_capacity(alloc, TOKENS_IN_PART)?;
+    let mut cut = lexer.fork();
+    let mut count = 0;
+    while count < TOKENS_IN_PART && !cut.is_at_end() {
+        cut.next_statement(&mut tokens)?;
+        if is_last || can_end_part(&cut) {
+            *lexer = cut.fork();
+            count = tokens.len();
+        }
+    }
+    if count == 0 && !is_last {
+        return Ok(None);
+    }
+    tokens.truncate(count);
+    Ok(Some(tokens))
+}
+
+/// Whether a part can end here that another text follows: some of the text is left, and the script can go on here.
+fn can_end_part(lexer: &ScriptLexer<'_>) -> bool
+    ensures { result ≡ can_end_part lexer.now }
+{
+    !lexer.is_at_end() && lexer.place().is_some()
 }
 
 /// How many bytes tokens have.
@@ -161,23 +240,24 @@ fn bytes_of(tokens: &[Token]) -> usize
     bytes
 }
 
-/// Parses a text by rules that hide its stray strings. The tokens are all of it.
+/// Parses a text by rules that hide its stray strings. The tokens are all of it, and their list is freed before the parse.
 fn parse_tokens<'t>(
     alloc: Global,
     text: &'t str,
-    tokens: &[Token],
+    tokens: Vec<Token>,
     vocabulary: &Keywords<'_>,
     rules: &RuleGrammar<'_>,
 ) -> Result<(LexedStr<'t>, Output), ParseError>
-    requires { AreAcceptedTokens text.now tokens.now }
-    ensures table { IfOk result (λ both. both.0 ≡ table_of (keyword_of vocabulary.now) text.now tokens.now) }
+    requires { AreAcceptedTokens text.now tokens.items }
+    ensures table { IfOk result (λ both. both.0 ≡ table_of (keyword_of vocabulary.now) text.now tokens.items) }
     ensures is_table { IfOk result (λ both. IsTable both.0) }
     ensures fits { IfOk result (λ both. Fits both.0 both.1.steps) }
-    ensures parsed { IfOk result (λ both. IsParsedBy rules.now vocabulary.now text.now tokens.now both.0 both.1.steps) }
-    ensures refused { IfErr result (λ reason. reason ≢ ParseError.OutOfMemory → RefusesTokens vocabulary.now text.now tokens.now reason) }
+    ensures parsed { IfOk result (λ both. IsParsedBy rules.now vocabulary.now text.now tokens.items both.0 both.1.steps) }
+    ensures refused { IfErr result (λ reason. reason ≢ ParseError.OutOfMemory → RefusesTokens vocabulary.now text.now tokens.items reason) }
 {
-    let table = LexedStr::from_accepted(alloc, text, tokens, vocabulary)?;
-    let strays = stray_strings(alloc, text, tokens)?;
+    let table = LexedStr::from_accepted(alloc, text, &tokens, vocabulary)?;
+    let strays = stray_strings(alloc, text, &tokens)?;
+    drop(tokens);
     let rules = hiding(rules, &strays);
     let output = parse_table(alloc, &table, vocabulary, Detail::Nodes(&rules))?;
     // The proof reads that it is a table.

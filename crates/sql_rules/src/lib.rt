@@ -25,10 +25,7 @@ pub fn rules<'r>() -> RuleGrammar<'r> {
 /// `sql_grammar` tells them.
 pub fn hiding<'r: 'h, 'h>(rules: &RuleGrammar<'r>, hidden: &'h [bool]) -> RuleGrammar<'h>
     ensures tokens { result.table.hidden.tokens.now ≡ hidden.now }
-    ensures rows { result.table.rows.now ≡ rules.now.table.rows.now }
-    ensures sets { result.table.sets.now ≡ rules.now.table.sets.now }
-    ensures start { result.start ≡ rules.now.start }
-    ensures end { result.end ≡ rules.now.end }
+    ensures same { result ≡ record rules.now { table = record rules.now.table { hidden = result.table.hidden } } }
 {
     RuleGrammar {
         table: Table {

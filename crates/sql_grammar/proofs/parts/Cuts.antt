@@ -1,5 +1,5 @@
 -- Statements that are cut one after another end a part.
-use Rattle.std.proofs.Common.{◌≡◌, ◌∙◌, ℕ, ◌+◌, ◌<◌, ◌≤◌, Bool, true, false, List, [], ◌∷◌, ◌++◌, length, if◌then◌else◌, append_assoc, arith, ap, sym, subst, refl}
+use Rattle.std.proofs.Common.{◌≡◌, ◌∙◌, ℕ, zero, suc, ◌+◌, ◌<◌, ◌≤◌, Bool, true, false, List, [], ◌∷◌, ◌++◌, length, if◌then◌else◌, append_assoc, arith, ap, sym, subst, refl}
 use Rattle.std.specs.Prelude.{slice_range}
 use Rattle.std.specs.List.{list_all}
 use Rattle.std.specs.Str.{str_eq_ignore_ascii_case}
@@ -15,7 +15,7 @@ use Rattle.squawk_table.specs.ParserInput.{input_of, kinds_in}
 use Rattle.squawk_table.specs.RawTable.{kinds_from}
 use Rattle.squawk_table.specs.TokenKinds.{kind_of}
 use Rattle.sql_lexer.specs.ScriptEnds.{is_passed_over, statement_at, words_from}
-use Rattle.sql_lexer.specs.ScriptLexing.{Cuts, EndsLast, Lexing, next_statement, tokens_left}
+use Rattle.sql_lexer.specs.ScriptLexing.{Cuts, EndsLast, Lexing, after_statement, after_statements, next_statement, tokens_left}
 use Rattle.sql_lexer.specs.ScriptWords as by_text
 use Rattle.sql_lexer.specs.Statements.{after, ends_with}
 use Rattle.sql_lexer.specs.declared.statements.Statement.{Statement}
@@ -23,7 +23,7 @@ use Rattle.sql_lexer.specs.declared.statements.Statement.TheVariants.{Start}
 use Rattle.sql_lexer.specs.declared.statements.Word.{Word}
 use Rattle.sql_lexer.specs.declared.statements.Word.TheVariants.{Command, CopyCommand, QueryEnd, Semicolon, Trivia}
 use Rattle.sql_words.specs.SqlKinds.{keyword_kinds}
-use Rattle.sql_grammar.specs.CutParts.{CutsPart, LastEnds}
+use Rattle.sql_grammar.specs.CutParts.{CutsStatements, LastEnds}
 use Rattle.sql_grammar.specs.Parts.{EndsWithStatement, Part, is_sign, last_ends, table_by}
 use Rattle.sql_grammar.specs.Words.{word_of}
 use Rattle.sql_grammar.proofs.parts.Law.{joined}
@@ -53,34 +53,73 @@ ends-append statement (x ∷ next ∷ xs) ys e f = ends-append (after statement 
 
 -- ---- what is cut
 
--- one statement
-pub cuts_one : (old new : Lexing) (tokens : List Token) → Cuts old new [] tokens → CutsPart old new tokens
-cuts_one old new tokens cuts =
-    subst (CutsPart old new) (sym cuts.tokens)
-    (record { left = cuts.left; at = cuts.at; goes_on = cuts.goes_on; begins = cuts.begins; ends = λ lt. one_statement (statement_at old.place) (words_from old.text old.at (next_statement old)) (cuts.ends lt) })
+pub cuts_none : (l : Lexing) → CutsStatements 0 l l []
+cuts_none l = record {
+  after = refl;
+  left = refl;
+  at = omega arith;
+  none = λ e. refl;
+  goes_on = λ lt. absurd (omega (arith, lt));
+  begins = λ lt. absurd (omega (arith, lt));
+  ends = λ lt. absurd (omega (arith, lt));
+}
 
--- and another one
-pub cuts_more : (old mid new : Lexing) (cut tokens : List Token) → mid.text ≡ old.text → CutsPart old mid cut → Cuts mid new cut tokens → CutsPart old new tokens
-cuts_more old mid new cut tokens same before cuts =
-    let next = next_statement mid in
-    let within : new.at < length old.text → new.at < length mid.text = λ lt. omega (arith, lt, ap length same) in
-    subst (CutsPart old new) (sym cuts.tokens)
-    (record {
-      left = before.left ∙ (ap (λ ts. cut ++ ts) cuts.left ∙ sym (append_assoc cut next (tokens_left new)));
-      at = omega (arith, before.at, cuts.at, sum_by-append (λ (t : Token). t.len) cut next);
-      goes_on = λ lt. omega (arith, before.goes_on lt, cuts.at);
-      begins = λ lt. cuts.begins (within lt);
-      ends = λ lt.
-          let lt_mid : mid.at < length old.text = omega (arith, lt, cuts.at) in
-          let start : statement_at mid.place ≡ Start = starts (statement_at mid.place) (before.begins lt_mid) in
-          let here : LastEnds (statement_at mid.place) (words_from mid.text mid.at next) = one_statement (statement_at mid.place) (words_from mid.text mid.at next) (cuts.ends (within lt)) in
-          let there : LastEnds Start (words_from old.text (old.at + bytes cut) next) =
-          subst (λ s. LastEnds s (words_from old.text (old.at + bytes cut) next)) start
-          (subst (λ n. LastEnds (statement_at mid.place) (words_from old.text n next)) before.at
-          (subst (λ text. LastEnds (statement_at mid.place) (words_from text mid.at next)) same here)) in
-          subst (LastEnds (statement_at old.place)) (sym (words-append old.text old.at cut next))
-          (ends-append (statement_at old.place) (words_from old.text old.at cut) (words_from old.text (old.at + bytes cut) next) (before.ends lt_mid) there);
-    })
+-- a statement more
+after_next : (old mid new : Lexing) (count : ℕ) (cut tokens : List Token) → new.text ≡ mid.text → mid ≡ after_statements count old → Cuts mid new cut tokens
+    → new ≡ after_statements (suc count) old
+after_next old mid new count cut tokens same is cuts =
+    ap (λ text. record { text = text; at = new.at; place = new.place }) same
+    ∙ (ap (λ n. record { text = mid.text; at = n; place = new.place }) cuts.at
+    ∙ (ap (λ place. record { text = mid.text; at = mid.at + bytes (next_statement mid); place = place }) cuts.place ∙ ap after_statement is))
+
+module _ (old mid new : Lexing) (cut tokens : List Token) (same : mid.text ≡ old.text) (cuts : Cuts mid new cut tokens) where
+  abbrev next : List Token
+  next = next_statement mid
+
+  within : new.at < length old.text → new.at < length mid.text
+  within lt = omega (arith, lt, ap length same)
+
+  -- the first one
+  first_ends : mid ≡ old → cut ≡ [] → new.at < length old.text → LastEnds (statement_at old.place) (words_from old.text old.at tokens)
+  first_ends is none lt =
+      subst (λ ts. LastEnds (statement_at old.place) (words_from old.text old.at ts)) (sym (cuts.tokens ∙ ap (λ ts. ts ++ next) none))
+      (subst (λ l. LastEnds (statement_at l.place) (words_from l.text l.at next)) is (one_statement (statement_at mid.place) (words_from mid.text mid.at next) (cuts.ends (within lt))))
+
+  more_ends : (count : ℕ) → 0 < count → CutsStatements count old mid cut → new.at < length old.text → LastEnds (statement_at old.place) (words_from old.text old.at tokens)
+  more_ends count some before lt =
+      let lt_mid : mid.at < length old.text = omega (arith, lt, cuts.at) in
+      let start : statement_at mid.place ≡ Start = starts (statement_at mid.place) (before.begins some lt_mid) in
+      let here : LastEnds (statement_at mid.place) (words_from mid.text mid.at next) = one_statement (statement_at mid.place) (words_from mid.text mid.at next) (cuts.ends (within lt)) in
+      let there : LastEnds Start (words_from old.text (old.at + bytes cut) next) =
+      subst (λ s. LastEnds s (words_from old.text (old.at + bytes cut) next)) start
+      (subst (λ n. LastEnds (statement_at mid.place) (words_from old.text n next)) before.at
+      (subst (λ text. LastEnds (statement_at mid.place) (words_from text mid.at next)) same here)) in
+      subst (λ ts. LastEnds (statement_at old.place) (words_from old.text old.at ts)) (sym cuts.tokens)
+      (subst (LastEnds (statement_at old.place)) (sym (words-append old.text old.at cut next))
+      (ends-append (statement_at old.place) (words_from old.text old.at cut) (words_from old.text (old.at + bytes cut) next) (before.ends some lt_mid) there))
+
+  ends_by : (count : ℕ) → CutsStatements count old mid cut → new.at < length old.text → LastEnds (statement_at old.place) (words_from old.text old.at tokens)
+  ends_by zero before = first_ends before.after (before.none refl)
+  ends_by (suc n) before = more_ends (suc n) (omega arith) before
+
+  on_by : (count : ℕ) → CutsStatements count old mid cut → old.at < length old.text → old.at < new.at
+  on_by zero before lt =
+      let at : mid.at ≡ old.at = ap (λ (l : Lexing). l.at) before.after in
+      omega (arith, at, cuts.goes_on (omega (arith, lt, at, ap length same)))
+  on_by (suc n) before lt = omega (arith, before.goes_on (omega arith) lt, cuts.at)
+
+  pub cuts_next : (count : ℕ) → new.text ≡ mid.text → CutsStatements count old mid cut → CutsStatements (suc count) old new tokens
+  cuts_next count text before = record {
+    after = after_next old mid new count cut tokens text before.after cuts;
+    left = before.left
+        ∙ (ap (λ ts. cut ++ ts) cuts.left
+        ∙ (sym (append_assoc cut next (tokens_left new)) ∙ ap (λ ts. ts ++ tokens_left new) (sym cuts.tokens)));
+    at = omega (arith, before.at, cuts.at, sum_by-append (λ (t : Token). t.len) cut next, ap bytes cuts.tokens);
+    none = λ e. absurd (omega (arith, e));
+    goes_on = λ some. on_by count before;
+    begins = λ some lt. cuts.begins (within lt);
+    ends = λ some. ends_by count before;
+  }
 
 -- ---- the last token
 

@@ -22,14 +22,13 @@ use Rattle.squawk_tokens.proofs.StandApart.{stand_apart}
 use Rattle.rule_grammar.specs.declared.rules.RuleGrammar.{RuleGrammar}
 use Rattle.sql_lexer.specs.ScriptEnds.{statement_at, words_from}
 use Rattle.sql_lexer.specs.ScriptLexing.{Lexing, tokens_left}
-use Rattle.sql_lexer.specs.Scripts.{script_tokens}
 use Rattle.sql_lexer.specs.declared.statements.Statement.TheVariants.{Start}
 use Rattle.sql_words.specs.SqlVocabulary.{KnowsKeywords}
-use Rattle.sql_grammar.specs.CutParts.{CutsPart, IsParsedBy, LastEnds}
+use Rattle.sql_grammar.specs.CutParts.{CutsPart, CutsStatements, IsParsedBy, LastEnds}
 use Rattle.sql_grammar.specs.Kinds.{SOURCE_FILE}
 use Rattle.sql_grammar.specs.Parses.{AreOfFile}
 use Rattle.sql_grammar.specs.Parts.{EndsWithStatement, IsParsedPart, Part, moved_by, steps_of, table_by}
-use Rattle.sql_grammar.specs.ReadParts.{HasReadNothing, HasReadPart, Reading, StandsInScript}
+use Rattle.sql_grammar.specs.ReadParts.{HasReadNothing, HasReadPart, Reading, StandsInText, tokens_at}
 use Rattle.sql_grammar.specs.declared.Detail.TheVariants.{Nodes}
 use Rattle.sql_grammar.specs.declared.script_parts.Progress.TheVariants.{Inside}
 use Rattle.sql_grammar.proofs.parts.Law.{IsWhole, joined}
@@ -62,11 +61,14 @@ shifted-none (error ∷ errors) =
 
 -- ---- its parse
 
-module _ (vocabulary : Keywords) (rules : RuleGrammar) (old : Reading) (l : Lexing) (same_text : l.text ≡ old.lexer.text) (stands : StandsInScript old.lexer) (utf8 : IsUtf8 old.lexer.text) (cut : List Token)
-    (cuts : CutsPart old.lexer l cut) (steps : List Step)
-    (table : IsTable (table_of (keyword_of vocabulary) (here old.lexer l same_text stands utf8 cut cuts) cut))
-    (fits : Fits (table_of (keyword_of vocabulary) (here old.lexer l same_text stands utf8 cut cuts) cut) steps)
-    (parsed : IsParsedBy rules vocabulary (here old.lexer l same_text stands utf8 cut cuts) cut (table_of (keyword_of vocabulary) (here old.lexer l same_text stands utf8 cut cuts) cut) steps) where
+module _ (vocabulary : Keywords) (rules : RuleGrammar) (old : Reading) (l : Lexing) (same_text : l.text ≡ old.lexer.text) (stands : StandsInText old.begun old.lexer) (utf8 : IsUtf8 old.lexer.text) (cut : List Token)
+    (part : CutsPart old.lexer l cut) (steps : List Step)
+    (table : IsTable (table_of (keyword_of vocabulary) (here old.begun old.lexer l same_text stands utf8 cut part) cut))
+    (fits : Fits (table_of (keyword_of vocabulary) (here old.begun old.lexer l same_text stands utf8 cut part) cut) steps)
+    (parsed : IsParsedBy rules vocabulary (here old.begun old.lexer l same_text stands utf8 cut part) cut (table_of (keyword_of vocabulary) (here old.begun old.lexer l same_text stands utf8 cut part) cut) steps) where
+  abbrev cuts : CutsStatements part.count old.lexer l cut
+  cuts = part.cuts
+
   abbrev text : List ℕ
   text = old.lexer.text
 
@@ -74,10 +76,10 @@ module _ (vocabulary : Keywords) (rules : RuleGrammar) (old : Reading) (l : Lexi
   from = old.lexer.at
 
   abbrev piece : List ℕ
-  piece = here old.lexer l same_text stands utf8 cut cuts
+  piece = here old.begun old.lexer l same_text stands utf8 cut part
 
   abbrev new : Reading
-  new = record { lexer = l; progress = Inside }
+  new = record { lexer = l; begun = old.begun; is_last = old.is_last; progress = Inside }
 
   abbrev q : Part
   q = record { text = piece; tokens = cut; nodes = parsed.file.file.nodes }
@@ -90,7 +92,7 @@ module _ (vocabulary : Keywords) (rules : RuleGrammar) (old : Reading) (l : Lexi
 
   pub q_parsed : IsParsedPart parsed.by (keyword_of vocabulary) (contextual_keyword_of vocabulary) q
   q_parsed = record {
-    whole = sym (here_length old.lexer l same_text stands utf8 cut cuts);
+    whole = sym (here_length old.begun old.lexer l same_text stands utf8 cut part);
     table = table;
     fits = subst (Fits q_table) steps_are fits;
     file = subst (AreOfFile (Nodes parsed.by) (contextual_keyword_of vocabulary) q_table) steps_are parsed.file;
@@ -108,7 +110,7 @@ module _ (vocabulary : Keywords) (rules : RuleGrammar) (old : Reading) (l : Lexi
   sent_q = root_is parsed.by (keyword_of vocabulary) (contextual_keyword_of vocabulary) q q_parsed
 
   bytes_all : bytes cut ≡ length piece
-  bytes_all = sym (here_length old.lexer l same_text stands utf8 cut cuts)
+  bytes_all = sym (here_length old.begun old.lexer l same_text stands utf8 cut part)
 
   -- where the text goes on, it ends with a statement
   q_ends : KnowsKeywords vocabulary → from < length text → l.at < length text → EndsWithStatement (keyword_of vocabulary) (contextual_keyword_of vocabulary) q
@@ -116,10 +118,10 @@ module _ (vocabulary : Keywords) (rules : RuleGrammar) (old : Reading) (l : Lexi
       let rest = drop (bytes cut) (drop from text) in
       let start : statement_at old.lexer.place ≡ Start = starts (statement_at old.lexer.place) (stands.starts left) in
       let count : from ≡ length (take from text) + 0 = omega (arith, length-take from text, left) in
-      let words : LastEnds Start (words_from text from cut) = subst (λ s. LastEnds s (words_from text from cut)) start (cuts.ends goes_on) in
+      let words : LastEnds Start (words_from text from cut) = subst (λ s. LastEnds s (words_from text from cut)) start (cuts.ends (part.some left) goes_on) in
       part_ends (keyword_of vocabulary) (contextual_keyword_of vocabulary) knows.keyword (take from text) piece rest cut q refl refl (omega (arith, bytes_all))
       (subst (λ n. LastEnds Start (words_from (take from text ++ (piece ++ rest)) n cut)) count
-      (subst (λ xs. LastEnds Start (words_from xs from cut)) (between old.lexer l same_text stands utf8 cut cuts) words))
+      (subst (λ xs. LastEnds Start (words_from xs from cut)) (between old.begun old.lexer l same_text stands utf8 cut part) words))
 
   -- ---- the first part
 
@@ -139,7 +141,7 @@ module _ (vocabulary : Keywords) (rules : RuleGrammar) (old : Reading) (l : Lexi
       same = parsed.same;
       parsed = q_parsed;
       text = q_front;
-      tokens = ap script_tokens same_text ∙ (ap tokens_left (sym nothing.front) ∙ cuts.left);
+      tokens = ap (tokens_at old.begun) same_text ∙ (ap tokens_left (sym nothing.front) ∙ cuts.left);
       ends = λ lt.
           let goes_on : l.at < length text = omega (arith, lt, ap length same_text) in
           q_ends knows (omega (arith, goes_on, cuts.at)) goes_on;
@@ -172,9 +174,9 @@ module _ (vocabulary : Keywords) (rules : RuleGrammar) (old : Reading) (l : Lexi
 
     both_text : both.text ≡ take l.at text
     both_text =
-        ap (λ xs. xs ++ piece) before.text ∙ (sym (up_to old.lexer l same_text stands utf8 cut cuts) ∙ ap (λ n. take n text) (sym cuts.at))
+        ap (λ xs. xs ++ piece) before.text ∙ (sym (up_to old.begun old.lexer l same_text stands utf8 cut part) ∙ ap (λ n. take n text) (sym cuts.at))
 
-    both_tokens : script_tokens text ≡ both.tokens ++ tokens_left l
+    both_tokens : tokens_at old.begun text ≡ both.tokens ++ tokens_left l
     both_tokens = before.tokens ∙ (ap (λ ts. p.tokens ++ ts) cuts.left ∙ sym (append_assoc p.tokens cut (tokens_left l)))
 
     both_bytes : bytes both.tokens ≡ l.at
@@ -228,7 +230,7 @@ module _ (vocabulary : Keywords) (rules : RuleGrammar) (old : Reading) (l : Lexi
       same = record { rows = before.same.rows; sets = before.same.sets; start = before.same.start; end = before.same.end };
       parsed = whole.parsed;
       text = both_text ∙ ap (take l.at) (sym same_text);
-      tokens = ap script_tokens same_text ∙ both_tokens;
+      tokens = ap (tokens_at old.begun) same_text ∙ both_tokens;
       ends = λ lt.
           joined_ends (keyword_of vocabulary) (contextual_keyword_of vocabulary) knows.keyword p q before.parsed.whole p_ends
           (q_ends knows left (omega (arith, lt, ap length same_text)));

@@ -1,9 +1,9 @@
 -- The parts of a script, and all of them.
-use Rattle.std.proofs.Common.{◌≡◌, ◌≢◌, ◌∙◌, ℕ, ◌+◌, ◌-◌, ◌<◌, ◌≤◌, false, true, nat_le, List, [], ◌∷◌, ◌++◌, length, map, arith, ap, sym, subst, refl, length-take}
-use Rattle.std.specs.Prelude.{All, IsUtf8, encode_utf8_all}
+use Rattle.std.proofs.Common.{◌≡◌, ◌≢◌, ◌∙◌, ℕ, ◌+◌, ◌-◌, ◌<◌, ◌≤◌, Bool, false, true, nat_le, nat_lt, is_some, List, [], ◌∷◌, ◌++◌, length, map, arith, ap, sym, subst, refl, length-take}
+use Rattle.std.specs.Prelude.{All, IsUtf8, encode_utf8_all, slice_range}
 use Rattle.std.specs.Str.{chars}
 use Rattle.std.proofs.lemmas.List.{append-nil, drop_all, take_all}
-use Rattle.std.proofs.lemmas.Bool.{false≢true, leb-false, leb-true}
+use Rattle.std.proofs.lemmas.Bool.{and_parts, false≢true, leb-false, leb-true, ltb-true}
 use Rattle.std.proofs.lemmas.Grind.{flat_map-append}
 use Rattle.std.proofs.lemmas.Str.{encodes-chars}
 use Rattle.squawk_keywords.specs.KeywordAnswers.{contextual_keyword_of, keyword_of}
@@ -18,19 +18,22 @@ use Rattle.squawk_table.proofs.SourceChars.{bytes_of-texts}
 use Rattle.squawk_tokens.specs.LexicalErrors.{LexicalError, shifted}
 use Rattle.squawk_tokens.specs.declared.token.Token.{Token}
 use Rattle.rule_grammar.specs.declared.rules.RuleGrammar.{RuleGrammar}
-use Rattle.sql_lexer.specs.ScriptLexing.{Lexing, tokens_left}
+use Rattle.sql_lexer.specs.Lines.{EndsLine}
+use Rattle.sql_lexer.specs.ScriptLexing.{Lexing, longer, script_place, tokens_left}
+use Rattle.sql_lexer.specs.declared.script.script_place.ScriptPlace.TheVariants as script
 use Rattle.sql_lexer.specs.Scripts.{place_behind, script_tokens, token_at}
 use Rattle.sql_lexer.specs.Tokens.{tokens_by}
 use Rattle.sql_words.specs.SqlVocabulary.{KnowsKeywords}
-use Rattle.sql_grammar.specs.CutParts.{CutsPart, IsParsedBy, is_over, is_over_at}
+use Rattle.sql_grammar.specs.CutParts.{CutsInScript, CutsStatements, IsParsedBy, is_over, is_over_at}
 use Rattle.sql_grammar.specs.Parses.{AreOfFile}
 use Rattle.sql_grammar.specs.Parts.{moved_by, steps_of, table_by}
-use Rattle.sql_grammar.specs.ReadParts.{AreBefore, HasRead, HasReadPart, IsScriptParse, ReadSoFar, Reading, ReadsPart, StandsInScript, at_front, script_table}
+use Rattle.sql_grammar.specs.ReadParts.{AreBefore, HasRead, HasReadPart, IsOfStatements, IsScriptParse, NoneEnds, NoneLeft, ReadSoFar, Reading, ReadsPart, StandsInText, at_front, script_table, tokens_at}
 use Rattle.sql_grammar.specs.StrayStrings.{stray_strings}
 use Rattle.sql_grammar.specs.declared.Detail.TheVariants.{Nodes}
 use Rattle.sql_grammar.specs.declared.script_parts.Progress.{Progress}
 use Rattle.sql_grammar.specs.declared.script_parts.Progress.TheVariants.{Front, Inside, Failed}
 use Rattle.sql_grammar.specs.declared.script_parts.ScriptPart.{ScriptPart}
+use Rattle.sql_grammar.proofs.parts.CutLoop.{none_at_end}
 use Rattle.sql_grammar.proofs.parts.Roots.{lexical_below, sent_below, whole_sent}
 use Rattle.sql_grammar.proofs.parts.Here.{here, here_length, here_within}
 use Rattle.sql_grammar.proofs.parts.NextPart.{inner, inner_is, first_read, next_read}
@@ -60,11 +63,11 @@ module _ (vocabulary : Keywords) (rules : RuleGrammar) (r : Reading) (knows : Kn
 
   -- ---- all of the script
 
-  pub all_read : length r.lexer.text ≤ r.lexer.at → tokens_left r.lexer ≡ [] → IsScriptParse vocabulary r.lexer.text errors (done ++ sent.Exit ∷ [])
-  all_read end none =
+  pub all_read : r.begun ≡ script.Front → length r.lexer.text ≤ r.lexer.at → tokens_left r.lexer ≡ [] → IsScriptParse vocabulary r.lexer.text errors (done ++ sent.Exit ∷ [])
+  all_read front end none =
       let p = read.part in
       let text_is : p.text ≡ r.lexer.text = read.text ∙ take_all r.lexer.at r.lexer.text end in
-      let tokens_are : p.tokens ≡ script_tokens r.lexer.text = sym (append-nil p.tokens) ∙ (ap (λ ts. p.tokens ++ ts) (sym none) ∙ sym read.tokens) in
+      let tokens_are : p.tokens ≡ script_tokens r.lexer.text = sym (append-nil p.tokens) ∙ (ap (λ ts. p.tokens ++ ts) (sym none) ∙ (sym read.tokens ∙ ap (λ place. tokens_at place r.lexer.text) front)) in
       let same : table_by (keyword_of vocabulary) p ≡ script_table vocabulary r.lexer.text =
       ap (λ text. table_of (keyword_of vocabulary) text p.tokens) text_is ∙ ap (table_of (keyword_of vocabulary) r.lexer.text) tokens_are in
       let strays : stray_strings p.text p.tokens ≡ stray_strings r.lexer.text (script_tokens r.lexer.text) = ap (λ text. stray_strings text p.tokens) text_is ∙ ap (stray_strings r.lexer.text) tokens_are in
@@ -86,13 +89,13 @@ module _ (vocabulary : Keywords) (rules : RuleGrammar) (r : Reading) (knows : Kn
 past_end : (l : Lexing) → nat_le (length l.text) l.at ≡ false → l.at < length l.text
 past_end l e = omega (arith, leb-false (length l.text) l.at e)
 
-module _ (vocabulary : Keywords) (rules : RuleGrammar) (old : Reading) (l : Lexing) (same_text : l.text ≡ old.lexer.text) (stands : StandsInScript old.lexer)
-    (cut : List Token) (cuts : CutsPart old.lexer l cut) (part : ScriptPart) (start : part.start ≡ old.lexer.at)
-    (of_part : part.table ≡ table_of (keyword_of vocabulary) (here old.lexer l same_text stands stands.utf8 cut cuts) cut)
+module _ (vocabulary : Keywords) (rules : RuleGrammar) (old : Reading) (l : Lexing) (same_text : l.text ≡ old.lexer.text) (stands : StandsInText old.begun old.lexer)
+    (cut : List Token) (in_script : CutsInScript old.is_last old.lexer l cut) (lines : old.is_last ≡ false → 0 < length old.lexer.text → EndsLine old.lexer.text) (part : ScriptPart) (start : part.start ≡ old.lexer.at)
+    (of_part : part.table ≡ table_of (keyword_of vocabulary) (here old.begun old.lexer l same_text stands stands.utf8 cut in_script.part) cut)
     (table : IsTable part.table) (fits : Fits part.table part.output.steps)
-    (parsed : IsParsedBy rules vocabulary (here old.lexer l same_text stands stands.utf8 cut cuts) cut part.table part.output.steps) (goes_on : is_over old ≡ false) where
+    (parsed : IsParsedBy rules vocabulary (here old.begun old.lexer l same_text stands stands.utf8 cut in_script.part) cut part.table part.output.steps) (goes_on : is_over old ≡ false) where
   abbrev part_text : List ℕ
-  part_text = here old.lexer l same_text stands stands.utf8 cut cuts
+  part_text = here old.begun old.lexer l same_text stands stands.utf8 cut in_script.part
 
   abbrev part_table : Table
   part_table = table_of (keyword_of vocabulary) part_text cut
@@ -109,17 +112,20 @@ module _ (vocabulary : Keywords) (rules : RuleGrammar) (old : Reading) (l : Lexi
   parsed_table : IsParsedBy rules vocabulary part_text cut part_table part_steps
   parsed_table = subst (λ t. IsParsedBy rules vocabulary part_text cut t part_steps) of_part parsed
 
+  abbrev cuts : CutsStatements in_script.part.count old.lexer l cut
+  cuts = in_script.part.cuts
+
   abbrev next : Reading
-  next = record { lexer = l; progress = Inside }
+  next = record { lexer = l; begun = old.begun; is_last = old.is_last; progress = Inside }
 
   abbrev sent_inner : List OwnedStep
-  sent_inner = inner vocabulary rules old l same_text stands stands.utf8 cut cuts part_steps is_table fits_table parsed_table
+  sent_inner = inner vocabulary rules old l same_text stands stands.utf8 cut in_script.part part_steps is_table fits_table parsed_table
 
   goes : (p : Progress) → is_over_at p old.lexer ≡ false → KnowsKeywords vocabulary → (errors : List LexicalError) (done : List OwnedStep) → ReadSoFar p vocabulary rules old errors done
       → HasReadPart vocabulary rules next (errors ++ map (shifted old.lexer.at) part_table.errors) (done ++ map (moved_by old.lexer.at) sent_inner)
-  goes Front on knows errors done read = first_read vocabulary rules old l same_text stands stands.utf8 cut cuts part_steps is_table fits_table parsed_table knows errors done read
+  goes Front on knows errors done read = first_read vocabulary rules old l same_text stands stands.utf8 cut in_script.part part_steps is_table fits_table parsed_table knows errors done read
   goes Inside on knows errors done read =
-      next_read vocabulary rules old l same_text stands stands.utf8 cut cuts part_steps is_table fits_table parsed_table knows errors done read (past_end old.lexer on)
+      next_read vocabulary rules old l same_text stands stands.utf8 cut in_script.part part_steps is_table fits_table parsed_table knows errors done read (past_end old.lexer on)
   goes Failed on knows errors done read = absurd read
 
   stood : (p : Progress) → is_over_at p old.lexer ≡ false → KnowsKeywords vocabulary → (errors : List LexicalError) (done : List OwnedStep) → ReadSoFar p vocabulary rules old errors done
@@ -136,24 +142,56 @@ module _ (vocabulary : Keywords) (rules : RuleGrammar) (old : Reading) (l : Lexi
   goes_down Front on = omega (arith, ap length same_text, cuts.at)
   goes_down Inside on =
       let lt = past_end old.lexer on in
-      omega (arith, ap length same_text, lt, cuts.goes_on lt)
+      omega (arith, ap length same_text, lt, cuts.goes_on (in_script.part.some lt) lt)
   goes_down Failed on = absurd (false≢true (sym on))
+
+  -- with no other text
+  alone : (rest : List ℕ) (m : Lexing) → rest ≡ [] → tokens_left (longer rest m) ≡ tokens_left m
+  alone rest m none = ap (λ xs. tokens_left (longer xs m)) none ∙ ap (λ text. tokens_left (record m { text = text })) (append-nil m.text)
+
+  cut_with : (b : Bool) → old.is_last ≡ b → (rest : List ℕ) → (old.is_last ≡ true → rest ≡ []) → tokens_left (longer rest old.lexer) ≡ cut ++ tokens_left (longer rest l)
+  cut_with true last rest none =
+      alone rest old.lexer (none last) ∙ (cuts.left ∙ ap (λ ts. cut ++ ts) (sym (alone rest l (none last))))
+  cut_with false goes rest none =
+      let left = in_script.ends goes in
+      in_script.longer goes (lines goes (omega (arith, ltb-true l.at (length l.text) (and_parts (nat_lt l.at (length l.text)) (is_some (script_place l.place)) left).0, ap length same_text))) rest
+
+  slice_is : part.table ≡ table_of (keyword_of vocabulary) (slice_range old.lexer.text old.lexer.at l.at) cut
+  slice_is = of_part ∙ ap (λ n. table_of (keyword_of vocabulary) (slice_range old.lexer.text old.lexer.at n) cut) (sym cuts.at)
+
+  statements : IsOfStatements vocabulary old next part
+  statements = record {
+    count = in_script.part.count;
+    after = cuts.after;
+    some = in_script.part.some;
+    ends = in_script.ends;
+    tokens = cut;
+    cut = cut_with old.is_last refl;
+    table = slice_is;
+    by_rules = (
+      parsed.by,
+      parsed.hidden ∙ ap (λ (t : Table). stray_strings t.text cut) (sym of_part),
+      parsed.file,
+    );
+  }
 
   pub reads_part : ReadsPart vocabulary rules old next part
   reads_part = record {
-    of_text = same_text;
+    same = (same_text, (refl, refl));
     goes_on = goes_down old.progress goes_on;
+    start = start;
+    statements = statements;
     fits = fits;
     short = omega (
       arith,
       start,
       ap (λ (t : Table). length t.text) of_part,
-      here_length old.lexer l same_text stands stands.utf8 cut cuts,
-      here_within old.lexer l same_text stands stands.utf8 cut cuts,
+      here_length old.begun old.lexer l same_text stands stands.utf8 cut in_script.part,
+      here_within old.begun old.lexer l same_text stands stands.utf8 cut in_script.part,
       stands.accepted.short,
     );
     inner = sent_inner;
-    sent_is = ap (λ t. sent_list t part_steps) of_part ∙ inner_is vocabulary rules old l same_text stands stands.utf8 cut cuts part_steps is_table fits_table parsed_table;
+    sent_is = ap (λ t. sent_list t part_steps) of_part ∙ inner_is vocabulary rules old l same_text stands stands.utf8 cut in_script.part part_steps is_table fits_table parsed_table;
     before = λ errors done read. subst (λ n. AreBefore n errors done) (sym start) (stood old.progress goes_on read.0 errors done read.1);
     reads = λ errors done read. (
       read.0,
@@ -165,19 +203,33 @@ module _ (vocabulary : Keywords) (rules : RuleGrammar) (old : Reading) (l : Lexi
 
 -- after the last one
 module _ (vocabulary : Keywords) (rules : RuleGrammar) (r : Reading) (errors : List LexicalError) (done : List OwnedStep) where
-  at_end : (p : Progress) → is_over_at p r.lexer ≡ true → KnowsKeywords vocabulary → ReadSoFar p vocabulary rules r errors done
+  at_end : (p : Progress) → r.begun ≡ script.Front → is_over_at p r.lexer ≡ true → KnowsKeywords vocabulary → ReadSoFar p vocabulary rules r errors done
       → IsScriptParse vocabulary r.lexer.text errors (done ++ sent.Exit ∷ [])
-  at_end Front over knows read = absurd (false≢true over)
-  at_end Inside over knows read =
+  at_end Front front over knows read = absurd (false≢true over)
+  at_end Inside front over knows read =
       let end : length r.lexer.text ≤ r.lexer.at = leb-true (length r.lexer.text) r.lexer.at over in
-      all_read vocabulary rules r knows errors done read end (ap (tokens_by token_at place_behind r.lexer.place 0) (drop_all r.lexer.at r.lexer.text end))
-  at_end Failed over knows read = absurd read
+      all_read vocabulary rules r knows errors done read front end (ap (tokens_by token_at place_behind r.lexer.place 0) (drop_all r.lexer.at r.lexer.text end))
+  at_end Failed front over knows read = absurd read
 
-  pub ends_read : is_over r ≡ true → HasRead vocabulary rules r errors done → IsScriptParse vocabulary r.lexer.text errors (done ++ sent.Exit ∷ [])
-  ends_read over read = at_end r.progress over read.0 read.1
+  pub ends_read : r.begun ≡ script.Front → is_over r ≡ true → HasRead vocabulary rules r errors done → IsScriptParse vocabulary r.lexer.text errors (done ++ sent.Exit ∷ [])
+  ends_read front over read = at_end r.progress front over read.0 read.1
 
 -- one that isn't over hasn't failed
 pub not_over : (p : Progress) (l : Lexing) → is_over_at p l ≡ false → p ≢ Failed
 not_over Front l on = λ is. let p = is in cc
 not_over Inside l on = λ is. let p = is in cc
 not_over Failed l on = absurd (false≢true (sym on))
+
+-- ---- no other part
+
+pub over_none : (p : Progress) (b : Bool) (r : Reading) → is_over_at p r.lexer ≡ true → NoneLeft p b r
+over_none Front b r e = absurd (false≢true e)
+over_none Inside true r e = leb-true (length r.lexer.text) r.lexer.at e
+over_none Inside false r e = none_at_end r.lexer (leb-true (length r.lexer.text) r.lexer.at e)
+over_none Failed b r e = tt
+
+pub ends_none_left : (p : Progress) (b : Bool) (r : Reading) → b ≡ false → NoneEnds r.lexer → NoneLeft p b r
+ends_none_left p true r e none = absurd (false≢true (sym e))
+ends_none_left Front false r e none = none
+ends_none_left Inside false r e none = none
+ends_none_left Failed false r e none = tt
