@@ -189,10 +189,11 @@ pub record IsScriptParse (vocabulary : Keywords) (text : List ℕ) (errors : Lis
   pub errors_are : (script_table vocabulary text).errors ≡ errors
   pub sent_is : sent_list (script_table vocabulary text) steps ≡ sent
 
--- The parse of the next statements is refused.
-pub record IsRefusedPart (vocabulary : Keywords) (r : Reading) (reason : ParseError) : Type 0 where
+-- The parse of some statements of a text is refused, which stand between others.
+pub record IsRefusedPart (vocabulary : Keywords) (place : ScriptPlace) (text : List ℕ) (reason : ParseError) : Type 0 where
+  pub before : List Token
   pub tokens : List Token
   pub after : List Token
-  pub are : tokens_left r.lexer ≡ tokens ++ after
-  pub refused : let end = r.lexer.at + sum_by (λ (t : Token). t.len) tokens in
-      IsRefusedByRules (contextual_keyword_of vocabulary) (table_of (keyword_of vocabulary) (slice_range r.lexer.text r.lexer.at end) tokens) reason
+  pub are : tokens_at place text ≡ before ++ (tokens ++ after)
+  pub refused : let from = sum_by (λ (t : Token). t.len) before in
+      IsRefusedByRules (contextual_keyword_of vocabulary) (table_of (keyword_of vocabulary) (slice_range text from (from + sum_by (λ (t : Token). t.len) tokens)) tokens) reason

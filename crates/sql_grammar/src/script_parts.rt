@@ -122,7 +122,7 @@ impl<'t> ScriptParts<'t> {
         // After the last part of a script in one text what is read is the parse of the script.
         ensures ends { IfOk result (λ found. found ≡ None → self.old.is_last ≡ true → (errors : List LexicalError) (done : List OwnedStep) → HasRead vocabulary.now rules.now self.old errors done
             → self.old.begun ≡ script.Front → IsScriptParse vocabulary.now self.old.lexer.text errors (done ++ Exit ∷ [])) }
-        ensures refused { IfErr result (λ reason. reason ≢ ParseError.OutOfMemory → IsRefusedPart vocabulary.now self.old reason) }
+        ensures refused { IfErr result (λ reason. reason ≢ ParseError.OutOfMemory → IsRefusedPart vocabulary.now self.old.begun self.old.lexer.text reason) }
     {
         if self.is_over() {
             return Ok(None);

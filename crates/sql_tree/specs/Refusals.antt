@@ -10,6 +10,7 @@ use Rattle.std.specs.declared.io.ErrorKind.TheVariants as io
 use Rattle.squawk_parser.specs.declared.parser.parse_error.ParseError.{ParseError}
 use Rattle.squawk_parser.specs.declared.parser.parse_error.ParseError.TheVariants as parse
 use Rattle.sql_grammar.specs.ReadParts.{IsRefusedPart}
+use Rattle.sql_lexer.specs.declared.script.script_place.ScriptPlace.TheVariants.{Front}
 use Rattle.sql_lexer.specs.declared.tokenizer.TokenizeError.{TokenizeError}
 use Rattle.sql_lexer.specs.declared.tokenizer.TokenizeError.TheVariants as lexer
 use Rattle.sql_tree.specs.Reports.{IsReport}
@@ -34,8 +35,8 @@ unread_of_parse parse.TooManyErrors = TooManyErrors
 abbrev pub RefusesText : Sql → List ℕ → Unread → Type 0
 RefusesText sql text OutOfMemory = Unit {0}
 RefusesText sql text TextTooLong = 4294967295 < length text
-RefusesText sql text TooManyEvents = IsRefusedPart sql.vocabulary text parse.TooManyEvents
-RefusesText sql text TooManyErrors = IsRefusedPart sql.vocabulary text parse.TooManyErrors
+RefusesText sql text TooManyEvents = IsRefusedPart sql.vocabulary Front text parse.TooManyEvents
+RefusesText sql text TooManyErrors = IsRefusedPart sql.vocabulary Front text parse.TooManyErrors
 RefusesText sql text reason = ⊥
 
 -- why bytes aren't: what stands before in this list is good

@@ -14,7 +14,7 @@ use crate::options::Listing;
 use crate::sql::Sql;
 use crate::unread::Unread;
 use sql_grammar::ScriptParts;
-use sql_lexer::{TokenizeError, tokenize_script};
+use sql_lexer::{ScriptPlace, TokenizeError, tokenize_script};
 use sql_report::{Asked, ErrorLines, Walk, Walked, statement_lines, token_lines};
 use sql_words::SqlKind;
 use std::alloc::{AllocError, Global};
@@ -49,7 +49,7 @@ impl Report {
         ensures refused { IfErr result (RefusesText sql.now text.now) }
     {
         let raw_lines = raw_lines(alloc, listing, text)?;
-        let mut parts = ScriptParts::new(alloc, text)?;
+        let mut parts = ScriptParts::new(alloc, text, ScriptPlace::Front, true)?;
         let mut errors = ErrorLines::new(alloc, name, text);
         let mut walk = Walk::new(alloc, sql.names(), asked(listing), SqlKind::SOURCE_FILE)?;
         while let Some(part) = parts.next_part(&sql.vocabulary, &sql.rules)? {

@@ -1,6 +1,6 @@
-use Rattle.std.proofs.Common.{◌≡◌, ◌≢◌, ◌∙◌, ℕ, ◌+◌, ◌<◌, length, false, List, ap, subst, sym, sum_by, refl, rules}
+use Rattle.std.proofs.Common.{◌≡◌, ◌≢◌, ◌∙◌, ℕ, ◌+◌, ◌<◌, length, false, List, ◌++◌, ap, subst, sym, sum_by, refl, rules}
 use Rattle.std.specs.Prelude.{IsCharBoundary, slice_range}
-use Rattle.squawk_keywords.specs.KeywordAnswers.{keyword_of}
+use Rattle.squawk_keywords.specs.KeywordAnswers.{contextual_keyword_of, keyword_of}
 use Rattle.squawk_table.specs.RawTable.{table_of}
 use Rattle.squawk_tokens.specs.AcceptedTokens.{AreAcceptedTokens}
 use Rattle.squawk_tokens.specs.declared.token.Token.{Token}
@@ -8,6 +8,7 @@ use Rattle.squawk_parser.specs.declared.parser.parse_error.ParseError.TheVariant
 use Rattle.sql_lexer.specs.Lines.{EndsLine}
 use Rattle.sql_lexer.specs.ScriptLexing.{tokens_left}
 use Rattle.sql_grammar.specs.CutParts.{CutsInScript, CutsInText, IsParsedBy, RefusesTokens, is_over}
+use Rattle.sql_grammar.specs.Parses.{IsRefusedByRules}
 use Rattle.sql_grammar.specs.ReadParts.{IsRefusedPart, ReadsPart, Reading}
 use Rattle.sql_grammar.specs.declared.script_parts.Progress.TheVariants.{Inside}
 use Rattle.sql_grammar.specs.declared.script_parts.ScriptPart.{ScriptPart}
@@ -116,12 +117,19 @@ returns-in_err-table-clause-refused c =
     ∙ (ap (λ text. slice_range text me.at (me.at + c.bytes_of.result)) (sym c.self.invariant.of_text)
     ∙ (ap (λ n. slice_range me.lexer.text n (n + c.bytes_of.result)) (c.self.invariant.at begun)
     ∙ ap (λ n. slice_range me.lexer.text me.lexer.at (me.lexer.at + n)) size)) in
-    let refused : reason ≢ OutOfMemory → IsRefusedPart vocabulary c.args.self.now reason = λ some.
+    let refused : reason ≢ OutOfMemory → IsRefusedPart vocabulary c.args.self.now.begun c.args.self.now.lexer.text reason = λ some.
     let why : RefusesTokens vocabulary (slice_range me.lexer.text me.lexer.at (me.lexer.at + bytes tokens)) tokens reason =
     subst (λ text. RefusesTokens vocabulary text tokens reason) part (c.in_err-table.ensures.refused some) in
-    let here : IsRefusedPart vocabulary old reason =
-    record { tokens = tokens; after = tokens_left c.cut_part.new.lexer; are = cuts.part.cuts.left; refused = why.1 } in
-    subst (λ r. IsRefusedPart vocabulary r reason) c.self.view_is here in
+    let here : IsRefusedPart vocabulary me.begun me.lexer.text reason =
+    record {
+      before = stands.front;
+      tokens = tokens;
+      after = tokens_left c.cut_part.new.lexer;
+      are = stands.tokens ∙ ap (λ ts. stands.front ++ ts) cuts.part.cuts.left;
+      refused = subst (λ n. IsRefusedByRules (contextual_keyword_of vocabulary) (table_of (keyword_of vocabulary) (slice_range me.lexer.text n (n + bytes tokens)) tokens) reason)
+          (sym stands.bytes) why.1;
+    } in
+    subst (λ (r : Reading). IsRefusedPart vocabulary r.begun r.lexer.text reason) c.self.view_is here in
     search rules
 
 pub returns-clause-reads : goal.returns-clause-reads

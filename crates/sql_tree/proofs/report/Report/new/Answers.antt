@@ -1,4 +1,4 @@
-use Rattle.std.proofs.Common.{◌≡◌, ◌≢◌, ◌∙◌, [], ◌∷◌, ◌++◌, ap, arith, length, map, rules, subst, sym}
+use Rattle.std.proofs.Common.{◌≡◌, ◌≢◌, ◌∙◌, [], ◌∷◌, ◌++◌, ap, arith, length, map, refl, rules, subst, sym}
 use Rattle.std.specs.Prelude.{IfSome, string_bytes}
 use Rattle.std.specs.List.{flat_map}
 use Rattle.std.proofs.lemmas.Grind.{flat_map-append}
@@ -25,10 +25,12 @@ pub loop-walk-init : goal.loop-walk-init
 loop-walk-init c =
     let shown = c.new-errors.ensures.none in
     record {
-      of_text = c.in_ok-parts.ensures.of_text;
+      of_text = c.in_ok-parts.ensures.begins.all refl;
+      begun = c.in_ok-parts.ensures.begins.begun;
+      is_last = c.in_ok-parts.ensures.begins.is_last;
       lexical = [];
       done = Enter SOURCE_FILE ∷ [];
-      read = c.in_ok-parts.ensures.begins c.args.sql.now.vocabulary c.args.sql.now.rules c.args.sql.now.keywords;
+      read = c.in_ok-parts.ensures.reads refl c.args.sql.now.vocabulary c.args.sql.now.rules c.args.sql.now.keywords;
       of = c.new-errors.ensures.of;
       room = omega (arith, c.new-errors.ensures.empty.1);
       shown = record { findings = shown.findings; in_order = shown.in_order; lines = shown.lines; count = shown.count };
@@ -48,7 +50,9 @@ loop-walk-preserved c =
     let of = c.in_ok-part-2.ensures.of in
     let same = c.in_ok-part-3.ensures.same in
     record {
-      of_text = reads.of_text ∙ before.of_text;
+      of_text = reads.same.0 ∙ before.of_text;
+      begun = reads.same.1.0 ∙ before.begun;
+      is_last = reads.same.1.1 ∙ before.is_last;
       lexical = before.lexical ++ map (shifted part.start) part.table.errors;
       done = before.done ++ map (moved_by part.start) reads.inner;
       read = reads.reads before.lexical before.done before.read;
@@ -72,7 +76,7 @@ returns-clause-told c =
     let lines = string_bytes c.in_ok-listing.listing in
     let walked = c.in_ok-walked.ensures in
     let parse : IsScriptParse sql.vocabulary text all.lexical sent =
-    subst (λ text. IsScriptParse sql.vocabulary text all.lexical sent) all.of_text (c.in_ok-part.ensures.ends c.in_default.is all.lexical all.done all.read) in
+    subst (λ text. IsScriptParse sql.vocabulary text all.lexical sent) all.of_text (c.in_ok-part.ensures.ends c.in_default.is all.is_last all.lexical all.done all.read all.begun) in
     let told : flat_map told_in all.done ≡ flat_map told_in sent = sym (flat_map-append told_in all.done (Exit ∷ []) ∙ append-nil (flat_map told_in all.done)) in
     let is_drawn : string_bytes c.in_ok-walked.walked.drawn ≡ drawn (asked_for listing) names sent =
     walked.drawn all.done all.tells ∙ (ap (λ asked. drawn asked walk.kind_names sent) all.asked ∙ ap (λ names. drawn (asked_for listing) names sent) all.names) in

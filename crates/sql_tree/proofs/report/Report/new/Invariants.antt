@@ -1,7 +1,8 @@
-use Rattle.std.proofs.Common.{◌≡◌, ◌≤◌, List, length}
+use Rattle.std.proofs.Common.{◌≡◌, ◌≤◌, List, length, true}
 use Rattle.squawk_kinds.specs.EngineNames.{names_of}
 use Rattle.squawk_table.specs.declared.shortcuts.str_step.OwnedStep.{OwnedStep}
 use Rattle.squawk_tokens.specs.LexicalErrors.{LexicalError}
+use Rattle.sql_lexer.specs.declared.script.script_place.ScriptPlace.TheVariants.{Front}
 use Rattle.sql_grammar.specs.ReadParts.{HasRead, left_of}
 use Rattle.sql_report.specs.ErrorLines.{HasShown, IsOf}
 use Rattle.sql_report.specs.OnTheWay.{Tells}
@@ -11,6 +12,8 @@ use Rattle.sql_tree.proofs.report.Report.new.Given as goal
 abbrev pub invariant-loop-walk : goal.invariant-loop-walk
 invariant-loop-walk l = record {
   of_text : l.parts.lexer.text ≡ l.text;
+  begun : l.parts.begun ≡ Front;
+  is_last : l.parts.is_last ≡ true;
   lexical : List LexicalError;
   done : List OwnedStep;
   read : HasRead l.sql.vocabulary l.sql.rules l.parts lexical done;
