@@ -1,10 +1,9 @@
 -- What stands before a token says whether a plain string is a stray one.
-use Rattle.std.proofs.Common.{◌≡◌, ◌∙◌, ℕ, ◌+◌, ◌&&◌, ◌||◌, not, Bool, true, false, List, [], ◌∷◌, ◌++◌, if◌then◌else◌, slice_range, ap, refl, sym}
+use Rattle.std.proofs.Common.{◌≡◌, ◌∙◌, ℕ, ◌+◌, ◌&&◌, ◌||◌, not, Bool, true, false, List, [], ◌∷◌, if◌then◌else◌, slice_range, ap, refl}
 use Rattle.std.specs.List.{list_any}
-use Rattle.std.proofs.lemmas.List.{append-nil}
 use Rattle.squawk_tokens.specs.declared.token.Token.{Token}
 use Rattle.sql_grammar.specs.StrayStrings.{Piece, ends_line, follows_string, is_comment, is_plain, is_quoted, is_stray, is_trivia, passed_over, stray_strings, strays_after}
-use Rattle.sql_grammar.specs.StringStates.{AddsStrays, after_comment, after_token, after_trivia, is_apart, is_on_line, strays_from}
+use Rattle.sql_grammar.specs.StringStates.{after_comment, after_token, after_trivia, is_apart, is_on_line, strays_from}
 use Rattle.sql_grammar.specs.declared.strings.Before.{Before}
 use Rattle.sql_grammar.specs.declared.strings.Before.TheVariants.{NoString, SameLine, LineBefore, Comment}
 
@@ -64,11 +63,6 @@ strays-from before text at (t ∷ tokens) =
         ap (λ apart. (is_plain t.kind && apart) ∷ rest (after_token t.kind)) (stands-stray (follows_string before) (list_any ends_line (passed_over before)) (list_any is_comment (passed_over before)))
         ∙ ap (λ next. (is_plain t.kind && is_stray before) ∷ rest next) (stands-token (is_quoted t.kind))
 
--- what is told of all tokens of a text
-pub strays-all : (text : List ℕ) (tokens : List Token) (after : Before) (old strays : List Bool) → old ≡ [] → AddsStrays text 0 tokens NoString after old strays
-    → strays ≡ stray_strings text tokens
-strays-all text tokens after old strays none adds =
-    sym (append-nil strays)
-    ∙ (adds []
-    ∙ (ap (λ told. told ++ strays_from NoString text 0 (tokens ++ [])) none
-    ∙ (ap (strays_from NoString text 0) (append-nil tokens) ∙ strays-from [] text 0 tokens)))
+-- of all tokens of a text
+pub strays-all : (text : List ℕ) (tokens : List Token) → strays_from NoString text 0 tokens ≡ stray_strings text tokens
+strays-all text tokens = strays-from [] text 0 tokens

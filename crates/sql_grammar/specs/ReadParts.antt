@@ -4,7 +4,7 @@ use Rattle.std.specs.Borrow.{Bor}
 use Rattle.std.specs.Str.{chars}
 use Rattle.squawk_keywords.specs.KeywordAnswers.{contextual_keyword_of, keyword_of}
 use Rattle.squawk_keywords.specs.declared.keywords.Keywords.{Keywords}
-use Rattle.squawk_output.specs.Steps.{Step}
+use Rattle.squawk_output.specs.Steps.{Step, errors_in}
 use Rattle.squawk_parser.specs.declared.parser.parse_error.ParseError.{ParseError}
 use Rattle.squawk_table.specs.RawTable.{Table, table_of}
 use Rattle.squawk_table.specs.Sent.{bytes_of, sent_list, texts_of}
@@ -151,6 +151,7 @@ pub record ReadsPart (vocabulary : Keywords) (rules : RuleGrammar) (old new : Re
   pub statements : IsOfStatements vocabulary old new part
   pub fits : Fits part.table part.output.steps
   pub short : part.start + length part.table.text ≤ 4294967295
+  pub few : (length part.output.steps ≤ 4294967295) × (errors_in part.output.steps ≤ 2147483648)
   pub inner : List OwnedStep
   pub sent_is : sent_list part.table part.output.steps ≡ sent.Enter SOURCE_FILE ∷ inner ++ sent.Exit ∷ []
   pub before : (errors : List LexicalError) (done : List OwnedStep) → HasRead vocabulary rules old errors done → AreBefore part.start errors done

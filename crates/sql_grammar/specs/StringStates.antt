@@ -1,7 +1,6 @@
 -- How what stands before a token changes from one raw token to the next.
-use Rattle.std.specs.Prelude.{◌≡◌, ℕ, ◌+◌, ◌&&◌, Bool, true, false, List, [], ◌∷◌, ◌++◌, length, slice_range, if◌then◌else◌}
+use Rattle.std.specs.Prelude.{ℕ, ◌+◌, ◌&&◌, Bool, true, false, List, [], ◌∷◌, slice_range, if◌then◌else◌}
 use Rattle.std.specs.List.{list_any}
-use Rattle.squawk_tokens.specs.AcceptedTokens.{start_of}
 use Rattle.squawk_tokens.specs.declared.token.Token.{Token}
 use Rattle.squawk_tokens.specs.declared.token.TokenKind.{TokenKind}
 use Rattle.sql_lexer.specs.Bytes.{is_line_end}
@@ -40,8 +39,3 @@ strays_from before text at [] = []
 strays_from before text at (t ∷ tokens) =
     if is_trivia t.kind then strays_from (after_trivia before t.kind (slice_range text at (at + t.len))) text (at + t.len) tokens
     else (is_plain t.kind && is_apart before) ∷ strays_from (after_token t.kind) text (at + t.len) tokens
-
--- What is told of tokens is added, whatever stands after them.
-abbrev pub AddsStrays : List ℕ → ℕ → List Token → Before → Before → List Bool → List Bool → Type 0
-AddsStrays text at tokens before after old new =
-    (others : List Token) → new ++ strays_from after text (at + start_of tokens (length tokens)) others ≡ old ++ strays_from before text at (tokens ++ others)

@@ -1,5 +1,6 @@
 //! A script a part at a time.
-ghost use Rattle.std.specs.Prelude.{◌≡◌, ◌≢◌, ◌<◌, ◌^◌, false, sum_by, true, IfErr, IfOk};
+ghost use Rattle.std.specs.Prelude.{◌≡◌, ◌≢◌, ◌<◌, ◌≤◌, ◌^◌, false, length, sum_by, true, IfErr, IfOk};
+ghost use Rattle.squawk_output.specs.Steps.{errors_in};
 ghost use Rattle.squawk_keywords.specs.KeywordAnswers.{keyword_of};
 ghost use Rattle.squawk_table.specs.RawTable.{IsTable, table_of};
 ghost use Rattle.squawk_table.specs.Shape.{Fits};
@@ -252,6 +253,7 @@ fn parse_tokens<'t>(
     ensures table { IfOk result (λ both. both.0 ≡ table_of (keyword_of vocabulary.now) text.now tokens.items) }
     ensures is_table { IfOk result (λ both. IsTable both.0) }
     ensures fits { IfOk result (λ both. Fits both.0 both.1.steps) }
+    ensures few { IfOk result (λ both. (length both.1.steps ≤ 4294967295) × (errors_in both.1.steps ≤ 2147483648)) }
     ensures parsed { IfOk result (λ both. IsParsedBy rules.now vocabulary.now text.now tokens.items both.0 both.1.steps) }
     ensures refused { IfErr result (λ reason. reason ≢ ParseError.OutOfMemory → RefusesTokens vocabulary.now text.now tokens.items reason) }
 {

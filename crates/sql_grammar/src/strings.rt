@@ -1,17 +1,17 @@
 //! Strings that can't go on with the one before them.
-ghost use Rattle.std.specs.Prelude.{◌≡◌, ◌+◌, ◌<◌, ◌≤◌, ◌^◌, length, IfOk};
+ghost use Rattle.std.specs.Prelude.{◌≡◌, IfOk};
 ghost use Rattle.std.specs.List.{list_any};
-ghost use Rattle.squawk_tokens.specs.AcceptedTokens.{AreAcceptedTokens, start_of};
+ghost use Rattle.squawk_tokens.specs.AcceptedTokens.{AreAcceptedTokens};
 ghost use Rattle.sql_lexer.specs.Bytes.{is_line_end};
 ghost use Rattle.sql_grammar.specs.StrayStrings.{is_block_comment, is_plain, is_quoted, is_space, is_trivia, stray_strings};
-ghost use Rattle.sql_grammar.specs.StringStates.{AddsStrays, after_comment, after_token, after_trivia, is_apart, is_on_line};
+ghost use Rattle.sql_grammar.specs.StringStates.{after_comment, after_token, after_trivia, is_apart, is_on_line};
 
 use squawk_tokens::{LiteralKind, Token, TokenKind};
 use std::alloc::{AllocError, Global};
 
 /// What stands before a token, as far as strings go.
 #[derive(Clone, Copy)]
-pub(crate) enum Before {
+enum Before {
     /// No string.
     NoString,
     /// A string on the same line.
@@ -31,37 +31,19 @@ pub fn stray_strings(alloc: Global, text: &str, tokens: &[Token]) -> Result<Vec<
     ensures { IfOk result (λ strays. strays.items ≡ stray_strings text.now tokens.now) }
 {
     let mut strays = Vec::with_capacity(alloc, tokens.len())?;
-    add_strays(&mut strays, Before::NoString, text, 0, tokens)?;
-    Ok(strays)
-}
-
-/// Adds what is told of tokens that begin at a byte of a text, where this stands before the first. Returns what stands
-/// after the last.
-pub(crate) fn add_strays(
-    strays: &mut Vec<bool>,
-    before: Before,
-    text: &str,
-    start: u32,
-    tokens: &[Token],
-) -> Result<Before, AllocError>
-    requires short { length text.now < 2 ^ 32 }
-    requires within { start + start_of tokens.now (length tokens.now) ≤ length text.now }
-    ensures { IfOk result (λ after. AddsStrays text.now start tokens.now before after strays.old.items strays.new.items) }
-{
-    let mut before = before;
-    let mut at = start;
+    let mut before = Before::NoString;
+    let mut at = 0;
     for token in tokens {
-        let end = at + token.len;
+        let end = at + token.len as usize;
         if is_trivia(&token.kind) {
-            let piece = &text.as_bytes()[at as usize..end as usize];
-            before = before.after_trivia(&token.kind, piece);
+            before = before.after_trivia(&token.kind, &text.as_bytes()[at..end]);
         } else {
             strays.push(is_plain(&token.kind) && before.is_apart())?;
             before = Before::after_token(&token.kind);
         }
         at = end;
     }
-    Ok(before)
+    Ok(strays)
 }
 
 impl Before {

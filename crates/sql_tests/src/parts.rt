@@ -4,7 +4,7 @@ ghost use Rattle.squawk_table.specs.Shape.{Fits};
 
 use rule_grammar::RuleGrammar;
 use sql_grammar::{Detail, ScriptParts, parse_table, stray_strings};
-use sql_lexer::tokenize_script;
+use sql_lexer::{ScriptPlace, tokenize_script};
 use sql_report::{Asked, ErrorLines, Walk};
 use sql_rules::{hiding, rules};
 use sql_words::{SqlKind, names, vocabulary};
@@ -50,7 +50,7 @@ fn whole(
 fn in_parts(alloc: Global, rules: &RuleGrammar<'_>, text: &str) -> Result<(Told, usize), Fail> {
     let words = vocabulary(alloc)?;
     let all_names = names(alloc)?;
-    let mut parts = ScriptParts::new(alloc, text)?;
+    let mut parts = ScriptParts::new(alloc, text, ScriptPlace::Front, true)?;
     let mut errors = ErrorLines::new(alloc, "x", text);
     let mut walk = Walk::new(alloc, &all_names, Asked::Tree, SqlKind::SOURCE_FILE)?;
     let mut count = 0usize;
@@ -62,6 +62,42 @@ fn in_parts(alloc: Global, rules: &RuleGrammar<'_>, text: &str) -> Result<(Told,
     let tree = walk.finish()?.drawn;
     let errors = errors.lines;
     Ok((Told { tree, errors }, count))
+}
+
+/// What is told of a script that comes as texts, each with so many bytes more than is left of the one before.
+fn in_texts(
+    rt: &(impl Abort + AllocGlobal),
+    rules: &RuleGrammar<'_>,
+    script: &str,
+    size: usize,
+) -> Result<Told, Fail>
+    requires { 0 < size }
+{
+    let alloc = rt.alloc();
+    let words = vocabulary(alloc)?;
+    let all_names = names(alloc)?;
+    let mut errors = ErrorLines::new(alloc, "x", script);
+    let mut walk = Walk::new(alloc, &all_names, Asked::Tree, SqlKind::SOURCE_FILE)?;
+    let mut read = 0usize;
+    let mut end = 0usize;
+    let mut place = ScriptPlace::Front;
+    while end < script.len() {
+        end = script.len().min(end.saturating_add(size));
+        let text = script.get(read..end).unwrap_or("");
+        let mut parts = ScriptParts::new(alloc, text, place, end == script.len())?;
+        while let Some(part) = parts.next_part(&words, rules)? {
+            let start = read.saturating_add(part.start);
+            assert!(rt; start <= u32::MAX as usize);
+            errors.part(&part.table, &part.output, start)?;
+            walk.part(&part.table, &part.output, start)?;
+        }
+        read = read.saturating_add(parts.position());
+        place = parts.place().unwrap_or(place);
+    }
+    Ok(Told {
+        tree: walk.finish()?.drawn,
+        errors: errors.lines,
+    })
 }
 
 /// Asserts that so many parts of a text are told as the whole.
@@ -90,4 +126,18 @@ fn parts_are_told_as_the_whole(rt: HostRuntime) -> Result<(), Fail> {
     // of COPY in piece 111, before its data.
     let text = PIECE.repeat(rt.alloc(), 250)?;
     assert_parts(&rt, text.as_str(), 3)
+}
+
+#[test]
+fn texts_are_told_as_the_script(rt: HostRuntime) -> Result<(), Fail> {
+    let alloc = rt.alloc();
+    let ready = rules();
+    let script = PIECE.repeat(alloc, 2)?;
+    let (all, _) = in_parts(alloc, &ready, script.as_str())?;
+    for size in [1, 2, 3, 7, 20, 64, 1000] {
+        let told = in_texts(&rt, &ready, script.as_str(), size)?;
+        assert_eq!(&rt; told.tree.as_str(), all.tree.as_str());
+        assert_eq!(&rt; told.errors.as_slice(), all.errors.as_slice());
+    }
+    Ok(())
 }

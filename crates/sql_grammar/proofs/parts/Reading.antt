@@ -8,7 +8,7 @@ use Rattle.std.proofs.lemmas.Grind.{flat_map-append}
 use Rattle.std.proofs.lemmas.Str.{encodes-chars}
 use Rattle.squawk_keywords.specs.KeywordAnswers.{contextual_keyword_of, keyword_of}
 use Rattle.squawk_keywords.specs.declared.keywords.Keywords.{Keywords}
-use Rattle.squawk_output.specs.Steps.{Step}
+use Rattle.squawk_output.specs.Steps.{Step, errors_in}
 use Rattle.squawk_table.specs.RawTable.{IsTable, Table, table_of}
 use Rattle.squawk_table.specs.Sent.{bytes_of, sent_list, text_in, texts_of}
 use Rattle.squawk_table.specs.Shape.{Fits}
@@ -93,7 +93,8 @@ module _ (vocabulary : Keywords) (rules : RuleGrammar) (old : Reading) (l : Lexi
     (cut : List Token) (in_script : CutsInScript old.is_last old.lexer l cut) (lines : old.is_last ≡ false → 0 < length old.lexer.text → EndsLine old.lexer.text) (part : ScriptPart) (start : part.start ≡ old.lexer.at)
     (of_part : part.table ≡ table_of (keyword_of vocabulary) (here old.begun old.lexer l same_text stands stands.utf8 cut in_script.part) cut)
     (table : IsTable part.table) (fits : Fits part.table part.output.steps)
-    (parsed : IsParsedBy rules vocabulary (here old.begun old.lexer l same_text stands stands.utf8 cut in_script.part) cut part.table part.output.steps) (goes_on : is_over old ≡ false) where
+    (parsed : IsParsedBy rules vocabulary (here old.begun old.lexer l same_text stands stands.utf8 cut in_script.part) cut part.table part.output.steps) (goes_on : is_over old ≡ false)
+    (few : (length part.output.steps ≤ 4294967295) × (errors_in part.output.steps ≤ 2147483648)) where
   abbrev part_text : List ℕ
   part_text = here old.begun old.lexer l same_text stands stands.utf8 cut in_script.part
 
@@ -190,6 +191,7 @@ module _ (vocabulary : Keywords) (rules : RuleGrammar) (old : Reading) (l : Lexi
       here_within old.begun old.lexer l same_text stands stands.utf8 cut in_script.part,
       stands.accepted.short,
     );
+    few = few;
     inner = sent_inner;
     sent_is = ap (λ t. sent_list t part_steps) of_part ∙ inner_is vocabulary rules old l same_text stands stands.utf8 cut in_script.part part_steps is_table fits_table parsed_table;
     before = λ errors done read. subst (λ n. AreBefore n errors done) (sym start) (stood old.progress goes_on read.0 errors done read.1);

@@ -159,4 +159,4 @@ returns-clause-reads c =
     let lines : me.is_last ≡ false → 0 < length me.lexer.text → EndsLine me.lexer.text = λ goes some. subst EndsLine (sym c.self.invariant.of_text) (c.self.invariant.lines goes (subst (λ text. 0 < length text) c.self.invariant.of_text some)) in
     subst (λ old. ReadsPart vocabulary c.args.rules.now old new found) c.self.view_is
     (reads_part vocabulary c.args.rules.now old c.cut_part.new.lexer cuts.text stands tokens cuts lines
-    found (c.self.invariant.at begun) of_part c.in_ok-table.ensures.is_table c.in_ok-table.ensures.fits parsed on)
+    found (c.self.invariant.at begun) of_part c.in_ok-table.ensures.is_table c.in_ok-table.ensures.fits parsed on c.in_ok-table.ensures.few)
