@@ -1,12 +1,12 @@
 //! Scripts that are cut a statement at a time.
 
-use sql_lexer::ScriptLexer;
+use sql_lexer::{ScriptLexer, ScriptPlace};
 use std::alloc::Global;
 use std::test::Fail;
 
 /// How many raw tokens each statement of a text has, with what stands before it.
 fn lens(alloc: Global, text: &str) -> Result<Vec<usize>, Fail> {
-    let mut lexer = ScriptLexer::new(text)?;
+    let mut lexer = ScriptLexer::new(text, ScriptPlace::Front)?;
     let mut tokens = Vec::new(alloc);
     let mut lens = Vec::new(alloc);
     while !lexer.is_at_end() {
