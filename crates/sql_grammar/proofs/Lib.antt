@@ -1,3 +1,4 @@
+pub mod AddedFiles
 pub mod AddedStatements
 pub mod parts
 pub mod Lengths

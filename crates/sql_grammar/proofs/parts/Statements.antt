@@ -1,17 +1,16 @@
 -- The statements of kinds of which the first end with a statement.
-use Rattle.std.proofs.Common.{◌≡◌, ◌∙◌, ℕ, zero, suc, ◌+◌, ◌-◌, ◌<◌, ◌≤◌, ◌==◌, nat_le, ◌⊎◌, inl, inr, Bool, true, false, List, [], ◌∷◌, ◌++◌, length, drop, if◌then◌else◌, arith, ap, sym, subst, refl, length-drop}
+use Rattle.std.proofs.Common.{◌≡◌, ◌∙◌, ℕ, zero, suc, ◌+◌, ◌-◌, ◌<◌, ◌≤◌, ◌==◌, ◌⊎◌, inl, inr, Bool, true, false, List, [], ◌∷◌, ◌++◌, length, drop, if◌then◌else◌, arith, ap, sym, subst, refl, length-drop}
 use Rattle.std.specs.Prelude.{not, ◌||◌}
 use Rattle.std.specs.List.{list_all}
-use Rattle.std.proofs.lemmas.Bool.{and_parts, cond_both, cond-true, cond-false, eqb-true, false≢true}
+use Rattle.std.proofs.lemmas.Bool.{and_parts, cond-true, cond-false, eqb-true, false≢true}
 use Rattle.std.proofs.lemmas.List.{drop-append-le}
 use Rattle.sql_lexer.specs.declared.statements.Statement.{Statement as Begun}
-use Rattle.sql_lexer.specs.declared.statements.Statement.TheVariants.{Start, Created, CreatedOr, Replaced, Plain, OfRule, OfRoutine, OfBlock, OfCopy}
-use Rattle.sql_lexer.specs.declared.statements.Before.{Before}
-use Rattle.sql_lexer.specs.declared.statements.Before.TheVariants.{Any, Block}
+use Rattle.sql_lexer.specs.declared.statements.Statement.TheVariants.{Start, Plain}
 use Rattle.sql_lexer.specs.declared.statements.Word.{Word}
-use Rattle.sql_lexer.specs.declared.statements.Word.TheVariants.{Trivia, Atomic, Command, Copy, CopyCommand, Create, End, Function, Or, Procedure, QueryEnd, Replace, Rule, Semicolon}
-use Rattle.sql_lexer.specs.Statements.{after, begun_by, block_after, created_by, creating, ends_with, goes_on, is_start, read_as, replaced_by, routine_after, routine_on}
+use Rattle.sql_lexer.specs.declared.statements.Word.TheVariants.{Trivia, Command, CopyCommand, QueryEnd, Semicolon}
+use Rattle.sql_lexer.specs.Statements.{after, ends_with, goes_on, is_start}
 use Rattle.sql_lexer.specs.ScriptEnds.{is_passed_over}
+use Rattle.sql_lexer.proofs.StatementSigns.{has_begun}
 use Rattle.sql_grammar.specs.Statements.{Statement, content_len, first_statement, first_word, is_psql, kind_for, kind_of, len_from, len_of, nth, statements_of}
 use Rattle.sql_grammar.specs.StatementKinds.{statement_kinds}
 use Rattle.sql_grammar.specs.Kinds.{PSQL_COMMAND}
@@ -22,45 +21,6 @@ use Rattle.sql_grammar.specs.Words.{word_in, word_of, words}
 use Rattle.squawk_kinds.specs.Kinds.{EOF, L_PAREN, PSQL_COMMAND_TEXT, PSQL_TERMINATOR_TEXT}
 
 -- ---- one statement
-
-begun : (word : Word) → is_start (begun_by word) ≡ false
-begun Create = refl
-begun Copy = refl
-begun word = refl
-
-creates : (word : Word) → is_start (creating word) ≡ false
-creates Function = refl
-creates Procedure = refl
-creates Rule = refl
-creates word = refl
-
-created : (word : Word) → is_start (created_by word) ≡ false
-created Or = refl
-created word = creates word
-
-replaced : (word : Word) → is_start (replaced_by word) ≡ false
-replaced Replace = refl
-replaced word = refl
-
-routine : (unclosed : ℕ) (before : Before) (word : Word) → is_start (routine_after unclosed before word) ≡ false
-routine unclosed Block Atomic = cond_both (unclosed == 0) (OfBlock 1 Any) (routine_on unclosed Block Atomic) (λ s. is_start s ≡ false) (λ e. refl) (λ e. refl)
-routine unclosed before word = refl
-
-block : (unclosed : ℕ) (word : Word) → is_start (block_after unclosed word) ≡ false
-block unclosed End = cond_both (nat_le unclosed 1) (OfRoutine 0 Any) (OfBlock (unclosed - 1) Any) (λ s. is_start s ≡ false) (λ e. refl) (λ e. refl)
-block unclosed word = refl
-
--- a statement with a word more has begun
-has_begun : (statement : Begun) (word : Word) → is_start (goes_on statement word) ≡ false
-has_begun Start word = begun word
-has_begun Created word = created word
-has_begun CreatedOr word = replaced word
-has_begun Replaced word = creates word
-has_begun Plain word = refl
-has_begun (OfRule unclosed) word = refl
-has_begun (OfRoutine unclosed before) word = routine unclosed before word
-has_begun (OfBlock unclosed before) word = block unclosed (read_as before word)
-has_begun (OfCopy unclosed phrase) word = refl
 
 -- after a word that ends none, one has begun
 goes_after : (statement : Begun) (word : Word) → is_passed_over word ≡ false → ends_with statement word ≡ false → is_start (after statement word) ≡ false

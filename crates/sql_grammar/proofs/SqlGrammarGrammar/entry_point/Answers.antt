@@ -2,7 +2,8 @@ use Rattle.std.proofs.Common.{◌≡◌, ◌≢◌, ◌∙◌, arith}
 use Rattle.squawk_kinds.specs.Kinds.{EOF}
 use Rattle.squawk_parser.specs.SomeSteps.{Spends}
 use Rattle.squawk_parser.specs.State.{kind_at}
-use Rattle.sql_grammar.proofs.AddedStatements.{file-all, file-next, file-none, runs_as, spends_of}
+use Rattle.sql_grammar.proofs.AddedFiles.{file-all, file-next, file-none}
+use Rattle.sql_grammar.proofs.AddedStatements.{runs_as, spends_of}
 use Rattle.sql_grammar.proofs.SqlGrammarGrammar.entry_point.Goals as goal
 
 pub loop-p-init : goal.loop-p-init

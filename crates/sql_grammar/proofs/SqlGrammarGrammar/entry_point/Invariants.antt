@@ -1,6 +1,6 @@
 use Rattle.std.proofs.Common.{◌-◌}
 use Rattle.sql_grammar.specs.Files.{Runs}
-use Rattle.sql_grammar.proofs.AddedStatements.{FileSoFar}
+use Rattle.sql_grammar.proofs.AddedFiles.{FileSoFar}
 use Rattle.sql_grammar.proofs.SqlGrammarGrammar.entry_point.Given as goal
 
 abbrev pub invariant-loop-p : goal.invariant-loop-p

@@ -3,7 +3,8 @@ use Rattle.squawk_table.specs.ParserInput.{kinds_in}
 use Rattle.squawk_parser.specs.SomeSteps.{Spends}
 use Rattle.squawk_parser.specs.State.{ahead}
 use Rattle.squawk_parser.proofs.AddedSteps.{open_marker-added}
-use Rattle.sql_grammar.proofs.AddedStatements.{first_added, inner_added, is_first, runs_as, spends_of, statement_eats, statement_with}
+use Rattle.sql_grammar.proofs.AddedFiles.{first_added, inner_added, is_first, statement_eats, statement_with}
+use Rattle.sql_grammar.proofs.AddedStatements.{runs_as, spends_of}
 use Rattle.sql_grammar.proofs.statements.statement.Goals as goal
 
 pub complete-requires-clause-kind : goal.complete-requires-clause-kind
