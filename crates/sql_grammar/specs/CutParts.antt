@@ -1,26 +1,20 @@
 -- A part that is cut and parsed. Only private functions speak of it.
 use Rattle.std.specs.Prelude.{◌≡◌, ◌<◌, ℕ, ◌+◌, nat_le, Bool, true, false, Option, Some, None, List, [], ◌∷◌, ◌++◌, Vec, length, sum_by}
 use Rattle.std.specs.declared.alloc.Global.{Global}
-use Rattle.std.specs.Borrow.{Bor}
 use Rattle.squawk_keywords.specs.KeywordAnswers.{contextual_keyword_of, keyword_of}
 use Rattle.squawk_keywords.specs.declared.keywords.Keywords.{Keywords}
-use Rattle.squawk_output.specs.Steps.{Step}
 use Rattle.squawk_parser.specs.declared.parser.parse_error.ParseError.{ParseError}
-use Rattle.squawk_table.specs.RawTable.{Table, table_of}
+use Rattle.squawk_table.specs.RawTable.{table_of}
 use Rattle.squawk_tokens.specs.AcceptedTokens.{AreAcceptedTokens}
 use Rattle.squawk_tokens.specs.declared.token.Token.{Token}
-use Rattle.rule_grammar.specs.declared.rules.RuleGrammar.{RuleGrammar}
 use Rattle.sql_lexer.specs.ScriptEnds.{statement_at, words_from}
 use Rattle.sql_lexer.specs.Lines.{EndsLine}
 use Rattle.sql_lexer.specs.ScriptLexing.{Lexing, after_statements, longer, tokens_left}
 use Rattle.sql_lexer.specs.Statements.{after, ends_with, is_start}
 use Rattle.sql_lexer.specs.declared.statements.Statement.{Statement}
 use Rattle.sql_lexer.specs.declared.statements.Word.{Word}
-use Rattle.sql_grammar.specs.Parses.{AreOfFile, IsRefusedByRules}
-use Rattle.sql_grammar.specs.Parts.{AreSame}
+use Rattle.sql_grammar.specs.Parses.{IsRefusedByRules}
 use Rattle.sql_grammar.specs.ReadParts.{NoneEnds, Reading, can_end_part}
-use Rattle.sql_grammar.specs.StrayStrings.{stray_strings}
-use Rattle.sql_grammar.specs.declared.Detail.TheVariants.{Nodes}
 use Rattle.sql_grammar.specs.declared.script_parts.Progress.{Progress}
 use Rattle.sql_grammar.specs.declared.script_parts.Progress.TheVariants.{Front, Inside, Failed}
 
@@ -67,13 +61,6 @@ is_over_at Failed lexer = true
 
 abbrev pub is_over : Reading → Bool
 is_over r = is_over_at r.progress r.lexer
-
--- steps of a table by rules from which the stray strings of its text are hidden
-pub record IsParsedBy (rules : RuleGrammar) (vocabulary : Keywords) (text : List ℕ) (tokens : List Token) (table : Table) (steps : List Step) : Type 0 where
-  pub by : Bor RuleGrammar
-  pub same : AreSame by.now rules
-  pub hidden : by.now.table.hidden.tokens.now ≡ stray_strings text tokens
-  pub file : AreOfFile (Nodes by) (contextual_keyword_of vocabulary) table steps
 
 -- the parse of such a text of accepted tokens is refused
 abbrev pub RefusesTokens : Keywords → List ℕ → List Token → ParseError → Type 0

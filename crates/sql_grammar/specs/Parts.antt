@@ -43,11 +43,8 @@ pub record IsParsedPart (rules : Bor RuleGrammar) (keyword contextual : Keywords
   pub hidden : rules.now.table.hidden.tokens.now ≡ stray_strings part.text part.tokens
 
 -- rules that differ in what is hidden from them
-pub record AreSame (r s : RuleGrammar) : Type 0 where
-  pub rows : r.table.rows.now ≡ s.table.rows.now
-  pub sets : r.table.sets.now ≡ s.table.sets.now
-  pub start : r.start ≡ s.start
-  pub end : r.end ≡ s.end
+abbrev pub AreSame : RuleGrammar → RuleGrammar → Type 0
+AreSame r s = r ≡ record s { table = record s.table { hidden = r.table.hidden } }
 
 -- ---- a part that ends with a statement
 

@@ -24,10 +24,11 @@ use Rattle.sql_lexer.specs.declared.script.script_place.ScriptPlace.{ScriptPlace
 use Rattle.sql_lexer.specs.declared.script.script_place.ScriptPlace.TheVariants as script
 use Rattle.sql_words.specs.SqlVocabulary.{KnowsKeywords}
 use Rattle.sql_grammar.specs.Kinds.{SOURCE_FILE}
-use Rattle.sql_grammar.specs.Parses.{AreByRules, IsRefusedByRules}
+use Rattle.sql_grammar.specs.Parses.{AreByRules, AreOfFile, IsRefusedByRules}
 use Rattle.sql_grammar.specs.Parts.{AreSame, EndsWithStatement, IsParsedPart, Part, moved_by, steps_of, table_by}
 use Rattle.sql_grammar.specs.StrayStrings.{stray_strings}
 use Rattle.sql_grammar.specs.WholeLines.{AreWholeLines}
+use Rattle.sql_grammar.specs.declared.Detail.TheVariants.{Nodes}
 use Rattle.sql_grammar.specs.declared.script_parts.Progress.{Progress}
 use Rattle.sql_grammar.specs.declared.script_parts.Progress.TheVariants.{Front, Inside, Failed}
 use Rattle.sql_grammar.specs.declared.script_parts.ScriptPart.{ScriptPart}
@@ -131,9 +132,16 @@ pub record AreBefore (at : ℕ) (errors : List LexicalError) (done : List OwnedS
 abbrev pub can_end_part : Lexing → Bool
 can_end_part l = nat_lt l.at (length l.text) && is_some (script_place l.place)
 
+-- steps of a table by rules from which the stray strings of its text are hidden
+pub record IsParsedBy (rules : RuleGrammar) (vocabulary : Keywords) (text : List ℕ) (tokens : List Token) (table : Table) (steps : List Step) : Type 0 where
+  pub by : Bor RuleGrammar
+  pub same : AreSame by.now rules
+  pub hidden : by.now.table.hidden.tokens.now ≡ stray_strings text tokens
+  pub file : AreOfFile (Nodes by) (contextual_keyword_of vocabulary) table steps
+
 -- A part is the next statements, so many of them, whatever texts follow: their tokens, and steps by rules from which stray
 -- strings are hidden.
-pub record IsOfStatements (vocabulary : Keywords) (old new : Reading) (part : ScriptPart) : Type 0 where
+pub record IsOfStatements (vocabulary : Keywords) (rules : RuleGrammar) (old new : Reading) (part : ScriptPart) : Type 0 where
   pub count : ℕ
   pub after : new.lexer ≡ after_statements count old.lexer
   pub some : old.lexer.at < length old.lexer.text → 0 < count
@@ -141,14 +149,14 @@ pub record IsOfStatements (vocabulary : Keywords) (old new : Reading) (part : Sc
   pub tokens : List Token
   pub cut : (rest : List ℕ) → (old.is_last ≡ true → rest ≡ []) → tokens_left (longer rest old.lexer) ≡ tokens ++ tokens_left (longer rest new.lexer)
   pub table : part.table ≡ table_of (keyword_of vocabulary) (slice_range old.lexer.text old.lexer.at new.lexer.at) tokens
-  pub by_rules : AreByRules (stray_strings part.table.text tokens) (contextual_keyword_of vocabulary) part.table part.output.steps
+  pub parsed : IsParsedBy rules vocabulary part.table.text tokens part.table part.output.steps
 
 -- A part goes on with what is read: what is sent in its root, and its lexical errors, whose places count from its start.
 pub record ReadsPart (vocabulary : Keywords) (rules : RuleGrammar) (old new : Reading) (part : ScriptPart) : Type 0 where
   pub same : (new.lexer.text ≡ old.lexer.text) × ((new.begun ≡ old.begun) × (new.is_last ≡ old.is_last))
   pub goes_on : left_of new < left_of old
   pub start : part.start ≡ old.lexer.at
-  pub statements : IsOfStatements vocabulary old new part
+  pub statements : IsOfStatements vocabulary rules old new part
   pub fits : Fits part.table part.output.steps
   pub short : part.start + length part.table.text ≤ 4294967295
   pub few : (length part.output.steps ≤ 4294967295) × (errors_in part.output.steps ≤ 2147483648)

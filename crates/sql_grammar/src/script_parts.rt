@@ -5,8 +5,8 @@ ghost use Rattle.squawk_keywords.specs.KeywordAnswers.{keyword_of};
 ghost use Rattle.squawk_table.specs.RawTable.{IsTable, table_of};
 ghost use Rattle.squawk_table.specs.Shape.{Fits};
 ghost use Rattle.squawk_tokens.specs.AcceptedTokens.{AreAcceptedTokens};
-ghost use Rattle.sql_grammar.specs.CutParts.{CutsInText, IsParsedBy, RefusesTokens};
-ghost use Rattle.sql_grammar.specs.ReadParts.{begun_with, can_end_part};
+ghost use Rattle.sql_grammar.specs.CutParts.{CutsInText, RefusesTokens};
+ghost use Rattle.sql_grammar.specs.ReadParts.{IsParsedBy, begun_with, can_end_part};
 ghost use Rattle.sql_grammar.specs.WholeLines.{AreWholeLines};
 
 use crate::Detail;

@@ -20,15 +20,16 @@ use Rattle.squawk_tokens.specs.LexicalErrors.{LexicalError, shifted}
 use Rattle.squawk_tokens.specs.declared.token.Token.{Token}
 use Rattle.squawk_tokens.proofs.StandApart.{stand_apart}
 use Rattle.rule_grammar.specs.declared.rules.RuleGrammar.{RuleGrammar}
+use Rattle.rule_grammar.specs.declared.table.Hidden.{Hidden}
 use Rattle.sql_lexer.specs.ScriptEnds.{statement_at, words_from}
 use Rattle.sql_lexer.specs.ScriptLexing.{Lexing, tokens_left}
 use Rattle.sql_lexer.specs.declared.statements.Statement.TheVariants.{Start}
 use Rattle.sql_words.specs.SqlVocabulary.{KnowsKeywords}
-use Rattle.sql_grammar.specs.CutParts.{CutsPart, CutsStatements, IsParsedBy, LastEnds}
+use Rattle.sql_grammar.specs.CutParts.{CutsPart, CutsStatements, LastEnds}
 use Rattle.sql_grammar.specs.Kinds.{SOURCE_FILE}
 use Rattle.sql_grammar.specs.Parses.{AreOfFile}
 use Rattle.sql_grammar.specs.Parts.{EndsWithStatement, IsParsedPart, Part, moved_by, steps_of, table_by}
-use Rattle.sql_grammar.specs.ReadParts.{HasReadNothing, HasReadPart, Reading, StandsInText, tokens_at}
+use Rattle.sql_grammar.specs.ReadParts.{HasReadNothing, HasReadPart, IsParsedBy, Reading, StandsInText, tokens_at}
 use Rattle.sql_grammar.specs.declared.Detail.TheVariants.{Nodes}
 use Rattle.sql_grammar.specs.declared.script_parts.Progress.TheVariants.{Inside}
 use Rattle.sql_grammar.proofs.parts.Law.{IsWhole, joined}
@@ -172,6 +173,10 @@ module _ (vocabulary : Keywords) (rules : RuleGrammar) (old : Reading) (l : Lexi
         let tokens = hidden.tokens in
         record r { now = record r.now { table = record table { hidden = record hidden { tokens = record tokens { now = tokens.now ++ parsed.by.now.table.hidden.tokens.now } } } } }
 
+    -- the rules of what is read, where others are hidden
+    hides : (others : Hidden) → record before.by.now { table = record before.by.now.table { hidden = others } } ≡ record rules { table = record rules.table { hidden = others } }
+    hides others = ap (λ (g : RuleGrammar). record g { table = record g.table { hidden = others } }) before.same
+
     both_text : both.text ≡ take l.at text
     both_text =
         ap (λ xs. xs ++ piece) before.text ∙ (sym (up_to old.begun old.lexer l same_text stands utf8 cut part) ∙ ap (λ n. take n text) (sym cuts.at))
@@ -209,13 +214,8 @@ module _ (vocabulary : Keywords) (rules : RuleGrammar) (old : Reading) (l : Lexi
     whole : IsWhole both_by (keyword_of vocabulary) (contextual_keyword_of vocabulary) p q
     whole =
         parts_make_whole (keyword_of vocabulary) (contextual_keyword_of vocabulary) knows.keyword before.by parsed.by both_by p q before.parsed p_ends q_parsed
-        (record { rows = refl; sets = refl; start = refl; end = refl })
-        (record {
-          rows = parsed.same.rows ∙ sym before.same.rows;
-          sets = parsed.same.sets ∙ sym before.same.sets;
-          start = parsed.same.start ∙ sym before.same.start;
-          end = parsed.same.end ∙ sym before.same.end;
-        }) refl both_table
+        refl
+        (parsed.same ∙ sym (hides parsed.by.now.table.hidden)) refl both_table
 
     done_is : sent.Enter SOURCE_FILE ∷ whole.inner ≡ done
     done_is = (same_from_push (sent.Enter SOURCE_FILE ∷ whole.inner) done sent.Exit sent.Exit (sym whole.first ∙ before.sent_is)).0
@@ -227,7 +227,7 @@ module _ (vocabulary : Keywords) (rules : RuleGrammar) (old : Reading) (l : Lexi
     next_read = record {
       part = both;
       by = both_by;
-      same = record { rows = before.same.rows; sets = before.same.sets; start = before.same.start; end = before.same.end };
+      same = hides both_by.now.table.hidden;
       parsed = whole.parsed;
       text = both_text ∙ ap (take l.at) (sym same_text);
       tokens = ap (tokens_at old.begun) same_text ∙ both_tokens;

@@ -24,10 +24,10 @@ use Rattle.sql_lexer.specs.declared.script.script_place.ScriptPlace.TheVariants 
 use Rattle.sql_lexer.specs.Scripts.{place_behind, script_tokens, token_at}
 use Rattle.sql_lexer.specs.Tokens.{tokens_by}
 use Rattle.sql_words.specs.SqlVocabulary.{KnowsKeywords}
-use Rattle.sql_grammar.specs.CutParts.{CutsInScript, CutsStatements, IsParsedBy, is_over, is_over_at}
+use Rattle.sql_grammar.specs.CutParts.{CutsInScript, CutsStatements, is_over, is_over_at}
 use Rattle.sql_grammar.specs.Parses.{AreOfFile}
 use Rattle.sql_grammar.specs.Parts.{moved_by, steps_of, table_by}
-use Rattle.sql_grammar.specs.ReadParts.{AreBefore, HasRead, HasReadPart, IsOfStatements, IsScriptParse, NoneEnds, NoneLeft, ReadSoFar, Reading, ReadsPart, StandsInText, at_front, script_table, tokens_at}
+use Rattle.sql_grammar.specs.ReadParts.{AreBefore, HasRead, HasReadPart, IsOfStatements, IsParsedBy, IsScriptParse, NoneEnds, NoneLeft, ReadSoFar, Reading, ReadsPart, StandsInText, at_front, script_table, tokens_at}
 use Rattle.sql_grammar.specs.StrayStrings.{stray_strings}
 use Rattle.sql_grammar.specs.declared.Detail.TheVariants.{Nodes}
 use Rattle.sql_grammar.specs.declared.script_parts.Progress.{Progress}
@@ -160,7 +160,7 @@ module _ (vocabulary : Keywords) (rules : RuleGrammar) (old : Reading) (l : Lexi
   slice_is : part.table ≡ table_of (keyword_of vocabulary) (slice_range old.lexer.text old.lexer.at l.at) cut
   slice_is = of_part ∙ ap (λ n. table_of (keyword_of vocabulary) (slice_range old.lexer.text old.lexer.at n) cut) (sym cuts.at)
 
-  statements : IsOfStatements vocabulary old next part
+  statements : IsOfStatements vocabulary rules old next part
   statements = record {
     count = in_script.part.count;
     after = cuts.after;
@@ -169,11 +169,7 @@ module _ (vocabulary : Keywords) (rules : RuleGrammar) (old : Reading) (l : Lexi
     tokens = cut;
     cut = cut_with old.is_last refl;
     table = slice_is;
-    by_rules = (
-      parsed.by,
-      parsed.hidden ∙ ap (λ (t : Table). stray_strings t.text cut) (sym of_part),
-      parsed.file,
-    );
+    parsed = subst (λ text. IsParsedBy rules vocabulary text cut part.table part.output.steps) (ap (λ (t : Table). t.text) (sym of_part)) parsed;
   }
 
   pub reads_part : ReadsPart vocabulary rules old next part

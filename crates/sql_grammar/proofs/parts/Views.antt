@@ -95,10 +95,10 @@ derive_moved r s words input whole from to off same view derives =
     let u = text_by rows sets others words whole (off + to) in
     let moves : Derives u (block r.now.start r.now.end) (off + from) (off + to) =
     moved rows sets words hidden others input whole to (off + to) off (sees t u off view) derives (omega arith) in
-    subst (λ m. Derives (text_by s.now.table.rows.now s.now.table.sets.now others words whole (off + to)) (block s.now.start m) (off + from) (off + to)) same.end
-    (subst (λ n. Derives (text_by s.now.table.rows.now s.now.table.sets.now others words whole (off + to)) (block n r.now.end) (off + from) (off + to)) same.start
-    (subst (λ all. Derives (text_by s.now.table.rows.now all others words whole (off + to)) (block r.now.start r.now.end) (off + from) (off + to)) same.sets
-    (subst (λ all. Derives (text_by all sets others words whole (off + to)) (block r.now.start r.now.end) (off + from) (off + to)) same.rows moves)))
+    subst (λ m. Derives (text_by s.now.table.rows.now s.now.table.sets.now others words whole (off + to)) (block s.now.start m) (off + from) (off + to)) (ap (λ (g : RuleGrammar). g.end) same)
+    (subst (λ n. Derives (text_by s.now.table.rows.now s.now.table.sets.now others words whole (off + to)) (block n r.now.end) (off + from) (off + to)) (ap (λ (g : RuleGrammar). g.start) same)
+    (subst (λ all. Derives (text_by s.now.table.rows.now all others words whole (off + to)) (block r.now.start r.now.end) (off + from) (off + to)) (ap (λ (g : RuleGrammar). g.table.sets.now) same)
+    (subst (λ all. Derives (text_by all sets others words whole (off + to)) (block r.now.start r.now.end) (off + from) (off + to)) (ap (λ (g : RuleGrammar). g.table.rows.now) same) moves)))
 
 -- ---- what is hidden
 

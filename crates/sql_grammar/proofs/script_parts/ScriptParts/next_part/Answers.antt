@@ -7,9 +7,9 @@ use Rattle.squawk_tokens.specs.declared.token.Token.{Token}
 use Rattle.squawk_parser.specs.declared.parser.parse_error.ParseError.TheVariants.{OutOfMemory}
 use Rattle.sql_lexer.specs.Lines.{EndsLine}
 use Rattle.sql_lexer.specs.ScriptLexing.{tokens_left}
-use Rattle.sql_grammar.specs.CutParts.{CutsInScript, CutsInText, IsParsedBy, RefusesTokens, is_over}
+use Rattle.sql_grammar.specs.CutParts.{CutsInScript, CutsInText, RefusesTokens, is_over}
 use Rattle.sql_grammar.specs.Parses.{IsRefusedByRules}
-use Rattle.sql_grammar.specs.ReadParts.{IsRefusedPart, ReadsPart, Reading}
+use Rattle.sql_grammar.specs.ReadParts.{IsParsedBy, IsRefusedPart, ReadsPart, Reading}
 use Rattle.sql_grammar.specs.declared.script_parts.Progress.TheVariants.{Inside}
 use Rattle.sql_grammar.specs.declared.script_parts.ScriptPart.{ScriptPart}
 use Rattle.sql_grammar.proofs.parts.Here.{here_accepted, here_begins, here_ends, stands_next}
