@@ -1,5 +1,5 @@
 -- A search for the last newline of a text.
-use Rattle.std.proofs.Common.{◌≡◌, ◌≢◌, ◌∙◌, ℕ, zero, suc, ◌+◌, ◌-◌, ◌<◌, ◌≤◌, List, [], ◌∷◌, ◌++◌, All, length, take, drop, get_or, slice_index, arith, ap, sym, subst, append_assoc, length-append, length-drop, take-append-drop, take-suc, drop-cons}
+use Rattle.std.proofs.Common.{◌≡◌, ◌≢◌, ◌∙◌, ℕ, zero, suc, ◌+◌, ◌-◌, ◌<◌, ◌≤◌, List, [], ◌∷◌, ◌++◌, All, length, take, drop, get_or, slice_index, arith, ap, sym, subst, append_assoc, length-append, take-append-drop, take-suc}
 use Rattle.std.proofs.Math.Seq.{get_or-append_seam, take-append_seam}
 use Rattle.std.specs.Prelude.{IsCharBoundary, IsUtf8}
 use Rattle.std.proofs.lemmas.Str.{IsCharBoundary-after_ascii, IsCharBoundary-start}
@@ -9,25 +9,6 @@ use Rattle.sql_grammar.specs.WholeLines.{AreWholeLines}
 pub record HasPassed (text : List ℕ) (end : ℕ) : Type 0 where
   pub within : end ≤ length text
   pub none : All (λ b. b ≢ 10) (drop end text)
-
-pub passed_none : (text : List ℕ) → HasPassed text (length text)
-passed_none text = record {
-  within = omega arith;
-  none = λ i d lt. absurd (omega (arith, lt, length-drop (length text) text));
-}
-
-one_more : (b : ℕ) (rest : List ℕ) → b ≢ 10 → All (λ b. b ≢ 10) rest → All (λ b. b ≢ 10) (b ∷ rest)
-one_more b rest other none zero d lt = other
-one_more b rest other none (suc i) d lt = none i d (omega (arith, lt))
-
-pub passed_one : (text : List ℕ) (end : ℕ) → HasPassed text end → 0 < end → slice_index text (end - 1) ≢ 10 → HasPassed text (end - 1)
-passed_one text end passed some other =
-    let next : suc (end - 1) ≡ end = omega (arith, some) in
-    record {
-      within = omega (arith, passed.within);
-      none = subst (All (λ b. b ≢ 10)) (sym (drop-cons text (end - 1) 0 (omega (arith, passed.within, some))))
-          (one_more (get_or text (end - 1) 0) (drop (suc (end - 1)) text) other (subst (λ n. All (λ b. b ≢ 10) (drop n text)) (sym next) passed.none));
-    }
 
 pub stops : (text : List ℕ) (end : ℕ) → HasPassed text end → (0 < end → slice_index text (end - 1) ≡ 10) → AreWholeLines text (take end text)
 stops text end passed newline = record {

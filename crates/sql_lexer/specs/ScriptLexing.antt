@@ -49,9 +49,6 @@ script_place place = None
 abbrev pub begun_at : ScriptPlace → List ℕ → Lexing
 begun_at place text = record { text = text; at = 0; place = place_of place }
 
-abbrev pub front_of : List ℕ → Lexing
-front_of text = begun_at script.Front text
-
 -- the text goes on
 abbrev pub longer : List ℕ → Lexing → Lexing
 longer rest l = record { text = l.text ++ rest; at = l.at; place = l.place }

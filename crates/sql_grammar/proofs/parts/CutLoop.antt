@@ -1,13 +1,13 @@
 -- A loop cuts statement after statement, and remembers where a part can end.
-use Rattle.std.proofs.Common.{◌≡◌, ◌∙◌, ℕ, zero, suc, ◌+◌, ◌-◌, ◌<◌, ◌≤◌, ◌&&◌, ◌||◌, ◌⊎◌, Bool, true, false, nat_lt, is_some, List, [], ◌∷◌, ◌++◌, length, take, length-append, ⊎_elim, arith, ap, sym, subst, refl}
+use Rattle.std.proofs.Common.{◌≡◌, ◌∙◌, ℕ, zero, suc, ◌+◌, ◌-◌, ◌<◌, ◌≤◌, ◌&&◌, ◌||◌, Bool, true, false, nat_lt, is_some, List, [], ◌∷◌, ◌++◌, length, take, length-append, ⊎_elim, arith, ap, sym, subst, refl}
 use Rattle.std.proofs.lemmas.Bool.{and_parts, cases_lt, false≢true, ltb-true}
 use Rattle.std.proofs.lemmas.List.{take_all, take-append-le}
 use Rattle.squawk_tokens.specs.declared.token.Token.{Token}
 use Rattle.sql_lexer.specs.Lines.{EndsLine}
 use Rattle.sql_lexer.specs.ScriptLexing.{Cuts, Lexing, after_statements, longer, next_statement, script_place}
-use Rattle.sql_grammar.specs.CutParts.{CutsInScript, CutsStatements}
+use Rattle.sql_grammar.specs.CutParts.{CutsStatements}
 use Rattle.sql_grammar.specs.ReadParts.{NoneEnds, can_end_part}
-use Rattle.sql_grammar.proofs.parts.Cuts.{cuts_next, cuts_none}
+use Rattle.sql_grammar.proofs.parts.Cuts.{cuts_next}
 use Rattle.sql_grammar.proofs.parts.Tables.{bytes}
 
 -- So many statements are cut up to a place, and up to one where a part can end.
@@ -26,24 +26,6 @@ pub record IsCutting (is_last : Bool) (old now kept : Lexing) (tokens : List Tok
   pub ends : is_last ≡ false → 0 < k → can_end_part kept ≡ true
   pub all : is_last ≡ true → (kept ≡ now) × (count ≡ length tokens)
   pub none : is_last ≡ false → count ≡ 0 → (m : ℕ) → 0 < m → m ≤ n → can_end_part (after_statements m old) ≡ false
-
-pub cutting_begins : (is_last : Bool) (l : Lexing) → IsCutting is_last l l l [] 0
-cutting_begins is_last l = record {
-  n = 0;
-  text = refl;
-  cuts = cuts_none l;
-  cuts_longer = λ ends lt rest. cuts_none (longer rest l);
-  k = 0;
-  kept_text = refl;
-  within = omega arith;
-  keeps = cuts_none l;
-  keeps_longer = λ last lt. absurd (omega (arith, lt));
-  some = λ lt. lt;
-  from_none = λ e. refl;
-  ends = λ last lt. absurd (omega (arith, lt));
-  all = λ last. (refl, refl);
-  none = λ last e m some le. absurd (omega (arith, some, le));
-}
 
 module _ (is_last : Bool) (old now kept new : Lexing) (tokens more : List Token) (count : ℕ) (is : IsCutting is_last old now kept tokens count) (left : now.at < length now.text)
     (same : new.text ≡ now.text) (cuts : Cuts now new tokens more)
@@ -175,28 +157,6 @@ module _ (is_last : Bool) (old now kept : Lexing) (tokens : List Token) (count :
         (omega (arith, at, ap (λ (l : Lexing). l.at) is.cuts.after, at_end, ap length is.text, ap length (later_text m old))))
         (cases_lt m (suc is.n)),
   )
-
-  pub ends_some : (is_last ≡ false → 0 < count) → (0 < count ⊎ length now.text ≤ now.at) → CutsInScript is_last old kept (take count tokens)
-  ends_some some stops = record {
-    text = is.kept_text;
-    part = record {
-      count = is.k;
-      some = λ lt. ⊎_elim (λ (more : 0 < count). is.some more) (λ (at_end : length now.text ≤ now.at). by_last is_last refl lt at_end) stops;
-      cuts = is.keeps;
-    };
-    ends = λ last. is.ends last (is.some (some last));
-    longer = λ last ends rest. (is.keeps_longer last (is.some (some last)) ends rest).left;
-  }
-    where
-      by_count : (n : ℕ) → count ≡ n → is_last ≡ true → old.at < length old.text → length now.text ≤ now.at → 0 < is.k
-      by_count zero e last lt at_end =
-          let same : kept ≡ old = subst (λ k. kept ≡ after_statements k old) (is.from_none e) is.keeps.after in
-          absurd (omega (arith, lt, at_end, ap length is.text, ap (λ (l : Lexing). l.at) (sym (is.all last).0 ∙ same)))
-      by_count (suc n) e last lt at_end = is.some (omega (arith, e))
-
-      by_last : (b : Bool) → is_last ≡ b → old.at < length old.text → length now.text ≤ now.at → 0 < is.k
-      by_last true last lt at_end = by_count count refl last lt at_end
-      by_last false last lt at_end = is.some (some last)
 
 -- ---- tests
 

@@ -27,7 +27,7 @@ use Rattle.sql_words.specs.SqlVocabulary.{KnowsKeywords}
 use Rattle.sql_grammar.specs.CutParts.{CutsInScript, CutsStatements, is_over, is_over_at}
 use Rattle.sql_grammar.specs.Parses.{AreOfFile}
 use Rattle.sql_grammar.specs.Parts.{moved_by, steps_of, table_by}
-use Rattle.sql_grammar.specs.ReadParts.{AreBefore, HasRead, HasReadPart, IsOfStatements, IsParsedBy, IsScriptParse, NoneEnds, NoneLeft, ReadSoFar, Reading, ReadsPart, StandsInText, at_front, script_table, tokens_at}
+use Rattle.sql_grammar.specs.ReadParts.{AreBefore, HasRead, HasReadPart, IsOfStatements, IsParsedBy, IsScriptParse, NoneLeft, ReadSoFar, Reading, ReadsPart, StandsInText, at_front, script_table, tokens_at}
 use Rattle.sql_grammar.specs.StrayStrings.{stray_strings}
 use Rattle.sql_grammar.specs.declared.Detail.TheVariants.{Nodes}
 use Rattle.sql_grammar.specs.declared.script_parts.Progress.{Progress}
@@ -225,9 +225,3 @@ over_none Front b r e = absurd (false≢true e)
 over_none Inside true r e = leb-true (length r.lexer.text) r.lexer.at e
 over_none Inside false r e = none_at_end r.lexer (leb-true (length r.lexer.text) r.lexer.at e)
 over_none Failed b r e = tt
-
-pub ends_none_left : (p : Progress) (b : Bool) (r : Reading) → b ≡ false → NoneEnds r.lexer → NoneLeft p b r
-ends_none_left p true r e none = absurd (false≢true (sym e))
-ends_none_left Front false r e none = none
-ends_none_left Inside false r e none = none
-ends_none_left Failed false r e none = tt

@@ -27,12 +27,3 @@ ends_drop zero text ends lt = ends
 ends_drop (suc n) [] ends lt = absurd (omega (arith, lt))
 ends_drop (suc n) (b ∷ []) ends lt = absurd (omega (arith, lt))
 ends_drop (suc n) (b ∷ c ∷ text) ends lt = ends_drop n (c ∷ text) (ends_next b c text ends) (omega (arith, lt))
-
--- a text of one byte is a newline
-pub ends_one : (b : ℕ) → EndsLine (b ∷ []) → b ≡ 10
-ends_one b ends = one ends.front ends.line
-  where
-    one : (front : List ℕ) → (b ∷ []) ≡ front ++ 10 ∷ [] → b ≡ 10
-    one [] e = cc
-    one (f ∷ []) e = cc
-    one (f ∷ g ∷ front) e = cc
