@@ -66,14 +66,11 @@ fn in_parts(alloc: Global, rules: &RuleGrammar<'_>, text: &str) -> Result<(Told,
 
 /// What is told of a script that comes as texts, each with so many bytes more than is left of the one before.
 fn in_texts(
-    rt: &(impl Abort + AllocGlobal),
+    alloc: Global,
     rules: &RuleGrammar<'_>,
     script: &str,
     size: usize,
-) -> Result<Told, Fail>
-    requires { 0 < size }
-{
-    let alloc = rt.alloc();
+) -> Result<Told, Fail> {
     let words = vocabulary(alloc)?;
     let all_names = names(alloc)?;
     let mut errors = ErrorLines::new(alloc, "x", script);
@@ -82,12 +79,11 @@ fn in_texts(
     let mut end = 0usize;
     let mut place = ScriptPlace::Front;
     while end < script.len() {
-        end = script.len().min(end.saturating_add(size));
+        end = script.len().min(end.saturating_add(size.max(1)));
         let text = script.get(read..end).unwrap_or("");
         let mut parts = ScriptParts::new(alloc, text, place, end == script.len())?;
         while let Some(part) = parts.next_part(&words, rules)? {
-            let start = read.saturating_add(part.start);
-            assert!(rt; start <= u32::MAX as usize);
+            let start = read.saturating_add(part.start).min(u32::MAX as usize);
             errors.part(&part.table, &part.output, start)?;
             walk.part(&part.table, &part.output, start)?;
         }
@@ -100,8 +96,13 @@ fn in_texts(
     })
 }
 
-/// Asserts that so many parts of a text are told as the whole.
-fn assert_parts(rt: &(impl Abort + AllocGlobal), text: &str, wanted: usize) -> Result<(), Fail> {
+/// Asserts that so many parts of a text are told as the whole, and that those of texts are whose sizes differ by so many bytes.
+fn assert_parts(
+    rt: &(impl Abort + AllocGlobal),
+    text: &str,
+    wanted: usize,
+    sizes: &[usize],
+) -> Result<(), Fail> {
     let alloc = rt.alloc();
     let tokens = tokenize_script(alloc, text)?;
     let words = vocabulary(alloc)?;
@@ -115,29 +116,20 @@ fn assert_parts(rt: &(impl Abort + AllocGlobal), text: &str, wanted: usize) -> R
     assert_eq!(rt; told.tree.as_str(), all.tree.as_str());
     assert_eq!(rt; told.errors.as_slice(), all.errors.as_slice());
     assert_eq!(rt; count, wanted);
+    for size in sizes {
+        let told = in_texts(alloc, &ready, text, *size)?;
+        assert_eq!(rt; told.tree.as_str(), all.tree.as_str());
+        assert_eq!(rt; told.errors.as_slice(), all.errors.as_slice());
+    }
     Ok(())
 }
 
 #[test]
 fn parts_are_told_as_the_whole(rt: HostRuntime) -> Result<(), Fail> {
-    assert_parts(&rt, "", 1)?;
-    assert_parts(&rt, PIECE, 1)?;
+    assert_parts(&rt, "", 1, &[])?;
+    assert_parts(&rt, PIECE, 1, &[1, 2, 3, 7, 20, 64, 1000])?;
     // A piece has 37 raw tokens, and a part 4,096 and those up to the end of a statement: the first ends with the semicolon
     // of COPY in piece 111, before its data.
     let text = PIECE.repeat(rt.alloc(), 250)?;
-    assert_parts(&rt, text.as_str(), 3)
-}
-
-#[test]
-fn texts_are_told_as_the_script(rt: HostRuntime) -> Result<(), Fail> {
-    let alloc = rt.alloc();
-    let ready = rules();
-    let script = PIECE.repeat(alloc, 2)?;
-    let (all, _) = in_parts(alloc, &ready, script.as_str())?;
-    for size in [1, 2, 3, 7, 20, 64, 1000] {
-        let told = in_texts(&rt, &ready, script.as_str(), size)?;
-        assert_eq!(&rt; told.tree.as_str(), all.tree.as_str());
-        assert_eq!(&rt; told.errors.as_slice(), all.errors.as_slice());
-    }
-    Ok(())
+    assert_parts(&rt, text.as_str(), 3, &[10_000])
 }
