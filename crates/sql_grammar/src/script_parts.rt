@@ -24,6 +24,9 @@ use std::marker::Model;
 /// A part has so many raw tokens, and those up to the end of a statement.
 const TOKENS_IN_PART: usize = 4096;
 
+/// Room for so many raw tokens is asked for at once, as most parts have fewer.
+const ROOM_FOR_TOKENS: usize = 5120;
+
 /// Whole statements of a script, or the last of it, with their parse.
 #[derive(Drop)]
 pub struct ScriptPart<'t> {
@@ -205,7 +208,7 @@ fn cut_part(
     ensures text { lexer.new.text ≡ lexer.old.text }
     ensures cuts { IfOk result (λ tokens. CutsInText is_last lexer.old lexer.new tokens) }
 {
-    let mut tokens = Vec::with_capacity(alloc, TOKENS_IN_PART)?;
+    let mut tokens = Vec::with_capacity(alloc, ROOM_FOR_TOKENS)?;
     let mut cut = lexer.fork();
     let mut count = 0;
     while count < TOKENS_IN_PART && !cut.is_at_end() {
