@@ -4,10 +4,10 @@
     dask_lint.py migrations 's3://bucket/2026-*'
     dask_lint.py s3://bucket --scheduler tcp://10.0.0.1:8786
 
-A URL names a folder, bucket, file or glob, as fsspec reads it; all *.sql there and below are linted. fsspec leaves out
-folders that it can't list. Without --scheduler worker processes start on this machine. A cluster is `dask scheduler` on
-one machine and `dask worker ADDRESS --nworkers -1 --nthreads 1` on each that works. All machines need the same versions
-of Python, caliperdock, distributed and fsspec, and what the URLs need, as s3fs; a URL names the same files on each.
+A URL names a folder, bucket, file or glob for fsspec, and all *.sql there and below are linted; fsspec passes over
+folders that it can't list. Without --scheduler the workers are processes on this machine. A cluster is `dask scheduler`
+on one machine and `dask worker ADDRESS --nworkers -1 --nthreads 1` on each that works. All machines have the same
+versions of Python, caliperdock, distributed, fsspec and what it needs, as s3fs, and a URL names the same files on each.
 
 Status: 0 without findings, 1 with some, 2 with wrong arguments, 3 where a file can't be read or the cluster fails.
 """
@@ -26,7 +26,7 @@ from toolz import partition_all
 # A path, a line, a column, a rule and a message: a tuple, so that no class has to reach the workers.
 Finding = tuple[str, int, int, str, str]
 
-# How many files a task takes at most: a task costs Dask as much time as a few small files cost a worker.
+# How many files a task takes at most: Dask spends more time on a task than a worker does on a small file.
 BATCH = 50
 UNREADABLE = "unreadable"
 
@@ -82,12 +82,13 @@ def files_at(url: str) -> Iterator[OpenFile]:
 
 
 def connect(scheduler: Optional[str], workers: Optional[int]) -> Client:
-    """Joins a cluster, or starts one on loopback alone, also with the HTTP that Dask serves without a dashboard."""
+    """Joins a cluster, or starts one on loopback."""
     if scheduler:
         return Client(scheduler)
+    # Without a dashboard Dask serves HTTP all the same: on loopback, too, where it is given an address.
     http = {"dashboard_address": "127.0.0.1:0", "worker_dashboard_address": "127.0.0.1:0"}
-    shown = {"dashboard": False}
-    return Client(host="127.0.0.1", n_workers=workers, threads_per_worker=1, scheduler_kwargs=shown, **http)
+    hidden = {"dashboard": False}
+    return Client(host="127.0.0.1", n_workers=workers, threads_per_worker=1, scheduler_kwargs=hidden, **http)
 
 
 def main(arguments: Optional[Sequence[str]] = None) -> int:
