@@ -1,8 +1,7 @@
 -- Rules that agree: by a test, and the first of several.
-use Rattle.std.proofs.Common.{◌≡◌, ◌∙◌, ℕ, Bool, true, false, Option, Some, None, List, [], ◌∷◌, ◌++◌, ◌⊎◌, inl, inr, length, ap, refl, sym, subst, true≢false}
+use Rattle.std.proofs.Common.{◌≡◌, ◌∙◌, ℕ, Bool, true, false, Option, Some, None, List, [], ◌∷◌, ◌++◌, ◌⊎◌, inl, inr, length, ap, refl, true≢false}
 use Rattle.std.proofs.lemmas.Bool.{false≢true}
 use Rattle.squawk_tokens.specs.declared.token.Token.{Token}
-use Rattle.sql_lexer.specs.Lines.{EndsLine}
 use Rattle.sql_lexer.specs.Rules.{when, or_else, first_of}
 use Rattle.sql_lexer.proofs.lines.Agrees.{Agrees, Reaches}
 
@@ -14,10 +13,6 @@ when_agrees text true true other found same agree =
 when_agrees text false false other found same agree = inl refl
 when_agrees text true false other found same agree = absurd (true≢false same)
 when_agrees text false true other found same agree = absurd (false≢true same)
-
--- of a text that ends a line, by what stands before its newline
-pub of_line : (rule : List ℕ → Option Token) (text rest : List ℕ) → EndsLine text → ((front : List ℕ) → Agrees rule (front ++ 10 ∷ []) rest) → Agrees rule text rest
-of_line rule text rest ends agree = subst (λ t. Agrees rule t rest) (sym ends.line) (agree ends.front)
 
 -- ---- the first of several
 

@@ -14,8 +14,8 @@ use Rattle.sql_lexer.specs.Comments.{block_comment, comment_kind, comment_end}
 use Rattle.sql_lexer.specs.Strings.{string, string_kind, quoted_identifier, identifier_kind, quote_end, escape_end, has_letter, escape_kind, bit_kind, byte_kind, national_kind, has_unicode, unicode_kind, unicode_identifier_kind, prefixed}
 use Rattle.sql_lexer.specs.DollarQuotes.{dollar_quote, dollar_kind, tag_len, name_len, first_end}
 use Rattle.sql_lexer.proofs.lines.Agrees.{Agrees, Reaches}
-use Rattle.sql_lexer.proofs.lines.Choice.{AllAgree, when_agrees, of_line, agrees-first_of}
-use Rattle.sql_lexer.proofs.lines.Runs.{first_same, run_stops, run_within, two_same}
+use Rattle.sql_lexer.proofs.lines.Choice.{AllAgree, when_agrees, agrees-first_of}
+use Rattle.sql_lexer.proofs.lines.LineParts.{by_front, line_of, run_inside, same_begins, same_first}
 use Rattle.sql_lexer.proofs.lines.KeptEnds.{Kept, quote_keeps, escape_keeps, comment_keeps, first_keeps}
 
 -- a rule with a test, and an end that is looked for behind n bytes
@@ -43,10 +43,10 @@ behind_two (b ∷ c ∷ text) rest = comment_keeps 0 text rest
 
 blocks : (front rest : List ℕ) → Agrees block_comment (front ++ 10 ∷ []) rest
 blocks front rest =
-    closed_agrees (λ t. begins t (codes "/*")) comment_kind 2 (comment_end 0) (front ++ 10 ∷ []) rest (two_same 47 42 front rest refl) (λ e. behind_two (front ++ 10 ∷ []) rest)
+    closed_agrees (λ t. begins t (codes "/*")) comment_kind 2 (comment_end 0) (front ++ 10 ∷ []) rest (same_begins (47 ∷ 42 ∷ []) (front ++ 10 ∷ []) rest refl (line_of front)) (λ e. behind_two (front ++ 10 ∷ []) rest)
 
 pub agrees-block_comment : (text rest : List ℕ) → EndsLine text → Agrees block_comment text rest
-agrees-block_comment text rest ends = of_line block_comment text rest ends (λ front. blocks front rest)
+agrees-block_comment text rest ends = by_front (λ t. Agrees block_comment t rest) text ends (λ front. blocks front rest)
 
 -- ---- quotes, none of which is a newline
 
@@ -58,10 +58,10 @@ quoted kind quote (b ∷ front) rest none =
     closed_agrees (λ t. first t == quote) kind 1 (quote_end quote) (b ∷ (front ++ 10 ∷ [])) rest refl (λ e. quote_keeps quote front rest none)
 
 pub agrees-string : (text rest : List ℕ) → EndsLine text → Agrees string text rest
-agrees-string text rest ends = of_line string text rest ends (λ front. quoted string_kind 39 front rest refl)
+agrees-string text rest ends = by_front (λ t. Agrees string t rest) text ends (λ front. quoted string_kind 39 front rest refl)
 
 pub agrees-quoted_identifier : (text rest : List ℕ) → EndsLine text → Agrees quoted_identifier text rest
-agrees-quoted_identifier text rest ends = of_line quoted_identifier text rest ends (λ front. quoted identifier_kind 34 front rest refl)
+agrees-quoted_identifier text rest ends = by_front (λ t. Agrees quoted_identifier t rest) text ends (λ front. quoted identifier_kind 34 front rest refl)
 
 -- behind a letter
 letters : (kind : Bool → TokenKind) (letter : ℕ) (end : List ℕ → Option ℕ) (front rest : List ℕ) → (to_ascii_lowercase 10 == letter) ≡ false
@@ -119,13 +119,13 @@ agrees-prefixed text rest ends = agrees-first_of prefixed text rest (agree-prefi
 name_same : (front rest : List ℕ) → name_len ((front ++ 10 ∷ []) ++ rest) ≡ name_len (front ++ 10 ∷ [])
 name_same front rest =
     let text = front ++ 10 ∷ [] in
-    ap (λ b. if is_name_start b then prefix_len is_tag_part (text ++ rest) else 0) (first_same front rest)
-    ∙ ap (λ n. if is_name_start (first text) then n else 0) (run_stops is_tag_part front rest refl)
+    ap (λ b. if is_name_start b then prefix_len is_tag_part (text ++ rest) else 0) (same_first (front ++ 10 ∷ []) rest (line_of front))
+    ∙ ap (λ n. if is_name_start (first text) then n else 0) (run_inside is_tag_part (front ++ 10 ∷ []) rest refl (line_of front)).same
 
 name_within : (front : List ℕ) → name_len (front ++ 10 ∷ []) < length (front ++ 10 ∷ [])
 name_within front =
     let text = front ++ 10 ∷ [] in
-    let within = run_within is_tag_part front refl in
+    let within = (run_inside is_tag_part (front ++ 10 ∷ []) [] refl (line_of front)).within in
     cond_both (is_name_start (first text)) (prefix_len is_tag_part text) 0 (λ n. n < length text) (λ e. within) (λ e. omega (arith, within))
 
 tag_same : (front rest : List ℕ) → tag_len ((front ++ 10 ∷ []) ++ rest) ≡ tag_len (front ++ 10 ∷ [])
@@ -168,4 +168,4 @@ dollars front rest =
     subst (λ found. (option_map (behind_tag (text ++ rest)) found ≡ short) ⊎ Reaches text short) (sym (tag_same front rest)) (one_tag text rest (tag_len text) (tag_within front))
 
 pub agrees-dollar_quote : (text rest : List ℕ) → EndsLine text → Agrees dollar_quote text rest
-agrees-dollar_quote text rest ends = of_line dollar_quote text rest ends (λ front. dollars front rest)
+agrees-dollar_quote text rest ends = by_front (λ t. Agrees dollar_quote t rest) text ends (λ front. dollars front rest)

@@ -13,6 +13,9 @@ pub record IsInside (len : List ℕ → ℕ) (text rest : List ℕ) : Type 0 whe
   pub same : len (text ++ rest) ≡ len text
   pub within : len text < length text
 
+pub line_of : (front : List ℕ) → EndsLine (front ++ 10 ∷ [])
+line_of front = record { front = front; line = refl }
+
 -- what holds of each line holds of a text that ends one
 pub by_front : (P : List ℕ → Type 0) (text : List ℕ) → EndsLine text → ((front : List ℕ) → P (front ++ 10 ∷ [])) → P text
 by_front P text ends each = subst P (sym ends.line) (each ends.front)
