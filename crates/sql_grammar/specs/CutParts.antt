@@ -1,5 +1,5 @@
 -- A part that is cut and parsed. Only private functions speak of it.
-use Rattle.std.specs.Prelude.{◌≡◌, ◌<◌, ℕ, ◌+◌, nat_le, Bool, true, false, Option, Some, None, List, [], ◌∷◌, ◌++◌, Vec, length, sum_by}
+use Rattle.std.specs.Prelude.{◌≡◌, ◌<◌, ◌≤◌, ◌⊎◌, ℕ, ◌+◌, nat_le, Bool, true, false, Option, Some, None, List, [], ◌∷◌, ◌++◌, Vec, length, sum_by}
 use Rattle.std.specs.declared.alloc.Global.{Global}
 use Rattle.squawk_keywords.specs.KeywordAnswers.{contextual_keyword_of, keyword_of}
 use Rattle.squawk_keywords.specs.declared.keywords.Keywords.{Keywords}
@@ -14,9 +14,9 @@ use Rattle.sql_lexer.specs.Statements.{after, ends_with, is_start}
 use Rattle.sql_lexer.specs.declared.statements.Statement.{Statement}
 use Rattle.sql_lexer.specs.declared.statements.Word.{Word}
 use Rattle.sql_grammar.specs.Parses.{IsRefusedByRules}
-use Rattle.sql_grammar.specs.ReadParts.{NoneEnds, Reading, can_end_part}
+use Rattle.sql_grammar.specs.ReadParts.{NoneEnds, NoneLeft, Reading, can_end_part}
 use Rattle.sql_grammar.specs.declared.script_parts.Progress.{Progress}
-use Rattle.sql_grammar.specs.declared.script_parts.Progress.TheVariants.{Front, Inside, Failed}
+use Rattle.sql_grammar.specs.declared.script_parts.Progress.TheVariants.{Front, Inside}
 
 -- the last of these words ends a statement, where this one is begun before the first
 abbrev pub LastEnds : Statement → List Word → Type 0
@@ -41,23 +41,23 @@ pub record CutsPart (old new : Lexing) (cut : List Token) : Type 0 where
   pub some : old.at < length old.text → 0 < count
   pub cuts : CutsStatements count old new cut
 
--- The same whatever texts follow, where there may be some.
-pub record CutsInScript (is_last : Bool) (old new : Lexing) (cut : List Token) : Type 0 where
+-- The same whatever texts follow, where there may be some. So many bytes are cut, or there is no other part.
+pub record CutsInScript (least : ℕ) (is_last : Bool) (old new : Lexing) (cut : List Token) : Type 0 where
   pub text : new.text ≡ old.text
   pub part : CutsPart old new cut
   pub ends : is_last ≡ false → can_end_part new ≡ true
   pub longer : is_last ≡ false → EndsLine old.text → (rest : List ℕ) → tokens_left (longer rest old) ≡ cut ++ tokens_left (longer rest new)
+  pub full : (old.at + least ≤ new.at) ⊎ NoneLeft is_last new
 
 -- some statements are cut, or none before other texts
-abbrev pub CutsInText : Bool → Lexing → Lexing → Option (Vec Token Global) → Type 0
-CutsInText is_last old new (Some cut) = CutsInScript is_last old new cut.items
-CutsInText is_last old new None = (new ≡ old) × ((is_last ≡ false) × NoneEnds old)
+abbrev pub CutsInText : ℕ → Bool → Lexing → Option (Lexing × Vec Token Global) → Type 0
+CutsInText least is_last old (Some found) = CutsInScript least is_last old found.0 found.1.items
+CutsInText least is_last old None = (is_last ≡ false) × NoneEnds old
 
--- all is read, or reading has failed
+-- all is read
 abbrev pub is_over_at : Progress → Lexing → Bool
 is_over_at Front lexer = false
 is_over_at Inside lexer = nat_le (length lexer.text) lexer.at
-is_over_at Failed lexer = true
 
 abbrev pub is_over : Reading → Bool
 is_over r = is_over_at r.progress r.lexer

@@ -1,5 +1,5 @@
 -- A script that is read a part at a time.
-use Rattle.std.specs.Prelude.{◌≡◌, ◌≢◌, ◌<◌, ◌≤◌, ◌&&◌, ℕ, ◌+◌, ◌-◌, nat_lt, is_some, Bool, true, false, List, [], ◌∷◌, ◌++◌, All, IsUtf8, length, map, slice_range, sum_by, take}
+use Rattle.std.specs.Prelude.{◌≡◌, ◌<◌, ◌≤◌, ◌&&◌, ℕ, ◌+◌, ◌-◌, nat_lt, is_some, Bool, true, false, List, [], ◌∷◌, ◌++◌, All, IsUtf8, length, map, slice_range, sum_by, take}
 use Rattle.std.specs.Borrow.{Bor}
 use Rattle.std.specs.Str.{chars}
 use Rattle.squawk_keywords.specs.KeywordAnswers.{contextual_keyword_of, keyword_of}
@@ -30,7 +30,7 @@ use Rattle.sql_grammar.specs.StrayStrings.{stray_strings}
 use Rattle.sql_grammar.specs.WholeLines.{AreWholeLines}
 use Rattle.sql_grammar.specs.declared.Detail.TheVariants.{Nodes}
 use Rattle.sql_grammar.specs.declared.script_parts.Progress.{Progress}
-use Rattle.sql_grammar.specs.declared.script_parts.Progress.TheVariants.{Front, Inside, Failed}
+use Rattle.sql_grammar.specs.declared.script_parts.Progress.TheVariants.{Front, Inside}
 use Rattle.sql_grammar.specs.declared.script_parts.ScriptPart.{ScriptPart}
 
 -- the lexer that cuts a text, the place of the script where the text begins, whether the script ends with it, and how far
@@ -68,11 +68,10 @@ pub record StandsInText (place : ScriptPlace) (lexer : Lexing) : Type 0 where
   pub bytes : sum_by (λ (t : Token). t.len) front ≡ lexer.at
   pub starts : lexer.at < length lexer.text → is_start (statement_at lexer.place) ≡ true
 
--- what it keeps of its text and of how many bytes are read, until it has failed
-pub record IsReading (r : Reading) (text : List ℕ) (bytes : ℕ) : Type 0 where
+-- what it keeps of its text
+pub record IsReading (r : Reading) (text : List ℕ) : Type 0 where
   pub of_text : r.lexer.text ≡ text
-  pub at : r.progress ≢ Failed → bytes ≡ r.lexer.at
-  pub stands : r.progress ≢ Failed → StandsInText r.begun r.lexer
+  pub stands : StandsInText r.begun r.lexer
   pub lines : r.is_last ≡ false → 0 < length text → EndsLine text
 
 -- how many bytes are left; at the front there is a part, even without a byte
@@ -107,7 +106,6 @@ pub record HasReadNothing (r : Reading) (errors : List LexicalError) (done : Lis
 abbrev pub ReadSoFar : Progress → Keywords → RuleGrammar → Reading → List LexicalError → List OwnedStep → Type 0
 ReadSoFar Front vocabulary rules r errors done = HasReadNothing r errors done
 ReadSoFar Inside vocabulary rules r errors done = HasReadPart vocabulary rules r errors done
-ReadSoFar Failed vocabulary rules r errors done = ⊥
 
 abbrev pub HasRead : Keywords → RuleGrammar → Reading → List LexicalError → List OwnedStep → Type 0
 HasRead vocabulary rules r errors done = KnowsKeywords vocabulary × ReadSoFar r.progress vocabulary rules r errors done
@@ -158,6 +156,7 @@ pub record ReadsPart (vocabulary : Keywords) (rules : RuleGrammar) (old new : Re
   pub start : part.start ≡ old.lexer.at
   pub statements : IsOfStatements vocabulary rules old new part
   pub fits : Fits part.table part.output.steps
+  pub whole : texts_of (sent_list part.table part.output.steps) ≡ chars part.table.text
   pub short : part.start + length part.table.text ≤ 4294967295
   pub few : (length part.output.steps ≤ 4294967295) × (errors_in part.output.steps ≤ 2147483648)
   pub inner : List OwnedStep
@@ -172,16 +171,16 @@ pub record ReadsPart (vocabulary : Keywords) (rules : RuleGrammar) (old new : Re
 abbrev pub NoneEnds : Lexing → Type 0
 NoneEnds l = (count : ℕ) → 0 < count → can_end_part (after_statements count l) ≡ false
 
-abbrev pub NoneLeft : Progress → Bool → Reading → Type 0
-NoneLeft Failed is_last r = Unit {0}
-NoneLeft progress true r = length r.lexer.text ≤ r.lexer.at
-NoneLeft progress false r = NoneEnds r.lexer
+-- there is no other part: all of the last text is read, or no part can end in what is left of another text
+abbrev pub NoneLeft : Bool → Lexing → Type 0
+NoneLeft true l = length l.text ≤ l.at
+NoneLeft false l = NoneEnds l
 
--- Nothing changes, and there is no other part: all of the last text is read, or no part can end in what is left of another
--- text, or reading has failed.
+-- Nothing changes, since there is no other part. At the front of a script there is one, even without a byte.
 pub record IsOver (old new : Reading) : Type 0 where
   pub same : new ≡ old
-  pub none : NoneLeft old.progress old.is_last old
+  pub none : NoneLeft old.is_last old.lexer
+  pub inside : old.is_last ≡ true → old.progress ≡ Inside
 
 -- ---- all of a script
 

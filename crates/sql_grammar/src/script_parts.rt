@@ -1,8 +1,10 @@
 //! A script a part at a time.
-ghost use Rattle.std.specs.Prelude.{◌≡◌, ◌≢◌, ◌<◌, ◌≤◌, ◌^◌, false, length, sum_by, true, IfErr, IfOk};
+ghost use Rattle.std.specs.Prelude.{◌≡◌, ◌≢◌, ◌≤◌, ◌⊎◌, false, length, true, IfErr, IfOk};
+ghost use Rattle.std.specs.Str.{chars};
 ghost use Rattle.squawk_output.specs.Steps.{errors_in};
 ghost use Rattle.squawk_keywords.specs.KeywordAnswers.{keyword_of};
 ghost use Rattle.squawk_table.specs.RawTable.{IsTable, table_of};
+ghost use Rattle.squawk_table.specs.Sent.{sent_list, texts_of};
 ghost use Rattle.squawk_table.specs.Shape.{Fits};
 ghost use Rattle.squawk_tokens.specs.AcceptedTokens.{AreAcceptedTokens};
 ghost use Rattle.sql_grammar.specs.CutParts.{CutsInText, RefusesTokens};
@@ -20,9 +22,6 @@ use squawk_keywords::Keywords;
 use squawk_parser::{LexedStr, Output, ParseError, Token};
 use std::alloc::{AllocError, Global};
 use std::marker::Model;
-
-/// A part has so many raw tokens, and those up to the end of a statement.
-const TOKENS_IN_PART: usize = 4096;
 
 /// Room for so many raw tokens is asked for at once, as most parts have fewer.
 const ROOM_FOR_TOKENS: usize = 5120;
@@ -43,14 +42,12 @@ pub struct ScriptPart<'t> {
 enum Progress {
     Front,
     Inside,
-    /// An error was returned.
-    Failed,
 }
 
 /// Reads a script, one that `psql` reads or `pg_dump` writes, a part at a time. It holds what belongs to one part.
 ///
-/// A part is whole statements, some 16 kilobytes of them. A script may come as several texts, one after another: what is
-/// left of one, after its last part, begins the next one. The last part of the last text has the rest of the script.
+/// A part is whole statements. A script may come as several texts, one after another: what is left of one, after its last
+/// part, begins the next one. The last part of the last text has the rest of the script.
 #[derive(Drop)]
 pub struct ScriptParts<'t> {
     alloc: Global,
@@ -58,8 +55,6 @@ pub struct ScriptParts<'t> {
     begun: ScriptPlace,
     is_last: bool,
     lexer: ScriptLexer<'t>,
-    /// How many bytes are read.
-    at: usize,
     progress: Progress,
 }
 
@@ -70,11 +65,11 @@ impl<'t> Model for ScriptParts<'t> {
 
     ghost view = { λ p. record { lexer = p.lexer; begun = p.begun; is_last = p.is_last; progress = p.progress } };
 
-    ghost invariant = { λ p. IsReading (record { lexer = p.lexer; begun = p.begun; is_last = p.is_last; progress = p.progress }) p.text.now p.at };
+    ghost invariant = { λ p. IsReading (record { lexer = p.lexer; begun = p.begun; is_last = p.is_last; progress = p.progress }) p.text.now };
 }
 
 impl<'t> ScriptParts<'t> {
-    ghost use Rattle.std.specs.Prelude.{◌≡◌, ◌≢◌, true, [], ◌∷◌, ◌++◌, List, None, IfErr, IfOk, IfSome};
+    ghost use Rattle.std.specs.Prelude.{◌≡◌, ◌≢◌, ◌≤◌, ◌⊎◌, true, [], ◌∷◌, ◌++◌, List, None, length, IfErr, IfOk, IfSome, OnErr};
     ghost use Rattle.squawk_keywords.specs.declared.keywords.Keywords.{Keywords};
     ghost use Rattle.squawk_table.specs.declared.shortcuts.str_step.OwnedStep.{OwnedStep};
     ghost use Rattle.squawk_table.specs.declared.shortcuts.str_step.OwnedStep.TheVariants.{Enter, Exit};
@@ -86,7 +81,7 @@ impl<'t> ScriptParts<'t> {
     ghost use Rattle.sql_words.specs.SqlVocabulary.{KnowsKeywords};
     ghost use Rattle.sql_grammar.specs.CutParts.{is_over};
     ghost use Rattle.sql_grammar.specs.Kinds.{SOURCE_FILE};
-    ghost use Rattle.sql_grammar.specs.ReadParts.{BeginsText, HasRead, IsOver, IsRefusedPart, IsScriptParse, ReadsPart};
+    ghost use Rattle.sql_grammar.specs.ReadParts.{BeginsText, HasRead, IsOver, IsRefusedPart, IsScriptParse, NoneLeft, ReadsPart};
 
     /// A reader at the front of a text, which begins at this place of a script. The script ends with the last text; of any other
     /// one what stands after the end of its last line isn't read. More than `u32::MAX` bytes are refused.
@@ -108,40 +103,40 @@ impl<'t> ScriptParts<'t> {
             begun: place,
             is_last,
             lexer: ScriptLexer::new(text, place)?,
-            at: 0,
             progress: begun_with(place),
         })
     }
 
-    /// Reads the next part, if there is one, and parses it by rules. After an error there is none.
+    /// Reads the next part, if there is one, and parses it by rules. After an error all is as before.
     ///
-    /// In a text that isn't the last one a part ends before the last line does, where a statement or a line of data ends.
+    /// A part ends with the first statement after this many bytes: with 1 it is one statement, with `usize::MAX` it is all
+    /// that is left. In a text that isn't the last one a part ends before the last line does, where a statement or a line of
+    /// data ends.
     pub fn next_part(
         &mut self,
+        least: usize,
         vocabulary: &Keywords<'_>,
         rules: &RuleGrammar<'_>,
     ) -> Result<Option<ScriptPart<'t>>, ParseError>
         ensures reads { IfOk result (λ found. IfSome found (λ part. ReadsPart vocabulary.now rules.now self.old self.new part)) }
+        ensures full { IfOk result (λ found. IfSome found (λ part. (least ≤ length part.table.text) ⊎ NoneLeft self.new.is_last self.new.lexer)) }
         ensures over { IfOk result (λ found. found ≡ None → IsOver self.old self.new) }
         // After the last part of a script in one text what is read is the parse of the script.
         ensures ends { IfOk result (λ found. found ≡ None → self.old.is_last ≡ true → (errors : List LexicalError) (done : List OwnedStep) → HasRead vocabulary.now rules.now self.old errors done
             → self.old.begun ≡ script.Front → IsScriptParse vocabulary.now self.old.lexer.text errors (done ++ Exit ∷ [])) }
         ensures refused { IfErr result (λ reason. reason ≢ ParseError.OutOfMemory → IsRefusedPart vocabulary.now self.old.begun self.old.lexer.text reason) }
+        ensures stays { OnErr result (self.new ≡ self.old) }
     {
         if self.is_over() {
             return Ok(None);
         }
-        let begun = self.progress;
-        self.progress = Progress::Failed;
-        let Some(tokens) = cut_part(self.alloc, &mut self.lexer, self.is_last)? else {
-            self.progress = begun;
+        let Some((lexer, tokens)) = cut_part(self.alloc, &self.lexer, least, self.is_last)? else {
             return Ok(None);
         };
-        let start = self.at;
-        let end = start + bytes_of(&tokens);
-        let text = &self.text[start..end];
+        let start = self.lexer.position();
+        let text = &self.text[start..lexer.position()];
         let (table, output) = parse_tokens(self.alloc, text, tokens, vocabulary, rules)?;
-        self.at = end;
+        self.lexer = lexer;
         self.progress = Progress::Inside;
         Ok(Some(ScriptPart {
             start,
@@ -152,9 +147,9 @@ impl<'t> ScriptParts<'t> {
 
     /// How many bytes are read.
     pub fn position(&self) -> usize
-        ensures { self.now.progress ≢ Progress.Failed → result ≡ self.now.lexer.at }
+        ensures { result ≡ self.now.lexer.at }
     {
-        self.at
+        self.lexer.position()
     }
 
     /// Where the script stands after what is read, if another text may begin there, as it may after the last part of a text that
@@ -172,7 +167,6 @@ impl<'t> ScriptParts<'t> {
         match self.progress {
             Progress::Front => false,
             Progress::Inside => self.lexer.is_at_end(),
-            Progress::Failed => true,
         }
     }
 }
@@ -199,22 +193,25 @@ fn begun_with(place: ScriptPlace) -> Progress
     }
 }
 
-/// Cuts statements up to a part's last one. None are cut where the script goes on in another text, and no part ends in this one.
-fn cut_part(
+/// Cuts statements up to the first that ends after so many bytes, and a part can end there. None are cut where the script goes on
+/// in another text, and no part ends in this one.
+fn cut_part<'t>(
     alloc: Global,
-    lexer: &mut ScriptLexer<'_>,
+    lexer: &ScriptLexer<'t>,
+    least: usize,
     is_last: bool,
-) -> Result<Option<Vec<Token>>, AllocError>
-    ensures text { lexer.new.text ≡ lexer.old.text }
-    ensures cuts { IfOk result (λ tokens. CutsInText is_last lexer.old lexer.new tokens) }
+) -> Result<Option<(ScriptLexer<'t>, Vec<Token>)>, AllocError>
+    ensures cuts { IfOk result (λ found. CutsInText least is_last lexer.now found) }
 {
+    let enough = lexer.position().saturating_add(least.max(1));
     let mut tokens = Vec::with_capacity(alloc, ROOM_FOR_TOKENS)?;
     let mut cut = lexer.fork();
+    let mut end = lexer.fork();
     let mut count = 0;
-    while count < TOKENS_IN_PART && !cut.is_at_end() {
+    while end.position() < enough && !cut.is_at_end() {
         cut.next_statement(&mut tokens)?;
         if is_last || can_end_part(&cut) {
-            *lexer = cut.fork();
+            end = cut.fork();
             count = tokens.len();
         }
     }
@@ -222,7 +219,7 @@ fn cut_part(
         return Ok(None);
     }
     tokens.truncate(count);
-    Ok(Some(tokens))
+    Ok(Some((end, tokens)))
 }
 
 /// Whether a part can end here that another text follows: some of the text is left, and the script can go on here.
@@ -230,18 +227,6 @@ fn can_end_part(lexer: &ScriptLexer<'_>) -> bool
     ensures { result ≡ can_end_part lexer.now }
 {
     !lexer.is_at_end() && lexer.place().is_some()
-}
-
-/// How many bytes tokens have.
-fn bytes_of(tokens: &[Token]) -> usize
-    requires { sum_by (λ t. t.len) tokens.now < 2 ^ 64 }
-    ensures { result ≡ sum_by (λ t. t.len) tokens.now }
-{
-    let mut bytes = 0;
-    for token in tokens {
-        bytes += token.len as usize;
-    }
-    bytes
 }
 
 /// Parses a text by rules that hide its stray strings. The tokens are all of it, and their list is freed before the parse.
@@ -256,6 +241,7 @@ fn parse_tokens<'t>(
     ensures table { IfOk result (λ both. both.0 ≡ table_of (keyword_of vocabulary.now) text.now tokens.items) }
     ensures is_table { IfOk result (λ both. IsTable both.0) }
     ensures fits { IfOk result (λ both. Fits both.0 both.1.steps) }
+    ensures whole { IfOk result (λ both. texts_of (sent_list both.0 both.1.steps) ≡ chars text.now) }
     ensures few { IfOk result (λ both. (length both.1.steps ≤ 4294967295) × (errors_in both.1.steps ≤ 2147483648)) }
     ensures parsed { IfOk result (λ both. IsParsedBy rules.now vocabulary.now text.now tokens.items both.0 both.1.steps) }
     ensures refused { IfErr result (λ reason. reason ≢ ParseError.OutOfMemory → RefusesTokens vocabulary.now text.now tokens.items reason) }

@@ -46,15 +46,20 @@ fn whole(
     })
 }
 
-/// What is told of the parts of a text, and how many there are.
-fn in_parts(alloc: Global, rules: &RuleGrammar<'_>, text: &str) -> Result<(Told, usize), Fail> {
+/// What is told of the parts of a text, of so many bytes at least, and how many there are.
+fn in_parts(
+    alloc: Global,
+    rules: &RuleGrammar<'_>,
+    text: &str,
+    least: usize,
+) -> Result<(Told, usize), Fail> {
     let words = vocabulary(alloc)?;
     let all_names = names(alloc)?;
     let mut parts = ScriptParts::new(alloc, text, ScriptPlace::Front, true)?;
     let mut errors = ErrorLines::new(alloc, "x", text);
     let mut walk = Walk::new(alloc, &all_names, Asked::Tree, SqlKind::SOURCE_FILE)?;
     let mut count = 0usize;
-    while let Some(part) = parts.next_part(&words, rules)? {
+    while let Some(part) = parts.next_part(least, &words, rules)? {
         errors.part(&part.table, &part.output, part.start)?;
         walk.part(&part.table, &part.output, part.start)?;
         count = count.saturating_add(1);
@@ -82,7 +87,7 @@ fn in_texts(
         end = script.len().min(end.saturating_add(size.max(1)));
         let text = script.get(read..end).unwrap_or("");
         let mut parts = ScriptParts::new(alloc, text, place, end == script.len())?;
-        while let Some(part) = parts.next_part(&words, rules)? {
+        while let Some(part) = parts.next_part(usize::MAX, &words, rules)? {
             let start = read.saturating_add(part.start).min(u32::MAX as usize);
             errors.part(&part.table, &part.output, start)?;
             walk.part(&part.table, &part.output, start)?;
@@ -96,11 +101,12 @@ fn in_texts(
     })
 }
 
-/// Asserts that so many parts of a text are told as the whole, and that those of texts are whose sizes differ by so many bytes.
+/// Asserts that parts of so many bytes at least, of which there are so many, are told as the whole, and that those of texts are
+/// whose sizes differ by so many bytes.
 fn assert_parts(
     rt: &(impl Abort + AllocGlobal),
     text: &str,
-    wanted: usize,
+    parts: &[(usize, usize)],
     sizes: &[usize],
 ) -> Result<(), Fail> {
     let alloc = rt.alloc();
@@ -112,10 +118,12 @@ fn assert_parts(
     let rules = hiding(&ready, &strays);
     let output = parse_table(alloc, &table, &words, Detail::Nodes(&rules))?;
     let all = whole(alloc, text, &table, &output)?;
-    let (told, count) = in_parts(alloc, &ready, text)?;
-    assert_eq!(rt; told.tree.as_str(), all.tree.as_str());
-    assert_eq!(rt; told.errors.as_slice(), all.errors.as_slice());
-    assert_eq!(rt; count, wanted);
+    for (least, wanted) in parts {
+        let (told, count) = in_parts(alloc, &ready, text, *least)?;
+        assert_eq!(rt; told.tree.as_str(), all.tree.as_str());
+        assert_eq!(rt; told.errors.as_slice(), all.errors.as_slice());
+        assert_eq!(rt; count, *wanted);
+    }
     for size in sizes {
         let told = in_texts(alloc, &ready, text, *size)?;
         assert_eq!(rt; told.tree.as_str(), all.tree.as_str());
@@ -126,10 +134,17 @@ fn assert_parts(
 
 #[test]
 fn parts_are_told_as_the_whole(rt: HostRuntime) -> Result<(), Fail> {
-    assert_parts(&rt, "", 1, &[])?;
-    assert_parts(&rt, PIECE, 1, &[1, 2, 3, 7, 20, 64, 1000])?;
-    // A piece has 37 raw tokens, and a part 4,096 and those up to the end of a statement: the first ends with the semicolon
-    // of COPY in piece 111, before its data.
+    assert_parts(&rt, "", &[(0, 1), (1, 1), (usize::MAX, 1)], &[])?;
+    // A piece has 71 bytes, and its statements end at 11, 40, 59 (COPY), 64 (data), 67 (their end) and 70. The line end after the
+    // last one is one more part, where it isn't read with others.
+    let sizes = [1, 2, 3, 7, 20, 64, 1000];
+    assert_parts(
+        &rt,
+        PIECE,
+        &[(0, 7), (1, 7), (12, 3), (usize::MAX, 1)],
+        &sizes,
+    )?;
+    // The first part of three ends with the semicolon of COPY in piece 113, at byte 8,011, before its data; the second at 16,015.
     let text = PIECE.repeat(rt.alloc(), 250)?;
-    assert_parts(&rt, text.as_str(), 3, &[10_000])
+    assert_parts(&rt, text.as_str(), &[(8000, 3), (usize::MAX, 1)], &[10_000])
 }

@@ -19,6 +19,9 @@ use sql_report::{Asked, ErrorLines, Walk, Walked, statement_lines, token_lines};
 use sql_words::SqlKind;
 use std::alloc::{AllocError, Global};
 
+/// A text is read by parts of so many bytes, which stay in a processor's cache.
+const BYTES_IN_PART: usize = 16 * 1024;
+
 /// What is told of a text.
 #[derive(Drop)]
 pub struct Report {
@@ -52,7 +55,7 @@ impl Report {
         let mut parts = ScriptParts::new(alloc, text, ScriptPlace::Front, true)?;
         let mut errors = ErrorLines::new(alloc, name, text);
         let mut walk = Walk::new(alloc, sql.names(), asked(listing), SqlKind::SOURCE_FILE)?;
-        while let Some(part) = parts.next_part(&sql.vocabulary, &sql.rules)? {
+        while let Some(part) = parts.next_part(BYTES_IN_PART, &sql.vocabulary, &sql.rules)? {
             errors.part(&part.table, &part.output, part.start)?;
             walk.part(&part.table, &part.output, part.start)?;
         }

@@ -1,12 +1,12 @@
 -- A loop cuts statement after statement, and remembers where a part can end.
-use Rattle.std.proofs.Common.{◌≡◌, ◌∙◌, ℕ, zero, suc, ◌+◌, ◌-◌, ◌<◌, ◌≤◌, ◌&&◌, ◌||◌, Bool, true, false, nat_lt, is_some, List, [], ◌∷◌, ◌++◌, length, take, length-append, ⊎_elim, arith, ap, sym, subst, refl}
+use Rattle.std.proofs.Common.{◌≡◌, ◌∙◌, ℕ, zero, suc, ◌+◌, ◌-◌, ◌<◌, ◌≤◌, ◌&&◌, ◌||◌, ◌⊎◌, inl, inr, Bool, true, false, nat_lt, is_some, List, [], ◌∷◌, ◌++◌, length, take, length-append, ⊎_elim, arith, ap, sym, subst, refl}
 use Rattle.std.proofs.lemmas.Bool.{and_parts, cases_lt, false≢true, ltb-true}
 use Rattle.std.proofs.lemmas.List.{take_all, take-append-le}
 use Rattle.squawk_tokens.specs.declared.token.Token.{Token}
 use Rattle.sql_lexer.specs.Lines.{EndsLine}
-use Rattle.sql_lexer.specs.ScriptLexing.{Cuts, Lexing, after_statements, longer, next_statement, script_place}
-use Rattle.sql_grammar.specs.CutParts.{CutsStatements}
-use Rattle.sql_grammar.specs.ReadParts.{NoneEnds, can_end_part}
+use Rattle.sql_lexer.specs.ScriptLexing.{Cuts, Lexing, after_statement, after_statements, longer, next_statement, script_place}
+use Rattle.sql_grammar.specs.CutParts.{CutsInScript, CutsStatements}
+use Rattle.sql_grammar.specs.ReadParts.{NoneEnds, NoneLeft, can_end_part}
 use Rattle.sql_grammar.proofs.parts.Cuts.{cuts_next}
 use Rattle.sql_grammar.proofs.parts.Tables.{bytes}
 
@@ -25,7 +25,7 @@ pub record IsCutting (is_last : Bool) (old now kept : Lexing) (tokens : List Tok
   pub from_none : count ≡ 0 → k ≡ 0
   pub ends : is_last ≡ false → 0 < k → can_end_part kept ≡ true
   pub all : is_last ≡ true → (kept ≡ now) × (count ≡ length tokens)
-  pub none : is_last ≡ false → count ≡ 0 → (m : ℕ) → 0 < m → m ≤ n → can_end_part (after_statements m old) ≡ false
+  pub since : is_last ≡ false → (m : ℕ) → k < m → m ≤ n → can_end_part (after_statements m old) ≡ false
 
 module _ (is_last : Bool) (old now kept new : Lexing) (tokens more : List Token) (count : ℕ) (is : IsCutting is_last old now kept tokens count) (left : now.at < length now.text)
     (same : new.text ≡ now.text) (cuts : Cuts now new tokens more)
@@ -68,7 +68,7 @@ module _ (is_last : Bool) (old now kept new : Lexing) (tokens more : List Token)
     from_none = λ e. absurd (omega (arith, e, some_tokens));
     ends = λ last lt. can_end last;
     all = λ last. (refl, refl);
-    none = λ last e. absurd (omega (arith, e, some_tokens));
+    since = λ last m after le. absurd (omega (arith, after, le));
   }
     where
       by_last : (b : Bool) → (b || can_end_part new) ≡ true → b ≡ false → can_end_part new ≡ true
@@ -96,9 +96,9 @@ module _ (is_last : Bool) (old now kept new : Lexing) (tokens more : List Token)
     from_none = is.from_none;
     ends = is.ends;
     all = λ last. absurd (not_last is_last keeps last);
-    none = λ last e m some le.
+    since = λ last m after le.
         ⊎_elim
-        (λ (lt : m < suc is.n). is.none last e m some (omega (arith, lt)))
+        (λ (lt : m < suc is.n). is.since last m after (omega (arith, lt)))
         (λ (ge : suc is.n ≤ m).
         let here : m ≡ suc is.n = omega (arith, ge, le) in
         subst (λ n. can_end_part (after_statements n old) ≡ false) (sym here) (subst (λ l. can_end_part l ≡ false) cut.after (cannot_end is_last keeps)))
@@ -143,20 +143,83 @@ none_at_end l le = λ m some.
     let at : l.at ≤ (after_statements m l).at = subst (λ x. l.at ≤ (after_statements x l).at) same (later_at 0 m l) in
     no_end (after_statements m l) (omega (arith, at, le, ap length (later_text m l)))
 
+-- so many statements, and so many more
+after_more : (m k : ℕ) (l : Lexing) → after_statements m (after_statements k l) ≡ after_statements (m + k) l
+after_more zero k l = let same : 0 + k ≡ k = omega arith in ap (λ n. after_statements n l) (sym same)
+after_more (suc m) k l =
+    let next : suc m + k ≡ suc (m + k) = omega arith in
+    ap after_statement (after_more m k l) ∙ ap (λ n. after_statements n l) (sym next)
+
+module _ (is_last : Bool) (old now kept : Lexing) (tokens : List Token) (count : ℕ) (is : IsCutting is_last old now kept tokens count) (at_end : length now.text ≤ now.at) where
+  none_after : (m : ℕ) → is.k < m → is_last ≡ false → can_end_part (after_statements m old) ≡ false
+  none_after m after last =
+      ⊎_elim
+      (λ (lt : m < suc is.n). is.since last m after (omega (arith, lt)))
+      (λ (ge : suc is.n ≤ m).
+      let sum : m - is.n + is.n ≡ m = omega (arith, ge) in
+      let at : (after_statements is.n old).at ≤ (after_statements m old).at = subst (λ x. (after_statements is.n old).at ≤ (after_statements x old).at) sum (later_at is.n (m - is.n) old) in
+      no_end (after_statements m old)
+      (omega (arith, at, ap (λ (l : Lexing). l.at) is.cuts.after, at_end, ap length is.text, ap length (later_text m old))))
+      (cases_lt m (suc is.n))
+
+  -- no part can end after what is kept
+  ends_none : is_last ≡ false → NoneEnds kept
+  ends_none last = λ m some.
+      subst (λ l. can_end_part l ≡ false) (sym (ap (after_statements m) is.keeps.after ∙ after_more m is.k old)) (none_after (m + is.k) (omega (arith, some)) last)
+
+  left_with : (b : Bool) → is_last ≡ b → NoneLeft b kept
+  left_with true last =
+      let all : kept ≡ now = (is.all last).0 in
+      subst (λ (l : Lexing). length l.text ≤ l.at) (sym all) at_end
+  left_with false last = ends_none last
+
+  none_left : NoneLeft is_last kept
+  none_left = left_with is_last refl
+
+  pub ends_front : is_last ≡ false → count ≡ 0 → NoneEnds old
+  ends_front last e = subst NoneEnds (is.keeps.after ∙ ap (λ n. after_statements n old) (is.from_none e)) (ends_none last)
+
 module _ (is_last : Bool) (old now kept : Lexing) (tokens : List Token) (count : ℕ) (is : IsCutting is_last old now kept tokens count) where
-  pub ends_none : is_last ≡ false → count ≡ 0 → length now.text ≤ now.at → (kept ≡ old) × NoneEnds old
-  ends_none last e at_end = (
-    subst (λ k. kept ≡ after_statements k old) (is.from_none e) is.keeps.after,
-    λ m some.
-        ⊎_elim
-        (λ (lt : m < suc is.n). is.none last e m some (omega (arith, lt)))
-        (λ (ge : suc is.n ≤ m).
-        let sum : m - is.n + is.n ≡ m = omega (arith, ge) in
-        let at : (after_statements is.n old).at ≤ (after_statements m old).at = subst (λ x. (after_statements is.n old).at ≤ (after_statements x old).at) sum (later_at is.n (m - is.n) old) in
-        no_end (after_statements m old)
-        (omega (arith, at, ap (λ (l : Lexing). l.at) is.cuts.after, at_end, ap length is.text, ap length (later_text m old))))
-        (cases_lt m (suc is.n)),
-  )
+  from_front : is.k ≡ 0 → kept.at ≡ old.at
+  from_front e = ap (λ (l : Lexing). l.at) (is.keeps.after ∙ ap (λ n. after_statements n old) e)
+
+  pub at_front : count ≡ 0 → kept.at ≡ old.at
+  at_front e = from_front (is.from_none e)
+
+-- What is kept is a part, where something is, or where no other text follows. So many bytes are kept, or all is cut.
+module _ (least : ℕ) (is_last : Bool) (old now kept : Lexing) (tokens : List Token) (count : ℕ) (is : IsCutting is_last old now kept tokens count)
+    (kept_some : (0 < count) ⊎ (is_last ≡ true)) (enough : ((old.at + least ≤ kept.at) × (old.at < kept.at)) ⊎ (length now.text ≤ now.at)) where
+  nonzero : (k : ℕ) → (k ≡ 0 → ⊥) → 0 < k
+  nonzero zero none = absurd (none refl)
+  nonzero (suc k) none = omega arith
+
+  some : old.at < length old.text → 0 < is.k
+  some left =
+      ⊎_elim is.some
+      (λ (last : is_last ≡ true).
+      let same : now.at ≡ kept.at = ap (λ (l : Lexing). l.at) (sym (is.all last).0) in
+      nonzero is.k
+      (λ e.
+      ⊎_elim
+      (λ (more : (old.at + least ≤ kept.at) × (old.at < kept.at)). omega (arith, more.1, from_front is_last old now kept tokens count is e))
+      (λ (at_end : length now.text ≤ now.at). omega (arith, at_end, same, from_front is_last old now kept tokens count is e, left, ap length is.text))
+      enough))
+      kept_some
+
+  goes_on : is_last ≡ false → 0 < is.k
+  goes_on last = ⊎_elim is.some (λ (e : is_last ≡ true). absurd (false≢true (sym last ∙ e))) kept_some
+
+  pub part_of : CutsInScript least is_last old kept (take count tokens)
+  part_of = record {
+    text = is.kept_text;
+    part = record { count = is.k; some = some; cuts = is.keeps };
+    ends = λ last. is.ends last (goes_on last);
+    longer = λ last ends rest. (is.keeps_longer last (goes_on last) ends rest).left;
+    full = ⊎_elim
+        (λ (more : (old.at + least ≤ kept.at) × (old.at < kept.at)). inl more.0)
+        (λ (at_end : length now.text ≤ now.at). inr (none_left is_last old now kept tokens count is at_end))
+        enough;
+  }
 
 -- ---- tests
 

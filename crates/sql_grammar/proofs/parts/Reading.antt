@@ -1,5 +1,5 @@
 -- The parts of a script, and all of them.
-use Rattle.std.proofs.Common.{◌≡◌, ◌≢◌, ◌∙◌, ℕ, ◌+◌, ◌-◌, ◌<◌, ◌≤◌, Bool, false, true, nat_le, nat_lt, is_some, List, [], ◌∷◌, ◌++◌, length, map, arith, ap, sym, subst, refl, length-take}
+use Rattle.std.proofs.Common.{◌≡◌, ◌∙◌, ℕ, ◌+◌, ◌-◌, ◌<◌, ◌≤◌, Bool, false, true, nat_le, nat_lt, is_some, List, [], ◌∷◌, ◌++◌, length, map, arith, ap, sym, subst, refl, length-take}
 use Rattle.std.specs.Prelude.{All, IsUtf8, encode_utf8_all, slice_range}
 use Rattle.std.specs.Str.{chars}
 use Rattle.std.proofs.lemmas.List.{append-nil, drop_all, take_all}
@@ -31,7 +31,7 @@ use Rattle.sql_grammar.specs.ReadParts.{AreBefore, HasRead, HasReadPart, IsOfSta
 use Rattle.sql_grammar.specs.StrayStrings.{stray_strings}
 use Rattle.sql_grammar.specs.declared.Detail.TheVariants.{Nodes}
 use Rattle.sql_grammar.specs.declared.script_parts.Progress.{Progress}
-use Rattle.sql_grammar.specs.declared.script_parts.Progress.TheVariants.{Front, Inside, Failed}
+use Rattle.sql_grammar.specs.declared.script_parts.Progress.TheVariants.{Front, Inside}
 use Rattle.sql_grammar.specs.declared.script_parts.ScriptPart.{ScriptPart}
 use Rattle.sql_grammar.proofs.parts.CutLoop.{none_at_end}
 use Rattle.sql_grammar.proofs.parts.Roots.{lexical_below, sent_below, whole_sent}
@@ -90,11 +90,11 @@ past_end : (l : Lexing) → nat_le (length l.text) l.at ≡ false → l.at < len
 past_end l e = omega (arith, leb-false (length l.text) l.at e)
 
 module _ (vocabulary : Keywords) (rules : RuleGrammar) (old : Reading) (l : Lexing) (same_text : l.text ≡ old.lexer.text) (stands : StandsInText old.begun old.lexer)
-    (cut : List Token) (in_script : CutsInScript old.is_last old.lexer l cut) (lines : old.is_last ≡ false → 0 < length old.lexer.text → EndsLine old.lexer.text) (part : ScriptPart) (start : part.start ≡ old.lexer.at)
+    (cut : List Token) (least : ℕ) (in_script : CutsInScript least old.is_last old.lexer l cut) (lines : old.is_last ≡ false → 0 < length old.lexer.text → EndsLine old.lexer.text) (part : ScriptPart) (start : part.start ≡ old.lexer.at)
     (of_part : part.table ≡ table_of (keyword_of vocabulary) (here old.begun old.lexer l same_text stands stands.utf8 cut in_script.part) cut)
     (table : IsTable part.table) (fits : Fits part.table part.output.steps)
     (parsed : IsParsedBy rules vocabulary (here old.begun old.lexer l same_text stands stands.utf8 cut in_script.part) cut part.table part.output.steps) (goes_on : is_over old ≡ false)
-    (few : (length part.output.steps ≤ 4294967295) × (errors_in part.output.steps ≤ 2147483648)) where
+    (whole : texts_of (sent_list part.table part.output.steps) ≡ chars part.table.text) (few : (length part.output.steps ≤ 4294967295) × (errors_in part.output.steps ≤ 2147483648)) where
   abbrev part_text : List ℕ
   part_text = here old.begun old.lexer l same_text stands stands.utf8 cut in_script.part
 
@@ -127,7 +127,6 @@ module _ (vocabulary : Keywords) (rules : RuleGrammar) (old : Reading) (l : Lexi
   goes Front on knows errors done read = first_read vocabulary rules old l same_text stands stands.utf8 cut in_script.part part_steps is_table fits_table parsed_table knows errors done read
   goes Inside on knows errors done read =
       next_read vocabulary rules old l same_text stands stands.utf8 cut in_script.part part_steps is_table fits_table parsed_table knows errors done read (past_end old.lexer on)
-  goes Failed on knows errors done read = absurd read
 
   stood : (p : Progress) → is_over_at p old.lexer ≡ false → KnowsKeywords vocabulary → (errors : List LexicalError) (done : List OwnedStep) → ReadSoFar p vocabulary rules old errors done
       → AreBefore old.lexer.at errors done
@@ -137,14 +136,12 @@ module _ (vocabulary : Keywords) (rules : RuleGrammar) (old : Reading) (l : Lexi
       (subst (λ es. AreBefore 0 es done) (sym read.none)
       (subst (AreBefore 0 []) (sym read.entered) (record { lexical = λ i d lt. absurd (omega (arith, lt)); sent_errors = tt; bytes = refl })))
   stood Inside on knows errors done read = part_before vocabulary rules old knows errors done read (past_end old.lexer on)
-  stood Failed on knows errors done read = absurd read
 
   goes_down : (p : Progress) → is_over_at p old.lexer ≡ false → length l.text - l.at + 0 < length old.lexer.text - old.lexer.at + at_front p
   goes_down Front on = omega (arith, ap length same_text, cuts.at)
   goes_down Inside on =
       let lt = past_end old.lexer on in
       omega (arith, ap length same_text, lt, cuts.goes_on (in_script.part.some lt) lt)
-  goes_down Failed on = absurd (false≢true (sym on))
 
   -- with no other text
   alone : (rest : List ℕ) (m : Lexing) → rest ≡ [] → tokens_left (longer rest m) ≡ tokens_left m
@@ -179,6 +176,7 @@ module _ (vocabulary : Keywords) (rules : RuleGrammar) (old : Reading) (l : Lexi
     start = start;
     statements = statements;
     fits = fits;
+    whole = whole;
     short = omega (
       arith,
       start,
@@ -207,21 +205,17 @@ module _ (vocabulary : Keywords) (rules : RuleGrammar) (r : Reading) (errors : L
   at_end Inside front over knows read =
       let end : length r.lexer.text ≤ r.lexer.at = leb-true (length r.lexer.text) r.lexer.at over in
       all_read vocabulary rules r knows errors done read front end (ap (tokens_by token_at place_behind r.lexer.place 0) (drop_all r.lexer.at r.lexer.text end))
-  at_end Failed front over knows read = absurd read
 
   pub ends_read : r.begun ≡ script.Front → is_over r ≡ true → HasRead vocabulary rules r errors done → IsScriptParse vocabulary r.lexer.text errors (done ++ sent.Exit ∷ [])
   ends_read front over read = at_end r.progress front over read.0 read.1
 
--- one that isn't over hasn't failed
-pub not_over : (p : Progress) (l : Lexing) → is_over_at p l ≡ false → p ≢ Failed
-not_over Front l on = λ is. let p = is in cc
-not_over Inside l on = λ is. let p = is in cc
-not_over Failed l on = absurd (false≢true (sym on))
-
 -- ---- no other part
 
-pub over_none : (p : Progress) (b : Bool) (r : Reading) → is_over_at p r.lexer ≡ true → NoneLeft p b r
-over_none Front b r e = absurd (false≢true e)
-over_none Inside true r e = leb-true (length r.lexer.text) r.lexer.at e
-over_none Inside false r e = none_at_end r.lexer (leb-true (length r.lexer.text) r.lexer.at e)
-over_none Failed b r e = tt
+pub over_inside : (p : Progress) (l : Lexing) → is_over_at p l ≡ true → p ≡ Inside
+over_inside Front l e = absurd (false≢true e)
+over_inside Inside l e = refl
+
+pub over_none : (p : Progress) (b : Bool) (l : Lexing) → is_over_at p l ≡ true → NoneLeft b l
+over_none Front b l e = absurd (false≢true e)
+over_none Inside true l e = leb-true (length l.text) l.at e
+over_none Inside false l e = none_at_end l (leb-true (length l.text) l.at e)

@@ -1,5 +1,5 @@
 //! The raw tokens of a script, a statement at a time.
-ghost use Rattle.std.specs.Prelude.{◌≡◌, ◌<◌, ℕ, nat_le, List, [], length, IfOk, IfErr, IsTrue, OnOk};
+ghost use Rattle.std.specs.Prelude.{◌≡◌, ◌<◌, ◌≤◌, ℕ, nat_le, List, [], length, IfOk, IfErr, IsTrue, OnOk};
 ghost use Rattle.squawk_tokens.specs.AcceptedTokens.{AreAcceptedTokens};
 ghost use Rattle.sql_lexer.specs.Lines.{EndsLine};
 ghost use Rattle.sql_lexer.specs.ScriptLexing.{Cuts, begun_at, longer, script_place, tokens_left};
@@ -65,6 +65,14 @@ impl<'t> ScriptLexer<'t> {
         ensures { result ≡ script_place self.now.place }
     {
         ScriptPlace::at(self.place)
+    }
+
+    /// How many bytes are cut.
+    pub fn position(&self) -> usize
+        ensures is { result ≡ self.now.at }
+        ensures small { result ≤ 4294967295 }
+    {
+        self.at
     }
 
     /// Whether all of the text is cut.

@@ -2,10 +2,10 @@ use Rattle.std.proofs.Common.{length, ◌-◌}
 use Rattle.sql_grammar.proofs.parts.CutLoop.{IsCutting}
 use Rattle.sql_grammar.proofs.script_parts.cut_part.Given as goal
 
-abbrev pub invariant-loop-count : goal.invariant-loop-count
-invariant-loop-count l = record {
-  cutting : IsCutting l.is_last l.initial.lexer l.cut l.lexer l.tokens.items l.count;
+abbrev pub invariant-loop-cut : goal.invariant-loop-cut
+invariant-loop-cut l = record {
+  cutting : IsCutting l.is_last l.lexer l.cut l.end l.tokens.items l.count;
 }
 
-abbrev pub decreases-loop-count : goal.decreases-loop-count
-decreases-loop-count l = length l.cut.text - l.cut.at
+abbrev pub decreases-loop-cut : goal.decreases-loop-cut
+decreases-loop-cut l = length l.cut.text - l.cut.at
