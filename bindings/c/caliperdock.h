@@ -247,6 +247,46 @@ caliperdock_answer caliperdock_statements(
     caliperdock_statement *statements, size_t statement_room,
     uint64_t *count);
 
+/* ---- SQL of any size -------------------------------------------------------------------------- */
+
+/* How much there is. */
+typedef struct {
+    uint64_t bytes; /* how many bytes of the text are read */
+    uint32_t place; /* where the script stands after them */
+    uint64_t statements;
+    caliperdock_counts sent; /* whole is 1 where something is read */
+} caliperdock_part_counts;
+
+/* The next statements of a script that comes piece by piece: all that end in this text whatever follows it, with the steps
+ * of their tree and all errors, as caliperdock_sql says. They begin with the text, and end with a line before its last.
+ * Places count from the first byte of the text.
+ *
+ * place: 0 for the first text of a script, and then what the counts of the call before said. last: 0 where more of the
+ * script is to come; the last text has the rest of the script, and may be empty. Bytes that aren't read begin the next
+ * text. Where nothing is read and more is to come, that text has to be longer; double it, and each byte is read twice at
+ * most. Pieces of 64 kilobytes are fastest. With any status but CALIPERDOCK_OK and CALIPERDOCK_TOO_SMALL nothing is
+ * read, and the place is the one that was given.
+ *
+ *     size_t len = 0, got;
+ *     uint32_t place = 0;
+ *     do {
+ *         got = fread(text + len, 1, room - len, file);
+ *         caliperdock_part(text, len += got, place, got == 0, .., &n);
+ *         ..
+ *         place = n.place;
+ *         memmove(text, text + n.bytes, len -= n.bytes);
+ *         if (len > room / 2)
+ *             text = realloc(text, room *= 2);
+ *     } while (got > 0); */
+caliperdock_answer caliperdock_part(
+    const uint8_t *text, size_t text_len,
+    uint32_t place, uint32_t last,
+    caliperdock_statement *statements, size_t statement_room,
+    caliperdock_step *steps, size_t step_room,
+    caliperdock_error *errors, size_t error_room,
+    uint8_t *texts, size_t text_room,
+    caliperdock_part_counts *counts);
+
 /* ---- layout ----------------------------------------------------------------------------------- */
 
 #if defined(__cplusplus)
@@ -262,6 +302,7 @@ CALIPERDOCK_IS(error, sizeof(caliperdock_error) == 32 && offsetof(caliperdock_er
 CALIPERDOCK_IS(counts, sizeof(caliperdock_counts) == 40 && offsetof(caliperdock_counts, whole) == 32);
 CALIPERDOCK_IS(statement, sizeof(caliperdock_statement) == 24 && offsetof(caliperdock_statement, end) == 16);
 CALIPERDOCK_IS(sql_counts, sizeof(caliperdock_sql_counts) == 56 && offsetof(caliperdock_sql_counts, sent) == 16);
+CALIPERDOCK_IS(part_counts, sizeof(caliperdock_part_counts) == 64 && offsetof(caliperdock_part_counts, sent) == 24);
 #undef CALIPERDOCK_IS
 
 #ifdef __cplusplus

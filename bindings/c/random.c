@@ -50,6 +50,33 @@ static int same_places(const caliperdock_statement *left, const caliperdock_stat
     return 1;
 }
 
+/* Whether a text in pieces of random sizes has these statements. */
+static int same_in_parts(const uint8_t *text, size_t text_len, const caliperdock_statement *statements, uint64_t count) {
+    caliperdock_statement some[24];
+    caliperdock_step steps[512];
+    caliperdock_error errors[256];
+    uint8_t texts[4096];
+    caliperdock_part_counts n;
+    uint32_t place = 0;
+    uint64_t told = 0;
+    for (size_t from = 0, end = 0;;) {
+        int last = below(4) == 0 || end == text_len;
+        end = last ? text_len : end + below((uint32_t)(text_len - end) + 1);
+        if (caliperdock_part(text + from, end - from, place, (uint32_t)last, some, 24, steps, 512, errors, 256, texts, sizeof texts, &n).status
+            > CALIPERDOCK_TOO_SMALL)
+            return 0;
+        walk(steps, n.sent.steps, n.bytes, 1);
+        for (uint64_t i = 0; i < n.statements; i++, told++)
+            if (told >= count || from + some[i].start != statements[told].start || from + some[i].end != statements[told].end
+                || some[i].kind != statements[told].kind)
+                return 0;
+        from += n.bytes;
+        place = n.place;
+        if (last)
+            return told == count && from == text_len;
+    }
+}
+
 int main(int argc, char **argv) {
     static const char letters[] = "a ;()'\"$1.-+/*\nE\xc3\xa9\xff";
     long calls = argc > 1 ? atol(argv[1]) : 100000, told[16] = {0};
@@ -98,9 +125,11 @@ int main(int argc, char **argv) {
             ? a.status <= CALIPERDOCK_TOO_SMALL
             : alone_count != m.statements || !same_places(alone, statements, alone_count))
             fail("the statements alone are others");
-        if (a.status <= CALIPERDOCK_TOO_SMALL)
+        if (a.status <= CALIPERDOCK_TOO_SMALL) {
             walk(steps, m.sent.steps, text_len, 1);
-        else if (a.status != CALIPERDOCK_NOT_UTF8)
+            if (!same_in_parts(text, text_len, statements, m.statements))
+                fail("a script in pieces is another");
+        } else if (a.status != CALIPERDOCK_NOT_UTF8)
             fail("a text has no tree");
     }
     printf("random.c: ok; events by status:");

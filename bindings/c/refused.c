@@ -41,7 +41,10 @@ static caliperdock_answer call(int door) {
                                             {0, 700, 0, 0}, {2, 3, 1, 0}, {3, 0, 4, 9}, {1, 0, 0, 0}};
     caliperdock_counts n;
     caliperdock_sql_counts m;
+    caliperdock_part_counts k;
     uint64_t count;
+    if (door == 3)
+        return caliperdock_part((const uint8_t *)text, strlen(text), 1, 1, statements, 8, steps, 256, errors, 8, texts, 512, &k);
     if (door == 2)
         return caliperdock_statements((const uint8_t *)text, strlen(text), statements, 8, &count);
     if (door == 0)
@@ -68,7 +71,7 @@ static int is_right(caliperdock_answer a, const caliperdock_step *good, const ca
 int main(void) {
     static caliperdock_step good[256];
     static caliperdock_statement good_statements[8];
-    for (int door = 0; door < 3; door++) {
+    for (int door = 0; door < 4; door++) {
         long refusals = 0;
         clear();
         refused_at = asked = held = 0;

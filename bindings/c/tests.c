@@ -92,6 +92,40 @@ static void statements_are_written(void) {
     CHECK(a.status == CALIPERDOCK_NOT_UTF8 && a.place == 2 && n == 0 && alone[0].kind == 0xAAAAAAAAAAAAAAAAu);
 }
 
+/* A script in texts, each a byte longer than what is left of the one before. */
+static void parts_are_written(void) {
+    static const char script[] = "select f(1;\ncopy t from stdin;\n1;2\n\\.\ndrop table t;\nselect 'a;\n;'";
+    static const unsigned places[6][2] = {{0, 11}, {12, 30}, {31, 34}, {35, 37}, {38, 51}, {52, 65}};
+    caliperdock_part_counts n;
+    size_t from = 0, count = 0;
+    uint32_t place = 0;
+    for (size_t end = 1; end <= strlen(script); end++) {
+        caliperdock_answer a = caliperdock_part(bytes(script) + from, end - from, place, end == strlen(script), statements, 8, steps, 64,
+                                                errors, 8, texts, 512, &n);
+        CHECK(a.status == CALIPERDOCK_OK && n.sent.whole == (n.bytes > 0) && count + n.statements <= 6);
+        for (uint64_t i = 0; i < n.statements && count < 6; i++, count++)
+            CHECK(from + statements[i].start == places[count][0] && from + statements[i].end == places[count][1]);
+        CHECK(n.sent.errors == (from == 0 && n.bytes > 0) && (n.sent.errors == 0 || errors[0].start == 10));
+        from += n.bytes;
+        place = n.place;
+    }
+    CHECK(count == 6 && from == strlen(script));
+}
+
+static void parts_are_refused(void) {
+    static const char cut[] = "select 1;\na \xff";
+    caliperdock_part_counts n;
+    memset(steps, 0xAA, sizeof steps);
+    caliperdock_answer a = caliperdock_part(bytes(cut), strlen(cut), 7, 1, statements, 8, steps, 64, errors, 8, texts, 512, &n);
+    CHECK(a.status == CALIPERDOCK_NOT_UTF8 && a.place == 12 && n.bytes == 0 && n.place == 7 && steps[0].tag == 0xAAAA);
+    /* Its line doesn't end. */
+    a = caliperdock_part(bytes(cut), 9, 0, 0, statements, 8, steps, 64, errors, 8, texts, 512, &n);
+    CHECK(a.status == CALIPERDOCK_OK && n.bytes == 0 && n.place == 0 && n.sent.steps == 0 && steps[0].tag == 0xAAAA);
+    a = caliperdock_part(bytes(cut), strlen(cut), 0, 0, statements, 8, steps, 2, errors, 8, texts, 512, &n);
+    CHECK(a.status == CALIPERDOCK_TOO_SMALL && n.bytes == 9 && n.place == 1 && n.statements == 1 && n.sent.steps == 16);
+    CHECK(is_step(steps[1], CALIPERDOCK_STEP_ENTER, CALIPERDOCK_KIND_QUERY, 0, 0) && steps[2].tag == 0xAAAA);
+}
+
 /* The raw tokens of "a b", and events that make one node of it with an error after it. */
 static const caliperdock_token a_b[] = {{4, 1, 0, 0, 0}, {3, 1, 0, 0, 0}, {4, 1, 0, 0, 0}};
 static const caliperdock_event node[] = {{0, 700, 0, 0}, {2, 3, 1, 0}, {2, 3, 1, 0}, {3, 0, 1, 3}, {1, 0, 0, 0}};
@@ -162,6 +196,8 @@ int main(void) {
     statements_are_written();
     errors_are_written();
     small_rooms_are_filled();
+    parts_are_written();
+    parts_are_refused();
     events_are_written();
     refusals_name_the_place();
     if (!failed)

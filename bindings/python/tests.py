@@ -1,14 +1,15 @@
 """Tests of the package: python3 -m unittest tests."""
 import doctest
+import io
 import pathlib
 import unittest
 
 import caliperdock
-from caliperdock import _sql, _tree
+from caliperdock import _script, _sql, _tree
 
 
 def load_tests(loader, tests, ignore):
-    for module in (caliperdock, _sql, _tree):
+    for module in (caliperdock, _script, _sql, _tree):
         tests.addTests(doctest.DocTestSuite(module))
     return tests
 
@@ -59,6 +60,58 @@ class Trees(unittest.TestCase):
         self.assertEqual(caliperdock.split(""), [])
         self.assertEqual(caliperdock.tokenize(""), [])
         self.assertEqual(str(caliperdock.parse("")), "SOURCE_FILE@0..0")
+
+
+class Slow(io.RawIOBase):
+    """A stream that gives so many bytes at once, and fails after a text, if it is to."""
+
+    def __init__(self, data, size, fails=False):
+        self.data, self.size, self.fails = data, size, fails
+
+    def read(self, wanted):
+        piece, self.data = self.data[: min(wanted, self.size)], self.data[min(wanted, self.size) :]
+        if not piece and self.fails:
+            raise OSError("the disk is gone")
+        return piece
+
+
+class Scripts(unittest.TestCase):
+    PIECE = "select f(1;\nselect 'é'\n'b', 'c' 'd', 1x;\ncopy t from stdin;\nit's\n\\.\n\\x\n/* ; */ ;\n"
+
+    def check(self, text, told):
+        whole = caliperdock.parse(text)
+        told = list(told)
+        nodes = [node for node in whole.root.children if not node.is_token]
+        places = [(node.kind, node.text, node.start, node.end, node.start_byte, node.end_byte) for node in nodes]
+        self.assertEqual([(s.kind, s.text, s.start, s.end, s.start_byte, s.end_byte) for s in told], places)
+        self.assertEqual([error for statement in told for error in statement.errors], whole.errors)
+        for statement in told:
+            self.assertEqual((statement.node.kind, statement.node.text), (statement.kind, statement.text))
+
+    def test_parts(self):
+        long = "select '" + "a;\n" * 50_000 + "';\n"
+        for text in ("select 1", self.PIECE * 3, self.PIECE * 1500, long + self.PIECE + long):
+            data = text.encode()
+            self.check(text, caliperdock.statements(io.BytesIO(data)))
+            self.check(text, caliperdock.statements(Slow(data, 1000)))
+        self.assertEqual(list(caliperdock.statements(io.BytesIO())), [])
+
+    def test_comment_without_an_end(self):
+        first, second = caliperdock.statements(io.BytesIO(b"select 1 /* a"))
+        self.assertEqual((first.kind, first.text, first.errors), ("QUERY", "select 1", []))
+        self.assertEqual((second.kind, second.text, second.start, len(second.errors)), ("COMMENT", "/* a", 9, 1))
+
+    def test_failures(self):
+        told = caliperdock.statements(Slow(b"select 1;\nselect 2;\nselect", 7, fails=True))
+        self.assertEqual([next(told).text, next(told).text], ["select 1;", "select 2;"])
+        with self.assertRaisesRegex(OSError, "the disk is gone"):
+            next(told)
+        told = caliperdock.statements(io.BytesIO(b"select 1;\nselect '\xff'"))
+        self.assertEqual(next(told).text, "select 1;")
+        with self.assertRaisesRegex(UnicodeDecodeError, "byte 18 of the script"):
+            next(told)
+        with self.assertRaisesRegex(TypeError, "rb"):
+            next(caliperdock.statements(io.StringIO("select 1")))
 
 
 class Corpus(unittest.TestCase):

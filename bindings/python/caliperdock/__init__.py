@@ -18,10 +18,16 @@ tree shows bytes.
 
 A statement in a tree has the kind that PostgreSQL's grammar says, as QUERY or CREATE_TABLE. One of `split`
 has the kind of its first word, as SELECT or CREATE.
+
+A script of any size is read from a file: `for statement in caliperdock.statements(open("dump.sql", "rb"))`.
 """
 from ._kinds import SyntaxKind
 from ._library import Refused
+from ._script import Part, ScriptStatement, parts, statements
 from ._sql import Error, Statement, Token, errors, split, tokenize
 from ._tree import Node, Tree, parse
 
-__all__ = ["Error", "Node", "Refused", "Statement", "SyntaxKind", "Token", "Tree", "errors", "parse", "split", "tokenize"]
+__all__ = [
+    "Error", "Node", "Part", "Refused", "ScriptStatement", "Statement", "SyntaxKind", "Token", "Tree", "errors", "parse", "parts",
+    "split", "statements", "tokenize",
+]

@@ -38,6 +38,19 @@ class _Counts(ctypes.Structure):
     ]
 
 
+class _PartCounts(ctypes.Structure):
+    _fields_ = [
+        ("bytes", _U64),
+        ("place", _U32),
+        ("statements", _U64),
+        ("steps", _U64),
+        ("step_errors", _U64),
+        ("errors", _U64),
+        ("texts", _U64),
+        ("whole", _U64),
+    ]
+
+
 _ABI = 1
 _NAME = f"libcaliperdock.so.{_ABI}"
 _TOO_SMALL = 1
@@ -93,6 +106,24 @@ _sql.argtypes = [
 ]
 
 
+_part = _library.caliperdock_part
+_part.restype = _Answer
+_part.argtypes = [
+    ctypes.c_char_p,
+    _SIZE,
+    _U32,
+    _U32,
+    ctypes.POINTER(RawStatement),
+    _SIZE,
+    ctypes.POINTER(RawStep),
+    _SIZE,
+    ctypes.POINTER(RawError),
+    _SIZE,
+    ctypes.c_char_p,
+    _SIZE,
+    ctypes.POINTER(_PartCounts),
+]
+
 _statements = _library.caliperdock_statements
 _statements.restype = _Answer
 _statements.argtypes = [ctypes.c_char_p, _SIZE, ctypes.POINTER(RawStatement), _SIZE, ctypes.POINTER(_U64)]
@@ -121,28 +152,57 @@ class Written:
     """What the library wrote of a text: the lists that were wanted."""
 
     def __init__(self, data: bytes, tokens: bool = False, steps: bool = False, errors: bool = False):
-        wanted = (tokens, steps, errors, errors)
-        guess = (len(data) // 3 + 16, len(data) + 32, 4, 256)
-        counts = _Counts()
-        no_statements = (RawStatement * 1)()
-        room = [n if want else 0 for n, want in zip(guess, wanted)]
-        while True:
-            self.tokens = (RawToken * max(room[0], 1))()
-            self.steps = (RawStep * max(room[1], 1))()
-            self.errors = (RawError * max(room[2], 1))()
-            self._texts = ctypes.create_string_buffer(max(room[3], 1))
-            answer = _sql(
-                data, len(data), self.tokens, room[0], no_statements, 0, self.steps, room[1],
-                self.errors, room[2], self._texts, room[3], ctypes.byref(counts),
+        self.counts = _Counts()
+
+        def call():
+            return _sql(
+                data, len(data), self.tokens, self._room["tokens"], self._statements, 0, *self._rooms(), ctypes.byref(self.counts)
             )
+
+        guess = {"tokens": len(data) // 3 + 16, "steps": len(data) + 32, "errors": 4, "texts": 256}
+        wanted = {"tokens": tokens, "steps": steps, "errors": errors, "texts": errors}
+        self._write({name: guess[name] for name in guess if wanted[name]}, call)
+
+    def _rooms(self):
+        """The buffers of steps, errors and texts, as a call takes them."""
+        room = self._room
+        return self.steps, room["steps"], self.errors, room["errors"], self._texts, room["texts"]
+
+    def _write(self, room, call):
+        """Makes room for so many of what is wanted, and calls until there is room for all."""
+        while True:
+            self._room = {"tokens": 0, "statements": 0, "steps": 0, "errors": 0, "texts": 0, **room}
+            self.tokens = (RawToken * max(self._room["tokens"], 1))()
+            self._statements = (RawStatement * max(self._room["statements"], 1))()
+            self.steps = (RawStep * max(self._room["steps"], 1))()
+            self.errors = (RawError * max(self._room["errors"], 1))()
+            self._texts = ctypes.create_string_buffer(max(self._room["texts"], 1))
+            answer = call()
             if answer.status > _TOO_SMALL:
                 raise Refused(answer.status, answer.place)
-            there = (counts.tokens, counts.steps, counts.errors, counts.texts)
-            if all(n <= has for n, has, want in zip(there, room, wanted) if want):
-                break
-            room = [n if want else 0 for n, want in zip(there, wanted)]
-        self.counts = counts
+            there = {name: getattr(self.counts, name) for name in room}
+            if all(there[name] <= room[name] for name in room):
+                return
+            room = there
 
     def text(self, start: int, end: int) -> str:
         """These bytes of the errors' texts."""
         return ctypes.string_at(ctypes.addressof(self._texts) + start, end - start).decode()
+
+
+class WrittenPart(Written):
+    """What the library wrote of the next statements of a script, which goes on from a place with a text."""
+
+    def __init__(self, data: bytes, place: int, last: bool):
+        self.counts = _PartCounts()
+
+        def call():
+            return _part(
+                data, len(data), place, last, self._statements, self._room["statements"], *self._rooms(), ctypes.byref(self.counts)
+            )
+
+        self._write({"statements": len(data) // 40 + 4, "steps": len(data) + 32, "errors": 4, "texts": 256}, call)
+
+    def statements(self):
+        """Each statement: its kind, and the bytes where it starts and ends."""
+        return rows(self._statements, "=QQQ", self.counts.statements)

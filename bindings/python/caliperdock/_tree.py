@@ -93,9 +93,13 @@ class Tree:
     """The tree of a text: all of the text is in its tokens. `print` shows it."""
 
     def __init__(self, sql: str):
-        self._source = Source(sql)
-        self._written = Written(self._source.data, steps=True, errors=True)
-        self._steps = self._written.steps
+        source = Source(sql)
+        self._hold(source, Written(source.data, steps=True, errors=True))
+
+    def _hold(self, source: Source, written: Written):
+        self._source = source
+        self._written = written
+        self._steps = written.steps
         self._exits: Optional[List[int]] = None
 
     @property

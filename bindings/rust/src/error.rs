@@ -32,6 +32,8 @@ impl fmt::Display for SyntaxError {
 pub enum Refused {
     /// Memory was refused.
     OutOfMemory,
+    /// The bytes before this one are UTF-8, and those after it aren't.
+    NotUtf8(usize),
     /// The text has more than 4294967295 bytes.
     TextTooLong,
     /// The raw token of this index is empty, doesn't end at a character boundary inside the text, or isn't
@@ -57,6 +59,7 @@ impl fmt::Display for Refused {
     fn fmt(&self, f: &mut fmt::Formatter<'_>) -> fmt::Result {
         match self {
             Refused::OutOfMemory => write!(f, "out of memory"),
+            Refused::NotUtf8(at) => write!(f, "the text isn't UTF-8 at byte {at}"),
             Refused::TextTooLong => write!(f, "the text has more than 4294967295 bytes"),
             Refused::BadToken(index) => write!(f, "raw token {index} isn't the text's"),
             Refused::TextLeft(at) => write!(f, "the raw tokens end at byte {at}, before the text does"),

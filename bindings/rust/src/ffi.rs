@@ -77,6 +77,15 @@ struct RawSqlCounts {
     sent: RawCounts,
 }
 
+#[repr(C)]
+#[derive(Clone, Copy, Default)]
+struct RawPartCounts {
+    bytes: u64,
+    place: u32,
+    statements: u64,
+    sent: RawCounts,
+}
+
 // The layouts that the C header states.
 const _: () = assert!(size_of::<RawAnswer>() == 16 && offset_of!(RawAnswer, place) == 8);
 const _: () = assert!(size_of::<RawToken>() == 20 && offset_of!(RawToken, flags) == 16);
@@ -86,6 +95,7 @@ const _: () = assert!(size_of::<RawStatement>() == 24 && offset_of!(RawStatement
 const _: () = assert!(size_of::<RawError>() == 32 && offset_of!(RawError, hint_end) == 24);
 const _: () = assert!(size_of::<RawCounts>() == 40 && offset_of!(RawCounts, whole) == 32);
 const _: () = assert!(size_of::<RawSqlCounts>() == 56 && offset_of!(RawSqlCounts, sent) == 16);
+const _: () = assert!(size_of::<RawPartCounts>() == 64 && offset_of!(RawPartCounts, sent) == 24);
 
 unsafe extern "C" {
     fn caliperdock_events(
@@ -129,6 +139,22 @@ unsafe extern "C" {
         statement_room: usize,
         count: *mut u64,
     ) -> RawAnswer;
+
+    fn caliperdock_part(
+        text: *const u8,
+        text_len: usize,
+        place: u32,
+        last: u32,
+        statements: *mut RawStatement,
+        statement_room: usize,
+        steps: *mut RawStep,
+        step_room: usize,
+        errors: *mut RawError,
+        error_room: usize,
+        texts: *mut u8,
+        text_room: usize,
+        counts: *mut RawPartCounts,
+    ) -> RawAnswer;
 }
 
 /// The status of a call whose buffers were too small.
@@ -142,6 +168,7 @@ impl RawAnswer {
             0 => return Ok(true),
             TOO_SMALL => return Ok(false),
             2 => Refused::OutOfMemory,
+            3 => Refused::NotUtf8(index),
             5 => Refused::TextTooLong,
             6 => Refused::BadToken(index),
             7 => Refused::TextLeft(index),
@@ -170,6 +197,13 @@ impl Written {
         resize(&mut self.steps, self.counts.steps)?;
         resize(&mut self.errors, self.counts.errors)?;
         resize(&mut self.texts, self.counts.texts)
+    }
+
+    /// Whether there is room for as much as these counts say.
+    fn holds(&self, counts: &RawCounts) -> bool {
+        counts.steps <= self.steps.len() as u64
+            && counts.errors <= self.errors.len() as u64
+            && counts.texts <= self.texts.len() as u64
     }
 
     /// The errors, with their texts.
@@ -287,11 +321,7 @@ pub(crate) fn sql(text: &str, wanted: Wanted) -> Result<WrittenSql, Refused> {
         answer.is_done()?;
         let fits = match wanted {
             Wanted::Tokens => counts.tokens <= all.tokens.len() as u64,
-            Wanted::Tree => {
-                counts.sent.steps <= all.written.steps.len() as u64
-                    && counts.sent.errors <= all.written.errors.len() as u64
-                    && counts.sent.texts <= all.written.texts.len() as u64
-            }
+            Wanted::Tree => all.written.holds(&counts.sent),
         };
         if fits {
             all.tokens.truncate(counts.tokens as usize);
@@ -327,16 +357,62 @@ pub(crate) fn statements(text: &str) -> Result<Vec<RawStatement>, Refused> {
     }
 }
 
+/// What a call has written of the next statements of a script: how many bytes they are, and the place after them.
+pub(crate) struct WrittenPart {
+    pub written: Written,
+    pub bytes: usize,
+    pub place: u32,
+}
+
+/// The next statements of a script that goes on with a text.
+pub(crate) fn part(text: &[u8], place: u32, last: bool) -> Result<WrittenPart, Refused> {
+    let mut written = Written::default();
+    let mut no_statements: [RawStatement; 0] = [];
+    let mut counts = RawPartCounts { sent: guess_sent(text.len() as u64), ..RawPartCounts::default() };
+    loop {
+        written.counts = counts.sent;
+        written.resize()?;
+        // SAFETY: as above.
+        let answer = unsafe {
+            caliperdock_part(
+                text.as_ptr(),
+                text.len(),
+                place,
+                u32::from(last),
+                no_statements.as_mut_ptr(),
+                0,
+                written.steps.as_mut_ptr(),
+                written.steps.len(),
+                written.errors.as_mut_ptr(),
+                written.errors.len(),
+                written.texts.as_mut_ptr(),
+                written.texts.len(),
+                &mut counts,
+            )
+        };
+        answer.is_done()?;
+        if written.holds(&counts.sent) {
+            written.counts = counts.sent;
+            written.resize()?;
+            return Ok(WrittenPart { written, bytes: counts.bytes as usize, place: counts.place });
+        }
+    }
+}
+
 /// How much a text of so many bytes has, mostly.
 fn guess(len: u64) -> RawSqlCounts {
     RawSqlCounts {
         tokens: len / 3 + 16,
         statements: 0,
-        sent: RawCounts {
-            steps: len + 32,
-            errors: 4,
-            texts: 256,
-            ..RawCounts::default()
-        },
+        sent: guess_sent(len),
+    }
+}
+
+fn guess_sent(len: u64) -> RawCounts {
+    RawCounts {
+        steps: len + 32,
+        errors: 4,
+        texts: 256,
+        ..RawCounts::default()
     }
 }

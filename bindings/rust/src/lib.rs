@@ -16,13 +16,19 @@
 //!
 //! A statement in a tree has the kind that PostgreSQL's grammar says, as QUERY or CREATE_TABLE. One of [`statements`]
 //! has the kind of its first word, as SELECT or CREATE.
+//!
+//! A script of any size is read [part by part](parts) from a file or a stream, by the feature `std`.
 #![no_std]
 
 extern crate alloc;
+#[cfg(feature = "std")]
+extern crate std;
 
 mod error;
 mod event;
 mod ffi;
+#[cfg(feature = "std")]
+mod parts;
 mod sql;
 mod syntax_kind;
 mod token;
@@ -30,6 +36,8 @@ mod tree;
 
 pub use error::{Refused, SyntaxError};
 pub use event::{steps, Event, Sent, Step};
+#[cfg(feature = "std")]
+pub use parts::{parts, Part, Parts, ReadError};
 pub use sql::{statements, tokens, Statement};
 pub use syntax_kind::SyntaxKind;
 pub use token::{Base, LiteralKind, Token, TokenKind};

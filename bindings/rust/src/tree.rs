@@ -5,7 +5,7 @@ use alloc::vec::Vec;
 use core::ops::Range;
 
 use crate::error::{Refused, SyntaxError};
-use crate::ffi::{self, RawStep, Wanted};
+use crate::ffi::{self, RawStep, Wanted, Written};
 use crate::syntax_kind::SyntaxKind;
 
 /// The tree of a text of SQL: all of the text is in its tokens.
@@ -43,10 +43,15 @@ impl Tree {
     /// Parses a text.
     pub fn parse(sql: &str) -> Result<Tree, Refused> {
         let all = ffi::sql(sql, Wanted::Tree)?;
+        Tree::of(String::from(sql), &all.written)
+    }
+
+    /// The tree of a text for which this was written.
+    pub(crate) fn of(text: String, written: &Written) -> Result<Tree, Refused> {
         Ok(Tree {
-            text: String::from(sql),
-            elements: elements(&all.written.steps)?,
-            errors: all.written.errors(),
+            text,
+            elements: elements(&written.steps)?,
+            errors: written.errors(),
         })
     }
 

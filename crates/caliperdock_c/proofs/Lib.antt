@@ -3,6 +3,7 @@ pub mod ErrorLists
 pub mod Logs
 pub mod Messages
 pub mod Overlays
+pub mod PartReasons
 pub mod PlainKinds
 pub mod ReadsBack
 pub mod Reasons

@@ -3,6 +3,7 @@ pub mod Errors
 pub mod Events
 pub mod Links
 pub mod Overlays
+pub mod Parts
 pub mod Refusals
 pub mod Sent
 pub mod Sql

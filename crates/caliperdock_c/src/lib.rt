@@ -6,6 +6,7 @@
 
 ghost use Rattle.std.specs.Prelude.{◌≡◌, ◌≤◌, ◌↔◌, length, IfOk, IfErr, OnErr};
 ghost use Rattle.caliperdock_c.specs.Answers.{answer_of};
+ghost use Rattle.caliperdock_c.specs.Parts.{HasPartRoom, IsPartWritten, RefusesPart, is_told, no_part};
 ghost use Rattle.caliperdock_c.specs.Refusals.{Refuses, given};
 ghost use Rattle.caliperdock_c.specs.Sent.{AreSent, HasRoom, no_counts};
 ghost use Rattle.sql_grammar.specs.declared.Detail.TheVariants.{Tokens};
@@ -18,6 +19,7 @@ pub mod event;
 mod links;
 mod overlay;
 mod parsed;
+pub mod part;
 pub mod sent;
 mod sql;
 pub mod sql_lists;
@@ -32,6 +34,7 @@ use answer::CAnswer;
 use errors::CError;
 use event::CEvent;
 use parsed::parse_events;
+use part::{CPartCounts, is_told, write_part};
 use sent::{CCounts, send};
 use sql_lists::{CSqlCounts, write_cut, write_sql};
 use statement::CStatement;
@@ -156,6 +159,53 @@ pub extern "C" fn caliperdock_statements(
         }
         Err(refusal) => {
             *count = 0;
+            CAnswer::refused(refusal)
+        }
+    }
+}
+
+/// The next statements of a script, with the steps of their tree, and all errors: those that are sure to end in this text,
+/// with which the script goes on from a place. As much is written as there is room for, and all is counted.
+#[unsafe(no_mangle)]
+pub extern "C" fn caliperdock_part(
+    alloc: Global,
+    text: &[u8],
+    place: u32,
+    last: u32,
+    statements: &mut [CStatement],
+    steps: &mut [CStep],
+    errors: &mut [CError],
+    texts: &mut [u8],
+    counts: &mut CPartCounts,
+) -> CAnswer
+    ensures written { result.status ≤ 1 → IsPartWritten text.now place (is_told last) statements.old steps.old errors.old texts.old
+        statements.new steps.new errors.new texts.new counts.new }
+    ensures place { result.status ≤ 1 → result.place ≡ 0 }
+    ensures room { result.status ≡ 0 ↔ ((result.status ≤ 1) × HasPartRoom statements.old steps.old errors.old texts.old counts.new) }
+    ensures refused { 2 ≤ result.status → (reason : Refusal) × RefusesPart text.now place (is_told last) reason × (result ≡ answer_of reason)
+        × (counts.new ≡ no_part place) × (statements.new ≡ statements.old)
+        × (steps.new ≡ steps.old) × (errors.new ≡ errors.old) × (texts.new ≡ texts.old) }
+{
+    match write_part(
+        alloc,
+        text,
+        place,
+        is_told(last),
+        statements,
+        steps,
+        errors,
+        texts,
+    ) {
+        Ok(written) => {
+            *counts = written;
+            if written.fit(statements, steps, errors, texts) {
+                CAnswer::done()
+            } else {
+                CAnswer::too_small()
+            }
+        }
+        Err(refusal) => {
+            *counts = CPartCounts::none(place);
             CAnswer::refused(refusal)
         }
     }

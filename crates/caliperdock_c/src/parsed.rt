@@ -1,5 +1,5 @@
 //! From numbers to a table and an output over it.
-ghost use Rattle.std.specs.Prelude.{◌≡◌, ◌≤◌, length, IfOk, IfErr};
+ghost use Rattle.std.specs.Prelude.{◌≡◌, ◌≤◌, length, IfOk, IfErr, IsUtf8};
 ghost use Rattle.squawk_output.specs.Steps.{errors_in};
 ghost use Rattle.squawk_table.specs.Shape.{Fits};
 ghost use Rattle.caliperdock_c.specs.Refusals.{HasSteps, HasTable, Refuses, RefusesTable, RefusesText, given};
@@ -20,6 +20,7 @@ pub struct Parsed<'t> {
 /// The text that these bytes are.
 pub fn text_of(bytes: &[u8]) -> Result<&str, Refusal>
     ensures text { IfOk result (λ text. text.now ≡ bytes.now) }
+    ensures utf8 { IfOk result (λ text. IsUtf8 bytes.now) }
     ensures refused { IfErr result (RefusesText bytes.now) }
 {
     match str::from_utf8(bytes) {

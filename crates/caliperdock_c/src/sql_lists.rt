@@ -129,7 +129,7 @@ fn write_tokens(room: &mut [CToken], tokens: &[Token])
 
 /// Writes as many statements as there is room for.
 #[tactic(auto, using(crate::proofs::Overlays::over_more_map, crate::proofs::Overlays::over_all_map))]
-fn write_statements(room: &mut [CStatement], statements: &[Statement])
+pub fn write_statements(room: &mut [CStatement], statements: &[Statement])
     ensures { room.new ≡ over (map numbered_statement statements.now) room.old }
 {
     let end = room.len().min(statements.len());
