@@ -1,19 +1,19 @@
 -- That the numbers of what is sent are small enough.
-use Rattle.std.proofs.Common.{◌≡◌, ◌∙◌, ℕ, zero, suc, ◌+◌, ◌<◌, ◌≤◌, ◌^◌, List, [], ◌∷◌, ◌++◌, append_assoc, ap, arith, filter, length, map, refl, slice_index, sym}
+use Rattle.std.proofs.Common.{◌≡◌, ◌∙◌, ℕ, zero, suc, ◌+◌, ◌<◌, ◌≤◌, ◌^◌, List, [], ◌∷◌, ◌++◌, append_assoc, ap, arith, length, refl, slice_index, sym}
 use Rattle.std.specs.Prelude.{encode_utf8_all}
 use Rattle.std.specs.Str.{chars}
 use Rattle.std.specs.List.{flat_map}
-use Rattle.std.proofs.lemmas.List.Sums.{length-filter, sum_by-append, sum_by-cons}
-use Rattle.squawk_output.specs.Steps.{Step, Token, Enter, Exit, Error, errors_in, is_error}
-use Rattle.squawk_table.specs.RawTable.{Table, IsTable, RawToken}
-use Rattle.squawk_table.specs.Sending.{depth_behind, next_raw, raw_here, sent_from, sent_here, trivia_here}
-use Rattle.squawk_table.specs.Sent.{ErrorsArePlaced, IsBeginning, bytes_of, errors_moved, sent_list, sent_raw, text_in, texts_of}
+use Rattle.std.proofs.lemmas.List.Sums.{sum_by-append, sum_by-cons}
+use Rattle.squawk_output.specs.Steps.{Step, errors_in}
+use Rattle.squawk_table.specs.RawTable.{Table, IsTable}
+use Rattle.squawk_table.specs.Sent.{ErrorsArePlaced, IsBeginning, bytes_of, errors_moved, sent_list, text_in, texts_of}
 use Rattle.squawk_table.specs.Shape.{Fits}
 use Rattle.squawk_table.specs.declared.shortcuts.str_step.OwnedStep.{OwnedStep}
 use Rattle.squawk_table.specs.declared.shortcuts.str_step.OwnedStep.TheVariants as sent
-use Rattle.squawk_table.proofs.ErrorsMoved.{errors-moved, length-moved}
+use Rattle.squawk_table.proofs.ErrorsMoved.{length-moved}
 use Rattle.squawk_table.proofs.NextStep.{end_within, length-sent_from}
 use Rattle.sql_report.proofs.Bounds.{bytes_of-beginning}
+use Rattle.sql_report.proofs.SentErrors.{TellsErrors, errors_sent}
 use Rattle.squawk_table.proofs.SentFrom.{sends_all, sent_from-sent_list}
 use Rattle.caliperdock_c.specs.Errors.{error_in}
 use Rattle.caliperdock_c.specs.Steps.{AreLow, HaveNumbers}
@@ -36,38 +36,9 @@ length-sent_list t table steps fits =
     let within = end_within t 0 0 (errors_moved steps) all.tokens in
     omega (arith, far, within, length-moved steps, ap length (sent_from-sent_list t table steps fits))
 
--- trivia is no error
-no_error : (trivia : List RawToken) (rest : List OwnedStep) → flat_map error_in (map sent_raw trivia ++ rest) ≡ flat_map error_in rest
-no_error [] rest = refl
-no_error (r ∷ trivia) rest = no_error trivia rest
-
-errors_from : (t : Table) (place depth : ℕ) (left : List Step) → length (flat_map error_in (sent_from t place depth left)) ≡ length (filter is_error left)
-errors_from t place depth [] = refl
-errors_from t place depth (step ∷ left) =
-    let at = raw_here t place depth step in
-    let after = sent_from t (next_raw at step) (depth_behind depth step) left in
-    ap length (no_error (trivia_here t place depth step) (sent_here t at step ∷ after)) ∙ one at step after left (errors_from t (next_raw at step) (depth_behind depth step) left)
-  where
-    one : (at : ℕ) (step : Step) (after : List OwnedStep) (left : List Step) → length (flat_map error_in after) ≡ length (filter is_error left)
-        → length (flat_map error_in (sent_here t at step ∷ after)) ≡ length (filter is_error (step ∷ left))
-    one at (Token kind n) after left e = e
-    one at (Enter kind) after left e = e
-    one at Exit after left e = e
-    one at (Error text) after left e = ap suc e
-
--- as many errors are sent as the walk has
-pub errors_sent : (t : Table) → IsTable t → (steps : List Step) → Fits t steps → length (flat_map error_in (sent_list t steps)) ≡ errors_in steps
-errors_sent t table steps fits =
-    ap (λ xs. length (flat_map error_in xs)) (sym (sent_from-sent_list t table steps fits))
-    ∙ (errors_from t 0 0 (errors_moved steps) ∙ (ap length (errors-moved steps) ∙ length-filter is_error steps))
-
--- so none where it has none
-pub none_sent : (t : Table) → IsTable t → (steps : List Step) → Fits t steps → errors_in steps ≡ 0 → flat_map error_in (sent_list t steps) ≡ []
-none_sent t table steps fits none = empty (flat_map error_in (sent_list t steps)) (errors_sent t table steps fits ∙ none)
-  where
-    empty : {X : Type 0} (xs : List X) → length xs ≡ 0 → xs ≡ []
-    empty [] is = refl
-    empty (x ∷ xs) is = absurd (omega (arith, is))
+-- an error is told as one
+pub tells : TellsErrors error_in
+tells = record { token = λ kind text. refl; enter = λ kind. refl; exit = refl; error = λ text pos. refl }
 
 -- ---- how large they are
 
@@ -134,7 +105,7 @@ module _ (table : Table) (is_table : IsTable table) (steps : List Step) (fits : 
   sent_low = are_low (sent_list table steps) placed few_bytes
 
   pub sent_numbers : errors_in steps ≤ 2147483648 → HaveNumbers 0 0 (sent_list table steps)
-  sent_numbers few = have_numbers (sent_list table steps) placed few_bytes (omega (arith, errors_sent table is_table steps fits, few))
+  sent_numbers few = have_numbers (sent_list table steps) placed few_bytes (omega (arith, errors_sent error_in tells table is_table steps fits, few))
 
   pub sent_few : length steps ≤ 4294967295 → length (sent_list table steps) < 2 ^ 64
   sent_few few = omega (arith, length-sent_list table is_table steps fits, kinds_below table is_table, short, few)

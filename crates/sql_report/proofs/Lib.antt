@@ -3,6 +3,7 @@ pub mod Bounds
 pub mod OpenNodeLemmas
 pub mod JsonLemmas
 pub mod JsonForests
+pub mod SentErrors
 pub mod SentForests
 pub mod InOrder
 pub mod HeldSteps

@@ -1,5 +1,6 @@
 //! What is wrong with a text.
 ghost use Rattle.std.specs.Prelude.{◌≡◌, ◌++◌, IfOk, OnOk, encode_utf8_all, map};
+ghost use Rattle.std.specs.List.{flat_map};
 ghost use Rattle.std.specs.Str.{chars};
 ghost use Rattle.squawk_table.specs.Sent.{sent_list};
 ghost use Rattle.squawk_table.specs.Shape.{Fits};
@@ -29,10 +30,27 @@ pub(crate) fn findings<'s>(
     ensures { IfOk result (λ all. AreInOrder (all_told table.now.errors (sent_list table.now output.now.steps)) all.items) }
 {
     let mut all = lexical_findings(alloc, table)?;
-    for step in table.str_steps(output) {
-        push_finding(&mut all, &step)?;
+    let _raw_count = table.len();
+    // Where none is recorded, nothing need be sent.
+    if output.error_count() > 0 {
+        push_sent(&mut all, table, output)?;
     }
     in_order(all)
+}
+
+/// Puts the errors among the steps that are sent for an output behind others.
+fn push_sent<'s>(
+    all: &mut Vec<Finding<'s>>,
+    table: &'s LexedStr<'s>,
+    output: &'s Output,
+) -> Result<(), AllocError>
+    requires { Fits table.now output.now.steps }
+    ensures { OnOk result (map told all.new.items ≡ map told all.old.items ++ flat_map told_in (sent_list table.now output.now.steps)) }
+{
+    for step in table.str_steps(output) {
+        push_finding(all, &step)?;
+    }
+    Ok(())
 }
 
 /// The lexical errors of a table, each where it starts.

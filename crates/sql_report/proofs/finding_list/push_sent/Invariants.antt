@@ -1,7 +1,7 @@
 use Rattle.std.proofs.Common.{◌≡◌, ◌++◌, map}
 use Rattle.std.specs.List.{flat_map}
 use Rattle.sql_report.specs.Findings.{told, told_in}
-use Rattle.sql_report.proofs.finding_list.findings.Given as goal
+use Rattle.sql_report.proofs.finding_list.push_sent.Given as goal
 
 abbrev pub invariant-loop-step : goal.invariant-loop-step
 invariant-loop-step l =
