@@ -102,5 +102,28 @@ int main(int argc, char **argv) {
         return 1;
     }
     printf("caliperdock_events: %.1f ns an event, %.1f ns a raw token; %zu events\n", least * 1e9 / (double)count, least * 1e9 / (double)n.tokens, count);
+
+    /* The same text in pieces of 64 kilobytes, each with the steps and errors of what ends in it. */
+    least = 1e9;
+    caliperdock_part_counts part;
+    for (int i = 0; i < rounds; i++) {
+        double begun = now();
+        uint32_t place = 0;
+        for (size_t from = 0, piece = 65536; from < len || place == 0;) {
+            int last = len - from <= piece;
+            a = caliperdock_part(text + from, last ? len - from : piece, place, (uint32_t)last, statements, n.statements, steps, n.sent.steps,
+                                 errors, n.sent.errors, texts, n.sent.texts, &part);
+            if (a.status != CALIPERDOCK_OK)
+                return 3;
+            piece = part.bytes > 0 ? 65536 : 2 * piece;
+            from += part.bytes;
+            place = part.place;
+            if (last)
+                break;
+        }
+        double took = now() - begun;
+        least = took < least ? took : least;
+    }
+    printf("caliperdock_part: %.1f ns a byte\n", least * 1e9 / (double)len);
     return 0;
 }
