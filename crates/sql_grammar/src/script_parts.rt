@@ -109,9 +109,9 @@ impl<'t> ScriptParts<'t> {
 
     /// Reads the next part, if there is one, and parses it by rules. After an error all is as before.
     ///
-    /// A part ends with the first statement after this many bytes: with 1 it is one statement, with `usize::MAX` it is all
-    /// that is left. In a text that isn't the last one a part ends before the last line does, where a statement or a line of
-    /// data ends.
+    /// A part ends with the first statement that ends `least` bytes after its start or later: with 1 it is one statement, with
+    /// `usize::MAX` all that is left. In a text that isn't the last one it ends before the last line does, with a statement or
+    /// a line of data.
     pub fn next_part(
         &mut self,
         least: usize,
