@@ -3,12 +3,13 @@
 use crate::answer::CAnswer;
 use crate::errors::CError;
 use crate::event::CEvent;
+use crate::part::CPartCounts;
 use crate::sent::CCounts;
 use crate::sql_lists::CSqlCounts;
 use crate::statement::CStatement;
 use crate::steps::CStep;
 use crate::token::CToken;
-use crate::{caliperdock_events, caliperdock_sql, caliperdock_statements};
+use crate::{caliperdock_events, caliperdock_part, caliperdock_sql, caliperdock_statements};
 use std::alloc::Global;
 use std::test::Fail;
 
@@ -68,6 +69,27 @@ impl Rooms {
             alloc,
             text,
             &mut self.tokens,
+            &mut self.statements,
+            &mut self.steps,
+            &mut self.errors,
+            &mut self.texts,
+            counts,
+        )
+    }
+
+    fn part(
+        &mut self,
+        alloc: Global,
+        text: &[u8],
+        place: u32,
+        last: u32,
+        counts: &mut CPartCounts,
+    ) -> CAnswer {
+        caliperdock_part(
+            alloc,
+            text,
+            place,
+            last,
             &mut self.statements,
             &mut self.steps,
             &mut self.errors,
@@ -243,5 +265,34 @@ fn writes_statements(rt: HostRuntime) -> Result<(), Fail> {
     assert_eq!(rt; answer.status, 3);
     assert_eq!(rt; answer.place, 2);
     assert_eq!(rt; count, 0);
+    Ok(())
+}
+
+/// The line of the second statement doesn't end, so it may go on in the next text.
+#[test]
+fn writes_parts(rt: HostRuntime) -> Result<(), Fail> {
+    let alloc = rt.alloc();
+    let mut rooms = Rooms::new();
+    let mut counts = CPartCounts::none(9);
+    let answer = rooms.part(alloc, b"select 1;\nselect '\xff", 0, 0, &mut counts);
+    assert_eq!(rt; answer.status, 0);
+    assert_eq!(rt; counts.bytes, 9);
+    assert_eq!(rt; counts.place, 1);
+    assert_eq!(rt; counts.statements, 1);
+    assert_eq!(rt; counts.sent.steps, 16);
+    assert_eq!(rt; rooms.statements[0].end, 9);
+    let answer = rooms.part(alloc, b"\nselect", 1, 0, &mut counts);
+    assert_eq!(rt; answer.status, 0);
+    assert_eq!(rt; counts.bytes, 0);
+    assert_eq!(rt; counts.place, 1);
+    assert_eq!(rt; counts.sent.steps, 0);
+    let answer = rooms.part(alloc, b"\nselect", 1, 1, &mut counts);
+    assert_eq!(rt; answer.status, 0);
+    assert_eq!(rt; counts.bytes, 7);
+    assert_eq!(rt; rooms.statements[0].start, 1);
+    let answer = rooms.part(alloc, b"a \xff", 7, 1, &mut counts);
+    assert_eq!(rt; answer.status, 3);
+    assert_eq!(rt; answer.place, 2);
+    assert_eq!(rt; counts.place, 7);
     Ok(())
 }
