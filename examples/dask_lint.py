@@ -18,7 +18,7 @@ from bisect import bisect_right
 from typing import Iterator, Optional, Sequence
 
 import caliperdock
-from caliperdock import Node, SyntaxKind
+from caliperdock import Node, Part, SyntaxKind
 from distributed import Client, KilledWorker
 from fsspec.core import OpenFile, url_to_fs
 from toolz import partition_all
@@ -51,21 +51,31 @@ def broken_rules(statement: Node) -> Iterator[tuple[int, str, str]]:
 
 
 def lint(file: OpenFile) -> list[Finding]:
-    """What is found in a file. Lines and columns count from 1, columns in characters."""
+    """What is found in a file, of which a part is held at once. Lines and columns count from 1, columns in characters."""
     name = file.full_name.removeprefix("file://")
+    findings, line, column = [], 1, 1
     try:
         with file as stream:
-            text = stream.read().decode()
-        tree = caliperdock.parse(text)
-    except UnicodeDecodeError as error:
-        return [(name, 1, 1, UNREADABLE, f"not UTF-8 at byte {error.start}")]
+            for part in caliperdock.parts(stream):
+                lines = [0, *(newline.end() for newline in re.finditer("\n", part.text))]
+                for at, rule, message in found_in(part):
+                    index = bisect_right(lines, at) - 1
+                    findings.append((name, line + index, at - lines[index] + (1 if index else column), rule, message))
+                column = len(part.text) - lines[-1] + (1 if len(lines) > 1 else column)
+                line += len(lines) - 1
+    except caliperdock.Refused as refused:
+        findings.append((name, line, column, UNREADABLE, str(refused)))
     except Exception as error:  # each kind of storage has its own
-        return [(name, 1, 1, UNREADABLE, repr(error))]
-    found = [(e.start, "syntax-error", f"{e.message} ({e.hint})" if e.hint else e.message) for e in tree.errors]
-    found += [broken for statement in tree.root.children for broken in broken_rules(statement)]
-    lines = [0, *(newline.end() for newline in re.finditer("\n", text))]
-    numbered = [(bisect_right(lines, at), at, rule, message) for at, rule, message in found]
-    return [(name, line, at - lines[line - 1] + 1, rule, message) for line, at, rule, message in numbered]
+        findings.append((name, line, column, UNREADABLE, repr(error)))
+    return findings
+
+
+def found_in(part: Part) -> Iterator[tuple[int, str, str]]:
+    """What is found in statements: the character, the rule and its message."""
+    for error in part.errors:
+        yield error.start, "syntax-error", f"{error.message} ({error.hint})" if error.hint else error.message
+    for statement in part.root.children:
+        yield from broken_rules(statement)
 
 
 def lint_all(files: Sequence[OpenFile]) -> list[Finding]:

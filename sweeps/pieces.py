@@ -55,7 +55,7 @@ def read(file):
     try:
         for statement in caliperdock.statements(file):
             statements.append(told(statement))
-    except (OSError, UnicodeDecodeError) as error:
+    except (OSError, caliperdock.Refused) as error:
         return statements, error
     return statements, None
 
@@ -72,7 +72,7 @@ def fault(text, size, chance):
     if len(statements) > len(wanted) + 1 or "".join(part.text for part in caliperdock.parts(io.BytesIO(data))) != text:
         return "the text is another"
     at = chance.randrange(len(data) + 1)
-    for file, reason in ((Failing(data[:at]), OSError), (io.BytesIO(data[:at] + b"\xff" + data[at:]), UnicodeDecodeError)):
+    for file, reason in ((Failing(data[:at]), OSError), (io.BytesIO(data[:at] + b"\xff" + data[at:]), caliperdock.Refused)):
         before, error = read(file)
         if not isinstance(error, reason) or before != statements[: len(before)]:
             return f"{reason.__name__} at {at}"

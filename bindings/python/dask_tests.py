@@ -99,12 +99,24 @@ class Folder(unittest.TestCase):
         count = f"files: {len(names)}, findings: {len(names)}, unreadable: 0"
         self.check(["many", f"file://{self.folder}/many/1*", "--workers", "2"], [*lines, count], 1)
 
+    def test_parts(self):
+        """Lines and columns count on from part to part, and what stands before a fault is linted."""
+        text = "select 1;\n" * 20_000 + "select 2; " * 20_000 + "create index on t (a);\n/* é */ create index on t (a);\n"
+        (self.folder / "a.sql").write_bytes(text.encode() + b"\xff")
+        lines = [
+            f"{self.folder}/a.sql:20001:200001: {LOCKED}",
+            f"{self.folder}/a.sql:20002:9: {LOCKED}",
+            f"{self.folder}/a.sql:20002:31: unreadable: the text isn't UTF-8 at byte 400055",
+            "files: 1, findings: 2, unreadable: 1",
+        ]
+        self.check(["a.sql", "--workers", "1"], lines, 3)
+
     def test_unreadable(self):
         """What can't be read is told, and the rest is linted."""
         (self.folder / "a.sql").write_bytes(b"select 'caf\xe9';\n")
         (self.folder / "b.sql").symlink_to("nowhere")
         lines = [
-            f"{self.folder}/a.sql:1:1: unreadable: not UTF-8 at byte 11",
+            f"{self.folder}/a.sql:1:1: unreadable: the text isn't UTF-8 at byte 11",
             f"{self.folder}/b.sql:1:1: unreadable: FileNotFoundError(2, 'No such file or directory')",
             *lines_of(self.folder),
             f"nowhere:1:1: unreadable: FileNotFoundError(['{self.folder}/nowhere'])",

@@ -108,7 +108,7 @@ class Scripts(unittest.TestCase):
             next(told)
         told = caliperdock.statements(io.BytesIO(b"select 1;\nselect '\xff'"))
         self.assertEqual(next(told).text, "select 1;")
-        with self.assertRaisesRegex(UnicodeDecodeError, "byte 18 of the script"):
+        with self.assertRaisesRegex(caliperdock.Refused, "at byte 18"):
             next(told)
         with self.assertRaisesRegex(TypeError, "rb"):
             next(caliperdock.statements(io.StringIO("select 1")))

@@ -57,7 +57,7 @@ _TOO_SMALL = 1
 
 _REASONS = {
     2: "memory was refused",
-    3: "the text isn't UTF-8",
+    3: "the text isn't UTF-8 at byte {place}",
     5: "the text has more than 4294967295 bytes",
     8: "the text has too many nodes and tokens",
     13: "the text has too many errors",
@@ -70,7 +70,7 @@ class Refused(Exception):
     def __init__(self, status: int, place: int):
         self.status = status
         self.place = place
-        super().__init__(_REASONS.get(status, f"status {status} at {place}"))
+        super().__init__(_REASONS.get(status, "status {status} at {place}").format(status=status, place=place))
 
 
 def _load():

@@ -73,9 +73,8 @@ def parts(file: BinaryIO) -> Iterator[Part]:
         except Refused as refused:
             if refused.status != _NOT_UTF8:
                 raise
-            at, last = refused.place, False
-            failed = UnicodeDecodeError("utf-8", data, at, at + 1, f"byte {start_byte + at} of the script isn't UTF-8")
-            written = WrittenPart(data[:at], place, last)
+            last, failed = False, Refused(_NOT_UTF8, start_byte + refused.place)
+            written = WrittenPart(data[: refused.place], place, last)
         if written.counts.whole:
             size = written.counts.bytes
             part = Part(data[:size].decode(), written, start, start_byte)
