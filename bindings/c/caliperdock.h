@@ -258,13 +258,13 @@ typedef struct {
 } caliperdock_part_counts;
 
 /* The next statements of a script that comes piece by piece: all that end in this text whatever follows it, with the steps
- * of their tree and all errors, as caliperdock_sql says. They begin with the text, and end with a line before its last.
- * Places count from the first byte of the text.
+ * of their tree and all errors, as caliperdock_sql says. Places count from the first byte of the text. Where more is to
+ * come, what stands after the last newline isn't read, so it may end inside of a character.
  *
  * place: 0 for the first text of a script, and then what the counts of the call before said. last: 0 where more of the
  * script is to come; the last text has the rest of the script, and may be empty. Bytes that aren't read begin the next
- * text. Where nothing is read and more is to come, that text has to be longer; double it, and each byte is read twice at
- * most. Pieces of 64 kilobytes are fastest. With any status but CALIPERDOCK_OK and CALIPERDOCK_TOO_SMALL nothing is
+ * text. Where nothing is read and more is to come, that text has to be longer; double it, since a call looks through all
+ * of its text. Pieces of 64 kilobytes are fastest. With any status but CALIPERDOCK_OK and CALIPERDOCK_TOO_SMALL nothing is
  * read, and the place is the one that was given.
  *
  *     size_t len = 0, got;
