@@ -1,6 +1,7 @@
 -- Words in their order, and what is found among them.
-use Rattle.std.proofs.Common.{◌≡◌, ℕ, ◌<◌, ◌≤◌, ◌&&◌, List, [], ◌∷◌, Bool, true, false, cond, Option, Some, None, zero, suc, length, get_or, not, filter, inl, inr, ◌⊎◌, refl, sym, ap, ◌∙◌, arith}
-use Rattle.std.specs.Prelude.{slice_get}
+use Rattle.std.proofs.Common.{◌≡◌, ℕ, ◌+◌, ◌<◌, ◌≤◌, ◌&&◌, List, [], ◌∷◌, Bool, true, false, cond, Option, Some, None, zero, suc, length, get_or, not, filter, inl, inr, ◌⊎◌, refl, sym, ap, ◌∙◌, arith}
+use Rattle.std.specs.Prelude.{IsTrue, slice_get, slice_index_or}
+use Rattle.std.specs.List.{IsAllAdjacentAnswer}
 use Rattle.std.specs.Cmp.Lexicographic.{slice_cmp}
 use Rattle.std.specs.Bool.{then_some}
 use Rattle.std.specs.List.Sorted.{IsNonDecreasingBy, IsPartitionPoint, IsPartitionedBy, IsStableBy, ties}
@@ -8,7 +9,7 @@ use Rattle.std.specs.Ordering.{is_eq, is_lt, nat_cmp, ordering_index}
 use Rattle.std.specs.declared.cmp.Ordering.{Ordering}
 use Rattle.std.specs.declared.cmp.Ordering.TheVariants.{Less, Equal, Greater}
 use Rattle.std.specs.Str.{bytes_eq}
-use Rattle.std.proofs.lemmas.Bool.{cases_Bool}
+use Rattle.std.proofs.lemmas.Bool.{cases_Bool, false≢true}
 use Rattle.std.proofs.lemmas.Cmp.{nat_list_cmp_total}
 use Rattle.std.proofs.lemmas.List.Sorted.{searchable_from_sorted}
 use Rattle.std.proofs.lemmas.Option.{slice_get_past}
@@ -37,6 +38,15 @@ module _ (ignores_case : Bool) where
   -- a word comes before another one
   abbrev pub comes_before : Word → Word → Bool
   comes_before one other = is_lt (slice_cmp nat_cmp (key one) (key other))
+
+  -- words are in order where none comes before the one in front of it
+  pub from_adjacent : (words : List Word) (r : Bool) → IsAllAdjacentAnswer (λ one other b. b ≡ not (comes_before other one)) words r → IsTrue r → IsInOrder ignores_case words
+  from_adjacent words true adjacent is = λ k d low within. opposite (comes_before (slice_index_or words (k + 1) d) (slice_index_or words k d)) (adjacent k d within)
+    where
+      opposite : (b : Bool) → true ≡ not b → b ≡ false
+      opposite true e = e
+      opposite false e = refl
+  from_adjacent words false adjacent is = absurd (false≢true is)
 
   module _ (text : List ℕ) where
     -- a text is the word

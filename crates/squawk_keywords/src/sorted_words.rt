@@ -1,5 +1,5 @@
 //! Sorted words with their kinds, for a binary search.
-ghost use Rattle.std.specs.Prelude.{◌≡◌, ℕ, List, IfOk};
+ghost use Rattle.std.specs.Prelude.{◌≡◌, ℕ, List, IfOk, IsTrue};
 ghost use Rattle.squawk_keywords.specs.KeywordPairs.{pairs_of};
 ghost use Rattle.squawk_keywords.specs.LetterCase.{IsInOrder, kind_by};
 
@@ -17,8 +17,18 @@ pub fn sorted<'k>(
     ensures kinds { IfOk result (λ words. (text : List ℕ) → kind_by ignores_case (pairs_of words.items) text ≡ kind_by ignores_case (pairs_of pairs.now) text) }
 {
     let mut words = Vec::from_slice(alloc, pairs)?;
+    if is_in_order(ignores_case, &words) {
+        return Ok(words);
+    }
     words.sort_by(|one, other| order(ignores_case, one.0, other.0))?;
     Ok(words)
+}
+
+/// Whether words are sorted. Most lists are, and a sort takes far longer.
+fn is_in_order(ignores_case: bool, words: &[(&str, SyntaxKind)]) -> bool
+    ensures { IsTrue result → IsInOrder ignores_case words.now }
+{
+    words.is_sorted_by(|one, other| !order(ignores_case, other.0, one.0).is_lt())
 }
 
 /// The kind of the first of these sorted words that equals a text.
