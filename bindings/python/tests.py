@@ -5,11 +5,11 @@ import pathlib
 import unittest
 
 import caliperdock
-from caliperdock import _script, _sql, _tree
+from caliperdock import _document, _script, _sql, _tree
 
 
 def load_tests(loader, tests, ignore):
-    for module in (caliperdock, _script, _sql, _tree):
+    for module in (caliperdock, _document, _script, _sql, _tree):
         tests.addTests(doctest.DocTestSuite(module))
     return tests
 
@@ -112,6 +112,63 @@ class Scripts(unittest.TestCase):
             next(told)
         with self.assertRaisesRegex(TypeError, "rb"):
             next(caliperdock.statements(io.StringIO("select 1")))
+
+
+class Documents(unittest.TestCase):
+    def check(self, document, text):
+        self.assertEqual(document.text, text)
+        self.assertEqual(len(document), len(text))
+        tree = caliperdock.parse(text)
+        nodes = [(node.kind, node.text, node.start, node.end, node.start_byte) for node in tree.root.children if not node.is_token]
+        told = [(s.kind, s.text, s.start, s.end, s.start_byte) for s in document.statements if s.kind != "COMMENT"]
+        self.assertEqual(told, nodes)
+        self.assertEqual(document.errors, tree.errors)
+
+    def edit(self, document, text, start, end, replacement):
+        document.edit(start, end, replacement)
+        text = text[:start] + replacement + text[end:]
+        self.check(document, text)
+        return text
+
+    def test_edits(self):
+        text = "select 'é';\n" * 20000
+        document = caliperdock.Document(text)
+        self.assertGreater(len(document._pieces), 1)
+        for place in (120001, 120003, 0, len(text), 5):
+            text = self.edit(document, text, place, place, "x")
+        text = self.edit(document, text, 100, 200000, "")
+        self.assertEqual(document.statement_at(10).text, "xselexct 'é';")
+
+    def test_quotes(self):
+        text = "create table t (a int);\n" * 100
+        document = caliperdock.Document(text)
+        for place, sign in ((700, "'"), (1300, "'"), (700, "$$"), (0, "copy t from stdin;\n"), (900, "\n\\.\n")):
+            text = self.edit(document, text, place, place, sign)
+
+    def test_a_part_stays(self):
+        document = caliperdock.Document("select 1;\n" * 1000)
+        document.edit(5000, 5000, " ")
+        before = document._pieces
+        sizes = [len(piece.data) for piece in before]
+        kept = list(before)
+        document.edit(5001, 5002, "")
+        self.assertLessEqual(sum(piece not in kept for piece in document._pieces), 2)
+        self.assertLessEqual(max(sizes), 1024)
+
+    def test_outside(self):
+        document = caliperdock.Document("select 1")
+        for start, end in ((-1, 0), (3, 2), (0, 9)):
+            with self.assertRaises(IndexError):
+                document.edit(start, end, "")
+        with self.assertRaises(UnicodeEncodeError):
+            document.edit(0, 6, "\ud800")
+        self.check(document, "select 1")
+        self.assertIsNone(document.statement_at(8))
+
+    def test_nothing(self):
+        document = caliperdock.Document()
+        self.check(document, "")
+        self.check(document, self.edit(document, self.edit(document, "", 0, 0, "select"), 0, 6, ""))
 
 
 class Corpus(unittest.TestCase):

@@ -21,6 +21,7 @@ has the kind of its first word, as SELECT or CREATE.
 
 A script of any size is read from a file: `for statement in caliperdock.statements(open("dump.sql", "rb"))`.
 """
+from ._document import Document
 from ._kinds import SyntaxKind
 from ._library import Refused
 from ._script import Part, ScriptStatement, parts, statements
@@ -28,6 +29,6 @@ from ._sql import Error, Statement, Token, errors, split, tokenize
 from ._tree import Node, Tree, parse
 
 __all__ = [
-    "Error", "Node", "Part", "Refused", "ScriptStatement", "Statement", "SyntaxKind", "Token", "Tree", "errors", "parse", "parts",
+    "Document", "Error", "Node", "Part", "Refused", "ScriptStatement", "Statement", "SyntaxKind", "Token", "Tree", "errors", "parse", "parts",
     "split", "statements", "tokenize",
 ]

@@ -148,6 +148,11 @@ def statement_rows(data: bytes):
         room = count.value
 
 
+def _rounded(count: int) -> int:
+    """Room for so many or more. A few sizes are enough for short texts: ctypes makes a type for each."""
+    return 1 << count.bit_length() if count < 65536 else count
+
+
 class Written:
     """What the library wrote of a text: the lists that were wanted."""
 
@@ -171,6 +176,7 @@ class Written:
     def _write(self, room, call):
         """Makes room for so many of what is wanted, and calls until there is room for all."""
         while True:
+            room = {name: _rounded(count) for name, count in room.items()}
             self._room = {"tokens": 0, "statements": 0, "steps": 0, "errors": 0, "texts": 0, **room}
             self.tokens = (RawToken * max(self._room["tokens"], 1))()
             self._statements = (RawStatement * max(self._room["statements"], 1))()
@@ -206,3 +212,40 @@ class WrittenPart(Written):
     def statements(self):
         """Each statement: its kind, and the bytes where it starts and ends."""
         return rows(self._statements, "=QQQ", self.counts.statements)
+
+    def kept(self) -> "KeptPart":
+        """The same in no more room than it needs."""
+        return KeptPart(self)
+
+
+class KeptPart:
+    """What the library wrote of a part, to be held for long."""
+
+    def __init__(self, written: WrittenPart):
+        counts = written.counts
+        self.counts = counts
+        self._statements = _bytes(written._statements, counts.statements * ctypes.sizeof(RawStatement))
+        self._steps = _bytes(written.steps, counts.steps * ctypes.sizeof(RawStep))
+        self._errors = _bytes(written.errors, counts.errors * ctypes.sizeof(RawError))
+        self._texts = _bytes(written._texts, counts.texts)
+
+    @property
+    def steps(self):
+        return (RawStep * self.counts.steps).from_buffer_copy(self._steps)
+
+    @property
+    def errors(self):
+        return (RawError * self.counts.errors).from_buffer_copy(self._errors)
+
+    def statements(self):
+        """Each statement: its kind, and the bytes where it starts and ends."""
+        return struct.iter_unpack("=QQQ", self._statements)
+
+    def text(self, start: int, end: int) -> str:
+        """These bytes of the errors' texts."""
+        return self._texts[start:end].decode()
+
+
+def _bytes(records, size: int) -> bytes:
+    """The first bytes of an array."""
+    return bytes(memoryview(records).cast("B")[:size])

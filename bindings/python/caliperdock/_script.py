@@ -1,8 +1,8 @@
 """Scripts of any size, from a file or a stream."""
-from typing import BinaryIO, Iterator, List, Optional, Tuple
+from typing import BinaryIO, Iterator, List, Optional, Tuple, Union
 
 from ._kinds import SyntaxKind
-from ._library import Refused, WrittenPart
+from ._library import KeptPart, Refused, WrittenPart
 from ._places import Source
 from ._sql import Error, kind_name
 from ._tree import Node, Tree
@@ -19,7 +19,7 @@ class Part(Tree):
     Places in the tree count from `start`, which is how many characters of the script stand before it.
     """
 
-    def __init__(self, text: str, written: WrittenPart, start: int, start_byte: int):
+    def __init__(self, text: str, written: Union[WrittenPart, KeptPart], start: int, start_byte: int):
         self._hold(Source(text), written)
         self.text, self.start, self.start_byte = text, start, start_byte
         self._nodes = None
@@ -113,10 +113,10 @@ def statements(file: BinaryIO) -> Iterator[ScriptStatement]:
     ['CREATE_TABLE', 'QUERY']
     """
     for part in parts(file):
-        yield from _statements_in(part)
+        yield from statements_in(part)
 
 
-def _statements_in(part: Part) -> Iterator[ScriptStatement]:
+def statements_in(part: Part) -> Iterator[ScriptStatement]:
     source = part._source
     told = [(kind_name(kind), start, end) for kind, start, end in part._written.statements()]
     behind = told[-1][2] if told else 0
@@ -131,12 +131,12 @@ def _statements_in(part: Part) -> Iterator[ScriptStatement]:
         last = first
         while last < len(errors) and errors[last].end_byte <= end_byte and errors[last].start_byte < limit:
             last += 1
-        found = [_moved(error, part) for error in errors[first:last]]
+        found = [moved(error, part) for error in errors[first:last]]
         first = last
         yield ScriptStatement(part, kind, text, start, start_byte, end_byte, found)
 
 
-def _moved(error: Error, part: Part) -> Error:
+def moved(error: Error, part: Part) -> Error:
     """An error of a part, with its places in the script."""
     return error._replace(
         start=part.start + error.start,

@@ -17,13 +17,15 @@
 //! A statement in a tree has the kind that PostgreSQL's grammar says, as QUERY or CREATE_TABLE. One of [`statements`]
 //! has the kind of its first word, as SELECT or CREATE.
 //!
-//! A script of any size is read [part by part](parts) from a file or a stream, by the feature `std`.
+//! A script of any size is read [part by part](parts) from a file or a stream, by the feature `std`. One that is edited is a
+//! [`Document`].
 #![no_std]
 
 extern crate alloc;
 #[cfg(feature = "std")]
 extern crate std;
 
+mod document;
 mod error;
 mod event;
 mod ffi;
@@ -34,6 +36,7 @@ mod syntax_kind;
 mod token;
 mod tree;
 
+pub use document::{Document, DocumentPart};
 pub use error::{Refused, SyntaxError};
 pub use event::{steps, Event, Sent, Step};
 #[cfg(feature = "std")]

@@ -1,3 +1,5 @@
+pub mod Accepted
+pub mod Continued
 pub mod CutLoop
 pub mod Cuts
 pub mod Ends

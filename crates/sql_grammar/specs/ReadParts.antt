@@ -1,5 +1,5 @@
 -- A script that is read a part at a time.
-use Rattle.std.specs.Prelude.{◌≡◌, ◌<◌, ◌≤◌, ◌&&◌, ℕ, ◌+◌, ◌-◌, nat_lt, is_some, Bool, true, false, List, [], ◌∷◌, ◌++◌, All, IsUtf8, length, map, slice_range, sum_by, take}
+use Rattle.std.specs.Prelude.{◌≡◌, ◌≢◌, ◌<◌, ◌≤◌, ◌&&◌, ℕ, ◌+◌, ◌-◌, nat_lt, is_some, Bool, true, false, Some, List, [], ◌∷◌, ◌++◌, All, IsUtf8, drop, length, map, slice_range, sum_by}
 use Rattle.std.specs.Borrow.{Bor}
 use Rattle.std.specs.Str.{chars}
 use Rattle.squawk_keywords.specs.KeywordAnswers.{contextual_keyword_of, keyword_of}
@@ -17,9 +17,10 @@ use Rattle.squawk_tokens.specs.declared.token.Token.{Token}
 use Rattle.rule_grammar.specs.declared.rules.RuleGrammar.{RuleGrammar}
 use Rattle.sql_lexer.specs.Lines.{EndsLine}
 use Rattle.sql_lexer.specs.ScriptEnds.{statement_at}
-use Rattle.sql_lexer.specs.ScriptLexing.{Lexing, after_statements, begun_at, longer, script_place, tokens_left}
+use Rattle.sql_lexer.specs.ScriptLexing.{Lexing, after_statements, begun_at, longer, place_of, script_place, tokens_left}
 use Rattle.sql_lexer.specs.Scripts.{script_tokens}
 use Rattle.sql_lexer.specs.Statements.{is_start}
+use Rattle.sql_lexer.specs.declared.script.places.Place.{Place}
 use Rattle.sql_lexer.specs.declared.script.script_place.ScriptPlace.{ScriptPlace}
 use Rattle.sql_lexer.specs.declared.script.script_place.ScriptPlace.TheVariants as script
 use Rattle.sql_words.specs.SqlVocabulary.{KnowsKeywords}
@@ -84,31 +85,42 @@ left_of r = length r.lexer.text - r.lexer.at + at_front r.progress
 
 -- ---- what is read
 
--- What is read is a part from the front up to where the lexer stands, parsed by the rules, with these lexical errors. For it
--- these steps are sent, and then the root is left.
-pub record HasReadPart (vocabulary : Keywords) (rules : RuleGrammar) (r : Reading) (errors : List LexicalError) (done : List OwnedStep) : Type 0 where
+-- The tokens of a script that is left at a place.
+abbrev pub tokens_from : Place → List ℕ → List Token
+tokens_from place left = tokens_left (record { text = left; at = 0; place = place })
+
+-- What is read of a script is a part, parsed by the rules, with these lexical errors; for it these steps are sent, and then the
+-- root is left. The script's other tokens are those of what is left of it, at a place.
+pub record HasReadPart (vocabulary : Keywords) (rules : RuleGrammar) (read left : List ℕ) (place : Place) (errors : List LexicalError) (done : List OwnedStep) : Type 0 where
   pub part : Part
   pub by : Bor RuleGrammar
   pub same : AreSame by.now rules
   pub parsed : IsParsedPart by (keyword_of vocabulary) (contextual_keyword_of vocabulary) part
-  pub text : part.text ≡ take r.lexer.at r.lexer.text
-  pub tokens : tokens_at r.begun r.lexer.text ≡ part.tokens ++ tokens_left r.lexer
-  pub ends : r.lexer.at < length r.lexer.text → EndsWithStatement (keyword_of vocabulary) (contextual_keyword_of vocabulary) part
+  pub text : part.text ≡ read
+  pub accepted : AreAcceptedTokens part.text part.tokens
+  pub tokens : script_tokens (read ++ left) ≡ part.tokens ++ tokens_from place left
+  pub ends : 0 < length left → EndsWithStatement (keyword_of vocabulary) (contextual_keyword_of vocabulary) part
   pub errors_are : (table_by (keyword_of vocabulary) part).errors ≡ errors
   pub sent_is : sent_list (table_by (keyword_of vocabulary) part) (steps_of part) ≡ done ++ sent.Exit ∷ []
 
 -- at the front nothing is, and the root is entered
-pub record HasReadNothing (r : Reading) (errors : List LexicalError) (done : List OwnedStep) : Type 0 where
-  pub front : r.lexer ≡ begun_at r.begun r.lexer.text
+pub record HasReadNothing (read : List ℕ) (place : Place) (errors : List LexicalError) (done : List OwnedStep) : Type 0 where
+  pub front : place ≡ place_of script.Front
+  pub nothing : read ≡ []
   pub none : errors ≡ []
   pub entered : done ≡ sent.Enter SOURCE_FILE ∷ []
 
-abbrev pub ReadSoFar : Progress → Keywords → RuleGrammar → Reading → List LexicalError → List OwnedStep → Type 0
-ReadSoFar Front vocabulary rules r errors done = HasReadNothing r errors done
-ReadSoFar Inside vocabulary rules r errors done = HasReadPart vocabulary rules r errors done
+abbrev pub ReadSoFar : Progress → Keywords → RuleGrammar → List ℕ → List ℕ → Place → List LexicalError → List OwnedStep → Type 0
+ReadSoFar Front vocabulary rules read left place errors done = HasReadNothing read place errors done
+ReadSoFar Inside vocabulary rules read left place errors done = HasReadPart vocabulary rules read left place errors done
 
-abbrev pub HasRead : Keywords → RuleGrammar → Reading → List LexicalError → List OwnedStep → Type 0
-HasRead vocabulary rules r errors done = KnowsKeywords vocabulary × ReadSoFar r.progress vocabulary rules r errors done
+-- what is left of the text
+abbrev pub text_left : Reading → List ℕ
+text_left r = drop r.lexer.at r.lexer.text
+
+-- What is read of a script, with that of earlier texts, where this rest stands after the text.
+abbrev pub HasRead : Keywords → RuleGrammar → Reading → List ℕ → List ℕ → List LexicalError → List OwnedStep → Type 0
+HasRead vocabulary rules r rest read errors done = KnowsKeywords vocabulary × ReadSoFar r.progress vocabulary rules read (text_left r ++ rest) r.lexer.place errors done
 
 -- ---- the next part
 
@@ -149,11 +161,16 @@ pub record IsOfStatements (vocabulary : Keywords) (rules : RuleGrammar) (old new
   pub table : part.table ≡ table_of (keyword_of vocabulary) (slice_range old.lexer.text old.lexer.at new.lexer.at) tokens
   pub parsed : IsParsedBy rules vocabulary part.table.text tokens part.table part.output.steps
 
--- A part goes on with what is read: what is sent in its root, and its lexical errors, whose places count from its start.
+-- A part goes on with what is read of a script of at most 4294967295 bytes, whatever stands after the text, if it isn't the last:
+-- what is sent in its root, and its lexical errors, whose places count from its start.
 pub record ReadsPart (vocabulary : Keywords) (rules : RuleGrammar) (old new : Reading) (part : ScriptPart) : Type 0 where
   pub same : (new.lexer.text ≡ old.lexer.text) × ((new.begun ≡ old.begun) × (new.is_last ≡ old.is_last))
   pub goes_on : left_of new < left_of old
+  pub inside : new.progress ≡ Inside
+  pub place : old.is_last ≡ false → script_place new.lexer.place ≢ Some script.Front
   pub start : part.start ≡ old.lexer.at
+  pub end : new.lexer.at ≡ part.start + length part.table.text
+  pub text : text_left old ≡ part.table.text ++ text_left new
   pub statements : IsOfStatements vocabulary rules old new part
   pub fits : Fits part.table part.output.steps
   pub whole : texts_of (sent_list part.table part.output.steps) ≡ chars part.table.text
@@ -161,9 +178,10 @@ pub record ReadsPart (vocabulary : Keywords) (rules : RuleGrammar) (old new : Re
   pub few : (length part.output.steps ≤ 4294967295) × (errors_in part.output.steps ≤ 2147483648)
   pub inner : List OwnedStep
   pub sent_is : sent_list part.table part.output.steps ≡ sent.Enter SOURCE_FILE ∷ inner ++ sent.Exit ∷ []
-  pub before : (errors : List LexicalError) (done : List OwnedStep) → HasRead vocabulary rules old errors done → AreBefore part.start errors done
-  pub reads : (errors : List LexicalError) (done : List OwnedStep) → HasRead vocabulary rules old errors done
-      → HasRead vocabulary rules new (errors ++ map (shifted part.start) part.table.errors) (done ++ map (moved_by part.start) inner)
+  pub before : (rest read : List ℕ) (errors : List LexicalError) (done : List OwnedStep) → HasRead vocabulary rules old rest read errors done → AreBefore (length read) errors done
+  pub reads : (rest read : List ℕ) (errors : List LexicalError) (done : List OwnedStep) → (old.is_last ≡ true → rest ≡ []) → HasRead vocabulary rules old rest read errors done
+      → length read + length part.table.text ≤ 4294967295
+      → HasRead vocabulary rules new rest (read ++ part.table.text) (errors ++ map (shifted (length read)) part.table.errors) (done ++ map (moved_by (length read)) inner)
 
 -- ---- no other part
 

@@ -69,14 +69,14 @@ impl<'t> Model for ScriptParts<'t> {
 }
 
 impl<'t> ScriptParts<'t> {
-    ghost use Rattle.std.specs.Prelude.{◌≡◌, ◌≢◌, ◌≤◌, ◌⊎◌, true, [], ◌∷◌, ◌++◌, List, None, length, IfErr, IfOk, IfSome, OnErr};
+    ghost use Rattle.std.specs.Prelude.{◌≡◌, ◌≢◌, ◌≤◌, ◌⊎◌, ℕ, true, [], ◌∷◌, ◌++◌, List, None, length, IfErr, IfOk, IfSome, OnErr, OnOk};
     ghost use Rattle.squawk_keywords.specs.declared.keywords.Keywords.{Keywords};
     ghost use Rattle.squawk_table.specs.declared.shortcuts.str_step.OwnedStep.{OwnedStep};
     ghost use Rattle.squawk_table.specs.declared.shortcuts.str_step.OwnedStep.TheVariants.{Enter, Exit};
     ghost use Rattle.squawk_tokens.specs.LexicalErrors.{LexicalError};
     ghost use Rattle.rule_grammar.specs.declared.rules.RuleGrammar.{RuleGrammar};
     ghost use Rattle.sql_lexer.specs.Tokens.{RefusesText};
-    ghost use Rattle.sql_lexer.specs.ScriptLexing.{script_place};
+    ghost use Rattle.sql_lexer.specs.ScriptLexing.{place_of, script_place};
     ghost use Rattle.sql_lexer.specs.declared.script.script_place.ScriptPlace.TheVariants as script;
     ghost use Rattle.sql_words.specs.SqlVocabulary.{KnowsKeywords};
     ghost use Rattle.sql_grammar.specs.CutParts.{is_over};
@@ -93,7 +93,7 @@ impl<'t> ScriptParts<'t> {
     ) -> Result<ScriptParts<'t>, TokenizeError>
         ensures begins { IfOk result (BeginsText text.now place is_last) }
         ensures reads { IfOk result (λ parts. place ≡ script.Front → (vocabulary : Keywords) (rules : RuleGrammar) → KnowsKeywords vocabulary
-            → HasRead vocabulary rules parts [] (Enter SOURCE_FILE ∷ [])) }
+            → (rest : List ℕ) → HasRead vocabulary rules parts rest [] [] (Enter SOURCE_FILE ∷ [])) }
         ensures refused { IfErr result (RefusesText text.now) }
     {
         let text = readable(text, is_last);
@@ -121,9 +121,9 @@ impl<'t> ScriptParts<'t> {
         ensures reads { IfOk result (λ found. IfSome found (λ part. ReadsPart vocabulary.now rules.now self.old self.new part)) }
         ensures full { IfOk result (λ found. IfSome found (λ part. (least ≤ length part.table.text) ⊎ NoneLeft self.new.is_last self.new.lexer)) }
         ensures over { IfOk result (λ found. found ≡ None → IsOver self.old self.new) }
-        // After the last part of a script in one text what is read is the parse of the script.
-        ensures ends { IfOk result (λ found. found ≡ None → self.old.is_last ≡ true → (errors : List LexicalError) (done : List OwnedStep) → HasRead vocabulary.now rules.now self.old errors done
-            → self.old.begun ≡ script.Front → IsScriptParse vocabulary.now self.old.lexer.text errors (done ++ Exit ∷ [])) }
+        // Where all of the last text is read, what is read is the script, and its parse.
+        ensures ends { OnOk result (self.new.is_last ≡ true → length self.new.lexer.text ≤ self.new.lexer.at → (read : List ℕ) (errors : List LexicalError) (done : List OwnedStep)
+            → HasRead vocabulary.now rules.now self.new [] read errors done → IsScriptParse vocabulary.now read errors (done ++ Exit ∷ [])) }
         ensures refused { IfErr result (λ reason. reason ≢ ParseError.OutOfMemory → IsRefusedPart vocabulary.now self.old.begun self.old.lexer.text reason) }
         ensures stays { OnErr result (self.new ≡ self.old) }
     {
@@ -155,7 +155,9 @@ impl<'t> ScriptParts<'t> {
     /// Where the script stands after what is read, if another text may begin there, as it may after the last part of a text that
     /// isn't the last one.
     pub fn place(&self) -> Option<ScriptPlace>
-        ensures { result ≡ script_place self.now.lexer.place }
+        ensures is { result ≡ script_place self.now.lexer.place }
+        // A script goes on there as it would have gone on here.
+        ensures goes_on { IfSome result (λ place. place_of place ≡ self.now.lexer.place) }
     {
         self.lexer.place()
     }

@@ -55,17 +55,7 @@ module _ (place : ScriptPlace) (old l : Lexing) (same_text : l.text ≡ old.text
   pub here_length : length here ≡ bytes cut
   here_length = omega (arith, length-take (old.at + bytes cut - old.at) (drop old.at old.text), length-drop old.at old.text, here_within)
 
-  -- up to its end, and the rest
-  pub up_to : take (old.at + bytes cut) old.text ≡ take old.at old.text ++ here
-  up_to =
-      let front = take old.at old.text in
-      let rest = drop old.at old.text in
-      let count : length front ≡ old.at = omega (arith, length-take old.at old.text, here_within) in
-      let size : old.at + bytes cut - old.at ≡ bytes cut = omega arith in
-      ap (take (old.at + bytes cut)) (sym (take-append-drop old.at old.text))
-      ∙ (ap (λ n. take (n + bytes cut) (front ++ rest)) (sym count)
-      ∙ (take-append-add front rest (bytes cut) ∙ ap (λ n. front ++ take n rest) (sym size)))
-
+  -- what stands before it, it, and the rest
   pub between : old.text ≡ take old.at old.text ++ (here ++ drop (bytes cut) (drop old.at old.text))
   between =
       let rest = drop old.at old.text in

@@ -1,8 +1,8 @@
 -- The parts of a script, and all of them.
-use Rattle.std.proofs.Common.{◌≡◌, ◌∙◌, ℕ, ◌+◌, ◌-◌, ◌<◌, ◌≤◌, Bool, false, true, nat_le, nat_lt, is_some, List, [], ◌∷◌, ◌++◌, length, map, arith, ap, sym, subst, refl, length-take}
+use Rattle.std.proofs.Common.{◌≡◌, ◌∙◌, ℕ, ◌+◌, ◌-◌, ◌<◌, ◌≤◌, Bool, false, true, nat_le, nat_lt, is_some, drop, List, [], ◌∷◌, ◌++◌, length, map, arith, ap, sym, subst, refl, length-append, length-drop}
 use Rattle.std.specs.Prelude.{All, IsUtf8, encode_utf8_all, slice_range}
 use Rattle.std.specs.Str.{chars}
-use Rattle.std.proofs.lemmas.List.{append-nil, drop_all, take_all}
+use Rattle.std.proofs.lemmas.List.{append-nil, drop-append-le, drop_all}
 use Rattle.std.proofs.lemmas.Bool.{and_parts, false≢true, leb-false, leb-true, ltb-true}
 use Rattle.std.proofs.lemmas.Grind.{flat_map-append}
 use Rattle.std.proofs.lemmas.Str.{encodes-chars}
@@ -20,14 +20,14 @@ use Rattle.squawk_tokens.specs.declared.token.Token.{Token}
 use Rattle.rule_grammar.specs.declared.rules.RuleGrammar.{RuleGrammar}
 use Rattle.sql_lexer.specs.Lines.{EndsLine}
 use Rattle.sql_lexer.specs.ScriptLexing.{Lexing, longer, script_place, tokens_left}
-use Rattle.sql_lexer.specs.declared.script.script_place.ScriptPlace.TheVariants as script
+use Rattle.sql_lexer.specs.declared.script.places.Place.{Place}
 use Rattle.sql_lexer.specs.Scripts.{place_behind, script_tokens, token_at}
 use Rattle.sql_lexer.specs.Tokens.{tokens_by}
 use Rattle.sql_words.specs.SqlVocabulary.{KnowsKeywords}
 use Rattle.sql_grammar.specs.CutParts.{CutsInScript, CutsStatements, is_over, is_over_at}
 use Rattle.sql_grammar.specs.Parses.{AreOfFile}
 use Rattle.sql_grammar.specs.Parts.{moved_by, steps_of, table_by}
-use Rattle.sql_grammar.specs.ReadParts.{AreBefore, HasRead, HasReadPart, IsOfStatements, IsParsedBy, IsScriptParse, NoneLeft, ReadSoFar, Reading, ReadsPart, StandsInText, at_front, script_table, tokens_at}
+use Rattle.sql_grammar.specs.ReadParts.{AreBefore, HasRead, HasReadPart, IsOfStatements, IsParsedBy, IsScriptParse, NoneLeft, ReadSoFar, Reading, ReadsPart, StandsInText, at_front, script_table, text_left, tokens_from}
 use Rattle.sql_grammar.specs.StrayStrings.{stray_strings}
 use Rattle.sql_grammar.specs.declared.Detail.TheVariants.{Nodes}
 use Rattle.sql_grammar.specs.declared.script_parts.Progress.{Progress}
@@ -35,8 +35,9 @@ use Rattle.sql_grammar.specs.declared.script_parts.Progress.TheVariants.{Front, 
 use Rattle.sql_grammar.specs.declared.script_parts.ScriptPart.{ScriptPart}
 use Rattle.sql_grammar.proofs.parts.CutLoop.{none_at_end}
 use Rattle.sql_grammar.proofs.parts.Roots.{lexical_below, sent_below, whole_sent}
+use Rattle.sql_grammar.proofs.parts.Continued.{never_front}
 use Rattle.sql_grammar.proofs.parts.Here.{here, here_length, here_within}
-use Rattle.sql_grammar.proofs.parts.NextPart.{inner, inner_is, first_read, next_read}
+use Rattle.sql_grammar.proofs.parts.NextPart.{inner, inner_is, first_read, next_read, split}
 
 -- ---- before a part
 
@@ -45,43 +46,42 @@ bytes-moved done text utf8 whole =
     let none : texts_of (done ++ sent.Exit ∷ []) ≡ texts_of done = flat_map-append text_in done (sent.Exit ∷ []) ∙ append-nil (texts_of done) in
     bytes_of-texts done ∙ (ap (λ cs. length (encode_utf8_all cs)) (sym none ∙ whole) ∙ ap length (encodes-chars text utf8))
 
-module _ (vocabulary : Keywords) (rules : RuleGrammar) (r : Reading) (knows : KnowsKeywords vocabulary) (errors : List LexicalError) (done : List OwnedStep)
-    (read : HasReadPart vocabulary rules r errors done) where
-  sent_text : texts_of (done ++ sent.Exit ∷ []) ≡ chars read.part.text
-  sent_text = ap texts_of (sym read.sent_is) ∙ whole_sent read.by (keyword_of vocabulary) (contextual_keyword_of vocabulary) read.part read.parsed
+module _ (vocabulary : Keywords) (rules : RuleGrammar) (read left : List ℕ) (place : Place) (knows : KnowsKeywords vocabulary) (errors : List LexicalError) (done : List OwnedStep)
+    (has : HasReadPart vocabulary rules read left place errors done) where
+  sent_text : texts_of (done ++ sent.Exit ∷ []) ≡ chars has.part.text
+  sent_text = ap texts_of (sym has.sent_is) ∙ whole_sent has.by (keyword_of vocabulary) (contextual_keyword_of vocabulary) has.part has.parsed
 
-  pub part_before : r.lexer.at < length r.lexer.text → AreBefore r.lexer.at errors done
-  part_before left =
-      let p = read.part in
-      let count : length p.text ≡ r.lexer.at = omega (arith, ap length read.text, length-take r.lexer.at r.lexer.text, left) in
-      subst (λ n. AreBefore n errors done) count
+  pub part_before : 0 < length left → AreBefore (length read) errors done
+  part_before some =
+      let p = has.part in
+      subst (λ n. AreBefore n errors done) (ap length has.text)
       (record {
-        lexical = subst (All (λ error. error.start < length p.text)) read.errors_are (lexical_below read.by (keyword_of vocabulary) (contextual_keyword_of vocabulary) p read.parsed);
-        sent_errors = sent_below (keyword_of vocabulary) (contextual_keyword_of vocabulary) knows.keyword read.by p read.parsed (read.ends left) done read.sent_is;
-        bytes = bytes-moved done p.text read.parsed.table.utf8 sent_text;
+        lexical = subst (All (λ error. error.start < length p.text)) has.errors_are (lexical_below has.by (keyword_of vocabulary) (contextual_keyword_of vocabulary) p has.parsed);
+        sent_errors = sent_below (keyword_of vocabulary) (contextual_keyword_of vocabulary) knows.keyword has.by p has.parsed (has.ends some) done has.sent_is;
+        bytes = bytes-moved done p.text has.parsed.table.utf8 sent_text;
       })
 
   -- ---- all of the script
 
-  pub all_read : r.begun ≡ script.Front → length r.lexer.text ≤ r.lexer.at → tokens_left r.lexer ≡ [] → IsScriptParse vocabulary r.lexer.text errors (done ++ sent.Exit ∷ [])
-  all_read front end none =
-      let p = read.part in
-      let text_is : p.text ≡ r.lexer.text = read.text ∙ take_all r.lexer.at r.lexer.text end in
-      let tokens_are : p.tokens ≡ script_tokens r.lexer.text = sym (append-nil p.tokens) ∙ (ap (λ ts. p.tokens ++ ts) (sym none) ∙ (sym read.tokens ∙ ap (λ place. tokens_at place r.lexer.text) front)) in
-      let same : table_by (keyword_of vocabulary) p ≡ script_table vocabulary r.lexer.text =
-      ap (λ text. table_of (keyword_of vocabulary) text p.tokens) text_is ∙ ap (table_of (keyword_of vocabulary) r.lexer.text) tokens_are in
-      let strays : stray_strings p.text p.tokens ≡ stray_strings r.lexer.text (script_tokens r.lexer.text) = ap (λ text. stray_strings text p.tokens) text_is ∙ ap (stray_strings r.lexer.text) tokens_are in
+  pub all_read : left ≡ [] → IsScriptParse vocabulary read errors (done ++ sent.Exit ∷ [])
+  all_read none =
+      let p = has.part in
+      let all : script_tokens read ≡ p.tokens =
+      ap script_tokens (sym (append-nil read) ∙ ap (λ xs. read ++ xs) (sym none)) ∙ (has.tokens ∙ (ap (λ xs. p.tokens ++ tokens_from place xs) none ∙ append-nil p.tokens)) in
+      let same : table_by (keyword_of vocabulary) p ≡ script_table vocabulary read =
+      ap (λ text. table_of (keyword_of vocabulary) text p.tokens) has.text ∙ ap (table_of (keyword_of vocabulary) read) (sym all) in
+      let strays : stray_strings p.text p.tokens ≡ stray_strings read (script_tokens read) = ap (λ text. stray_strings text p.tokens) has.text ∙ ap (stray_strings read) (sym all) in
       record {
         steps = steps_of p;
-        fits = subst (λ t. Fits t (steps_of p)) same read.parsed.fits;
+        fits = subst (λ t. Fits t (steps_of p)) same has.parsed.fits;
         by_rules = (
-          read.by,
-          read.parsed.hidden ∙ strays,
-          subst (λ t. AreOfFile (Nodes read.by) (contextual_keyword_of vocabulary) t (steps_of p)) same read.parsed.file,
+          has.by,
+          has.parsed.hidden ∙ strays,
+          subst (λ t. AreOfFile (Nodes has.by) (contextual_keyword_of vocabulary) t (steps_of p)) same has.parsed.file,
         );
-        whole = sent_text ∙ ap chars text_is;
-        errors_are = ap (λ (t : Table). t.errors) (sym same) ∙ read.errors_are;
-        sent_is = ap (λ t. sent_list t (steps_of p)) (sym same) ∙ read.sent_is;
+        whole = sent_text ∙ ap chars has.text;
+        errors_are = ap (λ (t : Table). t.errors) (sym same) ∙ has.errors_are;
+        sent_is = ap (λ t. sent_list t (steps_of p)) (sym same) ∙ has.sent_is;
       }
 
 -- ---- the next part
@@ -119,29 +119,11 @@ module _ (vocabulary : Keywords) (rules : RuleGrammar) (old : Reading) (l : Lexi
   abbrev next : Reading
   next = record { lexer = l; begun = old.begun; is_last = old.is_last; progress = Inside }
 
-  abbrev sent_inner : List OwnedStep
-  sent_inner = inner vocabulary rules old l same_text stands stands.utf8 cut in_script.part part_steps is_table fits_table parsed_table
-
-  goes : (p : Progress) → is_over_at p old.lexer ≡ false → KnowsKeywords vocabulary → (errors : List LexicalError) (done : List OwnedStep) → ReadSoFar p vocabulary rules old errors done
-      → HasReadPart vocabulary rules next (errors ++ map (shifted old.lexer.at) part_table.errors) (done ++ map (moved_by old.lexer.at) sent_inner)
-  goes Front on knows errors done read = first_read vocabulary rules old l same_text stands stands.utf8 cut in_script.part part_steps is_table fits_table parsed_table knows errors done read
-  goes Inside on knows errors done read =
-      next_read vocabulary rules old l same_text stands stands.utf8 cut in_script.part part_steps is_table fits_table parsed_table knows errors done read (past_end old.lexer on)
-
-  stood : (p : Progress) → is_over_at p old.lexer ≡ false → KnowsKeywords vocabulary → (errors : List LexicalError) (done : List OwnedStep) → ReadSoFar p vocabulary rules old errors done
-      → AreBefore old.lexer.at errors done
-  stood Front on knows errors done read =
-      let front : old.lexer.at ≡ 0 = ap (λ (x : Lexing). x.at) read.front in
-      subst (λ n. AreBefore n errors done) (sym front)
-      (subst (λ es. AreBefore 0 es done) (sym read.none)
-      (subst (AreBefore 0 []) (sym read.entered) (record { lexical = λ i d lt. absurd (omega (arith, lt)); sent_errors = tt; bytes = refl })))
-  stood Inside on knows errors done read = part_before vocabulary rules old knows errors done read (past_end old.lexer on)
-
-  goes_down : (p : Progress) → is_over_at p old.lexer ≡ false → length l.text - l.at + 0 < length old.lexer.text - old.lexer.at + at_front p
-  goes_down Front on = omega (arith, ap length same_text, cuts.at)
-  goes_down Inside on =
-      let lt = past_end old.lexer on in
-      omega (arith, ap length same_text, lt, cuts.goes_on (in_script.part.some lt) lt)
+  -- where other texts follow, some of this one is left
+  some_left : old.is_last ≡ false → l.at < length old.lexer.text
+  some_left others =
+      let left = in_script.ends others in
+      omega (arith, ltb-true l.at (length l.text) (and_parts (nat_lt l.at (length l.text)) (is_some (script_place l.place)) left).0, ap length same_text)
 
   -- with no other text
   alone : (rest : List ℕ) (m : Lexing) → rest ≡ [] → tokens_left (longer rest m) ≡ tokens_left m
@@ -150,9 +132,49 @@ module _ (vocabulary : Keywords) (rules : RuleGrammar) (old : Reading) (l : Lexi
   cut_with : (b : Bool) → old.is_last ≡ b → (rest : List ℕ) → (old.is_last ≡ true → rest ≡ []) → tokens_left (longer rest old.lexer) ≡ cut ++ tokens_left (longer rest l)
   cut_with true last rest none =
       alone rest old.lexer (none last) ∙ (cuts.left ∙ ap (λ ts. cut ++ ts) (sym (alone rest l (none last))))
-  cut_with false goes rest none =
-      let left = in_script.ends goes in
-      in_script.longer goes (lines goes (omega (arith, ltb-true l.at (length l.text) (and_parts (nat_lt l.at (length l.text)) (is_some (script_place l.place)) left).0, ap length same_text))) rest
+  cut_with false others rest none = in_script.longer others (lines others (omega (arith, some_left others))) rest
+
+  -- what is left of a text, and what stands after it
+  left_with : (m : Lexing) (rest : List ℕ) → m.at ≤ length m.text → tokens_from m.place (drop m.at m.text ++ rest) ≡ tokens_left (longer rest m)
+  left_with m rest le = ap (tokens_by token_at place_behind m.place 0) (sym (drop-append-le m.at m.text rest le))
+
+  end_within : l.at ≤ length old.lexer.text
+  end_within = omega (arith, cuts.at, here_within old.begun old.lexer l same_text stands stands.utf8 cut in_script.part)
+
+  cut_left : (rest : List ℕ) → (old.is_last ≡ true → rest ≡ []) → tokens_from old.lexer.place (text_left old ++ rest) ≡ cut ++ tokens_from l.place (text_left next ++ rest)
+  cut_left rest none =
+      left_with old.lexer rest (omega (arith, cuts.at, end_within))
+      ∙ (cut_with old.is_last refl rest none ∙ ap (λ ts. cut ++ ts) (sym (left_with l rest (omega (arith, end_within, ap length same_text)))))
+
+  abbrev sent_inner : List OwnedStep
+  sent_inner = inner vocabulary rules old l same_text stands stands.utf8 cut in_script.part part_steps is_table fits_table parsed_table some_left
+
+  -- what is left before the part
+  left_before : (rest : List ℕ) → old.lexer.at < length old.lexer.text → 0 < length (text_left old ++ rest)
+  left_before rest lt = omega (arith, lt, length-append (text_left old) rest, length-drop old.lexer.at old.lexer.text)
+
+  goes : (p : Progress) → is_over_at p old.lexer ≡ false → KnowsKeywords vocabulary → (rest read : List ℕ) (errors : List LexicalError) (done : List OwnedStep) → (old.is_last ≡ true → rest ≡ [])
+      → ReadSoFar p vocabulary rules read (text_left old ++ rest) old.lexer.place errors done → length read + length part_text ≤ 4294967295
+      → HasReadPart vocabulary rules (read ++ part_text) (text_left next ++ rest) l.place (errors ++ map (shifted (length read)) part_table.errors) (done ++ map (moved_by (length read)) sent_inner)
+  goes Front on knows rest read errors done none has short =
+      first_read vocabulary rules old l same_text stands stands.utf8 cut in_script.part part_steps is_table fits_table parsed_table some_left rest none (cut_left rest none) knows read errors done has
+  goes Inside on knows rest read errors done none has short =
+      next_read vocabulary rules old l same_text stands stands.utf8 cut in_script.part part_steps is_table fits_table parsed_table some_left rest none (cut_left rest none) knows read errors done has
+      (past_end old.lexer on) short
+
+  stood : (p : Progress) → is_over_at p old.lexer ≡ false → KnowsKeywords vocabulary → (rest read : List ℕ) (errors : List LexicalError) (done : List OwnedStep)
+      → ReadSoFar p vocabulary rules read (text_left old ++ rest) old.lexer.place errors done → AreBefore (length read) errors done
+  stood Front on knows rest read errors done has =
+      subst (λ n. AreBefore n errors done) (sym (ap length has.nothing))
+      (subst (λ es. AreBefore 0 es done) (sym has.none)
+      (subst (AreBefore 0 []) (sym has.entered) (record { lexical = λ i d lt. absurd (omega (arith, lt)); sent_errors = tt; bytes = refl })))
+  stood Inside on knows rest read errors done has = part_before vocabulary rules read (text_left old ++ rest) old.lexer.place knows errors done has (left_before rest (past_end old.lexer on))
+
+  goes_down : (p : Progress) → is_over_at p old.lexer ≡ false → length l.text - l.at + 0 < length old.lexer.text - old.lexer.at + at_front p
+  goes_down Front on = omega (arith, ap length same_text, cuts.at)
+  goes_down Inside on =
+      let lt = past_end old.lexer on in
+      omega (arith, ap length same_text, lt, cuts.goes_on (in_script.part.some lt) lt)
 
   slice_is : part.table ≡ table_of (keyword_of vocabulary) (slice_range old.lexer.text old.lexer.at l.at) cut
   slice_is = of_part ∙ ap (λ n. table_of (keyword_of vocabulary) (slice_range old.lexer.text old.lexer.at n) cut) (sym cuts.at)
@@ -169,45 +191,45 @@ module _ (vocabulary : Keywords) (rules : RuleGrammar) (old : Reading) (l : Lexi
     parsed = subst (λ text. IsParsedBy rules vocabulary text cut part.table part.output.steps) (ap (λ (t : Table). t.text) (sym of_part)) parsed;
   }
 
+  text_is : part.table.text ≡ part_text
+  text_is = ap (λ (t : Table). t.text) of_part
+
+  size : l.at ≡ part.start + length part.table.text
+  size = omega (arith, cuts.at, start, ap length text_is, here_length old.begun old.lexer l same_text stands stands.utf8 cut in_script.part)
+
   pub reads_part : ReadsPart vocabulary rules old next part
   reads_part = record {
     same = (same_text, (refl, refl));
     goes_on = goes_down old.progress goes_on;
+    inside = refl;
+    place = λ others. never_front old.lexer l cut in_script.part.count cuts (cuts.goes_on (in_script.part.some (before_end others)) (before_end others));
     start = start;
+    end = size;
+    text = split vocabulary rules old l same_text stands stands.utf8 cut in_script.part part_steps is_table fits_table parsed_table some_left ∙ ap (λ xs. xs ++ text_left next) (sym text_is);
     statements = statements;
     fits = fits;
     whole = whole;
-    short = omega (
-      arith,
-      start,
-      ap (λ (t : Table). length t.text) of_part,
-      here_length old.begun old.lexer l same_text stands stands.utf8 cut in_script.part,
-      here_within old.begun old.lexer l same_text stands stands.utf8 cut in_script.part,
-      stands.accepted.short,
-    );
+    short = omega (arith, size, end_within, stands.accepted.short);
     few = few;
     inner = sent_inner;
-    sent_is = ap (λ t. sent_list t part_steps) of_part ∙ inner_is vocabulary rules old l same_text stands stands.utf8 cut in_script.part part_steps is_table fits_table parsed_table;
-    before = λ errors done read. subst (λ n. AreBefore n errors done) (sym start) (stood old.progress goes_on read.0 errors done read.1);
-    reads = λ errors done read. (
-      read.0,
-      subst (λ n. HasReadPart vocabulary rules next (errors ++ map (shifted n) part.table.errors) (done ++ map (moved_by n) sent_inner)) (sym start)
-          (subst (λ (t : Table). HasReadPart vocabulary rules next (errors ++ map (shifted old.lexer.at) t.errors) (done ++ map (moved_by old.lexer.at) sent_inner)) (sym of_part)
-          (goes old.progress goes_on read.0 errors done read.1)),
+    sent_is = ap (λ t. sent_list t part_steps) of_part ∙ inner_is vocabulary rules old l same_text stands stands.utf8 cut in_script.part part_steps is_table fits_table parsed_table some_left;
+    before = λ rest read errors done has. stood old.progress goes_on has.0 rest read errors done has.1;
+    reads = λ rest read errors done none has short. (
+      has.0,
+      subst (λ (t : Table). HasReadPart vocabulary rules (read ++ t.text) (text_left next ++ rest) l.place (errors ++ map (shifted (length read)) t.errors) (done ++ map (moved_by (length read)) sent_inner)) (sym of_part)
+          (goes old.progress goes_on has.0 rest read errors done none has.1 (omega (arith, short, ap length text_is))),
     );
   }
+    where
+      before_end : old.is_last ≡ false → old.lexer.at < length old.lexer.text
+      before_end others = omega (arith, some_left others, cuts.at)
 
 -- after the last one
-module _ (vocabulary : Keywords) (rules : RuleGrammar) (r : Reading) (errors : List LexicalError) (done : List OwnedStep) where
-  at_end : (p : Progress) → r.begun ≡ script.Front → is_over_at p r.lexer ≡ true → KnowsKeywords vocabulary → ReadSoFar p vocabulary rules r errors done
-      → IsScriptParse vocabulary r.lexer.text errors (done ++ sent.Exit ∷ [])
-  at_end Front front over knows read = absurd (false≢true over)
-  at_end Inside front over knows read =
-      let end : length r.lexer.text ≤ r.lexer.at = leb-true (length r.lexer.text) r.lexer.at over in
-      all_read vocabulary rules r knows errors done read front end (ap (tokens_by token_at place_behind r.lexer.place 0) (drop_all r.lexer.at r.lexer.text end))
-
-  pub ends_read : r.begun ≡ script.Front → is_over r ≡ true → HasRead vocabulary rules r errors done → IsScriptParse vocabulary r.lexer.text errors (done ++ sent.Exit ∷ [])
-  ends_read front over read = at_end r.progress front over read.0 read.1
+module _ (vocabulary : Keywords) (rules : RuleGrammar) (r : Reading) (read : List ℕ) (errors : List LexicalError) (done : List OwnedStep) where
+  pub ends_read : r.progress ≡ Inside → length r.lexer.text ≤ r.lexer.at → HasRead vocabulary rules r [] read errors done → IsScriptParse vocabulary read errors (done ++ sent.Exit ∷ [])
+  ends_read inside over has =
+      all_read vocabulary rules read (text_left r ++ []) r.lexer.place has.0 errors done (subst (λ p. ReadSoFar p vocabulary rules read (text_left r ++ []) r.lexer.place errors done) inside has.1)
+      (append-nil (text_left r) ∙ drop_all r.lexer.at r.lexer.text over)
 
 -- ---- no other part
 

@@ -140,6 +140,3 @@ module _ (text : List ℕ) (utf8 : IsUtf8 text) (front cut later : List Token) (
     good = λ i lt d. good_in_part i d lt;
     whole = omega (arith, size, part_length text utf8 from to begins_at order within_text, ap bytes (take_all (length cut) cut (omega arith)));
   }
-
-  pub part_is_utf8 : IsUtf8 cut_text
-  part_is_utf8 = part_utf8 text utf8 from to begins_at order within_text ends_at

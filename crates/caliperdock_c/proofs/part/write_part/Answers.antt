@@ -60,7 +60,7 @@ returns-clause-written c =
             none_left = ⊎_elim (λ (more : 18446744073709551615 ≤ length part.table.text). absurd (omega (arith, more, reads.short)))
                 (λ (none : NoneLeft new.is_last new.lexer). none) full;
             bytes = c.position.ensures;
-            place = c.number_of.ensures ∙ ap number_of_place c.place.ensures;
+            place = c.number_of.ensures ∙ ap number_of_place c.place.ensures.is;
             fits = reads.fits;
             statements_are = search rules;
             statement_count = search rules;

@@ -28,8 +28,14 @@ returns-then-is_over-clause-over c = λ none.
     record { same = refl; none = over_none me.progress me.is_last me.lexer over; inside = λ last. over_inside me.progress me.lexer over }
 
 pub returns-then-is_over-clause-ends : goal.returns-then-is_over-clause-ends
-returns-then-is_over-clause-ends c = λ none last errors done read front.
-    ends_read c.args.vocabulary.now c.args.rules.now c.args.self.now errors done front (sym c.is_over.ensures ∙ c.if-is_over.true) read
+returns-then-is_over-clause-ends c = λ last over read errors done has.
+    let me = c.args.self.now in
+    ends_read c.args.vocabulary.now c.args.rules.now me read errors done (over_inside me.progress me.lexer (sym c.is_over.ensures ∙ c.if-is_over.true)) over has
+
+pub returns-clause-ends : goal.returns-clause-ends
+returns-clause-ends c = λ last over read errors done has.
+    let me = c.self.inside in
+    ends_read c.args.vocabulary.now c.args.rules.now (record { lexer = c.in-Some.lexer; begun = me.begun; is_last = me.is_last; progress = Inside }) read errors done refl over has
 
 pub range-text-requires-clause-start_boundary : goal.range-text-requires-clause-start_boundary
 range-text-requires-clause-start_boundary c =

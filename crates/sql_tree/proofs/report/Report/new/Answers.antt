@@ -1,14 +1,15 @@
-use Rattle.std.proofs.Common.{◌≡◌, ◌≢◌, ◌∙◌, [], ◌∷◌, ◌++◌, ap, arith, length, map, refl, rules, subst, sym}
+use Rattle.std.proofs.Common.{◌≡◌, ◌≢◌, ◌∙◌, [], ◌∷◌, ◌++◌, ◌≤◌, ap, append_assoc, arith, drop, length, length-append, map, refl, rules, subst, sym, true}
 use Rattle.std.specs.Prelude.{IfSome, string_bytes}
 use Rattle.std.specs.List.{flat_map}
 use Rattle.std.proofs.lemmas.Grind.{flat_map-append}
-use Rattle.std.proofs.lemmas.List.{append-nil}
+use Rattle.std.proofs.lemmas.List.{append-nil, drop_all}
 use Rattle.squawk_kinds.specs.EngineNames.{names_of}
 use Rattle.squawk_table.specs.declared.shortcuts.str_step.OwnedStep.TheVariants.{Enter, Exit}
 use Rattle.squawk_tokens.specs.LexicalErrors.{shifted}
 use Rattle.sql_grammar.specs.Kinds.{SOURCE_FILE}
 use Rattle.sql_grammar.specs.Parts.{moved_by}
-use Rattle.sql_grammar.specs.ReadParts.{AreBefore, IsScriptParse, ReadsPart, script_table}
+use Rattle.sql_grammar.specs.ReadParts.{AreBefore, HasRead, IsOver, IsScriptParse, NoneLeft, Reading, ReadsPart, script_table, text_left}
+use Rattle.sql_lexer.specs.ScriptLexing.{Lexing}
 use Rattle.sql_lexer.specs.Scripts.{script_tokens}
 use Rattle.sql_report.specs.Drawn.{drawn}
 use Rattle.sql_report.specs.ErrorLines.{error_texts}
@@ -30,7 +31,10 @@ loop-walk-init c =
       is_last = c.in_ok-parts.ensures.begins.is_last;
       lexical = [];
       done = Enter SOURCE_FILE ∷ [];
-      read = c.in_ok-parts.ensures.reads refl c.args.sql.now.vocabulary c.args.sql.now.rules c.args.sql.now.keywords;
+      read = [];
+      has = c.in_ok-parts.ensures.reads refl c.args.sql.now.vocabulary c.args.sql.now.rules c.args.sql.now.keywords [];
+      at = ap (λ (l : Lexing). l.at) (sym c.in_ok-parts.ensures.begins.lexer);
+      left = sym (c.in_ok-parts.ensures.begins.all refl) ∙ ap (λ (l : Lexing). drop l.at l.text) (sym c.in_ok-parts.ensures.begins.lexer);
       of = c.new-errors.ensures.of;
       room = omega (arith, c.new-errors.ensures.empty.1);
       shown = record { findings = shown.findings; in_order = shown.in_order; lines = shown.lines; count = shown.count };
@@ -46,7 +50,9 @@ loop-walk-preserved c =
     let before = c.loop-walk.invariant in
     let reads : ReadsPart sql.vocabulary sql.rules c.loop-walk.parts c.next_part.new.self part =
     subst (λ found. IfSome found (λ part. ReadsPart sql.vocabulary sql.rules c.loop-walk.parts c.next_part.new.self part)) c.in-Some.is c.in_ok-part.ensures.reads in
-    let stand : AreBefore part.start before.lexical before.done = reads.before before.lexical before.done before.read in
+    let start : length before.read ≡ part.start = before.at ∙ sym reads.start in
+    let stand : AreBefore part.start before.lexical before.done =
+    subst (λ n. AreBefore n before.lexical before.done) start (reads.before [] before.read before.lexical before.done before.has) in
     let of = c.in_ok-part-2.ensures.of in
     let same = c.in_ok-part-3.ensures.same in
     record {
@@ -55,7 +61,12 @@ loop-walk-preserved c =
       is_last = reads.same.1.1 ∙ before.is_last;
       lexical = before.lexical ++ map (shifted part.start) part.table.errors;
       done = before.done ++ map (moved_by part.start) reads.inner;
-      read = reads.reads before.lexical before.done before.read;
+      read = before.read ++ part.table.text;
+      has = subst
+          (λ n. HasRead sql.vocabulary sql.rules c.next_part.new.self [] (before.read ++ part.table.text) (before.lexical ++ map (shifted n) part.table.errors) (before.done ++ map (moved_by n) reads.inner)) start
+          (reads.reads [] before.read before.lexical before.done (λ last. refl) before.has (omega (arith, start, reads.short)));
+      at = omega (arith, start, reads.end, length-append before.read part.table.text);
+      left = before.left ∙ (ap (λ xs. before.read ++ xs) reads.text ∙ sym (append_assoc before.read part.table.text (text_left c.next_part.new.self)));
       of = record { name_is = of.name_is ∙ before.of.name_is; text_is = of.text_is ∙ before.of.text_is };
       room = c.in_ok-part-2.ensures.room;
       shown = c.in_ok-part-2.ensures.shows before.lexical before.done reads.inner SOURCE_FILE reads.sent_is stand before.shown;
@@ -75,8 +86,15 @@ returns-clause-told c =
     let names = names_of sql.names.items in
     let lines = string_bytes c.in_ok-listing.listing in
     let walked = c.in_ok-walked.ensures in
-    let parse : IsScriptParse sql.vocabulary text all.lexical sent =
-    subst (λ text. IsScriptParse sql.vocabulary text all.lexical sent) all.of_text (c.in_ok-part.ensures.ends c.in_default.is all.is_last all.lexical all.done all.read all.begun) in
+    let parts : Reading = c.loop-walk.parts in
+    let is_over : IsOver parts c.next_part.new.self = c.in_ok-part.ensures.over c.in_default.is in
+    let over : length parts.lexer.text ≤ parts.lexer.at = subst (λ b. NoneLeft b parts.lexer) all.is_last is_over.none in
+    let whole : all.read ≡ text = sym (append-nil all.read) ∙ (ap (λ xs. all.read ++ xs) (sym (drop_all parts.lexer.at parts.lexer.text over)) ∙ sym all.left) in
+    let ends : HasRead sql.vocabulary sql.rules parts [] all.read all.lexical all.done → IsScriptParse sql.vocabulary all.read all.lexical sent =
+    subst
+    (λ (r : Reading). r.is_last ≡ true → length r.lexer.text ≤ r.lexer.at → HasRead sql.vocabulary sql.rules r [] all.read all.lexical all.done → IsScriptParse sql.vocabulary all.read all.lexical sent) is_over.same
+    (λ last le. c.in_ok-part.ensures.ends last le all.read all.lexical all.done) all.is_last over in
+    let parse : IsScriptParse sql.vocabulary text all.lexical sent = subst (λ text. IsScriptParse sql.vocabulary text all.lexical sent) whole (ends all.has) in
     let told : flat_map told_in all.done ≡ flat_map told_in sent = sym (flat_map-append told_in all.done (Exit ∷ []) ∙ append-nil (flat_map told_in all.done)) in
     let is_drawn : string_bytes c.in_ok-walked.walked.drawn ≡ drawn (asked_for listing) names sent =
     walked.drawn all.done all.tells ∙ (ap (λ asked. drawn asked walk.kind_names sent) all.asked ∙ ap (λ names. drawn (asked_for listing) names sent) all.names) in

@@ -1,9 +1,9 @@
-use Rattle.std.proofs.Common.{◌≡◌, ◌≤◌, List, length, true}
+use Rattle.std.proofs.Common.{◌≡◌, ◌≤◌, ℕ, List, [], ◌++◌, length, true}
 use Rattle.squawk_kinds.specs.EngineNames.{names_of}
 use Rattle.squawk_table.specs.declared.shortcuts.str_step.OwnedStep.{OwnedStep}
 use Rattle.squawk_tokens.specs.LexicalErrors.{LexicalError}
 use Rattle.sql_lexer.specs.declared.script.script_place.ScriptPlace.TheVariants.{Front}
-use Rattle.sql_grammar.specs.ReadParts.{HasRead, left_of}
+use Rattle.sql_grammar.specs.ReadParts.{HasRead, left_of, text_left}
 use Rattle.sql_report.specs.ErrorLines.{HasShown, IsOf}
 use Rattle.sql_report.specs.OnTheWay.{Tells}
 use Rattle.sql_tree.specs.Listings.{asked_for}
@@ -16,7 +16,10 @@ invariant-loop-walk l = record {
   is_last : l.parts.is_last ≡ true;
   lexical : List LexicalError;
   done : List OwnedStep;
-  read : HasRead l.sql.vocabulary l.sql.rules l.parts lexical done;
+  read : List ℕ;
+  has : HasRead l.sql.vocabulary l.sql.rules l.parts [] read lexical done;
+  at : length read ≡ l.parts.lexer.at;
+  left : l.text ≡ read ++ text_left l.parts;
   of : IsOf l.name l.text l.errors;
   room : l.errors.count ≤ length l.errors.lines.items;
   shown : HasShown lexical done l.errors;
