@@ -1,0 +1,6 @@
+pub mod Chains
+pub mod Cuts
+pub mod Documents
+pub mod Edits
+pub mod Grows
+pub mod Recuts
