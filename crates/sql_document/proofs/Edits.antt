@@ -1,9 +1,9 @@
 -- A text is edited: the pieces in front stay.
-use Rattle.std.proofs.Common.{◌≡◌, ◌∙◌, ℕ, zero, suc, ◌+◌, ◌-◌, ◌<◌, ◌≤◌, Bool, false, true, Option, Some, None, List, [], ◌∷◌, ◌++◌, length, drop, take, get_or, append_assoc, arith, ap, sym, subst, refl, length-append, length-drop, length-take, take-append-drop}
+use Rattle.std.proofs.Common.{◌≡◌, ◌∙◌, ℕ, zero, suc, ◌+◌, ◌-◌, ◌<◌, ◌≤◌, Bool, false, true, Option, Some, None, List, [], ◌∷◌, ◌++◌, length, drop, take, append_assoc, arith, ap, sym, subst, refl, length-append, length-drop, length-take, take-append-drop}
 use Rattle.std.specs.Prelude.{string_bytes}
 use Rattle.std.proofs.Math.Seq.{drop-append_seam, take-append-add, drop-append-add, take-append_seam}
 use Rattle.std.proofs.lemmas.Bool.{false≢true}
-use Rattle.std.proofs.lemmas.List.{append-nil, drop-append-le, drop-drop, take-append-le, take_all}
+use Rattle.std.proofs.lemmas.List.{append-nil, drop-append-le, drop-drop, take-append-le}
 use Rattle.squawk_keywords.specs.declared.keywords.Keywords.{Keywords}
 use Rattle.rule_grammar.specs.declared.rules.RuleGrammar.{RuleGrammar}
 use Rattle.sql_lexer.specs.declared.script.script_place.ScriptPlace.{ScriptPlace}
@@ -15,8 +15,8 @@ use Rattle.sql_grammar.specs.declared.script_parts.ScriptPart.{ScriptPart}
 use Rattle.sql_document.specs.Pieces.{AreChain, Follows, IsPiece, edited, text_of}
 use Rattle.sql_document.specs.Recuts.{AreTails, Grows, IsBefore, StandBefore}
 use Rattle.sql_document.specs.declared.piece.Piece.{Piece}
-use Rattle.sql_document.proofs.Chains.{after_is, chain_append, chain_text, left_after, lines_are, size_of, stands}
-use Rattle.sql_document.proofs.Documents.{none-some, same_place}
+use Rattle.sql_document.proofs.Chains.{chain_append, chain_text}
+use Rattle.sql_document.proofs.Documents.{same_place}
 
 -- ---- texts of pieces
 

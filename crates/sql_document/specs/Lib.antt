@@ -1,3 +1,4 @@
+pub mod EditErrors
 pub mod Held
 pub mod Pieces
 pub mod Recuts

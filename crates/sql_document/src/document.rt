@@ -1,5 +1,4 @@
 //! A document: a text that is edited.
-ghost use Rattle.std.specs.Prelude.{◌≡◌, ◌+◌, ◌-◌, ◌≤◌, List, length, IfOk, IfErr};
 
 use crate::edit_error::EditError;
 use crate::keep::Keep;
@@ -37,13 +36,14 @@ impl<K: Keep + Drop> Model for Document<K> {
 }
 
 impl<K: Keep + Drop> Document<K> {
-    ghost use Rattle.std.specs.Prelude.{◌≡◌, List, IfOk, OnErr, OnOk, string_bytes};
+    ghost use Rattle.std.specs.Prelude.{◌≡◌, ◌<◌, ◌≤◌, ◌⊎◌, List, Err, length, IfOk, OnErr, OnOk, string_bytes};
     ghost use Rattle.sql_document.specs.Pieces.{IsDocument, edited, text_of};
 
     /// Parses a text. One of more than `u32::MAX` bytes is refused.
     pub fn new(alloc: Global, text: &str, keep: K) -> Result<Document<K>, EditError>
         ensures keep { IfOk result (λ document. document.0 ≡ keep) }
         ensures document { IfOk result (λ document. IsDocument (K.keeps document.0) text.now document.1) }
+        ensures long { 4294967295 < length text.now → result ≡ Err EditError.TextTooLong }
     {
         if text.len() > LONGEST_TEXT {
             return Err(EditError::TextTooLong);
@@ -66,6 +66,9 @@ impl<K: Keep + Drop> Document<K> {
         ensures document { OnOk result (IsDocument (K.keeps self.new.0) (edited range.start range.end replacement.now (text_of self.old.1)) self.new.1) }
         ensures keep { self.new.0 ≡ self.old.0 }
         ensures stays { OnErr result (self.new ≡ self.old) }
+        ensures outside { (range.end < range.start) ⊎ (length (text_of self.old.1) < range.end) → result ≡ Err EditError.NoRange }
+        ensures long { range.start ≤ range.end → range.end ≤ length (text_of self.old.1)
+            → 4294967295 < length (edited range.start range.end replacement.now (text_of self.old.1)) → result ≡ Err EditError.TextTooLong }
     {
         if range.start > range.end || range.end > self.len {
             return Err(EditError::NoRange);

@@ -9,6 +9,8 @@ mod keep;
 mod piece;
 mod recut;
 mod sql;
+#[cfg(test)]
+mod tests;
 
 pub use crate::document::Document;
 pub use crate::edit_error::EditError;
