@@ -216,6 +216,3 @@ module _ {Kept : Type 0} (keeps : ScriptPart → Kept → Type 0) (vocabulary : 
         chain_append keeps vocabulary rules (Some script.Front) parts.mid None (take first pieces) (new ++ drop end pieces) now (changed ++ tail) []
         (subst (λ left. AreChain keeps vocabulary rules (Some script.Front) (take first pieces) parts.mid now left) (ap (drop (length front)) now_is ∙ drop-append_seam front (changed ++ tail)) moved)
         (subst (λ from. AreChain keeps vocabulary rules from (new ++ drop end pieces) None (changed ++ tail) []) (sym mid_is) recut)
-
-    pub edited_text : text_of (take first pieces ++ (new ++ drop end pieces)) ≡ now
-    edited_text = sym (chain_text keeps vocabulary rules (Some script.Front) None (take first pieces ++ (new ++ drop end pieces)) now [] edited_chain ∙ append-nil (text_of (take first pieces ++ (new ++ drop end pieces))))
