@@ -7,7 +7,7 @@ from ._script import Part, ScriptStatement, moved, statements_in
 from ._sql import Error
 
 # How many bytes a piece has at least when a text is new, and where it is edited.
-_NEW, _EDITED = 64 * 1024, 512
+_NEW, _EDITED = 16 * 1024, 512
 
 # What the end of a script depends on: all that may follow.
 _ALL = 1 << 62
@@ -103,7 +103,9 @@ class Document:
         """Puts these bytes in the place of some pieces, and of those after them up to one that is the same as before."""
         old, new = self._pieces, []
         place = old[first].place if first < len(old) else 0
-        at, wanted, more = 0, size, 1
+        # What is not much longer than a piece was cut before.
+        first_wanted = size if len(data) > 8 * size else _ALL
+        at, wanted, more = 0, first_wanted, 1
         while at < len(data) or (place != old[last].place if last < len(old) else place == 0 and not new):
             end = data.find(b"\n", at + wanted) + 1
             ends = end == 0 and last == len(old)
@@ -118,7 +120,7 @@ class Document:
             if written.counts.whole:
                 part = seen[: written.counts.bytes]
                 new.append(_Piece(part, len(part.decode()), place, _ALL if ends else len(seen) - len(part), written.kept()))
-                at, place, wanted = at + len(part), written.counts.place, size
+                at, place, wanted = at + len(part), written.counts.place, first_wanted
             elif end > 0:
                 wanted *= 2
             else:

@@ -13,7 +13,7 @@ use crate::ffi;
 use crate::tree::Tree;
 
 /// How many bytes a piece has at least where a text is new, and where it is edited.
-const NEW: usize = 64 * 1024;
+const NEW: usize = 16 * 1024;
 const EDITED: usize = 512;
 
 /// A script that is edited. An edit parses the statements that it touches, and as many as it takes until one ends where one
@@ -163,6 +163,8 @@ impl Document {
     fn put(&mut self, pieces: Range<usize>, bytes: Vec<u8>, size: usize) -> Result<(), Refused> {
         let first = pieces.start;
         let place = self.pieces.get(first).map_or(0, |piece| piece.place);
+        // What is not much longer than a piece was cut before.
+        let size = (bytes.len() > 8 * size).then_some(size);
         let mut cut = Cut { old: &self.pieces, last: pieces.end, bytes, at: 0, place, more: 1, new: Vec::new() };
         while !cut.is_done() {
             cut.next(size)?;
@@ -201,9 +203,9 @@ impl Cut<'_> {
         self.at == self.bytes.len() && goes_on
     }
 
-    /// Cuts a piece of so many bytes or more, or of the statement that is longer.
-    fn next(&mut self, size: usize) -> Result<(), Refused> {
-        let mut wanted = size;
+    /// Cuts a piece of so many bytes or more, or of the statement that is longer; without a size one of all that ends.
+    fn next(&mut self, size: Option<usize>) -> Result<(), Refused> {
+        let mut wanted = size.unwrap_or(usize::MAX);
         while let Some(line) = self.line_end(wanted) {
             if self.cut(line, false)? {
                 return Ok(());

@@ -113,17 +113,17 @@ fn edits_of_larger_pieces() {
 
 #[test]
 fn a_quote_that_is_opened_and_closed() {
-    let mut text = "select 1;\n".repeat(400);
+    let mut text = "select 1;\n".repeat(4000);
     let mut document = Document::new(&text).unwrap();
-    for (at, sign) in [(1700, "'"), (2300, "'"), (1700, "é")] {
+    for (at, sign) in [(17000, "'"), (23000, "'"), (17000, "é")] {
         document.edit(at..at, sign).unwrap();
         text.insert_str(at, sign);
         check(&document, &text);
     }
     // The pieces after the second quote are those of before.
     assert!(document.pieces.len() > 1);
-    let part = document.part_at(3000).unwrap();
-    assert!(part.start <= 3000 && 3000 < part.start + part.tree.text().len());
+    let part = document.part_at(30000).unwrap();
+    assert!(part.start <= 30000 && 30000 < part.start + part.tree.text().len());
     assert!(document.part_at(text.len()).is_none());
 }
 
