@@ -72,7 +72,6 @@ pub(crate) fn pull<T: Drop>(
 
 /// Cuts the next piece of a text, after which old ones stand from `from` on; where a statement goes on, their texts are added.
 /// Returns the index after those that are read, and the piece with the place after it, if one ends in the text.
-#[tactic(auto, using(crate::proofs::Recuts::boundary_grows))]
 fn cut_next<K: Keep + Drop>(
     alloc: Global,
     sql: &Sql,
