@@ -104,8 +104,8 @@ class Document:
         old, new = self._pieces, []
         place = old[first].place if first < len(old) else 0
         # What is not much longer than a piece was cut before.
-        first_wanted = size if len(data) > 8 * size else _ALL
-        at, wanted, more = 0, first_wanted, 1
+        least = size if len(data) > 8 * size else _ALL
+        at, wanted, more = 0, least, 1
         while at < len(data) or (place != old[last].place if last < len(old) else place == 0 and not new):
             end = data.find(b"\n", at + wanted) + 1
             ends = end == 0 and last == len(old)
@@ -120,7 +120,7 @@ class Document:
             if written.counts.whole:
                 part = seen[: written.counts.bytes]
                 new.append(_Piece(part, len(part.decode()), place, _ALL if ends else len(seen) - len(part), written.kept()))
-                at, place, wanted = at + len(part), written.counts.place, first_wanted
+                at, place, wanted = at + len(part), written.counts.place, least
             elif end > 0:
                 wanted *= 2
             else:
