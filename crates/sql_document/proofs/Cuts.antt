@@ -3,7 +3,7 @@ use Rattle.std.proofs.Common.{◌≡◌, ◌≢◌, ◌∙◌, ℕ, ◌+◌, ◌
 use Rattle.std.specs.Prelude.{IfSome, IsCharBoundary, IsUtf8, string_bytes}
 use Rattle.std.proofs.Math.Seq.{get_or-append_seam, take-append_seam}
 use Rattle.std.proofs.lemmas.Bool.{and_parts, ltb-true, cases_lt, false≢true}
-use Rattle.std.proofs.lemmas.List.{append-nil, get_or-append-add}
+use Rattle.std.proofs.lemmas.List.{append-nil, get_or-append-add, nil_from_length}
 use Rattle.std.proofs.lemmas.Str.{IsCharBoundary-from_take}
 use Rattle.squawk_keywords.specs.declared.keywords.Keywords.{Keywords}
 use Rattle.squawk_table.specs.declared.shortcuts.str_step.OwnedStep.{OwnedStep}
@@ -46,10 +46,6 @@ pub lines_len : (text one other : List ℕ) → AreWholeLines text one → AreWh
 lines_len text one other are those = omega (arith, no_shorter text one other are those, no_shorter text other one those are)
 
 -- ---- the piece
-
-empty : {A : Type 0} (xs : List A) → length xs ≡ 0 → xs ≡ []
-empty [] e = refl
-empty (x ∷ xs) e = absurd (omega (arith, e))
 
 module _ (vocabulary : Keywords) (rules : RuleGrammar) (text : List ℕ) (place : ScriptPlace) (is_last : Bool) (old new : Reading) (part : ScriptPart)
     (begins : BeginsText text place is_last old) (reads : ReadsPart vocabulary rules old new part) where
@@ -170,7 +166,7 @@ module _ (vocabulary : Keywords) (rules : RuleGrammar) (text : List ℕ) (place 
         })
       where
         no_tail : tail.0 ≡ []
-        no_tail = empty tail.0 (omega (arith, ap length tail.1, length-append old.lexer.text tail.0, ap length (begins.all last)))
+        no_tail = nil_from_length tail.0 (omega (arith, ap length tail.1, length-append old.lexer.text tail.0, ap length (begins.all last)))
     follows_by false others rest none =
         subst (λ s. Follows vocabulary rules old new (length part.table.text) s next (tail.0 ++ rest)) (sym (seen_is others old.lexer.text (begins.lines others)))
         (goes others next refl (can_go others))

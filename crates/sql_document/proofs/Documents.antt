@@ -1,8 +1,9 @@
 -- Pieces that stand one after another make up the parse of their text.
-use Rattle.std.proofs.Common.{◌≡◌, ◌∙◌, ℕ, ◌+◌, ◌≤◌, Bool, false, true, Option, Some, None, List, [], ◌∷◌, ◌++◌, length, map, drop, append_assoc, arith, ap, sym, subst, refl, length-append}
+use Rattle.std.proofs.Common.{◌≡◌, ◌∙◌, ℕ, ◌+◌, ◌≤◌, true, Option, Some, None, List, [], ◌∷◌, ◌++◌, length, map, drop, append_assoc, arith, ap, sym, subst, refl, length-append}
 use Rattle.std.specs.Prelude.{string_bytes}
 use Rattle.std.proofs.lemmas.Bool.{false≢true}
 use Rattle.std.proofs.lemmas.List.{append-nil, drop_all}
+use Rattle.std.proofs.lemmas.Option.{none-some, same_Some}
 use Rattle.squawk_keywords.specs.declared.keywords.Keywords.{Keywords}
 use Rattle.squawk_table.specs.declared.shortcuts.str_step.OwnedStep.{OwnedStep}
 use Rattle.squawk_table.specs.declared.shortcuts.str_step.OwnedStep.TheVariants as sent
@@ -21,20 +22,6 @@ use Rattle.sql_document.specs.Held.{IsHeld}
 use Rattle.sql_document.specs.Pieces.{AreChain, AreKept, AreParts, Follows, IsDocument, IsPiece, text_of}
 use Rattle.sql_document.specs.declared.piece.Piece.{Piece}
 use Rattle.sql_document.proofs.Chains.{after_is, chain_text, left_after, size_of, stands}
-
-pub none-some : {A : Type 0} {x : A} → None ≡ Some x → ⊥
-none-some {A} e = false≢true (ap has e)
-  where
-    has : Option A → Bool
-    has None = false
-    has (Some x) = true
-
-abbrev held : ScriptPlace → Option ScriptPlace → ScriptPlace
-held other None = other
-held other (Some place) = place
-
-pub same_place : (p q : ScriptPlace) → Some p ≡ Some q → p ≡ q
-same_place p q e = ap (held p) e
 
 module _ {Kept : Type 0} (keeps : ScriptPart → Kept → Type 0) (vocabulary : Keywords) (rules : RuleGrammar) (knows : KnowsKeywords vocabulary) where
   -- what is read of a script up to a place
@@ -111,17 +98,17 @@ module _ {Kept : Type 0} (keeps : ScriptPart → Kept → Type 0) (vocabulary : 
   -- nothing stands after the end
   none_after : (pieces : List (Piece Kept)) (left : List ℕ) → AreChain keeps vocabulary rules None pieces None left [] → pieces ≡ []
   none_after [] left (same, is) = refl
-  none_after (piece ∷ pieces) left (is, next, here, others) = absurd (none-some is)
+  none_after (piece ∷ pieces) left (is, next, here, others) = absurd (none-some piece.place is)
 
   -- all of them, up to the end
   adds_all : (place : ScriptPlace) (pieces : List (Piece Kept)) (read left : List ℕ) (errors : List LexicalError) (done : List OwnedStep)
       → AreChain keeps vocabulary rules (Some place) pieces None left [] → HasReadTo place read left errors done → length (read ++ left) ≤ 4294967295 → Adds pieces read left errors done
-  adds_all place [] read left errors done (same, is) has short = absurd (none-some (sym same))
+  adds_all place [] read left errors done (same, is) has short = absurd (none-some place (sym same))
   adds_all place (piece ∷ pieces) read left errors done (is, next, here, others) has short =
       by_seen (λ place chain has short. adds_all place pieces text_now rest_of errors_after done_after chain has short) piece.seen here.follows
     where
       has_here : HasReadTo piece.place read left errors done
-      has_here = subst (λ p. HasReadTo p read left errors done) (same_place place piece.place is) has
+      has_here = subst (λ p. HasReadTo p read left errors done) (same_Some place piece.place is) has
 
       rest_of : List ℕ
       rest_of = text_left here.new ++ here.rest
@@ -197,3 +184,12 @@ module _ {Kept : Type 0} (keeps : ScriptPart → Kept → Type 0) (vocabulary : 
         len_is = ap length text_is;
         short = short;
       }
+
+  -- a text is cut, and no old piece stands after it
+  pub all_new : (pieces old : List (Piece Kept)) (end : ℕ) (text string : List ℕ) → old ≡ [] → string ≡ text
+      → AreChain keeps vocabulary rules (Some script.Front) (pieces ++ drop end old) None (string ++ text_of (drop 0 old)) [] → AreChain keeps vocabulary rules (Some script.Front) pieces None text []
+  all_new pieces old end text string none same chain =
+      let first : AreChain keeps vocabulary rules (Some script.Front) (pieces ++ drop end []) None (string ++ []) [] =
+      subst (λ old. AreChain keeps vocabulary rules (Some script.Front) (pieces ++ drop end old) None (string ++ text_of (drop 0 old)) []) none chain in
+      subst (λ ps. AreChain keeps vocabulary rules (Some script.Front) ps None text []) (ap (λ ps. pieces ++ ps) (drop_all end [] (omega arith)) ∙ append-nil pieces)
+      (subst (λ left. AreChain keeps vocabulary rules (Some script.Front) (pieces ++ drop end []) None left []) (append-nil string ∙ same) first)

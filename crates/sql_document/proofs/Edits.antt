@@ -16,7 +16,7 @@ use Rattle.sql_document.specs.Pieces.{AreChain, Follows, IsPiece, edited, text_o
 use Rattle.sql_document.specs.Recuts.{AreTails, Grows, IsBefore, StandBefore}
 use Rattle.sql_document.specs.declared.piece.Piece.{Piece}
 use Rattle.sql_document.proofs.Chains.{chain_append, chain_text}
-use Rattle.sql_document.proofs.Documents.{same_place}
+use Rattle.std.proofs.lemmas.Option.{same_Some}
 
 -- ---- texts of pieces
 
@@ -47,8 +47,8 @@ module _ {Kept : Type 0} where
 -- ---- chains
 
 -- a front of a text and what stands after it
-prefix : (n : ℕ) (c x old rest : List ℕ) → length old ≤ length c → c ++ x ≡ old ++ rest → c ≡ old ++ drop (length old) c
-prefix n c x old rest le same =
+prefix : (c x old rest : List ℕ) → length old ≤ length c → c ++ x ≡ old ++ rest → c ≡ old ++ drop (length old) c
+prefix c x old rest le same =
     sym (take-append-drop (length old) c)
     ∙ ap (λ xs. xs ++ drop (length old) c) (sym (take-append-le (length old) c x le) ∙ (ap (take (length old)) same ∙ take-append_seam old rest))
 
@@ -70,7 +70,7 @@ module _ {Kept : Type 0} (keeps : ScriptPart → Kept → Type 0) (vocabulary : 
         text = is.text;
         kept = is.kept;
         rest = rest ++ y;
-        left_is = ap (λ xs. xs ++ y) (prefix 0 c x is.old.lexer.text is.rest within is.left_is) ∙ append_assoc is.old.lexer.text rest y;
+        left_is = ap (λ xs. xs ++ y) (prefix c x is.old.lexer.text is.rest within is.left_is) ∙ append_assoc is.old.lexer.text rest y;
         follows = subst (λ s. Follows vocabulary rules is.old is.new (length is.part.table.text) s next (rest ++ y)) (sym seen_is) goes;
       }
 
@@ -196,7 +196,7 @@ module _ {Kept : Type 0} (keeps : ScriptPart → Kept → Type 0) (vocabulary : 
   some_changed inside = by_front (take first pieces) refl
     where
       front_inside : (q : ScriptPlace) → Some script.Front ≡ Some q → begun_with q ≡ Inside → ⊥
-      front_inside q e is = front_no_inside (sym (ap begun_with (sym (same_place script.Front q e))) ∙ is)
+      front_inside q e is = front_no_inside (sym (ap begun_with (sym (same_Some script.Front q e))) ∙ is)
 
       by_front : (ps : List (Piece Kept)) → ps ≡ take first pieces → 0 < length changed
       by_front [] none =

@@ -3,7 +3,7 @@ use Rattle.std.proofs.Common.{◌≡◌, ◌∙◌, ℕ, suc, ◌+◌, ◌-◌, 
 use Rattle.std.specs.Prelude.{IsCharBoundary, IsUtf8, string_bytes}
 use Rattle.std.proofs.Math.Seq.{drop-append_seam, take-append_seam}
 use Rattle.std.proofs.lemmas.Bool.{cases_lt}
-use Rattle.std.proofs.lemmas.List.{append-nil, drop-append-le, drop-drop, drop_all, take-append-le}
+use Rattle.std.proofs.lemmas.List.{append-nil, drop-append-le, drop-drop, drop_all, nil_from_length, take-append-le}
 use Rattle.std.proofs.lemmas.Str.{IsCharBoundary-from_rest, IsCharBoundary-from_take, IsUtf8-drop, IsUtf8-take}
 use Rattle.squawk_keywords.specs.declared.keywords.Keywords.{Keywords}
 use Rattle.rule_grammar.specs.declared.rules.RuleGrammar.{RuleGrammar}
@@ -14,7 +14,7 @@ use Rattle.sql_grammar.specs.declared.script_parts.ScriptPart.{ScriptPart}
 use Rattle.sql_document.specs.Pieces.{AreChain, Finds, Follows, IsPiece, text_of}
 use Rattle.sql_document.specs.Recuts.{AreTails, EndsWithPiece, Grows, IsMet}
 use Rattle.sql_document.specs.declared.piece.Piece.{Piece}
-use Rattle.sql_document.proofs.Documents.{none-some, same_place}
+use Rattle.std.proofs.lemmas.Option.{none-some, same_Some}
 use Rattle.sql_document.proofs.Grows.{drop-at}
 use Rattle.sql_document.proofs.Chains.{after_is, chain_append, left_after, size_of, stands}
 
@@ -50,15 +50,11 @@ module _ {Kept : Type 0} (old : List (Piece Kept)) where
         let same : between ≡ last = omega (arith, is, before, second.order) in
         let none : length second.added ≡ 0 =
         omega (arith, ap length second.tail_is, length-append second.added (text_of (drop last old)), ap (λ n. length (text_of (drop n old))) same) in
-        let text_same : mid ≡ now = sym (second.text_is ∙ (ap (λ xs. mid ++ xs) (empty second.added none) ∙ append-nil mid)) in
+        let text_same : mid ≡ now = sym (second.text_is ∙ (ap (λ xs. mid ++ xs) (nil_from_length second.added none) ∙ append-nil mid)) in
         subst (λ text. EndsWithPiece old text k) text_same (first.ends k (is ∙ sym same) le))
         (λ (after : between ≤ k). second.ends k is after)
         (cases_lt k between);
   }
-    where
-      empty : (xs : List ℕ) → length xs ≡ 0 → xs ≡ []
-      empty [] e = refl
-      empty (x ∷ xs) e = absurd (omega (arith, e))
 
   -- what is left is an old piece, and those after it
   pub met : (text : List ℕ) (at k : ℕ) (ends : EndsWithPiece old text k) → at ≤ length text → length (string_bytes ends.piece.text) ≡ length text - at → drop at text ++ text_of (drop (suc k) old) ≡ text_of (drop k old)
@@ -100,15 +96,15 @@ module _ {Kept : Type 0} (keeps : ScriptPart → Kept → Type 0) (vocabulary : 
     where
       by_seen : (seen : Option ℕ) → Follows vocabulary rules is.old is.new (length is.part.table.text) seen None is.rest → text_left is.new ++ is.rest ≡ []
       by_seen None follows = ap (λ xs. xs ++ is.rest) (drop_all is.new.lexer.at is.new.lexer.text follows.over) ∙ follows.nothing
-      by_seen (Some seen) follows = absurd (none-some follows.next_is)
+      by_seen (Some seen) follows = absurd (none-some follows.place follows.next_is)
 
   -- after another one the script is inside
   pub inside_next : (piece : Piece Kept) (place : ScriptPlace) (left : List ℕ) → IsPiece keeps vocabulary rules piece (Some place) left → begun_with place ≡ Inside
   inside_next piece place left is = by_seen piece.seen is.follows
     where
       by_seen : (seen : Option ℕ) → Follows vocabulary rules is.old is.new (length is.part.table.text) seen (Some place) is.rest → begun_with place ≡ Inside
-      by_seen None follows = absurd (none-some (sym follows.none))
-      by_seen (Some seen) follows = ap begun_with (same_place place follows.place follows.next_is) ∙ follows.inside
+      by_seen None follows = absurd (none-some place (sym follows.none))
+      by_seen (Some seen) follows = ap begun_with (same_Some place follows.place follows.next_is) ∙ follows.inside
 
   module _ (old : List (Piece Kept)) (text0 text now : List ℕ) (from last read at : ℕ) (place0 place : ScriptPlace) (items : List (Piece Kept)) (piece : Piece Kept) (next : Option ScriptPlace)
       (first : Grows old text0 text from last) (second : Grows old text now last read)

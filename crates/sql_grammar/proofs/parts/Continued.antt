@@ -1,7 +1,8 @@
 -- The place of a script where it goes on in another text.
-use Rattle.std.proofs.Common.{◌≡◌, ◌≢◌, ◌∙◌, ℕ, zero, suc, ◌+◌, ◌<◌, ◌⊎◌, inl, inr, Bool, true, false, Option, Some, None, nat_lt, List, [], ◌∷◌, take, drop, if◌then◌else◌, ⊎_elim, arith, ap, sym, refl}
+use Rattle.std.proofs.Common.{◌≡◌, ◌≢◌, ◌∙◌, ℕ, zero, suc, ◌+◌, ◌<◌, ◌⊎◌, inl, inr, Bool, true, false, Some, None, nat_lt, List, [], ◌∷◌, take, drop, if◌then◌else◌, ⊎_elim, arith, ap, sym, refl}
 use Rattle.std.specs.Prelude.{◌==◌, sum_by}
 use Rattle.std.proofs.lemmas.Bool.{cond_both, false≢true}
+use Rattle.std.proofs.lemmas.Option.{none-some, same_Some}
 use Rattle.squawk_tokens.specs.declared.token.Token.{Token}
 use Rattle.sql_lexer.specs.ScriptLexing.{Lexing, after_statement, after_statements, next_statement, place_after, place_of, script_place}
 use Rattle.sql_lexer.specs.ScriptWords.{word_of}
@@ -24,48 +25,34 @@ is_front Front = true
 is_front (Sql statement) = false
 is_front (Data left statement waiting) = false
 
-none-some : {A : Type 0} {x : A} → None ≡ Some x → ⊥
-none-some {A} e = false≢true (ap has e)
-  where
-    has : Option A → Bool
-    has None = false
-    has (Some x) = true
-
-abbrev held : ScriptPlace → Option ScriptPlace → ScriptPlace
-held other None = other
-held other (Some place) = place
-
-same_place : (p q : ScriptPlace) → Some p ≡ Some q → p ≡ q
-same_place p q e = ap (held p) e
-
 -- where a script goes on is where it stood
 pub place_is : (p : Place) (q : ScriptPlace) → script_place p ≡ Some q → place_of q ≡ p
-place_is Front q e = ap place_of (sym (same_place script.Front q e))
-place_is (Sql Start) q e = ap place_of (sym (same_place (script.Inside 0) q e))
-place_is (Sql Created) q e = absurd (none-some e)
-place_is (Sql CreatedOr) q e = absurd (none-some e)
-place_is (Sql Replaced) q e = absurd (none-some e)
-place_is (Sql Plain) q e = absurd (none-some e)
-place_is (Sql (OfRule unclosed)) q e = absurd (none-some e)
-place_is (Sql (OfRoutine unclosed before)) q e = absurd (none-some e)
-place_is (Sql (OfBlock unclosed before)) q e = absurd (none-some e)
-place_is (Sql (OfCopy unclosed phrase)) q e = absurd (none-some e)
+place_is Front q e = ap place_of (sym (same_Some script.Front q e))
+place_is (Sql Start) q e = ap place_of (sym (same_Some (script.Inside 0) q e))
+place_is (Sql Created) q e = absurd (none-some q e)
+place_is (Sql CreatedOr) q e = absurd (none-some q e)
+place_is (Sql Replaced) q e = absurd (none-some q e)
+place_is (Sql Plain) q e = absurd (none-some q e)
+place_is (Sql (OfRule unclosed)) q e = absurd (none-some q e)
+place_is (Sql (OfRoutine unclosed before)) q e = absurd (none-some q e)
+place_is (Sql (OfBlock unclosed before)) q e = absurd (none-some q e)
+place_is (Sql (OfCopy unclosed phrase)) q e = absurd (none-some q e)
 place_is (Data zero Start waiting) q e = waits (nat_lt waiting 4294967295) e
   where
     waits : (b : Bool) → (if b then Some (script.Inside (waiting + 1)) else None) ≡ Some q → place_of q ≡ Data zero Start waiting
     waits true e =
         let next : waiting + 1 ≡ suc waiting = omega arith in
-        ap place_of (sym (same_place (script.Inside (waiting + 1)) q e)) ∙ ap (λ n. place_of (script.Inside n)) next
-    waits false e = absurd (none-some e)
-place_is (Data zero Created waiting) q e = absurd (none-some e)
-place_is (Data zero CreatedOr waiting) q e = absurd (none-some e)
-place_is (Data zero Replaced waiting) q e = absurd (none-some e)
-place_is (Data zero Plain waiting) q e = absurd (none-some e)
-place_is (Data zero (OfRule unclosed) waiting) q e = absurd (none-some e)
-place_is (Data zero (OfRoutine unclosed before) waiting) q e = absurd (none-some e)
-place_is (Data zero (OfBlock unclosed before) waiting) q e = absurd (none-some e)
-place_is (Data zero (OfCopy unclosed phrase) waiting) q e = absurd (none-some e)
-place_is (Data (suc left) statement waiting) q e = absurd (none-some e)
+        ap place_of (sym (same_Some (script.Inside (waiting + 1)) q e)) ∙ ap (λ n. place_of (script.Inside n)) next
+    waits false e = absurd (none-some q e)
+place_is (Data zero Created waiting) q e = absurd (none-some q e)
+place_is (Data zero CreatedOr waiting) q e = absurd (none-some q e)
+place_is (Data zero Replaced waiting) q e = absurd (none-some q e)
+place_is (Data zero Plain waiting) q e = absurd (none-some q e)
+place_is (Data zero (OfRule unclosed) waiting) q e = absurd (none-some q e)
+place_is (Data zero (OfRoutine unclosed before) waiting) q e = absurd (none-some q e)
+place_is (Data zero (OfBlock unclosed before) waiting) q e = absurd (none-some q e)
+place_is (Data zero (OfCopy unclosed phrase) waiting) q e = absurd (none-some q e)
+place_is (Data (suc left) statement waiting) q e = absurd (none-some q e)
 
 inside_with : (statement : Statement) (word : Word) (rest : List ℕ) → is_front (place_with statement word rest) ≡ false
 inside_with statement word rest = cond_both (data_follow statement word) _ _ (λ p. is_front p ≡ false) (λ _. refl) (λ _. refl)

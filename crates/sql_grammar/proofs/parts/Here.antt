@@ -1,7 +1,6 @@
 -- A part of a script is cut.
 use Rattle.std.proofs.Common.{◌≡◌, ◌∙◌, ℕ, ◌+◌, ◌-◌, ◌<◌, ◌≤◌, List, ◌++◌, length, take, drop, append_assoc, arith, ap, sym, subst, length-drop, length-take, take-append-drop}
 use Rattle.std.specs.Prelude.{IsCharBoundary, IsUtf8, slice_range}
-use Rattle.std.proofs.Math.Seq.{take-append-add}
 use Rattle.std.proofs.lemmas.List.Sums.{sum_by-append}
 use Rattle.squawk_tokens.specs.AcceptedTokens.{AreAcceptedTokens}
 use Rattle.squawk_tokens.specs.declared.token.Token.{Token}
