@@ -47,15 +47,19 @@ lines_len text one other are those = omega (arith, no_shorter text one other are
 
 -- ---- the piece
 
+-- what is read of a text, and what isn't
+module _ (text : List ℕ) (place : ScriptPlace) (is_last : Bool) (old : Reading) (begins : BeginsText text place is_last old) where
+  unread_by : (b : Bool) → is_last ≡ b → (rest : List ℕ) × (text ≡ old.lexer.text ++ rest)
+  unread_by true last = ([], sym (begins.all last) ∙ sym (append-nil old.lexer.text))
+  unread_by false others = ((begins.lines others).rest, (begins.lines others).whole)
+
+  pub unread : (rest : List ℕ) × (text ≡ old.lexer.text ++ rest)
+  unread = unread_by is_last refl
+
 module _ (vocabulary : Keywords) (rules : RuleGrammar) (text : List ℕ) (place : ScriptPlace) (is_last : Bool) (old new : Reading) (part : ScriptPart)
     (begins : BeginsText text place is_last old) (reads : ReadsPart vocabulary rules old new part) where
-  -- what is read of the text, and what isn't
-  tail_by : (b : Bool) → is_last ≡ b → (rest : List ℕ) × (text ≡ old.lexer.text ++ rest)
-  tail_by true last = ([], sym (begins.all last) ∙ sym (append-nil old.lexer.text))
-  tail_by false others = ((begins.lines others).rest, (begins.lines others).whole)
-
-  pub tail : (rest : List ℕ) × (text ≡ old.lexer.text ++ rest)
-  tail = tail_by is_last refl
+  tail : (rest : List ℕ) × (text ≡ old.lexer.text ++ rest)
+  tail = unread text place is_last old begins
 
   pub lines_are : old.lexer.text ≡ part.table.text ++ text_left new
   lines_are = sym (ap (λ (l : Lexing). drop l.at l.text) begins.lexer) ∙ reads.text

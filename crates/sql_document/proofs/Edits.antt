@@ -174,7 +174,7 @@ module _ {Kept : Type 0} (keeps : ScriptPart → Kept → Type 0) (vocabulary : 
   abbrev now : List ℕ
   now = edited rs re repl all
 
-  now_is : now ≡ front ++ (changed ++ tail)
+  pub now_is : now ≡ front ++ (changed ++ tail)
   now_is =
       ap (λ xs. xs ++ (repl ++ drop re all)) take_is
       ∙ (ap (λ xs. (front ++ take low text) ++ (repl ++ xs)) drop_is

@@ -1,5 +1,5 @@
 -- The pieces of a document, one after another.
-use Rattle.std.specs.Prelude.{◌<◌, false, is_some, true, ◌≡◌, ◌≤◌, ℕ, ◌+◌, true, false, Option, Some, None, List, [], ◌∷◌, ◌++◌, drop, length, map, string_bytes, take, IsUtf8}
+use Rattle.std.specs.Prelude.{◌<◌, false, is_some, true, ◌≡◌, ◌≤◌, ℕ, ◌+◌, true, false, Option, Some, None, List, [], ◌∷◌, ◌++◌, drop, length, map, string_bytes, take, IsCharBoundary, IsUtf8}
 use Rattle.squawk_keywords.specs.declared.keywords.Keywords.{Keywords}
 use Rattle.squawk_table.specs.Sent.{sent_list}
 use Rattle.squawk_table.specs.declared.shortcuts.str_step.OwnedStep.{OwnedStep}
@@ -26,6 +26,12 @@ text_of (piece ∷ pieces) = string_bytes piece.text ++ text_of pieces
 -- a text with another one in the place of some bytes
 abbrev pub edited : ℕ → ℕ → List ℕ → List ℕ → List ℕ
 edited start end replacement text = take start text ++ (replacement ++ drop end text)
+
+-- a range of a text, which begins and ends between two characters
+pub record IsRange (start end : ℕ) (text : List ℕ) : Type 0 where
+  pub order : start ≤ end
+  pub begins : IsCharBoundary text start
+  pub ends : IsCharBoundary text end
 
 -- Of each part that is held.
 abbrev pub AreKept : {Kept : Type 0} → (ScriptPart → Kept → Type 0) → List ScriptPart → List (Piece Kept) → Type 0

@@ -1,5 +1,5 @@
 -- Old pieces are read again. Only private functions speak of it.
-use Rattle.std.specs.Prelude.{◌≡◌, ◌≤◌, ◌<◌, ◌+◌, ℕ, suc, Some, None, List, [], ◌∷◌, ◌++◌, drop, length, string_bytes}
+use Rattle.std.specs.Prelude.{◌≡◌, ◌≤◌, ◌<◌, ◌+◌, ℕ, suc, Some, None, List, [], ◌∷◌, ◌++◌, drop, length, string_bytes, take}
 use Rattle.squawk_keywords.specs.declared.keywords.Keywords.{Keywords}
 use Rattle.rule_grammar.specs.declared.rules.RuleGrammar.{RuleGrammar}
 use Rattle.sql_lexer.specs.declared.script.script_place.ScriptPlace.{ScriptPlace}
@@ -40,3 +40,9 @@ IsBefore start piece place = (seen : ℕ) × (piece.seen ≡ Some seen) × (star
 abbrev pub StandBefore : {Kept : Type 0} → ℕ → List (Piece Kept) → ℕ → Type 0
 StandBefore start [] place = Unit {0}
 StandBefore start (piece ∷ pieces) place = IsBefore start piece place × StandBefore (start + length (string_bytes piece.text)) pieces place
+
+-- the first piece that depends on what stands at a place, and where it begins
+pub record IsTouched {Kept : Type 0} (pieces : List (Piece Kept)) (place first start : ℕ) : Type 0 where
+  pub within : first < length pieces
+  pub begins : start ≡ length (text_of (take first pieces))
+  pub before : StandBefore 0 (take first pieces) place

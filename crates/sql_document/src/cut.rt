@@ -1,9 +1,10 @@
 //! The next piece of a script.
-ghost use Rattle.std.specs.Prelude.{◌≡◌, ◌++◌, ◌≤◌, ◌-◌, true, false, [], ℕ, List, Some, None, length, IfOk, IfSome, if◌then◌else◌};
+ghost use Rattle.std.specs.Prelude.{◌≡◌, ◌++◌, ◌≤◌, ◌-◌, true, false, [], ℕ, List, Some, None, length, IfErr, IfOk, IfSome, if◌then◌else◌};
 ghost use Rattle.sql_lexer.specs.ScriptLexing.{place_of, script_place};
 ghost use Rattle.sql_grammar.specs.ReadParts.{begun_with};
 ghost use Rattle.sql_grammar.specs.WholeLines.{AreWholeLines};
 ghost use Rattle.sql_grammar.specs.declared.script_parts.Progress.TheVariants.{Inside};
+ghost use Rattle.sql_document.specs.EditErrors.{RefusesText};
 ghost use Rattle.sql_document.specs.Pieces.{Finds, IsPiece};
 
 use crate::edit_error::EditError;
@@ -29,6 +30,7 @@ pub(crate) fn next_piece<K: Keep + Drop>(
         → IsPiece (K.keeps keep.now) sql.now.vocabulary sql.now.rules both.0 both.1 (text.now ++ rest))) }
     ensures finds { IfOk result (λ found. IfSome found (λ both. Finds place text.now both.0 both.1)) }
     ensures none { IfOk result (λ found. found ≡ None → is_last ≡ true → (length text.now ≡ 0) × (begun_with place ≡ Inside)) }
+    ensures refused { IfErr result (RefusesText text.now) }
 {
     let mut parts = ScriptParts::new(alloc, text, place, is_last)?;
     let Some(part) = parts.next_part(wanted(least, is_last), &sql.vocabulary, &sql.rules)? else {

@@ -1,7 +1,8 @@
 //! Pieces that are cut anew, up to old ones.
-ghost use Rattle.std.specs.Prelude.{◌≡◌, ◌++◌, ◌≤◌, ◌<◌, ◌-◌, false, ℕ, [], List, Some, None, drop, length, take, IfOk, IfSome, IsCharBoundary, IsTrue, string_bytes};
+ghost use Rattle.std.specs.Prelude.{◌≡◌, ◌++◌, ◌≤◌, ◌<◌, ◌-◌, ◌⊎◌, false, ℕ, [], List, Some, None, drop, length, take, Decides, IfErr, IfOk, IfSome, IsCharBoundary, IsTrue, string_bytes};
 ghost use Rattle.sql_grammar.specs.ReadParts.{begun_with};
 ghost use Rattle.sql_grammar.specs.declared.script_parts.Progress.TheVariants.{Inside};
+ghost use Rattle.sql_document.specs.EditErrors.{RefusesText};
 ghost use Rattle.sql_document.specs.Pieces.{AreChain, Finds, IsPiece, text_of};
 ghost use Rattle.sql_document.specs.Recuts.{AreTails, Grows, IsBefore, IsMet, StandBefore};
 
@@ -36,8 +37,9 @@ fn piece_inside<K: Keep + Drop>(
     text: &str,
     place: ScriptPlace,
 ) -> Result<Option<(Piece<K::Kept>, Option<ScriptPlace>)>, EditError>
-    ensures { IfOk result (λ found. IfSome found (λ both. Finds place text.now both.0 both.1
+    ensures cut { IfOk result (λ found. IfSome found (λ both. Finds place text.now both.0 both.1
         × ((rest : List ℕ) → IsPiece (K.keeps keep.now) sql.now.vocabulary sql.now.rules both.0 both.1 (text.now ++ rest)))) }
+    ensures refused { IfErr result (RefusesText text.now) }
 {
     let mut size = SIZE;
     while size < text.len() {
@@ -61,6 +63,7 @@ pub(crate) fn pull<T: Drop>(
     requires { from < length old.now }
     ensures grows { IfOk result (λ last. Grows old.now (string_bytes text.old) (string_bytes text.new) from last) }
     ensures some { IfOk result (λ last. from < last) }
+    ensures reaches { IfOk result (λ last. (until ≤ length (string_bytes text.new)) ⊎ (last ≡ length old.now)) }
 {
     let mut last = from;
     while last == from || (last < old.len() && text.len() < until) {
@@ -91,6 +94,7 @@ fn cut_next<K: Keep + Drop>(
         (drop at (string_bytes text.new) ++ text_of (drop both.0 old.now)))) }
     ensures finds { IfOk result (λ both. IfSome both.1 (λ found. Finds place (drop at (string_bytes text.new)) found.0 found.1)) }
     ensures none { IfOk result (λ both. both.1 ≡ None → from < both.0) }
+    ensures refused { IfErr result (RefusesText (string_bytes text.old ++ text_of (drop from old.now))) }
 {
     if let Some(found) = piece_inside(alloc, sql, keep, &text[at..], place)? {
         return Ok((from, Some(found)));
@@ -142,6 +146,7 @@ pub(crate) fn recut<K: Keep + Drop>(
     ensures within { IfOk result (λ both. (from ≤ both.1) × (both.1 ≤ length old.now)) }
     ensures chain { IfOk result (λ both. AreChain (K.keeps keep.now) sql.now.vocabulary sql.now.rules (Some place) (both.0.items ++ drop both.1 old.now) None
         (string_bytes text ++ text_of (drop from old.now)) []) }
+    ensures refused { IfErr result (RefusesText (string_bytes text ++ text_of (drop from old.now))) }
 {
     let mut new = Vec::new(alloc);
     let mut last = from;
@@ -165,6 +170,20 @@ pub(crate) fn recut<K: Keep + Drop>(
             return Ok((new, last - 1));
         }
     }
+}
+
+/// Whether a place is one between two characters of the text of pieces.
+pub(crate) fn is_boundary<T: Drop>(pieces: &[Piece<T>], place: usize) -> bool
+    ensures { Decides result (IsCharBoundary (text_of pieces.now) place) }
+{
+    let mut left = place;
+    for piece in pieces {
+        if left < piece.text.len() {
+            return piece.text.is_char_boundary(left);
+        }
+        left -= piece.text.len();
+    }
+    left == 0
 }
 
 /// Where the first piece begins that depends on what stands at a place, or the last piece, and its index.

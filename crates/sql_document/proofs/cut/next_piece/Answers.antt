@@ -2,7 +2,10 @@ use Rattle.std.proofs.Common.{◌≡◌, ◌∙◌, ◌-◌, ◌≤◌, ◌⊎�
 use Rattle.std.specs.Prelude.{IfSome, IsCharBoundary, slice_index}
 use Rattle.sql_grammar.specs.ReadParts.{BeginsText, NoneLeft, Reading, ReadsPart}
 use Rattle.sql_grammar.specs.declared.script_parts.ScriptPart.{ScriptPart}
-use Rattle.sql_document.proofs.Cuts.{boundary, finds, front, is_piece, within_lines}
+use Rattle.sql_document.proofs.Cuts.{boundary, finds, front, is_piece, unread, within_lines}
+use Rattle.sql_document.proofs.Refusals.{refused_by_parse}
+use Rattle.std.proofs.lemmas.Result.{err_from_is_err_and}
+use Rattle.sql_document.specs.EditErrors.{RefusesText}
 use Rattle.sql_document.proofs.cut.next_piece.Goals as goal
 
 pub range-requires-clause-end_boundary : goal.range-requires-clause-end_boundary
@@ -76,3 +79,12 @@ returns-clause-finds g c =
     finds sql.vocabulary sql.rules text place is_last old new part begins reads _ c.place_after.result c.place_after.ensures.is refl
     (c.in_ok-from_str.ensures.ok ∙ (c.range.ensures.value ∙ (ap (λ n. take n text) (omega (arith, end)) ∙ front sql.vocabulary sql.rules text place is_last old new part begins reads)))
     c.len.ensures.table.utf8
+
+pub returns-in_err-part-clause-refused : goal.returns-in_err-part-clause-refused
+returns-in_err-part-clause-refused g c =
+    let old : Reading = c.in_ok-parts.parts in
+    let begins : BeginsText c.args.text.now c.args.place c.args.is_last old = c.in_ok-parts.ensures.begins in
+    let left = unread c.args.text.now c.args.place c.args.is_last old begins in
+    let error = err_from_is_err_and c.from_residual-in_err-part.result c.from_residual-in_err-part.ensures.1 in
+    rw error.1 (subst (RefusesText c.args.text.now) (sym error.2)
+    (refused_by_parse c.args.sql.now.vocabulary c.args.text.now old.lexer.text left.0 old.begun c.in_err-part.field-0.0 c.args.sql.now.keywords left.1 c.in_err-part.ensures.refused))
