@@ -4,14 +4,11 @@ use Rattle.std.proofs.lemmas.Bool.{false≢true}
 use Rattle.squawk_keywords.specs.declared.keywords.Keywords.{Keywords}
 use Rattle.squawk_parser.specs.declared.parser.parse_error.ParseError.{ParseError}
 use Rattle.squawk_parser.specs.declared.parser.parse_error.ParseError.TheVariants as parse
-use Rattle.sql_lexer.specs.Tokens as lexer
 use Rattle.sql_lexer.specs.declared.script.script_place.ScriptPlace.{ScriptPlace}
-use Rattle.sql_lexer.specs.declared.tokenizer.TokenizeError.{TokenizeError}
-use Rattle.sql_lexer.specs.declared.tokenizer.TokenizeError.TheVariants as tokenizer
 use Rattle.sql_words.specs.SqlVocabulary.{KnowsKeywords}
 use Rattle.sql_grammar.specs.ReadParts.{IsRefusedPart}
-use Rattle.sql_document.specs.EditErrors.{RefusesEdit, RefusesText, error_of_lexer, error_of_parse}
-use Rattle.sql_document.specs.Pieces.{edited, text_of}
+use Rattle.sql_document.specs.EditErrors.{RefusesText, error_of_parse}
+use Rattle.sql_document.specs.Pieces.{text_of}
 use Rattle.sql_document.specs.Recuts.{Grows}
 use Rattle.sql_document.specs.declared.edit_error.EditError.{EditError}
 use Rattle.sql_document.specs.declared.edit_error.EditError.TheVariants.{NoRange, OutOfMemory, Parse, TextTooLong}
@@ -47,10 +44,6 @@ refused_grown old text now from last error grows why =
     subst (λ text. RefusesText text error)
     (ap (λ xs. xs ++ text_of (drop last old)) grows.text_is ∙ (append_assoc text grows.added (text_of (drop last old)) ∙ ap (λ xs. text ++ xs) (sym grows.tail_is))) why
 
-pub refused_by_lexer : (text : List ℕ) (reason : TokenizeError) → lexer.RefusesText text reason → RefusesText text (error_of_lexer reason)
-refused_by_lexer text tokenizer.TextTooLong why = why
-refused_by_lexer text tokenizer.OutOfMemory why = tt
-
 abbrev is_memory : ParseError → Bool
 is_memory parse.OutOfMemory = true
 is_memory parse.TooManyEvents = false
@@ -64,10 +57,3 @@ refused_by_parse vocabulary text part rest place parse.TooManyEvents knows are r
     record { vocabulary = vocabulary; knows = knows; before = []; part = part; after = rest; are = are; place = place; refused = refused (λ e. false≢true (ap is_memory e)) }
 refused_by_parse vocabulary text part rest place parse.TooManyErrors knows are refused =
     record { vocabulary = vocabulary; knows = knows; before = []; part = part; after = rest; are = are; place = place; refused = refused (λ e. false≢true (ap is_memory e)) }
-
--- an edit whose text is refused
-pub edit_refused : (start end : ℕ) (replacement text : List ℕ) (error : EditError) → RefusesText (edited start end replacement text) error → RefusesEdit start end replacement text error
-edit_refused start end replacement text NoRange why = absurd why
-edit_refused start end replacement text TextTooLong why = why
-edit_refused start end replacement text OutOfMemory why = why
-edit_refused start end replacement text (Parse reason) why = why

@@ -6,13 +6,13 @@ use Rattle.std.specs.IoError.{error_kind}
 use Rattle.std.specs.declared.alloc.Global.{Global}
 use Rattle.std.specs.declared.io.Error.{Error}
 use Rattle.std.specs.declared.io.ErrorKind.{ErrorKind}
-use Rattle.std.specs.declared.io.ErrorKind.TheVariants as io
 use Rattle.squawk_parser.specs.declared.parser.parse_error.ParseError.{ParseError}
 use Rattle.squawk_parser.specs.declared.parser.parse_error.ParseError.TheVariants as parse
 use Rattle.sql_grammar.specs.ReadParts.{IsRefusedPart}
 use Rattle.sql_lexer.specs.declared.script.script_place.ScriptPlace.TheVariants.{Front}
 use Rattle.sql_lexer.specs.declared.tokenizer.TokenizeError.{TokenizeError}
 use Rattle.sql_lexer.specs.declared.tokenizer.TokenizeError.TheVariants as lexer
+use Rattle.sql_reader.specs.ReadErrors.{io_words}
 use Rattle.sql_tree.specs.Reports.{IsReport}
 use Rattle.sql_tree.specs.declared.options.Listing.{Listing}
 use Rattle.sql_tree.specs.declared.report.Report.{Report}
@@ -43,18 +43,6 @@ RefusesText sql text reason = ⊥
 abbrev pub RefusesBytes : Sql → List ℕ → Unread → Type 0
 RefusesBytes sql bytes (NotUtf8 at) = (¬ (IsUtf8 bytes)) × (at ≡ utf8_valid_len bytes)
 RefusesBytes sql bytes reason = IsUtf8 bytes × RefusesText sql bytes reason
-
--- what the system's errors are called
-abbrev pub io_words : ErrorKind → List ℕ
-io_words io.NotFound = codes "entity not found"
-io_words io.PermissionDenied = codes "permission denied"
-io_words io.NotADirectory = codes "not a directory"
-io_words io.IsADirectory = codes "is a directory"
-io_words io.FilesystemLoop = codes "filesystem loop or indirection limit (e.g. symlink loop)"
-io_words io.InvalidInput = codes "invalid input parameter"
-io_words io.InvalidFilename = codes "invalid filename"
-io_words io.OutOfMemory = codes "out of memory"
-io_words _ = codes "can't be read"
 
 -- what is printed for a text that isn't told of
 abbrev pub unread_line : Unread → List ℕ

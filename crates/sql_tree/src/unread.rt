@@ -1,8 +1,8 @@
 //! Why a text has no tree.
 ghost use Rattle.std.specs.Prelude.{◌≡◌};
-ghost use Rattle.sql_tree.specs.Refusals.{io_words};
 
 use sql_lexer::TokenizeError;
+use sql_reader::io_words;
 use squawk_parser::ParseError;
 use std::alloc::AllocError;
 use std::error::Error;
@@ -44,23 +44,6 @@ impl fmt::Display for Unread {
             Unread::TooManyErrors => write!(f, "too many errors"),
             Unread::OutOfMemory => write!(f, "out of memory"),
         }
-    }
-}
-
-/// What the system's errors are called.
-fn io_words(kind: ErrorKind) -> &'static str
-    ensures { result.now ≡ io_words kind }
-{
-    match kind {
-        ErrorKind::NotFound => "entity not found",
-        ErrorKind::PermissionDenied => "permission denied",
-        ErrorKind::NotADirectory => "not a directory",
-        ErrorKind::IsADirectory => "is a directory",
-        ErrorKind::FilesystemLoop => "filesystem loop or indirection limit (e.g. symlink loop)",
-        ErrorKind::InvalidInput => "invalid input parameter",
-        ErrorKind::InvalidFilename => "invalid filename",
-        ErrorKind::OutOfMemory => "out of memory",
-        _ => "can't be read",
     }
 }
 

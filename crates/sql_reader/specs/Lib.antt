@@ -1,0 +1,3 @@
+pub mod ReadErrors
+pub mod Readers
+pub mod Windows

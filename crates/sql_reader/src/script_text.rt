@@ -1,0 +1,31 @@
+//! A text of a script.
+
+use crate::read_error::ReadError;
+use sql_lexer::ScriptPlace;
+
+/// A text of a script: as much of what is unread as is in memory.
+#[derive(Clone, Copy)]
+pub struct ScriptText<'r> {
+    pub text: &'r str,
+    /// Where the script stands before the text.
+    pub place: ScriptPlace,
+    /// What comes after the text.
+    pub next: Next,
+    /// The bytes in memory: some before the text, the text, and what is no character yet.
+    pub window: &'r [u8],
+    /// Where the text begins in the window, in bytes.
+    pub start: usize,
+    /// How many bytes of the script stand before the window; at most `usize::MAX` are counted.
+    pub passed: usize,
+}
+
+/// What comes after a text.
+#[derive(Clone, Copy, Debug, PartialEq, Eq)]
+pub enum Next {
+    /// Perhaps more of the script.
+    More,
+    /// Nothing: the script ends.
+    End,
+    /// Nothing that can be read.
+    Fault(ReadError),
+}
