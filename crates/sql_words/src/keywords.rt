@@ -1,6 +1,7 @@
 //! The table of PostgreSQL's keywords.
 ghost use Rattle.std.specs.Prelude.{◌≡◌, map};
-ghost use Rattle.sql_words.specs.SqlKinds.{keyword_name, rows_in, table};
+ghost use Rattle.squawk_keywords.specs.KeywordPairs.{pairs_of};
+ghost use Rattle.sql_words.specs.SqlKinds.{keyword_kinds, keyword_name, rows_in, table};
 
 use crate::category::Category;
 use crate::kinds::SqlKind;
@@ -16,11 +17,14 @@ pub struct Keyword {
 }
 
 /// The keywords of PostgreSQL 15 in the order of their words, each with its kind and its category, by
-/// its documentation, appendix C, "SQL Key Words": as rows, or as the names of their kinds.
+/// its documentation, appendix C, "SQL Key Words": as rows, as words with kinds, or as the names of their kinds.
 #[rattlefmt::skip]
 macro_rules! keywords {
     (@rows $($word:literal $kind:ident $category:ident),*) => {
         [$(Keyword { word: $word, kind: SqlKind::$kind.0, category: Category::$category }),*]
+    };
+    (@pairs $($word:literal $kind:ident $category:ident),*) => {
+        [$(($word, SqlKind::$kind.0)),*]
     };
     (@names $($word:literal $kind:ident $category:ident),*) => {
         [$(stringify!($kind)),*]
@@ -190,6 +194,8 @@ macro_rules! keywords {
 
 static KEYWORDS: [Keyword; 460] = keywords![rows];
 
+static PAIRS: [(&str, u16); 460] = keywords![pairs];
+
 static NAMES: [&str; 460] = keywords![names];
 
 /// The keywords, in the order of their words.
@@ -197,6 +203,13 @@ pub fn keywords() -> &'static [Keyword]
     ensures { rows_in result.now ≡ table }
 {
     &KEYWORDS
+}
+
+/// The keywords with the numbers of their kinds, in the same order.
+pub fn keyword_pairs() -> &'static [(&'static str, u16)]
+    ensures { pairs_of result.now ≡ keyword_kinds }
+{
+    &PAIRS
 }
 
 /// The names of their kinds, in the same order.

@@ -8,6 +8,7 @@ mod kind_names;
 mod kinds;
 mod named_kind;
 mod sql_vocabulary;
+mod tables;
 
 pub use kind_names::names;
 pub use kinds::SqlKind;

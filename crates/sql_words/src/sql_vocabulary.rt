@@ -1,14 +1,14 @@
 //! The vocabulary of PostgreSQL's keywords.
-ghost use Rattle.std.specs.Prelude.{◌≡◌, ℕ, IfOk};
-ghost use Rattle.squawk_kinds.specs.TokenSets.{has};
+ghost use Rattle.std.specs.Prelude.{◌≡◌, IfOk};
 ghost use Rattle.squawk_keywords.specs.KeywordPairs.{pairs_of};
-ghost use Rattle.sql_words.specs.SqlKinds.{is_kind_of, keyword_kinds};
+ghost use Rattle.squawk_keywords.specs.ReadyWords.{AreReady};
+ghost use Rattle.sql_words.specs.SqlKinds.{contextual_kinds, keyword_kinds};
 ghost use Rattle.sql_words.specs.SqlVocabulary.{AreClasses, KnowsKeywords};
 
-use crate::category::Category;
 use crate::contextual::contextual_keywords;
-use crate::keywords::keywords;
-use squawk_keywords::{Classes, Keywords, KeywordsError};
+use crate::keywords::keyword_pairs;
+use crate::tables::{contextual_rows, contextual_slots, keyword_rows, keyword_slots, kind_sets};
+use squawk_keywords::{Classes, Keywords, ReadyWords};
 use squawk_kinds::{SyntaxKind, TokenSet, token_set};
 use std::alloc::{AllocError, Global};
 
@@ -62,29 +62,37 @@ const PUNCTUATION: TokenSet = token_set![
 ///
 /// A column's name may begin with the keywords that PostgreSQL's grammar calls `col_name_keyword`, and a
 /// type or a function may be named as its `type_func_name_keyword`.
-#[tactic(auto, using(crate::proofs::VocabularyLemmas::not_refused, crate::proofs::VocabularyLemmas::not_refused_contextual))]
 pub fn vocabulary(alloc: Global) -> Result<Keywords<'static>, AllocError>
     ensures { IfOk result KnowsKeywords }
 {
-    let words = words(alloc)?;
-    match Keywords::ignoring_case(alloc, &words, &contextual_keywords()) {
-        Ok(keywords) => Ok(keywords.with_classes(classes())),
-        Err(KeywordsError::OutOfMemory) => Err(AllocError),
-        Err(KeywordsError::Keyword(_)) => unreachable!(),
-        Err(KeywordsError::Contextual(_)) => unreachable!(),
+    let keywords = Keywords::ready(alloc, &keyword_tables(), &contextual_tables())?;
+    Ok(keywords.with_classes(classes()))
+}
+
+/// The keywords with their tables.
+fn keyword_tables() -> ReadyWords<'static>
+    ensures ready { AreReady result }
+    ensures pairs { pairs_of result.words.now ≡ keyword_kinds }
+{
+    ReadyWords {
+        words: keyword_pairs(),
+        set: kind_sets::KEYWORDS,
+        slots: &keyword_slots::SLOTS,
+        kept: &keyword_rows::ROWS,
     }
 }
 
-/// The keywords with their kinds.
-fn words(alloc: Global) -> Result<Vec<(&'static str, SyntaxKind)>, AllocError>
-    ensures { IfOk result (λ words. pairs_of words.items ≡ keyword_kinds) }
+/// The contextual keywords with their tables.
+fn contextual_tables() -> ReadyWords<'static>
+    ensures ready { AreReady result }
+    ensures pairs { pairs_of result.words.now ≡ contextual_kinds }
 {
-    let keywords = keywords();
-    let mut words = Vec::with_capacity(alloc, keywords.len())?;
-    for keyword in keywords {
-        words.push_reserved((keyword.word, SyntaxKind(keyword.kind)));
+    ReadyWords {
+        words: contextual_keywords(),
+        set: kind_sets::CONTEXTUAL,
+        slots: &contextual_slots::SLOTS,
+        kept: &contextual_rows::ROWS,
     }
-    Ok(words)
 }
 
 /// The kinds of tokens in each class.
@@ -94,21 +102,8 @@ fn classes() -> Classes
     Classes {
         operators: OPERATORS,
         punctuation: PUNCTUATION,
-        reserved_keywords: kinds_of(Category::Reserved),
-        col_name_keyword_first: kinds_of(Category::ColName),
-        type_func_name_keywords: kinds_of(Category::TypeFuncName),
+        reserved_keywords: kind_sets::RESERVED,
+        col_name_keyword_first: kind_sets::COL_NAME,
+        type_func_name_keywords: kind_sets::TYPE_FUNC_NAME,
     }
-}
-
-/// The kinds of the keywords of a category.
-fn kinds_of(category: Category) -> TokenSet
-    ensures { (kind : ℕ) → has result kind ≡ is_kind_of category kind }
-{
-    let mut set = TokenSet::EMPTY;
-    for keyword in keywords() {
-        if keyword.category == category {
-            set = set.union(TokenSet::new(&[SyntaxKind(keyword.kind)]));
-        }
-    }
-    set
 }

@@ -8,3 +8,4 @@ mod TextKeyLemmas
 mod WordSlotLemmas
 mod TakenSlotLemmas
 mod AgreeLemmas
+pub mod ReadyLemmas

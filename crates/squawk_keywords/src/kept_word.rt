@@ -2,8 +2,9 @@
 ghost use Rattle.std.specs.Prelude.{◌≡◌, ℕ, ◌<◌, ◌≤◌, List, length};
 ghost use Rattle.std.specs.Str.{bytes_eq};
 ghost use Rattle.squawk_keywords.specs.LetterCase.{compared};
-ghost use Rattle.squawk_keywords.specs.TextKeys.{AreBytes, key_of};
+ghost use Rattle.squawk_keywords.specs.TextKeys.{AreBytes, IsOfText, key_of, text_of};
 
+use crate::ready_words::KeptRow;
 use crate::text_key::key;
 use squawk_kinds::SyntaxKind;
 use std::marker::Model;
@@ -43,6 +44,20 @@ impl KeptWord {
             high,
             len: word.len() as u16,
             kind,
+        }
+    }
+
+    /// The word of a row.
+    #[inline(always)]
+    pub fn of_row(row: &KeptRow) -> KeptWord
+        requires { IsOfText row.now.len (row.now.low, row.now.high) }
+        ensures { result ≡ (text_of row.now.len (row.now.low, row.now.high), row.now.kind) }
+    {
+        KeptWord {
+            low: row.low,
+            high: row.high,
+            len: row.len,
+            kind: SyntaxKind(row.kind),
         }
     }
 

@@ -1,15 +1,17 @@
 //! A vocabulary of two lists of words.
-ghost use Rattle.std.specs.Prelude.{◌≡◌, ◌↔◌, IsTrue, MatchOption};
+ghost use Rattle.std.specs.Prelude.{◌≡◌, ◌↔◌, IfOk, IsTrue, MatchOption};
 ghost use Rattle.squawk_kinds.specs.Kinds.{IsKeyword};
-ghost use Rattle.squawk_keywords.specs.KeywordAnswers.{HasClasses, IsMadeOf};
+ghost use Rattle.squawk_keywords.specs.KeywordAnswers.{AnswersBy, HasClasses, IsMadeOf};
 ghost use Rattle.squawk_keywords.specs.KeywordPairs.{AreKeywords, IsFirstOther, kind_of_word, kind_of_word_ignoring_case, pairs_of};
 ghost use Rattle.squawk_keywords.specs.LetterCase.{kind_by};
+ghost use Rattle.squawk_keywords.specs.ReadyWords.{AreReady};
 
 use crate::classes::Classes;
 use crate::keywords_error::KeywordsError;
+use crate::ready_words::ReadyWords;
 use crate::word_list::WordList;
 use squawk_kinds::{SyntaxKind, TokenSet, Vocabulary};
-use std::alloc::Global;
+use std::alloc::{AllocError, Global};
 
 /// A vocabulary of two lists of words: the keywords, and the contextual keywords.
 ///
@@ -49,6 +51,26 @@ impl<'k> Keywords<'k> {
         ensures { IsMadeOf kind_of_word_ignoring_case (pairs_of keywords.now) (pairs_of contextual.now) result }
     {
         Keywords::of_lists(alloc, true, keywords, contextual)
+    }
+
+    /// Makes the vocabulary of keywords and contextual keywords whose tables stand ready, with empty classes.
+    ///
+    /// A text is a word if both have the same bytes in ASCII lower case. The tables are copied: nothing is sorted or
+    /// hashed.
+    pub fn ready(
+        alloc: Global,
+        keywords: &ReadyWords<'k>,
+        contextual: &ReadyWords<'k>,
+    ) -> Result<Keywords<'k>, AllocError>
+        requires keywords { AreReady keywords.now }
+        requires contextual { AreReady contextual.now }
+        ensures { IfOk result (AnswersBy kind_of_word_ignoring_case (pairs_of keywords.now.words.now) (pairs_of contextual.now.words.now)) }
+    {
+        Ok(Keywords {
+            keywords: WordList::ready(alloc, keywords)?,
+            contextual: WordList::ready(alloc, contextual)?,
+            classes: Classes::EMPTY,
+        })
     }
 
     /// The vocabulary of these lists, with or without regard to case.

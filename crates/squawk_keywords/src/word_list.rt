@@ -1,13 +1,15 @@
 //! A list of words with their kinds. What is inlined runs at each look-up.
-ghost use Rattle.std.specs.Prelude.{◌≡◌, ◌↔◌, ℕ, ◌<◌, List, length, Some, IfOk, IfSome, IsSome};
+ghost use Rattle.std.specs.Prelude.{◌≡◌, ◌↔◌, ℕ, ◌<◌, List, length, true, Some, IfOk, IfSome, IsSome};
 ghost use Rattle.std.proofs.Props.{props};
 ghost use Rattle.squawk_kinds.specs.Kinds.{IsKeyword};
 ghost use Rattle.squawk_kinds.specs.TokenSets.{has};
 ghost use Rattle.squawk_keywords.specs.KeywordPairs.{AreKeywords, has_kind, pairs_of};
 ghost use Rattle.squawk_keywords.specs.LetterCase.{IsInOrder, kind_by};
+ghost use Rattle.squawk_keywords.specs.ReadyWords.{AreReady};
 ghost use Rattle.squawk_keywords.specs.WordSlots.{AgreeWith};
 ghost use Rattle.squawk_keywords.specs.declared.word_slots.WordSlots.{WordSlots as Slots};
 
+use crate::ready_words::ReadyWords;
 use crate::sorted_words::{look_up, sorted};
 use crate::word_slots::WordSlots;
 use squawk_kinds::{SyntaxKind, TokenSet};
@@ -17,7 +19,7 @@ use std::alloc::{AllocError, Global};
 #[derive(Drop)]
 pub struct WordList<'k> {
     ignores_case: bool,
-    words: Vec<(&'k str, SyntaxKind)>,
+    words: Vec<(&'k str, u16)>,
     set: TokenSet,
     /// None if there are no words, or if an allocation failed.
     slots: Option<WordSlots>,
@@ -43,6 +45,22 @@ impl<'k> WordList<'k> {
             words,
             set: kinds_of(pairs),
             slots: slots_of(alloc, ignores_case, pairs).unwrap_or(None),
+        })
+    }
+
+    /// Makes the list of words whose tables stand ready, without regard to case.
+    pub fn ready(alloc: Global, tables: &ReadyWords<'k>) -> Result<WordList<'k>, AllocError>
+        requires { AreReady tables.now }
+        ensures case { IfOk result (λ list. list.ignores_case ≡ true) }
+        ensures words { IfOk result (λ list. list.words.items ≡ tables.now.words.now) }
+        ensures set { IfOk result (λ list. list.set ≡ tables.now.set) }
+    {
+        let slots = WordSlots::ready(alloc, tables.slots, tables.kept)?;
+        Ok(WordList {
+            ignores_case: true,
+            words: Vec::from_slice(alloc, tables.words)?,
+            set: tables.set,
+            slots: Some(slots),
         })
     }
 

@@ -1,14 +1,16 @@
 //! A hash table of words, by which most texts are looked up at once. What is inlined runs at each look-up.
-ghost use Rattle.std.specs.Prelude.{◌≡◌, ◌≢◌, ℕ, ◌+◌, ◌<◌, ◌≤◌, List, [], length, min, Option, Some, None, IfOk, IfSome, vec_capacity, vec_len, if◌then◌else◌};
+ghost use Rattle.std.specs.Prelude.{◌≡◌, ◌≢◌, ℕ, ◌+◌, ◌<◌, ◌≤◌, All, List, [], length, min, Option, Some, None, IfOk, IfSome, vec_capacity, vec_len, if◌then◌else◌};
 ghost use Rattle.std.specs.Option.{option_or};
 ghost use Rattle.std.specs.Str.{bytes_eq};
 ghost use Rattle.squawk_kinds.specs.Keywords.{Keywords as KindsOfTexts};
 ghost use Rattle.squawk_keywords.specs.KeywordPairs.{pairs_of};
 ghost use Rattle.squawk_keywords.specs.LetterCase.{compared, kind_by};
-ghost use Rattle.squawk_keywords.specs.TextKeys.{AreBytes, key_of};
+ghost use Rattle.squawk_keywords.specs.ReadyWords.{kept_of};
+ghost use Rattle.squawk_keywords.specs.TextKeys.{AreBytes, IsOfText, key_of};
 ghost use Rattle.squawk_keywords.specs.WordSlots.{AreSlots, IsKept, AgreeWith, bucket_at, probed, slot_answer};
 
 use crate::kept_word::KeptWord;
+use crate::ready_words::KeptRow;
 use crate::text_key::key;
 use squawk_kinds::SyntaxKind;
 use std::alloc::{AllocError, Global};
@@ -46,6 +48,23 @@ impl WordSlots {
             slots.add(ignores_case, word, *kind);
         }
         Ok(slots)
+    }
+
+    /// Makes the table of these slots and rows.
+    pub fn ready(alloc: Global, slots: &[u16], rows: &[KeptRow]) -> Result<WordSlots, AllocError>
+        requires kept { All (λ row. IsOfText row.len (row.low, row.high)) rows.now }
+        requires slots { AreSlots slots.now (kept_of rows.now) }
+        ensures slots { IfOk result (λ table. table.slots.items ≡ slots.now) }
+        ensures words { IfOk result (λ table. table.words.items ≡ kept_of rows.now) }
+    {
+        let mut words = Vec::with_capacity(alloc, rows.len())?;
+        for row in rows {
+            words.push_reserved(KeptWord::of_row(row));
+        }
+        Ok(WordSlots {
+            slots: Vec::from_slice(alloc, slots)?,
+            words,
+        })
     }
 
     /// Makes a table whose slots are free, with room for this many words, at most `MOST`.

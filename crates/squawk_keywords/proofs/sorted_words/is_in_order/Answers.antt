@@ -1,5 +1,4 @@
-use Rattle.std.proofs.Common.{◌≡◌, ◌∙◌, Bool, true, false, not, ap, refl, rules}
-use Rattle.std.specs.Prelude.{IsTrue, length, slice_index_or}
+use Rattle.std.proofs.Common.{◌≡◌, not, rules}
 use Rattle.std.proofs.lemmas.Fn.{always_returns_same}
 use Rattle.squawk_keywords.proofs.SortedWordLemmas.{comes_before, from_adjacent}
 use Rattle.squawk_keywords.proofs.sorted_words.is_in_order.Goals as goal

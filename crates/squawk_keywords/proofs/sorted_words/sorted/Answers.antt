@@ -18,4 +18,4 @@ returns-clause-kinds c = λ text.
     kind_by-sorted c.args.ignores_case _ _
     (c.sort_by.ensures.stable (comes_before c.args.ignores_case) (ranks_by nat_list_cmp_total (key c.args.ignores_case))
     (always_returns_same _ (λ a r. is_lt r ≡ comes_before c.args.ignores_case a.0.now a.1.0.now) _ (λ a r f k. search rules))) text
-    ∙ ap (λ words. kind_by c.args.ignores_case (pairs_of words) text) c.in_ok-words.ensures.items
+    ∙ ap (λ words. kind_by c.args.ignores_case (pairs_of words) text) c.in_ok-words.ensures
