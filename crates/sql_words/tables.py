@@ -1,13 +1,10 @@
 #!/usr/bin/env python3
-"""Writes the tables by which keywords are looked up, from the crate's words and kinds.
+"""Writes src/tables/, by which keywords are looked up, from the crate's words and kinds.
 
-    crates/sql_words/tables.py            writes src/tables/
-    crates/sql_words/tables.py --check    fails where a file differs
-
-A proof evaluates whether the tables are those of the words, so this program need not be trusted.
+A proof tests that the tables are those of the words, so wrong ones are refused. Write them again where a word or the
+number of its kind changes, or the hash of `squawk_keywords`.
 """
 import re
-import sys
 import textwrap
 from pathlib import Path
 
@@ -18,28 +15,26 @@ BUCKETS, LONGEST, NOT_KEPT = 2048, 16, 65535
 
 def keywords():
     """The keywords, each with its kind and its category."""
-    engine = (HERE.parent / "squawk_kinds/src/syntax_kind.rt").read_text()
-    numbers = {name: int(number) for name, number, _ in CONSTANT.findall(engine)}
-    for source in sorted((HERE / "src/kinds").glob("*.rt")):
+    numbers = {}
+    for source in [HERE.parent / "squawk_kinds/src/syntax_kind.rt", *sorted((HERE / "src/kinds").glob("*.rt"))]:
         for name, number, same in CONSTANT.findall(source.read_text()):
             numbers[name] = int(number) if number else numbers[same]
     rows = re.findall(r'"(\w+)" (\w+_KW) (\w+)', (HERE / "src/keywords.rt").read_text())
     return [(word, numbers[kind], category) for word, kind, category in rows]
 
 
-def contextual():
+def contextual_keywords():
     rows = re.findall(r'\("(\w+)", (\d+)\)', (HERE / "src/contextual.rt").read_text())
     return [(word, int(kind)) for word, kind in rows]
 
 
 def key(word):
-    """The first four bytes, the next, the next, and the last four; of a shorter word the first, the middle and the last."""
+    """The first four bytes, the next, the next, and the last four; of a shorter word three bytes, maybe one twice."""
     text = word.encode()
-    number = lambda part: int.from_bytes(part, "little")
     if len(text) < 4:
-        return number([text[0], text[len(text) // 2], text[-1]]), 0
+        return int.from_bytes([text[0], text[len(text) // 2], text[-1]], "little"), 0
     last = len(text) - 4
-    parts = [number(text[at:at + 4]) for at in (0, min(last, 4), min(last, 8), last)]
+    parts = [int.from_bytes(text[at:at + 4], "little") for at in (0, min(last, 4), min(last, 8), last)]
     return parts[0] + (parts[1] << 32), parts[2] + (parts[3] << 32)
 
 
@@ -48,7 +43,7 @@ def bucket(word):
 
 
 def slots_and_rows(words):
-    """Each word takes the first free slot of its bucket. A long word has no row, and a third in a bucket no slot."""
+    """Each word takes the first free slot of its bucket. A long one has no row, and a third of a bucket nothing."""
     slots, rows = [0] * (2 * BUCKETS), []
     for word, kind in words:
         at = 2 * bucket(word)
@@ -64,18 +59,27 @@ def set_of(kinds):
     return [sum(1 << kind % 64 for kind in kinds if kind // 64 == word) for word in range(10)]
 
 
-def list_of(items):
-    """The lines of a list. An item stays on its line."""
-    joined = ", ".join(str(item).replace(" ", "_") for item in items)
-    return [line.replace("_", " ") for line in textwrap.wrap(joined, 120, initial_indent="    ", subsequent_indent="    ")]
+def wrapped(items):
+    return textwrap.wrap(items, 120, initial_indent="    ", subsequent_indent="    ", break_long_words=False)
 
 
-def slots_module(slots, of):
-    return module(f"slots of {of}", [], [f"pub static SLOTS: [u16; {len(slots)}] = [", *list_of(slots), "];"])
+def slots_module(of, slots):
+    return [
+        f"//! The slots of {of}. Written by `tables.py`.",
+        "",
+        "#[rattlefmt::skip]",
+        f"pub static SLOTS: [u16; {len(slots)}] = [",
+        *wrapped(", ".join(map(str, slots))),
+        "];",
+    ]
 
 
-def rows_module(rows, of):
-    before = [
+def rows_module(of, rows):
+    lines = ["{} {} {} {}".format(*row) for row in rows]
+    pairs = [", ".join(lines[at:at + 2]) for at in range(0, len(lines), 2)]
+    return [
+        f"//! The rows of {of}. Written by `tables.py`.",
+        "",
         "use squawk_keywords::KeptRow;",
         "",
         "/// Rows by key, length and kind.",
@@ -85,48 +89,46 @@ def rows_module(rows, of):
         "    };",
         "}",
         "",
+        "#[rattlefmt::skip]",
+        f"pub static ROWS: [KeptRow; {len(rows)}] = rows![",
+        ",\n".join(f"    {pair}" for pair in pairs),
+        "];",
     ]
-    lines = [" ".join(map(str, row)) for row in rows]
-    return module(f"rows of {of}", before, [f"pub static ROWS: [KeptRow; {len(rows)}] = rows![", *list_of(lines), "];"])
 
 
-def module(what, before, table):
-    return "\n".join([f"//! The {what}. Written by `tables.py`.", "", *before, "#[rattlefmt::skip]", *table]) + "\n"
-
-
-def sets(words, more):
-    kinds = {
-        "KEYWORDS": ("keywords", [kind for _, kind, _ in words]),
-        "CONTEXTUAL": ("contextual keywords", [kind for _, kind in more]),
-    }
+def sets_module(words, contextual):
+    sets = [
+        ("KEYWORDS", "keywords", [kind for _, kind, _ in words]),
+        ("CONTEXTUAL", "contextual keywords", [kind for _, kind in contextual]),
+    ]
     for name, category in ("RESERVED", "Reserved"), ("COL_NAME", "ColName"), ("TYPE_FUNC_NAME", "TypeFuncName"):
-        kinds[name] = f"the keywords of the category `{category}`", [k for _, k, c in words if c == category]
+        kinds = [kind for _, kind, own in words if own == category]
+        sets.append((name, f"the keywords of the category `{category}`", kinds))
     lines = ["//! Sets of the kinds of keywords. Written by `tables.py`.", "", "use squawk_kinds::TokenSet;"]
-    for name, (of, members) in kinds.items():
+    for name, of, kinds in sets:
         lines += [
             "",
             f"/// The kinds of {of}.",
             "#[rattlefmt::skip]",
             f"pub const {name}: TokenSet = TokenSet([",
-            *list_of(set_of(members)),
+            *wrapped(", ".join(map(str, set_of(kinds)))),
             "]);",
         ]
-    return "\n".join(lines) + "\n"
+    return lines
 
 
 def main():
-    words, more = keywords(), contextual()
-    files = {"kind_sets.rt": sets(words, more)}
-    for name, pairs in ("keyword", [(word, kind) for word, kind, _ in words]), ("contextual", more):
+    words, contextual = keywords(), contextual_keywords()
+    modules = {"kind_sets": sets_module(words, contextual)}
+    for name, of, pairs in [
+        ("keyword", "the keywords", [(word, kind) for word, kind, _ in words]),
+        ("contextual", "the contextual keywords", contextual),
+    ]:
         slots, rows = slots_and_rows(pairs)
-        files[f"{name}_slots.rt"] = slots_module(slots, f"{name}s" if name == "keyword" else f"{name} keywords")
-        files[f"{name}_rows.rt"] = rows_module(rows, f"{name}s" if name == "keyword" else f"{name} keywords")
-    for name, text in files.items():
-        path = HERE / "src/tables" / name
-        if sys.argv[1:] != ["--check"]:
-            path.write_text(text)
-        elif path.read_text() != text:
-            sys.exit(f"tables.py: {name} isn't what the crate's words give")
+        modules[f"{name}_slots"] = slots_module(of, slots)
+        modules[f"{name}_rows"] = rows_module(of, rows)
+    for name, lines in modules.items():
+        (HERE / f"src/tables/{name}.rt").write_text("\n".join(lines) + "\n")
 
 
 main()

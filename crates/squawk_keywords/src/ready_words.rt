@@ -4,8 +4,8 @@ use squawk_kinds::TokenSet;
 
 /// Words with the tables by which they are looked up without regard to ASCII case.
 ///
-/// A script makes the tables. `AreReady` says what they must be, and the lemma `are-ready` proves it for constants by
-/// evaluating a test.
+/// `AreReady` says what the tables must be, and the lemma `are-ready` proves it of constants by evaluating a test. The
+/// crate `sql_words` has such tables, and the script that writes them.
 #[derive(Clone, Copy)]
 pub struct ReadyWords<'k> {
     /// The words in the order of their bytes in ASCII lower case, with the numbers of their kinds.

@@ -1,4 +1,4 @@
-//! The rows of contextual keywords. Written by `tables.py`.
+//! The rows of the contextual keywords. Written by `tables.py`.
 
 use squawk_keywords::KeptRow;
 

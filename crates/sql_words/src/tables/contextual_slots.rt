@@ -1,4 +1,4 @@
-//! The slots of contextual keywords. Written by `tables.py`.
+//! The slots of the contextual keywords. Written by `tables.py`.
 
 #[rattlefmt::skip]
 pub static SLOTS: [u16; 4096] = [

@@ -1,4 +1,4 @@
-//! The slots of keywords. Written by `tables.py`.
+//! The slots of the keywords. Written by `tables.py`.
 
 #[rattlefmt::skip]
 pub static SLOTS: [u16; 4096] = [
