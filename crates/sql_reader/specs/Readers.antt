@@ -10,9 +10,11 @@ use Rattle.sql_reader.specs.declared.script_text.Next.{Next}
 use Rattle.sql_reader.specs.declared.script_text.Next.TheVariants.{End, Fault, More}
 use Rattle.sql_reader.specs.declared.script_text.ScriptText.{ScriptText}
 
--- The bytes of a script that are in memory: some that were read, and those that are unread. How many bytes stand before them,
--- where the script stands before the unread ones, how the input stands, and what it will give, where that is known.
+-- How many bytes a text has at least. The bytes of the script that are in memory: some that were read, and those that are unread.
+-- How many bytes stand before them, where the script stands before the unread ones, how the input stands, and what it will give,
+-- where that is known.
 pub record Script : Type 0 where
+  pub least : ℕ
   pub kept : List ℕ
   pub unread : List ℕ
   pub passed : ℕ
@@ -27,15 +29,16 @@ pub record ReadsOn (old new : Script) : Type 0 where
   pub more : List ℕ
   pub unread : new.unread ≡ old.unread ++ more
   pub consumes : Consumes old.remaining new.remaining more
+  pub least : new.least ≡ old.least
   pub kept : new.kept ≡ old.kept
   pub passed : new.passed ≡ old.passed
   pub place : new.place ≡ old.place
   pub stays : old.input ≢ Open → new.input ≡ old.input
   pub ended : old.input ≡ Open → new.input ≡ Ended → IsAtEnd new.remaining
 
--- twice as many bytes are unread, and 65536 at least, or the input ends or fails
+-- twice as many bytes are unread, and enough for a text, or the input ends or fails
 abbrev pub HasEnough : Script → Script → Type 0
-HasEnough old new = (max (min (length old.unread * 2) (2 ^ 64 - 1)) 65536 ≤ length new.unread) ⊎ (new.input ≢ Open)
+HasEnough old new = (max (min (length old.unread * 2) (2 ^ 64 - 1)) old.least ≤ length new.unread) ⊎ (new.input ≢ Open)
 
 -- so many bytes that are unread are read, and the script stands at a place: the last of them stay in memory, 128 or all
 pub record GoesOn (old : Script) (count : ℕ) (place : ScriptPlace) (new : Script) : Type 0 where
@@ -45,6 +48,7 @@ pub record GoesOn (old : Script) (count : ℕ) (place : ScriptPlace) (new : Scri
   pub kept : (gone ≡ []) ⊎ (128 ≤ length new.kept)
   pub passed : new.passed ≡ min (old.passed + length gone) (2 ^ 64 - 1)
   pub place_is : new.place ≡ place
+  pub least : new.least ≡ old.least
   pub input : new.input ≡ old.input
   pub remaining : new.remaining ≡ old.remaining
 

@@ -12,7 +12,7 @@ use std::io::{ErrorKind, Read};
 use std::marker::Model;
 use std::{io, str};
 
-/// A text has so many bytes at least, if the script has them.
+/// A text has so many bytes at least, if the script has them and nothing else is asked for.
 const LEAST: usize = 64 * 1024;
 
 /// How the input stands.
@@ -27,6 +27,7 @@ enum Input {
 #[derive(Drop)]
 pub struct ScriptReader<R: Read + Drop> {
     reader: R,
+    least: usize,
     window: Window,
     passed: usize,
     place: ScriptPlace,
@@ -39,7 +40,7 @@ impl<R: Read + Drop> Model for ScriptReader<R> {
 
     ghost Value = { Script };
 
-    ghost view = { λ s. record { kept = kept s.window; unread = unread s.window; passed = s.passed; place = s.place; input = s.input; remaining = R.remaining s.reader } };
+    ghost view = { λ s. record { least = s.least; kept = kept s.window; unread = unread s.window; passed = s.passed; place = s.place; input = s.input; remaining = R.remaining s.reader } };
 }
 
 impl<R: Read + Drop> ScriptReader<R> {
@@ -48,12 +49,20 @@ impl<R: Read + Drop> ScriptReader<R> {
     ghost use Rattle.sql_reader.specs.Readers.{GoesOn, HasEnough, IsTextOf, ReadsOn};
     ghost use Rattle.sql_reader.specs.declared.script_reader.Input.TheVariants.{Open};
 
-    /// At the front of the script that a reader gives.
+    /// At the front of the script that a reader gives. Texts have 65,536 bytes at least, if the script has them.
     pub fn new(alloc: Global, reader: R) -> ScriptReader<R>
-        ensures { result ≡ record { kept = []; unread = []; passed = 0; place = Front; input = Open; remaining = R.remaining reader } }
+        ensures { result ≡ record { least = 65536; kept = []; unread = []; passed = 0; place = Front; input = Open; remaining = R.remaining reader } }
+    {
+        ScriptReader::with_least(alloc, LEAST, reader)
+    }
+
+    /// The same, where texts have so many bytes at least, if the script has them.
+    pub fn with_least(alloc: Global, least: usize, reader: R) -> ScriptReader<R>
+        ensures { result ≡ record { least = least; kept = []; unread = []; passed = 0; place = Front; input = Open; remaining = R.remaining reader } }
     {
         ScriptReader {
             reader,
+            least,
             window: Window::new(alloc),
             passed: 0,
             place: ScriptPlace::Front,
@@ -61,13 +70,13 @@ impl<R: Read + Drop> ScriptReader<R> {
         }
     }
 
-    /// Reads on, until what is unread has twice the bytes that it has and 65,536 at least, or the input ends or fails. A read that
+    /// Reads on, until what is unread has twice the bytes that it has and enough for a text, or the input ends or fails. A read that
     /// is interrupted is tried again. At want of memory all is as before, but for what was read until then.
     pub fn read(&mut self) -> Result<(), AllocError>
         ensures reads { ReadsOn self.old self.new }
         ensures enough { OnOk result (HasEnough self.old self.new) }
     {
-        let wanted = self.window.unread().len().saturating_mul(2).max(LEAST);
+        let wanted = self.window.unread().len().saturating_mul(2).max(self.least);
         for _ in 0..u64::MAX {
             if self.window.unread().len() >= wanted || self.input != Input::Open {
                 return Ok(());

@@ -8,6 +8,7 @@ abbrev pub invariant-loop : goal.invariant-loop
 invariant-loop g l = record {
   more : (more : List ℕ) × (unread l.self-inside.window ≡ l.fn.self.unread ++ more) × Consumes l.fn.self.remaining (g.R.Read.remaining l.self-inside.reader) more;
   kept : kept l.self-inside.window ≡ l.fn.self.kept;
+  least : l.self-inside.least ≡ l.fn.self.least;
   passed : l.self-inside.passed ≡ l.fn.self.passed;
   place : l.self-inside.place ≡ l.fn.self.place;
   first : l.fn.self.input ≢ Open → l.counter ≡ 0;
