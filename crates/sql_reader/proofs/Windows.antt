@@ -1,5 +1,5 @@
 -- Bytes in memory, where the front goes.
-use Rattle.std.proofs.Common.{◌≡◌, ◌∙◌, ℕ, ◌+◌, ◌-◌, ◌≤◌, List, ◌++◌, drop, length, take, arith, ap, sym, length-drop, take_all}
+use Rattle.std.proofs.Common.{◌≡◌, ◌∙◌, ℕ, ◌+◌, ◌-◌, ◌≤◌, List, ◌++◌, drop, length, take, arith, ap, sym, length-drop, take-append-drop, take_all}
 use Rattle.std.specs.List.{copy_within}
 use Rattle.std.proofs.Math.Seq.{take-append_seam}
 use lib.Seq.{take-add}
@@ -14,7 +14,8 @@ module _ (xs : List ℕ) (gone : ℕ) (within : gone ≤ length xs) where
       ap (λ m. take m (take n (drop gone xs) ++ drop (0 + n) xs)) (sym size ∙ ap length (sym all)) ∙ (take-append_seam (take n (drop gone xs)) (drop (0 + n) xs) ∙ all)
 
 module _ (xs : List ℕ) (start count gone : ℕ) (within : gone ≤ start + count) where
-  pub kept_gone : take start xs ++ take count (drop start xs) ≡ take gone xs ++ take (start + count - gone) (drop gone xs)
+  pub kept_gone : take start xs ++ take count (drop start xs) ≡ take gone (take start xs ++ drop start xs) ++ take (start + count - gone) (drop gone xs)
   kept_gone =
       let sum : start + count ≡ gone + (start + count - gone) = omega (arith, within) in
-      sym (take-add start count xs) ∙ (ap (λ n. take n xs) sum ∙ take-add gone (start + count - gone) xs)
+      sym (take-add start count xs)
+      ∙ (ap (λ n. take n xs) sum ∙ (take-add gone (start + count - gone) xs ∙ ap (λ ys. take gone ys ++ take (start + count - gone) (drop gone xs)) (sym (take-append-drop start xs))))

@@ -40,13 +40,15 @@ pub record ReadsOn (old new : Script) : Type 0 where
 abbrev pub HasEnough : Script → Script → Type 0
 HasEnough old new = (max (min (length old.unread * 2) (2 ^ 64 - 1)) old.least ≤ length new.unread) ⊎ (new.input ≢ Open)
 
--- so many bytes that are unread are read, and the script stands at a place: the last of them stay in memory, 128 or all
+-- how many bytes leave the memory, of those that stand before a text and so many of it that are read: 128 of them stay, or all
+abbrev pub leaving : ℕ → ℕ → ℕ
+leaving start count = start + count - 128
+
+-- so many bytes that are unread are read, and the script stands at a place
 pub record GoesOn (old : Script) (count : ℕ) (place : ScriptPlace) (new : Script) : Type 0 where
-  pub gone : List ℕ
   pub unread : new.unread ≡ drop count old.unread
-  pub read : old.kept ++ take count old.unread ≡ gone ++ new.kept
-  pub kept : (gone ≡ []) ⊎ (128 ≤ length new.kept)
-  pub passed : new.passed ≡ min (old.passed + length gone) (2 ^ 64 - 1)
+  pub kept : old.kept ++ take count old.unread ≡ take (leaving (length old.kept) count) (old.kept ++ old.unread) ++ new.kept
+  pub passed : new.passed ≡ min (old.passed + leaving (length old.kept) count) (2 ^ 64 - 1)
   pub place_is : new.place ≡ place
   pub least : new.least ≡ old.least
   pub input : new.input ≡ old.input

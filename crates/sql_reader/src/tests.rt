@@ -117,6 +117,8 @@ fn some_of_what_was_read_stays(rt: HostRuntime) -> Result<(), Fail> {
     assert_eq!(rt; (first.start, first.passed, first.next), (0, 0, Next::More));
     script.go_on(60, ScriptPlace::Inside { waiting: 2 });
     assert_eq!(rt; script.text().start, 60);
+    // Of 1,000 bytes that are read 128 stay.
+    assert_eq!(rt; script.text().leaving(940).len(), 872);
     script.go_on(940, ScriptPlace::Inside { waiting: 2 });
     script.read()?;
     let text = script.text();

@@ -1,5 +1,6 @@
 //! The bytes of a script that are in memory.
-ghost use Rattle.std.specs.Prelude.{◌≡◌, ◌⊎◌, ℕ, ◌≤◌, List, [], ◌++◌, length, drop, take, IfOk};
+ghost use Rattle.std.specs.Prelude.{◌≡◌, ℕ, ◌+◌, ◌^◌, ◌<◌, ◌≤◌, List, [], ◌++◌, length, drop, take, IfOk};
+ghost use Rattle.sql_reader.specs.Readers.{leaving};
 ghost use Rattle.std.specs.Io.KnownBytes.{Consumes, IsAtEnd};
 
 use std::alloc::{AllocError, Global};
@@ -23,6 +24,7 @@ pub(crate) struct Window {
 }
 
 impl Window {
+    ghost use Rattle.sql_reader.specs.Readers.{leaving};
     ghost use Rattle.sql_reader.specs.Windows.{kept, unread};
 
     /// No bytes.
@@ -78,15 +80,22 @@ impl Window {
     pub(crate) fn go_on(&mut self, count: usize) -> usize
         requires { count ≤ length (unread self.old) }
         ensures unread { unread self.new ≡ drop count (unread self.old) }
-        ensures kept { (gone : List ℕ) × (length gone ≡ result) × (kept self.old ++ take count (unread self.old) ≡ gone ++ kept self.new)
-            × ((gone ≡ []) ⊎ (128 ≤ length (kept self.new))) }
+        ensures kept { kept self.old ++ take count (unread self.old) ≡ take (leaving (length (kept self.old)) count) (kept self.old ++ unread self.old) ++ kept self.new }
+        ensures gone { result ≡ leaving (length (kept self.old)) count }
     {
         let start = self.start + count;
-        let gone = start.saturating_sub(KEPT);
+        let gone = leaving(self.start, count);
         let left = self.bytes.len() - gone;
         self.bytes.copy_within(gone.., 0);
         self.bytes.truncate(left);
         self.start = start - gone;
         gone
     }
+}
+
+/// How many bytes leave the memory, of those that stand before a text and so many of it that are read.
+pub(crate) fn leaving(start: usize, count: usize) -> usize
+    ensures { start + count < 2 ^ 64 → result ≡ leaving start count }
+{
+    start.saturating_add(count).saturating_sub(KEPT)
 }
