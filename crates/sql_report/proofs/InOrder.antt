@@ -16,7 +16,7 @@ use Rattle.squawk_table.specs.declared.shortcuts.str_step.OwnedStep.TheVariants 
 use Rattle.squawk_tokens.specs.LexicalErrors.{LexicalError, shifted}
 use Rattle.sql_grammar.specs.Parts.{moved_by}
 use Rattle.sql_grammar.specs.ReadParts.{AreBefore, ErrorsBelow}
-use Rattle.sql_report.specs.ErrorLines.{HasShown, IsOf, error_texts, moved_finding}
+use Rattle.sql_report.specs.ErrorLines.{HasShown, error_texts, moved_finding}
 use Rattle.sql_report.specs.Findings.{AreInOrder, Told, all_told, told, told_in, told_lexical}
 use Rattle.sql_report.specs.declared.errors.ErrorLines.{ErrorLines}
 use Rattle.sql_report.specs.declared.finding_list.Finding.{Finding}
@@ -52,7 +52,7 @@ none_kept : (p : Finding → Bool) (xs : List Finding) → All (λ x. p x ≡ fa
 none_kept p [] h = refl
 none_kept p (x ∷ xs) h = ap (λ b. cond b (x ∷ filter p xs) (filter p xs)) (All-head (λ x. p x ≡ false) x xs h) ∙ none_kept p xs (All-tail (λ x. p x ≡ false) x xs h)
 
-all_weaker : {P Q : Finding → Type 0} (xs : List Finding) → ((x : Finding) → P x → Q x) → All P xs → All Q xs
+pub all_weaker : {P Q : Finding → Type 0} (xs : List Finding) → ((x : Finding) → P x → Q x) → All P xs → All Q xs
 all_weaker xs f h = λ i d lt. f (get_or xs i d) (h i d lt)
 
 -- ---- moved
@@ -135,6 +135,18 @@ sent_below n (sent.Enter kind ∷ steps) h = sent_below n steps h
 sent_below n (sent.Exit ∷ steps) h = sent_below n steps h
 sent_below n (sent.Error text pos ∷ steps) h = All-cons (is_below n) _ (flat_map told_in steps) h.0 (sent_below n steps h.1)
 
+gathered_below : (n : ℕ) (es : List LexicalError) (steps : List OwnedStep) (f : List Finding) (o : AreInOrder (all_told es steps) f) → All (λ e. e.start < n) es → ErrorsBelow n steps
+    → All (λ f. f.at < n) o.gathered
+gathered_below n es steps f o lexical errors =
+    told_all (is_below n) o.gathered
+    (subst (All (is_below n)) (sym o.tell)
+    (All-append (is_below n) (map told_lexical es) (flat_map told_in steps) (lexical_below n es lexical) (sent_below n steps errors)))
+
+-- findings stand where the errors do
+pub in_order_below : (n : ℕ) (es : List LexicalError) (steps : List OwnedStep) (f : List Finding) → AreInOrder (all_told es steps) f → All (λ e. e.start < n) es → ErrorsBelow n steps
+    → All (λ f. f.at < n) f
+in_order_below n es steps f o lexical errors = All-permutation (λ f. f.at < n) o.gathered f o.same (gathered_below n es steps f o lexical errors)
+
 -- ---- two parts
 
 -- the findings of a list in two
@@ -211,17 +223,11 @@ module _ (n : ℕ) (e1 e2 : List LexicalError) (s1 s2 : List OwnedStep) (f1 f2 :
       (IsPermutation-trans (l1 ++ ((l2 ++ t1) ++ t2)) (l1 ++ ((t1 ++ l2) ++ t2)) (f1 ++ m2) swapped
       (subst (λ xs. IsPermutation xs (f1 ++ m2)) (sym right) (IsPermutation-append (l1 ++ t1) f1 (l2 ++ t2) m2 first second)))
 
-  below_gathered : All (λ f. f.at < n) o1.gathered
-  below_gathered =
-      told_all (is_below n) o1.gathered
-      (subst (All (is_below n)) (sym o1.tell)
-      (All-append (is_below n) (map told_lexical e1) (flat_map told_in s1) (lexical_below n e1 stand.lexical) (sent_below n s1 stand.sent_errors)))
-
   below : All (λ f. f.at < n) f1
-  below = All-permutation (λ f. f.at < n) o1.gathered f1 o1.same below_gathered
+  below = in_order_below n e1 s1 f1 o1 stand.lexical stand.sent_errors
 
   below_halves : All (λ f. f.at < n) (l1 ++ t1)
-  below_halves = subst (All (λ f. f.at < n)) h1.all below_gathered
+  below_halves = subst (All (λ f. f.at < n)) h1.all (gathered_below n e1 s1 f1 o1 stand.lexical stand.sent_errors)
 
   sorted : IsSortedByKey place_of nat_cmp (f1 ++ m2)
   sorted k d low high = elim (cases_lt (k + 1) (length f1)) [
@@ -311,12 +317,12 @@ module _ (n : ℕ) (e1 e2 : List LexicalError) (s1 s2 : List OwnedStep) (f1 f2 :
 
 -- ---- what is shown
 
--- the errors of a part behind others
-pub shows_more : (old new : ErrorLines) (n : ℕ) (errors lexical : List LexicalError) (done inner steps : List OwnedStep) (kind : ℕ) (findings : List Finding)
-    → AreInOrder (all_told lexical steps) findings → steps ≡ sent.Enter kind ∷ inner ++ sent.Exit ∷ [] → AreBefore n errors done → HasShown errors done old
-    → IsOf old.name.now old.place.text new → new.lines.items ≡ old.lines.items ++ error_texts old.name.now old.place.text (map (moved_finding n) findings)
-    → new.count ≡ old.count + length findings → HasShown (errors ++ map (shifted n) lexical) (done ++ map (moved_by n) inner) new
-shows_more old new n errors lexical done inner steps kind findings order is stand shown same lines count =
+-- the errors of a part after others
+pub shows_more : (script : List ℕ) (old new : ErrorLines) (n : ℕ) (errors lexical : List LexicalError) (done inner steps : List OwnedStep) (kind : ℕ) (findings : List Finding)
+    → AreInOrder (all_told lexical steps) findings → steps ≡ sent.Enter kind ∷ inner ++ sent.Exit ∷ [] → AreBefore n errors done → HasShown script errors done old
+    → new.name ≡ old.name → new.lines.items ≡ old.lines.items ++ error_texts old.name.now script (map (moved_finding n) findings)
+    → new.count ≡ old.count + length findings → HasShown script (errors ++ map (shifted n) lexical) (done ++ map (moved_by n) inner) new
+shows_more script old new n errors lexical done inner steps kind findings order is stand shown name lines count =
     let told_inner : flat_map told_in steps ≡ flat_map told_in inner =
     ap (flat_map told_in) is ∙ (flat_map-append told_in inner (sent.Exit ∷ []) ∙ append-nil (flat_map told_in inner)) in
     let order_inner : AreInOrder (all_told lexical inner) findings = subst (λ ts. AreInOrder (map told_lexical lexical ++ ts) findings) told_inner order in
@@ -326,8 +332,7 @@ shows_more old new n errors lexical done inner steps kind findings order is stan
       findings = shown.findings ++ more;
       in_order = in_order n errors lexical done inner shown.findings findings shown.in_order order_inner stand;
       lines = lines
-          ∙ (ap (λ l. l ++ error_texts old.name.now old.place.text more) shown.lines
-          ∙ (sym (flat_map-append _ shown.findings more)
-          ∙ (ap (λ name. error_texts name old.place.text (shown.findings ++ more)) (sym same.name_is) ∙ ap (λ text. error_texts new.name.now text (shown.findings ++ more)) (sym same.text_is))));
+          ∙ (ap (λ l. l ++ error_texts old.name.now script more) shown.lines
+          ∙ (sym (flat_map-append _ shown.findings more) ∙ ap (λ name. error_texts name.now script (shown.findings ++ more)) (sym name)));
       count = omega (arith, count, before, length-append shown.findings more, length-map findings (moved_finding n));
     }

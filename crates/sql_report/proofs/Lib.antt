@@ -1,4 +1,7 @@
-pub mod Walks
+pub mod LastLines
+pub mod LineColumns
+pub mod Windows
+pub mod WindowLines
 pub mod Bounds
 pub mod OpenNodeLemmas
 pub mod JsonLemmas

@@ -41,18 +41,13 @@ error_texts name text findings = flat_map (λ finding. error_at name text findin
 
 -- ---- part by part
 
--- the errors of a text that is called by a name
-pub record IsOf (name text : List ℕ) (shown : ErrorLines) : Type 0 where
-  pub name_is : shown.name.now ≡ name
-  pub text_is : shown.place.text ≡ text
-
 -- an error of a part that begins at a byte
 abbrev pub moved_finding : ℕ → Finding → Finding
 moved_finding start finding = record finding { at = start + finding.at }
 
--- these lexical errors and those of these steps are shown, in the order of their places
-pub record HasShown (errors : List LexicalError) (done : List OwnedStep) (shown : ErrorLines) : Type 0 where
+-- these lexical errors of a script and those of these steps are shown, in the order of their places
+pub record HasShown (script : List ℕ) (errors : List LexicalError) (done : List OwnedStep) (shown : ErrorLines) : Type 0 where
   pub findings : List Finding
   pub in_order : AreInOrder (all_told errors done) findings
-  pub lines : shown.lines.items ≡ error_texts shown.name.now shown.place.text findings
+  pub lines : shown.lines.items ≡ error_texts shown.name.now script findings
   pub count : shown.count ≡ length findings

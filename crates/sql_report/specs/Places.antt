@@ -1,6 +1,7 @@
 -- Lines and columns, and what is shown of a line.
-use Rattle.std.specs.Prelude.{◌≡◌, ℕ, ◌+◌, ◌-◌, ◌≤◌, ◌==◌, nat_lt, not, ◌&&◌, Bool, List, [], ◌∷◌, length, take, drop, if◌then◌else◌}
+use Rattle.std.specs.Prelude.{◌≡◌, ◌⊎◌, ℕ, ◌+◌, ◌-◌, ◌^◌, ◌<◌, ◌≤◌, ◌==◌, nat_lt, not, ◌&&◌, Bool, true, List, [], ◌∷◌, ◌++◌, length, take, drop, if◌then◌else◌}
 use Rattle.std.specs.List.{count_by, list_any, prefix_len, take_while}
+use Rattle.sql_report.specs.declared.line_column.LineColumn.{LineColumn}
 
 -- a line feed
 abbrev pub is_feed : ℕ → Bool
@@ -44,22 +45,58 @@ shown_behind text at =
     let rest = drop at text in
     take_while is_in_line (take (100 + prefix_len is_continuation (drop 100 rest)) rest)
 
--- ---- a walk over a text
+-- ---- the byte after those that are read
 
--- a text, and a byte of it or its end
+-- so few bytes that the line and the column after them fit 64 bits
+abbrev pub AreCountable : List ℕ → Type 0
+AreCountable bytes = length bytes + 1 < 2 ^ 64
+
+-- the line and the column of the byte after these bytes of a script
+pub record IsLineColumn (read : List ℕ) (c : LineColumn) : Type 0 where
+  pub line_is : c.line ≡ line_at read (length read)
+  pub column_is : c.column ≡ column_at read (length read)
+
+-- ---- windows on a script
+
+-- some bytes of a script, the line and the column of the first, and one of them or their end
 pub record Spot : Type 0 where
-  pub text : List ℕ
+  pub window : List ℕ
+  pub before : LineColumn
   pub at : ℕ
 
--- it is a byte, or the end where that comes before the byte
-pub record IsPlaceOf (spot : Spot) (at : ℕ) : Type 0 where
-  pub front : take spot.at spot.text ≡ take at spot.text
-  pub behind : drop spot.at spot.text ≡ drop at spot.text
+-- another byte of the same window
+pub record IsSameWindow (old new : Spot) : Type 0 where
+  pub window : new.window ≡ old.window
+  pub before : new.before ≡ old.before
 
--- what is counted on the way is the line and the column of the byte, and where its line starts
-pub record IsCounted (text : List ℕ) (at line column line_start : ℕ) : Type 0 where
-  pub within : at ≤ length text
-  pub line_is : line ≡ line_at text at
-  pub column_is : column ≡ column_at text at
-  pub starts : line_start ≤ at
-  pub front : drop line_start (take at text) ≡ last_line (take at text)
+-- A window stands in a script after some bytes and before a rest, and begins at the line and the column after these bytes. All
+-- up to its end can be counted.
+pub record IsWindowOf (script passed rest : List ℕ) (place : Spot) : Type 0 where
+  pub script_is : script ≡ passed ++ (place.window ++ rest)
+  pub before_is : IsLineColumn passed place.before
+  pub countable : AreCountable (passed ++ place.window)
+
+-- A byte of a script is one of a window or of its end, or stands after the script's end.
+pub record StandsIn (passed rest window : List ℕ) (at : ℕ) : Type 0 where
+  pub begun : length passed ≤ at
+  pub within : (rest ≡ []) ⊎ (at ≤ length passed + length window)
+
+-- What is counted on the way to a byte is its line and its column, whatever stands before the window.
+pub record IsCounted (window : List ℕ) (before : LineColumn) (at : ℕ) (here : LineColumn) : Type 0 where
+  pub within : at ≤ length window
+  pub counts : (passed : List ℕ) → IsLineColumn passed before → AreCountable (passed ++ take at window) → IsLineColumn (passed ++ take at window) here
+
+-- The window has all that is shown of the line at a byte: before it 100 bytes or all of the script, and from it on a line feed or
+-- all of the script.
+pub record SeesLine (passed rest window : List ℕ) (at : ℕ) : Type 0 where
+  pub enough_before : (passed ≡ []) ⊎ (100 ≤ length (take at window))
+  pub line_ends : (rest ≡ []) ⊎ (list_any is_feed (drop at window) ≡ true)
+
+-- A part with so many bytes begins at a byte of a script, which is a byte of a window. The window has all that is shown of the
+-- line at each of them and at the part's end.
+pub record IsPartOfWindow (script passed rest : List ℕ) (place : Spot) (at start len : ℕ) : Type 0 where
+  pub window_of : IsWindowOf script passed rest place
+  pub begins : at ≡ length passed + start
+  pub within : start + len ≤ length place.window
+  pub enough_before : (passed ≡ []) ⊎ (100 ≤ start)
+  pub line_ends : (rest ≡ []) ⊎ (list_any is_feed (drop (start + len) place.window) ≡ true)

@@ -1,5 +1,5 @@
 //! What is wrong with a text.
-ghost use Rattle.std.specs.Prelude.{◌≡◌, ◌++◌, IfOk, OnOk, encode_utf8_all, map};
+ghost use Rattle.std.specs.Prelude.{◌≡◌, ◌≤◌, ◌++◌, All, IfOk, OnOk, encode_utf8_all, length, map};
 ghost use Rattle.std.specs.List.{flat_map};
 ghost use Rattle.std.specs.Str.{chars};
 ghost use Rattle.squawk_table.specs.Sent.{sent_list};
@@ -27,7 +27,8 @@ pub(crate) fn findings<'s>(
     output: &'s Output,
 ) -> Result<Vec<Finding<'s>>, AllocError>
     requires { Fits table.now output.now.steps }
-    ensures { IfOk result (λ all. AreInOrder (all_told table.now.errors (sent_list table.now output.now.steps)) all.items) }
+    ensures order { IfOk result (λ all. AreInOrder (all_told table.now.errors (sent_list table.now output.now.steps)) all.items) }
+    ensures within { IfOk result (λ all. All (λ finding. finding.at ≤ length table.now.text) all.items) }
 {
     let mut all = lexical_findings(alloc, table)?;
     let _raw_count = table.len();

@@ -1,131 +1,117 @@
-//! Lines and columns.
+//! Bytes of a window, and what is shown of their lines.
 ghost use Rattle.std.specs.Prelude.{◌≡◌, ◌+◌, ◌≤◌, length, take, drop};
 ghost use Rattle.std.specs.List.{prefix_len, take_while};
-ghost use Rattle.sql_report.specs.Places.{is_continuation, is_in_line};
+ghost use Rattle.sql_report.specs.Places.{is_continuation, is_in_line, last_line};
 
+use crate::line_column::{LineColumn, is_continuation};
 use std::marker::Model;
 
-/// So many bytes of a line are shown in front of a place, and so many behind it.
+/// So many bytes of a line are shown before a place, and so many after it.
 const MOST_SHOWN: usize = 100;
 
-/// A byte of a text, with its line and its column.
+/// A byte of a window on a script, with its line and its column in the script.
 ///
-/// Going on to a byte takes a walk over those between, so that places in ascending order take one walk
-/// over the text.
+/// A window is some bytes of the script: earlier ones may be gone, and later ones not read yet. Going on to
+/// a byte takes a walk over those between, so that places in ascending order take one walk over the window.
 #[derive(Drop)]
-pub(crate) struct Place<'t> {
-    text: &'t [u8],
+pub struct Place<'w> {
+    window: &'w [u8],
+    before: LineColumn,
     at: usize,
-    line: usize,
-    column: usize,
-    line_start: usize,
+    here: LineColumn,
 }
 
-impl<'t> Model for Place<'t> {
+impl<'w> Model for Place<'w> {
     ghost use Rattle.sql_report.specs.Places.{IsCounted, Spot};
 
     ghost Value = { Spot };
 
-    ghost view = { λ p. record { text = p.text.now; at = p.at } };
+    ghost view = { λ p. record { window = p.window.now; before = p.before; at = p.at } };
 
-    ghost invariant = { λ p. IsCounted p.text.now p.at p.line p.column p.line_start };
+    ghost invariant = { λ p. IsCounted p.window.now p.before p.at p.here };
 }
 
-impl<'t> Place<'t> {
-    ghost use Rattle.std.specs.Prelude.{◌≡◌, ◌<◌, ◌+◌, length};
-    ghost use Rattle.sql_report.specs.Places.{IsPlaceOf, column_at, line_at, shown_before, shown_behind};
+impl<'w> Place<'w> {
+    ghost use Rattle.std.specs.Prelude.{◌≡◌, ◌++◌, ◌+◌, [], List, ℕ, min, take, length};
+    ghost use Rattle.sql_report.specs.Places.{AreCountable, IsLineColumn, IsSameWindow, IsWindowOf, shown_before, shown_behind};
 
-    /// The beginning of a text.
-    pub(crate) fn start(text: &'t str) -> Place<'t>
-        ensures { result ≡ record { text = text.entry.now; at = 0 } }
+    /// The beginning of a window, where the script has this line and column.
+    pub fn new(window: &'w [u8], before: LineColumn) -> Place<'w>
+        ensures { result ≡ record { window = window.entry.now; before = before; at = 0 } }
     {
         Place {
-            text: text.as_bytes(),
+            window,
+            before,
             at: 0,
-            line: 1,
-            column: 1,
-            line_start: 0,
+            here: before,
         }
     }
 
-    /// Goes to a byte, or to the end of the text where that comes before it.
-    pub(crate) fn go_to(&mut self, at: usize)
-        ensures text { self.new.text ≡ self.old.text }
-        ensures place { IsPlaceOf self.new at }
+    /// The beginning of a window that is all of a script.
+    pub fn whole(script: &'w str) -> Place<'w>
+        ensures window { result.window ≡ script.entry.now }
+        ensures of { IsWindowOf script.entry.now [] [] result }
     {
-        if at < self.at {
-            self.go_back();
-        }
-        let end = at.min(self.text.len());
-        while self.at < end {
-            self.pass();
-        }
+        Place::new(script.as_bytes(), LineColumn::start())
     }
 
-    /// Goes to the byte that stands so many bytes after another, or to the end of the text.
-    pub(crate) fn go_on(&mut self, start: usize, at: usize)
-        ensures text { self.new.text ≡ self.old.text }
-        ensures place { IsPlaceOf self.new (start + at) }
+    /// Goes to a byte of the window, or to its end where that comes before the byte.
+    pub fn go_to(&mut self, at: usize)
+        ensures window { IsSameWindow self.old self.new }
+        ensures at { self.new.at ≡ min at (length self.new.window) }
     {
-        let end = self.text.len();
+        let end = at.min(self.window.len());
+        if end < self.at {
+            self.at = 0;
+            self.here = self.before;
+        }
+        self.here.pass(&self.window[self.at..end]);
+        self.at = end;
+    }
+
+    /// Goes to the byte that stands so many bytes after another, or to the end of the window.
+    pub fn go_on(&mut self, start: usize, at: usize)
+        ensures window { IsSameWindow self.old self.new }
+        ensures at { self.new.at ≡ min (start + at) (length self.new.window) }
+    {
+        let end = self.window.len();
         self.go_to(start.saturating_add(at).min(end));
     }
 
-    /// Goes to the beginning of the text.
-    fn go_back(&mut self)
-        ensures { self.new ≡ record self.old { at = 0 } }
+    /// The line and the column in the script.
+    pub fn line_column(&self) -> LineColumn
+        ensures { (passed : List ℕ) → IsLineColumn passed self.now.before → AreCountable (passed ++ self.now.window)
+            → IsLineColumn (passed ++ take self.now.at self.now.window) result }
     {
-        self.at = 0;
-        self.line = 1;
-        self.column = 1;
-        self.line_start = 0;
-    }
-
-    /// Goes over a byte.
-    fn pass(&mut self)
-        requires { self.old.at < length self.old.text }
-        ensures { self.new ≡ record self.old { at = self.old.at + 1 } }
-    {
-        let byte = self.text[self.at];
-        self.at += 1;
-        if byte == b'\n' {
-            self.line += 1;
-            self.column = 1;
-            self.line_start = self.at;
-        } else if !is_continuation(byte) {
-            self.column += 1;
-        }
-    }
-
-    /// The number of the line, from 1.
-    pub(crate) fn line(&self) -> usize
-        ensures { result ≡ line_at self.now.text self.now.at }
-    {
-        self.line
-    }
-
-    /// The number of the character in its line, from 1.
-    pub(crate) fn column(&self) -> usize
-        ensures { result ≡ column_at self.now.text self.now.at }
-    {
-        self.column
+        self.here
     }
 
     /// What stands in the line before the place: its last 100 bytes, from the beginning of a character.
-    pub(crate) fn before(&self) -> &'t [u8]
-        ensures { result.now ≡ shown_before self.now.text self.now.at }
+    pub fn before(&self) -> &'w [u8]
+        ensures { result.now ≡ shown_before self.now.window self.now.at }
     {
-        let front = &self.text[self.line_start..self.at];
-        let near = &front[front.len().saturating_sub(MOST_SHOWN)..];
+        let front = &self.window[..self.at];
+        let near = last_line(&front[front.len().saturating_sub(MOST_SHOWN)..]);
         &near[continuation_len(near)..]
     }
 
     /// What stands in the line from the place on: its first 100 bytes, up to the end of a character.
-    pub(crate) fn behind(&self) -> &'t [u8]
-        ensures { result.now ≡ shown_behind self.now.text self.now.at }
+    pub fn behind(&self) -> &'w [u8]
+        ensures { result.now ≡ shown_behind self.now.window self.now.at }
     {
-        line_of(whole_characters(&self.text[self.at..]))
+        line_of(whole_characters(&self.window[self.at..]))
     }
+}
+
+/// What stands after the last line feed.
+fn last_line(text: &[u8]) -> &[u8]
+    ensures { result.now ≡ last_line text.now }
+{
+    let mut start = text.len();
+    while start > 0 && text[start - 1] != b'\n' {
+        start -= 1;
+    }
+    &text[start..]
 }
 
 /// The first 100 bytes, with those that end the last of their characters.
@@ -168,11 +154,4 @@ fn continuation_len(text: &[u8]) -> usize
     text.iter()
         .take_while(|byte| is_continuation(**byte))
         .count()
-}
-
-/// Whether a byte of UTF-8 belongs to a character that begins before it.
-pub(crate) fn is_continuation(byte: u8) -> bool
-    ensures { result ≡ is_continuation byte }
-{
-    0x80 <= byte && byte < 0xC0
 }

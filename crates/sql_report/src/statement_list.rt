@@ -10,6 +10,7 @@ ghost use Rattle.sql_grammar.specs.ReadParts.{ErrorsBelow};
 ghost use Rattle.sql_report.specs.OpenNodes.{closed, front_nodes, statements_left};
 ghost use Rattle.sql_report.specs.Statements.{statement_line, statement_lines, statements_of};
 
+use crate::line_column::LineColumn;
 use crate::place::Place;
 use squawk_kinds::{KindNames, SyntaxKind};
 use squawk_output::Output;
@@ -132,11 +133,61 @@ fn push_closed(
     Ok(())
 }
 
-/// A line for each statement: its bytes, the line and the column of the first, and its kind by name.
+/// A line for each statement of a script, part by part: its bytes, the line and the column of the first, and its kind by name.
 ///
 /// ```text
 /// 0..9 1:1 QUERY
 /// ```
+#[derive(Drop)]
+pub struct StatementLines<'n, 's> {
+    names: KindNames<'n, 's>,
+    /// The lines.
+    pub lines: String,
+}
+
+impl<'n, 's> StatementLines<'n, 's> {
+    ghost use Rattle.std.specs.Prelude.{◌≡◌, ◌++◌, [], List, ℕ, All, OnOk, length, map, string_bytes};
+    ghost use Rattle.sql_report.specs.Places.{IsSameWindow, IsWindowOf, StandsIn};
+    ghost use Rattle.sql_report.specs.Statements.{statement_lines};
+
+    /// No lines. Kinds have these names.
+    pub fn new(alloc: Global, names: &'n [(SyntaxKind, &'s str)]) -> StatementLines<'n, 's>
+        ensures names { result.names ≡ map (λ pair. (pair.0, pair.1.now)) names.now }
+        ensures none { string_bytes result.lines ≡ [] }
+    {
+        StatementLines {
+            names: KindNames::new(alloc, names),
+            lines: String::new(alloc),
+        }
+    }
+
+    /// Adds the lines of statements that begin in a window, which begins at a byte of the script.
+    pub fn part(
+        &mut self,
+        place: &mut Place<'_>,
+        start: usize,
+        statements: &[Statement],
+    ) -> Result<(), AllocError>
+        ensures names { self.new.names ≡ self.old.names }
+        ensures window { IsSameWindow place.old place.new }
+        ensures lines { OnOk result ((script passed rest : List ℕ) → length passed ≡ start → IsWindowOf script passed rest place.old
+            → All (λ statement. StandsIn passed rest place.old.window statement.start) statements.now
+            → string_bytes self.new.lines ≡ string_bytes self.old.lines ++ statement_lines script self.old.names statements.now) }
+    {
+        for statement in statements {
+            place.go_to(statement.start.saturating_sub(start));
+            push_statement(
+                &mut self.lines,
+                &mut self.names,
+                place.line_column(),
+                *statement,
+            )?;
+        }
+        Ok(())
+    }
+}
+
+/// The lines of statements of a text, in the same form.
 pub fn statement_lines(
     alloc: Global,
     text: &str,
@@ -146,33 +197,23 @@ pub fn statement_lines(
     ensures { IfOk result (λ lines. string_bytes lines
         ≡ statement_lines text.now (map (λ pair. (pair.0, pair.1.now)) names.now) statements.now) }
 {
-    let mut lines = String::new(alloc);
-    let mut names = KindNames::new(alloc, names);
-    let mut place = Place::start(text);
-    for statement in statements {
-        place.go_to(statement.start);
-        push_statement(
-            &mut lines,
-            &mut names,
-            place.line(),
-            place.column(),
-            *statement,
-        )?;
-    }
-    Ok(lines)
+    let mut lines = StatementLines::new(alloc, names);
+    let mut place = Place::whole(text);
+    lines.part(&mut place, 0, statements)?;
+    Ok(lines.lines)
 }
 
-/// Puts the line of a statement behind others.
+/// Puts the line of a statement after others.
 fn push_statement(
     lines: &mut String,
     names: &mut KindNames<'_, '_>,
-    line: usize,
-    column: usize,
+    at: LineColumn,
     statement: Statement,
 ) -> Result<(), AllocError>
-    ensures line { OnOk result (string_bytes lines.new ≡ string_bytes lines.old ++ statement_line line column names.old statement) }
+    ensures line { OnOk result (string_bytes lines.new ≡ string_bytes lines.old ++ statement_line at.line at.column names.old statement) }
     ensures same { names.new ≡ names.old }
 {
+    let LineColumn { line, column } = at;
     let Statement { kind, start, end } = statement;
     write!(lines, "{start}..{end} {line}:{column} ")?;
     write_name(lines, names, kind)?;

@@ -1,4 +1,4 @@
-use Rattle.std.proofs.Common.{◌≡◌, ◌∙◌, ◌+◌, List, [], ◌∷◌, ◌++◌, ap, arith, map, refl}
+use Rattle.std.proofs.Common.{◌≡◌, ◌∙◌, ◌+◌, List, [], ◌∷◌, ◌++◌, ap, arith, inl, map, refl}
 use Rattle.sql_report.specs.ErrorLines.{error_texts, moved_finding}
 use Rattle.sql_report.specs.declared.finding_list.Finding.{Finding}
 use Rattle.sql_report.proofs.errors.error_lines.Goals as goal
@@ -11,9 +11,8 @@ not_moved (f ∷ findings) =
 
 pub returns : goal.returns
 returns c =
-    let of = c.new-shown.ensures.of in
+    let text = c.args.text.now in
     let findings = c.args.findings.now in
-    c.in_ok-extend.ensures.lines
-    ∙ (ap (λ lines. lines ++ error_texts c.new-shown.result.name.now c.new-shown.result.place.text (map (moved_finding 0) findings)) c.new-shown.ensures.empty.0
-    ∙ (ap (λ fs. error_texts c.new-shown.result.name.now c.new-shown.result.place.text fs) (not_moved findings)
-    ∙ (ap (λ name. error_texts name c.new-shown.result.place.text findings) of.name_is ∙ ap (λ text. error_texts c.args.name.now text findings) of.text_is)))
+    c.in_ok-extend.ensures.lines text [] [] c.whole-place.ensures.of (λ i d lt. record { enough_before = inl refl; line_ends = inl refl })
+    ∙ (ap (λ lines. lines ++ error_texts c.new-shown.result.name.now text (map (moved_finding 0) findings)) c.new-shown.ensures.empty.0
+    ∙ (ap (error_texts c.new-shown.result.name.now text) (not_moved findings) ∙ ap (λ name. error_texts name text findings) c.new-shown.ensures.name))

@@ -2,7 +2,7 @@ use Rattle.std.proofs.Common.{◌≡◌, ◌∙◌, ◌++◌, ℕ, List, [], ◌
 use Rattle.std.proofs.lemmas.Result.{on_ok_weaker}
 use Rattle.sql_report.specs.ErrorLines.{heading, mark}
 use Rattle.sql_report.specs.Findings.{told}
-use Rattle.sql_report.specs.Places.{column_at, line_at, shown_before, shown_behind}
+use Rattle.sql_report.specs.Places.{shown_before, shown_behind}
 use Rattle.sql_report.proofs.errors.push_error.Goals as goal
 
 grouped : (old first second third fourth fifth : List ℕ)
@@ -11,11 +11,11 @@ grouped old first second third fourth fifth = simp append_assoc
 
 pub returns : goal.returns
 returns c =
-    let spot = c.args.place.now in
-    let before = shown_before spot.text spot.at in
-    let behind = shown_behind spot.text spot.at in
-    let shown = heading c.args.name.now (line_at spot.text spot.at) (column_at spot.text spot.at) (told c.args.finding) in
-    let heading_is : c.as_bytes.result.now ≡ shown = c.as_bytes.ensures.value ∙ rw (← c.line.ensures, ← c.column.ensures) c.in_ok-heading.ensures in
+    let place = c.args.place.now in
+    let before = shown_before place.window place.at in
+    let behind = shown_behind place.window place.at in
+    let shown = heading c.args.name.now c.args.at.line c.args.at.column (told c.args.finding) in
+    let heading_is : c.as_bytes.result.now ≡ shown = c.as_bytes.ensures.value ∙ c.in_ok-heading.ensures in
     on_ok_weaker c.push_mark.result
     (λ same. same
     ∙ rw (
