@@ -15,7 +15,7 @@ use crate::sql::Sql;
 use crate::unread::Unread;
 use sql_grammar::ScriptParts;
 use sql_lexer::{ScriptPlace, TokenizeError, tokenize_script};
-use sql_report::{Asked, ErrorLines, Walk, Walked, statement_lines, token_lines};
+use sql_report::{Asked, ErrorLines, Place, Walk, Walked, statement_lines, token_lines};
 use sql_words::SqlKind;
 use std::alloc::{AllocError, Global};
 
@@ -53,10 +53,11 @@ impl Report {
     {
         let raw_lines = raw_lines(alloc, listing, text)?;
         let mut parts = ScriptParts::new(alloc, text, ScriptPlace::Front, true)?;
-        let mut errors = ErrorLines::new(alloc, name, text);
+        let mut errors = ErrorLines::new(alloc, name);
+        let mut place = Place::whole(text);
         let mut walk = Walk::new(alloc, sql.names(), asked(listing), SqlKind::SOURCE_FILE)?;
         while let Some(part) = parts.next_part(BYTES_IN_PART, &sql.vocabulary, &sql.rules)? {
-            errors.part(&part.table, &part.output, part.start)?;
+            errors.part(&mut place, &part.table, &part.output, part.start)?;
             walk.part(&part.table, &part.output, part.start)?;
         }
         let walked = walk.finish()?;

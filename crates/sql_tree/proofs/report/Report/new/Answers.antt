@@ -1,4 +1,4 @@
-use Rattle.std.proofs.Common.{◌≡◌, ◌≢◌, ◌∙◌, [], ◌∷◌, ◌++◌, ◌≤◌, ap, append_assoc, arith, drop, length, length-append, map, refl, rules, subst, sym, true}
+use Rattle.std.proofs.Common.{Bor, List, ℕ, ◌≡◌, ◌≢◌, ◌∙◌, [], ◌∷◌, ◌++◌, ◌+◌, ◌≤◌, ap, append_assoc, arith, drop, inl, length, length-append, map, refl, rules, subst, sym, true}
 use Rattle.std.specs.Prelude.{IfSome, string_bytes}
 use Rattle.std.specs.List.{flat_map}
 use Rattle.std.proofs.lemmas.Grind.{flat_map-append}
@@ -15,16 +15,18 @@ use Rattle.sql_report.specs.Drawn.{drawn}
 use Rattle.sql_report.specs.ErrorLines.{error_texts}
 use Rattle.sql_report.specs.Findings.{AreInOrder, told_in, told_lexical}
 use Rattle.sql_report.specs.JsonTrees.{HasTreeLines}
+use Rattle.sql_report.specs.Places.{IsPartOfWindow}
 use Rattle.sql_report.specs.Statements.{statements_of}
 use Rattle.sql_report.specs.TokenLines.{token_lines}
 use Rattle.sql_report.specs.declared.one_walk.Asked.TheVariants.{Errors}
+use Rattle.sql_report.proofs.Windows.{of_same}
 use Rattle.sql_tree.specs.Listings.{asked_for}
 use Rattle.sql_tree.specs.declared.options.Listing.TheVariants.{Tokens, Quiet}
 use Rattle.sql_tree.proofs.report.Report.new.Goals as goal
 
 pub loop-walk-init : goal.loop-walk-init
 loop-walk-init c =
-    let shown = c.new-errors.ensures.none in
+    let shown = c.new-errors.ensures.none c.args.text.now in
     record {
       of_text = c.in_ok-parts.ensures.begins.all refl;
       begun = c.in_ok-parts.ensures.begins.begun;
@@ -35,7 +37,9 @@ loop-walk-init c =
       has = c.in_ok-parts.ensures.reads refl c.args.sql.now.vocabulary c.args.sql.now.rules c.args.sql.now.keywords [];
       at = ap (λ (l : Lexing). l.at) (sym c.in_ok-parts.ensures.begins.lexer);
       left = sym (c.in_ok-parts.ensures.begins.all refl) ∙ ap (λ (l : Lexing). drop l.at l.text) (sym c.in_ok-parts.ensures.begins.lexer);
-      of = c.new-errors.ensures.of;
+      name = c.new-errors.ensures.name;
+      window = c.whole-place.ensures.window;
+      of = c.whole-place.ensures.of;
       room = omega (arith, c.new-errors.ensures.empty.1);
       shown = record { findings = shown.findings; in_order = shown.in_order; lines = shown.lines; count = shown.count };
       asked = c.in_ok-walk.ensures.asked ∙ c.asked.ensures.asked;
@@ -53,7 +57,19 @@ loop-walk-preserved c =
     let start : length before.read ≡ part.start = before.at ∙ sym reads.start in
     let stand : AreBefore part.start before.lexical before.done =
     subst (λ n. AreBefore n before.lexical before.done) start (reads.before [] before.read before.lexical before.done before.has) in
-    let of = c.in_ok-part-2.ensures.of in
+    let text = c.args.text.now in
+    let gone = c.part.ensures.window in
+    let within : part.start + length part.table.text ≤ length c.loop-walk.place.window = omega (
+      arith,
+      start,
+      ap length before.window,
+      ap length before.left,
+      ap length reads.text,
+      length-append before.read (text_left c.loop-walk.parts),
+      length-append part.table.text (text_left c.next_part.new.self),
+    ) in
+    let in_window : IsPartOfWindow text [] [] c.loop-walk.place part.start part.start (length part.table.text) =
+    record { window_of = before.of; begins = omega arith; within = within; enough_before = inl refl; line_ends = inl refl } in
     let same = c.in_ok-part-3.ensures.same in
     record {
       of_text = reads.same.0 ∙ before.of_text;
@@ -67,9 +83,11 @@ loop-walk-preserved c =
           (reads.reads [] before.read before.lexical before.done (λ last. refl) before.has (omega (arith, start, reads.short)));
       at = omega (arith, start, reads.end, length-append before.read part.table.text);
       left = before.left ∙ (ap (λ xs. before.read ++ xs) reads.text ∙ sym (append_assoc before.read part.table.text (text_left c.next_part.new.self)));
-      of = record { name_is = of.name_is ∙ before.of.name_is; text_is = of.text_is ∙ before.of.text_is };
+      name = ap (λ (name : Bor (List ℕ)). name.now) c.part.ensures.name ∙ before.name;
+      window = gone.window ∙ before.window;
+      of = of_same text [] [] c.loop-walk.place c.part.new.place gone before.of;
       room = c.in_ok-part-2.ensures.room;
-      shown = c.in_ok-part-2.ensures.shows before.lexical before.done reads.inner SOURCE_FILE reads.sent_is stand before.shown;
+      shown = c.in_ok-part-2.ensures.shows text [] [] part.start before.lexical before.done reads.inner SOURCE_FILE in_window reads.sent_is stand before.shown;
       asked = same.asked ∙ before.asked;
       names = same.kind_names ∙ before.names;
       tells = c.in_ok-part-3.ensures.tells before.done reads.inner SOURCE_FILE reads.sent_is stand.bytes before.tells;
@@ -108,7 +126,7 @@ returns-clause-told c =
       parse = parse;
       findings = all.shown.findings;
       in_order = subst (λ steps. AreInOrder (map told_lexical all.lexical ++ steps) all.shown.findings) told all.shown.in_order;
-      errors = all.shown.lines ∙ (ap (λ name. error_texts name c.loop-walk.errors.place.text all.shown.findings) all.of.name_is ∙ ap (λ text. error_texts c.args.name.now text all.shown.findings) all.of.text_is);
+      errors = all.shown.lines ∙ ap (λ name. error_texts name text all.shown.findings) all.name;
       error_count = all.shown.count;
       list = c.in_ok-listing.ensures.listed sent is_drawn counts raw;
       values = λ json.

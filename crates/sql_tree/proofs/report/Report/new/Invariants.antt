@@ -4,7 +4,8 @@ use Rattle.squawk_table.specs.declared.shortcuts.str_step.OwnedStep.{OwnedStep}
 use Rattle.squawk_tokens.specs.LexicalErrors.{LexicalError}
 use Rattle.sql_lexer.specs.declared.script.script_place.ScriptPlace.TheVariants.{Front}
 use Rattle.sql_grammar.specs.ReadParts.{HasRead, left_of, text_left}
-use Rattle.sql_report.specs.ErrorLines.{HasShown, IsOf}
+use Rattle.sql_report.specs.ErrorLines.{HasShown}
+use Rattle.sql_report.specs.Places.{IsWindowOf}
 use Rattle.sql_report.specs.OnTheWay.{Tells}
 use Rattle.sql_tree.specs.Listings.{asked_for}
 use Rattle.sql_tree.proofs.report.Report.new.Given as goal
@@ -20,9 +21,11 @@ invariant-loop-walk l = record {
   has : HasRead l.sql.vocabulary l.sql.rules l.parts [] read lexical done;
   at : length read ≡ l.parts.lexer.at;
   left : l.text ≡ read ++ text_left l.parts;
-  of : IsOf l.name l.text l.errors;
+  name : l.errors.name.now ≡ l.name;
+  window : l.place.window ≡ l.text;
+  of : IsWindowOf l.text [] [] l.place;
   room : l.errors.count ≤ length l.errors.lines.items;
-  shown : HasShown lexical done l.errors;
+  shown : HasShown l.text lexical done l.errors;
   asked : l.walk.asked ≡ asked_for l.fn.listing;
   names : l.walk.kind_names ≡ names_of l.sql.names.items;
   tells : Tells l.walk done;
