@@ -15,11 +15,10 @@ use Rattle.sql_report.specs.Drawn.{drawn}
 use Rattle.sql_report.specs.ErrorLines.{error_texts}
 use Rattle.sql_report.specs.Findings.{AreInOrder, told_in, told_lexical}
 use Rattle.sql_report.specs.JsonTrees.{HasTreeLines}
-use Rattle.sql_report.specs.Places.{IsPartOfWindow}
+use Rattle.sql_report.specs.Places.{AreCountable, IsLineColumn, IsPartOfWindow}
 use Rattle.sql_report.specs.Statements.{statements_of}
 use Rattle.sql_report.specs.TokenLines.{token_lines}
 use Rattle.sql_report.specs.declared.one_walk.Asked.TheVariants.{Errors}
-use Rattle.sql_report.proofs.Windows.{of_same}
 use Rattle.sql_tree.specs.Listings.{asked_for}
 use Rattle.sql_tree.specs.declared.options.Listing.TheVariants.{Tokens, Quiet}
 use Rattle.sql_tree.proofs.report.Report.new.Goals as goal
@@ -85,7 +84,11 @@ loop-walk-preserved c =
       left = before.left ∙ (ap (λ xs. before.read ++ xs) reads.text ∙ sym (append_assoc before.read part.table.text (text_left c.next_part.new.self)));
       name = ap (λ (name : Bor (List ℕ)). name.now) c.part.ensures.name ∙ before.name;
       window = gone.window ∙ before.window;
-      of = of_same text [] [] c.loop-walk.place c.part.new.place gone before.of;
+      of = record {
+        script_is = before.of.script_is ∙ ap (λ window. window ++ []) (sym gone.window);
+        before_is = subst (IsLineColumn []) (sym gone.before) before.of.before_is;
+        countable = subst AreCountable (sym gone.window) before.of.countable;
+      };
       room = c.in_ok-part-2.ensures.room;
       shown = c.in_ok-part-2.ensures.shows text [] [] part.start before.lexical before.done reads.inner SOURCE_FILE in_window reads.sent_is stand before.shown;
       asked = same.asked ∙ before.asked;
