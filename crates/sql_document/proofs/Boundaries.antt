@@ -1,7 +1,7 @@
 -- Places between two characters, of a text and of its parts.
-use Rattle.std.proofs.Common.{◌≡◌, ◌∙◌, ◌⊎◌, ⊎_elim, ℕ, suc, ◌+◌, ◌-◌, ◌<◌, ◌≤◌, List, [], ◌∷◌, ◌++◌, drop, length, take, arith, ap, subst, sym, get_or-append-add, length-append}
+use Rattle.std.proofs.Common.{◌≡◌, ◌∙◌, ℕ, suc, ◌+◌, ◌-◌, ◌<◌, ◌≤◌, List, [], ◌∷◌, ◌++◌, drop, length, take, arith, ap, subst, sym, get_or-append-add, length-append}
 use Rattle.std.specs.Prelude.{IsCharBoundary, string_bytes}
-use Rattle.std.proofs.lemmas.List.{drop_all, get_or_append_left}
+use Rattle.std.proofs.lemmas.List.{get_or_append_left}
 use Rattle.sql_document.specs.Pieces.{text_of}
 use Rattle.sql_document.specs.Recuts.{Grows}
 use Rattle.sql_document.specs.declared.piece.Piece.{Piece}
@@ -70,13 +70,6 @@ module _ {Kept : Type 0} (pieces : List (Piece Kept)) (first start place : ℕ) 
 
   -- of which the texts are joined
   module _ (last : ℕ) (text : List ℕ) (grows : Grows pieces [] text first last) where
-    pub reached : place ≤ length (text_of pieces) → (place - start ≤ length text) ⊎ (last ≡ length pieces) → place - start ≤ length text
-    reached within =
-        ⊎_elim (λ (enough : place - start ≤ length text). enough)
-        (λ (all : last ≡ length pieces).
-        let none : drop last pieces ≡ [] = drop_all last pieces (omega (arith, all)) in
-        omega (arith, begins, within, ap length (text_split first pieces), length-append (text_of (take first pieces)) (text_of (drop first pieces)), ap length grows.tail_is, length-append grows.added (text_of (drop last pieces)), ap length grows.text_is, ap (λ ps. length (text_of ps)) none))
-
     pub joined : place - start ≤ length text → IsCharBoundary (text_of pieces) place → IsCharBoundary text (place - start)
     joined within boundary =
         leave text (text_of (drop last pieces)) (place - start) within

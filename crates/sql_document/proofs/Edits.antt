@@ -1,9 +1,9 @@
 -- A text is edited: the pieces in front stay.
-use Rattle.std.proofs.Common.{◌≡◌, ◌∙◌, ℕ, zero, suc, ◌+◌, ◌-◌, ◌<◌, ◌≤◌, Bool, false, true, Option, Some, None, List, [], ◌∷◌, ◌++◌, length, drop, take, append_assoc, arith, ap, sym, subst, refl, length-append, length-drop, length-take, take-append-drop}
+use Rattle.std.proofs.Common.{◌≡◌, ◌∙◌, ◌⊎◌, ⊎_elim, ℕ, zero, suc, ◌+◌, ◌-◌, ◌<◌, ◌≤◌, Bool, false, true, Option, Some, None, List, [], ◌∷◌, ◌++◌, length, drop, take, append_assoc, arith, ap, sym, subst, refl, length-append, length-drop, length-take, take-append-drop}
 use Rattle.std.specs.Prelude.{string_bytes}
 use Rattle.std.proofs.Math.Seq.{drop-append_seam, take-append-add, drop-append-add, take-append_seam}
 use Rattle.std.proofs.lemmas.Bool.{false≢true}
-use Rattle.std.proofs.lemmas.List.{append-nil, drop-append-le, drop-drop, take-append-le}
+use Rattle.std.proofs.lemmas.List.{append-nil, drop-append-le, drop-drop, drop_all, take-append-le}
 use Rattle.squawk_keywords.specs.declared.keywords.Keywords.{Keywords}
 use Rattle.rule_grammar.specs.declared.rules.RuleGrammar.{RuleGrammar}
 use Rattle.sql_lexer.specs.declared.script.script_place.ScriptPlace.{ScriptPlace}
@@ -12,8 +12,8 @@ use Rattle.sql_grammar.specs.ReadParts.{begun_with}
 use Rattle.sql_grammar.specs.declared.script_parts.Progress.{Progress}
 use Rattle.sql_grammar.specs.declared.script_parts.Progress.TheVariants.{Front, Inside}
 use Rattle.sql_grammar.specs.declared.script_parts.ScriptPart.{ScriptPart}
-use Rattle.sql_document.specs.Pieces.{AreChain, Follows, IsPiece, edited, text_of}
-use Rattle.sql_document.specs.Recuts.{AreTails, Grows, IsBefore, StandBefore}
+use Rattle.sql_document.specs.Pieces.{AreChain, Follows, IsPiece, IsRange, edited, text_of}
+use Rattle.sql_document.specs.Recuts.{AreTails, Grows, IsBefore, IsTouched, StandBefore}
 use Rattle.sql_document.specs.declared.piece.Piece.{Piece}
 use Rattle.sql_document.proofs.Chains.{chain_append, chain_text}
 use Rattle.std.proofs.lemmas.Option.{same_Some}
@@ -131,10 +131,33 @@ module _ {Kept : Type 0} where
   before_within place [] before = omega arith
   before_within place (x ∷ xs) before = omega (arith, before_ends 0 place (x ∷ xs) before (omega arith))
 
+-- the pieces from the first one that an edit touches are joined
+module _ {Kept : Type 0} (pieces : List (Piece Kept)) (rs re first start last : ℕ) (text : List ℕ) (touched : IsTouched pieces rs first start) (range : IsRange rs re (text_of pieces)) (grows : Grows pieces [] text first last)
+    (reaches : (re - start ≤ length text) ⊎ (last ≡ length pieces)) where
+  pub past : start ≤ rs
+  past = omega (arith, touched.begins, before_within rs (take first pieces) touched.before)
+
+  -- all of the range
+  pub reached : re - start ≤ length text
+  reached =
+      ⊎_elim (λ (enough : re - start ≤ length text). enough)
+      (λ (all : last ≡ length pieces).
+      let none : drop last pieces ≡ [] = drop_all last pieces (omega (arith, all)) in
+      omega (arith, touched.begins, range.ends.0, ap length (text_split first pieces), length-append (text_of (take first pieces)) (text_of (drop first pieces)), ap length grows.tail_is, length-append grows.added (text_of (drop last pieces)), ap length grows.text_is, ap (λ ps. length (text_of ps)) none))
+      reaches
+
 module _ {Kept : Type 0} (keeps : ScriptPart → Kept → Type 0) (vocabulary : Keywords) (rules : RuleGrammar) (pieces : List (Piece Kept))
-    (chain : AreChain keeps vocabulary rules (Some script.Front) pieces None (text_of pieces) []) (first last rs re : ℕ) (repl text : List ℕ) (piece : Piece Kept)
-    (there : drop first pieces ≡ piece ∷ drop (suc first) pieces) (before : StandBefore 0 (take first pieces) rs) (grows : Grows pieces [] text first last) (order : rs ≤ re)
-    (high_in : re - length (text_of (take first pieces)) ≤ length text) where
+    (chain : AreChain keeps vocabulary rules (Some script.Front) pieces None (text_of pieces) []) (rs re first start last : ℕ) (text : List ℕ) (touched : IsTouched pieces rs first start) (range : IsRange rs re (text_of pieces))
+    (grows : Grows pieces [] text first last) (reaches : (re - start ≤ length text) ⊎ (last ≡ length pieces)) (repl : List ℕ) (piece : Piece Kept) (there : drop first pieces ≡ piece ∷ drop (suc first) pieces) where
+  abbrev before : StandBefore 0 (take first pieces) rs
+  before = touched.before
+
+  abbrev order : rs ≤ re
+  order = range.order
+
+  high_in : re - length (text_of (take first pieces)) ≤ length text
+  high_in = omega (arith, reached pieces rs re first start last text touched range grows reaches, touched.begins)
+
   abbrev front : List ℕ
   front = text_of (take first pieces)
 

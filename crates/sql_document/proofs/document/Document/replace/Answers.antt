@@ -7,9 +7,9 @@ use Rattle.sql_lexer.specs.declared.script.script_place.ScriptPlace.TheVariants.
 use Rattle.sql_document.specs.Held.{IsHeld}
 use Rattle.sql_document.specs.Pieces.{AreChain, IsDocument, IsRange, edited, text_of}
 use Rattle.sql_document.specs.Recuts.{AreTails, Grows, IsTouched}
-use Rattle.sql_document.proofs.Boundaries.{joined, reached}
+use Rattle.sql_document.proofs.Boundaries.{joined}
 use Rattle.sql_document.proofs.Documents.{document, is_held}
-use Rattle.sql_document.proofs.Edits.{before_within, changed, edited_chain, now_is, some_changed, tails}
+use Rattle.sql_document.proofs.Edits.{before_within, changed, edited_chain, now_is, past, reached, some_changed, tails}
 use Rattle.sql_document.proofs.Refusals.{refused_in}
 use Rattle.sql_document.specs.EditErrors.{RefusesText}
 use Rattle.std.proofs.lemmas.List.{append-nil}
@@ -37,13 +37,13 @@ replace_range-requires-clause-in_bounds g c =
     let view : c.args.self.now.1 ≡ pieces = search rules in
     let touched : IsTouched pieces rs first start = subst (λ ps. IsTouched ps rs first start) view c.requires.touched in
     let range : IsRange rs re (text_of pieces) = subst (λ ps. IsRange rs re (text_of ps)) view c.requires.range in
-    let past : (place : ℕ) → rs ≤ place → start ≤ place = λ place le. omega (arith, touched.begins, le, before_within rs (take first pieces) touched.before) in
     let text = string_bytes c.pull.new.text in
     let last = c.in_ok-last.last in
     let grows : Grows pieces [] text first last =
     subst (λ xs. Grows pieces xs text first last) c.new-text.ensures.bytes (subst (λ ps. Grows ps (string_bytes c.new-text.result) text first last) c.deref.ensures.value c.in_ok-last.ensures.grows) in
     let reaches : (re - start ≤ length text) ⊎ (last ≡ length pieces) = subst (λ ps. (re - start ≤ length text) ⊎ (last ≡ length ps)) c.deref.ensures.value c.in_ok-last.ensures.reaches in
-    let high : re - start ≤ length text = reached pieces first start re touched.begins (past re range.order) last text grows range.ends.0 reaches in
+    let high : re - start ≤ length text = reached pieces rs re first start last text touched range grows reaches in
+    let low : start ≤ rs = past pieces rs re first start last text touched range grows reaches in
     omega (arith, high, c.pull.new.text.bytes.ok.0)
 
 pub replace_range-requires-clause-start_boundary : goal.replace_range-requires-clause-start_boundary
@@ -57,14 +57,14 @@ replace_range-requires-clause-start_boundary g c =
     let view : c.args.self.now.1 ≡ pieces = search rules in
     let touched : IsTouched pieces rs first start = subst (λ ps. IsTouched ps rs first start) view c.requires.touched in
     let range : IsRange rs re (text_of pieces) = subst (λ ps. IsRange rs re (text_of ps)) view c.requires.range in
-    let past : (place : ℕ) → rs ≤ place → start ≤ place = λ place le. omega (arith, touched.begins, le, before_within rs (take first pieces) touched.before) in
     let text = string_bytes c.pull.new.text in
     let last = c.in_ok-last.last in
     let grows : Grows pieces [] text first last =
     subst (λ xs. Grows pieces xs text first last) c.new-text.ensures.bytes (subst (λ ps. Grows ps (string_bytes c.new-text.result) text first last) c.deref.ensures.value c.in_ok-last.ensures.grows) in
     let reaches : (re - start ≤ length text) ⊎ (last ≡ length pieces) = subst (λ ps. (re - start ≤ length text) ⊎ (last ≡ length ps)) c.deref.ensures.value c.in_ok-last.ensures.reaches in
-    let high : re - start ≤ length text = reached pieces first start re touched.begins (past re range.order) last text grows range.ends.0 reaches in
-    let boundary : IsCharBoundary text (rs - start) = joined pieces first start rs touched.begins (past rs (omega arith)) last text grows (omega (arith, high, range.order)) range.begins in
+    let high : re - start ≤ length text = reached pieces rs re first start last text touched range grows reaches in
+    let low : start ≤ rs = past pieces rs re first start last text touched range grows reaches in
+    let boundary : IsCharBoundary text (rs - start) = joined pieces first start rs touched.begins low last text grows (omega (arith, high, range.order)) range.begins in
     (boundary.0, λ some lt. boundary.1 lt)
 
 pub replace_range-requires-clause-end_boundary : goal.replace_range-requires-clause-end_boundary
@@ -78,14 +78,14 @@ replace_range-requires-clause-end_boundary g c =
     let view : c.args.self.now.1 ≡ pieces = search rules in
     let touched : IsTouched pieces rs first start = subst (λ ps. IsTouched ps rs first start) view c.requires.touched in
     let range : IsRange rs re (text_of pieces) = subst (λ ps. IsRange rs re (text_of ps)) view c.requires.range in
-    let past : (place : ℕ) → rs ≤ place → start ≤ place = λ place le. omega (arith, touched.begins, le, before_within rs (take first pieces) touched.before) in
     let text = string_bytes c.pull.new.text in
     let last = c.in_ok-last.last in
     let grows : Grows pieces [] text first last =
     subst (λ xs. Grows pieces xs text first last) c.new-text.ensures.bytes (subst (λ ps. Grows ps (string_bytes c.new-text.result) text first last) c.deref.ensures.value c.in_ok-last.ensures.grows) in
     let reaches : (re - start ≤ length text) ⊎ (last ≡ length pieces) = subst (λ ps. (re - start ≤ length text) ⊎ (last ≡ length ps)) c.deref.ensures.value c.in_ok-last.ensures.reaches in
-    let high : re - start ≤ length text = reached pieces first start re touched.begins (past re range.order) last text grows range.ends.0 reaches in
-    let boundary : IsCharBoundary text (re - start) = joined pieces first start re touched.begins (past re range.order) last text grows high range.ends in
+    let high : re - start ≤ length text = reached pieces rs re first start last text touched range grows reaches in
+    let low : start ≤ rs = past pieces rs re first start last text touched range grows reaches in
+    let boundary : IsCharBoundary text (re - start) = joined pieces first start re touched.begins (omega (arith, low, range.order)) last text grows high range.ends in
     (boundary.0, λ some lt. boundary.1 lt)
 
 pub recut-requires-clause-tails : goal.recut-requires-clause-tails
@@ -106,11 +106,6 @@ recut-requires-clause-some g c = λ inside.
     let view : c.args.self.now.1 ≡ pieces = search rules in
     let touched : IsTouched pieces rs first start = subst (λ ps. IsTouched ps rs first start) view c.requires.touched in
     let range : IsRange rs re (text_of pieces) = subst (λ ps. IsRange rs re (text_of ps)) view c.requires.range in
-    let within = touched.within in
-    let start_is = touched.begins in
-    let before = touched.before in
-    let order = range.order in
-    let past : (place : ℕ) → rs ≤ place → start ≤ place = λ place le. omega (arith, start_is, le, before_within rs (take first pieces) before) in
     let keeps = g.K.Keep.keeps me.keep in
     let sql = me.sql in
     let repl = c.args.replacement.now in
@@ -120,12 +115,10 @@ recut-requires-clause-some g c = λ inside.
     subst (λ xs. Grows pieces xs text first last) c.new-text.ensures.bytes (subst (λ ps. Grows ps (string_bytes c.new-text.result) text first last) c.deref.ensures.value c.in_ok-last.ensures.grows) in
     let reaches : (re - start ≤ length text) ⊎ (last ≡ length pieces) = subst (λ ps. (re - start ≤ length text) ⊎ (last ≡ length ps)) c.deref.ensures.value c.in_ok-last.ensures.reaches in
     let piece = c.index.result.now in
-    let there : drop first pieces ≡ piece ∷ drop (suc first) pieces = drop-at first pieces piece within ∙ ap (λ p. p ∷ drop (suc first) pieces) (search rules) in
-    let high : re - start ≤ length text = reached pieces first start re start_is (past re order) last text grows range.ends.0 reaches in
-    let high_in : re - length (text_of (take first pieces)) ≤ length text = omega (arith, high, start_is) in
-    let changed_is : string_bytes c.replace_range.new.self ≡ changed keeps sql.vocabulary sql.rules pieces c.self.invariant.chain first last rs re repl text piece there before grows order high_in =
-    c.in_ok-replace_range.ensures.bytes ∙ ap (λ n. (take (rs - n) text ++ repl) ++ drop (re - n) text) start_is in
-    subst (λ xs. 0 < length xs) (sym changed_is) (some_changed keeps sql.vocabulary sql.rules pieces c.self.invariant.chain first last rs re repl text piece there before grows order high_in inside)
+    let there : drop first pieces ≡ piece ∷ drop (suc first) pieces = drop-at first pieces piece touched.within ∙ ap (λ p. p ∷ drop (suc first) pieces) (search rules) in
+    let changed_is : string_bytes c.replace_range.new.self ≡ changed keeps sql.vocabulary sql.rules pieces c.self.invariant.chain rs re first start last text touched range grows reaches repl piece there =
+    c.in_ok-replace_range.ensures.bytes ∙ ap (λ n. (take (rs - n) text ++ repl) ++ drop (re - n) text) touched.begins in
+    subst (λ xs. 0 < length xs) (sym changed_is) (some_changed keeps sql.vocabulary sql.rules pieces c.self.invariant.chain rs re first start last text touched range grows reaches repl piece there inside)
 
 pub returns-in_err-new-clause-refused : goal.returns-in_err-new-clause-refused
 returns-in_err-new-clause-refused g c =
@@ -138,11 +131,6 @@ returns-in_err-new-clause-refused g c =
     let view : c.args.self.now.1 ≡ pieces = search rules in
     let touched : IsTouched pieces rs first start = subst (λ ps. IsTouched ps rs first start) view c.requires.touched in
     let range : IsRange rs re (text_of pieces) = subst (λ ps. IsRange rs re (text_of ps)) view c.requires.range in
-    let within = touched.within in
-    let start_is = touched.begins in
-    let before = touched.before in
-    let order = range.order in
-    let past : (place : ℕ) → rs ≤ place → start ≤ place = λ place le. omega (arith, start_is, le, before_within rs (take first pieces) before) in
     let keeps = g.K.Keep.keeps me.keep in
     let sql = me.sql in
     let repl = c.args.replacement.now in
@@ -152,18 +140,16 @@ returns-in_err-new-clause-refused g c =
     subst (λ xs. Grows pieces xs text first last) c.new-text.ensures.bytes (subst (λ ps. Grows ps (string_bytes c.new-text.result) text first last) c.deref.ensures.value c.in_ok-last.ensures.grows) in
     let reaches : (re - start ≤ length text) ⊎ (last ≡ length pieces) = subst (λ ps. (re - start ≤ length text) ⊎ (last ≡ length ps)) c.deref.ensures.value c.in_ok-last.ensures.reaches in
     let piece = c.index.result.now in
-    let there : drop first pieces ≡ piece ∷ drop (suc first) pieces = drop-at first pieces piece within ∙ ap (λ p. p ∷ drop (suc first) pieces) (search rules) in
-    let high : re - start ≤ length text = reached pieces first start re start_is (past re order) last text grows range.ends.0 reaches in
-    let high_in : re - length (text_of (take first pieces)) ≤ length text = omega (arith, high, start_is) in
-    let changed_is : string_bytes c.replace_range.new.self ≡ changed keeps sql.vocabulary sql.rules pieces c.self.invariant.chain first last rs re repl text piece there before grows order high_in =
-    c.in_ok-replace_range.ensures.bytes ∙ ap (λ n. (take (rs - n) text ++ repl) ++ drop (re - n) text) start_is in
+    let there : drop first pieces ≡ piece ∷ drop (suc first) pieces = drop-at first pieces piece touched.within ∙ ap (λ p. p ∷ drop (suc first) pieces) (search rules) in
+    let changed_is : string_bytes c.replace_range.new.self ≡ changed keeps sql.vocabulary sql.rules pieces c.self.invariant.chain rs re first start last text touched range grows reaches repl piece there =
+    c.in_ok-replace_range.ensures.bytes ∙ ap (λ n. (take (rs - n) text ++ repl) ++ drop (re - n) text) touched.begins in
     let reason = c.in_err-new.field-0.0 in
-    let left = changed keeps sql.vocabulary sql.rules pieces c.self.invariant.chain first last rs re repl text piece there before grows order high_in ++ text_of (drop last pieces) in
+    let left = changed keeps sql.vocabulary sql.rules pieces c.self.invariant.chain rs re first start last text touched range grows reaches repl piece there ++ text_of (drop last pieces) in
     let why : RefusesText left reason =
     subst (λ xs. RefusesText (xs ++ text_of (drop last pieces)) reason) changed_is (subst (λ ps. RefusesText (string_bytes c.replace_range.new.self ++ text_of (drop last ps)) reason) c.deref-2.ensures.value c.in_err-new.ensures.refused) in
     let all : RefusesText (edited rs re repl (text_of pieces)) reason =
     subst (λ text. RefusesText text reason)
-    (ap (λ xs. text_of (take first pieces) ++ xs) (append-nil left) ∙ sym (now_is keeps sql.vocabulary sql.rules pieces c.self.invariant.chain first last rs re repl text piece there before grows order high_in))
+    (ap (λ xs. text_of (take first pieces) ++ xs) (append-nil left) ∙ sym (now_is keeps sql.vocabulary sql.rules pieces c.self.invariant.chain rs re first start last text touched range grows reaches repl piece there))
     (refused_in (text_of (take first pieces)) left [] reason why) in
     let error = err_from_is_err_and c.from_residual-in_err-new.result c.from_residual-in_err-new.ensures.1 in
     rw error.1 (subst (RefusesText (edited rs re repl (text_of c.args.self.now.1))) (sym error.2) (subst (λ ps. RefusesText (edited rs re repl (text_of ps)) reason) (sym view) all))
@@ -187,11 +173,6 @@ edited_pieces g c =
     let view : c.args.self.now.1 ≡ pieces = search rules in
     let touched : IsTouched pieces rs first start = subst (λ ps. IsTouched ps rs first start) view c.requires.touched in
     let range : IsRange rs re (text_of pieces) = subst (λ ps. IsRange rs re (text_of ps)) view c.requires.range in
-    let within = touched.within in
-    let start_is = touched.begins in
-    let before = touched.before in
-    let order = range.order in
-    let past : (place : ℕ) → rs ≤ place → start ≤ place = λ place le. omega (arith, start_is, le, before_within rs (take first pieces) before) in
     let keeps = g.K.Keep.keeps me.keep in
     let sql = me.sql in
     let repl = c.args.replacement.now in
@@ -201,13 +182,11 @@ edited_pieces g c =
     subst (λ xs. Grows pieces xs text first last) c.new-text.ensures.bytes (subst (λ ps. Grows ps (string_bytes c.new-text.result) text first last) c.deref.ensures.value c.in_ok-last.ensures.grows) in
     let reaches : (re - start ≤ length text) ⊎ (last ≡ length pieces) = subst (λ ps. (re - start ≤ length text) ⊎ (last ≡ length ps)) c.deref.ensures.value c.in_ok-last.ensures.reaches in
     let piece = c.index.result.now in
-    let there : drop first pieces ≡ piece ∷ drop (suc first) pieces = drop-at first pieces piece within ∙ ap (λ p. p ∷ drop (suc first) pieces) (search rules) in
-    let high : re - start ≤ length text = reached pieces first start re start_is (past re order) last text grows range.ends.0 reaches in
-    let high_in : re - length (text_of (take first pieces)) ≤ length text = omega (arith, high, start_is) in
-    let changed_is : string_bytes c.replace_range.new.self ≡ changed keeps sql.vocabulary sql.rules pieces c.self.invariant.chain first last rs re repl text piece there before grows order high_in =
-    c.in_ok-replace_range.ensures.bytes ∙ ap (λ n. (take (rs - n) text ++ repl) ++ drop (re - n) text) start_is in
+    let there : drop first pieces ≡ piece ∷ drop (suc first) pieces = drop-at first pieces piece touched.within ∙ ap (λ p. p ∷ drop (suc first) pieces) (search rules) in
+    let changed_is : string_bytes c.replace_range.new.self ≡ changed keeps sql.vocabulary sql.rules pieces c.self.invariant.chain rs re first start last text touched range grows reaches repl piece there =
+    c.in_ok-replace_range.ensures.bytes ∙ ap (λ n. (take (rs - n) text ++ repl) ++ drop (re - n) text) touched.begins in
     let old_is : c.deref-2.result.now ≡ pieces = c.deref-2.ensures.value in
-    let recut : AreChain keeps sql.vocabulary sql.rules (Some piece.place) (c.in_ok-new.new.items ++ drop c.in_ok-new.end pieces) None (changed keeps sql.vocabulary sql.rules pieces c.self.invariant.chain first last rs re repl text piece there before grows order high_in ++ text_of (drop last pieces)) [] =
+    let recut : AreChain keeps sql.vocabulary sql.rules (Some piece.place) (c.in_ok-new.new.items ++ drop c.in_ok-new.end pieces) None (changed keeps sql.vocabulary sql.rules pieces c.self.invariant.chain rs re first start last text touched range grows reaches repl piece there ++ text_of (drop last pieces)) [] =
     subst (λ xs. AreChain keeps sql.vocabulary sql.rules (Some piece.place) (c.in_ok-new.new.items ++ drop c.in_ok-new.end pieces) None (xs ++ text_of (drop last pieces)) []) changed_is
     (subst (λ ps. AreChain keeps sql.vocabulary sql.rules (Some piece.place) (c.in_ok-new.new.items ++ drop c.in_ok-new.end ps) None (string_bytes c.replace_range.new.self ++ text_of (drop last ps)) []) old_is c.in_ok-new.ensures.chain) in
     let now = edited rs re repl (text_of pieces) in
@@ -218,10 +197,10 @@ edited_pieces g c =
     ap (λ xs. take first pieces ++ (xs ++ drop c.in_ok-new.end pieces)) (sym all ∙ map-id spliced.1) ∙ sym spliced.4 in
     let chain : AreChain keeps sql.vocabulary sql.rules (Some Front) c.splice.new.self.items None now [] =
     subst (λ ps. AreChain keeps sql.vocabulary sql.rules (Some Front) ps None now []) items
-    (edited_chain keeps sql.vocabulary sql.rules pieces c.self.invariant.chain first last rs re repl text piece there before grows order high_in c.in_ok-new.end c.in_ok-new.new.items recut) in
+    (edited_chain keeps sql.vocabulary sql.rules pieces c.self.invariant.chain rs re first start last text touched range grows reaches repl piece there c.in_ok-new.end c.in_ok-new.new.items recut) in
     let inside : re ≤ me.len = omega (arith, range.ends.0, c.self.invariant.len_is) in
     let size : length now ≡ me.len - ((re - start) - (rs - start)) + length repl =
-    omega (arith, c.self.invariant.len_is, inside, order, past rs (omega arith), length-append (take rs (text_of pieces)) (repl ++ drop re (text_of pieces)), length-append repl (drop re (text_of pieces)), length-take rs (text_of pieces), length-drop re (text_of pieces)) in
+    omega (arith, c.self.invariant.len_is, inside, range.order, past pieces rs re first start last text touched range grows reaches, length-append (take rs (text_of pieces)) (repl ++ drop re (text_of pieces)), length-append repl (drop re (text_of pieces)), length-take rs (text_of pieces), length-drop re (text_of pieces)) in
     record {
       now = now;
       now_is = refl;
