@@ -11,4 +11,6 @@ mod scripts;
 #[cfg(test)]
 mod trees;
 #[cfg(test)]
+mod windows;
+#[cfg(test)]
 mod words;

@@ -5,7 +5,7 @@ ghost use Rattle.squawk_table.specs.Shape.{Fits};
 use rule_grammar::RuleGrammar;
 use sql_grammar::{Detail, ScriptParts, parse_table, stray_strings};
 use sql_lexer::{ScriptPlace, tokenize_script};
-use sql_report::{Asked, ErrorLines, Walk};
+use sql_report::{Asked, ErrorLines, LineColumn, Place, Walk};
 use sql_rules::{hiding, rules};
 use sql_words::{SqlKind, names, vocabulary};
 use squawk_output::Output;
@@ -36,8 +36,8 @@ fn whole(
     requires short { length table.now.text < 2 ^ 64 }
 {
     let all_names = names(alloc)?;
-    let mut errors = ErrorLines::new(alloc, "x", text);
-    errors.part(table, output, 0)?;
+    let mut errors = ErrorLines::new(alloc, "x");
+    errors.part(&mut Place::whole(text), table, output, 0)?;
     let mut walk = Walk::new(alloc, &all_names, Asked::Tree, SqlKind::SOURCE_FILE)?;
     walk.part(table, output, 0)?;
     Ok(Told {
@@ -56,11 +56,12 @@ fn in_parts(
     let words = vocabulary(alloc)?;
     let all_names = names(alloc)?;
     let mut parts = ScriptParts::new(alloc, text, ScriptPlace::Front, true)?;
-    let mut errors = ErrorLines::new(alloc, "x", text);
+    let mut errors = ErrorLines::new(alloc, "x");
+    let mut place = Place::whole(text);
     let mut walk = Walk::new(alloc, &all_names, Asked::Tree, SqlKind::SOURCE_FILE)?;
     let mut count = 0usize;
     while let Some(part) = parts.next_part(least, &words, rules)? {
-        errors.part(&part.table, &part.output, part.start)?;
+        errors.part(&mut place, &part.table, &part.output, part.start)?;
         walk.part(&part.table, &part.output, part.start)?;
         count = count.saturating_add(1);
     }
@@ -69,7 +70,8 @@ fn in_parts(
     Ok((Told { tree, errors }, count))
 }
 
-/// What is told of a script that comes as texts, each with so many bytes more than is left of the one before.
+/// What is told of a script that comes as texts, each with so many bytes more than is left of the one before. A window has a text and
+/// the 100 bytes before it.
 fn in_texts(
     alloc: Global,
     rules: &RuleGrammar<'_>,
@@ -78,7 +80,10 @@ fn in_texts(
 ) -> Result<Told, Fail> {
     let words = vocabulary(alloc)?;
     let all_names = names(alloc)?;
-    let mut errors = ErrorLines::new(alloc, "x", script);
+    let bytes = script.as_bytes();
+    let mut errors = ErrorLines::new(alloc, "x");
+    let mut before = LineColumn::start();
+    let mut from = 0usize;
     let mut walk = Walk::new(alloc, &all_names, Asked::Tree, SqlKind::SOURCE_FILE)?;
     let mut read = 0usize;
     let mut end = 0usize;
@@ -86,10 +91,15 @@ fn in_texts(
     while end < script.len() {
         end = script.len().min(end.saturating_add(size.max(1)));
         let text = script.get(read..end).unwrap_or("");
+        let passed = from;
+        from = read.saturating_sub(100);
+        before.pass(bytes.get(passed..from).unwrap_or(b""));
+        let mut seen = Place::new(bytes.get(from..end).unwrap_or(b""), before);
         let mut parts = ScriptParts::new(alloc, text, place, end == script.len())?;
         while let Some(part) = parts.next_part(usize::MAX, &words, rules)? {
             let start = read.saturating_add(part.start).min(u32::MAX as usize);
-            errors.part(&part.table, &part.output, start)?;
+            let in_window = start.saturating_sub(from);
+            errors.part(&mut seen, &part.table, &part.output, in_window)?;
             walk.part(&part.table, &part.output, start)?;
         }
         read = read.saturating_add(parts.position());
@@ -147,4 +157,14 @@ fn parts_are_told_as_the_whole(rt: HostRuntime) -> Result<(), Fail> {
     // The first part of three ends with the semicolon of COPY in piece 113, at byte 8,011, before its data; the second at 16,015.
     let text = PIECE.repeat(rt.alloc(), 250)?;
     assert_parts(&rt, text.as_str(), &[(8000, 3), (usize::MAX, 1)], &[10_000])
+}
+
+#[test]
+fn long_lines_are_told_as_the_whole(rt: HostRuntime) -> Result<(), Fail> {
+    let alloc = rt.alloc();
+    // Four statements in each line of 269 bytes. With the line end after the last one there are 25 parts.
+    let many = "é".repeat(alloc, 55)?;
+    let line = format!(in alloc; "select f(1; select '{many}', 1x; select '{many}'; select 2y;\n")?;
+    let text = line.as_str().repeat(alloc, 6)?;
+    assert_parts(&rt, text.as_str(), &[(0, 25)], &[1, 100, 300])
 }
