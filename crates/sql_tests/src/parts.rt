@@ -5,12 +5,15 @@ ghost use Rattle.squawk_table.specs.Shape.{Fits};
 use rule_grammar::RuleGrammar;
 use sql_grammar::{Detail, ScriptParts, parse_table, stray_strings};
 use sql_lexer::{ScriptPlace, tokenize_script};
+use sql_reader::{Next, ScriptReader};
 use sql_report::{Asked, ErrorLines, LineColumn, Place, Walk};
 use sql_rules::{hiding, rules};
 use sql_words::{SqlKind, names, vocabulary};
 use squawk_output::Output;
 use squawk_table::LexedStr;
 use std::alloc::{AllocError, Global};
+use std::io;
+use std::io::Read;
 use std::process::Abort;
 use std::test::Fail;
 
@@ -70,8 +73,24 @@ fn in_parts(
     Ok((Told { tree, errors }, count))
 }
 
-/// What is told of a script that comes as texts, each with so many bytes more than is left of the one before. A window has a text and
-/// the 100 bytes before it.
+/// A reader that gives so many bytes at a time.
+#[derive(Drop)]
+struct Few<'b> {
+    bytes: &'b [u8],
+    size: usize,
+}
+
+impl Read for Few<'_> {
+    fn read(&mut self, buf: &mut [u8]) -> io::Result<usize> {
+        let count = self.size.min(buf.len()).min(self.bytes.len());
+        let (front, rest) = self.bytes.split_at(count);
+        buf[..count].copy_from_slice(front);
+        self.bytes = rest;
+        Ok(count)
+    }
+}
+
+/// What is told of a script from a reader that gives so many bytes at a time.
 fn in_texts(
     alloc: Global,
     rules: &RuleGrammar<'_>,
@@ -80,30 +99,29 @@ fn in_texts(
 ) -> Result<Told, Fail> {
     let words = vocabulary(alloc)?;
     let all_names = names(alloc)?;
-    let bytes = script.as_bytes();
     let mut errors = ErrorLines::new(alloc, "x");
-    let mut before = LineColumn::start();
-    let mut from = 0usize;
     let mut walk = Walk::new(alloc, &all_names, Asked::Tree, SqlKind::SOURCE_FILE)?;
-    let mut read = 0usize;
-    let mut end = 0usize;
-    let mut place = ScriptPlace::Front;
-    while end < script.len() {
-        end = script.len().min(end.saturating_add(size.max(1)));
-        let text = script.get(read..end).unwrap_or("");
-        let passed = from;
-        from = read.saturating_sub(100);
-        before.pass(bytes.get(passed..from).unwrap_or(b""));
-        let mut seen = Place::new(bytes.get(from..end).unwrap_or(b""), before);
-        let mut parts = ScriptParts::new(alloc, text, place, end == script.len())?;
+    let mut before = LineColumn::start();
+    let bytes = script.as_bytes();
+    let mut reader = ScriptReader::with_least(alloc, size, Few { bytes, size });
+    for _ in 0..=script.len() {
+        reader.read()?;
+        let text = reader.text();
+        let mut place = Place::new(text.window, before);
+        let mut parts = ScriptParts::new(alloc, text.text, text.place, text.next == Next::End)?;
         while let Some(part) = parts.next_part(usize::MAX, &words, rules)? {
-            let start = read.saturating_add(part.start).min(u32::MAX as usize);
-            let in_window = start.saturating_sub(from);
-            errors.part(&mut seen, &part.table, &part.output, in_window)?;
+            let in_window = text.start.saturating_add(part.start);
+            let start = text.passed.saturating_add(in_window).min(u32::MAX as usize);
+            errors.part(&mut place, &part.table, &part.output, in_window)?;
             walk.part(&part.table, &part.output, start)?;
         }
-        read = read.saturating_add(parts.position());
-        place = parts.place().unwrap_or(place);
+        if text.next != Next::More {
+            break;
+        }
+        let count = parts.position().min(text.text.len());
+        before.pass(text.leaving(count));
+        let next = parts.place().unwrap_or(text.place);
+        reader.go_on(count, next);
     }
     Ok(Told {
         tree: walk.finish()?.drawn,
@@ -111,8 +129,8 @@ fn in_texts(
     })
 }
 
-/// Asserts that parts of so many bytes at least, of which there are so many, are told as the whole, and that those of texts are
-/// whose sizes differ by so many bytes.
+/// Asserts that parts of so many bytes at least, of which there are so many, are told as the whole, and that a script from a reader
+/// is, which gives so many bytes at a time.
 fn assert_parts(
     rt: &(impl Abort + AllocGlobal),
     text: &str,
