@@ -47,7 +47,7 @@ below_placed n all front (sent.Error text pos ∷ rest) split placed le =
       below_placed n all (front ++ sent.Error text pos ∷ []) rest (split ∙ sym (append_assoc front (sent.Error text pos ∷ []) rest)) placed le,
     )
 
-pub all_placed : (n : ℕ) (all : List OwnedStep) → ErrorsArePlaced all → bytes_of all ≤ n → ErrorsBelow (n + 1) all
+all_placed : (n : ℕ) (all : List OwnedStep) → ErrorsArePlaced all → bytes_of all ≤ n → ErrorsBelow (n + 1) all
 all_placed n all = below_placed n all [] all refl
 
 -- ---- the errors of a table and of what is sent

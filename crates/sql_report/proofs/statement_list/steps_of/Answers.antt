@@ -1,6 +1,6 @@
 use Rattle.std.proofs.Common.{◌≡◌, ◌∙◌, ap, arith, length, slice_index}
 use Rattle.squawk_table.specs.Sent.{sent_list}
-use Rattle.sql_report.proofs.Bounds.{all_placed, bytes_of-beginning}
+use Rattle.sql_report.proofs.Bounds.{bytes_of-beginning, sent_within}
 use Rattle.sql_report.proofs.statement_list.steps_of.Goals as goal
 
 pub returns-clause-few : goal.returns-clause-few
@@ -19,8 +19,4 @@ returns-clause-within c =
     rw c.str_steps.ensures.steps (bytes_of-beginning (sent_list table c.args.output.now.steps) table.text c.len.ensures.table.utf8 c.str_steps.ensures.beginning)
 
 pub returns-clause-placed : goal.returns-clause-placed
-returns-clause-placed c =
-    let table = c.args.table.now in
-    let steps = sent_list table c.args.output.now.steps in
-    let few = bytes_of-beginning steps table.text c.len.ensures.table.utf8 c.str_steps.ensures.beginning in
-    rw c.str_steps.ensures.steps (all_placed (length table.text) steps c.str_steps.ensures.placed few)
+returns-clause-placed c = rw c.str_steps.ensures.steps (sent_within c.args.table.now c.len.ensures.table c.args.output.now.steps c.requires)
