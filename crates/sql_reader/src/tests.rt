@@ -103,27 +103,33 @@ fn what_stands_before_a_fault_is_text(rt: HostRuntime) -> Result<(), Fail> {
     Ok(())
 }
 
+/// Goes over so many bytes of a text, if it has them.
+fn go_over(script: &mut ScriptReader<Slow<'_>>, count: usize) {
+    let len = script.text().text.len();
+    script.go_on(count.min(len), ScriptPlace::Inside { waiting: 2 });
+}
+
+/// Where a text begins in its window, how many bytes stand before the window, and how many leave it where 940 of the text are read.
+fn places(script: &ScriptReader<Slow<'_>>) -> (usize, usize, usize) {
+    let text = script.text();
+    (text.start, text.passed, text.leaving(940).len())
+}
+
 #[test]
 fn some_of_what_was_read_stays(rt: HostRuntime) -> Result<(), Fail> {
     let alloc = rt.alloc();
-    let mut bytes = Vec::new(alloc);
-    for _ in 0..10_000 {
-        bytes.extend_from_slice(b"select 1;\n")?;
-    }
+    let bytes = b"select 1;\n".repeat(alloc, 10_000)?;
     let mut script = ScriptReader::new(alloc, reader(&bytes, 1000, None));
     script.read()?;
-    let first = script.text();
-    assert!(rt; first.text.len() >= 65_536);
-    assert_eq!(rt; (first.start, first.passed, first.next), (0, 0, Next::More));
-    script.go_on(60, ScriptPlace::Inside { waiting: 2 });
-    assert_eq!(rt; script.text().start, 60);
+    assert!(rt; script.text().text.len() >= 65_536);
+    assert_eq!(rt; places(&script), (0, 0, 812));
+    go_over(&mut script, 60);
+    assert_eq!(rt; places(&script), (60, 0, 872));
+    go_over(&mut script, 940);
     // Of 1,000 bytes that are read 128 stay.
-    assert_eq!(rt; script.text().leaving(940).len(), 872);
-    script.go_on(940, ScriptPlace::Inside { waiting: 2 });
     script.read()?;
-    let text = script.text();
-    assert_eq!(rt; (text.start, text.passed), (128, 872));
-    assert_eq!(rt; text.window.get(..10), Some(b"lect 1;\nse".as_slice()));
-    assert!(rt; text.text.starts_with("select 1;\n"));
+    assert_eq!(rt; places(&script), (128, 872, 940));
+    assert!(rt; script.text().window.starts_with(b"lect 1;\n"));
+    assert!(rt; script.text().text.starts_with("select 1;\n"));
     Ok(())
 }
