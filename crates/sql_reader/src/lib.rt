@@ -6,12 +6,13 @@
 //!     let text = script.text();
 //!     let mut parts = ScriptParts::new(alloc, text.text, text.place, text.next == Next::End)?;
 //!     while let Some(part) = parts.next_part(least, &vocabulary, &rules)? { .. }
-//!     let (end, place) = (parts.position(), parts.place());
 //!     match text.next {
-//!         Next::More => script.go_on(end, place.unwrap_or(text.place)),
-//!         Next::End => break,
+//!         Next::More => {}
+//!         Next::End => return Ok(()),
 //!         Next::Fault(error) => return Err(error),
 //!     }
+//!     let (end, place) = (parts.position(), parts.place().unwrap_or(text.place));
+//!     script.go_on(end, place);
 //! }
 //! ```
 #![tactic(auto)]
