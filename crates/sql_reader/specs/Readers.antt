@@ -1,7 +1,7 @@
 -- A script that is read a text at a time.
 use Rattle.std.specs.Prelude.{◌≡◌, ◌≢◌, ◌<◌, ◌≤◌, ◌⊎◌, ℕ, ◌+◌, ◌*◌, ◌-◌, ◌^◌, max, min, Option, List, [], ◌++◌, drop, length, take}
 use Rattle.std.specs.Io.KnownBytes.{Consumes, IsAtEnd}
-use Rattle.std.specs.Str.{StartsWithNoChar}
+use Rattle.std.specs.Str.{IsValidUpTo, StartsWithNoChar}
 use Rattle.sql_lexer.specs.declared.script.script_place.ScriptPlace.{ScriptPlace}
 use Rattle.sql_reader.specs.declared.read_error.ReadError.TheVariants.{Io, NotUtf8}
 use Rattle.sql_reader.specs.declared.script_reader.Input.{Input}
@@ -67,10 +67,11 @@ IsNext input at left End = (input ≡ Ended) × (left ≡ [])
 IsNext input at left (Fault (Io kind)) = (input ≡ Failed kind) × (length left < 4)
 IsNext input at left (Fault (NotUtf8 place)) = (place ≡ at) × NoCharBegins input left
 
--- The text is what is unread, but for bytes that are no character yet or none at all.
+-- The text is what is unread, but for bytes that are no character yet or none at all: no longer front of it is a text.
 pub record IsTextOf (script : Script) (text : ScriptText) : Type 0 where
   pub left : List ℕ
   pub unread : script.unread ≡ text.text.now ++ left
+  pub longest : (left ≡ []) ⊎ IsValidUpTo script.unread (length text.text.now)
   pub place : text.place ≡ script.place
   pub window : text.window.now ≡ script.kept ++ script.unread
   pub start : text.start ≡ length script.kept

@@ -32,6 +32,7 @@ returns g c =
     (record {
       left = left;
       unread = whole;
+      longest = subst (λ xs. (left ≡ []) ⊎ IsValidUpTo xs (length text)) bytes front.2;
       place = refl;
       window = c.bytes.ensures ∙ sym (take-append-drop me.window.start me.window.bytes.items);
       start = c.start-start.ensures;
