@@ -1,5 +1,5 @@
 -- A walk over steps, of which the last is held back.
-use Rattle.std.proofs.Common.{◌≡◌, ◌∙◌, ℕ, ◌+◌, ◌<◌, ◌≤◌, ◌^◌, None, Some, Option, List, [], ◌∷◌, ◌++◌, length, length-append, map, ◌⊎◌, inl, inr, append_assoc, arith, ap, refl, sym, subst}
+use Rattle.std.proofs.Common.{◌≡◌, ◌≢◌, ◌∙◌, ℕ, ◌+◌, ◌<◌, ◌≤◌, ◌^◌, None, Some, Option, List, [], ◌∷◌, ◌++◌, drop, length, length-append, map, ◌⊎◌, inl, inr, append_assoc, arith, ap, refl, sym, subst}
 use Rattle.std.specs.Prelude.{MatchOption}
 use Rattle.std.proofs.lemmas.List.Sums.{sum_by-cons}
 use Rattle.std.proofs.lemmas.List.{append-nil, map-append, same_from_push}
@@ -12,38 +12,31 @@ use Rattle.squawk_tree.specs.TreeText.{bytes_in}
 use Rattle.sql_grammar.specs.Parts.{moved_by}
 use Rattle.sql_grammar.specs.ReadParts.{ErrorsBelow}
 use Rattle.sql_report.specs.OnTheWay.{DrawsBefore, HasWalked, IsSame, asked_of}
-use Rattle.sql_report.specs.OpenNodes.{statements_left}
-use Rattle.sql_report.specs.Statements.{statements_of}
+use Rattle.sql_report.specs.declared.one_walk.Asked.TheVariants as asked
 use Rattle.sql_report.specs.declared.one_walk.Walk.{Walk}
-use Rattle.sql_report.specs.declared.statement_list.OpenNode.{OpenNode}
 
 -- the one that is held
 abbrev pub held_steps : Option StrStep → List OwnedStep
 held_steps None = []
 held_steps (Some step) = owned_step_of step ∷ []
 
--- ---- the ends of a walk
+-- ---- the front of a walk
 
-pub walked_none : (walk : Walk) → walk.statements.items ≡ [] → walk.nodes.items ≡ [] → walk.at ≡ 0 → asked_of walk.drawing ≡ walk.asked
-    → ((rest : List OwnedStep) → DrawsBefore walk.kind_names rest walk.drawing 0 rest) → walk.kind_names ≡ map (λ pair. (pair.0, pair.1.now)) walk.names.now → HasWalked walk []
-walked_none walk statements nodes at drawing draws names = record {
+pub walked_none : (walk : Walk) → walk.at ≡ 0 → asked_of walk.drawing ≡ walk.asked → ((rest : List OwnedStep) → DrawsBefore walk.kind_names [] rest walk.drawing 0 rest)
+    → walk.kind_names ≡ map (λ pair. (pair.0, pair.1.now)) walk.names.now → HasWalked [] walk []
+walked_none walk at drawing draws names = record {
   drawing = drawing;
-  at = at;
-  statements = λ rest.
-      ap (λ xs. xs ++ statements_left walk.nodes.items walk.at rest) statements ∙ (ap (λ xs. statements_left xs walk.at rest) nodes ∙ ap (λ n. statements_left [] n rest) at);
-  draws = λ rest. subst (λ n. DrawsBefore walk.kind_names rest walk.drawing n rest) (sym at) (draws rest);
+  at = λ some. at;
+  draws = λ rest. subst (λ n. DrawsBefore walk.kind_names [] rest walk.drawing n rest) (sym at) (draws rest);
   names = names;
 }
 
-pub none_left : (nodes : List OpenNode) (at : ℕ) → statements_left nodes at [] ≡ []
-none_left [] at = refl
-none_left (root ∷ []) at = refl
-none_left (root ∷ node ∷ inner) at = refl
-
-pub walked_all : (walk : Walk) (all : List OwnedStep) → HasWalked walk all → walk.statements.items ≡ statements_of all
-walked_all walk all walked =
-    sym (append-nil walk.statements.items)
-    ∙ (ap (λ xs. walk.statements.items ++ xs) (sym (none_left walk.nodes.items walk.at)) ∙ (walked.statements [] ∙ ap statements_of (append-nil all)))
+-- a walk that stands where its steps end
+pub walked_at : (given : List ℕ) (walk : Walk) (done : List OwnedStep) (start : ℕ) → walk.asked ≢ asked.Nothing → bytes_of done ≡ start → HasWalked given walk done
+    → HasWalked given (record walk { at = start }) done
+walked_at given walk done start some bytes walked =
+    let at : walk.at ≡ start = walked.at some ∙ bytes in
+    subst (λ n. HasWalked given (record walk { at = n }) done) at walked
 
 -- ---- steps that are taken
 
@@ -85,7 +78,7 @@ pub record Holds (start : ℕ) (begun walk : Walk) (all : List OwnedStep) (held 
   pub n : ℕ
   pub short : start + n ≤ 2 ^ 64
   pub within : ErrorsBelow n (held_steps held ++ rest)
-  pub walks : (done : List OwnedStep) → HasWalked begun done → HasWalked walk (done ++ map (moved_by start) taken)
+  pub walks : (given : List ℕ) (done : List OwnedStep) → HasWalked given begun done → HasWalked given walk (done ++ map (moved_by start) taken)
 
 pub holds_none : (start : ℕ) (walk : Walk) (all : List OwnedStep) (n : ℕ) → walk.at + bytes_of all < 2 ^ 64 → start + n ≤ 2 ^ 64 → ErrorsBelow n all → Holds start walk walk all None all
 holds_none start walk all n room short within = record {
@@ -97,7 +90,7 @@ holds_none start walk all n room short within = record {
   n = n;
   short = short;
   within = within;
-  walks = λ done walked. subst (HasWalked walk) (sym (append-nil done)) walked;
+  walks = λ given done walked. subst (HasWalked given walk) (sym (append-nil done)) walked;
 }
 
 -- the first is held
@@ -118,7 +111,7 @@ holds_first start begun walk all step rest h = record {
 -- what is held is taken, and the next is held
 pub holds_next : (start : ℕ) (begun walk next : Walk) (all : List OwnedStep) (before step : StrStep) (rest : List OwnedStep) (taken : OwnedStep)
     → Holds start begun walk all (Some before) (owned_step_of step ∷ rest) → taken ≡ moved_by start (owned_step_of before) → IsSame walk next → next.at ≡ walk.at + bytes_in taken
-    → ((done : List OwnedStep) → HasWalked walk done → HasWalked next (done ++ taken ∷ [])) → Holds start begun next all (Some step) rest
+    → ((given : List ℕ) (done : List OwnedStep) → HasWalked given walk done → HasWalked given next (done ++ taken ∷ [])) → Holds start begun next all (Some step) rest
 holds_next start begun walk next all before step rest taken h is same at walks =
     let held = owned_step_of before in
     let others = owned_step_of step ∷ rest in
@@ -136,10 +129,10 @@ holds_next start begun walk next all before step rest taken h is same at walks =
       n = h.n;
       short = h.short;
       within = below_rest h.n held others h.within;
-      walks = λ done walked.
-          subst (HasWalked next)
+      walks = λ given done walked.
+          subst (HasWalked given next)
           (ap (λ x. (done ++ map (moved_by start) h.taken) ++ x ∷ []) is ∙ moved_next start done h.taken held)
-          (walks (done ++ map (moved_by start) h.taken) (h.walks done walked));
+          (walks given (done ++ map (moved_by start) h.taken) (h.walks given done walked));
     }
   where
     no_none : {x : StrStep} → Some x ≡ None → ⊥
@@ -154,6 +147,12 @@ module _ (first : Option StrStep) (all rest : List OwnedStep) (next : MatchOptio
       cases : (o : Option StrStep) → MatchOption o ((all ≡ []) × (rest ≡ [])) (λ step. all ≡ owned_step_of step ∷ rest) → ((all ≡ []) × (rest ≡ [])) ⊎ ((step : OwnedStep) × (all ≡ step ∷ rest))
       cases None e = inl e
       cases (Some step) e = inr (owned_step_of step, e)
+
+  pub rest_is : (first : OwnedStep) (others : List OwnedStep) → all ≡ first ∷ others → rest ≡ others
+  rest_is first others is = elim behind [
+    | inl e ↦ absurd (omega (arith, ap length (sym e.0 ∙ is)))
+    | inr e ↦ ap (drop 1) (sym e.1 ∙ is)
+  ]
 
   pub rest_bytes : bytes_of rest ≤ bytes_of all
   rest_bytes = elim behind [

@@ -1,5 +1,5 @@
 -- The errors of parts, one after another, are in the order of their places.
-use Rattle.std.proofs.Common.{◌≡◌, ◌∙◌, ℕ, ◌+◌, ◌-◌, ◌<◌, ◌≤◌, ◌==◌, nat_lt, not, ◌&&◌, Bool, true, false, cond, List, [], ◌∷◌, ◌++◌, length, map, take, drop, get_or, append_assoc, ◌⊎◌, inl, inr, arith, ap, refl, sym, subst, length-append}
+use Rattle.std.proofs.Common.{◌≡◌, ◌∙◌, ℕ, ◌+◌, ◌-◌, ◌^◌, min, ◌<◌, ◌≤◌, ◌==◌, nat_lt, not, ◌&&◌, Bool, true, false, cond, List, [], ◌∷◌, ◌++◌, length, map, take, drop, get_or, append_assoc, ◌⊎◌, inl, inr, arith, ap, refl, sym, subst, length-append}
 use Rattle.std.specs.Prelude.{All, filter}
 use Rattle.std.specs.List.{flat_map}
 use Rattle.std.specs.List.Sorted.{IsPermutation, IsSortedByKey, ties}
@@ -318,11 +318,11 @@ module _ (n : ℕ) (e1 e2 : List LexicalError) (s1 s2 : List OwnedStep) (f1 f2 :
 -- ---- what is shown
 
 -- the errors of a part after others
-pub shows_more : (script : List ℕ) (old new : ErrorLines) (n : ℕ) (errors lexical : List LexicalError) (done inner steps : List OwnedStep) (kind : ℕ) (findings : List Finding)
-    → AreInOrder (all_told lexical steps) findings → steps ≡ sent.Enter kind ∷ inner ++ sent.Exit ∷ [] → AreBefore n errors done → HasShown script errors done old
+pub shows_more : (script given : List ℕ) (old new : ErrorLines) (n : ℕ) (errors lexical : List LexicalError) (done inner steps : List OwnedStep) (kind : ℕ) (findings : List Finding)
+    → AreInOrder (all_told lexical steps) findings → steps ≡ sent.Enter kind ∷ inner ++ sent.Exit ∷ [] → AreBefore n errors done → HasShown script given errors done old
     → new.name ≡ old.name → new.lines.items ≡ old.lines.items ++ error_texts old.name.now script (map (moved_finding n) findings)
-    → new.count ≡ old.count + length findings → HasShown script (errors ++ map (shifted n) lexical) (done ++ map (moved_by n) inner) new
-shows_more script old new n errors lexical done inner steps kind findings order is stand shown name lines count =
+    → ((n : ℕ) → old.count ≡ min n (2 ^ 64 - 1) → new.count ≡ min (n + length findings) (2 ^ 64 - 1)) → HasShown script given (errors ++ map (shifted n) lexical) (done ++ map (moved_by n) inner) new
+shows_more script given old new n errors lexical done inner steps kind findings order is stand shown name lines count =
     let told_inner : flat_map told_in steps ≡ flat_map told_in inner =
     ap (flat_map told_in) is ∙ (flat_map-append told_in inner (sent.Exit ∷ []) ∙ append-nil (flat_map told_in inner)) in
     let order_inner : AreInOrder (all_told lexical inner) findings = subst (λ ts. AreInOrder (map told_lexical lexical ++ ts) findings) told_inner order in
@@ -331,8 +331,9 @@ shows_more script old new n errors lexical done inner steps kind findings order 
     record {
       findings = shown.findings ++ more;
       in_order = in_order n errors lexical done inner shown.findings findings shown.in_order order_inner stand;
-      lines = lines
+      lines = ap (λ l. given ++ l) lines
+          ∙ (sym (append_assoc given old.lines.items (error_texts old.name.now script more))
           ∙ (ap (λ l. l ++ error_texts old.name.now script more) shown.lines
-          ∙ (sym (flat_map-append _ shown.findings more) ∙ ap (λ name. error_texts name.now script (shown.findings ++ more)) (sym name)));
-      count = omega (arith, count, before, length-append shown.findings more, length-map findings (moved_finding n));
+          ∙ (sym (flat_map-append _ shown.findings more) ∙ ap (λ name. error_texts name.now script (shown.findings ++ more)) (sym name))));
+      count = omega (arith, count (length shown.findings) before, length-append shown.findings more, length-map findings (moved_finding n));
     }

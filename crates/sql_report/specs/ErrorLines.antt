@@ -1,5 +1,5 @@
 -- Errors as compilers show them.
-use Rattle.std.specs.Prelude.{◌≡◌, ℕ, ◌+◌, ◌==◌, Option, Some, None, List, [], ◌++◌, codes, if◌then◌else◌, length}
+use Rattle.std.specs.Prelude.{◌≡◌, ℕ, ◌+◌, ◌-◌, ◌^◌, ◌==◌, min, Option, Some, None, List, [], ◌++◌, codes, if◌then◌else◌, length}
 use Rattle.std.specs.List.{flat_map}
 use Rattle.std.specs.Fmt.{decimal}
 use Rattle.squawk_table.specs.declared.shortcuts.str_step.OwnedStep.{OwnedStep}
@@ -45,9 +45,10 @@ error_texts name text findings = flat_map (λ finding. error_at name text findin
 abbrev pub moved_finding : ℕ → Finding → Finding
 moved_finding start finding = record finding { at = start + finding.at }
 
--- these lexical errors of a script and those of these steps are shown, in the order of their places
-pub record HasShown (script : List ℕ) (errors : List LexicalError) (done : List OwnedStep) (shown : ErrorLines) : Type 0 where
+-- These lexical errors of a script and those of these steps are shown, in the order of their places. Some of their lines are handed
+-- out. At most the greatest `usize` are counted.
+pub record HasShown (script given : List ℕ) (errors : List LexicalError) (done : List OwnedStep) (shown : ErrorLines) : Type 0 where
   pub findings : List Finding
   pub in_order : AreInOrder (all_told errors done) findings
-  pub lines : shown.lines.items ≡ error_texts shown.name.now script findings
-  pub count : shown.count ≡ length findings
+  pub lines : given ++ shown.lines.items ≡ error_texts shown.name.now script findings
+  pub count : shown.count ≡ min (length findings) (2 ^ 64 - 1)

@@ -1,5 +1,5 @@
--- Where a walk over steps stands. Only private functions speak of it.
-use Rattle.std.specs.Prelude.{◌≡◌, ◌≢◌, ℕ, ◌+◌, ◌<◌, ◌^◌, List, ◌++◌, map, string_bytes}
+-- Where a walk over steps stands.
+use Rattle.std.specs.Prelude.{◌≡◌, ◌≢◌, ℕ, ◌+◌, ◌<◌, ◌^◌, List, [], ◌++◌, map, string_bytes}
 use Rattle.squawk_kinds.specs.KindNames.{Names}
 use Rattle.squawk_table.specs.Sent.{bytes_of}
 use Rattle.squawk_table.specs.declared.shortcuts.str_step.OwnedStep.{OwnedStep}
@@ -7,8 +7,6 @@ use Rattle.squawk_table.specs.declared.shortcuts.str_step.OwnedStep.TheVariants 
 use Rattle.squawk_tree.specs.Drawing.{StandsAfter}
 use Rattle.sql_report.specs.JsonLines.{json_lines, written_from}
 use Rattle.sql_report.specs.OpenJson.{standing}
-use Rattle.sql_report.specs.OpenNodes.{statements_left}
-use Rattle.sql_report.specs.Statements.{statements_of}
 use Rattle.sql_report.specs.declared.drawing.Drawing.{Drawing}
 use Rattle.sql_report.specs.declared.drawing.Drawing.TheVariants as drawing
 use Rattle.sql_report.specs.declared.one_walk.Asked.{Asked}
@@ -17,26 +15,22 @@ use Rattle.sql_report.specs.declared.one_walk.Walk.{Walk}
 
 -- what is asked for where this is drawn
 abbrev pub asked_of : Drawing → Asked
-asked_of drawing.Statements = asked.Statements
+asked_of drawing.Nothing = asked.Nothing
 asked_of (drawing.Tree tree) = asked.Tree
 asked_of (drawing.Json writer) = asked.Json
 
--- At this byte, a drawing stands before the rest of these steps: with the rest it has the text of all.
-abbrev pub DrawsBefore : Names → List OwnedStep → Drawing → ℕ → List OwnedStep → Type 0
-DrawsBefore names all drawing.Statements at rest = Unit {0}
-DrawsBefore names all (drawing.Tree tree) at rest = (done : List OwnedStep) × (done ++ rest ≡ all) × StandsAfter tree done
-DrawsBefore names all (drawing.Json writer) at rest = string_bytes writer.lines ++ written_from names (standing writer at) rest ≡ json_lines names all
+-- At this byte, a drawing of which some is handed out stands before the rest of these steps: with the rest it has the text of all.
+abbrev pub DrawsBefore : Names → List ℕ → List OwnedStep → Drawing → ℕ → List OwnedStep → Type 0
+DrawsBefore names given all drawing.Nothing at rest = given ≡ []
+DrawsBefore names given all (drawing.Tree tree) at rest = (given ≡ []) × ((done : List OwnedStep) × (done ++ rest ≡ all) × StandsAfter tree done)
+DrawsBefore names given all (drawing.Json writer) at rest = given ++ (string_bytes writer.lines ++ written_from names (standing writer at) rest) ≡ json_lines names all
 
--- What is told up to some steps: with any others behind them it is what is told of all.
-pub record HasWalked (walk : Walk) (done : List OwnedStep) : Type 0 where
+-- What is drawn up to some steps, of which some is handed out: with any others behind them it is what is drawn of all.
+pub record HasWalked (given : List ℕ) (walk : Walk) (done : List OwnedStep) : Type 0 where
   pub drawing : asked_of walk.drawing ≡ walk.asked
-  pub at : walk.at ≡ bytes_of done
-  pub statements : (rest : List OwnedStep) → walk.statements.items ++ statements_left walk.nodes.items walk.at rest ≡ statements_of (done ++ rest)
-  pub draws : (rest : List OwnedStep) → DrawsBefore walk.kind_names (done ++ rest) walk.drawing walk.at rest
+  pub at : walk.asked ≢ asked.Nothing → walk.at ≡ bytes_of done
+  pub draws : (rest : List OwnedStep) → DrawsBefore walk.kind_names given (done ++ rest) walk.drawing walk.at rest
   pub names : walk.kind_names ≡ map (λ pair. (pair.0, pair.1.now)) walk.names.now
-
-abbrev pub Tells : Walk → List OwnedStep → Type 0
-Tells walk done = walk.asked ≢ asked.Errors → HasWalked walk done
 
 -- what a walk doesn't change
 pub record IsSame (old new : Walk) : Type 0 where

@@ -27,14 +27,14 @@ use std::fmt::Write;
 pub struct ErrorLines<'n> {
     alloc: Global,
     name: &'n str,
-    /// The lines.
+    /// The lines that aren't handed out: one who prints them empties this.
     pub lines: Vec<u8>,
-    /// How many errors they show.
+    /// How many errors are shown; at most `usize::MAX` are counted.
     pub count: usize,
 }
 
 impl<'n> ErrorLines<'n> {
-    ghost use Rattle.std.specs.Prelude.{◌≡◌, ◌≤◌, ◌++◌, ◌+◌, [], ◌∷◌, List, ℕ, All, OnOk, length, map};
+    ghost use Rattle.std.specs.Prelude.{◌≡◌, ◌++◌, ◌+◌, ◌-◌, ◌^◌, [], ◌∷◌, List, ℕ, All, OnOk, length, map, min};
     ghost use Rattle.squawk_table.specs.Sent.{sent_list};
     ghost use Rattle.squawk_table.specs.Shape.{Fits};
     ghost use Rattle.squawk_table.specs.declared.shortcuts.str_step.OwnedStep.{OwnedStep};
@@ -48,8 +48,8 @@ impl<'n> ErrorLines<'n> {
     /// No errors of a script that is called by this name.
     pub fn new(alloc: Global, name: &'n str) -> ErrorLines<'n>
         ensures name { result.name.now ≡ name.entry.now }
-        ensures none { (script : List ℕ) → HasShown script [] [] result }
-        ensures empty { (result.lines.items ≡ []) × (result.count ≡ 0) }
+        ensures none { (script : List ℕ) → HasShown script [] [] [] result }
+        ensures empty { result.lines.items ≡ [] }
     {
         ErrorLines {
             alloc,
@@ -72,15 +72,13 @@ impl<'n> ErrorLines<'n> {
         start: usize,
     ) -> Result<(), AllocError>
         requires fits { Fits table.now output.now.steps }
-        requires room { self.old.count ≤ length self.old.lines.items }
         ensures name { self.new.name ≡ self.old.name }
         ensures window { IsSameWindow place.old place.new }
-        ensures room { OnOk result (self.new.count ≤ length self.new.lines.items) }
         // Where errors before it stand before its start, the errors of all are shown in their order.
-        ensures shows { OnOk result ((script passed rest : List ℕ) (at : ℕ) (errors : List LexicalError) (done inner : List OwnedStep) (kind : ℕ)
+        ensures shows { OnOk result ((script passed rest given : List ℕ) (at : ℕ) (errors : List LexicalError) (done inner : List OwnedStep) (kind : ℕ)
             → IsPartOfWindow script passed rest place.old at start (length table.now.text)
-            → sent_list table.now output.now.steps ≡ Enter kind ∷ inner ++ Exit ∷ [] → AreBefore at errors done → HasShown script errors done self.old
-            → HasShown script (errors ++ map (shifted at) table.now.errors) (done ++ map (moved_by at) inner) self.new) }
+            → sent_list table.now output.now.steps ≡ Enter kind ∷ inner ++ Exit ∷ [] → AreBefore at errors done → HasShown script given errors done self.old
+            → HasShown script given (errors ++ map (shifted at) table.now.errors) (done ++ map (moved_by at) inner) self.new) }
     {
         let findings = findings(self.alloc, table, output)?;
         self.extend(place, &findings, start)?;
@@ -94,20 +92,18 @@ impl<'n> ErrorLines<'n> {
         findings: &[Finding<'_>],
         start: usize,
     ) -> Result<(), AllocError>
-        requires { self.old.count ≤ length self.old.lines.items }
         ensures name { self.new.name ≡ self.old.name }
         ensures window { IsSameWindow place.old place.new }
-        ensures room { OnOk result (self.new.count ≤ length self.new.lines.items) }
         ensures lines { OnOk result ((script passed rest : List ℕ) → IsWindowOf script passed rest place.old
             → All (λ finding. SeesLine passed rest place.old.window (start + finding.at)) findings.now
             → self.new.lines.items ≡ self.old.lines.items ++ error_texts self.old.name.now script (map (moved_finding (length passed + start)) findings.now)) }
-        ensures count { OnOk result (self.new.count ≡ self.old.count + length findings.now) }
+        ensures count { OnOk result ((n : ℕ) → self.old.count ≡ min n (2 ^ 64 - 1) → self.new.count ≡ min (n + length findings.now) (2 ^ 64 - 1)) }
     {
         for finding in findings {
             place.go_on(start, finding.at);
             let at = place.line_column();
             push_error(self.alloc, &mut self.lines, self.name, place, at, *finding)?;
-            self.count += 1;
+            self.count = self.count.saturating_add(1);
         }
         Ok(())
     }

@@ -3,8 +3,7 @@
 //! The first two take the script part by part, each with its table and the output of a parse over it:
 //!
 //! ```text
-//! Walk::new(alloc, names, ..)                its statements, and its tree as text or as JSON,
-//!                                           {"kind":"QUERY","start":0, ..: as much as is asked for
+//! Walk::new(alloc, names, ..)                its tree as text or as JSON, {"kind":"QUERY","start":0, ..
 //! ErrorLines::new(alloc, name)              its errors by their places, each with its line and a mark under it:
 //!                                           a.sql:1:8: expected )
 //! statements(alloc, &table, &output)        its statements alone: the nodes directly in the root, with their bytes
@@ -35,7 +34,7 @@ mod tokens;
 pub use errors::{ErrorLines, error_lines};
 pub use finding_list::Finding;
 pub use line_column::LineColumn;
-pub use one_walk::{Asked, Walk, Walked};
+pub use one_walk::{Asked, Walk};
 pub use place::Place;
 pub use statement_list::{Statement, StatementLines, statement_lines, statements};
 pub use tokens::token_lines;

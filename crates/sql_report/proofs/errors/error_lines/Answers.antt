@@ -14,5 +14,5 @@ returns c =
     let text = c.args.text.now in
     let findings = c.args.findings.now in
     c.in_ok-extend.ensures.lines text [] [] c.whole-place.ensures.of (λ i d lt. record { enough_before = inl refl; line_ends = inl refl })
-    ∙ (ap (λ lines. lines ++ error_texts c.new-shown.result.name.now text (map (moved_finding 0) findings)) c.new-shown.ensures.empty.0
+    ∙ (ap (λ lines. lines ++ error_texts c.new-shown.result.name.now text (map (moved_finding 0) findings)) c.new-shown.ensures.empty
     ∙ (ap (error_texts c.new-shown.result.name.now text) (not_moved findings) ∙ ap (λ name. error_texts name text findings) c.new-shown.ensures.name))

@@ -18,6 +18,5 @@ loop-finding-preserved c =
           error_more script passed rest old c.go_on.new.self same is c.line_column-at.result c.line_column-at.ensures self.name.now c.loop-finding.self.name.now self.lines.items
           c.loop-finding.self.lines.items c.push_error.new.lines.items c.args.findings.now c.args.start c.loop-finding.finding-index _ c.loop-finding-test.true
           (ap (λ (name : Bor (List ℕ)). name.now) loop.name) gone.at sees (loop.lines script passed rest is sees) adds;
-      count = search rules;
-      room = omega (arith, loop.room, ap length adds, length-append {A = ℕ});
+      count = λ n is. omega (arith, loop.count n is, c.saturating_add-self.ensures);
     }

@@ -1,4 +1,4 @@
-use Rattle.std.proofs.Common.{◌≡◌, ◌+◌, ◌≤◌, ◌++◌, List, ℕ, length, map, take}
+use Rattle.std.proofs.Common.{◌≡◌, ◌+◌, ◌-◌, ◌^◌, ◌++◌, List, ℕ, length, map, min, take}
 use Rattle.std.specs.Prelude.{All}
 use Rattle.sql_report.specs.ErrorLines.{error_texts, moved_finding}
 use Rattle.sql_report.specs.Places.{IsSameWindow, IsWindowOf, SeesLine}
@@ -11,6 +11,5 @@ invariant-loop-finding l = record {
   lines : (script passed rest : List ℕ) → IsWindowOf script passed rest l.initial.place → All (λ finding. SeesLine passed rest l.initial.place.window (l.start + finding.at)) l.findings
       → l.self.lines.items
       ≡ l.initial.self.lines.items ++ error_texts l.initial.self.name.now script (map (moved_finding (length passed + l.start)) (take l.finding-index l.findings));
-  count : l.self.count ≡ l.initial.self.count + l.finding-index;
-  room : l.self.count ≤ length l.self.lines.items;
+  count : (n : ℕ) → l.initial.self.count ≡ min n (2 ^ 64 - 1) → l.self.count ≡ min (n + l.finding-index) (2 ^ 64 - 1);
 }

@@ -10,7 +10,7 @@ use Rattle.sql_report.proofs.Windows.{sees_part}
 use Rattle.sql_report.proofs.errors.ErrorLines.part.Goals as goal
 
 pub returns-clause-shows : goal.returns-clause-shows
-returns-clause-shows c = λ script passed rest at errors done inner kind part sent before shown.
+returns-clause-shows c = λ script passed rest given at errors done inner kind part sent before shown.
     let table = c.args.table.now in
     let place = c.args.place.now in
     let start = c.args.start in
@@ -22,6 +22,6 @@ returns-clause-shows c = λ script passed rest at errors done inner kind part se
     let within : All (λ (f : Finding). f.at ≤ n) findings = subst (All (λ (f : Finding). f.at ≤ n)) (sym c.deref.ensures.value) c.in_ok-findings.ensures.within in
     let sees = all_weaker {P = λ f. f.at ≤ n} {Q = λ f. SeesLine passed rest place.window (start + f.at)} findings (λ f le. sees_part script passed rest place at start n f.at part le) within in
     let lines = c.in_ok-extend.ensures.lines script passed rest part.window_of sees in
-    shows_more script c.args.self.now c.extend.new.self at errors table.errors done inner steps kind findings order sent before shown c.extend.ensures.name
+    shows_more script given c.args.self.now c.extend.new.self at errors table.errors done inner steps kind findings order sent before shown c.extend.ensures.name
     (lines ∙ ap (λ n. c.args.self.now.lines.items ++ error_texts c.args.self.now.name.now script (map (moved_finding n) findings)) (sym part.begins))
     c.in_ok-extend.ensures.count

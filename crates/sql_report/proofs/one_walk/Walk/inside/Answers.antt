@@ -37,10 +37,10 @@ loop-step-preserved c =
     ]
 
 pub returns-clause-walks : goal.returns-clause-walks
-returns-clause-walks c = λ done inner last is walked.
+returns-clause-walks c = λ given done inner last is walked.
     let h = c.loop-step.invariant in
-    let given = c.into_iter-step-iterator.ensures.into_iter_gives in
+    let iterates = c.into_iter-step-iterator.ensures.into_iter_gives in
     let left : c.loop-step.step-iterator.steps ≡ [] = search rules in
     let same : h.taken ++ (held_steps c.loop-step.held ++ []) ≡ inner ++ last ∷ [] =
-    ap (λ xs. h.taken ++ (held_steps c.loop-step.held ++ xs)) (sym left) ∙ (sym h.split ∙ (ap (λ (s : StrWalk). s.steps) given ∙ is)) in
-    subst (λ xs. HasWalked c.loop-step.self (done ++ map (moved_by c.args.start) xs)) (all_taken c.loop-step.held h.taken inner last h.none same) (h.walks done walked)
+    ap (λ xs. h.taken ++ (held_steps c.loop-step.held ++ xs)) (sym left) ∙ (sym h.split ∙ (ap (λ (s : StrWalk). s.steps) iterates ∙ is)) in
+    subst (λ xs. HasWalked given c.loop-step.self (done ++ map (moved_by c.args.start) xs)) (all_taken c.loop-step.held h.taken inner last h.none same) (h.walks given done walked)
