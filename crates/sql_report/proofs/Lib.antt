@@ -8,5 +8,6 @@ pub mod JsonLemmas
 pub mod JsonForests
 pub mod SentErrors
 pub mod SentForests
+pub mod PartStatements
 pub mod InOrder
 pub mod HeldSteps

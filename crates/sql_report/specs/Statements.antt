@@ -1,8 +1,9 @@
 -- The statements of a text: the nodes directly in its root.
-use Rattle.std.specs.Prelude.{ℕ, zero, suc, ◌+◌, ◌==◌, Option, None, Some, List, [], ◌∷◌, ◌++◌, codes, encode_utf8_all, if◌then◌else◌, length, option_map}
+use Rattle.std.specs.Prelude.{◌≡◌, ℕ, zero, suc, ◌+◌, ◌==◌, Option, None, Some, List, [], ◌∷◌, ◌++◌, codes, encode_utf8_all, if◌then◌else◌, length, option_map}
 use Rattle.std.specs.List.{flat_map}
 use Rattle.std.specs.Fmt.{decimal}
 use Rattle.squawk_kinds.specs.KindNames.{Names, kind_name}
+use Rattle.squawk_table.specs.Sent.{bytes_of}
 use Rattle.squawk_table.specs.declared.shortcuts.str_step.OwnedStep.{OwnedStep}
 use Rattle.squawk_table.specs.declared.shortcuts.str_step.OwnedStep.TheVariants.{Token, Enter, Exit, Error}
 use Rattle.squawk_tree.specs.TreeText.{bytes_in, nodes_open_behind}
@@ -39,6 +40,18 @@ statements_from depth at (step ∷ steps) =
 -- the statements of a tree
 abbrev pub statements_of : List OwnedStep → List Statement
 statements_of steps = statements_from 0 0 steps
+
+-- ---- of a script, part by part
+
+-- the statement of a script that one of a part is, where the part begins at this byte
+abbrev pub moved_statement : ℕ → Statement → Statement
+moved_statement start s = record s { start = start + s.start; end = start + s.end }
+
+-- Steps in a root that is still open: these of their statements are ended, and no other is begun.
+abbrev pub HasStatements : List OwnedStep → List Statement → Type 0
+HasStatements done ended = (rest : List OwnedStep) → statements_of (done ++ rest) ≡ ended ++ statements_from 1 (bytes_of done) rest
+
+-- ---- lines
 
 -- the line of a statement: its bytes, the line and the column of the first, and its kind
 abbrev pub statement_line : ℕ → ℕ → Names → Statement → List ℕ
