@@ -1,13 +1,13 @@
 -- One more line that is made at a place of a window.
-use Rattle.std.proofs.Common.{◌≡◌, ◌∙◌, ◌⊎◌, inl, inr, ℕ, ◌+◌, ◌-◌, ◌<◌, ◌≤◌, List, [], ◌∷◌, ◌++◌, length, map, min, get_or, take, append_assoc, ap, arith, subst, sym}
+use Rattle.std.proofs.Common.{◌≡◌, ◌∙◌, inr, ℕ, ◌+◌, ◌<◌, ◌≤◌, ◌^◌, List, [], ◌∷◌, ◌++◌, length, length-append, map, min, get_or, take, append_assoc, ap, arith, subst, sym}
 use Rattle.std.specs.Prelude.{All}
 use Rattle.std.proofs.lemmas.Grind.{flat_map-append}
-use Rattle.std.proofs.lemmas.List.{append-nil, map_more, take_more}
+use Rattle.std.proofs.lemmas.List.{append-nil, map_more}
 use Rattle.squawk_kinds.specs.KindNames.{Names}
 use Rattle.sql_report.specs.ErrorLines.{error_at, error_texts, moved_finding, shown_error}
 use Rattle.sql_report.specs.Findings.{told}
-use Rattle.sql_report.specs.Places.{IsSameWindow, IsWindowOf, SeesLine, Spot, StandsIn, column_at, line_at, shown_before, shown_behind}
-use Rattle.sql_report.specs.Statements.{statement_line, statement_lines}
+use Rattle.sql_report.specs.Places.{IsSameWindow, IsWindowOf, SeesLine, Spot, column_at, line_at, shown_before, shown_behind}
+use Rattle.sql_report.specs.Statements.{moved_statement, statement_line, statement_lines}
 use Rattle.sql_report.specs.declared.finding_list.Finding.{Finding}
 use Rattle.sql_report.specs.declared.line_column.LineColumn.{LineColumn}
 use Rattle.sql_report.specs.declared.statement_list.Statement.{Statement}
@@ -37,30 +37,32 @@ module _ (script passed rest : List ℕ) (old place : Spot) (same : IsSameWindow
       adds ∙ (ap (λ l. l ++ shown) before ∙ (append_assoc base texts shown ∙ ap (λ l. base ++ l) (ap (λ l. texts ++ l) shown_is ∙ sym more)))
 
   -- a statement's
-  pub statement_more : (base lines next : List ℕ) (names called : Names) (statements : List Statement) (start n i : ℕ) (s : Statement) → i < length statements → s ≡ get_or statements i s
-      → called ≡ names → length passed ≡ start → n ≡ s.start - start → place.at ≡ min n (length place.window) → All (λ s. StandsIn passed rest old.window s.start) statements
-      → lines ≡ base ++ statement_lines script names (take i statements) → next ≡ lines ++ statement_line c.line c.column called s
-      → next ≡ base ++ statement_lines script names (take (i + 1) statements)
-  statement_more base lines next names called statements start n i s lt item are_names begins moved there stand before adds =
-      let stands : StandsIn passed rest old.window s.start = subst (λ (s : Statement). StandsIn passed rest old.window s.start) (sym item) (stand i s lt) in
-      let begun = stands.begun in
-      let whole : length passed + n ≡ s.start = omega arith in
-      let counted = place_there script passed rest old place same is n there c counts (inside n (omega (arith, moved, begins)) stands.within) in
-      let line : c.line ≡ line_at script s.start = counted.0 ∙ ap (line_at script) whole in
-      let column : c.column ≡ column_at script s.start = counted.1 ∙ ap (column_at script) whole in
-      let texts = statement_lines script names (take i statements) in
-      let here = statement_line (line_at script s.start) (column_at script s.start) names s in
-      let more : statement_lines script names (take (i + 1) statements) ≡ texts ++ here =
-      ap (statement_lines script names) (take_more statements i s lt ∙ ap (λ s. take i statements ++ s ∷ []) (sym item))
-      ∙ (flat_map-append (λ (s : Statement). statement_line (line_at script s.start) (column_at script s.start) names s) (take i statements) (s ∷ [])
+  pub statement_more : (base lines next : List ℕ) (names called : Names) (statements : List Statement) (in_window start i : ℕ) (s told : Statement) → i < length statements
+      → s ≡ get_or statements i s → called ≡ names → start ≡ length passed + in_window → place.at ≡ min (in_window + s.start) (length place.window)
+      → All (λ s. (in_window + s.start ≤ length old.window) × (start + s.end < 2 ^ 64)) statements
+      → (start + s.start < 2 ^ 64 → start + s.end < 2 ^ 64 → told ≡ moved_statement start s)
+      → lines ≡ base ++ statement_lines script names (map (moved_statement start) (take i statements)) → next ≡ lines ++ statement_line c.line c.column called told
+      → next ≡ base ++ statement_lines script names (map (moved_statement start) (take (i + 1) statements))
+  statement_more base lines next names called statements in_window start i s told lt item are_names begins there stand is_told before adds =
+      let stands : (in_window + s.start ≤ length old.window) × (start + s.end < 2 ^ 64) =
+      subst (λ (s : Statement). (in_window + s.start ≤ length old.window) × (start + s.end < 2 ^ 64)) (sym item) (stand i s lt) in
+      let few = is.countable in
+      let moved = moved_statement start s in
+      let told_is : told ≡ moved = is_told (omega (arith, begins, stands.0, few, length-append passed old.window)) stands.1 in
+      let whole : length passed + (in_window + s.start) ≡ start + s.start = omega (arith, begins) in
+      let counted = place_there script passed rest old place same is (in_window + s.start) there c counts (inr stands.0) in
+      let line : c.line ≡ line_at script moved.start = counted.0 ∙ ap (line_at script) whole in
+      let column : c.column ≡ column_at script moved.start = counted.1 ∙ ap (column_at script) whole in
+      let texts = statement_lines script names (map (moved_statement start) (take i statements)) in
+      let here = statement_line (line_at script moved.start) (column_at script moved.start) names moved in
+      let more : statement_lines script names (map (moved_statement start) (take (i + 1) statements)) ≡ texts ++ here =
+      ap (statement_lines script names) (map_more (moved_statement start) statements i s lt ∙ ap (λ s. map (moved_statement start) (take i statements) ++ moved_statement start s ∷ []) (sym item))
+      ∙ (flat_map-append (λ (s : Statement). statement_line (line_at script s.start) (column_at script s.start) names s) (map (moved_statement start) (take i statements)) (moved ∷ [])
       ∙ ap (λ l. texts ++ l) (append-nil here)) in
-      let here_is : statement_line c.line c.column called s ≡ here =
-      ap (λ names. statement_line c.line c.column names s) are_names
-      ∙ (ap (λ n. statement_line n c.column names s) line ∙ ap (λ n. statement_line (line_at script s.start) n names s) column) in
+      let here_is : statement_line c.line c.column called told ≡ here =
+      ap (λ names. statement_line c.line c.column names told) are_names
+      ∙ (ap (statement_line c.line c.column names) told_is
+      ∙ (ap (λ n. statement_line n c.column names moved) line ∙ ap (λ n. statement_line (line_at script moved.start) n names moved) column)) in
       adds
-      ∙ (ap (λ l. l ++ statement_line c.line c.column called s) before
-      ∙ (append_assoc base texts (statement_line c.line c.column called s) ∙ ap (λ l. base ++ l) (ap (λ l. texts ++ l) here_is ∙ sym more)))
-    where
-      inside : (n : ℕ) → n ≡ s.start - length passed → (rest ≡ []) ⊎ (s.start ≤ length passed + length old.window) → (rest ≡ []) ⊎ (n ≤ length old.window)
-      inside n is (inl none) = inl none
-      inside n is (inr le) = inr (omega (arith, is, le))
+      ∙ (ap (λ l. l ++ statement_line c.line c.column called told) before
+      ∙ (append_assoc base texts (statement_line c.line c.column called told) ∙ ap (λ l. base ++ l) (ap (λ l. texts ++ l) here_is ∙ sym more)))

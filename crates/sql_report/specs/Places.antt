@@ -76,11 +76,6 @@ pub record IsWindowOf (script passed rest : List ℕ) (place : Spot) : Type 0 wh
   pub before_is : IsLineColumn passed place.before
   pub countable : AreCountable (passed ++ place.window)
 
--- A byte of a script is one of a window or of its end, or stands after the script's end.
-pub record StandsIn (passed rest window : List ℕ) (at : ℕ) : Type 0 where
-  pub begun : length passed ≤ at
-  pub within : (rest ≡ []) ⊎ (at ≤ length passed + length window)
-
 -- What is counted on the way to a byte is its line and its column, whatever stands before the window.
 pub record IsCounted (window : List ℕ) (before : LineColumn) (at : ℕ) (here : LineColumn) : Type 0 where
   pub within : at ≤ length window

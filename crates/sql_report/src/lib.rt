@@ -8,7 +8,6 @@
 //!                                           a.sql:1:8: expected )
 //! statements(alloc, &table, &output)        its statements alone: the nodes directly in the root, with their bytes
 //! StatementLines::new(alloc, names)         0..9 1:1 QUERY
-//! statement_lines(alloc, text, ..)          the same for a whole text
 //! error_lines(alloc, name, text, ..)        the lines of other errors of a whole text, in the same form
 //! ```
 //!
@@ -36,5 +35,5 @@ pub use finding_list::Finding;
 pub use line_column::LineColumn;
 pub use one_walk::{Asked, Walk};
 pub use place::Place;
-pub use statement_list::{Statement, StatementLines, statement_lines, statements};
+pub use statement_list::{Statement, StatementLines, statements};
 pub use tokens::token_lines;

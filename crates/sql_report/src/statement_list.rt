@@ -1,14 +1,16 @@
 //! The statements of a text: the nodes directly in its root.
-ghost use Rattle.std.specs.Prelude.{◌≡◌, ◌+◌, ◌++◌, ◌<◌, ◌≤◌, ◌^◌, List, ◌∷◌, IfOk, OnOk, encode_utf8_all, length, map, string_bytes};
+ghost use Rattle.std.specs.Prelude.{◌≡◌, ◌+◌, ◌++◌, ◌<◌, ◌≤◌, ◌^◌, ℕ, All, List, [], ◌∷◌, IfOk, OnOk, encode_utf8_all, length, map, string_bytes};
 ghost use Rattle.std.specs.Str.{chars};
 ghost use Rattle.squawk_table.specs.Sent.{bytes_of, sent_list};
 ghost use Rattle.squawk_table.specs.Shape.{Fits};
 ghost use Rattle.squawk_table.specs.SinkViews.{owned_step_of};
 ghost use Rattle.squawk_table.specs.declared.shortcuts.str_step.OwnedStep.{OwnedStep};
+ghost use Rattle.squawk_table.specs.declared.shortcuts.str_step.OwnedStep.TheVariants.{Enter, Exit};
 ghost use Rattle.squawk_tree.specs.TreeText.{bytes_in};
+ghost use Rattle.sql_grammar.specs.Parts.{moved_by};
 ghost use Rattle.sql_grammar.specs.ReadParts.{ErrorsBelow};
 ghost use Rattle.sql_report.specs.OpenNodes.{closed, front_nodes, statements_left};
-ghost use Rattle.sql_report.specs.Statements.{statement_line, statement_lines, statements_of};
+ghost use Rattle.sql_report.specs.Statements.{HasStatements, moved_statement, statement_line, statements_of};
 
 use crate::line_column::LineColumn;
 use crate::place::Place;
@@ -41,7 +43,13 @@ pub fn statements(
     output: &Output,
 ) -> Result<Vec<Statement>, AllocError>
     requires { Fits table.now output.now.steps }
-    ensures { IfOk result (λ all. all.items ≡ statements_of (sent_list table.now output.now.steps)) }
+    ensures all { IfOk result (λ all. all.items ≡ statements_of (sent_list table.now output.now.steps)) }
+    // They stand in the text.
+    ensures within { IfOk result (λ all. All (λ s. (s.start ≤ length table.now.text) × (s.end ≤ length table.now.text)) all.items) }
+    // Those of a part are the next ones of the script.
+    ensures part { IfOk result (λ all. (done inner : List OwnedStep) (ended : List Statement) (kind : ℕ)
+        → sent_list table.now output.now.steps ≡ Enter kind ∷ inner ++ Exit ∷ [] → HasStatements done ended
+        → HasStatements (done ++ map (moved_by (bytes_of done)) inner) (ended ++ map (moved_statement (bytes_of done)) all.items)) }
 {
     statements_in(alloc, steps_of(table, output))
 }
@@ -146,9 +154,9 @@ pub struct StatementLines<'n, 's> {
 }
 
 impl<'n, 's> StatementLines<'n, 's> {
-    ghost use Rattle.std.specs.Prelude.{◌≡◌, ◌++◌, [], List, ℕ, All, OnOk, length, map, string_bytes};
-    ghost use Rattle.sql_report.specs.Places.{IsSameWindow, IsWindowOf, StandsIn};
-    ghost use Rattle.sql_report.specs.Statements.{statement_lines};
+    ghost use Rattle.std.specs.Prelude.{◌≡◌, ◌+◌, ◌++◌, ◌<◌, ◌≤◌, ◌^◌, [], List, ℕ, All, OnOk, length, map, string_bytes};
+    ghost use Rattle.sql_report.specs.Places.{IsSameWindow, IsWindowOf};
+    ghost use Rattle.sql_report.specs.Statements.{moved_statement, statement_lines};
 
     /// No lines. Kinds have these names.
     pub fn new(alloc: Global, names: &'n [(SyntaxKind, &'s str)]) -> StatementLines<'n, 's>
@@ -161,46 +169,43 @@ impl<'n, 's> StatementLines<'n, 's> {
         }
     }
 
-    /// Adds the lines of statements that begin in a window, which begins at a byte of the script.
+    /// Adds the lines of a part's statements, whose places count from its start: the part begins at a byte of the window and
+    /// at one of the script.
     pub fn part(
         &mut self,
         place: &mut Place<'_>,
+        in_window: usize,
         start: usize,
         statements: &[Statement],
     ) -> Result<(), AllocError>
         ensures names { self.new.names ≡ self.old.names }
         ensures window { IsSameWindow place.old place.new }
-        ensures lines { OnOk result ((script passed rest : List ℕ) → length passed ≡ start → IsWindowOf script passed rest place.old
-            → All (λ statement. StandsIn passed rest place.old.window statement.start) statements.now
-            → string_bytes self.new.lines ≡ string_bytes self.old.lines ++ statement_lines script self.old.names statements.now) }
+        ensures lines { OnOk result ((script passed rest : List ℕ) → IsWindowOf script passed rest place.old → start ≡ length passed + in_window
+            → All (λ s. (in_window + s.start ≤ length place.old.window) × (start + s.end < 2 ^ 64)) statements.now
+            → string_bytes self.new.lines ≡ string_bytes self.old.lines ++ statement_lines script self.old.names (map (moved_statement start) statements.now)) }
     {
         for statement in statements {
-            place.go_to(statement.start.saturating_sub(start));
+            place.go_on(in_window, statement.start);
             push_statement(
                 &mut self.lines,
                 &mut self.names,
                 place.line_column(),
-                *statement,
+                moved(*statement, start),
             )?;
         }
         Ok(())
     }
 }
 
-/// The lines of statements of a text, in the same form.
-pub fn statement_lines(
-    alloc: Global,
-    text: &str,
-    statements: &[Statement],
-    names: &[(SyntaxKind, &str)],
-) -> Result<String, AllocError>
-    ensures { IfOk result (λ lines. string_bytes lines
-        ≡ statement_lines text.now (map (λ pair. (pair.0, pair.1.now)) names.now) statements.now) }
+/// The statement in a script, where its part begins at this byte.
+fn moved(statement: Statement, start: usize) -> Statement
+    ensures { start + statement.start < 2 ^ 64 → start + statement.end < 2 ^ 64 → result ≡ moved_statement start statement }
 {
-    let mut lines = StatementLines::new(alloc, names);
-    let mut place = Place::whole(text);
-    lines.part(&mut place, 0, statements)?;
-    Ok(lines.lines)
+    Statement {
+        kind: statement.kind,
+        start: start.saturating_add(statement.start),
+        end: start.saturating_add(statement.end),
+    }
 }
 
 /// Puts the line of a statement after others.

@@ -101,9 +101,9 @@ fn statements_have_lines_in_a_window(rt: HostRuntime) -> Result<(), Fail> {
     let statement = |start, end| Statement { kind, start, end };
     let mut lines = StatementLines::new(alloc, &names);
     let first = [statement(0, 110)];
-    lines.part(&mut window(text.as_str(), 0, 110), 0, &first)?;
-    let others = [statement(111, 121), statement(122, 132)];
-    lines.part(&mut window(text.as_str(), 107, 133), 107, &others)?;
+    lines.part(&mut window(text.as_str(), 0, 110), 0, 0, &first)?;
+    let others = [statement(0, 10), statement(11, 21)];
+    lines.part(&mut window(text.as_str(), 107, 133), 4, 111, &others)?;
     let wanted = "0..110 1:1 QUERY\n111..121 1:62 QUERY\n122..132 2:1 QUERY\n";
     assert_eq!(rt; lines.lines.as_str(), wanted);
     Ok(())
