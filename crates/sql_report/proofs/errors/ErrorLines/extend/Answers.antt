@@ -1,4 +1,4 @@
-use Rattle.std.proofs.Common.{Bor, List, ℕ, ◌∙◌, ap, arith, length, length-append, rules}
+use Rattle.std.proofs.Common.{Bor, List, ℕ, ◌∙◌, ap, arith}
 use Rattle.sql_report.specs.Places.{IsSameWindow}
 use Rattle.sql_report.proofs.WindowLines.{error_more}
 use Rattle.sql_report.proofs.errors.ErrorLines.extend.Goals as goal

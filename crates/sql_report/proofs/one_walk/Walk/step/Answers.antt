@@ -1,9 +1,8 @@
-use Rattle.std.proofs.Common.{◌∙◌, [], ◌∷◌, ◌++◌, append_assoc, arith, subst, sym}
+use Rattle.std.proofs.Common.{◌∙◌, [], ◌∷◌, ◌++◌, append_assoc, arith}
 use Rattle.std.proofs.lemmas.List.Sums.{sum_by-append}
 use Rattle.std.proofs.lemmas.Result.{on_ok_weaker}
 use Rattle.squawk_table.specs.SinkViews.{owned_step_of}
 use Rattle.squawk_tree.specs.TreeText.{bytes_in}
-use Rattle.sql_report.specs.OnTheWay.{DrawsBefore}
 use Rattle.sql_report.proofs.one_walk.Walk.step.Goals as goal
 
 pub returns-clause-walks : goal.returns-clause-walks
