@@ -1,3 +1,2 @@
 mod OptionLemmas
-mod Reasons
 mod TellsTextsLemmas

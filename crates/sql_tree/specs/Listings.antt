@@ -13,18 +13,23 @@ use Rattle.sql_tree.specs.declared.options.Listing.{Listing}
 use Rattle.sql_tree.specs.declared.options.Listing.TheVariants.{Tree, Statements, Json, Tokens, Quiet}
 use Rattle.sql_tree.specs.declared.sql.Sql.{Sql}
 
--- what is listed of a text for which these steps are sent
-abbrev pub listed : Sql → Listing → List ℕ → List OwnedStep → List ℕ
-listed sql Tree text sent = tree_text (names_of sql.names.items) sent
-listed sql Statements text sent = statement_lines text (names_of sql.names.items) (statements_of sent)
-listed sql Json text sent = json_lines (names_of sql.names.items) sent
-listed sql Tokens text sent = token_lines 0 (script_tokens text)
-listed sql Quiet text sent = []
+-- what is listed of a script for which these steps are sent
+abbrev pub listed_in_parts : Sql → Listing → List ℕ → List OwnedStep → List ℕ
+listed_in_parts sql Tree script sent = tree_text (names_of sql.names.items) sent
+listed_in_parts sql Statements script sent = statement_lines script (names_of sql.names.items) (statements_of sent)
+listed_in_parts sql Json script sent = json_lines (names_of sql.names.items) sent
+listed_in_parts sql Tokens script sent = []
+listed_in_parts sql Quiet script sent = []
 
--- what is asked of a parse for a listing
+-- the raw tokens of a script, where they are asked for
+abbrev pub raw_lines : Listing → List ℕ → List ℕ
+raw_lines Tokens script = token_lines 0 (script_tokens script)
+raw_lines listing script = []
+
+-- what is drawn of a parse for a listing
 abbrev pub asked_for : Listing → Asked
 asked_for Tree = asked.Tree
-asked_for Statements = asked.Statements
+asked_for Statements = asked.Nothing
 asked_for Json = asked.Json
-asked_for Tokens = asked.Statements
-asked_for Quiet = asked.Errors
+asked_for Tokens = asked.Nothing
+asked_for Quiet = asked.Nothing

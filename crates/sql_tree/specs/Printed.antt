@@ -1,5 +1,5 @@
 -- What is printed.
-use Rattle.std.specs.Prelude.{ℕ, ◌+◌, ◌-◌, ◌^◌, min, nat_lt, Bool, false, true, List, [], ◌++◌, Result, Ok, Err, codes, if◌then◌else◌, string_bytes}
+use Rattle.std.specs.Prelude.{ℕ, ◌+◌, ◌-◌, ◌^◌, ◌||◌, min, nat_lt, is_some, Bool, false, true, List, [], ◌++◌, Option, None, Some, codes, if◌then◌else◌}
 use Rattle.std.specs.Fmt.{decimal}
 use Rattle.sql_tree.specs.Refusals.{unread_line}
 use Rattle.sql_tree.specs.declared.options.Listing.{Listing}
@@ -18,15 +18,10 @@ has_headings listing count = nat_lt 1 count
 abbrev pub heading : Bool → List ℕ → List ℕ
 heading has name = if has then name ++ codes ":\n" else []
 
--- what goes to the standard output for a text of this name: a text that can't be read has no heading
-abbrev pub printed : Bool → List ℕ → Result Report Unread → List ℕ
-printed has name (Ok report) = heading has name ++ string_bytes report.listing
-printed has name (Err unread) = []
-
--- what goes to the standard error output for it: its errors, or why it can't be read
-abbrev pub printed_errors : List ℕ → Result Report Unread → List ℕ
-printed_errors name (Ok report) = report.errors.items
-printed_errors name (Err unread) = name ++ codes ": " ++ unread_line unread ++ codes "\n"
+-- why a text of a name isn't read to its end, if it isn't
+abbrev pub reason_line : List ℕ → Option Unread → List ℕ
+reason_line name None = []
+reason_line name (Some unread) = name ++ codes ": " ++ unread_line unread ++ codes "\n"
 
 -- a sum, up to the greatest `usize`
 abbrev sum_within : ℕ → ℕ → ℕ
@@ -37,20 +32,19 @@ abbrev pub no_totals : Totals
 no_totals = record { files = 0; statements = 0; errors = 0; unread = false }
 
 -- what is counted, with one more text
-abbrev pub counted : Totals → Result Report Unread → Totals
-counted totals (Ok report) = record {
-  files = sum_within totals.files 1;
+abbrev pub counted : Totals → Report → Totals
+counted totals report = record {
+  files = if is_some report.unread then totals.files else sum_within totals.files 1;
   statements = sum_within totals.statements report.statement_count;
   errors = sum_within totals.errors report.error_count;
-  unread = totals.unread;
+  unread = is_some report.unread || totals.unread;
 }
-counted totals (Err unread) = record totals { unread = true }
 
 -- the last line
 abbrev pub totals_line : Totals → List ℕ
 totals_line totals =
     codes "files: " ++ decimal totals.files ++ codes ", statements: " ++ decimal totals.statements ++ codes ", errors: " ++ decimal totals.errors ++ codes "\n"
 
--- the status that the program ends with: 3 where a file couldn't be read, else 1 where there are errors
+-- the status that the program ends with: 3 where a file couldn't be read to its end, else 1 where there are errors
 abbrev pub status_of : Totals → ℕ
 status_of totals = if totals.unread then 3 else (if nat_lt 0 totals.errors then 1 else 0)

@@ -1,38 +1,88 @@
--- What is told of a text.
-use Rattle.std.specs.Prelude.{◌≡◌, ◌≢◌, ℕ, List, length, string_bytes}
+-- What is told of a script.
+use Rattle.std.specs.Prelude.{◌≡◌, ◌≢◌, ℕ, ◌-◌, ◌^◌, min, List, [], ◌∷◌, ◌++◌, None, Some, length}
+use Rattle.std.specs.Str.{IsValidUpTo}
 use Rattle.squawk_kinds.specs.EngineNames.{names_of}
+use Rattle.squawk_output.specs.Steps.{Step}
+use Rattle.squawk_parser.specs.declared.parser.parse_error.ParseError.{ParseError}
+use Rattle.squawk_parser.specs.declared.parser.parse_error.ParseError.TheVariants as parse
+use Rattle.squawk_table.specs.RawTable.{Table}
+use Rattle.squawk_table.specs.Sent.{sent_list}
+use Rattle.squawk_table.specs.Shape.{Fits}
 use Rattle.squawk_table.specs.declared.shortcuts.str_step.OwnedStep.{OwnedStep}
+use Rattle.squawk_table.specs.declared.shortcuts.str_step.OwnedStep.TheVariants.{Exit}
 use Rattle.squawk_tokens.specs.LexicalErrors.{LexicalError}
+use Rattle.sql_lexer.specs.declared.script.places.Place.{Place}
+use Rattle.sql_lexer.specs.declared.script.script_place.ScriptPlace.{ScriptPlace}
 use Rattle.sql_words.specs.SqlKinds.{names}
 use Rattle.sql_words.specs.SqlVocabulary.{KnowsKeywords}
-use Rattle.sql_grammar.specs.ReadParts.{IsScriptParse}
+use Rattle.sql_grammar.specs.ReadParts.{IsRefusedPart, IsScriptParse, ReadSoFar}
+use Rattle.sql_grammar.specs.declared.script_parts.Progress.{Progress}
 use Rattle.sql_report.specs.ErrorLines.{error_texts}
 use Rattle.sql_report.specs.Findings.{AreInOrder, all_told}
 use Rattle.sql_report.specs.JsonTrees.{HasTreeLines}
 use Rattle.sql_report.specs.Statements.{statements_of}
 use Rattle.sql_report.specs.declared.finding_list.Finding.{Finding}
-use Rattle.sql_tree.specs.Listings.{listed}
+use Rattle.sql_tree.specs.Listings.{listed_in_parts}
 use Rattle.sql_tree.specs.declared.options.Listing.{Listing}
 use Rattle.sql_tree.specs.declared.options.Listing.TheVariants.{Json, Quiet}
 use Rattle.sql_tree.specs.declared.report.Report.{Report}
 use Rattle.sql_tree.specs.declared.sql.Sql.{Sql}
+use Rattle.sql_tree.specs.declared.unread.Unread.{Unread}
+use Rattle.sql_tree.specs.declared.unread.Unread.TheVariants.{Io, NotUtf8, TextTooLong, TooManyEvents, TooManyErrors, OutOfMemory}
 
 -- it knows PostgreSQL's keywords, and the names of all kinds
 pub record IsSql (sql : Sql) : Type 0 where
   pub keywords : KnowsKeywords sql.vocabulary
   pub named : names_of sql.names.items ≡ names
 
--- The parse of the text by rules from which stray strings are hidden. What is listed is that of what is sent for it, and the errors
--- are the lexical ones and those that are sent, in the order of their places. With --json the listing has values of JSON: the
--- statements of a tree that is sent.
-pub record IsReport (sql : Sql) (listing : Listing) (name text : List ℕ) (report : Report) : Type 0 where
-  pub lexical : List LexicalError
-  pub sent : List OwnedStep
-  pub parse : IsScriptParse sql.vocabulary text lexical sent
+-- A front of a script is read, and its parse has these lexical errors and these steps, up to the end of the root.
+pub record IsFront (sql : Sql) (script : List ℕ) (lexical : List LexicalError) (done : List OwnedStep) : Type 0 where
+  pub read : List ℕ
+  pub left : List ℕ
+  pub script_is : script ≡ read ++ left
+  pub progress : Progress
+  pub place : Place
+  pub so_far : ReadSoFar progress sql.vocabulary sql.rules read left place lexical done
+
+-- the parse of some statements of a script is refused
+pub record IsRefusedIn (sql : Sql) (script : List ℕ) (reason : ParseError) : Type 0 where
+  pub before : List ℕ
+  pub text : List ℕ
+  pub after : List ℕ
+  pub script_is : script ≡ before ++ (text ++ after)
+  pub place : ScriptPlace
+  pub refused : IsRefusedPart sql.vocabulary place text reason
+
+-- Why a script of at most 4294967295 bytes isn't told of to its end. At want of memory nothing is said of it, nor of why reading fails.
+abbrev pub StopsScript : Sql → List ℕ → Unread → Type 0
+StopsScript sql script (Io kind) = Unit {0}
+StopsScript sql script (NotUtf8 at) = IsValidUpTo script at
+StopsScript sql script TextTooLong = ⊥
+StopsScript sql script TooManyEvents = IsRefusedIn sql script parse.TooManyEvents
+StopsScript sql script TooManyErrors = IsRefusedIn sql script parse.TooManyErrors
+StopsScript sql script OutOfMemory = Unit {0}
+
+-- What goes to the standard output is what is listed of the steps, up to the end of the root, and what goes to the standard error
+-- output are the lexical errors and those that are sent, in the order of their places. Both statements and errors are counted. With
+-- --json the listing has values of JSON: the statements of a tree that is sent.
+pub record IsPrinted (sql : Sql) (listing : Listing) (name script out errs : List ℕ) (lexical : List LexicalError) (done : List OwnedStep) (statement_count error_count : ℕ) : Type 0 where
   pub findings : List Finding
-  pub in_order : AreInOrder (all_told lexical sent) findings
-  pub errors : report.errors.items ≡ error_texts name text findings
-  pub error_count : report.error_count ≡ length findings
-  pub list : string_bytes report.listing ≡ listed sql listing text sent
-  pub values : listing ≡ Json → HasTreeLines (names_of sql.names.items) sent (string_bytes report.listing)
-  pub statement_count : listing ≢ Quiet → report.statement_count ≡ length (statements_of sent)
+  pub in_order : AreInOrder (all_told lexical done) findings
+  pub errors : errs ≡ error_texts name script findings
+  pub errors_counted : error_count ≡ min (length findings) (2 ^ 64 - 1)
+  pub list : out ≡ listed_in_parts sql listing script (done ++ Exit ∷ [])
+  pub values : listing ≡ Json → (table : Table) (steps : List Step) → Fits table steps → sent_list table steps ≡ done ++ Exit ∷ [] → HasTreeLines (names_of sql.names.items) (done ++ Exit ∷ []) out
+  pub statements_counted : listing ≢ Quiet → statement_count ≡ min (length (statements_of (done ++ Exit ∷ []))) (2 ^ 64 - 1)
+
+-- What is told of a script, as far as it is read: of a whole one, of its parse.
+pub record IsTold (sql : Sql) (listing : Listing) (name script out errs : List ℕ) (report : Report) : Type 0 where
+  pub lexical : List LexicalError
+  pub done : List OwnedStep
+  pub front : IsFront sql script lexical done
+  pub whole : report.unread ≡ None → IsScriptParse sql.vocabulary script lexical (done ++ Exit ∷ [])
+  pub printed : IsPrinted sql listing name script out errs lexical done report.statement_count report.error_count
+
+-- What is told of a script of at most 4294967295 bytes, and why not more. At want of memory it isn't said what was told before.
+pub record IsToldOf (sql : Sql) (listing : Listing) (name script out errs : List ℕ) (report : Report) : Type 0 where
+  pub told : report.unread ≢ Some OutOfMemory → IsTold sql listing name script out errs report
+  pub stops : (reason : Unread) → report.unread ≡ Some reason → StopsScript sql script reason

@@ -1,20 +1,19 @@
 //! The texts that are named, one after another.
 ghost use Rattle.std.specs.Prelude.{◌≡◌, IfOk, OnErr, OnOk, length, map, true};
 ghost use Rattle.std.specs.Io.KnownBytes.{Appends};
-ghost use Rattle.sql_tree.specs.Printed.{has_headings, heading, printed, printed_errors};
-ghost use Rattle.sql_tree.specs.Refusals.{IsToldOf};
-ghost use Rattle.sql_tree.specs.Told.{TellsAll, TellsTexts, last_line};
+ghost use Rattle.sql_tree.specs.Printed.{has_headings, heading};
+ghost use Rattle.sql_tree.specs.Told.{TellsAll, TellsText, TellsTexts, Told, last_line};
 
 use crate::options::Listing;
 use crate::printer::Printer;
-use crate::report::Report;
+use crate::report::{Report, tell_text};
 use crate::sql::Sql;
 use crate::texts::{Files, StandardInput, Texts};
 use crate::totals::Totals;
 use crate::unread::Unread;
 use std::alloc::Global;
+use std::io;
 use std::io::Write;
-use std::{io, str};
 
 /// What a text from the standard input is called.
 const STANDARD_INPUT: &str = "<stdin>";
@@ -48,7 +47,7 @@ pub fn tell_all<T: Texts, W: Write + Drop, E: Write + Drop>(
     names: &[&str],
     printer: &mut Printer<W, E>,
 ) -> io::Result<u8>
-    ensures told { IfOk result (TellsAll (T.gives texts.now) sql.now listing (map (λ name. name.now) names.now)
+    ensures told { IfOk result (TellsAll (T.gives texts.now) T.Reader.remaining sql.now listing (map (λ name. name.now) names.now)
         (W.contents printer.old.out) (W.contents printer.new.out) (E.contents printer.old.errors) (E.contents printer.new.errors)) }
     ensures failed { OnErr result (printer.new.has_failed ≡ true) }
 {
@@ -66,17 +65,15 @@ fn tell_texts<T: Texts, W: Write + Drop, E: Write + Drop>(
     names: &[&str],
     printer: &mut Printer<W, E>,
 ) -> io::Result<Totals>
-    ensures told { IfOk result (λ totals. TellsTexts (T.gives texts.now) sql.now listing (has_headings listing (length names.now)) (map (λ name. name.now) names.now)
+    ensures told { IfOk result (λ totals. TellsTexts (T.gives texts.now) T.Reader.remaining sql.now listing (has_headings listing (length names.now)) (map (λ name. name.now) names.now)
         totals (W.contents printer.old.out) (W.contents printer.new.out) (E.contents printer.old.errors) (E.contents printer.new.errors)) }
     ensures failed { OnErr result (printer.new.has_failed ≡ true) }
 {
     let has_heading = has_headings(listing, names.len());
     let mut totals = Totals::new();
     for name in names {
-        let bytes = texts.read(name);
-        let report = report(alloc, sql, listing, name, bytes);
+        let report = tell(alloc, sql, listing, texts, has_heading, name, printer)?;
         totals.count(&report);
-        tell(printer, has_heading, name, &report)?;
     }
     Ok(totals)
 }
@@ -107,46 +104,32 @@ pub fn has_headings(listing: Listing, count: usize) -> bool
     }
 }
 
-/// What is told of the bytes that were read.
-#[tactic(auto, using(crate::proofs::Reasons::of_text))]
-fn report(
+/// Tells of a text of a name, and why it isn't read to its end.
+fn tell<T: Texts, W: Write + Drop, E: Write + Drop>(
     alloc: Global,
     sql: &Sql,
     listing: Listing,
-    name: &str,
-    bytes: io::Result<Vec<u8>>,
-) -> Result<Report, Unread>
-    ensures { IsToldOf sql.now listing name.now bytes result }
-{
-    let bytes = bytes?;
-    match str::from_utf8(&bytes) {
-        Ok(text) => Report::new(alloc, sql, listing, name, text),
-        Err(error) => Err(Unread::NotUtf8 {
-            at: error.valid_up_to(),
-        }),
-    }
-}
-
-/// Prints what is told of a text.
-fn tell<W: Write + Drop, E: Write + Drop>(
-    printer: &mut Printer<W, E>,
+    texts: &T,
     has_heading: bool,
     name: &str,
-    report: &Result<Report, Unread>,
-) -> io::Result<()>
-    ensures listed { OnOk result (Appends (W.contents printer.old.out) (W.contents printer.new.out) (printed has_heading name.now report.now)) }
-    ensures errors { OnOk result (Appends (E.contents printer.old.errors) (E.contents printer.new.errors) (printed_errors name.now report.now)) }
-    ensures unlisted { OnErr report.now (printer.new.out ≡ printer.old.out) }
+    printer: &mut Printer<W, E>,
+) -> io::Result<Report>
+    ensures told { IfOk result (λ report. (t : Told T.Reader) × ((t.name ≡ name.now) × ((t.report ≡ report) × (T.gives texts.now name.now t.opened
+        × (TellsText T.Reader.remaining sql.now listing has_heading t
+        × (Appends (W.contents printer.old.out) (W.contents printer.new.out) t.out × Appends (E.contents printer.old.errors) (E.contents printer.new.errors) t.errs)))))) }
     ensures failed { OnErr result (printer.new.has_failed ≡ true) }
 {
-    match report {
-        Ok(report) => {
+    let report = match texts.open(name) {
+        Ok(reader) => {
             print_heading(printer, has_heading, name)?;
-            printer.print(report.listing.as_bytes())?;
-            printer.print_errors(&report.errors)
+            tell_text(alloc, sql, listing, name, reader, printer)?
         }
-        Err(unread) => printer.print_unread(name, *unread),
+        Err(error) => Report::unread(Unread::Io(error.kind())),
+    };
+    if let Some(reason) = report.unread {
+        printer.print_unread(name, reason)?;
     }
+    Ok(report)
 }
 
 /// Prints a text's name, where it has a heading.

@@ -2,10 +2,13 @@
 #![tactic(auto)]
 
 mod inputs;
+mod listing;
 mod options;
 mod printer;
 mod report;
 mod sql;
+mod stop;
+mod telling;
 #[cfg(test)]
 mod tests;
 mod texts;

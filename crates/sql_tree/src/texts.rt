@@ -1,19 +1,20 @@
 //! Where texts are read.
 
-use std::io::Read;
+use std::io::{Input, Read, StdinLock};
 use std::{fs, io};
 
-/// What gives texts by their names.
+/// What gives readers of texts by their names.
 pub trait Texts {
-    ghost use Rattle.std.specs.Prelude.{ℕ, List, Result, Vec};
-    ghost use Rattle.std.specs.declared.alloc.Global.{Global};
+    ghost use Rattle.std.specs.Prelude.{ℕ, List, Result};
     ghost use Rattle.std.specs.declared.io.Error.{Error};
 
-    /// Whether reading the text of a name gives this.
-    ghost gives: { Self → List ℕ → Result (Vec ℕ Global) Error → Type 0 };
+    type Reader: Read + Drop;
 
-    /// Reads all of a text.
-    fn read(&self, name: &str) -> io::Result<Vec<u8>>
+    /// Whether opening the text of a name gives this.
+    ghost gives: { Self → List ℕ → Result Self.Reader Error → Type 0 };
+
+    /// Opens a text.
+    fn open(&self, name: &str) -> io::Result<Self::Reader>
         ensures { gives self.now name.now result };
 }
 
@@ -22,10 +23,12 @@ pub trait Texts {
 pub struct Files<'r>(pub &'r HostRuntime);
 
 impl Texts for Files<'_> {
+    type Reader = fs::File;
+
     ghost gives = { λ _ _ _. Unit {0} };
 
-    fn read(&self, name: &str) -> io::Result<Vec<u8>> {
-        fs::read(self.0, name)
+    fn open(&self, name: &str) -> io::Result<fs::File> {
+        fs::File::open(self.0, name)
     }
 }
 
@@ -34,11 +37,11 @@ impl Texts for Files<'_> {
 pub struct StandardInput<'r>(pub &'r HostRuntime);
 
 impl Texts for StandardInput<'_> {
+    type Reader = StdinLock<'static>;
+
     ghost gives = { λ _ _ _. Unit {0} };
 
-    fn read(&self, _name: &str) -> io::Result<Vec<u8>> {
-        let mut bytes = Vec::new(self.0.alloc());
-        self.0.reader().read_to_end(&mut bytes)?;
-        Ok(bytes)
+    fn open(&self, _name: &str) -> io::Result<StdinLock<'static>> {
+        Ok(self.0.reader())
     }
 }

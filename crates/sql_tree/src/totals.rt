@@ -1,7 +1,6 @@
 //! What the last line counts.
 
 use crate::report::Report;
-use crate::unread::Unread;
 
 /// The status where a text has errors.
 const ERRORS: u8 = 1;
@@ -12,13 +11,13 @@ pub const WRONG_ARGUMENTS: u8 = 2;
 /// The status where a text can't be read, or output fails.
 pub const UNREAD: u8 = 3;
 
-/// How many files were read, and what stands in them.
+/// How many files were read to their ends, and what was told of all.
 #[derive(Clone, Copy, Debug, PartialEq, Eq)]
 pub struct Totals {
     pub files: usize,
     pub statements: usize,
     pub errors: usize,
-    /// Whether a file couldn't be read.
+    /// Whether a file couldn't be read to its end.
     pub unread: bool,
 }
 
@@ -39,16 +38,14 @@ impl Totals {
     }
 
     /// Counts what is told of a text.
-    pub fn count(&mut self, report: &Result<Report, Unread>)
+    pub fn count(&mut self, report: &Report)
         ensures { self.new ≡ counted self.old report.now }
     {
-        match report {
-            Ok(report) => {
-                self.files = self.files.saturating_add(1);
-                self.statements = self.statements.saturating_add(report.statement_count);
-                self.errors = self.errors.saturating_add(report.error_count);
-            }
-            Err(_) => self.unread = true,
+        self.statements = self.statements.saturating_add(report.statement_count);
+        self.errors = self.errors.saturating_add(report.error_count);
+        match report.unread {
+            None => self.files = self.files.saturating_add(1),
+            Some(_) => self.unread = true,
         }
     }
 
