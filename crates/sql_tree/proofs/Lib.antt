@@ -1,2 +1,5 @@
 mod OptionLemmas
 mod TellsTextsLemmas
+mod Lists
+mod TextParts
+mod ScriptTexts

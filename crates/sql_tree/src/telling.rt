@@ -48,7 +48,7 @@ impl<'s> Telling<'s> {
     ghost use Rattle.sql_grammar.specs.Parts.{moved_by};
     ghost use Rattle.sql_grammar.specs.ReadParts.{AreBefore};
     ghost use Rattle.sql_report.specs.Places.{IsPartOfWindow, IsSameWindow};
-    ghost use Rattle.sql_tree.specs.OnTheWay.{HasListed, HasTold, IfOutput, IfUnread, IsBefore, IsTelling, IsTextIn, TellsScript, TellsText};
+    ghost use Rattle.sql_tree.specs.OnTheWay.{HasListed, HasTold, IfOutput, IfUnread, IsBefore, IsTelling, IsTextIn, TellsMore, TellsScript, TellsText};
     ghost use Rattle.sql_tree.specs.Reports.{IsPrinted};
     ghost use Rattle.sql_tree.specs.declared.sql.Sql.{Sql};
     ghost use Rattle.sql_tree.specs.declared.options.Listing.{Listing};
@@ -118,11 +118,11 @@ impl<'s> Telling<'s> {
             (E.contents printer.old.errors) (E.contents printer.new.errors) self.new result }
         ensures failed { IfErr result (λ stop. IfOutput stop (printer.new.has_failed ≡ true)) }
     {
-        let is_last = text.next == Next::End;
         let mut place = Place::new(text.window, before);
-        let mut parts = ScriptParts::new(self.alloc, text.text, text.place, is_last)?;
-        let (vocabulary, rules) = (&self.sql.vocabulary, &self.sql.rules);
-        while let Some(part) = parts.next_part(BYTES_IN_PART, vocabulary, rules)? {
+        let mut parts = ScriptParts::new(self.alloc, text.text, text.place, is_end(text.next))?;
+        while let Some(part) =
+            parts.next_part(BYTES_IN_PART, &self.sql.vocabulary, &self.sql.rules)?
+        {
             let in_window = text.start.saturating_add(part.start);
             let start = text.passed.saturating_add(in_window);
             self.part(&mut place, &part, in_window, start, printer)?;
@@ -145,10 +145,7 @@ impl<'s> Telling<'s> {
         ensures window { IsSameWindow place.old place.new }
         ensures tells { OnOk result ((more more_errs : List ℕ) × (Appends (W.contents printer.old.out) (W.contents printer.new.out) more
             × (Appends (E.contents printer.old.errors) (E.contents printer.new.errors) more_errs
-            × ((sql : Sql) (listing : Listing) (name script passed rest out errs : List ℕ) (lexical : List LexicalError) (done inner : List OwnedStep) (kind : ℕ)
-            → IsTelling sql listing name self.old → IsPartOfWindow script passed rest place.old start in_window (length part.now.table.text) → length script ≤ 4294967295
-            → sent_list part.now.table part.now.output.steps ≡ Enter kind ∷ inner ++ Exit ∷ [] → AreBefore start lexical done → HasTold script out errs lexical done self.old
-            → HasTold script (out ++ more) (errs ++ more_errs) (lexical ++ map (shifted start) part.now.table.errors) (done ++ map (moved_by start) inner) self.new)))) }
+            × TellsMore place.old start in_window part.now more more_errs self.old self.new))) }
         ensures unread { IfErr result (λ stop. IfUnread stop (λ reason. (reason ≡ OutOfMemory) × ((printer.new.out ≡ printer.old.out) × (printer.new.errors ≡ printer.old.errors)))) }
         ensures failed { IfErr result (λ stop. IfOutput stop (printer.new.has_failed ≡ true)) }
     {
@@ -181,12 +178,12 @@ impl<'s> Telling<'s> {
     {
         self.walk.part(&part.table, &part.output, start)?;
         let drawn = self.walk.take_drawn();
-        if self.listing == Listing::Quiet {
+        if let Listing::Quiet = self.listing {
             return Ok(drawn);
         }
         let found = statements(self.alloc, &part.table, &part.output)?;
         self.statement_count = self.statement_count.saturating_add(found.len());
-        if self.listing == Listing::Statements {
+        if let Listing::Statements = self.listing {
             self.lines.part(place, in_window, start, &found)?;
             return Ok(mem::replace(&mut self.lines.lines, String::new(self.alloc)));
         }
@@ -209,5 +206,15 @@ impl<'s> Telling<'s> {
         let drawn = self.walk.finish()?;
         printer.print(drawn.as_bytes())?;
         Ok(counts)
+    }
+}
+
+/// Whether a script ends with a text before this.
+fn is_end(next: Next) -> bool
+    ensures { (result ≡ true → next ≡ Next.End) × (next ≡ Next.End → result ≡ true) }
+{
+    match next {
+        Next::End => true,
+        Next::More | Next::Fault(_) => false,
     }
 }
