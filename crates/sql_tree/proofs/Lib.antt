@@ -1,4 +1,5 @@
 mod OptionLemmas
+mod Reports
 mod TellsTextsLemmas
 mod Lists
 mod TextParts
