@@ -113,19 +113,19 @@ Finishes t more statement_count error_count = (sql : Sql) (listing : Listing) (n
 
 -- ---- what a clause says
 
--- what is printed, and told of a script
-abbrev pub Tells : Option (List ℕ) → Sql → Listing → List ℕ → Option (List ℕ) → Option (List ℕ) → Option (List ℕ) → Option (List ℕ) → Report → Type 0
-Tells remaining sql listing name printed printed_now printed_errors printed_errors_now report =
+-- What is printed is what is told of a script.
+abbrev pub PrintsScript : Option (List ℕ) → Sql → Listing → List ℕ → Option (List ℕ) → Option (List ℕ) → Option (List ℕ) → Option (List ℕ) → Report → Type 0
+PrintsScript remaining sql listing name printed printed_now printed_errors printed_errors_now report =
     (out errs : List ℕ) × (Appends printed printed_now out × (Appends printed_errors printed_errors_now errs × TellsParts remaining sql listing name out errs report))
 
--- the same of a reader's text
-abbrev pub TellsText : Option (List ℕ) → Sql → Listing → List ℕ → Option (List ℕ) → Option (List ℕ) → Option (List ℕ) → Option (List ℕ) → Report → Type 0
-TellsText remaining sql listing name printed printed_now printed_errors printed_errors_now report =
+-- the same, of a text that a reader gives
+abbrev pub PrintsText : Option (List ℕ) → Sql → Listing → List ℕ → Option (List ℕ) → Option (List ℕ) → Option (List ℕ) → Option (List ℕ) → Report → Type 0
+PrintsText remaining sql listing name printed printed_now printed_errors printed_errors_now report =
     (out errs : List ℕ) × (Appends printed printed_now out × (Appends printed_errors printed_errors_now errs × TellsReader remaining sql listing name out errs report))
 
 -- Nothing is printed, for a reason, of a text that a reader gave.
 pub nothing_printed : (remaining after : Option (List ℕ)) (sql : Sql) (name bytes : List ℕ) (printed printed_errors : Option (List ℕ)) (reason : Unread) → Consumes remaining after bytes
-    → (length bytes ≤ 4294967295 → StopsScript sql bytes reason) → TellsText remaining sql Tokens name printed printed printed_errors printed_errors (unread_report reason)
+    → (length bytes ≤ 4294967295 → StopsScript sql bytes reason) → PrintsText remaining sql Tokens name printed printed printed_errors printed_errors (unread_report reason)
 nothing_printed remaining after sql name bytes printed printed_errors reason read why = (
   [],
   [],
@@ -152,7 +152,7 @@ module _ (remaining : Option (List ℕ)) (sql : Sql) (listing : Listing) (name :
   -- the whole script is read
   whole_told : (more : List ℕ) (statement_count error_count : ℕ) → TellsScript remaining sql listing name printed printed_then printed_errors printed_errors_then t (Ok tt)
       → Appends printed_then printed_now more → Finishes t more statement_count error_count
-      → Tells remaining sql listing name printed printed_now printed_errors printed_errors_now (record { statement_count = statement_count; error_count = error_count; unread = None })
+      → PrintsScript remaining sql listing name printed printed_now printed_errors printed_errors_now (record { statement_count = statement_count; error_count = error_count; unread = None })
   whole_told more statement_count error_count tells prints finishes = (
     tells.out ++ more,
     tells.errs,
@@ -186,7 +186,7 @@ module _ (remaining : Option (List ℕ)) (sql : Sql) (listing : Listing) (name :
   front_told : (more : List ℕ) (statement_count error_count : ℕ) (reason : Unread)
       → TellsScript remaining sql listing name printed printed_then printed_errors printed_errors_then t (Err (stop.Unread reason))
       → Appends printed_then printed_now more → Finishes t more statement_count error_count
-      → Tells remaining sql listing name printed printed_now printed_errors printed_errors_now (record { statement_count = statement_count; error_count = error_count; unread = Some reason })
+      → PrintsScript remaining sql listing name printed printed_now printed_errors printed_errors_now (record { statement_count = statement_count; error_count = error_count; unread = Some reason })
   front_told more statement_count error_count reason tells prints finishes = (
     tells.out ++ more,
     tells.errs,
@@ -221,21 +221,21 @@ module _ (remaining : Option (List ℕ)) (sql : Sql) (listing : Listing) (name :
     -- by what the telling gave
     pub tells_whole : (more : List ℕ) (statement_count error_count : ℕ) → result ≡ Ok tt → unread ≡ None
         → Appends printed_then printed_now more → Finishes t more statement_count error_count
-        → Tells remaining sql listing name printed printed_now printed_errors printed_errors_now (record { statement_count = statement_count; error_count = error_count; unread = unread })
+        → PrintsScript remaining sql listing name printed printed_now printed_errors printed_errors_now (record { statement_count = statement_count; error_count = error_count; unread = unread })
     tells_whole more statement_count error_count is none prints finishes =
-        subst (λ unread. Tells remaining sql listing name printed printed_now printed_errors printed_errors_now (record { statement_count = statement_count; error_count = error_count; unread = unread })) (sym none)
+        subst (λ unread. PrintsScript remaining sql listing name printed printed_now printed_errors printed_errors_now (record { statement_count = statement_count; error_count = error_count; unread = unread })) (sym none)
         (whole_told more statement_count error_count (subst (TellsScript remaining sql listing name printed printed_then printed_errors printed_errors_then t) is tells) prints finishes)
 
     pub tells_front : (more : List ℕ) (statement_count error_count : ℕ) (reason : Unread) → result ≡ Err (stop.Unread reason) → unread ≡ Some reason
         → Appends printed_then printed_now more → Finishes t more statement_count error_count
-        → Tells remaining sql listing name printed printed_now printed_errors printed_errors_now (record { statement_count = statement_count; error_count = error_count; unread = unread })
+        → PrintsScript remaining sql listing name printed printed_now printed_errors printed_errors_now (record { statement_count = statement_count; error_count = error_count; unread = unread })
     tells_front more statement_count error_count reason is some prints finishes =
-        subst (λ unread. Tells remaining sql listing name printed printed_now printed_errors printed_errors_now (record { statement_count = statement_count; error_count = error_count; unread = unread })) (sym some)
+        subst (λ unread. PrintsScript remaining sql listing name printed printed_now printed_errors printed_errors_now (record { statement_count = statement_count; error_count = error_count; unread = unread })) (sym some)
         (front_told more statement_count error_count reason (subst (TellsScript remaining sql listing name printed printed_then printed_errors printed_errors_then t) is tells) prints finishes)
 
     -- at want of memory nothing else is printed
     pub tells_unread : (reason : Unread) → reason ≡ OutOfMemory → printed_now ≡ printed_then
-        → Tells remaining sql listing name printed printed_now printed_errors printed_errors_now (unread_report reason)
+        → PrintsScript remaining sql listing name printed printed_now printed_errors printed_errors_now (unread_report reason)
     tells_unread reason memory nothing = (
       tells.out,
       tells.errs,
@@ -300,7 +300,7 @@ text_is old new bytes text none same is = ap (λ old. drop (length old) new) non
 -- The raw tokens are printed, and then what is told of the script.
 pub tells_more : (remaining new : Option (List ℕ)) (sql : Sql) (name bytes raw : List ℕ) (printed printed_then printed_now printed_errors printed_errors_then printed_errors_now : Option (List ℕ)) (report : Report)
     → Consumes remaining new bytes → IsAtEnd new → raw ≡ raw_lines Tokens bytes → Appends printed printed_then raw → printed_errors_then ≡ printed_errors
-    → Tells (Some bytes) sql Tokens name printed_then printed_now printed_errors_then printed_errors_now report → TellsText remaining sql Tokens name printed printed_now printed_errors printed_errors_now report
+    → PrintsScript (Some bytes) sql Tokens name printed_then printed_now printed_errors_then printed_errors_now report → PrintsText remaining sql Tokens name printed printed_now printed_errors printed_errors_now report
 tells_more remaining new sql name bytes raw printed printed_then printed_now printed_errors printed_errors_then printed_errors_now report read end raw_is prints same tells = (
   raw ++ tells.0,
   tells.1,
@@ -309,3 +309,13 @@ tells_more remaining new sql name bytes raw printed printed_then printed_now pri
     (subst (λ before. Appends before printed_errors_now tells.1) same tells.2.1.0, tells_tokens remaining new sql name bytes raw tells.0 tells.1 report read end raw_is tells.2.1.1),
   ),
 )
+
+-- without raw tokens, what is told of the script alone
+pub prints_text : (remaining : Option (List ℕ)) (sql : Sql) (listing : Listing) (name : List ℕ) (printed printed_now printed_errors printed_errors_now : Option (List ℕ)) (report : Report) → listing ≢ Tokens
+    → PrintsScript remaining sql listing name printed printed_now printed_errors printed_errors_now report → PrintsText remaining sql listing name printed printed_now printed_errors printed_errors_now report
+prints_text remaining sql listing name printed printed_now printed_errors printed_errors_now report other tells =
+    (tells.0, tells.1, (tells.2.0, (tells.2.1.0, tells_script remaining sql listing name tells.0 tells.1 report other tells.2.1.1)))
+
+-- what a clause says of what is returned
+pub ok_of : {A E : Type 0} (r told : Result A E) (P : A → Type 0) (a : A) → told ≡ r → told ≡ Ok a → IfOk r P → P a
+ok_of r told P a same is holds = subst (λ r. IfOk r P) (sym same ∙ is) holds
