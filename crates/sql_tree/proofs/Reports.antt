@@ -32,7 +32,7 @@ use Rattle.sql_tree.specs.declared.unread.Unread.TheVariants.{Io, NotUtf8, TextT
 -- ---- why
 
 -- Any reason stops a script that does if it isn't want of memory.
-pub stops_by : (sql : Sql) (script : List ℕ) (reason : Unread) → (reason ≢ OutOfMemory → StopsScript sql script reason) → StopsScript sql script reason
+stops_by : (sql : Sql) (script : List ℕ) (reason : Unread) → (reason ≢ OutOfMemory → StopsScript sql script reason) → StopsScript sql script reason
 stops_by sql script (Io kind) why = tt
 stops_by sql script (NotUtf8 at) why = why (λ same. let p = same in cc)
 stops_by sql script TextTooLong why = why (λ same. let p = same in cc)
@@ -76,7 +76,7 @@ told_nothing sql name script reason = record {
 }
 
 -- of a text that a reader gave
-pub tells_nothing : (remaining after : Option (List ℕ)) (sql : Sql) (name bytes : List ℕ) (reason : Unread) → Consumes remaining after bytes
+tells_nothing : (remaining after : Option (List ℕ)) (sql : Sql) (name bytes : List ℕ) (reason : Unread) → Consumes remaining after bytes
     → (length bytes ≤ 4294967295 → StopsScript sql bytes reason) → TellsReader remaining sql Tokens name [] [] (unread_report reason)
 tells_nothing remaining after sql name bytes reason read why = record {
   listed = [];
@@ -107,7 +107,7 @@ parts_unread remaining after sql listing name script out errs reason is read = r
 -- ---- a telling ends
 
 -- what is printed at its end
-abbrev pub Finishes : Telling → List ℕ → ℕ → ℕ → Type 0
+abbrev Finishes : Telling → List ℕ → ℕ → ℕ → Type 0
 Finishes t more statement_count error_count = (sql : Sql) (listing : Listing) (name script out errs : List ℕ) (lexical : List LexicalError) (done : List OwnedStep) → IsTelling sql listing name t
     → HasTold script out errs lexical done t → IsPrinted sql listing name script (out ++ more) errs lexical done statement_count error_count
 
@@ -217,36 +217,49 @@ module _ (remaining : Option (List ℕ)) (sql : Sql) (listing : Listing) (name :
     ),
   )
 
-  module _ (result : Result Unit Stop) (tells : TellsScript remaining sql listing name printed printed_then printed_errors printed_errors_then t result) (unread : Option Unread) where
+  -- its end isn't told, at want of memory
+  unread_told : (script out errs : List ℕ) (after : Option (List ℕ)) (reason : Unread) → reason ≡ OutOfMemory → printed_now ≡ printed_then → Consumes remaining after script
+      → Appends printed printed_then out → Appends printed_errors printed_errors_then errs
+      → PrintsScript remaining sql listing name printed printed_now printed_errors printed_errors_now (unread_report reason)
+  unread_told script out errs after reason memory nothing read prints prints_errors = (
+    out,
+    errs,
+    (
+      subst (λ now. Appends printed now out) (sym nothing) prints,
+      (subst (λ now. Appends printed_errors now errs) (sym same) prints_errors, parts_unread remaining after sql listing name script out errs reason memory read),
+    ),
+  )
+
+  module _ (result : Result Unit Stop) (tells : TellsScript remaining sql listing name printed printed_then printed_errors printed_errors_then t result) where
     -- by what the telling gave
-    pub tells_whole : (more : List ℕ) (statement_count error_count : ℕ) → result ≡ Ok tt → unread ≡ None
+    pub tells_whole : (unread : Option Unread) (more : List ℕ) (statement_count error_count : ℕ) → result ≡ Ok tt → unread ≡ None
         → Appends printed_then printed_now more → Finishes t more statement_count error_count
         → PrintsScript remaining sql listing name printed printed_now printed_errors printed_errors_now (record { statement_count = statement_count; error_count = error_count; unread = unread })
-    tells_whole more statement_count error_count is none prints finishes =
+    tells_whole unread more statement_count error_count is none prints finishes =
         subst (λ unread. PrintsScript remaining sql listing name printed printed_now printed_errors printed_errors_now (record { statement_count = statement_count; error_count = error_count; unread = unread })) (sym none)
         (whole_told more statement_count error_count (subst (TellsScript remaining sql listing name printed printed_then printed_errors printed_errors_then t) is tells) prints finishes)
 
-    pub tells_front : (more : List ℕ) (statement_count error_count : ℕ) (reason : Unread) → result ≡ Err (stop.Unread reason) → unread ≡ Some reason
+    pub tells_front : (unread : Option Unread) (more : List ℕ) (statement_count error_count : ℕ) (reason : Unread) → result ≡ Err (stop.Unread reason) → unread ≡ Some reason
         → Appends printed_then printed_now more → Finishes t more statement_count error_count
         → PrintsScript remaining sql listing name printed printed_now printed_errors printed_errors_now (record { statement_count = statement_count; error_count = error_count; unread = unread })
-    tells_front more statement_count error_count reason is some prints finishes =
+    tells_front unread more statement_count error_count reason is some prints finishes =
         subst (λ unread. PrintsScript remaining sql listing name printed printed_now printed_errors printed_errors_now (record { statement_count = statement_count; error_count = error_count; unread = unread })) (sym some)
         (front_told more statement_count error_count reason (subst (TellsScript remaining sql listing name printed printed_then printed_errors printed_errors_then t) is tells) prints finishes)
 
-    -- at want of memory nothing else is printed
-    pub tells_unread : (reason : Unread) → reason ≡ OutOfMemory → printed_now ≡ printed_then
+    -- at want of memory nothing else is printed, whatever the telling gave
+    pub unread_whole : result ≡ Ok tt → (reason : Unread) → reason ≡ OutOfMemory → printed_now ≡ printed_then
         → PrintsScript remaining sql listing name printed printed_now printed_errors printed_errors_now (unread_report reason)
-    tells_unread reason memory nothing = (
-      tells.out,
-      tells.errs,
-      (
-        subst (λ now. Appends printed now tells.out) (sym nothing) tells.prints,
-        (
-          subst (λ now. Appends printed_errors now tells.errs) (sym same) tells.prints_errors,
-          parts_unread remaining tells.after sql listing name tells.script tells.out tells.errs reason memory tells.read,
-        ),
-      ),
-    )
+    unread_whole is reason memory nothing =
+        let told : TellsScript remaining sql listing name printed printed_then printed_errors printed_errors_then t (Ok tt) =
+        subst (TellsScript remaining sql listing name printed printed_then printed_errors printed_errors_then t) is tells in
+        unread_told told.script told.out told.errs told.after reason memory nothing told.read told.prints told.prints_errors
+
+    pub unread_front : (why : Unread) → result ≡ Err (stop.Unread why) → (reason : Unread) → reason ≡ OutOfMemory → printed_now ≡ printed_then
+        → PrintsScript remaining sql listing name printed printed_now printed_errors printed_errors_now (unread_report reason)
+    unread_front why is reason memory nothing =
+        let told : TellsScript remaining sql listing name printed printed_then printed_errors printed_errors_then t (Err (stop.Unread why)) =
+        subst (TellsScript remaining sql listing name printed printed_then printed_errors printed_errors_then t) is tells in
+        unread_told told.script told.out told.errs told.after reason memory nothing told.read told.prints told.prints_errors
 
 -- ---- a text
 
@@ -258,7 +271,7 @@ raw_none Tokens script other = absurd (other refl)
 raw_none Quiet script other = refl
 
 -- Where raw tokens aren't asked for, the text is told of as a script.
-pub tells_script : (remaining : Option (List ℕ)) (sql : Sql) (listing : Listing) (name out errs : List ℕ) (report : Report) → listing ≢ Tokens → TellsParts remaining sql listing name out errs report
+tells_script : (remaining : Option (List ℕ)) (sql : Sql) (listing : Listing) (name out errs : List ℕ) (report : Report) → listing ≢ Tokens → TellsParts remaining sql listing name out errs report
     → TellsReader remaining sql listing name out errs report
 tells_script remaining sql listing name out errs report other parts = record {
   listed = out;
@@ -282,7 +295,7 @@ read_all None bytes script from end = absurd from
 read_all (Some zs) bytes script from end = from ∙ (ap (λ l. script ++ l) end ∙ append-nil script)
 
 -- the raw tokens, and then what is told of the script
-pub tells_tokens : (remaining new : Option (List ℕ)) (sql : Sql) (name bytes raw out errs : List ℕ) (report : Report) → Consumes remaining new bytes → IsAtEnd new → raw ≡ raw_lines Tokens bytes
+tells_tokens : (remaining new : Option (List ℕ)) (sql : Sql) (name bytes raw out errs : List ℕ) (report : Report) → Consumes remaining new bytes → IsAtEnd new → raw ≡ raw_lines Tokens bytes
     → TellsParts (Some bytes) sql Tokens name out errs report → TellsReader remaining sql Tokens name (raw ++ out) errs report
 tells_tokens remaining new sql name bytes raw out errs report read end raw_is parts = record {
   listed = out;

@@ -1,10 +1,10 @@
-use Rattle.std.proofs.Common.{◌≡◌, ◌∙◌, [], None, ap, refl}
+use Rattle.std.proofs.Common.{◌≡◌, ◌∙◌, [], ap, refl}
 use Rattle.std.specs.Prelude.{Err}
 use Rattle.std.proofs.KnownBytes.{Appends-nil, Consumes-nil}
 use Rattle.sql_tree.specs.Told.{unread_report}
 use Rattle.sql_tree.specs.declared.stop.Stop.TheVariants as stop
 use Rattle.sql_tree.specs.declared.unread.Unread.TheVariants.{OutOfMemory}
-use Rattle.sql_tree.proofs.Reports.{PrintsScript, if_unread, parts_unread, tells_front, tells_unread, tells_whole, unread_as}
+use Rattle.sql_tree.proofs.Reports.{PrintsScript, if_unread, parts_unread, tells_front, tells_whole, unread_as, unread_front, unread_whole}
 use Rattle.sql_tree.proofs.report.tell_script.Goals.{in-Ok, in-Err-Unread}
 use Rattle.sql_tree.proofs.report.tell_script.Goals as goal
 
@@ -32,12 +32,18 @@ returns-in_err-statement_count-clause-unread g c =
     let errors_then = g.E.Write.contents c.read.new.printer.errors in
     let errors_now = g.E.Write.contents c.finish.new.printer.errors in
     let tells = c.read.ensures.tells sql listing name sql.keywords c.in_ok-telling.ensures.is c.in_ok-telling.ensures.begins in
+    let same = ap g.E.Write.contents c.finish.ensures.errors in
     let why = c.in_err-statement_count.field-0.0 in
     unread_as c.from_residual-in_err-statement_count.result why (λ reason. PrintsScript remaining sql listing name out out_now errors errors_now (unread_report reason)) c.from_residual-in_err-statement_count.ensures.1
     (if_unread why (λ reason. (reason ≡ OutOfMemory) × (c.finish.new.printer.out ≡ c.read.new.printer.out)) (λ reason. PrintsScript remaining sql listing name out out_now errors errors_now (unread_report reason))
-    (λ reason is.
-    tells_unread remaining sql listing name out out_then out_now errors errors_then errors_now c.read.new.self (ap g.E.Write.contents c.finish.ensures.errors) c.read.result tells None reason is.0
-    (ap g.W.Write.contents is.1))
+    (λ reason is. elim c.match-read.branch [
+      | in-Ok w ↦
+          unread_whole remaining sql listing name out out_then out_now errors errors_then errors_now c.read.new.self same c.read.result tells
+          w.in-Ok.is reason is.0 (ap g.W.Write.contents is.1)
+      | in-Err-Unread w ↦
+          unread_front remaining sql listing name out out_then out_now errors errors_then errors_now c.read.new.self same c.read.result tells
+          w.in-Err-Unread.reason (w.in-Err-Unread.is ∙ ap Err w.in-Err-Unread.field-0-is) reason is.0 (ap g.W.Write.contents is.1)
+    ])
     c.in_err-statement_count.ensures.unread)
 
 pub returns-clause-told : goal.returns-clause-told
