@@ -4,8 +4,11 @@ mod printing;
 
 use crate::inputs::has_headings;
 use crate::options::Listing;
-use crate::report::Report;
+use crate::printer::Printer;
+use crate::report::{Report, tell_text};
 use crate::sql::Sql;
+use std::alloc::Global;
+use std::io;
 use std::test::Fail;
 
 /// A text, and what is told of it.
@@ -54,14 +57,26 @@ static CASES: [Case; 6] = [
     },
 ];
 
+/// What is printed of a text that is called "x", and what is counted.
+fn tell(
+    alloc: Global,
+    sql: &Sql,
+    listing: Listing,
+    text: &str,
+) -> io::Result<(Printer<Vec<u8>, Vec<u8>>, Report)> {
+    let mut printer = Printer::new(Vec::<u8>::new(alloc), Vec::<u8>::new(alloc));
+    let report = tell_text(alloc, sql, listing, "x", text.as_bytes(), &mut printer)?;
+    Ok((printer, report))
+}
+
 #[test]
 fn tells_cases(rt: HostRuntime) -> Result<(), Fail> {
     let alloc = rt.alloc();
     let sql = Sql::new(alloc)?;
     for case in &CASES {
-        let report = Report::new(alloc, &sql, Listing::Statements, "x", case.text)?;
-        assert_eq!(rt; report.listing.as_str(), case.statements);
-        assert_eq!(rt; report.errors.as_slice(), case.errors.as_bytes());
+        let (printed, _) = tell(alloc, &sql, Listing::Statements, case.text)?;
+        assert_eq!(rt; printed.out.as_slice(), case.statements.as_bytes());
+        assert_eq!(rt; printed.errors.as_slice(), case.errors.as_bytes());
     }
     Ok(())
 }
@@ -70,11 +85,9 @@ fn tells_cases(rt: HostRuntime) -> Result<(), Fail> {
 fn lists_raw_tokens(rt: HostRuntime) -> Result<(), Fail> {
     let alloc = rt.alloc();
     let sql = Sql::new(alloc)?;
-    let report = Report::new(alloc, &sql, Listing::Tokens, "x", "select $1")?;
-    assert_eq!(rt;
-        report.listing.as_str(),
-        "Ident 0..6\nWhitespace 6..7\nPositionalParam 7..9\n"
-    );
+    let (printed, _) = tell(alloc, &sql, Listing::Tokens, "select $1")?;
+    let wanted = "Ident 0..6\nWhitespace 6..7\nPositionalParam 7..9\n";
+    assert_eq!(rt; printed.out.as_slice(), wanted.as_bytes());
     Ok(())
 }
 
@@ -99,8 +112,8 @@ fn lists_statements_as_json(rt: HostRuntime) -> Result<(), Fail> {
     let alloc = rt.alloc();
     let sql = Sql::new(alloc)?;
     let text = "load 'ä';\nmove a b;";
-    let report = Report::new(alloc, &sql, Listing::Json, "x", text)?;
-    assert_eq!(rt; report.listing.as_str(), JSON);
+    let (printed, report) = tell(alloc, &sql, Listing::Json, text)?;
+    assert_eq!(rt; printed.out.as_slice(), JSON.as_bytes());
     assert_eq!(rt; (report.statement_count, report.error_count), (2, 1));
     Ok(())
 }
@@ -118,8 +131,8 @@ fn has_no_headings_in_json(rt: HostRuntime) -> Result<(), Fail> {
 fn lists_nothing_where_it_is_quiet(rt: HostRuntime) -> Result<(), Fail> {
     let alloc = rt.alloc();
     let sql = Sql::new(alloc)?;
-    let report = Report::new(alloc, &sql, Listing::Quiet, "x", "select (1")?;
-    assert_eq!(rt; report.listing.as_str(), "");
+    let (printed, report) = tell(alloc, &sql, Listing::Quiet, "select (1")?;
+    assert_eq!(rt; printed.out.as_slice(), b"".as_slice());
     assert_eq!(rt; report.error_count, 1);
     Ok(())
 }
