@@ -24,13 +24,14 @@ const PIECE: &str =
 /// What is told of a text.
 #[derive(Drop)]
 struct Told {
-    tree: String,
+    drawn: String,
     errors: Vec<u8>,
 }
 
 /// What is told of a parse of all of a text.
 fn whole(
     alloc: Global,
+    asked: Asked,
     text: &str,
     table: &LexedStr<'_>,
     output: &Output,
@@ -41,10 +42,10 @@ fn whole(
     let all_names = names(alloc)?;
     let mut errors = ErrorLines::new(alloc, "x");
     errors.part(&mut Place::whole(text), table, output, 0)?;
-    let mut walk = Walk::new(alloc, &all_names, Asked::Tree, SqlKind::SOURCE_FILE)?;
+    let mut walk = Walk::new(alloc, &all_names, asked, SqlKind::SOURCE_FILE)?;
     walk.part(table, output, 0)?;
     Ok(Told {
-        tree: walk.finish()?.drawn,
+        drawn: walk.finish()?,
         errors: errors.lines,
     })
 }
@@ -52,6 +53,7 @@ fn whole(
 /// What is told of the parts of a text, of so many bytes at least, and how many there are.
 fn in_parts(
     alloc: Global,
+    asked: Asked,
     rules: &RuleGrammar<'_>,
     text: &str,
     least: usize,
@@ -61,16 +63,16 @@ fn in_parts(
     let mut parts = ScriptParts::new(alloc, text, ScriptPlace::Front, true)?;
     let mut errors = ErrorLines::new(alloc, "x");
     let mut place = Place::whole(text);
-    let mut walk = Walk::new(alloc, &all_names, Asked::Tree, SqlKind::SOURCE_FILE)?;
+    let mut walk = Walk::new(alloc, &all_names, asked, SqlKind::SOURCE_FILE)?;
     let mut count = 0usize;
     while let Some(part) = parts.next_part(least, &words, rules)? {
         errors.part(&mut place, &part.table, &part.output, part.start)?;
         walk.part(&part.table, &part.output, part.start)?;
         count = count.saturating_add(1);
     }
-    let tree = walk.finish()?.drawn;
+    let drawn = walk.finish()?;
     let errors = errors.lines;
-    Ok((Told { tree, errors }, count))
+    Ok((Told { drawn, errors }, count))
 }
 
 /// A reader that gives so many bytes at a time.
@@ -90,9 +92,22 @@ impl Read for Few<'_> {
     }
 }
 
-/// What is told of a script from a reader that gives so many bytes at a time.
+/// Hands out what is told so far.
+fn hand_out(
+    told: &mut Told,
+    walk: &mut Walk<'_>,
+    errors: &mut ErrorLines<'_>,
+) -> Result<(), AllocError> {
+    told.drawn.push_str(walk.take_drawn().as_str())?;
+    told.errors.extend_from_slice(&errors.lines)?;
+    errors.lines.clear();
+    Ok(())
+}
+
+/// What is told of a script from a reader that gives so many bytes at a time. All that can be is handed out after each text.
 fn in_texts(
     alloc: Global,
+    asked: Asked,
     rules: &RuleGrammar<'_>,
     script: &str,
     size: usize,
@@ -100,7 +115,11 @@ fn in_texts(
     let words = vocabulary(alloc)?;
     let all_names = names(alloc)?;
     let mut errors = ErrorLines::new(alloc, "x");
-    let mut walk = Walk::new(alloc, &all_names, Asked::Tree, SqlKind::SOURCE_FILE)?;
+    let mut walk = Walk::new(alloc, &all_names, asked, SqlKind::SOURCE_FILE)?;
+    let mut told = Told {
+        drawn: String::new(alloc),
+        errors: Vec::new(alloc),
+    };
     let mut before = LineColumn::start();
     let bytes = script.as_bytes();
     let mut reader = ScriptReader::with_least(alloc, size, Few { bytes, size });
@@ -115,6 +134,7 @@ fn in_texts(
             errors.part(&mut place, &part.table, &part.output, in_window)?;
             walk.part(&part.table, &part.output, start)?;
         }
+        hand_out(&mut told, &mut walk, &mut errors)?;
         if text.next != Next::More {
             break;
         }
@@ -123,10 +143,15 @@ fn in_texts(
         let next = parts.place().unwrap_or(text.place);
         reader.go_on(count, next);
     }
-    Ok(Told {
-        tree: walk.finish()?.drawn,
-        errors: errors.lines,
-    })
+    told.drawn.push_str(walk.finish()?.as_str())?;
+    Ok(told)
+}
+
+/// Asserts that the same is told.
+fn assert_told(rt: &impl Abort, told: &Told, wanted: &Told) -> Result<(), Fail> {
+    assert_eq!(rt; told.drawn.as_str(), wanted.drawn.as_str());
+    assert_eq!(rt; told.errors.as_slice(), wanted.errors.as_slice());
+    Ok(())
 }
 
 /// Asserts that parts of so many bytes at least, of which there are so many, are told as the whole, and that a script from a reader
@@ -145,17 +170,17 @@ fn assert_parts(
     let ready = rules();
     let rules = hiding(&ready, &strays);
     let output = parse_table(alloc, &table, &words, Detail::Nodes(&rules))?;
-    let all = whole(alloc, text, &table, &output)?;
-    for (least, wanted) in parts {
-        let (told, count) = in_parts(alloc, &ready, text, *least)?;
-        assert_eq!(rt; told.tree.as_str(), all.tree.as_str());
-        assert_eq!(rt; told.errors.as_slice(), all.errors.as_slice());
-        assert_eq!(rt; count, *wanted);
-    }
-    for size in sizes {
-        let told = in_texts(alloc, &ready, text, *size)?;
-        assert_eq!(rt; told.tree.as_str(), all.tree.as_str());
-        assert_eq!(rt; told.errors.as_slice(), all.errors.as_slice());
+    for asked in [Asked::Tree, Asked::Json] {
+        let all = whole(alloc, asked, text, &table, &output)?;
+        for (least, wanted) in parts {
+            let (told, count) = in_parts(alloc, asked, &ready, text, *least)?;
+            assert_told(rt, &told, &all)?;
+            assert_eq!(rt; count, *wanted);
+        }
+        for size in sizes {
+            let told = in_texts(alloc, asked, &ready, text, *size)?;
+            assert_told(rt, &told, &all)?;
+        }
     }
     Ok(())
 }

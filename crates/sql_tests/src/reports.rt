@@ -54,7 +54,7 @@ fn lines(alloc: Global, table: &LexedStr<'_>, output: &Output) -> Result<Option<
     ];
     let mut walk = Walk::new(alloc, &names, Asked::Json, SyntaxKind(ROOT))?;
     walk.part(table, output, 0)?;
-    Ok(Some(walk.finish()?.drawn))
+    Ok(Some(walk.finish()?))
 }
 
 #[test]
