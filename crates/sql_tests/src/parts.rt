@@ -28,6 +28,14 @@ struct Told {
     errors: Vec<u8>,
 }
 
+/// Nothing was told yet.
+fn nothing(alloc: Global) -> Told {
+    Told {
+        drawn: String::new(alloc),
+        errors: Vec::new(alloc),
+    }
+}
+
 /// What is told of a parse of all of a text.
 fn whole(
     alloc: Global,
@@ -116,10 +124,7 @@ fn in_texts(
     let all_names = names(alloc)?;
     let mut errors = ErrorLines::new(alloc, "x");
     let mut walk = Walk::new(alloc, &all_names, asked, SqlKind::SOURCE_FILE)?;
-    let mut told = Told {
-        drawn: String::new(alloc),
-        errors: Vec::new(alloc),
-    };
+    let mut told = nothing(alloc);
     let mut before = LineColumn::start();
     let bytes = script.as_bytes();
     let mut reader = ScriptReader::with_least(alloc, size, Few { bytes, size });

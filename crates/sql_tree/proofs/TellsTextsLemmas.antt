@@ -1,6 +1,6 @@
 -- Texts of which is told, and one more.
 use Rattle.std.proofs.Common.{◌≡◌, ◌∙◌, ℕ, ◌+◌, ◌<◌, ◌≤◌, List, [], ◌∷◌, ◌++◌, Bool, add-one, ap, get_or, length, map, refl, subst, sym, take}
-use Rattle.std.specs.Prelude.{Err, IfErr, IfOk, None, Ok, Option, Result, Some, fold}
+use Rattle.std.specs.Prelude.{Err, IfErr, IfOk, Ok, Option, Result, fold}
 use Rattle.std.specs.List.{flat_map}
 use Rattle.std.specs.Io.KnownBytes.{Appends}
 use Rattle.std.specs.IoError.{error_kind}
@@ -18,14 +18,7 @@ use Rattle.sql_tree.specs.declared.options.Listing.{Listing}
 use Rattle.sql_tree.specs.declared.report.Report.{Report}
 use Rattle.sql_tree.specs.declared.sql.Sql.{Sql}
 use Rattle.sql_tree.specs.declared.totals.Totals.{Totals}
-use Rattle.sql_tree.specs.declared.unread.Unread.{Unread}
 use Rattle.sql_tree.specs.declared.unread.Unread.TheVariants.{Io}
-
--- where there is no reason, nothing is printed
-pub no_reason : (name : List ℕ) (unread : Option Unread) → ((reason : Unread) → unread ≡ Some reason → ⊥) → (errors : Option (List ℕ))
-    → Appends errors errors (reason_line name unread)
-no_reason name None not errors = Appends-nil errors
-no_reason name (Some reason) not errors = absurd (not reason refl)
 
 -- what is told of a text before it is told why it isn't read to its end
 pub record IsShown {R : Type 0} (remaining : R → Option (List ℕ)) (sql : Sql) (listing : Listing) (has_heading : Bool) (name : List ℕ) (opened : Result R Error) (report : Report)

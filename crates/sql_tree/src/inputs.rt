@@ -1,7 +1,7 @@
 //! The texts that are named, one after another.
 ghost use Rattle.std.specs.Prelude.{◌≡◌, IfOk, OnErr, OnOk, length, map, true};
 ghost use Rattle.std.specs.Io.KnownBytes.{Appends};
-ghost use Rattle.sql_tree.specs.Printed.{has_headings, heading};
+ghost use Rattle.sql_tree.specs.Printed.{has_headings, heading, reason_line};
 ghost use Rattle.sql_tree.specs.Told.{TellsAll, TellsText, TellsTexts, Told, last_line};
 
 use crate::options::Listing;
@@ -126,10 +126,24 @@ fn tell<T: Texts, W: Write + Drop, E: Write + Drop>(
         }
         Err(error) => Report::unread(Unread::Io(error.kind())),
     };
-    if let Some(reason) = report.unread {
-        printer.print_unread(name, reason)?;
-    }
+    print_reason(printer, name, report.unread)?;
     Ok(report)
+}
+
+/// Prints why a text of a name isn't read to its end, if it isn't.
+fn print_reason<W: Write + Drop, E: Write + Drop>(
+    printer: &mut Printer<W, E>,
+    name: &str,
+    unread: Option<Unread>,
+) -> io::Result<()>
+    ensures ok { OnOk result (Appends (E.contents printer.old.errors) (E.contents printer.new.errors) (reason_line name.now unread)) }
+    ensures failed { OnErr result (printer.new.has_failed ≡ true) }
+    ensures out { printer.new.out ≡ printer.old.out }
+{
+    match unread {
+        None => Ok(()),
+        Some(reason) => printer.print_unread(name, reason),
+    }
 }
 
 /// Prints a text's name, where it has a heading.
