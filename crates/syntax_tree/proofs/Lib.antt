@@ -10,6 +10,7 @@ pub mod Laid
 pub mod Lies
 pub mod Places
 pub mod Refusals
+pub mod BlockPlaces
 pub mod Children
 pub mod Siblings
 pub mod ChildrenLeft

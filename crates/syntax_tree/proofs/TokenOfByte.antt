@@ -1,12 +1,13 @@
 -- Which token has a byte, and which tokens touch an offset.
-use Rattle.std.proofs.Common.{◌≡◌, ◌∙◌, inl, inr, ℕ, zero, suc, ◌+◌, ◌-◌, ◌<◌, ◌≤◌, List, length, arith, ap, sym, subst, get_or, true, false, leb}
+use Rattle.std.proofs.Common.{◌≡◌, ◌∙◌, inl, inr, ℕ, zero, suc, ◌+◌, ◌-◌, ◌<◌, ◌≤◌, List, length, drop, slice_range, arith, ap, sym, subst, get_or, true, false, leb}
 use Rattle.std.specs.List.Sorted.{IsPartitionedBy, IsPartitionPoint}
-use Rattle.std.proofs.lemmas.Bool.{cases_lt, cases_Bool, leb-true, leb-false, le-leb}
-use Rattle.std.proofs.lemmas.List.{get_or_default}
+use Rattle.std.proofs.lemmas.Bool.{cases_lt, cases_Bool, leb-true, leb-false, le-leb, lt-leb}
+use Rattle.std.proofs.lemmas.List.{get_or_default, get_or-take, get_or-drop, length-drop, length-take-le}
 use Rattle.squawk_tree.specs.Forest.{Forest}
-use Rattle.syntax_tree.specs.Trees.{size, forest_at, is_token, is_token_at, size_at, start_at, end_at, TouchesOne, TouchesTwo}
+use Rattle.syntax_tree.specs.Trees.{size, forest_at, is_token_at, size_at, start_at, end_at, TouchesOne, TouchesTwo}
 use Rattle.syntax_tree.specs.Layout.{Laid, IsTree}
 use Rattle.syntax_tree.specs.Views.{no_element}
+use Rattle.syntax_tree.specs.Offsets.{BeginBy, BeginBehind}
 use Rattle.syntax_tree.specs.declared.element.Element.{Element}
 use Rattle.syntax_tree.proofs.Places.{reads, some_element}
 use Rattle.syntax_tree.proofs.Texts.{slices, elements_are, bytes_are, start-first, start-all}
@@ -91,13 +92,67 @@ module _ (laid : Laid) (tree : Forest) (is : IsTree laid tree) where
         ] in
         (positive, record { below = omega arith; is_token = token; starts = early; ends = omega (arith, token_end at token) })
 
-    -- found by halving, in these elements
-    pub token_found : (elements : List Element) → elements ≡ laid.elements → (n : ℕ) → n ≤ length elements
-        → (IsPartitionedBy (λ e. leb e.start byte) elements → IsPartitionPoint (λ e. leb e.start byte ≡ true) (λ e. leb e.start byte ≡ false) elements n)
-        → (1 ≤ n) × HasByte laid tree byte (n - 1)
-    token_found elements same n bound point =
-        let point' = subst (λ l. IsPartitionedBy (λ e. leb e.start byte) l → IsPartitionPoint (λ e. leb e.start byte ≡ true) (λ e. leb e.start byte ≡ false) l n) same point in
-        found n (omega (arith, bound, ap length same)) (point' parted)
+    -- found by halving, among the elements between two places
+    module _ (from stop : ℕ) (by : BeginBy laid byte from) (late : BeginBehind laid byte stop) where
+      pub in_order : from ≤ stop
+      in_order =
+          elim (cases_lt stop from) [
+            | inl lt ↦ absurd (omega (arith, by.begin stop lt, late.begin stop (omega arith) (omega (arith, lt, by.within))))
+            | inr le ↦ le
+          ]
+
+      abbrev part : List Element
+      part = slice_range laid.elements from stop
+
+      length-part : length part ≡ stop - from
+      length-part =
+          let rest = length-drop from laid.elements in
+          length-take-le (stop - from) (drop from laid.elements) (omega (arith, rest, late.within))
+
+      read : (i : ℕ) (d : Element) → i < stop - from → get_or part i d ≡ get_or laid.elements (from + i) d
+      read i d low = get_or-take (stop - from) (drop from laid.elements) i d low ∙ get_or-drop from laid.elements i d
+
+      passes_is : (i : ℕ) (d : Element) → i < stop - from → leb (get_or part i d).start byte ≡ leb (get_or laid.elements (from + i) d).start byte
+      passes_is i d low = ap (λ e. leb e.start byte) (read i d low)
+
+      parted_part : IsPartitionedBy (λ e. leb e.start byte) part
+      parted_part i j d le below passes =
+          let low : j < stop - from = omega (arith, below, length-part) in
+          passes_is i d (omega (arith, le, low))
+          ∙ parted (from + i) (from + j) d (omega (arith, le)) (omega (arith, low, late.within)) (sym (passes_is j d low) ∙ passes)
+
+      whole : (n : ℕ) → n ≤ stop - from → IsPartitionPoint (λ e. leb e.start byte ≡ true) (λ e. leb e.start byte ≡ false) part n
+          → IsPartitionPoint (λ e. leb e.start byte ≡ true) (λ e. leb e.start byte ≡ false) laid.elements (from + n)
+      whole n bound point = (
+        λ k d above below.
+            elim (cases_lt k from) [
+              | inl lt ↦
+                  le-leb (get_or laid.elements k d).start byte
+                  (omega (arith, by.begin k lt, ap (λ e. e.start) (get_or_default laid.elements k d no_element (omega (arith, lt, by.within)))))
+              | inr ge ↦
+                  let here : from + (k - from) ≡ k = omega (arith, ge) in
+                  subst (λ i. leb (get_or laid.elements i d).start byte ≡ true) here
+                  (sym (passes_is (k - from) d (omega (arith, ge, below, bound))) ∙ point.0 (k - from) d (omega arith) (omega (arith, ge, below)))
+            ],
+        λ k d above below.
+            elim (cases_lt k stop) [
+              | inl lt ↦
+                  let here : from + (k - from) ≡ k = omega (arith, above) in
+                  subst (λ i. leb (get_or laid.elements i d).start byte ≡ false) here
+                  (sym (passes_is (k - from) d (omega (arith, above, lt))) ∙ point.1 (k - from) d (omega (arith, above)) (omega (arith, above, lt, length-part)))
+              | inr ge ↦
+                  lt-leb (get_or laid.elements k d).start byte
+                  (omega (arith, late.begin k ge below, ap (λ e. e.start) (get_or_default laid.elements k d no_element below)))
+            ],
+      )
+
+      pub token_found : (elements : List Element) → elements ≡ part → (n : ℕ) → n ≤ length elements
+          → (IsPartitionedBy (λ e. leb e.start byte) elements → IsPartitionPoint (λ e. leb e.start byte ≡ true) (λ e. leb e.start byte ≡ false) elements n)
+          → (1 ≤ from + n) × HasByte laid tree byte (from + n - 1)
+      token_found elements same n bound point =
+          let point' = subst (λ l. IsPartitionedBy (λ e. leb e.start byte) l → IsPartitionPoint (λ e. leb e.start byte ≡ true) (λ e. leb e.start byte ≡ false) l n) same point in
+          let few : n ≤ stop - from = omega (arith, bound, ap length same, length-part) in
+          found (from + n) (omega (arith, few, in_order, late.within)) (whole n few (point' parted_part))
 
   -- ---- the tokens at an offset
 

@@ -1,6 +1,7 @@
 pub mod Trees
 pub mod Layout
 pub mod Drafts
+pub mod Blocks
 pub mod Refusals
 pub mod Views
 pub mod Offsets

@@ -9,6 +9,7 @@ ghost use Rattle.syntax_tree.specs.Layout.{IsTree};
 ghost use Rattle.syntax_tree.specs.Trees.{IsOneRoot};
 ghost use Rattle.syntax_tree.specs.Refusals.{RefusesToken, RefusesNode, RefusesExit, RefusesError, RefusesOver};
 
+use crate::blocks;
 use crate::element::{Element, NONE};
 use crate::tree::{SyntaxTree, TreeError};
 use squawk_kinds::SyntaxKind;
@@ -57,6 +58,8 @@ pub struct TreeBuilder<'s> {
     /// How many bytes of the source were sent as tokens.
     sent: usize,
     elements: Vec<Element>,
+    /// For each block of the bytes that were sent, the place of the first element that begins behind it.
+    blocks: Vec<u32>,
     /// The place of the innermost open node. Those around it are its ancestors.
     innermost: u32,
     errors: Vec<TreeError>,
@@ -65,7 +68,8 @@ pub struct TreeBuilder<'s> {
 }
 
 impl<'s> Model for TreeBuilder<'s> {
-    ghost use Rattle.syntax_tree.specs.Drafts.{Growing, IsGrowing};
+    ghost use Rattle.syntax_tree.specs.Drafts.{Growing};
+    ghost use Rattle.syntax_tree.specs.Blocks.{IsGrowingIndexed};
 
     ghost Value = { Growing };
 
@@ -78,7 +82,7 @@ impl<'s> Model for TreeBuilder<'s> {
       steps = t.steps;
     } };
 
-    ghost invariant = { λ t. IsGrowing (view t) };
+    ghost invariant = { λ t. IsGrowingIndexed (view t) t.blocks.items };
 }
 
 impl<'s> TreeBuilder<'s> {
@@ -102,6 +106,7 @@ impl<'s> TreeBuilder<'s> {
             source,
             sent: 0,
             elements: room,
+            blocks: Vec::new(alloc),
             innermost: NONE,
             errors: Vec::new(alloc),
             steps: 0,
@@ -141,6 +146,7 @@ impl<'s> TreeBuilder<'s> {
             source,
             sent,
             elements,
+            blocks,
             innermost: _,
             errors,
             steps: _,
@@ -148,6 +154,7 @@ impl<'s> TreeBuilder<'s> {
         Ok(SyntaxTree {
             text: &source[..sent],
             elements,
+            blocks,
             errors,
             lexical,
         })
@@ -173,6 +180,7 @@ impl<'s> TreeBuilder<'s> {
             return Err(TreeRefusal::TooLarge);
         }
         self.elements.reserve(1)?;
+        blocks::fill(&mut self.blocks, end, at as u32 + 1)?;
         self.elements.push_reserved(Element {
             kind,
             is_token: true,

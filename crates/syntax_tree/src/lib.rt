@@ -1,6 +1,7 @@
 //! A syntax tree over a text, and a sink that builds it.
 #![tactic(auto)]
 
+mod blocks;
 pub mod builder;
 pub mod by_kind;
 mod element;

@@ -75,9 +75,11 @@ impl<'s> SyntaxTree<'s> {
         ensures token { (tree : Forest) → IsTree self.now tree → (is_token_at tree result.at ≡ true)
             × (start_at tree result.at ≤ byte) × (byte < end_at tree result.at) }
     {
-        let behind = self
-            .elements
-            .partition_point(|element| element.start as usize <= byte);
+        let from = self.begun_by(byte);
+        let behind = from
+            + self.elements[from..self.begun_behind(byte)].partition_point(
+                |element| element.start as usize <= byte,
+            );
         SyntaxElement {
             tree: self,
             at: (behind - 1) as u32,

@@ -12,19 +12,22 @@ use std::marker::Model;
 pub struct SyntaxTree<'s> {
     pub(crate) text: &'s str,
     pub(crate) elements: Vec<Element>,
+    /// For each block of the text's bytes, the place of the first element that begins behind it.
+    pub(crate) blocks: Vec<u32>,
     pub(crate) errors: Vec<TreeError>,
     /// The lexical errors of the text that was parsed.
     pub(crate) lexical: Vec<LexError>,
 }
 
 impl<'s> Model for SyntaxTree<'s> {
-    ghost use Rattle.syntax_tree.specs.Layout.{Laid, HoldsTree};
+    ghost use Rattle.syntax_tree.specs.Layout.{Laid};
+    ghost use Rattle.syntax_tree.specs.Blocks.{IsIndexed};
 
     ghost Value = { Laid };
 
     ghost view = { λ t. record { text = t.text.now; elements = t.elements.items; errors = t.errors.items; lexical = t.lexical.items } };
 
-    ghost invariant = { λ t. HoldsTree (view t) };
+    ghost invariant = { λ t. IsIndexed (view t) t.blocks.items };
 }
 
 /// An error of a tree.

@@ -10,10 +10,14 @@ returns-then-len-clause-step c = λ steps stands.
     (refl, omega (arith, errors_taken _ steps (stood _ _ c.self.view_is steps stands), c.len.ensures, c.self.inside.errors.ok))
 
 pub overflow_add-self : goal.overflow_add-self
-overflow_add-self c = omega (arith, few_steps_taken _ c.self.invariant)
+overflow_add-self c = omega (arith, few_steps_taken _ c.self.invariant.grows)
 
 pub invariant_of-self-2 : goal.invariant_of-self-2
-invariant_of-self-2 c = IsGrowing-error _ (chars c.args.msg.now) c.args.pos c.push_reserved.new.self.items (search rules) c.self.invariant (omega (arith, c.len.ensures, c.self.inside.errors.ok))
+invariant_of-self-2 c = record {
+  grows = IsGrowing-error _ (chars c.args.msg.now) c.args.pos c.push_reserved.new.self.items (search rules) c.self.invariant.grows
+      (omega (arith, c.len.ensures, c.self.inside.errors.ok));
+  places = c.self.invariant.places;
+}
 
 pub returns-clause-step : goal.returns-clause-step
 returns-clause-step c = λ steps stands.

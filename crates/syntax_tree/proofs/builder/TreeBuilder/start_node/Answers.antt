@@ -1,4 +1,6 @@
 use Rattle.std.proofs.Common.{rules, arith, refl}
+use Rattle.syntax_tree.specs.Drafts.{open_element}
+use Rattle.syntax_tree.proofs.BlockPlaces.{HasBlocks-element}
 use Rattle.syntax_tree.specs.Refusals.{RefusesNode}
 use Rattle.syntax_tree.proofs.Drafts.{few_steps_taken, stood, IsGrowing-node, StandsAfter-node}
 use Rattle.syntax_tree.proofs.Refusals.{none_open, some_open, elements_taken, wants_memory}
@@ -10,7 +12,7 @@ returns-then-at-gt0-clause-step c = λ steps stands.
     let before = stood _ _ c.self.view_is steps stands in (
       refl,
       (
-        none_open _ steps before c.self.invariant.few c.if-self.true,
+        none_open _ steps before c.self.invariant.grows.few c.if-self.true,
         omega (arith, elements_taken _ steps before, c.len-at.ensures, c.if-at-gt0.true, c.self.inside.elements.ok),
       ),
     )
@@ -41,16 +43,19 @@ returns-in_err-reserve-clause-step c = λ steps stands.
     )
 
 pub overflow_add-self : goal.overflow_add-self
-overflow_add-self c = omega (arith, few_steps_taken _ c.self.invariant)
+overflow_add-self c = omega (arith, few_steps_taken _ c.self.invariant.grows)
 
 pub invariant_of-self-2 : goal.invariant_of-self-2
-invariant_of-self-2 c =
-    IsGrowing-node _ c.args.kind c.len-at.result c.push_reserved.new.self.items (search rules) (search rules)
-    (λ none. elim c.else-self.branch [
-      | else-self-via-then-self+else-at-gt0 w ↦ omega (arith, w.if-at-gt0.false, c.len-at.ensures, c.self.inside.elements.ok)
-      | else-self-via-else-self w ↦ absurd (w.if-self.false none)
-    ])
-    c.self.invariant (omega (arith, c.if-at.false, c.len-at.ensures, c.self.inside.elements.ok))
+invariant_of-self-2 c = record {
+  grows = IsGrowing-node _ c.args.kind c.len-at.result c.push_reserved.new.self.items (search rules) (search rules)
+      (λ none. elim c.else-self.branch [
+        | else-self-via-then-self+else-at-gt0 w ↦ omega (arith, w.if-at-gt0.false, c.len-at.ensures, c.self.inside.elements.ok)
+        | else-self-via-else-self w ↦ absurd (w.if-self.false none)
+      ])
+      c.self.invariant.grows (omega (arith, c.if-at.false, c.len-at.ensures, c.self.inside.elements.ok));
+  places = HasBlocks-element _ _ c.push_reserved.new.self.items (open_element c.args.kind c.self.inside.innermost c.len-at.result c.self.inside.sent) _
+      (search rules) refl c.self.invariant.places;
+}
 
 pub returns-clause-step : goal.returns-clause-step
 returns-clause-step c = λ steps stands.

@@ -7,11 +7,11 @@ use Rattle.syntax_tree.proofs.handle.SyntaxElement.ancestors.Goals as goal
 
 pub invariant_of-result : goal.invariant_of-result
 invariant_of-result c =
-    let held = subst HoldsTree c.tree.view_is c.tree.invariant in
+    let held = subst HoldsTree c.tree.view_is c.tree.invariant.holds in
     let read = reads c.args.self.tree.now held.tree held.is c.args.self.at c.args.self.within in
     record { below = c.args.self.within; within = inr (omega arith, omega (arith, read.behind)) }
 
 pub returns : goal.returns
 returns c = λ tree is.
-    let held = subst HoldsTree c.tree.view_is c.tree.invariant in
+    let held = subst HoldsTree c.tree.view_is c.tree.invariant.holds in
     ap (map (place_in c.args.self.tree.now)) (ancestors_are c.args.self.tree.now tree is held.few c.args.self.at c.args.self.within)

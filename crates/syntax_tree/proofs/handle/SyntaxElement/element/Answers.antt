@@ -7,4 +7,4 @@ pub returns-clause-element : goal.returns-clause-element
 returns-clause-element c = element_read _ _ c.tree.view_is c.args.self.at c.args.self.within c.index.result.now c.index.ensures
 
 pub returns-clause-tree : goal.returns-clause-tree
-returns-clause-tree c = subst HoldsTree c.tree.view_is c.tree.invariant
+returns-clause-tree c = subst HoldsTree c.tree.view_is c.tree.invariant.holds

@@ -15,8 +15,8 @@ module _ (c : After-text_range) where
       (slices c.args.self.tree.now tree is c.args.self.at c.args.self.within)
 
   some_cut : IsSlice c.tree.inside.text.now c.text_range.result.start c.text_range.result.end
-      (text_at (held_in _ _ c.tree.view_is c.tree.invariant).tree c.args.self.at)
-  some_cut = let held = held_in _ _ c.tree.view_is c.tree.invariant in cut held.tree held.is
+      (text_at (held_in _ _ c.tree.view_is c.tree.invariant.holds).tree c.args.self.at)
+  some_cut = let held = held_in _ _ c.tree.view_is c.tree.invariant.holds in cut held.tree held.is
 
 pub range-requires-clause-start_le_end : goal.range-requires-clause-start_le_end
 range-requires-clause-start_le_end c = (some_cut c).ascends

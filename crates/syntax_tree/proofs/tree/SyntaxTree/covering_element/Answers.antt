@@ -29,12 +29,12 @@ last c tree is =
 
 pub overflow_sub-last : goal.overflow_sub-last
 overflow_sub-last c =
-    let holds = subst HoldsTree c.self.view_is c.self.invariant in
+    let holds = subst HoldsTree c.self.view_is c.self.invariant.holds in
     (last c holds.tree holds.is).0
 
 pub invariant_of-result : goal.invariant_of-result
 invariant_of-result c =
-    let holds = subst HoldsTree c.self.view_is c.self.invariant in
+    let holds = subst HoldsTree c.self.view_is c.self.invariant.holds in
     record { within = (last c holds.tree holds.is).1 }
 
 pub returns-then-len-eq0 : goal.returns-then-len-eq0
@@ -64,14 +64,14 @@ returns-in_err-element c = λ tree is.
 
 pub loop-range-smaller : goal.loop-range-smaller
 loop-range-smaller c =
-    let holds = subst HoldsTree c.self.view_is c.self.invariant in
+    let holds = subst HoldsTree c.self.view_is c.self.invariant.holds in
     let up = c.in_ok-element.ensures holds.tree (subst (λ l. IsTree l holds.tree) (sym c.loop-range.invariant.same) holds.is) in
     let below = subst (λ l. c.in_ok-element.element.at < length l.elements) (up.0 ∙ c.loop-range.invariant.same) c.in_ok-element.element.within in
     child_from c.args.self.now holds.tree holds.is c.in_ok-element.element.at below c.loop-range.element.at up.1
 
 pub loop-range-preserved : goal.loop-range-preserved
 loop-range-preserved c =
-    let holds = subst HoldsTree c.self.view_is c.self.invariant in
+    let holds = subst HoldsTree c.self.view_is c.self.invariant.holds in
     let laid = c.args.self.now in
     let node = c.in_ok-element.element in
     let len = length c.self.inside.text.now in

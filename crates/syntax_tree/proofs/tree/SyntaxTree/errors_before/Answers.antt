@@ -6,7 +6,7 @@ use Rattle.syntax_tree.proofs.tree.SyntaxTree.errors_before.Goals as goal
 
 pub returns : goal.returns
 returns c =
-    let holds = subst HoldsTree c.self.view_is c.self.invariant in
+    let holds = subst HoldsTree c.self.view_is c.self.invariant.holds in
     come_before c.args.self.now holds.tree holds.is c.args.place c.deref.result.now (c.deref.ensures.value ∙ ap (λ l. l.errors) c.self.view_is)
     c.partition_point.result c.partition_point.ensures.bound
     (λ parted. IsPartitionPoint-from_clause (λ e. leb e.next c.args.place) _ _ c.partition_point.ensures.partitioned parted (λ a r q k. search rules))

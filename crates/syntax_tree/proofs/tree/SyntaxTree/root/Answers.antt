@@ -5,5 +5,5 @@ use Rattle.syntax_tree.proofs.tree.SyntaxTree.root.Goals as goal
 
 pub invariant_of-result : goal.invariant_of-result
 invariant_of-result c =
-    let held = subst HoldsTree c.self.view_is c.self.invariant in
+    let held = subst HoldsTree c.self.view_is c.self.invariant.holds in
     record { within = some_element c.args.self.now held.tree held.is }
