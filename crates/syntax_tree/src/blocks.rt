@@ -1,12 +1,21 @@
 //! Where elements stand among blocks of bytes of the text.
-ghost use Rattle.std.specs.Prelude.{◌≡◌, ◌+◌, ◌-◌, ◌/◌, ◌<◌, ◌≤◌, ◌++◌, if◌then◌else◌, length, is_ok, replicate};
+ghost use Rattle.std.specs.Prelude.{◌≡◌, ◌+◌, ◌-◌, ◌/◌, ◌<◌, ◌≤◌, ◌++◌, [], if◌then◌else◌, length, is_ok, replicate};
 ghost use Rattle.syntax_tree.specs.Offsets.{BeginBy, BeginBehind};
 
 use crate::tree::SyntaxTree;
-use std::alloc::AllocError;
+use std::alloc::{AllocError, Global};
 
 /// How many bytes of the text a block has.
 const BLOCK: usize = 32;
+
+/// An empty list, with room for the blocks of so many bytes. Where that memory is refused, it comes step by step.
+pub(crate) fn room(alloc: Global, bytes: usize) -> Vec<u32>
+    ensures { result.items ≡ [] }
+{
+    let mut blocks = Vec::new(alloc);
+    let _ = blocks.reserve(bytes / BLOCK);
+    blocks
+}
 
 /// Adds a place for each block that ends within so many bytes and has none.
 #[inline(always)]
@@ -18,6 +27,15 @@ pub(crate) fn fill(blocks: &mut Vec<u32>, bytes: usize, place: u32) -> Result<()
     if count <= blocks.len() {
         return Ok(());
     }
+    add(blocks, count, place)
+}
+
+/// The part of [`fill`] that few tokens need, out of line.
+#[inline(never)]
+fn add(blocks: &mut Vec<u32>, count: usize, place: u32) -> Result<(), AllocError>
+    requires { length blocks.old.items ≤ count }
+    ensures { blocks.new.items ≡ (if is_ok result then blocks.old.items ++ replicate (count - length blocks.old.items) place else blocks.old.items) }
+{
     blocks.resize(count, place)
 }
 

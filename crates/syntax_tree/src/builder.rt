@@ -106,7 +106,7 @@ impl<'s> TreeBuilder<'s> {
             source,
             sent: 0,
             elements: room,
-            blocks: Vec::new(alloc),
+            blocks: blocks::room(alloc, source.len()),
             innermost: NONE,
             errors: Vec::new(alloc),
             steps: 0,

@@ -54,8 +54,8 @@ pub fn parse_accepted_tree<'s, V: Vocabulary, G: Grammar>(
     ensures refused { let g = given (V.keyword vocabulary.now) (V.contextual_keyword vocabulary.now) text.now tokens.now in
         IfErr result (IsTreeRefusal g (G.leaves grammar.now entry) (G.runs grammar.now entry) (G.meaning grammar.now)) }
 {
-    // Most trees have fewer nodes than half as many as raw tokens.
-    let elements = tokens.len().saturating_add(tokens.len() / 2);
+    // Most trees have fewer nodes than raw tokens.
+    let elements = tokens.len().saturating_mul(2);
     let mut builder = TreeBuilder::with_capacity(alloc, text, elements);
     match build(
         alloc,

@@ -9,18 +9,18 @@ pub invariant_of-result : goal.invariant_of-result
 invariant_of-result c = record {
   grows = record {
     draft = Outside Nothing;
-    is = IsDraft-new c.args.source.now c.reserve.new.self.items c.new-2.result.items (c.reserve.ensures.items ∙ c.new-room.ensures.items) c.new-2.ensures.items;
+    is = IsDraft-new c.args.source.now c.reserve.new.self.items c.new.result.items (c.reserve.ensures.items ∙ c.new-room.ensures.items) c.new.ensures.items;
     utf8 = c.utf8.source;
     few = search rules;
     few_errors = search rules;
     short = omega arith;
   };
-  places = HasBlocks-none c.new.result.items c.reserve.new.self.items c.new.ensures.items (c.reserve.ensures.items ∙ c.new-room.ensures.items);
+  places = HasBlocks-none c.room.result.items c.reserve.new.self.items c.room.ensures (c.reserve.ensures.items ∙ c.new-room.ensures.items);
 }
 
 pub returns-clause-after : goal.returns-clause-after
 returns-clause-after c = record {
   draft = Outside Nothing;
-  is = IsDraft-new c.args.source.now c.reserve.new.self.items c.new-2.result.items (c.reserve.ensures.items ∙ c.new-room.ensures.items) c.new-2.ensures.items;
+  is = IsDraft-new c.args.source.now c.reserve.new.self.items c.new.result.items (c.reserve.ensures.items ∙ c.new-room.ensures.items) c.new.ensures.items;
   walk = refl;
 }
