@@ -1,5 +1,6 @@
 //! A sink that builds a syntax tree.
-ghost use Rattle.std.specs.Prelude.{◌≡◌, [], ◌∷◌, ◌++◌, List, MatchResult, IfErr, IfOk};
+ghost use Rattle.std.specs.Prelude.{◌≡◌, ◌≤◌, [], ◌∷◌, ◌++◌, List, length, slice_range, nat_eq, MatchResult, IfErr, IfOk};
+ghost use Rattle.std.specs.List.{starts_with};
 ghost use Rattle.std.specs.Str.{chars};
 ghost use Rattle.squawk_table.specs.declared.shortcuts.str_step.OwnedStep.{OwnedStep};
 ghost use Rattle.squawk_table.specs.declared.shortcuts.str_step.OwnedStep.TheVariants.{Token, Enter, Exit, Error};
@@ -171,7 +172,7 @@ impl<'s> TreeBuilder<'s> {
             return Err(TreeRefusal::OutsideOfRoot);
         }
         let start = self.sent;
-        if text.is_empty() || !self.source.as_bytes()[start..].starts_with(text.as_bytes()) {
+        if text.is_empty() || !comes_next(self.source.as_bytes(), start, text.as_bytes()) {
             return Err(TreeRefusal::OtherText);
         }
         let end = start + text.len();
@@ -269,6 +270,18 @@ impl<'s> TreeBuilder<'s> {
         self.steps += 1;
         Ok(())
     }
+}
+
+/// Whether a text comes next in a source. Most tokens have one byte.
+#[inline(always)]
+fn comes_next(source: &[u8], start: usize, text: &[u8]) -> bool
+    requires { start ≤ length source.now }
+    ensures { result ≡ starts_with nat_eq (slice_range source.now start (length source.now)) text.now }
+{
+    if text.len() == 1 && start < source.len() {
+        return text[0] == source[start];
+    }
+    source[start..].starts_with(text)
 }
 
 impl StepSink for TreeBuilder<'_> {

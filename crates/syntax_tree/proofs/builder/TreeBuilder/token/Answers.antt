@@ -8,7 +8,7 @@ use Rattle.syntax_tree.proofs.Drafts.{few_steps_taken, stood}
 use Rattle.syntax_tree.proofs.DraftsToken.{is_part, not_found, IsGrowing-token, StandsAfter-token}
 use Rattle.syntax_tree.proofs.Refusals.{none_open, some_open, elements_taken, bytes_more, is_next, not_empty, follows, seen_next, next_seen, wants_memory}
 use Rattle.syntax_tree.proofs.builder.TreeBuilder.token.Goals as goal
-use Rattle.syntax_tree.proofs.builder.TreeBuilder.token.Goals.{then-is_empty-via-then-is_empty, then-is_empty-via-else-is_empty+then-not-starts_with, then-at-via-then-at, then-at-via-else-at+then-end}
+use Rattle.syntax_tree.proofs.builder.TreeBuilder.token.Goals.{then-is_empty-via-then-is_empty, then-is_empty-via-else-is_empty+then-not-comes_next, then-at-via-then-at, then-at-via-else-at+then-end}
 
 pub returns-then-self-clause-step : goal.returns-then-self-clause-step
 returns-then-self-clause-step c = λ steps stands.
@@ -24,10 +24,10 @@ returns-then-is_empty-clause-step c = λ steps stands.
             elim c.then-is_empty.branch [
               | then-is_empty-via-then-is_empty w ↦
                   not_empty _ steps before c.args.text.now c.utf8.text (eqb-true _ _ (sym c.is_empty.ensures ∙ w.if-is_empty.true)) next
-              | then-is_empty-via-else-is_empty+then-not-starts_with w ↦
+              | then-is_empty-via-else-is_empty+then-not-comes_next w ↦
                   let rest = follows _ steps before c.args.text.now c.utf8.text c.self.invariant.grows.utf8 next in
-                  not_found c.self.inside.sent w.as_bytes.ensures.value w.as_bytes-else-is_empty.ensures.value w.starts_with.ensures.value
-                  w.if-not-starts_with.true rest.0 rest.1
+                  not_found c.self.inside.sent w.as_bytes.ensures.value w.as_bytes-else-is_empty.ensures.value w.comes_next.ensures
+                  w.if-not-comes_next.true rest.0 rest.1
             ],
       ),
     )
@@ -35,8 +35,8 @@ returns-then-is_empty-clause-step c = λ steps stands.
 pub returns-then-at-clause-step : goal.returns-then-at-clause-step
 returns-then-at-clause-step c = λ steps stands.
     let before = stood _ _ c.self.view_is steps stands in
-    let part = is_part c.self.inside.sent c.as_bytes.ensures.value c.as_bytes-else-is_empty.ensures.value c.starts_with.ensures.value
-    c.is_empty.ensures c.if-is_empty.false c.if-not-starts_with.false in
+    let part = is_part c.self.inside.sent c.as_bytes.ensures.value c.as_bytes-else-is_empty.ensures.value c.comes_next.ensures
+    c.is_empty.ensures c.if-is_empty.false c.if-not-comes_next.false in
     let next = is_next _ steps before c.args.text.now c.utf8.text part in (
       refl,
       (
@@ -52,8 +52,8 @@ returns-then-at-clause-step c = λ steps stands.
 pub returns-in_err-reserve-clause-step : goal.returns-in_err-reserve-clause-step
 returns-in_err-reserve-clause-step c = λ steps stands.
     let before = stood _ _ c.self.view_is steps stands in
-    let part = is_part c.self.inside.sent c.as_bytes.ensures.value c.as_bytes-else-is_empty.ensures.value c.starts_with.ensures.value
-    c.is_empty.ensures c.if-is_empty.false c.if-not-starts_with.false in
+    let part = is_part c.self.inside.sent c.as_bytes.ensures.value c.as_bytes-else-is_empty.ensures.value c.comes_next.ensures
+    c.is_empty.ensures c.if-is_empty.false c.if-not-comes_next.false in
     let next = is_next _ steps before c.args.text.now c.utf8.text part in
     wants_memory c.from_residual.result _ _ (RefusesToken c.args.self.now.source steps (chars c.args.text.now))
     c.from_residual.ensures.1 (search rules) (
@@ -67,8 +67,8 @@ pub returns-in_err-fill-clause-step : goal.returns-in_err-fill-clause-step
 returns-in_err-fill-clause-step c = λ steps stands.
     let answer = c.from_residual-in_err-fill in
     let before = stood _ _ c.self.view_is steps stands in
-    let part = is_part c.self.inside.sent c.as_bytes.ensures.value c.as_bytes-else-is_empty.ensures.value c.starts_with.ensures.value
-    c.is_empty.ensures c.if-is_empty.false c.if-not-starts_with.false in
+    let part = is_part c.self.inside.sent c.as_bytes.ensures.value c.as_bytes-else-is_empty.ensures.value c.comes_next.ensures
+    c.is_empty.ensures c.if-is_empty.false c.if-not-comes_next.false in
     let next = is_next _ steps before c.args.text.now c.utf8.text part in
     wants_memory answer.result _ _ (RefusesToken c.args.self.now.source steps (chars c.args.text.now))
     answer.ensures.1 (search rules) (
@@ -83,8 +83,8 @@ overflow_add-self c = omega (arith, few_steps_taken _ c.self.invariant.grows)
 
 pub invariant_of-self-2 : goal.invariant_of-self-2
 invariant_of-self-2 c =
-    let part = is_part c.self.inside.sent c.as_bytes.ensures.value c.as_bytes-else-is_empty.ensures.value c.starts_with.ensures.value
-    c.is_empty.ensures c.if-is_empty.false c.if-not-starts_with.false in
+    let part = is_part c.self.inside.sent c.as_bytes.ensures.value c.as_bytes-else-is_empty.ensures.value c.comes_next.ensures
+    c.is_empty.ensures c.if-is_empty.false c.if-not-comes_next.false in
     record {
       grows = IsGrowing-token _ c.args.kind c.args.text.now c.push_reserved.new.self.items (search rules) c.if-self.false c.utf8.text part
           c.self.invariant.grows (omega (arith, c.if-at.false, c.len-at.ensures, c.self.inside.elements.ok)) (omega (arith, c.if-end.false));
@@ -98,7 +98,7 @@ invariant_of-self-2 c =
 
 pub returns-clause-step : goal.returns-clause-step
 returns-clause-step c = λ steps stands.
-    let part = is_part c.self.inside.sent c.as_bytes.ensures.value c.as_bytes-else-is_empty.ensures.value c.starts_with.ensures.value
-    c.is_empty.ensures c.if-is_empty.false c.if-not-starts_with.false in
+    let part = is_part c.self.inside.sent c.as_bytes.ensures.value c.as_bytes-else-is_empty.ensures.value c.comes_next.ensures
+    c.is_empty.ensures c.if-is_empty.false c.if-not-comes_next.false in
     StandsAfter-token _ c.args.kind c.args.text.now c.push_reserved.new.self.items (search rules) c.if-self.false c.utf8.text part
     steps (stood _ _ c.self.view_is steps stands)
