@@ -23,7 +23,7 @@ pub enum TokenAtOffset<'t> {
 impl<'s> SyntaxTree<'s> {
     /// The tokens that touch an offset of the text, in bytes.
     ///
-    /// It takes logarithmic time in the number of elements.
+    /// It takes logarithmic time in the number of elements that begin in one block of 32 bytes.
     pub fn token_at_offset<'t>(&'t self, offset: usize) -> TokenAtOffset<'t>
         ensures { (tree : Forest) → IsTree self.now tree → AnswersOffset self.now tree offset result }
     {
