@@ -1,9 +1,9 @@
 -- A script, text by text.
 use Rattle.std.proofs.Common.{◌≡◌, ◌≢◌, ◌∙◌, ◌⊎◌, inl, inr, ℕ, ◌+◌, ◌-◌, ◌^◌, ◌<◌, ◌≤◌, Option, List, [], ◌∷◌, ◌++◌, ap, append_assoc, arith, drop, length, length-append, length-take, min, refl, subst, sym, take}
-use Rattle.std.specs.Prelude.{Err, IsUtf8, OnOk, Ok, Result}
+use Rattle.std.specs.Prelude.{Err, IsUtf8, Ok, Result}
 use Rattle.std.specs.Str.{IsValidUpTo}
-use Rattle.std.specs.Io.KnownBytes.{Appends, Consumes, IsAtEnd}
-use Rattle.std.proofs.KnownBytes.{Appends-nil, Appends-trans, Consumes-trans}
+use Rattle.std.specs.Io.KnownBytes.{Appends, Consumes}
+use Rattle.std.proofs.KnownBytes.{Appends-trans, Consumes-trans}
 use Rattle.std.proofs.Math.Seq.{drop-append-add, take-append-add}
 use Rattle.std.proofs.lemmas.Bool.{cases_lt}
 use Rattle.std.proofs.lemmas.List.{append-nil, drop-append-le, take-append-drop, take-append-le}
@@ -23,12 +23,11 @@ use Rattle.sql_reader.specs.Readers.{GoesOn, IsNext, IsTextOf, ReadsOn, Script, 
 use Rattle.sql_reader.specs.declared.read_error.ReadError.{ReadError}
 use Rattle.sql_reader.specs.declared.read_error.ReadError.TheVariants as reader
 use Rattle.sql_reader.specs.declared.script_reader.Input.TheVariants.{Ended, Open}
-use Rattle.sql_reader.specs.declared.script_text.Next.{Next}
 use Rattle.sql_reader.specs.declared.script_text.Next.TheVariants.{End, Fault, More}
 use Rattle.sql_reader.specs.declared.script_text.ScriptText.{ScriptText}
 use Rattle.sql_report.specs.Places.{AreCountable, IsLineColumn}
 use Rattle.sql_report.specs.declared.line_column.LineColumn.{LineColumn}
-use Rattle.sql_tree.specs.OnTheWay.{HasTold, HasToldFront, IfPrinted, IsBefore, IsTelling, IsTextIn, TellsScript, TellsText}
+use Rattle.sql_tree.specs.OnTheWay.{HasTold, HasToldFront, IsBefore, IsTelling, IsTextIn, TellsScript, TellsText}
 use Rattle.sql_tree.specs.Refusals.{unread_of_reader}
 use Rattle.sql_tree.specs.Reports.{StopsScript}
 use Rattle.sql_tree.specs.declared.options.Listing.{Listing}
@@ -59,7 +58,7 @@ pub record InScript (sql : Sql) (listing : Listing) (name : List ℕ) (p p_now e
 -- what is read of a script is text
 utf8_read : (sql : Sql) (progress : Progress) (read left : List ℕ) (place : Place) (lexical : List LexicalError) (done : List OwnedStep)
     → ReadSoFar progress sql.vocabulary sql.rules read left place lexical done → IsUtf8 read
-utf8_read sql Front read left place lexical done has = subst IsUtf8 (sym has.nothing) ([], refl, refl)
+utf8_read sql Front read left place lexical done has = subst IsUtf8 (sym has.nothing) ([], (refl, refl))
 utf8_read sql Inside read left place lexical done has = subst IsUtf8 has.text has.parsed.table.utf8
 
 valid_behind : (front bytes : List ℕ) (n : ℕ) → IsUtf8 front → IsValidUpTo bytes n → IsValidUpTo (front ++ bytes) (length front + n)
@@ -170,7 +169,7 @@ module _ (sql : Sql) (listing : Listing) (name : List ℕ) (p p_now e e_now rema
               let same : old.unread ++ (reads.more ++ rest) ≡ (text.text.now ++ is.left) ++ rest = sym (append_assoc old.unread reads.more rest) ∙ ap (λ l. l ++ rest) unread in
               let h = b.told.holds (reads.more ++ rest) (omega (arith, short, ap length same, length-append read (old.unread ++ (reads.more ++ rest)), length-append read ((text.text.now ++ is.left) ++ rest))) in (
                 subst (λ q. ReadSoFar (begun_with q) sql.vocabulary sql.rules read ((text.text.now ++ is.left) ++ rest) (place_of q) b.told.lexical b.told.done) place
-                (subst (λ l. ReadSoFar (begun_with old.place) sql.vocabulary sql.rules read l (place_of old.place) b.told.lexical b.told.done) same h.0),
+                    (subst (λ l. ReadSoFar (begun_with old.place) sql.vocabulary sql.rules read l (place_of old.place) b.told.lexical b.told.done) same h.0),
                 subst (λ l. HasTold (read ++ l) b.out b.errs b.told.lexical b.told.done t) same h.1,
               );
         }

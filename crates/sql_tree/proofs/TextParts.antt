@@ -1,6 +1,6 @@
 -- A text of a script, part by part.
 use Rattle.std.proofs.Common.{◌≡◌, ◌≢◌, ◌∙◌, ◌⊎◌, inl, inr, ℕ, zero, suc, ◌+◌, ◌-◌, ◌^◌, ◌<◌, ◌≤◌, ◌&&◌, ◌||◌, nat_lt, Bool, true, false, Option, None, Some, List, [], ◌∷◌, ◌++◌, ap, append_assoc, arith, drop, length, length-append, map, min, refl, subst, sym, take}
-use Rattle.std.specs.Prelude.{if◌then◌else◌, is_some, Err, IfSome, Ok, Result, unwrap_or}
+use Rattle.std.specs.Prelude.{if◌then◌else◌, is_some, Err, IfSome, Ok, unwrap_or}
 use Rattle.std.specs.declared.io.Error.{Error}
 use Rattle.std.specs.List.{list_any}
 use Rattle.std.specs.Io.KnownBytes.{Appends}
@@ -15,7 +15,6 @@ use Rattle.squawk_table.specs.declared.shortcuts.str_step.OwnedStep.TheVariants.
 use Rattle.squawk_tokens.specs.LexicalErrors.{LexicalError, shifted}
 use Rattle.sql_lexer.specs.Lines.{EndsLine}
 use Rattle.sql_lexer.specs.ScriptLexing.{Lexing, place_of, script_place}
-use Rattle.sql_lexer.specs.declared.script.places.Place.{Place}
 use Rattle.sql_lexer.specs.declared.script.script_place.ScriptPlace.{ScriptPlace}
 use Rattle.sql_lexer.specs.declared.script.script_place.ScriptPlace.TheVariants as script
 use Rattle.sql_lexer.specs.Tokens.{RefusesText as RefusesTokens}
@@ -265,15 +264,15 @@ module _ (sql : Sql) (listing : Listing) (name read left out errs : List ℕ) (t
             let there = part_of old new part place start in_window is_window is_before moved starts lines reads b.front b.tail b.at b.whole rest last short in
             let told = tells sql listing name script stands.passed rest (out ++ b.more) (errs ++ b.more_errs) b.lexical b.done reads.inner SOURCE_FILE b.telling there short reads.sent_is stand h.1 in
             let told_out = subst
-                (λ o. HasTold script o ((errs ++ b.more_errs) ++ more_errs) (b.lexical ++ map (shifted start) part.table.errors) (b.done ++ map (moved_by start) reads.inner) next)
-                (append_assoc out b.more more) told in
+            (λ o. HasTold script o ((errs ++ b.more_errs) ++ more_errs) (b.lexical ++ map (shifted start) part.table.errors) (b.done ++ map (moved_by start) reads.inner) next)
+            (append_assoc out b.more more) told in
             let told_errs = subst
-                (λ o. HasTold script (out ++ (b.more ++ more)) o (b.lexical ++ map (shifted start) part.table.errors) (b.done ++ map (moved_by start) reads.inner) next)
-                (append_assoc errs b.more_errs more_errs) told_out in (
+            (λ o. HasTold script (out ++ (b.more ++ more)) o (b.lexical ++ map (shifted start) part.table.errors) (b.done ++ map (moved_by start) reads.inner) next)
+            (append_assoc errs b.more_errs more_errs) told_out in (
               subst (λ r. HasRead sql.vocabulary sql.rules new behind r lexical done) (append_assoc read b.front bytes) has,
               subst
-              (λ m. HasTold script (out ++ (b.more ++ more)) (errs ++ (b.more_errs ++ more_errs)) (b.lexical ++ map (shifted m) part.table.errors) (b.done ++ map (moved_by m) reads.inner) next)
-              is_start told_errs,
+                  (λ m. HasTold script (out ++ (b.more ++ more)) (errs ++ (b.more_errs ++ more_errs)) (b.lexical ++ map (shifted m) part.table.errors) (b.done ++ map (moved_by m) reads.inner) next)
+                  is_start told_errs,
             );
       }
 
@@ -309,12 +308,12 @@ module _ (sql : Sql) (listing : Listing) (name read left out errs : List ℕ) (t
             append_assoc text.text.now left rest
             ∙ (ap (λ l. l ++ (left ++ rest)) ends.whole ∙ (append_assoc parts.lexer.text ends.tail (left ++ rest) ∙ ap (λ l. l ++ (ends.tail ++ (left ++ rest))) (sym all))) in
             let so_far = subst (λ r. ReadSoFar parts.progress sql.vocabulary sql.rules r (text_left parts ++ (ends.tail ++ (left ++ rest))) parts.lexer.place b.lexical b.done) (sym (append-nil read))
-                (subst (λ q. ReadSoFar parts.progress sql.vocabulary sql.rules read (text_left parts ++ (ends.tail ++ (left ++ rest))) q b.lexical b.done) (sym place)
-                (subst (λ l. ReadSoFar parts.progress sql.vocabulary sql.rules read l (place_of text.place) b.lexical b.done) behind
-                (subst (λ q. ReadSoFar q sql.vocabulary sql.rules read ((text.text.now ++ left) ++ rest) (place_of text.place) b.lexical b.done) (sym begins.progress) h.0))) in (
+            (subst (λ q. ReadSoFar parts.progress sql.vocabulary sql.rules read (text_left parts ++ (ends.tail ++ (left ++ rest))) q b.lexical b.done) (sym place)
+            (subst (λ l. ReadSoFar parts.progress sql.vocabulary sql.rules read l (place_of text.place) b.lexical b.done) behind
+            (subst (λ q. ReadSoFar q sql.vocabulary sql.rules read ((text.text.now ++ left) ++ rest) (place_of text.place) b.lexical b.done) (sym begins.progress) h.0))) in (
               (sql.keywords, so_far),
               subst (λ o. HasTold (script_with rest) o (errs ++ []) b.lexical b.done t) (sym (append-nil out))
-              (subst (λ o. HasTold (script_with rest) out o b.lexical b.done t) (sym (append-nil errs)) (subst (λ s. HasTold s out errs b.lexical b.done t) same h.1)),
+                  (subst (λ o. HasTold (script_with rest) out o b.lexical b.done t) (sym (append-nil errs)) (subst (λ s. HasTold s out errs b.lexical b.done t) same h.1)),
             );
       }
     where
@@ -348,13 +347,13 @@ module _ (sql : Sql) (listing : Listing) (name read left out errs : List ℕ) (t
           let script : (read ++ take n text.text.now) ++ ((drop n text.text.now ++ left) ++ rest) ≡ script_with rest =
           append_assoc read (take n text.text.now) ((drop n text.text.now ++ left) ++ rest)
           ∙ ap (λ l. read ++ l)
-            (ap (λ l. take n text.text.now ++ l) (append_assoc (drop n text.text.now) left rest)
-            ∙ (sym (append_assoc (take n text.text.now) (drop n text.text.now) (left ++ rest)) ∙ ap (λ l. l ++ (left ++ rest)) (take-append-drop n text.text.now))) in
+          (ap (λ l. take n text.text.now ++ l) (append_assoc (drop n text.text.now) left rest)
+          ∙ (sym (append_assoc (take n text.text.now) (drop n text.text.now) (left ++ rest)) ∙ ap (λ l. l ++ (left ++ rest)) (take-append-drop n text.text.now))) in
           let h = b.holds rest (λ l. absurd (false≢true (sym other ∙ l))) (omega (arith, short, ap length script)) in (
             subst (λ r. ReadSoFar (begun_with place) sql.vocabulary sql.rules r ((drop n text.text.now ++ left) ++ rest) (place_of place) b.lexical b.done) (ap (λ l. read ++ l) (sym (taken n is)))
-            (subst (λ q. ReadSoFar (begun_with place) sql.vocabulary sql.rules (read ++ b.front) ((drop n text.text.now ++ left) ++ rest) q b.lexical b.done) (sym same)
-            (subst (λ l. ReadSoFar (begun_with place) sql.vocabulary sql.rules (read ++ b.front) l parts.lexer.place b.lexical b.done) (sym behind)
-            (subst (λ q. ReadSoFar q sql.vocabulary sql.rules (read ++ b.front) (text_left parts ++ (b.tail ++ (left ++ rest))) parts.lexer.place b.lexical b.done) (sym begun) h.0.1))),
+                (subst (λ q. ReadSoFar (begun_with place) sql.vocabulary sql.rules (read ++ b.front) ((drop n text.text.now ++ left) ++ rest) q b.lexical b.done) (sym same)
+                (subst (λ l. ReadSoFar (begun_with place) sql.vocabulary sql.rules (read ++ b.front) l parts.lexer.place b.lexical b.done) (sym behind)
+                (subst (λ q. ReadSoFar q sql.vocabulary sql.rules (read ++ b.front) (text_left parts ++ (b.tail ++ (left ++ rest))) parts.lexer.place b.lexical b.done) (sym begun) h.0.1))),
             subst (λ s. HasTold s (out ++ b.more) (errs ++ b.more_errs) b.lexical b.done t) (sym script) h.1,
           );
     }

@@ -23,7 +23,7 @@ use Rattle.sql_report.specs.declared.statement_list.Statement.{Statement}
 use Rattle.sql_tree.specs.Listings.{asked_for}
 use Rattle.sql_tree.specs.Reports.{IsFront, StopsScript}
 use Rattle.sql_tree.specs.declared.options.Listing.{Listing}
-use Rattle.sql_tree.specs.declared.options.Listing.TheVariants.{Tree, Statements, Json, Tokens, Quiet}
+use Rattle.sql_tree.specs.declared.options.Listing.TheVariants.{Statements, Quiet}
 use Rattle.sql_tree.specs.declared.sql.Sql.{Sql}
 use Rattle.sql_tree.specs.declared.stop.Stop.{Stop}
 use Rattle.sql_tree.specs.declared.stop.Stop.TheVariants as stop

@@ -1,5 +1,5 @@
 -- What is printed.
-use Rattle.std.specs.Prelude.{ℕ, ◌+◌, ◌-◌, ◌^◌, ◌||◌, min, nat_lt, is_some, Bool, false, true, List, [], ◌++◌, Option, None, Some, codes, if◌then◌else◌}
+use Rattle.std.specs.Prelude.{ℕ, ◌+◌, ◌-◌, ◌^◌, ◌||◌, min, nat_lt, is_some, Bool, false, List, [], ◌++◌, Option, None, Some, codes, if◌then◌else◌}
 use Rattle.std.specs.Fmt.{decimal}
 use Rattle.sql_tree.specs.Refusals.{unread_line}
 use Rattle.sql_tree.specs.declared.options.Listing.{Listing}

@@ -112,6 +112,7 @@ impl<'s> Telling<'s> {
         text: &ScriptText<'_>,
         printer: &mut Printer<W, E>,
     ) -> Result<(usize, ScriptPlace), Stop>
+        ensures within { IfOk result (λ both. both.0 ≤ length text.now.text.now) }
         ensures tells { (sql : Sql) (listing : Listing) (name read left out errs : List ℕ) → IsTelling sql listing name self.old → IsTextIn read left before text.now
             → (text.now.next ≡ End → left ≡ []) → IsBefore sql read (text.now.text.now ++ left) text.now.place out errs self.old
             → TellsText sql listing name read left text.now out errs (W.contents printer.old.out) (W.contents printer.new.out)
@@ -120,14 +121,17 @@ impl<'s> Telling<'s> {
     {
         let mut place = Place::new(text.window, before);
         let mut parts = ScriptParts::new(self.alloc, text.text, text.place, is_end(text.next))?;
-        while let Some(part) =
-            parts.next_part(BYTES_IN_PART, &self.sql.vocabulary, &self.sql.rules)?
-        {
+        while let Some(part) = parts.next_part(
+            BYTES_IN_PART,
+            &self.sql.vocabulary,
+            &self.sql.rules,
+        )? {
             let in_window = text.start.saturating_add(part.start);
             let start = text.passed.saturating_add(in_window);
             self.part(&mut place, &part, in_window, start, printer)?;
         }
-        Ok((parts.position(), parts.place().unwrap_or(text.place)))
+        let count = parts.position().min(text.text.len());
+        Ok((count, parts.place().unwrap_or(text.place)))
     }
 
     /// Tells of a part, which begins at a byte of the window and at one of the script.

@@ -117,9 +117,6 @@ module _ (laid : Laid) (blocks : List ℕ) (has : HasBlocks blocks (starts_of la
   start_is : (i : ℕ) → i < length laid.elements → get_or (starts_of laid.elements) i 0 ≡ (element_in laid i).start
   start_is i low = get_or-map (λ (e : Element). e.start) laid.elements i no_element 0 low
 
-  pub BeginBy-first : BeginBy laid byte 0
-  BeginBy-first = record { within = omega arith; begin = λ i low. absurd (omega (arith, low)) }
-
   pub BeginBy-block : (k place : ℕ) → k < length blocks → 32 * (k + 1) ≤ byte + 1 → place ≡ get_or blocks k 0 → BeginBy laid byte place
   BeginBy-block k place low by is =
       let here = has.below k low in
@@ -127,9 +124,6 @@ module _ (laid : Laid) (blocks : List ℕ) (has : HasBlocks blocks (starts_of la
         within = omega (arith, here.within, is, count);
         begin = λ i lt. omega (arith, here.before i (omega (arith, lt, is)), start_is i (omega (arith, lt, is, here.within, count)), by);
       }
-
-  pub BeginBehind-last : (place : ℕ) → place ≡ length laid.elements → BeginBehind laid byte place
-  BeginBehind-last place is = record { within = omega (arith, is); begin = λ i from low. absurd (omega (arith, is, from, low)) }
 
   pub BeginBehind-block : (k place : ℕ) → k < length blocks → byte < 32 * (k + 1) → place ≡ get_or blocks k 0 → BeginBehind laid byte place
   BeginBehind-block k place low behind is =

@@ -1,5 +1,5 @@
 -- One call from a text to its tree.
-use Rattle.std.specs.Prelude.{◌≡◌, ◌↔◌, ◌<◌, ℕ, List, length}
+use Rattle.std.specs.Prelude.{◌≡◌, ◌↔◌, ◌<◌, List, length}
 use Rattle.squawk_tokens.specs.AcceptedTokens.{AreAcceptedTokens, RefusesTokens}
 use Rattle.squawk_output.specs.Draft.{Draft}
 use Rattle.squawk_output.specs.OneRoot.{StandsInOneRoot}

@@ -1,14 +1,13 @@
-use Rattle.std.proofs.Common.{◌≡◌, ◌≢◌, ◌∙◌, ◌++◌, ◌+◌, ◌≤◌, ◌<◌, ◌^◌, ℕ, List, ap, append_assoc, arith, length, length-append, map, refl, subst, sym}
+use Rattle.std.proofs.Common.{◌≡◌, ◌≢◌, ◌∙◌, ◌++◌, ◌+◌, ◌≤◌, ◌<◌, ◌^◌, ap, arith, length, length-append, map, refl, subst, sym}
 use Rattle.std.specs.Prelude.{All, string_bytes}
 use Rattle.std.proofs.lemmas.Grind.{flat_map-append}
 use Rattle.std.proofs.lemmas.List.{length-map}
-use Rattle.squawk_table.specs.Sent.{bytes_of}
 use Rattle.sql_grammar.specs.Parts.{moved_by}
 use Rattle.sql_report.specs.Places.{column_at, line_at}
 use Rattle.sql_report.specs.Statements.{HasStatements, moved_statement, statement_line, statement_lines}
 use Rattle.sql_report.specs.declared.statement_list.Statement.{Statement}
 use Rattle.sql_tree.specs.OnTheWay.{listed_so_far}
-use Rattle.sql_tree.specs.declared.options.Listing.TheVariants.{Quiet, Statements}
+use Rattle.sql_tree.specs.declared.options.Listing.TheVariants.{Statements}
 use Rattle.sql_tree.proofs.Lists.{drawn_listed}
 use Rattle.sql_tree.proofs.telling.Telling.listed.Goals as goal
 

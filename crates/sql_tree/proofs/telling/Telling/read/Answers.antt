@@ -1,13 +1,9 @@
-use Rattle.std.proofs.Common.{◌≡◌, ◌∙◌, ◌⊎◌, inl, ℕ, ◌<◌, ◌^◌, List, [], ◌∷◌, ◌++◌, ap, arith, length, length-append, refl, subst, sym}
+use Rattle.std.proofs.Common.{◌∙◌, inl, [], ◌++◌, ap, arith, length, length-append, refl, subst, sym}
 use Rattle.std.specs.Prelude.{Err, Ok}
 use Rattle.std.proofs.KnownBytes.{Appends-nil, Consumes-nil}
 use Rattle.std.proofs.lemmas.Result.{err_from_is_err_and}
-use Rattle.squawk_table.specs.declared.shortcuts.str_step.OwnedStep.TheVariants.{Enter}
-use Rattle.sql_grammar.specs.Kinds.{SOURCE_FILE}
 use Rattle.sql_reader.specs.Readers.{Script}
-use Rattle.sql_tree.specs.OnTheWay.{HasTold, IsTelling, TellsScript, TellsText}
-use Rattle.sql_tree.specs.declared.options.Listing.{Listing}
-use Rattle.sql_tree.specs.declared.sql.Sql.{Sql}
+use Rattle.sql_tree.specs.OnTheWay.{TellsScript}
 use Rattle.sql_tree.specs.declared.unread.Unread.TheVariants.{OutOfMemory}
 use Rattle.sql_tree.proofs.ScriptTexts.{InScript, ends_with, nothing_before, script_ends, script_faults, script_lost, script_next, script_over, script_stops, stands_in, told_before}
 use Rattle.sql_tree.proofs.telling.Telling.read.Goals as goal
@@ -65,9 +61,9 @@ returns-in_err-count-clause-tells g c = λ sql listing name knows telling begins
     let t = c.loop.self in
     let read = b.gone ++ old.kept in
     let tells = c.in_err-count.ensures.tells sql listing name read is.left b.out b.errs b.telling
-        (stands_in sql listing name p p_now e e_now remaining old s before t b reads c.text-text.result is)
-        (ends_with sql listing name p p_now e e_now remaining old s before t b reads c.text-text.result is)
-        (told_before sql listing name p p_now e e_now remaining old s before t b reads c.text-text.result is) in
+    (stands_in sql listing name p p_now e e_now remaining old s before t b reads c.text-text.result is)
+    (ends_with sql listing name p p_now e e_now remaining old s before t b reads c.text-text.result is)
+    (told_before sql listing name p p_now e e_now remaining old s before t b reads c.text-text.result is) in
     subst (TellsScript remaining sql listing name p p_then e e_then c.text.new.self) (sym (error.1 ∙ ap Err error.2))
     (script_stops sql listing name p p_now e e_now remaining old s before t b reads c.text-text.result is c.text.new.self p_then e_then c.in_err-count.field-0.0 tells)
 
@@ -89,9 +85,9 @@ returns-in-End-clause-tells g c = λ sql listing name knows telling begins.
     let t = c.loop.self in
     let read = b.gone ++ old.kept in
     let tells = c.in_ok-count.ensures.tells sql listing name read is.left b.out b.errs b.telling
-        (stands_in sql listing name p p_now e e_now remaining old s before t b reads c.text-text.result is)
-        (ends_with sql listing name p p_now e e_now remaining old s before t b reads c.text-text.result is)
-        (told_before sql listing name p p_now e e_now remaining old s before t b reads c.text-text.result is) in
+    (stands_in sql listing name p p_now e e_now remaining old s before t b reads c.text-text.result is)
+    (ends_with sql listing name p p_now e e_now remaining old s before t b reads c.text-text.result is)
+    (told_before sql listing name p p_now e e_now remaining old s before t b reads c.text-text.result is) in
     script_ends sql listing name p p_now e e_now remaining old s before t b reads c.text-text.result is c.text.new.self p_then e_then c.in_ok-count.count c.in_ok-count.place tells
     c.in-End.is (Ok tt) refl
 
@@ -113,12 +109,17 @@ returns-in-Fault-clause-tells g c = λ sql listing name knows telling begins.
     let t = c.loop.self in
     let read = b.gone ++ old.kept in
     let tells = c.in_ok-count.ensures.tells sql listing name read is.left b.out b.errs b.telling
-        (stands_in sql listing name p p_now e e_now remaining old s before t b reads c.text-text.result is)
-        (ends_with sql listing name p p_now e e_now remaining old s before t b reads c.text-text.result is)
-        (told_before sql listing name p p_now e e_now remaining old s before t b reads c.text-text.result is) in
+    (stands_in sql listing name p p_now e e_now remaining old s before t b reads c.text-text.result is)
+    (ends_with sql listing name p p_now e e_now remaining old s before t b reads c.text-text.result is)
+    (told_before sql listing name p p_now e e_now remaining old s before t b reads c.text-text.result is) in
     subst (λ why. TellsScript remaining sql listing name p p_then e e_then c.text.new.self (Err why)) (sym c.into.ensures)
     (script_faults sql listing name p p_now e e_now remaining old s before t b reads c.text-text.result is c.text.new.self p_then e_then c.in_ok-count.count c.in_ok-count.place tells
     c.in-Fault.error c.in-Fault.is)
+
+pub go_on-requires : goal.go_on-requires
+go_on-requires g c =
+    let within = c.in_ok-count.ensures.within in
+    omega (arith, within, ap length c.text-text.ensures.unread, length-append c.text-text.result.text.now c.text-text.ensures.left)
 
 pub loop-preserved : goal.loop-preserved
 loop-preserved g c = λ sql listing name telling begins.
@@ -138,9 +139,9 @@ loop-preserved g c = λ sql listing name telling begins.
     let t = c.loop.self in
     let read = b.gone ++ old.kept in
     let tells = c.in_ok-count.ensures.tells sql listing name read is.left b.out b.errs b.telling
-        (stands_in sql listing name p p_now e e_now remaining old s before t b reads c.text-text.result is)
-        (ends_with sql listing name p p_now e e_now remaining old s before t b reads c.text-text.result is)
-        (told_before sql listing name p p_now e e_now remaining old s before t b reads c.text-text.result is) in
+    (stands_in sql listing name p p_now e e_now remaining old s before t b reads c.text-text.result is)
+    (ends_with sql listing name p p_now e e_now remaining old s before t b reads c.text-text.result is)
+    (told_before sql listing name p p_now e e_now remaining old s before t b reads c.text-text.result is) in
     let within = tells.within in
     script_next sql listing name p p_now e e_now remaining old s before t b reads c.text-text.result is c.text.new.self p_then e_then c.in_ok-count.count c.in_ok-count.place tells
     c.in-More.is c.go_on.new.self c.go_on.ensures c.pass.new.self c.leaving.result.now c.leaving.ensures

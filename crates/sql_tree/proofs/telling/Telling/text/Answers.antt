@@ -1,11 +1,11 @@
-use Rattle.std.proofs.Common.{◌≡◌, ◌∙◌, ◌++◌, ◌<◌, ◌≤◌, ℕ, List, [], ◌∷◌, ap, length, subst, sym, true}
+use Rattle.std.proofs.Common.{◌≡◌, ◌∙◌, ◌++◌, ◌<◌, ◌≤◌, ℕ, List, [], ◌∷◌, ap, arith, length, length-append, subst, sym, true}
 use Rattle.std.specs.Prelude.{Err, IfSome}
 use Rattle.std.proofs.lemmas.Result.{err_from_is_err_and}
 use Rattle.squawk_table.specs.declared.shortcuts.str_step.OwnedStep.{OwnedStep}
 use Rattle.squawk_table.specs.declared.shortcuts.str_step.OwnedStep.TheVariants.{Exit}
 use Rattle.squawk_tokens.specs.LexicalErrors.{LexicalError}
 use Rattle.sql_lexer.specs.Lines.{EndsLine}
-use Rattle.sql_grammar.specs.ReadParts.{HasRead, IsOver, IsRefusedPart, IsScriptParse, NoneLeft, Reading, ReadsPart}
+use Rattle.sql_grammar.specs.ReadParts.{HasRead, IsOver, IsRefusedPart, IsScriptParse, NoneLeft, Reading, ReadsPart, text_left}
 use Rattle.sql_report.specs.Places.{Spot}
 use Rattle.sql_tree.specs.OnTheWay.{IfUnread, TellsText}
 use Rattle.sql_tree.specs.declared.sql.Sql.{Sql}
@@ -117,8 +117,10 @@ returns-clause-tells g c = λ sql listing name read left out errs telling stands
     let there : InText sql listing name read left text out errs p p_now e e_now now c.loop-part.self =
     subst (λ (r : Reading). InText sql listing name read left text out errs p p_now e e_now r c.loop-part.self) (sym over.same) b in
     let last = ap (λ (r : Reading). r.is_last) over.same in
+    let at : c.min-count.result ≡ now.lexer.at =
+    omega (arith, c.min-count.ensures, c.position.ensures, there.at, ap length there.whole, length-append there.front (text_left now ++ there.tail)) in
     rw c.unwrap_or.ensures
-    (text_told sql listing name read left out errs text c.args.before stands now c.loop-part.self p p_now e e_now there c.position.result c.place.result c.position.ensures c.place.ensures.is
+    (text_told sql listing name read left out errs text c.args.before stands now c.loop-part.self p p_now e e_now there c.min-count.result c.place.result at c.place.ensures.is
     c.place.ensures.goes_on (λ l. inv.last (sym last ∙ l)) (λ end. last ∙ inv.end end) (subst (λ (r : Reading). NoneLeft r.is_last r.lexer) (sym over.same) over.none)
     (subst
     (λ (s : Sql). now.is_last ≡ true → length now.lexer.text ≤ now.lexer.at → (read : List ℕ) (errors : List LexicalError) (done : List OwnedStep) → HasRead s.vocabulary s.rules now [] read errors done
