@@ -5,6 +5,7 @@ mod inputs;
 mod listing;
 mod options;
 mod printer;
+mod progress;
 mod report;
 mod sql;
 mod stop;

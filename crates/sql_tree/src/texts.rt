@@ -1,6 +1,7 @@
 //! Where texts are read.
 
-use std::io::{Input, Read, StdinLock};
+use crate::progress::Watched;
+use std::io::{Input, IsTerminal, Read, Stderr, StdinLock};
 use std::{fs, io};
 
 /// What gives readers of texts by their names.
@@ -22,13 +23,14 @@ pub trait Texts {
 #[derive(Drop)]
 pub struct Files<'r>(pub &'r HostRuntime);
 
-impl Texts for Files<'_> {
-    type Reader = fs::File;
+impl<'r> Texts for Files<'r> {
+    type Reader = Watched<&'r HostRuntime, fs::File, Stderr>;
 
     ghost gives = { λ _ _ _. Unit {0} };
 
-    fn open(&self, name: &str) -> io::Result<fs::File> {
-        fs::File::open(self.0, name)
+    fn open(&self, name: &str) -> io::Result<Watched<&'r HostRuntime, fs::File, Stderr>> {
+        let file = fs::File::open(self.0, name)?;
+        Ok(Watched::new(self.0, file, terminal(self.0)))
     }
 }
 
@@ -36,12 +38,25 @@ impl Texts for Files<'_> {
 #[derive(Drop)]
 pub struct StandardInput<'r>(pub &'r HostRuntime);
 
-impl Texts for StandardInput<'_> {
-    type Reader = StdinLock<'static>;
+impl<'r> Texts for StandardInput<'r> {
+    type Reader = Watched<&'r HostRuntime, StdinLock<'static>, Stderr>;
 
     ghost gives = { λ _ _ _. Unit {0} };
 
-    fn open(&self, _name: &str) -> io::Result<StdinLock<'static>> {
-        Ok(self.0.reader())
+    fn open(
+        &self,
+        _name: &str,
+    ) -> io::Result<Watched<&'r HostRuntime, StdinLock<'static>, Stderr>> {
+        Ok(Watched::new(self.0, self.0.reader(), terminal(self.0)))
+    }
+}
+
+/// The standard error output, if it is a terminal.
+fn terminal(rt: &HostRuntime) -> Option<Stderr> {
+    let errors = rt.stderr();
+    if errors.is_terminal() {
+        Some(errors)
+    } else {
+        None
     }
 }
