@@ -3,4 +3,7 @@ mod Reports
 mod TellsTextsLemmas
 mod Lists
 mod TextParts
+mod TextSteps
+mod TextEnds
+mod ScriptFronts
 mod ScriptTexts

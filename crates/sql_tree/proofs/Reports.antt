@@ -15,9 +15,9 @@ use Rattle.sql_lexer.specs.declared.script.script_place.ScriptPlace.TheVariants 
 use Rattle.sql_grammar.specs.Kinds.{SOURCE_FILE}
 use Rattle.sql_grammar.specs.declared.script_parts.Progress.TheVariants.{Front}
 use Rattle.sql_tree.specs.Listings.{raw_lines}
-use Rattle.sql_tree.specs.OnTheWay.{HasTold, HasToldFront, HasToldWhole, IfUnread, IsTelling, TellsScript}
+use Rattle.sql_tree.specs.OnTheWay.{HasTold, HasToldFront, HasToldWhole, IfUnread, IsTelling, AfterScript}
 use Rattle.sql_tree.specs.Refusals.{unread_of_lexer}
-use Rattle.sql_tree.specs.Reports.{IsPrinted, IsTold, IsToldOf, StopsScript}
+use Rattle.sql_tree.specs.Reports.{IsPrinted, IsTold, IsToldOf, ReadsAll, StopsScript}
 use Rattle.sql_tree.specs.Told.{TellsParts, TellsReader, unread_report}
 use Rattle.sql_tree.specs.declared.options.Listing.{Listing}
 use Rattle.sql_tree.specs.declared.options.Listing.TheVariants.{Tree, Statements, Json, Tokens, Quiet}
@@ -64,6 +64,7 @@ told_nothing sql name script reason = record {
   done = Enter SOURCE_FILE ∷ [];
   front = record { read = []; left = script; script_is = refl; progress = Front; place = place_of script_place.Front; so_far = record { front = refl; nothing = refl; none = refl; entered = refl } };
   whole = λ none. absurd (none-some reason (sym none));
+  all_read = λ why same other. absurd (other refl);
   printed = record {
     findings = [];
     in_order = record { gathered = []; tell = refl; same = record { moves = []; below = tt; is = refl }; sorted = λ k d low high. absurd (omega (arith, high)); stable = λ x. refl };
@@ -150,7 +151,7 @@ unread_weaker (Err error) P Q f holds = if_unread error P Q f holds
 module _ (remaining : Option (List ℕ)) (sql : Sql) (listing : Listing) (name : List ℕ) (printed printed_then printed_now printed_errors printed_errors_then printed_errors_now : Option (List ℕ)) (t : Telling)
     (same : printed_errors_now ≡ printed_errors_then) where
   -- the whole script is read
-  whole_told : (more : List ℕ) (statement_count error_count : ℕ) → TellsScript remaining sql listing name printed printed_then printed_errors printed_errors_then t (Ok tt)
+  whole_told : (more : List ℕ) (statement_count error_count : ℕ) → AfterScript remaining sql listing name printed printed_then printed_errors printed_errors_then t (Ok tt)
       → Appends printed_then printed_now more → Finishes t more statement_count error_count
       → PrintsScript remaining sql listing name printed printed_now printed_errors printed_errors_now (record { statement_count = statement_count; error_count = error_count; unread = None })
   whole_told more statement_count error_count tells prints finishes = (
@@ -173,6 +174,7 @@ module _ (remaining : Option (List ℕ)) (sql : Sql) (listing : Listing) (name :
                   done = whole.done;
                   front = whole.front;
                   whole = λ none. whole.parse;
+                  all_read = λ reason none other. absurd (none-some reason none);
                   printed = finishes sql listing name tells.script tells.out tells.errs whole.lexical whole.done tells.telling whole.told;
                 };
                 stops = λ reason none. absurd (none-some reason none);
@@ -184,7 +186,7 @@ module _ (remaining : Option (List ℕ)) (sql : Sql) (listing : Listing) (name :
 
   -- it isn't read to its end
   front_told : (more : List ℕ) (statement_count error_count : ℕ) (reason : Unread)
-      → TellsScript remaining sql listing name printed printed_then printed_errors printed_errors_then t (Err (stop.Unread reason))
+      → AfterScript remaining sql listing name printed printed_then printed_errors printed_errors_then t (Err (stop.Unread reason))
       → Appends printed_then printed_now more → Finishes t more statement_count error_count
       → PrintsScript remaining sql listing name printed printed_now printed_errors printed_errors_now (record { statement_count = statement_count; error_count = error_count; unread = Some reason })
   front_told more statement_count error_count reason tells prints finishes = (
@@ -202,12 +204,13 @@ module _ (remaining : Option (List ℕ)) (sql : Sql) (listing : Listing) (name :
           told = λ short. record {
             told = λ other.
                 let known : reason ≢ OutOfMemory = λ same. other (ap Some same) in
-                let front : HasToldFront sql tells.script tells.out tells.errs t = (tells.stops known short).1 in
+                let front : HasToldFront sql tells.script tells.out tells.errs reason t = (tells.stops known short).1 in
                 record {
                   lexical = front.lexical;
                   done = front.done;
                   front = front.front;
                   whole = λ none. absurd (none-some reason (sym none));
+                  all_read = λ why is other. subst (ReadsAll tells.script front.front.left front.front.place) (same_Some reason why is) front.all_read;
                   printed = finishes sql listing name tells.script tells.out tells.errs front.lexical front.done (tells.stays known) front.told;
                 };
             stops = stops_for sql tells.script reason (stops_by sql tells.script reason (λ known. (tells.stops known short).0));
@@ -230,35 +233,35 @@ module _ (remaining : Option (List ℕ)) (sql : Sql) (listing : Listing) (name :
     ),
   )
 
-  module _ (result : Result Unit Stop) (tells : TellsScript remaining sql listing name printed printed_then printed_errors printed_errors_then t result) where
+  module _ (result : Result Unit Stop) (tells : AfterScript remaining sql listing name printed printed_then printed_errors printed_errors_then t result) where
     -- by what the telling gave
     pub tells_whole : (unread : Option Unread) (more : List ℕ) (statement_count error_count : ℕ) → result ≡ Ok tt → unread ≡ None
         → Appends printed_then printed_now more → Finishes t more statement_count error_count
         → PrintsScript remaining sql listing name printed printed_now printed_errors printed_errors_now (record { statement_count = statement_count; error_count = error_count; unread = unread })
     tells_whole unread more statement_count error_count is none prints finishes =
         subst (λ unread. PrintsScript remaining sql listing name printed printed_now printed_errors printed_errors_now (record { statement_count = statement_count; error_count = error_count; unread = unread })) (sym none)
-        (whole_told more statement_count error_count (subst (TellsScript remaining sql listing name printed printed_then printed_errors printed_errors_then t) is tells) prints finishes)
+        (whole_told more statement_count error_count (subst (AfterScript remaining sql listing name printed printed_then printed_errors printed_errors_then t) is tells) prints finishes)
 
     pub tells_front : (unread : Option Unread) (more : List ℕ) (statement_count error_count : ℕ) (reason : Unread) → result ≡ Err (stop.Unread reason) → unread ≡ Some reason
         → Appends printed_then printed_now more → Finishes t more statement_count error_count
         → PrintsScript remaining sql listing name printed printed_now printed_errors printed_errors_now (record { statement_count = statement_count; error_count = error_count; unread = unread })
     tells_front unread more statement_count error_count reason is some prints finishes =
         subst (λ unread. PrintsScript remaining sql listing name printed printed_now printed_errors printed_errors_now (record { statement_count = statement_count; error_count = error_count; unread = unread })) (sym some)
-        (front_told more statement_count error_count reason (subst (TellsScript remaining sql listing name printed printed_then printed_errors printed_errors_then t) is tells) prints finishes)
+        (front_told more statement_count error_count reason (subst (AfterScript remaining sql listing name printed printed_then printed_errors printed_errors_then t) is tells) prints finishes)
 
     -- at want of memory nothing else is printed, whatever the telling gave
     pub unread_whole : result ≡ Ok tt → (reason : Unread) → reason ≡ OutOfMemory → printed_now ≡ printed_then
         → PrintsScript remaining sql listing name printed printed_now printed_errors printed_errors_now (unread_report reason)
     unread_whole is reason memory nothing =
-        let told : TellsScript remaining sql listing name printed printed_then printed_errors printed_errors_then t (Ok tt) =
-        subst (TellsScript remaining sql listing name printed printed_then printed_errors printed_errors_then t) is tells in
+        let told : AfterScript remaining sql listing name printed printed_then printed_errors printed_errors_then t (Ok tt) =
+        subst (AfterScript remaining sql listing name printed printed_then printed_errors printed_errors_then t) is tells in
         unread_told told.script told.out told.errs told.after reason memory nothing told.read told.prints told.prints_errors
 
     pub unread_front : (why : Unread) → result ≡ Err (stop.Unread why) → (reason : Unread) → reason ≡ OutOfMemory → printed_now ≡ printed_then
         → PrintsScript remaining sql listing name printed printed_now printed_errors printed_errors_now (unread_report reason)
     unread_front why is reason memory nothing =
-        let told : TellsScript remaining sql listing name printed printed_then printed_errors printed_errors_then t (Err (stop.Unread why)) =
-        subst (TellsScript remaining sql listing name printed printed_then printed_errors printed_errors_then t) is tells in
+        let told : AfterScript remaining sql listing name printed printed_then printed_errors printed_errors_then t (Err (stop.Unread why)) =
+        subst (AfterScript remaining sql listing name printed printed_then printed_errors printed_errors_then t) is tells in
         unread_told told.script told.out told.errs told.after reason memory nothing told.read told.prints told.prints_errors
 
 -- ---- a text

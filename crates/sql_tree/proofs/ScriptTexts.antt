@@ -2,23 +2,13 @@
 use Rattle.std.proofs.Common.{◌≡◌, ◌≢◌, ◌∙◌, ◌⊎◌, inl, inr, ℕ, ◌+◌, ◌-◌, ◌^◌, ◌<◌, ◌≤◌, Option, List, [], ◌∷◌, ◌++◌, ap, append_assoc, arith, drop, length, length-append, length-take, min, refl, subst, sym, take}
 use Rattle.std.specs.Prelude.{Err, IsUtf8, Ok, Result}
 use Rattle.std.specs.Str.{IsValidUpTo}
-use Rattle.std.specs.Io.KnownBytes.{Appends, Consumes}
+use Rattle.std.specs.Io.KnownBytes.{Consumes}
 use Rattle.std.proofs.KnownBytes.{Appends-trans, Consumes-trans}
-use Rattle.std.proofs.Math.Seq.{drop-append-add, take-append-add}
 use Rattle.std.proofs.lemmas.Bool.{cases_lt}
 use Rattle.std.proofs.lemmas.List.{append-nil, drop-append-le, take-append-drop, take-append-le}
-use Rattle.std.proofs.lemmas.Str.{IsCharBoundary-from_take, IsUtf8-append, IsUtf8-drop}
-use Rattle.squawk_table.specs.declared.shortcuts.str_step.OwnedStep.{OwnedStep}
-use Rattle.squawk_table.specs.declared.shortcuts.str_step.OwnedStep.TheVariants.{Enter}
-use Rattle.squawk_tokens.specs.LexicalErrors.{LexicalError}
 use Rattle.sql_lexer.specs.ScriptLexing.{place_of}
-use Rattle.sql_lexer.specs.declared.script.places.Place.{Place}
 use Rattle.sql_lexer.specs.declared.script.script_place.ScriptPlace.{ScriptPlace}
-use Rattle.sql_lexer.specs.declared.script.script_place.ScriptPlace.TheVariants as script
-use Rattle.sql_grammar.specs.Kinds.{SOURCE_FILE}
 use Rattle.sql_grammar.specs.ReadParts.{ReadSoFar, begun_with}
-use Rattle.sql_grammar.specs.declared.script_parts.Progress.{Progress}
-use Rattle.sql_grammar.specs.declared.script_parts.Progress.TheVariants.{Front, Inside}
 use Rattle.sql_reader.specs.Readers.{GoesOn, IsNext, IsTextOf, ReadsOn, Script, leaving}
 use Rattle.sql_reader.specs.declared.read_error.ReadError.{ReadError}
 use Rattle.sql_reader.specs.declared.read_error.ReadError.TheVariants as reader
@@ -27,9 +17,9 @@ use Rattle.sql_reader.specs.declared.script_text.Next.TheVariants.{End, Fault, M
 use Rattle.sql_reader.specs.declared.script_text.ScriptText.{ScriptText}
 use Rattle.sql_report.specs.Places.{AreCountable, IsLineColumn}
 use Rattle.sql_report.specs.declared.line_column.LineColumn.{LineColumn}
-use Rattle.sql_tree.specs.OnTheWay.{HasTold, HasToldFront, IsBefore, IsTelling, IsTextIn, TellsScript, TellsText}
+use Rattle.sql_tree.specs.OnTheWay.{HasTold, HasToldFront, IsBefore, IsTelling, IsTextIn, AfterScript, AfterText}
 use Rattle.sql_tree.specs.Refusals.{unread_of_reader}
-use Rattle.sql_tree.specs.Reports.{StopsScript}
+use Rattle.sql_tree.specs.Reports.{IsAllRead, ReadsAll, StopsScript}
 use Rattle.sql_tree.specs.declared.options.Listing.{Listing}
 use Rattle.sql_tree.specs.declared.sql.Sql.{Sql}
 use Rattle.sql_tree.specs.declared.stop.Stop.{Stop}
@@ -37,76 +27,7 @@ use Rattle.sql_tree.specs.declared.stop.Stop.TheVariants as stop
 use Rattle.sql_tree.specs.declared.telling.Telling.{Telling}
 use Rattle.sql_tree.specs.declared.unread.Unread.{Unread}
 use Rattle.sql_tree.specs.declared.unread.Unread.TheVariants.{OutOfMemory}
-
--- before a text: what the reader gave is what left the memory, and what is in it
-pub record InScript (sql : Sql) (listing : Listing) (name : List ℕ) (p p_now e e_now remaining : Option (List ℕ)) (s : Script) (before : LineColumn) (t : Telling) : Type 0 where
-  pub gone : List ℕ
-  pub passed_is : s.passed ≡ min (length gone) (2 ^ 64 - 1)
-  pub consumes : Consumes remaining s.remaining (gone ++ (s.kept ++ s.unread))
-  pub before_is : AreCountable gone → IsLineColumn gone before
-  pub enough : (gone ≡ []) ⊎ (100 ≤ length s.kept)
-  pub opened : s.input ≡ Open
-  pub out : List ℕ
-  pub errs : List ℕ
-  pub prints : Appends p p_now out
-  pub prints_errors : Appends e e_now errs
-  pub telling : IsTelling sql listing name t
-  pub told : IsBefore sql (gone ++ s.kept) s.unread s.place out errs t
-
--- ---- UTF-8
-
--- what is read of a script is text
-utf8_read : (sql : Sql) (progress : Progress) (read left : List ℕ) (place : Place) (lexical : List LexicalError) (done : List OwnedStep)
-    → ReadSoFar progress sql.vocabulary sql.rules read left place lexical done → IsUtf8 read
-utf8_read sql Front read left place lexical done has = subst IsUtf8 (sym has.nothing) ([], (refl, refl))
-utf8_read sql Inside read left place lexical done has = subst IsUtf8 has.text has.parsed.table.utf8
-
-valid_behind : (front bytes : List ℕ) (n : ℕ) → IsUtf8 front → IsValidUpTo bytes n → IsValidUpTo (front ++ bytes) (length front + n)
-valid_behind front bytes n utf8 valid = record {
-  short = omega (arith, valid.short, length-append front bytes);
-  front = subst IsUtf8 (sym (take-append-add front bytes n)) (IsUtf8-append front (take n bytes) utf8 valid.front);
-  longest = λ m more u.
-      let k = m - length front in
-      let is : m ≡ length front + k = omega (arith, more) in
-      let whole : IsUtf8 (front ++ take k bytes) = subst IsUtf8 (ap (λ m. take m (front ++ bytes)) is ∙ take-append-add front bytes k) u in
-      let none : length front ≡ length front + 0 = omega arith in
-      let begins : take (length front) (front ++ take k bytes) ≡ front = ap (λ n. take n (front ++ take k bytes)) none ∙ (take-append-add front (take k bytes) 0 ∙ append-nil front) in
-      let rest : drop (length front) (front ++ take k bytes) ≡ take k bytes = ap (λ n. drop n (front ++ take k bytes)) none ∙ drop-append-add front (take k bytes) 0 in
-      valid.longest k (omega (arith, more))
-      (subst IsUtf8 rest
-      (IsUtf8-drop (front ++ take k bytes) (length front) whole
-      (IsCharBoundary-from_take (front ++ take k bytes) (length front) whole (omega (arith, length-append front (take k bytes))) (subst IsUtf8 (sym begins) utf8))));
-}
-
--- ---- the front of a script
-
-pub nothing_before : (sql : Sql) (t : Telling) → ((script : List ℕ) → HasTold script [] [] [] (Enter SOURCE_FILE ∷ []) t) → IsBefore sql [] [] script.Front [] [] t
-nothing_before sql t begins = record {
-  lexical = [];
-  done = Enter SOURCE_FILE ∷ [];
-  holds = λ rest short. (record { front = refl; nothing = refl; none = refl; entered = refl }, begins rest);
-}
-
--- no other text is read
-pub script_over : (sql : Sql) (listing : Listing) (name : List ℕ) (p p_now e e_now remaining : Option (List ℕ)) (s : Script) (before : LineColumn) (t : Telling)
-    → InScript sql listing name p p_now e e_now remaining s before t → (next : Telling) (reason : Unread) → reason ≡ OutOfMemory
-    → TellsScript remaining sql listing name p p_now e e_now next (Err (stop.Unread reason))
-script_over sql listing name p p_now e e_now remaining s before t b next reason lost = record {
-  script = b.gone ++ (s.kept ++ s.unread);
-  after = s.remaining;
-  read = b.consumes;
-  end = tt;
-  out = b.out;
-  errs = b.errs;
-  prints = b.prints;
-  prints_errors = b.prints_errors;
-  telling = tt;
-  whole = tt;
-  stays = λ some. absurd (some lost);
-  stops = λ some. absurd (some lost);
-}
-
--- ---- a text
+use Rattle.sql_tree.proofs.ScriptFronts.{InScript, utf8_read, valid_behind}
 
 module _ (sql : Sql) (listing : Listing) (name : List ℕ) (p p_now e e_now remaining : Option (List ℕ)) (old s : Script) (before : LineColumn) (t : Telling)
     (b : InScript sql listing name p p_now e e_now remaining old before t) (reads : ReadsOn old s) where
@@ -121,7 +42,7 @@ module _ (sql : Sql) (listing : Listing) (name : List ℕ) (p p_now e e_now rema
       (Consumes-trans remaining old.remaining s.remaining (b.gone ++ (old.kept ++ old.unread)) reads.more b.consumes reads.consumes)
 
   -- memory is wanting
-  pub script_lost : (next : Telling) (reason : Unread) → reason ≡ OutOfMemory → TellsScript remaining sql listing name p p_now e e_now next (Err (stop.Unread reason))
+  pub script_lost : (next : Telling) (reason : Unread) → reason ≡ OutOfMemory → AfterScript remaining sql listing name p p_now e e_now next (Err (stop.Unread reason))
   script_lost next reason lost = record {
     script = b.gone ++ (s.kept ++ s.unread);
     after = s.remaining;
@@ -179,11 +100,19 @@ module _ (sql : Sql) (listing : Listing) (name : List ℕ) (p p_now e e_now rema
 
     module _ (next : Telling) (p_then e_then : Option (List ℕ)) where
       abbrev Tells : Result (ℕ × ScriptPlace) Stop → Type 0
-      Tells result = TellsText sql listing name read is.left text b.out b.errs p_now p_then e_now e_then next result
+      Tells result = AfterText sql listing name read is.left text b.out b.errs p_now p_then e_now e_then next result
 
-      -- a text stops the script
-      pub script_stops : (why : Stop) → Tells (Err why) → TellsScript remaining sql listing name p p_then e e_then next (Err why)
-      script_stops (stop.Unread reason) tells = record {
+      -- what is known of it, whatever was told before
+      abbrev Known : Result (ℕ × ScriptPlace) Stop → Type 0
+      Known result =
+          (sql : Sql) (listing : Listing) (name read left out errs : List ℕ) → IsTelling sql listing name t → IsTextIn read left before text → (text.next ≡ End → left ≡ [])
+          → IsBefore sql read (text.text.now ++ left) text.place out errs t → AfterText sql listing name read left text out errs p_now p_then e_now e_then next result
+
+      tells_here : (result : Result (ℕ × ScriptPlace) Stop) → Known result → Tells result
+      tells_here result known = known sql listing name read is.left b.out b.errs b.telling stands_in ends_with told_before
+
+      stops : (why : Stop) → Tells (Err why) → AfterScript remaining sql listing name p p_then e e_then next (Err why)
+      stops (stop.Unread reason) tells = record {
         script = all;
         after = s.remaining;
         read = subst (Consumes remaining s.remaining) all_given given;
@@ -197,7 +126,7 @@ module _ (sql : Sql) (listing : Listing) (name : List ℕ) (p p_now e e_now rema
         stays = tells.stays;
         stops = λ some short. tells.stops some short;
       }
-      script_stops (stop.Output error) tells = record {
+      stops (stop.Output error) tells = record {
         script = all;
         after = s.remaining;
         read = subst (Consumes remaining s.remaining) all_given given;
@@ -212,12 +141,19 @@ module _ (sql : Sql) (listing : Listing) (name : List ℕ) (p p_now e e_now rema
         stops = tt;
       }
 
-      module _ (count : ℕ) (place : ScriptPlace) (tells : Tells (Ok (count, place))) where
+      -- a text stops the script
+      pub script_stops : (why : Stop) → Known (Err why) → AfterScript remaining sql listing name p p_then e e_then next (Err why)
+      script_stops why known = stops why (tells_here (Err why) known)
+
+      module _ (count : ℕ) (place : ScriptPlace) (known : Known (Ok (count, place))) where
+        tells : Tells (Ok (count, place))
+        tells = tells_here (Ok (count, place)) known
+
         -- the script ends
-        pub script_ends : text.next ≡ End → (result : Result Unit Stop) → result ≡ Ok tt → TellsScript remaining sql listing name p p_then e e_then next result
+        pub script_ends : text.next ≡ End → (result : Result Unit Stop) → result ≡ Ok tt → AfterScript remaining sql listing name p p_then e e_then next result
         script_ends end result ok =
             let input : s.input ≡ Ended = (subst (λ n. IsNext s.input (min (s.passed + length s.kept + length text.text.now) (2 ^ 64 - 1)) is.left n) end is.next).0 in
-            subst (TellsScript remaining sql listing name p p_then e e_then next) (sym ok)
+            subst (AfterScript remaining sql listing name p p_then e e_then next) (sym ok)
             (record {
               script = all;
               after = s.remaining;
@@ -234,14 +170,14 @@ module _ (sql : Sql) (listing : Listing) (name : List ℕ) (p p_now e e_now rema
             })
 
         -- it can't be read on
-        pub script_faults : (error : ReadError) → text.next ≡ Fault error → TellsScript remaining sql listing name p p_then e e_then next (Err (stop.Unread (unread_of_reader error)))
+        pub script_faults : (error : ReadError) → text.next ≡ Fault error → AfterScript remaining sql listing name p p_then e e_then next (Err (stop.Unread (unread_of_reader error)))
         script_faults error fault =
             let on = tells.goes_on (λ end. let never = sym fault ∙ end in cc never) in
             let same : (read ++ take count text.text.now) ++ ((drop count text.text.now ++ is.left) ++ []) ≡ all =
             ap (λ l. (read ++ take count text.text.now) ++ l) (append-nil (drop count text.text.now ++ is.left))
             ∙ (append_assoc read (take count text.text.now) (drop count text.text.now ++ is.left)
             ∙ ap (λ l. read ++ l) (sym (append_assoc (take count text.text.now) (drop count text.text.now) is.left) ∙ ap (λ l. l ++ is.left) (take-append-drop count text.text.now))) in
-            let front : length all ≤ 4294967295 → HasToldFront sql all (b.out ++ tells.more) (b.errs ++ tells.more_errs) next = λ short.
+            let front : length all ≤ 4294967295 → HasToldFront sql all (b.out ++ tells.more) (b.errs ++ tells.more_errs) (unread_of_reader error) next = λ short.
             let h = on.holds [] (omega (arith, short, ap length same)) in
             record {
               lexical = on.lexical;
@@ -254,6 +190,7 @@ module _ (sql : Sql) (listing : Listing) (name : List ℕ) (p p_now e e_now rema
                 place = place_of place;
                 so_far = h.0;
               };
+              all_read = read_up error fault short;
               told = subst (λ s. HasTold s (b.out ++ tells.more) (b.errs ++ tells.more_errs) on.lexical on.done next) same h.1;
             } in
             record {
@@ -275,6 +212,33 @@ module _ (sql : Sql) (listing : Listing) (name : List ℕ) (p p_now e e_now rema
             utf8 short =
                 let h = told_before.holds [] (omega (arith, short, ap (λ l. length (read ++ l)) (append-nil (text.text.now ++ is.left)))) in
                 utf8_read sql (begun_with text.place) read ((text.text.now ++ is.left) ++ []) (place_of text.place) told_before.lexical told_before.done h.0
+
+            read_up : (error : ReadError) → text.next ≡ Fault error → length all ≤ 4294967295
+                → ReadsAll all ((drop count text.text.now ++ is.left) ++ []) (place_of place) (unread_of_reader error)
+            read_up error fault short = by error fault
+              where
+                full : (error : ReadError) → text.next ≡ Fault error → IsAllRead ((drop count text.text.now ++ is.left) ++ []) (place_of place) is.left
+                full error fault =
+                    subst (λ l. IsAllRead l (place_of place) is.left) (sym (append-nil (drop count text.text.now ++ is.left))) (tells.full (λ end. let never = sym fault ∙ end in cc never))
+
+                by : (error : ReadError) → text.next ≡ Fault error → ReadsAll all ((drop count text.text.now ++ is.left) ++ []) (place_of place) (unread_of_reader error)
+                by (reader.Io kind) fault =
+                    let ends = subst (λ n. IsNext s.input (min (s.passed + length s.kept + length text.text.now) (2 ^ 64 - 1)) is.left n) fault is.next in
+                    (is.left, (ends.1, full (reader.Io kind) fault))
+                by (reader.NotUtf8 at) fault =
+                    let bad = subst (λ n. IsNext s.input (min (s.passed + length s.kept + length text.text.now) (2 ^ 64 - 1)) is.left n) fault is.next in
+                    let there : at + length is.left ≡ length all = omega (
+                      arith,
+                      bad.0,
+                      reads.passed,
+                      b.passed_is,
+                      ap length reads.kept,
+                      length-append b.gone old.kept,
+                      short,
+                      length-append read (text.text.now ++ is.left),
+                      length-append text.text.now is.left,
+                    ) in
+                    (is.left, (there, full (reader.NotUtf8 at) fault))
 
             why : (error : ReadError) → text.next ≡ Fault error → length all ≤ 4294967295 → StopsScript sql all (unread_of_reader error)
             why (reader.Io kind) fault short = tt

@@ -21,7 +21,7 @@ use Rattle.sql_report.specs.Statements.{HasStatements, statement_lines}
 use Rattle.sql_report.specs.declared.line_column.LineColumn.{LineColumn}
 use Rattle.sql_report.specs.declared.statement_list.Statement.{Statement}
 use Rattle.sql_tree.specs.Listings.{asked_for}
-use Rattle.sql_tree.specs.Reports.{IsFront, StopsScript}
+use Rattle.sql_tree.specs.Reports.{IsAllRead, IsFront, ReadsAll, StopsScript}
 use Rattle.sql_tree.specs.declared.options.Listing.{Listing}
 use Rattle.sql_tree.specs.declared.options.Listing.TheVariants.{Statements, Quiet}
 use Rattle.sql_tree.specs.declared.sql.Sql.{Sql}
@@ -77,11 +77,12 @@ pub record IsTextIn (read left : List ℕ) (before : LineColumn) (text : ScriptT
   pub before_is : AreCountable passed → IsLineColumn passed before
   pub enough : (passed ≡ []) ⊎ (100 ≤ text.start)
 
--- a front of a script is told
-pub record HasToldFront (sql : Sql) (script out errs : List ℕ) (t : Telling) : Type 0 where
+-- a front of a script is told, all that can be where it isn't read on for this reason
+pub record HasToldFront (sql : Sql) (script out errs : List ℕ) (reason : Unread) (t : Telling) : Type 0 where
   pub lexical : List LexicalError
   pub done : List OwnedStep
   pub front : IsFront sql script lexical done
+  pub all_read : ReadsAll script front.left front.place reason
   pub told : HasTold script out errs lexical done t
 
 -- ---- a part
@@ -121,7 +122,7 @@ pub record HasToldWhole (sql : Sql) (script out errs : List ℕ) (t : Telling) :
   pub told : HasTold script out errs lexical done t
 
 -- After a text, or where it isn't told on: what was printed for it before, and how far it is told.
-pub record TellsText (sql : Sql) (listing : Listing) (name read left : List ℕ) (text : ScriptText) (out errs : List ℕ)
+pub record AfterText (sql : Sql) (listing : Listing) (name read left : List ℕ) (text : ScriptText) (out errs : List ℕ)
     (printed printed_now printed_errors printed_errors_now : Option (List ℕ)) (t : Telling) (result : Result (ℕ × ScriptPlace) Stop) : Type 0 where
   pub more : List ℕ
   pub more_errs : List ℕ
@@ -130,15 +131,16 @@ pub record TellsText (sql : Sql) (listing : Listing) (name read left : List ℕ)
   pub within : IfOk result (λ both. both.0 ≤ length text.text.now)
   pub telling : IfOk result (λ both. IsTelling sql listing name t)
   pub goes_on : IfOk result (λ both. text.next ≢ End → IsBefore sql (read ++ take both.0 text.text.now) (drop both.0 text.text.now ++ left) both.1 (out ++ more) (errs ++ more_errs) t)
+  pub full : IfOk result (λ both. text.next ≢ End → IsAllRead (drop both.0 text.text.now ++ left) (place_of both.1) left)
   pub ends : IfOk result (λ both. text.next ≡ End → length (read ++ (text.text.now ++ left)) ≤ 4294967295 → HasToldWhole sql (read ++ (text.text.now ++ left)) (out ++ more) (errs ++ more_errs) t)
   pub stays : IfErr result (λ stop. IfUnread stop (λ reason. reason ≢ OutOfMemory → IsTelling sql listing name t))
   pub stops : IfErr result (λ stop. IfUnread stop (λ reason. reason ≢ OutOfMemory → length (read ++ (text.text.now ++ left)) ≤ 4294967295
-      → StopsScript sql (read ++ (text.text.now ++ left)) reason × HasToldFront sql (read ++ (text.text.now ++ left)) (out ++ more) (errs ++ more_errs) t))
+      → StopsScript sql (read ++ (text.text.now ++ left)) reason × HasToldFront sql (read ++ (text.text.now ++ left)) (out ++ more) (errs ++ more_errs) reason t))
 
 -- ---- a script
 
 -- After a script, or where it isn't told on: what the reader gave, what was printed, and how far the script is told.
-pub record TellsScript (remaining : Option (List ℕ)) (sql : Sql) (listing : Listing) (name : List ℕ) (printed printed_now printed_errors printed_errors_now : Option (List ℕ)) (t : Telling)
+pub record AfterScript (remaining : Option (List ℕ)) (sql : Sql) (listing : Listing) (name : List ℕ) (printed printed_now printed_errors printed_errors_now : Option (List ℕ)) (t : Telling)
     (result : Result Unit Stop) : Type 0 where
   pub script : List ℕ
   pub after : Option (List ℕ)
@@ -151,4 +153,4 @@ pub record TellsScript (remaining : Option (List ℕ)) (sql : Sql) (listing : Li
   pub telling : OnOk result (IsTelling sql listing name t)
   pub whole : OnOk result (length script ≤ 4294967295 → HasToldWhole sql script out errs t)
   pub stays : IfErr result (λ stop. IfUnread stop (λ reason. reason ≢ OutOfMemory → IsTelling sql listing name t))
-  pub stops : IfErr result (λ stop. IfUnread stop (λ reason. reason ≢ OutOfMemory → length script ≤ 4294967295 → StopsScript sql script reason × HasToldFront sql script out errs t))
+  pub stops : IfErr result (λ stop. IfUnread stop (λ reason. reason ≢ OutOfMemory → length script ≤ 4294967295 → StopsScript sql script reason × HasToldFront sql script out errs reason t))

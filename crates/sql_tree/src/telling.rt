@@ -43,12 +43,11 @@ impl<'s> Telling<'s> {
     ghost use Rattle.squawk_table.specs.declared.shortcuts.str_step.OwnedStep.TheVariants.{Enter, Exit};
     ghost use Rattle.squawk_tokens.specs.LexicalErrors.{LexicalError, shifted};
     ghost use Rattle.sql_reader.specs.declared.script_text.Next.TheVariants.{End};
-    ghost use Rattle.sql_words.specs.SqlVocabulary.{KnowsKeywords};
     ghost use Rattle.sql_grammar.specs.Kinds.{SOURCE_FILE};
     ghost use Rattle.sql_grammar.specs.Parts.{moved_by};
     ghost use Rattle.sql_grammar.specs.ReadParts.{AreBefore};
     ghost use Rattle.sql_report.specs.Places.{IsPartOfWindow, IsSameWindow};
-    ghost use Rattle.sql_tree.specs.OnTheWay.{HasListed, HasTold, IfOutput, IfUnread, IsBefore, IsTelling, IsTextIn, TellsMore, TellsScript, TellsText};
+    ghost use Rattle.sql_tree.specs.OnTheWay.{HasListed, HasTold, IfOutput, IfUnread, IsBefore, IsTelling, IsTextIn, TellsMore, AfterScript, AfterText};
     ghost use Rattle.sql_tree.specs.Reports.{IsPrinted};
     ghost use Rattle.sql_tree.specs.declared.sql.Sql.{Sql};
     ghost use Rattle.sql_tree.specs.declared.options.Listing.{Listing};
@@ -81,9 +80,9 @@ impl<'s> Telling<'s> {
         reader: R,
         printer: &mut Printer<W, E>,
     ) -> Result<(), Stop>
-        ensures tells { (sql : Sql) (listing : Listing) (name : List ℕ) → KnowsKeywords sql.vocabulary → IsTelling sql listing name self.old
+        ensures tells { (sql : Sql) (listing : Listing) (name : List ℕ) → IsTelling sql listing name self.old
             → ((script : List ℕ) → HasTold script [] [] [] (Enter SOURCE_FILE ∷ []) self.old)
-            → TellsScript (R.remaining reader) sql listing name (W.contents printer.old.out) (W.contents printer.new.out)
+            → AfterScript (R.remaining reader) sql listing name (W.contents printer.old.out) (W.contents printer.new.out)
             (E.contents printer.old.errors) (E.contents printer.new.errors) self.new result }
         ensures failed { IfErr result (λ stop. IfOutput stop (printer.new.has_failed ≡ true)) }
     {
@@ -115,7 +114,7 @@ impl<'s> Telling<'s> {
         ensures within { IfOk result (λ both. both.0 ≤ length text.now.text.now) }
         ensures tells { (sql : Sql) (listing : Listing) (name read left out errs : List ℕ) → IsTelling sql listing name self.old → IsTextIn read left before text.now
             → (text.now.next ≡ End → left ≡ []) → IsBefore sql read (text.now.text.now ++ left) text.now.place out errs self.old
-            → TellsText sql listing name read left text.now out errs (W.contents printer.old.out) (W.contents printer.new.out)
+            → AfterText sql listing name read left text.now out errs (W.contents printer.old.out) (W.contents printer.new.out)
             (E.contents printer.old.errors) (E.contents printer.new.errors) self.new result }
         ensures failed { IfErr result (λ stop. IfOutput stop (printer.new.has_failed ≡ true)) }
     {

@@ -31,7 +31,7 @@ returns-in_err-statement_count-clause-unread g c =
     let errors = g.E.Write.contents c.args.printer.now.errors in
     let errors_then = g.E.Write.contents c.read.new.printer.errors in
     let errors_now = g.E.Write.contents c.finish.new.printer.errors in
-    let tells = c.read.ensures.tells sql listing name sql.keywords c.in_ok-telling.ensures.is c.in_ok-telling.ensures.begins in
+    let tells = c.read.ensures.tells sql listing name c.in_ok-telling.ensures.is c.in_ok-telling.ensures.begins in
     let same = ap g.E.Write.contents c.finish.ensures.errors in
     let why = c.in_err-statement_count.field-0.0 in
     unread_as c.from_residual-in_err-statement_count.result why (λ reason. PrintsScript remaining sql listing name out out_now errors errors_now (unread_report reason)) c.from_residual-in_err-statement_count.ensures.1
@@ -59,7 +59,7 @@ returns-clause-told g c =
     let errors_then = g.E.Write.contents c.read.new.printer.errors in
     let errors_now = g.E.Write.contents c.finish.new.printer.errors in
     let same = ap g.E.Write.contents c.finish.ensures.errors in
-    let tells = c.read.ensures.tells sql listing name sql.keywords c.in_ok-telling.ensures.is c.in_ok-telling.ensures.begins in
+    let tells = c.read.ensures.tells sql listing name c.in_ok-telling.ensures.is c.in_ok-telling.ensures.begins in
     let ends = c.in_ok-statement_count.ensures.finishes in
     let statements = c.in_ok-statement_count.statement_count in
     let found = c.in_ok-statement_count.error_count in

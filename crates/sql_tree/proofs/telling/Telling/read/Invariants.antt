@@ -4,7 +4,7 @@ use Rattle.sql_grammar.specs.Kinds.{SOURCE_FILE}
 use Rattle.sql_tree.specs.OnTheWay.{HasTold, IsTelling}
 use Rattle.sql_tree.specs.declared.options.Listing.{Listing}
 use Rattle.sql_tree.specs.declared.sql.Sql.{Sql}
-use Rattle.sql_tree.proofs.ScriptTexts.{InScript}
+use Rattle.sql_tree.proofs.ScriptFronts.{InScript}
 use Rattle.sql_tree.proofs.telling.Telling.read.Given as goal
 
 abbrev pub invariant-loop : goal.invariant-loop

@@ -7,12 +7,14 @@ use Rattle.squawk_tokens.specs.LexicalErrors.{LexicalError}
 use Rattle.sql_lexer.specs.Lines.{EndsLine}
 use Rattle.sql_grammar.specs.ReadParts.{HasRead, IsOver, IsRefusedPart, IsScriptParse, NoneLeft, Reading, ReadsPart, text_left}
 use Rattle.sql_report.specs.Places.{Spot}
-use Rattle.sql_tree.specs.OnTheWay.{IfUnread, TellsText}
+use Rattle.sql_tree.specs.OnTheWay.{IfUnread, AfterText}
 use Rattle.sql_tree.specs.declared.sql.Sql.{Sql}
 use Rattle.sql_tree.specs.declared.stop.Stop.{Stop}
 use Rattle.sql_tree.specs.declared.stop.Stop.TheVariants as stop
 use Rattle.sql_tree.specs.declared.unread.Unread.TheVariants.{OutOfMemory}
-use Rattle.sql_tree.proofs.TextParts.{InText, text_begins, text_lost, text_next, text_refused, text_told, text_unprinted, text_unread}
+use Rattle.sql_tree.proofs.TextEnds.{text_lost, text_refused, text_told, text_unprinted, text_unread}
+use Rattle.sql_tree.proofs.TextParts.{InText}
+use Rattle.sql_tree.proofs.TextSteps.{text_begins, text_next}
 use Rattle.sql_tree.proofs.telling.Telling.text.Goals as goal
 
 pub returns-in_err-parts-clause-tells : goal.returns-in_err-parts-clause-tells
@@ -21,7 +23,7 @@ returns-in_err-parts-clause-tells g c = λ sql listing name read left out errs t
     let error = err_from_is_err_and c.from_residual.result c.from_residual.ensures.1 in
     let p = g.W.Write.contents c.args.printer.now.out in
     let e = g.E.Write.contents c.args.printer.now.errors in
-    subst (TellsText sql listing name read left text out errs p p e e c.args.self.now) (sym (error.1 ∙ ap Err error.2))
+    subst (AfterText sql listing name read left text out errs p p e e c.args.self.now) (sym (error.1 ∙ ap Err error.2))
     (text_unread sql listing name read left out errs text c.args.before stands c.in_err-parts.field-0.0 c.in_err-parts.ensures.refused c.args.self.now p e telling)
 
 pub loop-part-init : goal.loop-part-init
@@ -50,7 +52,7 @@ returns-in_err-part-clause-tells g c = λ sql listing name read left out errs te
     let p_now = g.W.Write.contents c.loop-part.printer.out in
     let e = g.E.Write.contents c.args.printer.now.errors in
     let e_now = g.E.Write.contents c.loop-part.printer.errors in
-    subst (TellsText sql listing name read left text out errs p p_now e e_now c.loop-part.self) (sym (error.1 ∙ ap Err error.2))
+    subst (AfterText sql listing name read left text out errs p p_now e e_now c.loop-part.self) (sym (error.1 ∙ ap Err error.2))
     (text_refused sql listing name read left out errs text c.args.before stands parts c.loop-part.self p p_now e e_now b why
     (λ some. subst (λ (s : Sql). IsRefusedPart s.vocabulary parts.begun parts.lexer.text why) b.telling.sql_is (c.in_err-part.ensures.refused some)))
 
@@ -62,11 +64,11 @@ returns-in_err-part-2-clause-tells g c sql listing name read left out errs telli
     let p_then = g.W.Write.contents c.part.new.printer.out in
     let e = g.E.Write.contents c.args.printer.now.errors in
     let e_then = g.E.Write.contents c.part.new.printer.errors in
-    subst (TellsText sql listing name read left text out errs p p_then e e_then c.part.new.self) (sym (error.1 ∙ ap Err error.2)) (fails c.in_err-part-2.field-0.0 c.in_err-part-2.ensures.unread)
+    subst (AfterText sql listing name read left text out errs p p_then e e_then c.part.new.self) (sym (error.1 ∙ ap Err error.2)) (fails c.in_err-part-2.field-0.0 c.in_err-part-2.ensures.unread)
   where
     fails : (why : Stop)
         → IfUnread why (λ reason. (reason ≡ OutOfMemory) × ((c.part.new.printer.out ≡ c.loop-part.printer.out) × (c.part.new.printer.errors ≡ c.loop-part.printer.errors)))
-        → TellsText sql listing name read left c.args.text.now out errs (g.W.Write.contents c.args.printer.now.out) (g.W.Write.contents c.part.new.printer.out)
+        → AfterText sql listing name read left c.args.text.now out errs (g.W.Write.contents c.args.printer.now.out) (g.W.Write.contents c.part.new.printer.out)
         (g.E.Write.contents c.args.printer.now.errors) (g.E.Write.contents c.part.new.printer.errors) c.part.new.self (Err why)
     fails (stop.Unread reason) lost =
         text_lost sql listing name read left out errs c.args.text.now c.args.before stands c.loop-part.parts c.loop-part.self
