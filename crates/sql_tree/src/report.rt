@@ -89,6 +89,7 @@ fn tell_script<R: Read + Drop, W: Write + Drop, E: Write + Drop>(
     let mut telling = Telling::new(alloc, sql, listing, name)?;
     let unread = match telling.read(reader, printer) {
         Ok(()) => None,
+        Err(Stop::Unread(Unread::OutOfMemory)) => return Err(Stop::Unread(Unread::OutOfMemory)),
         Err(Stop::Unread(reason)) => Some(reason),
         Err(Stop::Output(error)) => return Err(Stop::Output(error)),
     };

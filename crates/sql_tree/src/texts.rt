@@ -1,7 +1,7 @@
 //! Where texts are read.
 
 use crate::progress::Watched;
-use std::io::{Input, IsTerminal, Read, Stderr, StdinLock};
+use std::io::{ErrorKind, Input, IsTerminal, Read, Stderr, StdinLock};
 use std::{fs, io};
 
 /// What gives readers of texts by their names.
@@ -30,6 +30,9 @@ impl<'r> Texts for Files<'r> {
 
     fn open(&self, name: &str) -> io::Result<Watched<&'r HostRuntime, fs::File, Stderr>> {
         let file = fs::File::open(self.0, name)?;
+        if file.metadata()?.is_dir() {
+            return Err(io::Error::from(ErrorKind::IsADirectory));
+        }
         Ok(Watched::new(self.0, file, terminal(self.0)))
     }
 }

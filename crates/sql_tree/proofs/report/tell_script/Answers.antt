@@ -71,3 +71,14 @@ returns-clause-told g c =
           tells_front remaining sql listing name out out_then out_now errors errors_then errors_now c.read.new.self same c.read.result tells c.match-read.unread ends.0 statements found
           w.in-Err-Unread.reason (w.in-Err-Unread.is ∙ ap Err w.in-Err-Unread.field-0-is) w.unread-is ends.1.0 ends.1.1
     ]
+
+pub returns-in-Err-Unread-OutOfMemory-clause-unread : goal.returns-in-Err-Unread-OutOfMemory-clause-unread
+returns-in-Err-Unread-OutOfMemory-clause-unread g c =
+    let sql = c.args.sql.now in
+    let listing = c.args.listing in
+    let name = c.args.name.now in
+    let out = g.W.Write.contents c.read.new.printer.out in
+    let errors = g.E.Write.contents c.read.new.printer.errors in
+    let tells = c.read.ensures.tells sql listing name c.in_ok-telling.ensures.is c.in_ok-telling.ensures.begins in
+    unread_front (g.R.Read.remaining c.args.reader) sql listing name (g.W.Write.contents c.args.printer.now.out) out out (g.E.Write.contents c.args.printer.now.errors) errors errors
+    c.read.new.self refl c.read.result tells OutOfMemory (c.in-Err-Unread-OutOfMemory.is ∙ ap Err (c.in-Err-Unread-OutOfMemory.field-0-is ∙ ap stop.Unread c.in-Err-Unread-OutOfMemory.field-0-0-is)) OutOfMemory refl refl
